@@ -1,0 +1,6 @@
+pub mod Grammar
+pub mod Derivation
+pub mod Lookahead
+pub mod Machine
+pub mod Weight
+pub mod Hypotheses

@@ -1,0 +1,3 @@
+-- The proofs of the theorems in `specs/Theorems.antt`, a file for each; `Theorems` has them all.
+pub mod FirstTheorem
+pub mod FollowTheorem

@@ -1,0 +1,43 @@
+-- Frame grammars, without their text or their table.
+-- "Constructs are alternatives and concatenations (each one for a whole chain), repetitions, switches, rule uses, literals, ranges,
+-- uint, eod." (document 01, Limits). A construct is known by its number; literals, ranges and uints are all fields.
+-- Assumes nothing.
+use Prim.Native.Nat.{ℕ}
+use mathlib.Core.Bool.{Bool}
+use mathlib.Core.List.{List, List·Memᴰ}
+use mathlib.Core.Option.{Option}
+use Rattle.basis.specs.Bits.{Bits}
+use Rattle.basis.specs.Counts.{Counts}
+
+infix 40 _∈_
+abbrev pub _∈_ : ℕ → List ℕ → Type 0
+i ∈ is = List·Memᴰ i is
+
+-- `Context` is what a pending entry carries (nothing in the base; the byte order of Req 03, the open rules of Req 07), `Values` the
+-- values of the variables. What "without windows" cannot say of a construct is in the functions of its node; what FIRST goes by, where
+-- a variable stands, is in its static part.
+pub data Node (Context Values : Type 0) : Type 0 where
+  -- one of these constructs
+  alternative : List ℕ → Node Context Values
+  -- these constructs, one after the other
+  concatenation : List ℕ → Node Context Values
+  -- `counts`: the numbers of passes that it allows here; `static`: the same without variables ("counts with a variable allowing
+  -- all"); `fixed`: it is written `{n}`
+  repetition : (counts : Context → Values → Counts) (static : Counts) (fixed : Bool) (body : ℕ) → Node Context Values
+  -- `chosen`: "its first true case, else the default"
+  switch : (chosen : Context → Values → Option ℕ) (cases : List ℕ) → Node Context Values
+  -- `enters`: the context inside, or none where the rule may not be opened here; `opens`: the values inside, arguments bound;
+  -- `closes`: the values after it, of those before and those at the body's end
+  use-of : (enters : Context → Option Context) (opens : Context → Values → Values) (closes : Values → Values → Values) (body : ℕ) → Node Context Values
+  -- `admits`: these bits, `width` of them, are right here; `static`: they are right somewhere ("a set with a variable counting as
+  -- `~`"); `binds`: the values after it
+  field : (width : ℕ) (admits : Context → Values → Bits → Bool) (static : Bits → Bool) (binds : Context → Values → Bits → Values) → Node Context Values
+  -- "takes no bits and holds only at the frame's end"
+  eod : Node Context Values
+
+-- `start` is the number of the opening use of the start rule, which is no construct of the text
+pub record Grammar (Context Values : Type 0) : Type 0 where
+  pub node : ℕ → Node Context Values
+  pub start : ℕ
+  pub context : Context
+  pub values : Values
