@@ -1,3 +1,4 @@
 -- The proofs of the theorems in `specs/Theorems.antt`, a file for each; `Theorems` has them all.
 pub mod FirstTheorem
 pub mod FollowTheorem
+pub mod UniqueTheorem
