@@ -2,3 +2,6 @@
 pub mod FirstTheorem
 pub mod FollowTheorem
 pub mod UniqueTheorem
+pub mod Turns
+pub mod Steps
+pub mod Completeness

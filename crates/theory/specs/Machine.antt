@@ -10,7 +10,7 @@ use Rattle.basis.specs.Bits.{Bits}
 use Rattle.basis.specs.Counts.{Counts, from, within}
 use Rattle.basis.specs.Lookahead.{lookahead}
 use Rattle.theory.specs.Grammar.{Node, alternative, concatenation, repetition, switch, use-of, field, eod, Grammar}
-use Rattle.theory.specs.Derivation.{Capture}
+use Rattle.theory.specs.Derivation.{Capture, Tree, leaf, end, node, nil, member, pass}
 
 -- What the machine looks up of a lookahead string: is it in a branch's prediction set, does it let a repetition continue (go), does it
 -- let it exit (stop)?
@@ -94,6 +94,15 @@ module _ {Context Values : Type 0} (g : Grammar Context Values) (tables : Tables
   unfolding step
   steps zero σ = some σ
   steps (suc n) σ = elim (step σ) [ none ↦ none | some σ′ ↦ steps n σ′ ]
+
+-- the steps that a run takes over a derivation: one for each construct of the tree, and for a repetition one more with each pass
+unfoldable pub tree-steps : Tree → ℕ
+tree-steps (leaf i bits) = 1
+tree-steps (end i) = 1
+tree-steps (node i t) = 1 + tree-steps t
+tree-steps nil = 0
+tree-steps (member t u) = tree-steps t + tree-steps u
+tree-steps (pass t u) = 1 + tree-steps t + tree-steps u
 
 pub data Verdict : Type 0 where
   undecided matched unmatched : Verdict
