@@ -26,7 +26,7 @@ use Rattle.theory.proofs.FirstTheorem.{first}
 use Rattle.theory.proofs.FollowTheorem.{After, next-follows, after-member, after-members, after-pass, derived-predicted}
 use Rattle.theory.proofs.Turns.{decide, turn-again, turn-leave}
 use Rattle.theory.proofs.Steps as Steps
-use Rattle.theory.proofs.Steps.{Path, resize, arrive, then}
+use Rattle.theory.proofs.Steps.{Path, resize, arrive, then, after, after-both, after-none}
 
 pub not-both : {b : Bool} → b ≡ true → b ≡ false → ⊥
 not-both p q = let z : _≡_ {A = ℕ} 0 1 = cc in omega arith
@@ -46,7 +46,7 @@ module _ {Context Values : Type 0} (g : Grammar Context Values) (tables : Tables
     one : {i : ℕ} {n : Node Context Values} → g .node i ≡ n → Follow g i x → Todo c v x (construct i n)
     several : {is : List ℕ} → After g (members is) x → Todo c v x (members is)
     repeated : {i b k : ℕ} {counts : Context → Values → Counts} {static : Counts} {fixed : Bool} (j : ℕ)
-      → g .node i ≡ repetition counts static fixed b → Allows (counts c v) (j + k) → Follow g i x → Todo c v x (passes b k)
+        → g .node i ≡ repetition counts static fixed b → Allows (counts c v) (j + k) → Follow g i x → Todo c v x (passes b k)
 
   abbrev pub pending : {c : Context} {v : Values} {x : Bits} {what : Shape Context Values} → Todo c v x what → List (Entry Context)
   pending {c} (Todo.one {i} q f) = entry i c 0 ∷ []
@@ -61,20 +61,20 @@ module _ {Context Values : Type 0} (g : Grammar Context Values) (tables : Tables
 
   -- the branch of a derivation is the one whose prediction set holds what comes next
   branch-chosen : {i b : ℕ} {is : List ℕ} {t : Tree} {c : Context} {v v′ : Values} {s r : Bits} → g .node i ≡ alternative is → (m : b ∈ is)
-    → Derives g (construct b (g .node b)) t c v s v′ r → Follow g i (lookahead r) → choose (λ a. tables .predicts a (lookahead s)) is ≡ some b
+      → Derives g (construct b (g .node b)) t c v s v′ r → Follow g i (lookahead r) → choose (λ a. tables .predicts a (lookahead s)) is ≡ some b
   branch-chosen {i} {b} {is} {s = s} q m d f =
       let x = lookahead s in
       let l = length-lookahead s in
       let here : Predicted g b x = derived-predicted g (h .static) d (Follow.of-branch q m f) in
-      chooses (λ a. tables .predicts a x) m (h .predicts-exact q m x l .1 here) 
+      chooses (λ a. tables .predicts a x) m (h .predicts-exact q m x l .1 here)
       (λ a m′ t.
-        elim (ℕ-discrete a b)
-        [ yes e ↦ e | no n ↦ absurd (h .no-conflict i x (Conflict.of-branches q m′ m n (h .predicts-exact q m′ x l .0 t) here)) ])
+      elim (ℕ-discrete a b)
+      [ yes e ↦ e | no n ↦ absurd (h .no-conflict i x (Conflict.of-branches q m′ m n (h .predicts-exact q m′ x l .0 t) here)) ])
 
   -- a repetition whose derivation has more passes begins another, and one whose derivation has none left leaves
   again-turn : {i b k : ℕ} {counts : Context → Values → Counts} {static : Counts} (fixed : Bool) {t : Tree} {c : Context} {v v′ : Values} {s r : Bits} (j : ℕ)
-    → g .node i ≡ repetition counts static fixed b → Allows (counts c v) (j + suc k) → Derives g (passes b (suc k)) t c v s v′ r → Follow g i (lookahead r)
-    → turn (counts c v) j (tables .continues i (lookahead s)) (tables .exits i (lookahead s)) ≡ again
+      → g .node i ≡ repetition counts static fixed b → Allows (counts c v) (j + suc k) → Derives g (passes b (suc k)) t c v s v′ r → Follow g i (lookahead r)
+      → turn (counts c v) j (tables .continues i (lookahead s)) (tables .exits i (lookahead s)) ≡ again
   again-turn {k = k} {counts} true {c = c} {v = v} {s = s} j q a d f =
       turn-again (counts c v) j k _ _ a (inr (λ a₀. let z = h .static .fixed-once q c v j (j + suc k) a₀ a in omega arith))
   again-turn {k = k} {counts} false {c = c} {v = v} {s = s} j q a d f =
@@ -82,40 +82,27 @@ module _ {Context Values : Type 0} (g : Grammar Context Values) (tables : Tables
       (inl (h .continues-exact q (lookahead s) (length-lookahead s) .1 (Continues.continues k (first g (h .static) d tt) f (next-follows g d))))
 
   leave-turn : {i b : ℕ} {counts : Context → Values → Counts} {static : Counts} (fixed : Bool) (c : Context) (v : Values) (s : Bits) (j : ℕ)
-    → g .node i ≡ repetition counts static fixed b → Allows (counts c v) j → Follow g i (lookahead s)
-    → turn (counts c v) j (tables .continues i (lookahead s)) (tables .exits i (lookahead s)) ≡ leave
+      → g .node i ≡ repetition counts static fixed b → Allows (counts c v) j → Follow g i (lookahead s)
+      → turn (counts c v) j (tables .continues i (lookahead s)) (tables .exits i (lookahead s)) ≡ leave
   leave-turn {counts = counts} true c v s j q a f =
       turn-leave (counts c v) j _ _ a (inr (λ a₁. let z = h .static .fixed-once q c v j (suc j) a a₁ in omega arith))
   leave-turn {i} {counts = counts} false c v s j q a f =
       let x = lookahead s in
       let l = length-lookahead s in
       turn-leave (counts c v) j _ _ a
-      (inl
-      (elim (decide (tables .continues i x))
-      [ inl t ↦ absurd (h .no-conflict i x (Conflict.of-passes q (h .continues-exact q x l .0 t) f)) | inr t ↦ t ], h .exits-exact q x l .1 f))
-
-  -- where the machine is after a tree that began at bit p
-  abbrev pub after : List (Entry Context) → Tree → ℕ → Bits → Values → List Capture → State Context Values
-  after others t p r v cs = state others r (p + length (covered t)) v (cs ++ captures t p)
-
-  -- one tree after another
-  after-both : (others : List (Entry Context)) (p : ℕ) (r : Bits) (v : Values) (cs : List Capture) (t u : Tree) (b : Bits) (x : List Capture)
-    → b ≡ covered t ++ covered u → x ≡ captures t p ++ captures u (p + length (covered t))
-    → after others u (p + length (covered t)) r v (cs ++ captures t p) ≡ state others r (p + length b) v (cs ++ x)
-  after-both others p r v cs t u b x e e′ =
-      rw (e, e′, length-append (covered t) (covered u))
-      (ap₂ (λ (n : ℕ) (l : List Capture). state others r n v l) (add-assoc p (length (covered t)) (length (covered u))) (append-assoc cs (captures t p) (captures u (p + length (covered t)))))
-
-  after-none : (others : List (Entry Context)) (p : ℕ) (r : Bits) (v : Values) (cs : List Capture) → state others r p v cs ≡ state others r (p + 0) v (cs ++ [])
-  after-none others p r v cs = ap₂ (λ (n : ℕ) (l : List Capture). state others r n v l) (sym (add-zero p)) (sym (append-nil cs))
+      (inl (
+        elim (decide (tables .continues i x))
+            [ inl t ↦ absurd (h .no-conflict i x (Conflict.of-passes q (h .continues-exact q x l .0 t) f)) | inr t ↦ t ],
+        h .exits-exact q x l .1 f,
+      ))
 
   suc-over : (j k : ℕ) → j + suc k ≡ suc j + k
   suc-over j k = omega arith
 
   -- the machine does what a derivation says
   pub follows-derivation : {what : Shape Context Values} {t : Tree} {c : Context} {v v′ : Values} {s r : Bits} → Derives g what t c v s v′ r → (todo : Todo c v (lookahead r) what)
-    → (others : List (Entry Context)) (p : ℕ) (cs : List Capture)
-    → Path g tables (λ σ. Unit {0}) (extra todo + tree-steps t) (state (pending todo ++ others) s p v cs) (after others t p r v′ cs)
+      → (others : List (Entry Context)) (p : ℕ) (cs : List Capture)
+      → Path g tables (λ σ. Unit {0}) (extra todo + tree-steps t) (state (pending todo ++ others) s p v cs) (after others t p r v′ cs)
   unfolding covered captures tree-steps
   follows-derivation (Derives.of-alternative m d) (Todo.one q f) others p cs =
       resize g tables (omega arith) (Path.next tt (Steps.step-alternative g tables q (branch-chosen q m d f)) (follows-derivation d (Todo.one refl (Follow.of-branch q m f)) others p cs))

@@ -20,7 +20,7 @@ module _ {Context Values : Type 0} (g : Grammar Context Values) where
     of-construct : {i : ℕ} {n : _} {x : Bits} → Follow g i x → After (construct i n) x
     of-members : {i : ℕ} {is : List ℕ} {x : Bits} (before : List ℕ) → g .node i ≡ concatenation (before ++ is) → Follow g i x → After (members is) x
     of-passes : {i b k : ℕ} {counts : Context → Values → Counts} {static : Counts} {fixed : Bool} {x : Bits}
-      → g .node i ≡ repetition counts static fixed b → Follow g i x → After (passes b k) x
+        → g .node i ≡ repetition counts static fixed b → Follow g i x → After (passes b k) x
 
   -- what follows a derived part is what comes next in what is left with it
   pub next-follows : {what : Shape Context Values} {u : Tree} {c : Context} {v v′ : Values} {s r : Bits} → Derives g what u c v s v′ r → lookahead s ≡ join (lookahead (covered u)) (lookahead r)
@@ -31,20 +31,20 @@ module _ {Context Values : Type 0} (g : Grammar Context Values) where
   same-rest {t = t} {r = r} {r′ = r′} d e = append-cancel-left (covered t) r r′ (sym (covers g d) ∙ e)
 
   left-follows : {what : Shape Context Values} {i : ℕ} {t : Tree} {c : Context} {v v′ : Values} {s r : Bits} (r′ : Bits)
-    → Derives g what t c v s v′ r → s ≡ covered t ++ r′ → Follow g i (lookahead r) → Follow g i (lookahead r′)
+      → Derives g what t c v s v′ r → s ≡ covered t ++ r′ → Follow g i (lookahead r) → Follow g i (lookahead r′)
   left-follows {i = i} r′ d e f = subst (λ (x : Bits). Follow g i (lookahead x)) (same-rest d e) f
 
   module _ (h : Static g) where
     -- of the first of several members, or passes, and of the others
     pub after-member : {m : ℕ} {is : List ℕ} {u : Tree} {c : Context} {v v′ : Values} {s r : Bits}
-      → After (members (m ∷ is)) (lookahead r) → Derives g (members is) u c v s v′ r → Follow g m (lookahead s)
+        → After (members (m ∷ is)) (lookahead r) → Derives g (members is) u c v s v′ r → Follow g m (lookahead s)
     after-member {is = is} (After.of-members before q f) ds = Follow.of-member before is q (first g h ds tt) f (next-follows ds)
 
     pub after-members : {m : ℕ} {is : List ℕ} {x : Bits} → After (members (m ∷ is)) x → After (members is) x
     after-members {m} {is} (After.of-members before q f) = After.of-members (before ++ m ∷ []) (q ∙ ap concatenation (sym (append-assoc before (m ∷ []) is))) f
 
     pub after-pass : {b k : ℕ} {u : Tree} {c : Context} {v v′ : Values} {s r : Bits}
-      → After (passes b (suc k)) (lookahead r) → Derives g (passes b k) u c v s v′ r → Follow g b (lookahead s)
+        → After (passes b (suc k)) (lookahead r) → Derives g (passes b k) u c v s v′ r → Follow g b (lookahead s)
     after-pass {k = k} (After.of-passes q f) ds = Follow.of-body k q (first g h ds tt) f (next-follows ds)
 
     pub after-passes : {b k : ℕ} {x : Bits} → After (passes b (suc k)) x → After (passes b k) x
@@ -52,11 +52,11 @@ module _ {Context Values : Type 0} (g : Grammar Context Values) where
 
     -- what comes next before a derived construct is in its prediction set
     pub derived-predicted : {i : ℕ} {t : Tree} {c : Context} {v v′ : Values} {s r : Bits}
-      → Derives g (construct i (g .node i)) t c v s v′ r → Follow g i (lookahead r) → Predicted g i (lookahead s)
+        → Derives g (construct i (g .node i)) t c v s v′ r → Follow g i (lookahead r) → Predicted g i (lookahead s)
     derived-predicted d f = Predicted.predicted (first g h d refl) f (next-follows d)
 
     pub follow : {what : Shape Context Values} {t : Tree} {c : Context} {v v′ : Values} {s r : Bits} → Derives g what t c v s v′ r → Known g what → After what (lookahead r)
-      → {j : ℕ} {r′ : Bits} → Leaves t s j r′ → Follow g j (lookahead r′)
+        → {j : ℕ} {r′ : Bits} → Leaves t s j r′ → Follow g j (lookahead r′)
     follow (Derives.of-alternative m d) q (After.of-construct f) (Leaves.below l) = follow d refl (After.of-construct (Follow.of-branch q m f)) l
     follow (Derives.of-alternative m d) q (After.of-construct f) (Leaves.at-node {r = r′} e) = left-follows r′ d e f
     follow (Derives.of-concatenation d) q (After.of-construct f) (Leaves.below l) = follow d tt (After.of-members [] q f) l

@@ -5,3 +5,4 @@ pub mod UniqueTheorem
 pub mod Turns
 pub mod Steps
 pub mod Completeness
+pub mod Progress

@@ -3,9 +3,10 @@
 use Prim.Native.Nat.{ℕ, zero, suc, _+_, _≤_, _<_}
 use native.Mathlib.Omega.{arith}
 use borrow.Author.Tests.{le-leb}
-use mathlib.Core.Path.{_≡_, refl, sym, _∙_, ap, subst}
+use native.Mathlib.Nat.{add-zero, add-assoc}
+use mathlib.Core.Path.{_≡_, refl, sym, _∙_, ap, ap₂, subst}
 use mathlib.Core.Bool.{Bool, true, false}
-use mathlib.Core.List.{List, [], _∷_, _++_}
+use mathlib.Core.List.{List, [], _∷_, _++_, append-assoc, append-nil}
 use mathlib.Core.Option.{Option, none, some}
 use lib.ListN.{length, take, drop, length-append}
 use lib.Seq.{take-at, drop-at}
@@ -14,8 +15,24 @@ use Rattle.basis.specs.Bits.{Bits}
 use Rattle.basis.specs.Counts.{Counts}
 use Rattle.basis.specs.Lookahead.{lookahead}
 use Rattle.theory.specs.Grammar.{Node, alternative, concatenation, repetition, switch, use-of, field, eod, Grammar}
-use Rattle.theory.specs.Derivation.{Capture}
+use Rattle.theory.specs.Derivation.{Tree, covered, Capture, captures}
 use Rattle.theory.specs.Machine.{Tables, Entry, entry, State, state, fail, again, leave, turn, choose, entries, act, step}
+
+module _ {Context Values : Type 0} where
+  -- where the machine is after a tree that began at bit p
+  abbrev pub after : List (Entry Context) → Tree → ℕ → Bits → Values → List Capture → State Context Values
+  after others t p r v cs = state others r (p + length (covered t)) v (cs ++ captures t p)
+
+  -- one tree after another
+  pub after-both : (others : List (Entry Context)) (p : ℕ) (r : Bits) (v : Values) (cs : List Capture) (t u : Tree) (b : Bits) (x : List Capture)
+      → b ≡ covered t ++ covered u → x ≡ captures t p ++ captures u (p + length (covered t))
+      → after others u (p + length (covered t)) r v (cs ++ captures t p) ≡ state others r (p + length b) v (cs ++ x)
+  after-both others p r v cs t u b x e e′ =
+      rw (e, e′, length-append (covered t) (covered u))
+      (ap₂ (λ (n : ℕ) (l : List Capture). state others r n v l) (add-assoc p (length (covered t)) (length (covered u))) (append-assoc cs (captures t p) (captures u (p + length (covered t)))))
+
+  pub after-none : (others : List (Entry Context)) (p : ℕ) (r : Bits) (v : Values) (cs : List Capture) → state others r p v cs ≡ state others r (p + 0) v (cs ++ [])
+  after-none others p r v cs = ap₂ (λ (n : ℕ) (l : List Capture). state others r n v l) (sym (add-zero p)) (sym (append-nil cs))
 
 module _ {Context Values : Type 0} (g : Grammar Context Values) (tables : Tables) where
   -- a step leads from one state to another; a step fails
@@ -35,7 +52,7 @@ module _ {Context Values : Type 0} (g : Grammar Context Values) (tables : Tables
     halts q e = Stuck.stuck (ap (λ (n : Node Context Values). act g tables n i c k others s p v cs) q ∙ e)
 
     pub step-alternative : {is : List ℕ} {b : ℕ} → g .node i ≡ alternative is → choose (λ b. tables .predicts b (lookahead s)) is ≡ some b
-      → Goes (state (entry i c k ∷ others) s p v cs) (state (entry b c 0 ∷ others) s p v cs)
+        → Goes (state (entry i c k ∷ others) s p v cs) (state (entry b c 0 ∷ others) s p v cs)
     unfolding act
     step-alternative q e = acts q (rw (e, act))
 
@@ -44,30 +61,30 @@ module _ {Context Values : Type 0} (g : Grammar Context Values) (tables : Tables
     step-concatenation q = acts q refl
 
     pub step-again : {counts : Context → Values → Counts} {static : Counts} {fixed : Bool} {b : ℕ} → g .node i ≡ repetition counts static fixed b
-      → turn (counts c v) k (tables .continues i (lookahead s)) (tables .exits i (lookahead s)) ≡ again
-      → Goes (state (entry i c k ∷ others) s p v cs) (state (entry b c 0 ∷ entry i c (suc k) ∷ others) s p v cs)
+        → turn (counts c v) k (tables .continues i (lookahead s)) (tables .exits i (lookahead s)) ≡ again
+        → Goes (state (entry i c k ∷ others) s p v cs) (state (entry b c 0 ∷ entry i c (suc k) ∷ others) s p v cs)
     unfolding act
     step-again q e = acts q (rw (e, act))
 
     pub step-leave : {counts : Context → Values → Counts} {static : Counts} {fixed : Bool} {b : ℕ} → g .node i ≡ repetition counts static fixed b
-      → turn (counts c v) k (tables .continues i (lookahead s)) (tables .exits i (lookahead s)) ≡ leave
-      → Goes (state (entry i c k ∷ others) s p v cs) (state others s p v cs)
+        → turn (counts c v) k (tables .continues i (lookahead s)) (tables .exits i (lookahead s)) ≡ leave
+        → Goes (state (entry i c k ∷ others) s p v cs) (state others s p v cs)
     unfolding act
     step-leave q e = acts q (rw (e, act))
 
     pub step-switch : {chosen : Context → Values → Option ℕ} {is : List ℕ} {b : ℕ} → g .node i ≡ switch chosen is → chosen c v ≡ some b
-      → Goes (state (entry i c k ∷ others) s p v cs) (state (entry b c 0 ∷ others) s p v cs)
+        → Goes (state (entry i c k ∷ others) s p v cs) (state (entry b c 0 ∷ others) s p v cs)
     unfolding act
     step-switch q e = acts q (rw (e, act))
 
     pub step-use : {enters : Context → Option Context} {opens : Context → Values → Values} {closes : Values → Values → Values} {b : ℕ} {c′ : Context}
-      → g .node i ≡ use-of enters opens closes b → enters c ≡ some c′ → Goes (state (entry i c k ∷ others) s p v cs) (state (entry b c′ 0 ∷ others) s p (opens c v) cs)
+        → g .node i ≡ use-of enters opens closes b → enters c ≡ some c′ → Goes (state (entry i c k ∷ others) s p v cs) (state (entry b c′ 0 ∷ others) s p (opens c v) cs)
     unfolding act
     step-use q e = acts q (rw (e, act))
 
     pub step-field : {w : ℕ} {admits : Context → Values → Bits → Bool} {static : Bits → Bool} {binds : Context → Values → Bits → Values}
-      → g .node i ≡ field w admits static binds → leb w (length s) ≡ true → admits c v (take w s) ≡ true
-      → Goes (state (entry i c k ∷ others) s p v cs) (state others (drop w s) (p + w) (binds c v (take w s)) (cs ++ (record { construct = i; first-bit = p } ∷ [])))
+        → g .node i ≡ field w admits static binds → leb w (length s) ≡ true → admits c v (take w s) ≡ true
+        → Goes (state (entry i c k ∷ others) s p v cs) (state others (drop w s) (p + w) (binds c v (take w s)) (cs ++ (record { construct = i; first-bit = p } ∷ [])))
     unfolding act
     step-field q l e = acts q (rw (l, e, act))
 
@@ -77,7 +94,7 @@ module _ {Context Values : Type 0} (g : Grammar Context Values) (tables : Tables
     fails-alternative q e = halts q (rw (e, act))
 
     pub fails-repetition : {counts : Context → Values → Counts} {static : Counts} {fixed : Bool} {b : ℕ} → g .node i ≡ repetition counts static fixed b
-      → turn (counts c v) k (tables .continues i (lookahead s)) (tables .exits i (lookahead s)) ≡ fail → Stuck (state (entry i c k ∷ others) s p v cs)
+        → turn (counts c v) k (tables .continues i (lookahead s)) (tables .exits i (lookahead s)) ≡ fail → Stuck (state (entry i c k ∷ others) s p v cs)
     unfolding act
     fails-repetition q e = halts q (rw (e, act))
 
@@ -86,17 +103,17 @@ module _ {Context Values : Type 0} (g : Grammar Context Values) (tables : Tables
     fails-switch q e = halts q (rw (e, act))
 
     pub fails-use : {enters : Context → Option Context} {opens : Context → Values → Values} {closes : Values → Values → Values} {b : ℕ}
-      → g .node i ≡ use-of enters opens closes b → enters c ≡ none → Stuck (state (entry i c k ∷ others) s p v cs)
+        → g .node i ≡ use-of enters opens closes b → enters c ≡ none → Stuck (state (entry i c k ∷ others) s p v cs)
     unfolding act
     fails-use q e = halts q (rw (e, act))
 
     pub fails-short : {w : ℕ} {admits : Context → Values → Bits → Bool} {static : Bits → Bool} {binds : Context → Values → Bits → Values}
-      → g .node i ≡ field w admits static binds → leb w (length s) ≡ false → Stuck (state (entry i c k ∷ others) s p v cs)
+        → g .node i ≡ field w admits static binds → leb w (length s) ≡ false → Stuck (state (entry i c k ∷ others) s p v cs)
     unfolding act
     fails-short q l = halts q (rw (l, act))
 
     pub fails-field : {w : ℕ} {admits : Context → Values → Bits → Bool} {static : Bits → Bool} {binds : Context → Values → Bits → Values}
-      → g .node i ≡ field w admits static binds → leb w (length s) ≡ true → admits c v (take w s) ≡ false → Stuck (state (entry i c k ∷ others) s p v cs)
+        → g .node i ≡ field w admits static binds → leb w (length s) ≡ true → admits c v (take w s) ≡ false → Stuck (state (entry i c k ∷ others) s p v cs)
     unfolding act
     fails-field q l e = halts q (rw (l, e, act))
 

@@ -54,13 +54,13 @@ unfolding turn by-lookahead
 reached-again Counts.none j continues exits e = tt
 reached-again (from low) j continues exits e = tt
 reached-again (within low more) j continues exits e =
-    elim (decide (ltb j low))
-    [ inl t ↦ let z = ltb-true j low t in omega arith
-    | inr t ↦
-      elim (decide (leb (low + more) j))
-      [ inl u ↦ let z : leave ≡ again = rw (t, u, turn) at e in let y : _≡_ {A = ℕ} 0 1 = cc in absurd (omega arith)
-      | inr u ↦ let z = leb-false (low + more) j u in omega arith
-      ]
+    elim (decide (ltb j low)) [
+      | inl t ↦ let z = ltb-true j low t in omega arith
+      | inr t ↦
+          elim (decide (leb (low + more) j)) [
+            | inl u ↦ let z : leave ≡ again = rw (t, u, turn) at e in let y : _≡_ {A = ℕ} 0 1 = cc in absurd (omega arith)
+            | inr u ↦ let z = leb-false (low + more) j u in omega arith
+          ]
     ]
 
 pub allowed-leave : (counts : Counts) (j : ℕ) (continues exits : Bool) → turn counts j continues exits ≡ leave → Reached counts j → Allows counts j

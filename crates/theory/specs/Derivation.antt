@@ -59,32 +59,32 @@ pub data Shape (Context Values : Type 0) : Type 0 where
 -- r is left, and the values are v′ then.
 pub data Derives {Context Values : Type 0} (g : Grammar Context Values) : Shape Context Values → Tree → Context → Values → Bits → Values → Bits → Type 0 where
   of-alternative : {i b : ℕ} {is : List ℕ} {t : Tree} {c : Context} {v v′ : Values} {s r : Bits} → b ∈ is → Derives g (construct b (g .node b)) t c v s v′ r
-    → Derives g (construct i (alternative is)) (node i t) c v s v′ r
+      → Derives g (construct i (alternative is)) (node i t) c v s v′ r
   of-concatenation : {i : ℕ} {is : List ℕ} {t : Tree} {c : Context} {v v′ : Values} {s r : Bits} → Derives g (members is) t c v s v′ r
-    → Derives g (construct i (concatenation is)) (node i t) c v s v′ r
+      → Derives g (construct i (concatenation is)) (node i t) c v s v′ r
   -- as many passes as the counts allow
   of-repetition : {i b : ℕ} {counts : Context → Values → Counts} {static : Counts} {fixed : Bool} {t : Tree} {c : Context} {v v′ : Values} {s r : Bits} (k : ℕ)
-    → Allows (counts c v) k → Derives g (passes b k) t c v s v′ r
-    → Derives g (construct i (repetition counts static fixed b)) (node i t) c v s v′ r
+      → Allows (counts c v) k → Derives g (passes b k) t c v s v′ r
+      → Derives g (construct i (repetition counts static fixed b)) (node i t) c v s v′ r
   -- "A switch takes its first true case, else the default; with neither, it matches nothing"
   of-switch : {i b : ℕ} {chosen : Context → Values → Option ℕ} {is : List ℕ} {t : Tree} {c : Context} {v v′ : Values} {s r : Bits}
-    → chosen c v ≡ some b → Derives g (construct b (g .node b)) t c v s v′ r
-    → Derives g (construct i (switch chosen is)) (node i t) c v s v′ r
+      → chosen c v ≡ some b → Derives g (construct b (g .node b)) t c v s v′ r
+      → Derives g (construct i (switch chosen is)) (node i t) c v s v′ r
   of-use : {i b : ℕ} {enters : Context → Option Context} {opens : Context → Values → Values} {closes : Values → Values → Values} {t : Tree} {c c′ : Context} {v v′ v″ : Values} {s r : Bits}
-    → enters c ≡ some c′ → Derives g (construct b (g .node b)) t c′ (opens c v) s v′ r → v″ ≡ closes v v′
-    → Derives g (construct i (use-of enters opens closes b)) (node i t) c v s v″ r
+      → enters c ≡ some c′ → Derives g (construct b (g .node b)) t c′ (opens c v) s v′ r → v″ ≡ closes v v′
+      → Derives g (construct i (use-of enters opens closes b)) (node i t) c v s v″ r
   of-field : {i w : ℕ} {admits : Context → Values → Bits → Bool} {static : Bits → Bool} {binds : Context → Values → Bits → Values} {c : Context} {v v′ : Values} {s r : Bits} (bits : Bits)
-    → length bits ≡ w → s ≡ bits ++ r → admits c v bits ≡ true → v′ ≡ binds c v bits
-    → Derives g (construct i (field w admits static binds)) (leaf i bits) c v s v′ r
+      → length bits ≡ w → s ≡ bits ++ r → admits c v bits ≡ true → v′ ≡ binds c v bits
+      → Derives g (construct i (field w admits static binds)) (leaf i bits) c v s v′ r
   of-eod : {i : ℕ} {c : Context} {v : Values} → Derives g (construct i eod) (end i) c v [] v []
   no-members : {c : Context} {v : Values} {s : Bits} → Derives g (members []) nil c v s v s
   more-members : {m : ℕ} {is : List ℕ} {t u : Tree} {c : Context} {v v′ v″ : Values} {s s′ s″ : Bits}
-    → Derives g (construct m (g .node m)) t c v s v′ s′ → Derives g (members is) u c v′ s′ v″ s″
-    → Derives g (members (m ∷ is)) (member t u) c v s v″ s″
+      → Derives g (construct m (g .node m)) t c v s v′ s′ → Derives g (members is) u c v′ s′ v″ s″
+      → Derives g (members (m ∷ is)) (member t u) c v s v″ s″
   no-passes : {b : ℕ} {c : Context} {v : Values} {s : Bits} → Derives g (passes b zero) nil c v s v s
   more-passes : {b k : ℕ} {t u : Tree} {c : Context} {v v′ v″ : Values} {s s′ s″ : Bits}
-    → Derives g (construct b (g .node b)) t c v s v′ s′ → Derives g (passes b k) u c v′ s′ v″ s″
-    → Derives g (passes b (suc k)) (pass t u) c v s v″ s″
+      → Derives g (construct b (g .node b)) t c v s v′ s′ → Derives g (passes b k) u c v′ s′ v″ s″
+      → Derives g (passes b (suc k)) (pass t u) c v s v″ s″
 
 -- a derivation of a frame, whose bits are s; v′ are the values at its end
 abbrev pub Derivation : {Context Values : Type 0} → Grammar Context Values → Bits → Tree → Values → Type 0

@@ -19,37 +19,37 @@ use Rattle.theory.specs.Machine.{Tables}
 pub record Static {Context Values : Type 0} (g : Grammar Context Values) : Type 0 where
   -- "a set with a variable counting as `~`"
   pub bits-static : {i w : ℕ} {admits : Context → Values → Bits → Bool} {static : Bits → Bool} {binds : Context → Values → Bits → Values}
-    → g .node i ≡ field w admits static binds → (c : Context) (v : Values) (bits : Bits) → admits c v bits ≡ true → static bits ≡ true
+      → g .node i ≡ field w admits static binds → (c : Context) (v : Values) (bits : Bits) → admits c v bits ≡ true → static bits ≡ true
   -- "counts with a variable allowing all"
   pub counts-static : {i b : ℕ} {counts : Context → Values → Counts} {static : Counts} {fixed : Bool}
-    → g .node i ≡ repetition counts static fixed b → (c : Context) (v : Values) (k : ℕ) → Allows (counts c v) k → Allows static k
+      → g .node i ≡ repetition counts static fixed b → (c : Context) (v : Values) (k : ℕ) → Allows (counts c v) k → Allows static k
   -- `{n}` is one number at most
   pub fixed-once : {i b : ℕ} {counts : Context → Values → Counts} {static : Counts}
-    → g .node i ≡ repetition counts static true b → (c : Context) (v : Values) (j k : ℕ) → Allows (counts c v) j → Allows (counts c v) k → j ≡ k
+      → g .node i ≡ repetition counts static true b → (c : Context) (v : Values) (j k : ℕ) → Allows (counts c v) j → Allows (counts c v) k → j ≡ k
   -- the case taken is one of the cases
   pub chosen-listed : {i b : ℕ} {chosen : Context → Values → Option ℕ} {is : List ℕ}
-    → g .node i ≡ switch chosen is → (c : Context) (v : Values) → chosen c v ≡ some b → b ∈ is
+      → g .node i ≡ switch chosen is → (c : Context) (v : Values) → chosen c v ≡ some b → b ∈ is
 
 pub record Hypotheses {Context Values : Type 0} (g : Grammar Context Values) (tables : Tables) : Type 0 where
   pub static : Static g
   -- refusal 8: a width is at least 1; a literal has at least one character
   pub width-positive : {i w : ℕ} {admits : Context → Values → Bits → Bool} {static : Bits → Bool} {binds : Context → Values → Bits → Values}
-    → g .node i ≡ field w admits static binds → 1 ≤ w
+      → g .node i ≡ field w admits static binds → 1 ≤ w
   -- refusal 9: "repeated body has the empty first window"
   pub no-empty-body : {i b : ℕ} {counts : Context → Values → Counts} {static : Counts} {fixed : Bool}
-    → g .node i ≡ repetition counts static fixed b → First g (construct b (g .node b)) [] → ⊥
+      → g .node i ≡ repetition counts static fixed b → First g (construct b (g .node b)) [] → ⊥
   -- refusal 10: a clash
   pub no-conflict : (i : ℕ) (x : Bits) → Conflict g i x → ⊥
   -- refusal 6, scoping: what a repetition's counts name is bound outside its body ("uses stand in later members" of their own rule), and
   -- refusal 7: the rules that the body uses do not come back to it
   pub body-keeps-counts : {i b : ℕ} {counts : Context → Values → Counts} {static : Counts} {fixed : Bool} {t : Tree} {c : Context} {v v′ : Values} {s r : Bits}
-    → g .node i ≡ repetition counts static fixed b → Derives g (construct b (g .node b)) t c v s v′ r → counts c v′ ≡ counts c v
+      → g .node i ≡ repetition counts static fixed b → Derives g (construct b (g .node b)) t c v s v′ r → counts c v′ ≡ counts c v
   -- "Values stay as last bound": nothing is put back where a rule ends. (Theorem `local` says that this changes no derivation.)
   pub values-stay : {i b : ℕ} {enters : Context → Option Context} {opens : Context → Values → Values} {closes : Values → Values → Values}
-    → g .node i ≡ use-of enters opens closes b → (v v′ : Values) → closes v v′ ≡ v′
+      → g .node i ≡ use-of enters opens closes b → (v v′ : Values) → closes v v′ ≡ v′
   -- refusal 23: the sets in a sound table are those of the grammar
   pub predicts-exact : {i b : ℕ} {is : List ℕ} → g .node i ≡ alternative is → b ∈ is → (x : Bits) → length x ≤ 8 → (tables .predicts b x ≡ true) ↔ Predicted g b x
   pub continues-exact : {i b : ℕ} {counts : Context → Values → Counts} {static : Counts}
-    → g .node i ≡ repetition counts static false b → (x : Bits) → length x ≤ 8 → (tables .continues i x ≡ true) ↔ Continues g i b x
+      → g .node i ≡ repetition counts static false b → (x : Bits) → length x ≤ 8 → (tables .continues i x ≡ true) ↔ Continues g i b x
   pub exits-exact : {i b : ℕ} {counts : Context → Values → Counts} {static : Counts}
-    → g .node i ≡ repetition counts static false b → (x : Bits) → length x ≤ 8 → (tables .exits i x ≡ true) ↔ Exits g i x
+      → g .node i ≡ repetition counts static false b → (x : Bits) → length x ≤ 8 → (tables .exits i x ≡ true) ↔ Exits g i x

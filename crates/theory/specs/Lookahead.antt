@@ -17,7 +17,7 @@ use Rattle.theory.specs.Derivation.{Shape, construct, members, passes}
 pub data First {Context Values : Type 0} (g : Grammar Context Values) : Shape Context Values → Bits → Type 0 where
   -- "of a field, the leading 8 bits (or all, if fewer) of each bit pattern it admits, a set with a variable counting as `~`"
   of-field : {i w : ℕ} {admits : Context → Values → Bits → Bool} {static : Bits → Bool} {binds : Context → Values → Bits → Values} {x : Bits} (bits : Bits)
-    → length bits ≡ w → static bits ≡ true → x ≡ lookahead bits → First g (construct i (field w admits static binds)) x
+      → length bits ≡ w → static bits ≡ true → x ≡ lookahead bits → First g (construct i (field w admits static binds)) x
   -- "of eod, the empty one"
   of-eod : {i : ℕ} → First g (construct i eod) []
   -- "of alternatives and switches, the union"
@@ -25,14 +25,14 @@ pub data First {Context Values : Type 0} (g : Grammar Context Values) : Shape Co
   of-switch : {i b : ℕ} {chosen : Context → Values → Option ℕ} {is : List ℕ} {x : Bits} → b ∈ is → First g (construct b (g .node b)) x → First g (construct i (switch chosen is)) x
   -- "of a rule use, its rule's"
   of-use : {i b : ℕ} {enters : Context → Option Context} {opens : Context → Values → Values} {closes : Values → Values → Values} {x : Bits}
-    → First g (construct b (g .node b)) x → First g (construct i (use-of enters opens closes b)) x
+      → First g (construct b (g .node b)) x → First g (construct i (use-of enters opens closes b)) x
   -- "of a concatenation, the joined windows, cut at 8 (a join with no windows has none)"
   of-concatenation : {i : ℕ} {is : List ℕ} {x : Bits} → First g (members is) x → First g (construct i (concatenation is)) x
   no-members : First g (members []) []
   more-members : {m : ℕ} {is : List ℕ} {x y z : Bits} → First g (construct m (g .node m)) x → First g (members is) y → z ≡ join x y → First g (members (m ∷ is)) z
   -- "of a repetition, the join of k passes for each k its counts allow, counts with a variable allowing all"
   of-repetition : {i b : ℕ} {counts : Context → Values → Counts} {static : Counts} {fixed : Bool} {x : Bits} (k : ℕ)
-    → Allows static k → First g (passes b k) x → First g (construct i (repetition counts static fixed b)) x
+      → Allows static k → First g (passes b k) x → First g (construct i (repetition counts static fixed b)) x
   no-passes : {b : ℕ} → First g (passes b zero) []
   more-passes : {b k : ℕ} {x y z : Bits} → First g (construct b (g .node b)) x → First g (passes b k) y → z ≡ join x y → First g (passes b (suc k)) z
 
@@ -41,16 +41,16 @@ pub data Follow {Context Values : Type 0} (g : Grammar Context Values) : ℕ →
   of-start : {i : ℕ} → i ≡ g .start → Follow g i []
   -- "of a rule, also those of all its uses"
   of-rule : {i b : ℕ} {enters : Context → Option Context} {opens : Context → Values → Values} {closes : Values → Values → Values} {x : Bits}
-    → g .node i ≡ use-of enters opens closes b → Follow g i x → Follow g b x
+      → g .node i ≡ use-of enters opens closes b → Follow g i x → Follow g b x
   -- "of a member, the first windows of the members after it, joined with its concatenation's follow"
   of-member : {i m : ℕ} {x y z : Bits} (before after : List ℕ)
-    → g .node i ≡ concatenation (before ++ m ∷ after) → First g (members after) x → Follow g i y → z ≡ join x y → Follow g m z
+      → g .node i ≡ concatenation (before ++ m ∷ after) → First g (members after) x → Follow g i y → z ≡ join x y → Follow g m z
   -- "of a branch or a case, its owner's"
   of-branch : {i b : ℕ} {is : List ℕ} {x : Bits} → g .node i ≡ alternative is → b ∈ is → Follow g i x → Follow g b x
   of-case : {i b : ℕ} {chosen : Context → Values → Option ℕ} {is : List ℕ} {x : Bits} → g .node i ≡ switch chosen is → b ∈ is → Follow g i x → Follow g b x
   -- "of a repeated body, zero or more further passes, joined with the repetition's follow"
   of-body : {i b : ℕ} {counts : Context → Values → Counts} {static : Counts} {fixed : Bool} {x y z : Bits} (k : ℕ)
-    → g .node i ≡ repetition counts static fixed b → First g (passes b k) x → Follow g i y → z ≡ join x y → Follow g b z
+      → g .node i ≡ repetition counts static fixed b → First g (passes b k) x → Follow g i y → z ≡ join x y → Follow g b z
 
 -- "A branch's windows are its first joined with its follow."
 pub data Predicted {Context Values : Type 0} (g : Grammar Context Values) (i : ℕ) : Bits → Type 0 where
@@ -68,4 +68,4 @@ Exits g i x = Follow g i x
 pub data Conflict {Context Values : Type 0} (g : Grammar Context Values) (i : ℕ) (x : Bits) : Type 0 where
   of-branches : {a b : ℕ} {is : List ℕ} → g .node i ≡ alternative is → a ∈ is → b ∈ is → a ≢ b → Predicted g a x → Predicted g b x → Conflict g i x
   of-passes : {b : ℕ} {counts : Context → Values → Counts} {static : Counts} → g .node i ≡ repetition counts static false b
-    → Continues g i b x → Exits g i x → Conflict g i x
+      → Continues g i b x → Exits g i x → Conflict g i x

@@ -64,21 +64,21 @@ module _ {Context Values : Type 0} (g : Grammar Context Values) (tables : Tables
       elim (choose (λ b. tables .predicts b (lookahead s)) is) [ none ↦ none | some b ↦ some (state (entry b c 0 ∷ others) s p v cs) ]
   act (concatenation is) i c k others s p v cs = some (state (entries c is ++ others) s p v cs)
   act (repetition counts static fixed b) i c k others s p v cs =
-      elim (turn (counts c v) k (tables .continues i (lookahead s)) (tables .exits i (lookahead s)))
-      [ fail ↦ none
-      | again ↦ some (state (entry b c 0 ∷ entry i c (suc k) ∷ others) s p v cs)
-      | leave ↦ some (state others s p v cs)
+      elim (turn (counts c v) k (tables .continues i (lookahead s)) (tables .exits i (lookahead s))) [
+        | fail ↦ none
+        | again ↦ some (state (entry b c 0 ∷ entry i c (suc k) ∷ others) s p v cs)
+        | leave ↦ some (state others s p v cs)
       ]
   act (switch chosen is) i c k others s p v cs = elim (chosen c v) [ none ↦ none | some b ↦ some (state (entry b c 0 ∷ others) s p v cs) ]
   act (use-of enters opens closes b) i c k others s p v cs =
       elim (enters c) [ none ↦ none | some c′ ↦ some (state (entry b c′ 0 ∷ others) s p (opens c v) cs) ]
   -- "compare, no match on a difference or too few bits; where they hold, all but eod write two words in the reading"
   act (field w admits static binds) i c k others s p v cs =
-      elim (leb w (length s))
-      [ true ↦
-        elim (admits c v (take w s))
-        [ true ↦ some (state others (drop w s) (p + w) (binds c v (take w s)) (cs ++ (record { construct = i; first-bit = p } ∷ []))) | false ↦ none ]
-      | false ↦ none
+      elim (leb w (length s)) [
+        | true ↦
+            elim (admits c v (take w s))
+            [ true ↦ some (state others (drop w s) (p + w) (binds c v (take w s)) (cs ++ (record { construct = i; first-bit = p } ∷ []))) | false ↦ none ]
+        | false ↦ none
       ]
   act eod i c k others [] p v cs = some (state others [] p v cs)
   act eod i c k others (b ∷ s) p v cs = none
