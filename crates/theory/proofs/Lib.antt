@@ -6,3 +6,4 @@ pub mod Turns
 pub mod Steps
 pub mod Completeness
 pub mod Progress
+pub mod Runs

@@ -19,7 +19,7 @@ use Rattle.basis.specs.Lookahead.{lookahead}
 use Rattle.theory.specs.Grammar.{Node, alternative, concatenation, repetition, switch, use-of, field, eod, Grammar, _∈_}
 use Rattle.theory.specs.Derivation.{Tree, leaf, end, node, nil, member, pass, covered, Capture, captures, Shape, construct, members, passes, Derives}
 use Rattle.theory.specs.Lookahead.{First}
-use Rattle.theory.specs.Machine.{Tables, Entry, entry, State, state, Turn, fail, again, leave, turn, choose, entries, tree-steps}
+use Rattle.theory.specs.Machine.{Tables, Entry, entry, State, state, Turn, fail, again, leave, turn, choose, entries, tree-steps, Passes}
 use Rattle.theory.specs.Weight.{sum, largest, weigh, Weighs}
 use Rattle.theory.specs.Hypotheses.{Static, Hypotheses}
 use Rattle.theory.proofs.FirstTheorem.{covers, first}
@@ -54,11 +54,6 @@ in-largest : (f : ℕ → ℕ) {is : List ℕ} {b : ℕ} → b ∈ is → f b �
 unfolding largest
 in-largest f {is = a ∷ is} (List·Memᴰ·head e) = rw e (omega arith)
 in-largest f {is = a ∷ is} (List·Memᴰ·tail m) = let z = in-largest f m in omega arith
-
--- no entry has begun more than n passes
-abbrev pub Passes : {Context : Type 0} → List (Entry Context) → ℕ → Type 0
-Passes [] n = Unit {0}
-Passes (entry i c k ∷ es) n = (k ≤ n) × Passes es n
 
 pub passes-more : {Context : Type 0} (es : List (Entry Context)) {m n : ℕ} → m ≤ n → Passes es m → Passes es n
 passes-more [] l h = tt

@@ -4,3 +4,4 @@ pub mod Lookahead
 pub mod Machine
 pub mod Weight
 pub mod Hypotheses
+pub mod Theorems

@@ -1,6 +1,6 @@
 -- The machine. "A run holds a position, a to-do list, variable values, fields recorded, steps taken and a verdict."
 -- Assumes nothing.
-use Prim.Native.Nat.{ℕ, zero, suc, _+_, _-_}
+use Prim.Native.Nat.{ℕ, zero, suc, _+_, _-_, _≤_}
 use mathlib.Core.Bool.{Bool, true, false}
 use mathlib.Core.List.{List, [], _∷_, _++_, map}
 use mathlib.Core.Option.{Option, none, some}
@@ -26,6 +26,23 @@ pub data Entry (Context : Type 0) : Type 0 where
 -- `rest`: the frame's bits from `position` on
 pub data State (Context Values : Type 0) : Type 0 where
   state : (pending : List (Entry Context)) (rest : Bits) (position : ℕ) (values : Values) (captures : List Capture) → State Context Values
+
+abbrev pub pending-of : {Context Values : Type 0} → State Context Values → List (Entry Context)
+pending-of (state es s p v cs) = es
+
+abbrev pub rest-of : {Context Values : Type 0} → State Context Values → Bits
+rest-of (state es s p v cs) = s
+
+abbrev pub position-of : {Context Values : Type 0} → State Context Values → ℕ
+position-of (state es s p v cs) = p
+
+abbrev pub captures-of : {Context Values : Type 0} → State Context Values → List Capture
+captures-of (state es s p v cs) = cs
+
+-- no pending entry has begun more than n passes
+abbrev pub Passes : {Context : Type 0} → List (Entry Context) → ℕ → Type 0
+Passes [] n = Unit {0}
+Passes (entry i c k ∷ es) n = (k ≤ n) × Passes es n
 
 -- What a repetition does at its turn.
 pub data Turn : Type 0 where
