@@ -7,3 +7,6 @@ pub mod Steps
 pub mod Completeness
 pub mod Progress
 pub mod Runs
+pub mod Invariants
+pub mod Decisions
+pub mod Theorems

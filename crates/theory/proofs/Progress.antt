@@ -43,6 +43,17 @@ at-least {w} l x = omega (arith, mul-le-mul-right (x + 1) l)
 some-bound : (W x : ℕ) → 1 ≤ (1 + W) * (x + 1)
 some-bound W x = omega arith
 
+-- an option, with what it is
+pub given : {A : Type 0} (o : Option A) → (o ≡ none) ⊎ ((a : A) × (o ≡ some a))
+given none = inl refl
+given (some a) = inr (a, refl)
+
+-- a turn, with what it is
+pub which : (t : Turn) → (t ≡ fail) ⊎ ((t ≡ again) ⊎ (t ≡ leave))
+which fail = inl refl
+which again = inr (inl refl)
+which leave = inr (inr refl)
+
 -- a chosen branch is one of the branches
 pub chosen-in : (holds : ℕ → Bool) (is : List ℕ) (b : ℕ) → choose holds is ≡ some b → b ∈ is
 unfolding choose
@@ -50,7 +61,7 @@ chosen-in holds [] b e = let z : _≡_ {A = ℕ} 0 1 = cc in absurd (omega arith
 chosen-in holds (a ∷ is) b e =
     elim (decide (holds a)) [ inl t ↦ List·Memᴰ·head {x = a} (let z : some a ≡ some b = rw (t, choose) at e in cc) | inr t ↦ List·Memᴰ·tail (chosen-in holds is b (rw (t, choose) at e)) ]
 
-in-largest : (f : ℕ → ℕ) {is : List ℕ} {b : ℕ} → b ∈ is → f b ≤ largest f is
+pub in-largest : (f : ℕ → ℕ) {is : List ℕ} {b : ℕ} → b ∈ is → f b ≤ largest f is
 unfolding largest
 in-largest f {is = a ∷ is} (List·Memᴰ·head e) = rw e (omega arith)
 in-largest f {is = a ∷ is} (List·Memᴰ·tail m) = let z = in-largest f m in omega arith
@@ -69,21 +80,21 @@ Counted (state es s p v cs) = Passes es (suc p)
 
 module _ {Context Values : Type 0} (g : Grammar Context Values) (tables : Tables) (h : Hypotheses g tables) (weight : Context → ℕ → ℕ) (weighs : Weighs g weight) where
   -- The machine, with these entries first, n steps later has failed.
-  data Fails (σ : State Context Values) (most : ℕ) : Type 0 where
+  pub data Fails (σ : State Context Values) (most : ℕ) : Type 0 where
     fails : {n i k : ℕ} {c : Context} {es : List (Entry Context)} {s : Bits} {p : ℕ} {v : Values} {cs : List Capture} → Path g tables Counted n σ (state (entry i c k ∷ es) s p v cs)
         → Counted (state (entry i c k ∷ es) s p v cs) → Stuck g tables (state (entry i c k ∷ es) s p v cs) → suc n ≤ most → Fails σ most
 
   -- It has derived `what` and goes on with the other entries, or has failed.
-  data Outcome (what : Shape Context Values) (first : List (Entry Context)) (w : ℕ) (others : List (Entry Context)) (c : Context) (s : Bits) (p : ℕ) (v : Values) (cs : List Capture) : Type 0 where
+  pub data Outcome (what : Shape Context Values) (first : List (Entry Context)) (w : ℕ) (others : List (Entry Context)) (c : Context) (s : Bits) (p : ℕ) (v : Values) (cs : List Capture) : Type 0 where
     derived : {t : Tree} {v′ : Values} {r : Bits} → Derives g what t c v s v′ r → Path g tables Counted (tree-steps t) (state (first ++ others) s p v cs) (after others t p r v′ cs)
         → tree-steps t ≤ w * (length (covered t) + 1) → Outcome what first w others c s p v cs
     failed : Fails (state (first ++ others) s p v cs) (w * (length s + 1)) → Outcome what first w others c s p v cs
 
-  abbrev One : Context → ℕ → Node Context Values → ℕ → Type 0
+  abbrev pub One : Context → ℕ → Node Context Values → ℕ → Type 0
   One c i n w = (others : List (Entry Context)) (s : Bits) (p : ℕ) (v : Values) (cs : List Capture) → Passes others (suc p) → Outcome (construct i n) (entry i c 0 ∷ []) w others c s p v cs
 
   -- what holds of each construct whose weight is at most n
-  abbrev Each : ℕ → Type 0
+  abbrev pub Each : ℕ → Type 0
   Each n = (c : Context) (i : ℕ) → weight c i ≤ n → One c i (g .node i) (weight c i)
 
   -- a failure one step later, or after a part that was derived
@@ -142,11 +153,6 @@ module _ {Context Values : Type 0} (g : Grammar Context Values) (tables : Tables
   several each c [] l others s p v cs k = Outcome.derived Derives.no-members (arrive g tables (after-none others p s v cs) Path.here) (omega arith)
   several each c (i ∷ is) l others s p v cs k =
       member-or k (each c i (omega arith) (entries c is ++ others) s p v cs (passes-new c is others (suc p) k)) (λ s′ p′ v′ cs′ k′. several each c is (omega arith) others s′ p′ v′ cs′ k′)
-
-  which : (t : Turn) → (t ≡ fail) ⊎ ((t ≡ again) ⊎ (t ≡ leave))
-  which fail = inl refl
-  which again = inr (inl refl)
-  which leave = inr (inr refl)
 
   -- a body that is derived takes a bit
   takes-a-bit : {i b : ℕ} {counts : Context → Values → Counts} {static : Counts} {fixed : Bool} {t : Tree} {c : Context} {v v′ : Values} {s r : Bits}
@@ -221,11 +227,6 @@ module _ {Context Values : Type 0} (g : Grammar Context Values) (tables : Tables
     unfolding tree-steps covered captures
     whole {v = v} (Repeats.repeated {k} a d q₁ l) = Outcome.derived (Derives.of-repetition k (subst (Allows (counts c v)) (zero-add k) a) d) q₁ l
     whole (Repeats.stopped x) = Outcome.failed x
-
-  -- an option, with what it is
-  given : {A : Type 0} (o : Option A) → (o ≡ none) ⊎ ((a : A) × (o ≡ some a))
-  given none = inl refl
-  given (some a) = inr (a, refl)
 
   weight-positive : (c : Context) (x : Node Context Values) → 1 ≤ weigh weight c x
   unfolding weigh
@@ -303,7 +304,7 @@ module _ {Context Values : Type 0} (g : Grammar Context Values) (tables : Tables
   outcome each c i eod q l others (x ∷ s) p v cs k = Outcome.failed (at-once (omega arith, k) (Steps.fails-eod g tables q) (omega arith))
 
   -- by recursion on a bound of the weight
-  each : (n : ℕ) → Each n
+  pub each : (n : ℕ) → Each n
   each zero c i l = absurd (let z = weight-positive c (g .node i) in omega (arith, weighs c i))
   each (suc n) c i l =
       λ others s p v cs k.

@@ -57,9 +57,9 @@ module _ {Context Values : Type 0} (g : Grammar Context Values) (tables : Tables
       record {
         granted-sum = granted-sum;
         taken-sum =
-          λ m n r.
-          let a = granted-grows m r in let b = granted-grows n (granted g tables m r) in rw (granted-sum m n r) (omega arith);
-        decided-stays = λ n r u. (granted-decided n r u, rw (granted-decided n r u) (omega arith))
+            λ m n r.
+            let a = granted-grows m r in let b = granted-grows n (granted g tables m r) in rw (granted-sum m n r) (omega arith);
+        decided-stays = λ n r u. (granted-decided n r u, rw (granted-decided n r u) (omega arith));
       }
 
   -- a state that is stepped on is undecided
@@ -84,7 +84,7 @@ module _ {Context Values : Type 0} (g : Grammar Context Values) (tables : Tables
 
   -- before a path's end the run is undecided, and the path's invariant holds
   pub path-before : {P : State Context Values → Type 0} {n : ℕ} {σ τ : State Context Values} (m k : ℕ) → Path g tables P n σ τ → k < n
-    → (ρ : State Context Values) × P ρ × (granted g tables k (run σ m (verdict σ)) ≡ run ρ (m + k) undecided)
+      → (ρ : State Context Values) × P ρ × (granted g tables k (run σ m (verdict σ)) ≡ run ρ (m + k) undecided)
   unfolding granted
   path-before m k Path.here l = absurd (omega arith)
   path-before {σ = σ} m zero (Path.next p e q) l = (σ, p, rw (goes-undecided e, add-zero))

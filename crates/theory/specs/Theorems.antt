@@ -17,7 +17,7 @@ module _ {Context Values : Type 0} (g : Grammar Context Values) where
   -- First: a derivation over some bits puts the first 8 of them into FIRST.
   abbrev pub FirstTheorem : Type 0
   FirstTheorem = (i : ℕ) (t : Tree) (c : Context) (v v′ : Values) (s r : Bits) → Derives g (construct i (g .node i)) t c v s v′ r
-    → (s ≡ covered t ++ r) × First g (construct i (g .node i)) (lookahead (covered t))
+      → (s ≡ covered t ++ r) × First g (construct i (g .node i)) (lookahead (covered t))
 
   -- Follow: what is left of the frame after any part of a derivation begins with a string of FOLLOW.
   abbrev pub FollowTheorem : Type 0
@@ -49,7 +49,7 @@ module _ {Context Values : Type 0} (g : Grammar Context Values) (tables : Tables
       pub match-iff : (s : Bits) (n : ℕ) → step-bound s ≤ n → (verdict-of (granted g tables n (opened g tables s)) ≡ matched) ↔ Derivable g s
       pub mismatch-iff : (s : Bits) (n : ℕ) → step-bound s ≤ n → (verdict-of (granted g tables n (opened g tables s)) ≡ unmatched) ↔ (Derivable g s → ⊥)
       pub match-end : (s : Bits) (t : Tree) (v : Values) → Derivation g s t v → (n : ℕ) → tree-steps t ≤ n
-        → granted g tables n (opened g tables s) ≡ run (state [] [] (length s) v (captures t 0)) (tree-steps t) matched
+          → granted g tables n (opened g tables s) ≡ run (state [] [] (length s) v (captures t 0)) (tree-steps t) matched
 
     -- Bound: decided within weight × (bits + 1) steps; the steps taken in all are the smaller of those granted and those needed.
     pub record Decision (s : Bits) : Type 0 where
