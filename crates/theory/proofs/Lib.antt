@@ -2,6 +2,7 @@
 pub mod FirstTheorem
 pub mod FollowTheorem
 pub mod UniqueTheorem
+pub mod Prediction
 pub mod Turns
 pub mod Steps
 pub mod Completeness
@@ -9,4 +10,5 @@ pub mod Progress
 pub mod Runs
 pub mod Invariants
 pub mod Decisions
+pub mod LocalTheorem
 pub mod Theorems

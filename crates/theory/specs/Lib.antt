@@ -5,3 +5,4 @@ pub mod Machine
 pub mod Weight
 pub mod Hypotheses
 pub mod Theorems
+pub mod Scope
