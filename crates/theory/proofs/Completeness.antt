@@ -20,7 +20,7 @@ use Rattle.basis.proofs.Joins.{length-lookahead}
 use Rattle.theory.specs.Grammar.{Node, alternative, repetition, Grammar, _∈_}
 use Rattle.theory.specs.Derivation.{Tree, covered, Capture, captures, Shape, construct, members, passes, Derives}
 use Rattle.theory.specs.Lookahead.{First, Follow, Predicted, Continues, Conflict}
-use Rattle.theory.specs.Machine.{Tables, Entry, entry, State, state, again, leave, turn, choose, entries, tree-steps}
+use Rattle.theory.specs.Machine.{Tests, Entry, entry, State, state, again, leave, turn, choose, entries, tree-steps}
 use Rattle.theory.specs.Hypotheses.{Static, Hypotheses}
 use Rattle.theory.proofs.FirstTheorem.{first}
 use Rattle.theory.proofs.FollowTheorem.{After, next-follows, after-member, after-members, after-pass, derived-predicted}
@@ -39,7 +39,7 @@ chooses holds {is = a ∷ is} {b} (List·Memᴰ·tail m) t only =
     elim (decide (holds a))
     [ inl z ↦ rw (z, choose) (ap some (only a (List·Memᴰ·head refl) z)) | inr z ↦ rw (z, choose) (chooses holds m t (λ a′ m′. only a′ (List·Memᴰ·tail m′))) ]
 
-module _ {Context Values : Type 0} (g : Grammar Context Values) (tables : Tables) (h : Hypotheses g tables) where
+module _ {Context Values : Type 0} (g : Grammar Context Values) (tests : Tests) (h : Hypotheses g tests) where
   -- What is pending for a shape that is derived in context c from values v and followed by x: the construct; the members; or the
   -- repetition, with j passes begun, whose further passes they are.
   pub data Todo (c : Context) (v : Values) (x : Bits) : Shape Context Values → Type 0 where
@@ -61,12 +61,12 @@ module _ {Context Values : Type 0} (g : Grammar Context Values) (tables : Tables
 
   -- the branch of a derivation is the one whose prediction set holds what comes next
   branch-chosen : {i b : ℕ} {is : List ℕ} {t : Tree} {c : Context} {v v′ : Values} {s r : Bits} → g .node i ≡ alternative is → (m : b ∈ is)
-      → Derives g (construct b (g .node b)) t c v s v′ r → Follow g i (lookahead r) → choose (λ a. tables .predicts a (lookahead s)) is ≡ some b
+      → Derives g (construct b (g .node b)) t c v s v′ r → Follow g i (lookahead r) → choose (λ a. tests .predicts a (lookahead s)) is ≡ some b
   branch-chosen {i} {b} {is} {s = s} q m d f =
       let x = lookahead s in
       let l = length-lookahead s in
       let here : Predicted g b x = derived-predicted g (h .static) d (Follow.of-branch q m f) in
-      chooses (λ a. tables .predicts a x) m (h .predicts-exact q m x l .1 here)
+      chooses (λ a. tests .predicts a x) m (h .predicts-exact q m x l .1 here)
       (λ a m′ t.
       elim (ℕ-discrete a b)
       [ yes e ↦ e | no n ↦ absurd (h .no-conflict i x (Conflict.of-branches q m′ m n (h .predicts-exact q m′ x l .0 t) here)) ])
@@ -74,7 +74,7 @@ module _ {Context Values : Type 0} (g : Grammar Context Values) (tables : Tables
   -- a repetition whose derivation has more passes begins another, and one whose derivation has none left leaves
   again-turn : {i b k : ℕ} {counts : Context → Values → Counts} {static : Counts} (fixed : Bool) {t : Tree} {c : Context} {v v′ : Values} {s r : Bits} (j : ℕ)
       → g .node i ≡ repetition counts static fixed b → Allows (counts c v) (j + suc k) → Derives g (passes b (suc k)) t c v s v′ r → Follow g i (lookahead r)
-      → turn (counts c v) j (tables .continues i (lookahead s)) (tables .exits i (lookahead s)) ≡ again
+      → turn (counts c v) j (tests .continues i (lookahead s)) (tests .exits i (lookahead s)) ≡ again
   again-turn {k = k} {counts} true {c = c} {v = v} {s = s} j q a d f =
       turn-again (counts c v) j k _ _ a (inr (λ a₀. let z = h .static .fixed-once q c v j (j + suc k) a₀ a in omega arith))
   again-turn {k = k} {counts} false {c = c} {v = v} {s = s} j q a d f =
@@ -83,7 +83,7 @@ module _ {Context Values : Type 0} (g : Grammar Context Values) (tables : Tables
 
   leave-turn : {i b : ℕ} {counts : Context → Values → Counts} {static : Counts} (fixed : Bool) (c : Context) (v : Values) (s : Bits) (j : ℕ)
       → g .node i ≡ repetition counts static fixed b → Allows (counts c v) j → Follow g i (lookahead s)
-      → turn (counts c v) j (tables .continues i (lookahead s)) (tables .exits i (lookahead s)) ≡ leave
+      → turn (counts c v) j (tests .continues i (lookahead s)) (tests .exits i (lookahead s)) ≡ leave
   leave-turn {counts = counts} true c v s j q a f =
       turn-leave (counts c v) j _ _ a (inr (λ a₁. let z = h .static .fixed-once q c v j (suc j) a a₁ in omega arith))
   leave-turn {i} {counts = counts} false c v s j q a f =
@@ -91,7 +91,7 @@ module _ {Context Values : Type 0} (g : Grammar Context Values) (tables : Tables
       let l = length-lookahead s in
       turn-leave (counts c v) j _ _ a
       (inl (
-        elim (decide (tables .continues i x))
+        elim (decide (tests .continues i x))
             [ inl t ↦ absurd (h .no-conflict i x (Conflict.of-passes q (h .continues-exact q x l .0 t) f)) | inr t ↦ t ],
         h .exits-exact q x l .1 f,
       ))
@@ -102,41 +102,41 @@ module _ {Context Values : Type 0} (g : Grammar Context Values) (tables : Tables
   -- the machine does what a derivation says
   pub follows-derivation : {what : Shape Context Values} {t : Tree} {c : Context} {v v′ : Values} {s r : Bits} → Derives g what t c v s v′ r → (todo : Todo c v (lookahead r) what)
       → (others : List (Entry Context)) (p : ℕ) (cs : List Capture)
-      → Path g tables (λ σ. Unit {0}) (extra todo + tree-steps t) (state (pending todo ++ others) s p v cs) (after others t p r v′ cs)
+      → Path g tests (λ σ. Unit {0}) (extra todo + tree-steps t) (state (pending todo ++ others) s p v cs) (after others t p r v′ cs)
   unfolding covered captures tree-steps
   follows-derivation (Derives.of-alternative m d) (Todo.one q f) others p cs =
-      resize g tables (omega arith) (Path.next tt (Steps.step-alternative g tables q (branch-chosen q m d f)) (follows-derivation d (Todo.one refl (Follow.of-branch q m f)) others p cs))
+      resize g tests (omega arith) (Path.next tt (Steps.step-alternative g tests q (branch-chosen q m d f)) (follows-derivation d (Todo.one refl (Follow.of-branch q m f)) others p cs))
   follows-derivation (Derives.of-concatenation d) (Todo.one q f) others p cs =
-      resize g tables (omega arith) (Path.next tt (Steps.step-concatenation g tables q) (follows-derivation d (Todo.several (After.of-members [] q f)) others p cs))
+      resize g tests (omega arith) (Path.next tt (Steps.step-concatenation g tests q) (follows-derivation d (Todo.several (After.of-members [] q f)) others p cs))
   follows-derivation (Derives.of-repetition {counts = counts} {c = c} {v = v} k a d) (Todo.one q f) others p cs =
-      resize g tables (omega arith) (follows-derivation d (Todo.repeated 0 q (subst (Allows (counts c v)) (sym (zero-add k)) a) f) others p cs)
+      resize g tests (omega arith) (follows-derivation d (Todo.repeated 0 q (subst (Allows (counts c v)) (sym (zero-add k)) a) f) others p cs)
   follows-derivation (Derives.of-switch {c = c} {v = v} e d) (Todo.one q f) others p cs =
-      resize g tables (omega arith)
-      (Path.next tt (Steps.step-switch g tables q e) (follows-derivation d (Todo.one refl (Follow.of-case q (h .static .chosen-listed q c v e) f)) others p cs))
+      resize g tests (omega arith)
+      (Path.next tt (Steps.step-switch g tests q e) (follows-derivation d (Todo.one refl (Follow.of-case q (h .static .chosen-listed q c v e) f)) others p cs))
   follows-derivation (Derives.of-use {i} {t = t} {v = v} {v′ = v′} {r = r} e d z) (Todo.one q f) others p cs =
-      resize g tables (omega arith)
-      (arrive g tables (ap (λ (x : Values). after others t p r x cs) (sym (z ∙ h .values-stay q v v′)))
-      (Path.next tt (Steps.step-use g tables q e) (follows-derivation d (Todo.one refl (Follow.of-rule q f)) others p cs)))
+      resize g tests (omega arith)
+      (arrive g tests (ap (λ (x : Values). after others t p r x cs) (sym (z ∙ h .values-stay q v v′)))
+      (Path.next tt (Steps.step-use g tests q e) (follows-derivation d (Todo.one refl (Follow.of-rule q f)) others p cs)))
   follows-derivation (Derives.of-field {i} {w} {admits} {binds = binds} {c = c} {v = v} {s = s} {r = r} bits l e a z) (Todo.one q f) others p cs =
       let front : take w s ≡ bits = ap (take w) e ∙ take-at bits r w l in
       let back : drop w s ≡ r = ap (drop w) e ∙ drop-at bits r w l in
       let long : leb w (length s) ≡ true = le-leb w (length s) (omega (arith, l, ap length e, length-append bits r)) in
-      resize g tables (omega arith)
-      (arrive g tables (rw (back, front, z, l))
-      (Path.next tt (Steps.step-field g tables q long (ap (admits c v) front ∙ a)) Path.here))
-  follows-derivation Derives.of-eod (Todo.one q f) others p cs = arrive g tables (after-none others p [] _ cs) (resize g tables (omega arith) (Path.next tt (Steps.step-eod g tables q) Path.here))
-  follows-derivation Derives.no-members (Todo.several a) others p cs = arrive g tables (after-none others p _ _ cs) (resize g tables (omega arith) Path.here)
+      resize g tests (omega arith)
+      (arrive g tests (rw (back, front, z, l))
+      (Path.next tt (Steps.step-field g tests q long (ap (admits c v) front ∙ a)) Path.here))
+  follows-derivation Derives.of-eod (Todo.one q f) others p cs = arrive g tests (after-none others p [] _ cs) (resize g tests (omega arith) (Path.next tt (Steps.step-eod g tests q) Path.here))
+  follows-derivation Derives.no-members (Todo.several a) others p cs = arrive g tests (after-none others p _ _ cs) (resize g tests (omega arith) Path.here)
   follows-derivation (Derives.more-members {is = is} {t} {u} {c = c} {v″ = v″} {s″ = r} d ds) (Todo.several a) others p cs =
-      resize g tables (omega arith)
-      (arrive g tables (after-both others p r v″ cs t u _ _ refl refl)
-      (then g tables (follows-derivation d (Todo.one refl (after-member g (h .static) a ds)) (entries c is ++ others) p cs)
+      resize g tests (omega arith)
+      (arrive g tests (after-both others p r v″ cs t u _ _ refl refl)
+      (then g tests (follows-derivation d (Todo.one refl (after-member g (h .static) a ds)) (entries c is ++ others) p cs)
       (follows-derivation ds (Todo.several (after-members g (h .static) a)) others (p + length (covered t)) (cs ++ captures t p))))
   follows-derivation (Derives.no-passes {c = c} {v = v} {s = s}) (Todo.repeated {counts = counts} {fixed = fixed} j q a f) others p cs =
-      arrive g tables (after-none others p s v cs)
-      (resize g tables (omega arith) (Path.next tt (Steps.step-leave g tables q (leave-turn fixed c v s j q (subst (Allows (counts c v)) (add-zero j) a) f)) Path.here))
+      arrive g tests (after-none others p s v cs)
+      (resize g tests (omega arith) (Path.next tt (Steps.step-leave g tests q (leave-turn fixed c v s j q (subst (Allows (counts c v)) (add-zero j) a) f)) Path.here))
   follows-derivation (Derives.more-passes {k = k} {t} {u} {c} {v″ = v″} {s″ = r} d ds) (Todo.repeated {i} {counts = counts} {fixed = fixed} j q a f) others p cs =
-      resize g tables (omega arith)
-      (arrive g tables (after-both others p r v″ cs t u _ _ refl refl)
-      (Path.next tt (Steps.step-again g tables q (again-turn fixed j q a (Derives.more-passes d ds) f))
-      (then g tables (follows-derivation d (Todo.one refl (after-pass g (h .static) (After.of-passes q f) ds)) (entry i c (suc j) ∷ others) p cs)
+      resize g tests (omega arith)
+      (arrive g tests (after-both others p r v″ cs t u _ _ refl refl)
+      (Path.next tt (Steps.step-again g tests q (again-turn fixed j q a (Derives.more-passes d ds) f))
+      (then g tests (follows-derivation d (Todo.one refl (after-pass g (h .static) (After.of-passes q f) ds)) (entry i c (suc j) ∷ others) p cs)
       (follows-derivation ds (Todo.repeated (suc j) q (subst₂ Allows (sym (h .body-keeps-counts q d)) (suc-over j k) a) f) others (p + length (covered t)) (cs ++ captures t p)))))

@@ -15,7 +15,7 @@ use Rattle.basis.specs.Counts.{Counts}
 use Rattle.basis.specs.Lookahead.{lookahead}
 use Rattle.theory.specs.Grammar.{Node, alternative, concatenation, repetition, switch, use-of, field, eod, Grammar, _∈_}
 use Rattle.theory.specs.Derivation.{Capture}
-use Rattle.theory.specs.Machine.{Tables, Entry, entry, State, state, pending-of, rest-of, position-of, captures-of, Turn, fail, again, leave, turn, choose, entries, act, step, undecided, matched, unmatched, Run, run, verdict, state-of, open-state, opened, advance, granted}
+use Rattle.theory.specs.Machine.{Tests, Entry, entry, State, state, pending-of, rest-of, position-of, captures-of, Turn, fail, again, leave, turn, choose, entries, act, step, undecided, matched, unmatched, Run, run, verdict, state-of, open-state, opened, advance, granted}
 use Rattle.theory.specs.Weight.{largest, members-room, room, Houses}
 use Rattle.theory.specs.Hypotheses.{Static, Hypotheses}
 use Rattle.theory.proofs.Turns.{decide}
@@ -24,7 +24,7 @@ use Rattle.theory.proofs.Progress.{chosen-in, in-largest, given, which}
 never : {A B : Type 0} {b : B} → none ≡ some b → A
 never e = let z : _≡_ {A = ℕ} 0 1 = cc in absurd (omega arith)
 
-module _ {Context Values : Type 0} (g : Grammar Context Values) (tables : Tables) (h : Hypotheses g tables) where
+module _ {Context Values : Type 0} (g : Grammar Context Values) (tests : Tests) (h : Hypotheses g tests) where
   -- the entries that take an entry's place
   data Replaced (i : ℕ) (c : Context) (k : ℕ) : Node Context Values → List (Entry Context) → Type 0 where
     by-branch : {is : List ℕ} {b : ℕ} → b ∈ is → Replaced i c k (alternative is) (entry b c 0 ∷ [])
@@ -45,19 +45,19 @@ module _ {Context Values : Type 0} (g : Grammar Context Values) (tables : Tables
     is-effect : {x : Node Context Values} {σ τ : State Context Values} → some σ ≡ some τ → Effect i c k x others s p cs σ → Effect i c k x others s p cs τ
     is-effect {x} {σ} {τ} e f = let z : σ ≡ τ = cc in subst (Effect i c k x others s p cs) z f
 
-    effect-eod : (t : Bits) (v : Values) (τ : State Context Values) → t ≡ s → act g tables eod i c k others t p v cs ≡ some τ → Effect i c k eod others s p cs τ
+    effect-eod : (t : Bits) (v : Values) (τ : State Context Values) → t ≡ s → act g tests eod i c k others t p v cs ≡ some τ → Effect i c k eod others s p cs τ
     unfolding act
     effect-eod [] v τ z e = is-effect (subst (λ (x : Bits). some (state others x p v cs) ≡ some τ) z e) (Effect.replaces Replaced.by-none refl)
     effect-eod (b ∷ t) v τ z e = never e
 
-    effect : (v : Values) (τ : State Context Values) (x : Node Context Values) → g .node i ≡ x → act g tables x i c k others s p v cs ≡ some τ → Effect i c k x others s p cs τ
+    effect : (v : Values) (τ : State Context Values) (x : Node Context Values) → g .node i ≡ x → act g tests x i c k others s p v cs ≡ some τ → Effect i c k x others s p cs τ
     unfolding act
     effect v τ (alternative is) q e =
-        elim (given (choose (λ b. tables .predicts b (lookahead s)) is))
+        elim (given (choose (λ b. tests .predicts b (lookahead s)) is))
         [ inl z ↦ never (rw (z, act) at e) | inr z ↦ is-effect (rw (z .1, act) at e) (Effect.replaces (Replaced.by-branch (chosen-in _ is (z .0) (z .1))) refl) ]
     effect v τ (concatenation is) q e = is-effect e (Effect.replaces (Replaced.by-members refl) refl)
     effect v τ (repetition counts static fixed b) q e =
-        elim (which (turn (counts c v) k (tables .continues i (lookahead s)) (tables .exits i (lookahead s)))) [
+        elim (which (turn (counts c v) k (tests .continues i (lookahead s)) (tests .exits i (lookahead s)))) [
           | inl z ↦ never (rw (z, act) at e)
           | inr o ↦
               elim o
@@ -93,7 +93,7 @@ module _ {Context Values : Type 0} (g : Grammar Context Values) (tables : Tables
   tally-effect t (Effect.replaces y z) = record { bits = t .bits; few = t .few }
   tally-effect t (Effect.takes w l e e′ e″) = record { bits = omega arith; few = omega arith }
 
-  pub tally-step : {n : ℕ} (σ τ : State Context Values) → Tallied n σ → step g tables σ ≡ some τ → Tallied n τ
+  pub tally-step : {n : ℕ} (σ τ : State Context Values) → Tallied n σ → step g tests σ ≡ some τ → Tallied n τ
   unfolding step
   tally-step (state [] s p v cs) τ t e = never e
   tally-step (state (entry i c k ∷ others) s p v cs) τ t e = tally-effect t (effect v τ (g .node i) refl e)
@@ -132,34 +132,34 @@ module _ {Context Values : Type 0} (g : Grammar Context Values) (tables : Tables
     house-effect m l t (Effect.takes w l′ e e′ e″) = t .1
     house-effect m {others = others} l t (Effect.replaces {all = all} y z) = subst (λ (es : List (Entry Context)). Housed es m) (sym z) (house-replaced m others y l t)
 
-    house-step : (m : ℕ) (σ τ : State Context Values) → Housed (pending-of σ) m → step g tables σ ≡ some τ → Housed (pending-of τ) m
+    house-step : (m : ℕ) (σ τ : State Context Values) → Housed (pending-of σ) m → step g tests σ ≡ some τ → Housed (pending-of τ) m
     unfolding step
     house-step m (state [] s p v cs) τ t e = never e
     house-step m (state (entry i c k ∷ others) s p v cs) τ t e = house-effect m (houses c i .1) t (effect v τ (g .node i) refl e)
 
   -- what a step keeps, every grant keeps
-  module _ (P : State Context Values → Type 0) (kept : (σ τ : State Context Values) → P σ → step g tables σ ≡ some τ → P τ) where
-    advance-keeps : (r : Run Context Values) → P (state-of r) → P (state-of (advance g tables r))
+  module _ (P : State Context Values → Type 0) (kept : (σ τ : State Context Values) → P σ → step g tests σ ≡ some τ → P τ) where
+    advance-keeps : (r : Run Context Values) → P (state-of r) → P (state-of (advance g tests r))
     unfolding advance
-    advance-keeps (run σ n undecided) t = either (step g tables σ) refl
+    advance-keeps (run σ n undecided) t = either (step g tests σ) refl
       where
-        either : (o : Option (State Context Values)) → step g tables σ ≡ o → P (state-of (advance g tables (run σ n undecided)))
+        either : (o : Option (State Context Values)) → step g tests σ ≡ o → P (state-of (advance g tests (run σ n undecided)))
         either none e = rw (e, advance) t
         either (some τ) e = rw (e, advance) (kept σ τ t e)
     advance-keeps (run σ n matched) t = t
     advance-keeps (run σ n unmatched) t = t
 
-    pub granted-keeps : (n : ℕ) (r : Run Context Values) → P (state-of r) → P (state-of (granted g tables n r))
+    pub granted-keeps : (n : ℕ) (r : Run Context Values) → P (state-of r) → P (state-of (granted g tests n r))
     unfolding granted
     granted-keeps zero r t = t
-    granted-keeps (suc n) r t = granted-keeps n (advance g tables r) (advance-keeps r t)
+    granted-keeps (suc n) r t = granted-keeps n (advance g tests r) (advance-keeps r t)
 
-  pub tallied : (s : Bits) (n : ℕ) → Tallied (length s) (state-of (granted g tables n (opened g tables s)))
+  pub tallied : (s : Bits) (n : ℕ) → Tallied (length s) (state-of (granted g tests n (opened g tests s)))
   unfolding opened open-state
-  tallied s n = granted-keeps (Tallied (length s)) tally-step n (opened g tables s) (record { bits = omega arith; few = omega arith })
+  tallied s n = granted-keeps (Tallied (length s)) tally-step n (opened g tests s) (record { bits = omega arith; few = omega arith })
 
-  pub housed : (rooms : Context → ℕ → ℕ) → Houses g rooms → (s : Bits) (n : ℕ) → length (pending-of (state-of (granted g tables n (opened g tables s)))) ≤ rooms (g .context) (g .start)
+  pub housed : (rooms : Context → ℕ → ℕ) → Houses g rooms → (s : Bits) (n : ℕ) → length (pending-of (state-of (granted g tests n (opened g tests s)))) ≤ rooms (g .context) (g .start)
   unfolding opened open-state
   housed rooms houses s n =
       let m = rooms (g .context) (g .start) in
-      housed-length rooms houses (pending-of (state-of (granted g tables n (opened g tables s)))) (granted-keeps (λ σ. Housed rooms houses (pending-of σ) m) (house-step rooms houses m) n (opened g tables s) (omega arith, tt))
+      housed-length rooms houses (pending-of (state-of (granted g tests n (opened g tests s)))) (granted-keeps (λ σ. Housed rooms houses (pending-of σ) m) (house-step rooms houses m) n (opened g tests s) (omega arith, tt))

@@ -12,7 +12,7 @@ use Rattle.basis.specs.Counts.{Counts, Allows}
 use Rattle.theory.specs.Grammar.{Node, alternative, concatenation, repetition, switch, use-of, field, eod, Grammar, _∈_}
 use Rattle.theory.specs.Derivation.{Tree, Shape, construct, members, passes, Derives, Derivation}
 use Rattle.theory.specs.Hypotheses.{Static}
-use Rattle.theory.specs.Scope.{Scope, Agree, Chain, Scoped, MayBind, local-node, localised, Lexical, LocalTheorem}
+use Rattle.theory.specs.Scope.{Scope, Agree, Chain, Scoped, MayBind, local-node, localised, Lexical}
 use Rattle.theory.proofs.FirstTheorem.{Known}
 
 -- agreement at more variables is agreement at fewer
@@ -153,8 +153,8 @@ module _ {Context A : Type 0} (scope : Scope) where
     alike : (i : ℕ) → Alike g inner i (g .node i) (inner .node i)
     alike i = local-alike i (g .node i) refl
 
-    pub local : LocalTheorem scope fresh g
-    local s t = (
+    pub same-trees : (s : Bits) (t : Tree) → ((v : ℕ → A) × Derivation g s t v) ↔ ((v : ℕ → A) × Derivation inner s t v)
+    same-trees s t = (
       λ d. let y = transfer g inner alike (d .1) (Ready.one (alike (g .start)) (λ z m. refl)) in (y .0, y .1),
       λ d. let y = transfer inner g (λ i. alike-back (alike i)) (d .1) (Ready.one (alike-back (alike (g .start))) (λ z m. refl)) in (y .0, y .1),
     )

@@ -8,83 +8,83 @@ use mathlib.Core.Logic.{_⊎_, inl, inr, _≢_}
 use mathlib.Core.List.{List, [], _∷_}
 use mathlib.Core.Option.{Option, none, some}
 use Rattle.theory.specs.Grammar.{Grammar}
-use Rattle.theory.specs.Machine.{Tables, Entry, entry, State, state, Verdict, undecided, matched, unmatched, verdict, Run, run, verdict-of, state-of, taken-of, step, advance, granted, taken}
+use Rattle.theory.specs.Machine.{Tests, Entry, entry, State, state, Verdict, undecided, matched, unmatched, verdict, Run, run, verdict-of, state-of, taken-of, step, advance, granted, taken}
 use Rattle.theory.specs.Theorems.{AdditiveTheorem}
 use Rattle.theory.proofs.Steps.{Goes, Stuck, Path}
 
-module _ {Context Values : Type 0} (g : Grammar Context Values) (tables : Tables) where
+module _ {Context Values : Type 0} (g : Grammar Context Values) (tests : Tests) where
   -- a run is undecided or decided
   pub settle : (d : Verdict) → (d ≡ undecided) ⊎ (d ≢ undecided)
   settle undecided = inl refl
   settle matched = inr (λ e. let z : _≡_ {A = ℕ} 0 1 = cc in omega arith)
   settle unmatched = inr (λ e. let z : _≡_ {A = ℕ} 0 1 = cc in omega arith)
 
-  advance-decided : (r : Run Context Values) → verdict-of r ≢ undecided → advance g tables r ≡ r
+  advance-decided : (r : Run Context Values) → verdict-of r ≢ undecided → advance g tests r ≡ r
   unfolding advance
   advance-decided (run σ n undecided) u = absurd (u refl)
   advance-decided (run σ n matched) u = refl
   advance-decided (run σ n unmatched) u = refl
 
-  pub granted-decided : (n : ℕ) (r : Run Context Values) → verdict-of r ≢ undecided → granted g tables n r ≡ r
+  pub granted-decided : (n : ℕ) (r : Run Context Values) → verdict-of r ≢ undecided → granted g tests n r ≡ r
   unfolding granted
   granted-decided zero r u = refl
-  granted-decided (suc n) r u = ap (granted g tables n) (advance-decided r u) ∙ granted-decided n r u
+  granted-decided (suc n) r u = ap (granted g tests n) (advance-decided r u) ∙ granted-decided n r u
 
-  pub granted-sum : (m n : ℕ) (r : Run Context Values) → granted g tables (m + n) r ≡ granted g tables n (granted g tables m r)
+  pub granted-sum : (m n : ℕ) (r : Run Context Values) → granted g tests (m + n) r ≡ granted g tests n (granted g tests m r)
   unfolding granted
   granted-sum zero n r = rw zero-add
-  granted-sum (suc m) n r = let z : suc m + n ≡ suc (m + n) = omega arith in rw z (granted-sum m n (advance g tables r))
+  granted-sum (suc m) n r = let z : suc m + n ≡ suc (m + n) = omega arith in rw z (granted-sum m n (advance g tests r))
 
   -- an advance takes a step or leaves the run as it is
-  advance-grows : (r : Run Context Values) → taken-of r ≤ taken-of (advance g tables r)
+  advance-grows : (r : Run Context Values) → taken-of r ≤ taken-of (advance g tests r)
   unfolding advance
-  advance-grows (run (state es s p v cs) n undecided) = one-more (step g tables (state es s p v cs)) refl
+  advance-grows (run (state es s p v cs) n undecided) = one-more (step g tests (state es s p v cs)) refl
     where
-      one-more : (o : Option (State Context Values)) → step g tables (state es s p v cs) ≡ o → n ≤ taken-of (advance g tables (run (state es s p v cs) n undecided))
+      one-more : (o : Option (State Context Values)) → step g tests (state es s p v cs) ≡ o → n ≤ taken-of (advance g tests (run (state es s p v cs) n undecided))
       one-more none e = rw (e, advance) (omega arith)
       one-more (some τ) e = rw (e, advance) (omega arith)
   advance-grows (run σ n matched) = omega arith
   advance-grows (run σ n unmatched) = omega arith
 
-  pub granted-grows : (n : ℕ) (r : Run Context Values) → taken-of r ≤ taken-of (granted g tables n r)
+  pub granted-grows : (n : ℕ) (r : Run Context Values) → taken-of r ≤ taken-of (granted g tests n r)
   unfolding granted
   granted-grows zero r = omega arith
-  granted-grows (suc n) r = let a = advance-grows r in let b = granted-grows n (advance g tables r) in omega arith
+  granted-grows (suc n) r = let a = advance-grows r in let b = granted-grows n (advance g tests r) in omega arith
 
-  pub additive : AdditiveTheorem g tables
+  pub additive : AdditiveTheorem g tests
   unfolding taken
   additive =
       record {
         granted-sum = granted-sum;
         taken-sum =
             λ m n r.
-            let a = granted-grows m r in let b = granted-grows n (granted g tables m r) in rw (granted-sum m n r) (omega arith);
+            let a = granted-grows m r in let b = granted-grows n (granted g tests m r) in rw (granted-sum m n r) (omega arith);
         decided-stays = λ n r u. (granted-decided n r u, rw (granted-decided n r u) (omega arith));
       }
 
   -- a state that is stepped on is undecided
-  goes-undecided : {σ τ : State Context Values} → Goes g tables σ τ → verdict σ ≡ undecided
+  goes-undecided : {σ τ : State Context Values} → Goes g tests σ τ → verdict σ ≡ undecided
   unfolding verdict step
   goes-undecided {σ = state [] s p v cs} (Goes.goes e) = let z : _≡_ {A = ℕ} 0 1 = cc in absurd (omega arith)
   goes-undecided {σ = state (x ∷ es) s p v cs} (Goes.goes e) = refl
 
-  advance-goes : {σ τ : State Context Values} (n : ℕ) → Goes g tables σ τ → advance g tables (run σ n undecided) ≡ run τ (suc n) (verdict τ)
+  advance-goes : {σ τ : State Context Values} (n : ℕ) → Goes g tests σ τ → advance g tests (run σ n undecided) ≡ run τ (suc n) (verdict τ)
   unfolding advance
   advance-goes n (Goes.goes e) = rw (e, advance)
 
-  pub advance-stuck : {σ : State Context Values} (n : ℕ) → Stuck g tables σ → advance g tables (run σ n undecided) ≡ run σ (suc n) unmatched
+  pub advance-stuck : {σ : State Context Values} (n : ℕ) → Stuck g tests σ → advance g tests (run σ n undecided) ≡ run σ (suc n) unmatched
   unfolding advance
   advance-stuck n (Stuck.stuck e) = rw (e, advance)
 
-  pub path-runs : {P : State Context Values → Type 0} {n : ℕ} {σ τ : State Context Values} (m : ℕ) → Path g tables P n σ τ → granted g tables n (run σ m (verdict σ)) ≡ run τ (m + n) (verdict τ)
+  pub path-runs : {P : State Context Values → Type 0} {n : ℕ} {σ τ : State Context Values} (m : ℕ) → Path g tests P n σ τ → granted g tests n (run σ m (verdict σ)) ≡ run τ (m + n) (verdict τ)
   unfolding granted
   path-runs {σ = σ} m Path.here = rw add-zero
   path-runs {n = suc n} {σ = σ} {τ = τ} m (Path.next {ρ = ρ} p e q) =
       rw (goes-undecided e, advance-goes m e) (path-runs (suc m) q ∙ (let z : suc m + n ≡ m + suc n = omega arith in rw z))
 
   -- before a path's end the run is undecided, and the path's invariant holds
-  pub path-before : {P : State Context Values → Type 0} {n : ℕ} {σ τ : State Context Values} (m k : ℕ) → Path g tables P n σ τ → k < n
-      → (ρ : State Context Values) × P ρ × (granted g tables k (run σ m (verdict σ)) ≡ run ρ (m + k) undecided)
+  pub path-before : {P : State Context Values → Type 0} {n : ℕ} {σ τ : State Context Values} (m k : ℕ) → Path g tests P n σ τ → k < n
+      → (ρ : State Context Values) × P ρ × (granted g tests k (run σ m (verdict σ)) ≡ run ρ (m + k) undecided)
   unfolding granted
   path-before m k Path.here l = absurd (omega arith)
   path-before {σ = σ} m zero (Path.next p e q) l = (σ, p, rw (goes-undecided e, add-zero))

@@ -16,7 +16,7 @@ use Rattle.basis.specs.Counts.{Counts}
 use Rattle.basis.specs.Lookahead.{lookahead}
 use Rattle.theory.specs.Grammar.{Node, alternative, concatenation, repetition, switch, use-of, field, eod, Grammar}
 use Rattle.theory.specs.Derivation.{Tree, covered, Capture, captures}
-use Rattle.theory.specs.Machine.{Tables, Entry, entry, State, state, fail, again, leave, turn, choose, entries, act, step}
+use Rattle.theory.specs.Machine.{Tests, Entry, entry, State, state, fail, again, leave, turn, choose, entries, act, step}
 
 module _ {Context Values : Type 0} where
   -- where the machine is after a tree that began at bit p
@@ -34,24 +34,24 @@ module _ {Context Values : Type 0} where
   pub after-none : (others : List (Entry Context)) (p : ℕ) (r : Bits) (v : Values) (cs : List Capture) → state others r p v cs ≡ state others r (p + 0) v (cs ++ [])
   after-none others p r v cs = ap₂ (λ (n : ℕ) (l : List Capture). state others r n v l) (sym (add-zero p)) (sym (append-nil cs))
 
-module _ {Context Values : Type 0} (g : Grammar Context Values) (tables : Tables) where
+module _ {Context Values : Type 0} (g : Grammar Context Values) (tests : Tests) where
   -- a step leads from one state to another; a step fails
   pub data Goes (σ τ : State Context Values) : Type 0 where
-    goes : step g tables σ ≡ some τ → Goes σ τ
+    goes : step g tests σ ≡ some τ → Goes σ τ
 
   pub data Stuck (σ : State Context Values) : Type 0 where
-    stuck : step g tables σ ≡ none → Stuck σ
+    stuck : step g tests σ ≡ none → Stuck σ
 
   module _ {i k : ℕ} {c : Context} {others : List (Entry Context)} {s : Bits} {p : ℕ} {v : Values} {cs : List Capture} where
-    acts : {n : Node Context Values} {τ : State Context Values} → g .node i ≡ n → act g tables n i c k others s p v cs ≡ some τ → Goes (state (entry i c k ∷ others) s p v cs) τ
+    acts : {n : Node Context Values} {τ : State Context Values} → g .node i ≡ n → act g tests n i c k others s p v cs ≡ some τ → Goes (state (entry i c k ∷ others) s p v cs) τ
     unfolding step
-    acts q e = Goes.goes (ap (λ (n : Node Context Values). act g tables n i c k others s p v cs) q ∙ e)
+    acts q e = Goes.goes (ap (λ (n : Node Context Values). act g tests n i c k others s p v cs) q ∙ e)
 
-    halts : {n : Node Context Values} → g .node i ≡ n → act g tables n i c k others s p v cs ≡ none → Stuck (state (entry i c k ∷ others) s p v cs)
+    halts : {n : Node Context Values} → g .node i ≡ n → act g tests n i c k others s p v cs ≡ none → Stuck (state (entry i c k ∷ others) s p v cs)
     unfolding step
-    halts q e = Stuck.stuck (ap (λ (n : Node Context Values). act g tables n i c k others s p v cs) q ∙ e)
+    halts q e = Stuck.stuck (ap (λ (n : Node Context Values). act g tests n i c k others s p v cs) q ∙ e)
 
-    pub step-alternative : {is : List ℕ} {b : ℕ} → g .node i ≡ alternative is → choose (λ b. tables .predicts b (lookahead s)) is ≡ some b
+    pub step-alternative : {is : List ℕ} {b : ℕ} → g .node i ≡ alternative is → choose (λ b. tests .predicts b (lookahead s)) is ≡ some b
         → Goes (state (entry i c k ∷ others) s p v cs) (state (entry b c 0 ∷ others) s p v cs)
     unfolding act
     step-alternative q e = acts q (rw (e, act))
@@ -61,13 +61,13 @@ module _ {Context Values : Type 0} (g : Grammar Context Values) (tables : Tables
     step-concatenation q = acts q refl
 
     pub step-again : {counts : Context → Values → Counts} {static : Counts} {fixed : Bool} {b : ℕ} → g .node i ≡ repetition counts static fixed b
-        → turn (counts c v) k (tables .continues i (lookahead s)) (tables .exits i (lookahead s)) ≡ again
+        → turn (counts c v) k (tests .continues i (lookahead s)) (tests .exits i (lookahead s)) ≡ again
         → Goes (state (entry i c k ∷ others) s p v cs) (state (entry b c 0 ∷ entry i c (suc k) ∷ others) s p v cs)
     unfolding act
     step-again q e = acts q (rw (e, act))
 
     pub step-leave : {counts : Context → Values → Counts} {static : Counts} {fixed : Bool} {b : ℕ} → g .node i ≡ repetition counts static fixed b
-        → turn (counts c v) k (tables .continues i (lookahead s)) (tables .exits i (lookahead s)) ≡ leave
+        → turn (counts c v) k (tests .continues i (lookahead s)) (tests .exits i (lookahead s)) ≡ leave
         → Goes (state (entry i c k ∷ others) s p v cs) (state others s p v cs)
     unfolding act
     step-leave q e = acts q (rw (e, act))
@@ -89,12 +89,12 @@ module _ {Context Values : Type 0} (g : Grammar Context Values) (tables : Tables
     step-field q l e = acts q (rw (l, e, act))
 
     -- where each kind fails
-    pub fails-alternative : {is : List ℕ} → g .node i ≡ alternative is → choose (λ b. tables .predicts b (lookahead s)) is ≡ none → Stuck (state (entry i c k ∷ others) s p v cs)
+    pub fails-alternative : {is : List ℕ} → g .node i ≡ alternative is → choose (λ b. tests .predicts b (lookahead s)) is ≡ none → Stuck (state (entry i c k ∷ others) s p v cs)
     unfolding act
     fails-alternative q e = halts q (rw (e, act))
 
     pub fails-repetition : {counts : Context → Values → Counts} {static : Counts} {fixed : Bool} {b : ℕ} → g .node i ≡ repetition counts static fixed b
-        → turn (counts c v) k (tables .continues i (lookahead s)) (tables .exits i (lookahead s)) ≡ fail → Stuck (state (entry i c k ∷ others) s p v cs)
+        → turn (counts c v) k (tests .continues i (lookahead s)) (tests .exits i (lookahead s)) ≡ fail → Stuck (state (entry i c k ∷ others) s p v cs)
     unfolding act
     fails-repetition q e = halts q (rw (e, act))
 

@@ -11,10 +11,10 @@ use Rattle.basis.specs.Bits.{Bits}
 use Rattle.theory.specs.Grammar.{Grammar}
 use Rattle.theory.specs.Derivation.{Tree, captures, construct, Derivation}
 use Rattle.theory.specs.Lookahead.{Follow, Conflict}
-use Rattle.theory.specs.Machine.{Tables, State, state, pending-of, position-of, Verdict, undecided, matched, unmatched, Run, run, verdict-of, state-of, taken-of, tree-steps, Passes, opened, granted, taken}
+use Rattle.theory.specs.Machine.{Tests, State, state, pending-of, position-of, Verdict, undecided, matched, unmatched, Run, run, verdict-of, state-of, taken-of, tree-steps, Passes, opened, granted, taken}
 use Rattle.theory.specs.Weight.{Weighs, Houses}
 use Rattle.theory.specs.Hypotheses.{Static, Hypotheses}
-use Rattle.theory.specs.Theorems.{FirstTheorem, FollowTheorem, UniqueTheorem, Derivable, AdditiveTheorem, step-bound, ExactTheorem, Decision, BoundTheorem, Moment, MomentTheorem, RoomTheorem}
+use Rattle.theory.specs.Theorems.{FirstTheorem, FollowTheorem, UniqueTheorem, Derivable, AdditiveTheorem, step-bound, Exact, ExactTheorem, Decision, BoundTheorem, Moment, MomentTheorem, RoomTheorem, LocalTheorem}
 use Rattle.theory.proofs.FirstTheorem as FirstProof
 use Rattle.theory.proofs.FollowTheorem as FollowProof
 use Rattle.theory.proofs.FollowTheorem.{After}
@@ -24,44 +24,43 @@ use Rattle.theory.proofs.Progress.{Counted, passes-more}
 use Rattle.theory.proofs.Runs as Runs
 use Rattle.theory.proofs.Runs.{granted-decided, granted-sum}
 use Rattle.theory.proofs.Invariants as Invariants
+use Rattle.theory.specs.Scope.{Scope}
+use Rattle.theory.proofs.LocalTheorem as LocalProof
 use Rattle.theory.proofs.Decisions.{derivation-runs, Decided, decided}
 
 module _ {Context Values : Type 0} (g : Grammar Context Values) where
-  pub first : Static g → FirstTheorem g
+  pub first : FirstTheorem g
   first h i t c v v′ s r d = (FirstProof.covers g d, FirstProof.first g h d refl)
 
-  pub follow : Static g → FollowTheorem g
+  pub follow : FollowTheorem g
   follow h s t v d i r l = FollowProof.follow g h d refl (After.of-construct (Follow.of-start refl)) l
 
-  pub unique : Static g → ((i : ℕ) (x : Bits) → Conflict g i x → ⊥) → UniqueTheorem g
+  pub unique : UniqueTheorem g
   unique h n s t t′ v v′ d d′ = let x = UniqueProof.unique g h n d (Twins.one refl (Follow.of-start refl) (Follow.of-start refl)) d′ in (x .0, x .1)
 
-module _ {Context Values : Type 0} (g : Grammar Context Values) (tables : Tables) where
-  pub additive : AdditiveTheorem g tables
-  additive = Runs.additive g tables
+module _ {Context Values : Type 0} (g : Grammar Context Values) (tests : Tests) where
+  pub additive : AdditiveTheorem g tests
+  additive = Runs.additive g tests
 
-  module _ (h : Hypotheses g tables) where
-    pub rooms-suffice : (rooms : Context → ℕ → ℕ) → Houses g rooms → RoomTheorem g tables rooms
-    rooms-suffice rooms houses = Invariants.housed g tables h rooms houses
-
+  module _ (h : Hypotheses g tests) where
     module _ (weight : Context → ℕ → ℕ) (weighs : Weighs g weight) where
       -- past the steps needed the run stays as it is
-      at-rest : (s : Bits) (x : Decided g tables h s (step-bound g tables weight s)) (n : ℕ) → x .needed ≤ n → granted g tables n (opened g tables s) ≡ x .final
+      at-rest : (s : Bits) (x : Decided g tests h s (step-bound g tests weight s)) (n : ℕ) → x .needed ≤ n → granted g tests n (opened g tests s) ≡ x .final
       at-rest s x n l =
           let z : x .needed + (n - x .needed) ≡ n = omega arith in
-          ap (λ (m : ℕ). granted g tables m (opened g tables s)) (sym z)
-          ∙ (granted-sum g tables (x .needed) (n - x .needed) (opened g tables s)
-          ∙ (ap (granted g tables (n - x .needed)) (x .at-end) ∙ granted-decided g tables (n - x .needed) (x .final) (x .settled)))
+          ap (λ (m : ℕ). granted g tests m (opened g tests s)) (sym z)
+          ∙ (granted-sum g tests (x .needed) (n - x .needed) (opened g tests s)
+          ∙ (ap (granted g tests (n - x .needed)) (x .at-end) ∙ granted-decided g tests (n - x .needed) (x .final) (x .settled)))
 
       -- what a grant of n steps leaves, before the run is decided and after
-      moment : (s : Bits) (x : Decided g tables h s (step-bound g tables weight s)) (n : ℕ)
-          → ((n < x .needed) × ((ρ : State Context Values) × Counted ρ × (granted g tables n (opened g tables s) ≡ run ρ n undecided))) ⊎ ((x .needed ≤ n) × (granted g tables n (opened g tables s) ≡ x .final))
+      moment : (s : Bits) (x : Decided g tests h s (step-bound g tests weight s)) (n : ℕ)
+          → ((n < x .needed) × ((ρ : State Context Values) × Counted ρ × (granted g tests n (opened g tests s) ≡ run ρ n undecided))) ⊎ ((x .needed ≤ n) × (granted g tests n (opened g tests s) ≡ x .final))
       moment s x n = elim (decLt n (x .needed)) [ yes l ↦ inl (l, x .before n l) | no l ↦ (let m : x .needed ≤ n = omega arith in inr (m, at-rest s x n m)) ]
 
-      pub bound : BoundTheorem g tables weight
+      decision : (s : Bits) → Decision g tests weight s
       unfolding taken opened
-      bound s =
-          let x = decided g tables h weight weighs s in
+      decision s =
+          let x = decided g tests h weight weighs s in
           record {
             needed = x .needed;
             within-bound = x .bound;
@@ -77,41 +76,41 @@ module _ {Context Values : Type 0} (g : Grammar Context Values) (tables : Tables
           }
 
       -- a derivation's steps are those needed
-      steps-needed : (s : Bits) (x : Decided g tables h s (step-bound g tables weight s)) (t : Tree) (v : Values) → Derivation g s t v → tree-steps t ≡ x .needed
+      steps-needed : (s : Bits) (x : Decided g tests h s (step-bound g tests weight s)) (t : Tree) (v : Values) → Derivation g s t v → tree-steps t ≡ x .needed
       steps-needed s x t v d =
-          let e = derivation-runs g tables h s t v d in
+          let e = derivation-runs g tests h s t v d in
           elim (moment s x (tree-steps t)) [
             | inl y ↦ (let z : matched ≡ undecided = sym (ap verdict-of e) ∙ ap verdict-of (y .1 .2) in let f : _≡_ {A = ℕ} 0 1 = cc in absurd (omega arith))
             | inr y ↦ sym (ap taken-of e) ∙ (ap taken-of (y .1) ∙ x .count)
           ]
 
       match-end : (s : Bits) (t : Tree) (v : Values) → Derivation g s t v → (n : ℕ) → tree-steps t ≤ n
-          → granted g tables n (opened g tables s) ≡ run (state [] [] (length s) v (captures t 0)) (tree-steps t) matched
+          → granted g tests n (opened g tests s) ≡ run (state [] [] (length s) v (captures t 0)) (tree-steps t) matched
       match-end s t v d n l =
-          let x = decided g tables h weight weighs s in
+          let x = decided g tests h weight weighs s in
           let e = steps-needed s x t v d in
-          at-rest s x n (omega arith) ∙ (sym (at-rest s x (tree-steps t) (omega arith)) ∙ derivation-runs g tables h s t v d)
+          at-rest s x n (omega arith) ∙ (sym (at-rest s x (tree-steps t) (omega arith)) ∙ derivation-runs g tests h s t v d)
 
-      derivation-within : (s : Bits) (t : Tree) (v : Values) → Derivation g s t v → tree-steps t ≤ step-bound g tables weight s
-      derivation-within s t v d = let x = decided g tables h weight weighs s in let e = steps-needed s x t v d in let l = x .bound in omega arith
+      derivation-within : (s : Bits) (t : Tree) (v : Values) → Derivation g s t v → tree-steps t ≤ step-bound g tests weight s
+      derivation-within s t v d = let x = decided g tests h weight weighs s in let e = steps-needed s x t v d in let l = x .bound in omega arith
 
       mismatched : (d : Verdict) → d ≢ undecided → d ≢ matched → d ≡ unmatched
       mismatched undecided a b = absurd (a refl)
       mismatched matched a b = absurd (b refl)
       mismatched unmatched a b = refl
 
-      pub exact : ExactTheorem g tables weight
-      exact =
+      exactness : Exact g tests weight
+      exactness =
           record {
             match-iff =
                 λ s n l.
-                let x = decided g tables h weight weighs s in (
+                let x = decided g tests h weight weighs s in (
                   λ e. x .sound (sym (ap verdict-of (at-rest s x n (let m = x .bound in omega arith))) ∙ e),
                   λ y. ap verdict-of (match-end s (y .0) (y .1) (y .2) n (let m = derivation-within s (y .0) (y .1) (y .2) in omega arith)),
                 );
             mismatch-iff =
                 λ s n l.
-                let x = decided g tables h weight weighs s in (
+                let x = decided g tests h weight weighs s in (
                   λ e y.
                       let z = match-end s (y .0) (y .1) (y .2) n (let m = derivation-within s (y .0) (y .1) (y .2) in omega arith) in
                       let f : unmatched ≡ matched = sym e ∙ ap verdict-of z in
@@ -122,19 +121,35 @@ module _ {Context Values : Type 0} (g : Grammar Context Values) (tables : Tables
             match-end = match-end;
           }
 
-      counted-at : (s : Bits) (n : ℕ) → Counted (state-of (granted g tables n (opened g tables s)))
+      counted-at : (s : Bits) (n : ℕ) → Counted (state-of (granted g tests n (opened g tests s)))
       counted-at s n =
-          let x = decided g tables h weight weighs s in
+          let x = decided g tests h weight weighs s in
           elim (moment s x n) [ inl y ↦ subst (λ (r : Run Context Values). Counted (state-of r)) (sym (y .1 .2)) (y .1 .1) | inr y ↦ subst (λ (r : Run Context Values). Counted (state-of r)) (sym (y .1)) (x .counted) ]
 
       few-passes : (m : ℕ) (σ : State Context Values) → position-of σ ≤ m → Counted σ → Passes (pending-of σ) (m + 1)
       few-passes m (state es s p v cs) l k = passes-more es (omega arith) k
 
-      pub moments : MomentTheorem g tables
-      moments s n =
-          let t = Invariants.tallied g tables h s n in
+      at-moment : (s : Bits) (n : ℕ) → Moment g tests weight s (state-of (granted g tests n (opened g tests s)))
+      at-moment s n =
+          let t = Invariants.tallied g tests h s n in
           record {
             bits-kept = t .bits;
             captures-few = let a = t .bits in let b = t .few in omega arith;
-            passes-few = few-passes (length s) (state-of (granted g tables n (opened g tables s))) (let a = t .bits in omega arith) (counted-at s n);
+            passes-few = few-passes (length s) (state-of (granted g tests n (opened g tests s))) (let a = t .bits in omega arith) (counted-at s n);
           }
+
+  module _ (weight : Context → ℕ → ℕ) where
+    pub exact : ExactTheorem g tests weight
+    exact h weighs = exactness h weight weighs
+
+    pub bound : BoundTheorem g tests weight
+    bound h weighs = decision h weight weighs
+
+    pub moments : MomentTheorem g tests weight
+    moments h weighs = at-moment h weight weighs
+
+  pub room : (rooms : Context → ℕ → ℕ) → RoomTheorem g tests rooms
+  room rooms h houses = Invariants.housed g tests h rooms houses
+
+pub local : {Context A : Type 0} (scope : Scope) (fresh : ℕ → Context → (ℕ → A) → ℕ → A) (g : Grammar Context (ℕ → A)) → LocalTheorem scope fresh g
+local scope fresh g h lexical = LocalProof.same-trees scope fresh g h lexical

@@ -15,7 +15,7 @@ use Rattle.basis.specs.Lookahead.{lookahead, join}
 use Rattle.theory.specs.Grammar.{Node, Grammar, alternative, repetition, _∈_}
 use Rattle.theory.specs.Derivation.{Tree, leaf, node, member, pass, covered, Shape, construct, members, passes, Derives}
 use Rattle.theory.specs.Lookahead.{First, Follow, Continues, Conflict}
-use Rattle.theory.specs.Machine.{Tables}
+use Rattle.theory.specs.Machine.{Tests}
 use Rattle.theory.specs.Hypotheses.{Static, Hypotheses}
 use Rattle.theory.proofs.FirstTheorem.{Known, covers, first}
 use Rattle.theory.proofs.FollowTheorem.{After, next-follows, after-member, after-members, after-pass, after-passes, derived-predicted}

@@ -13,7 +13,7 @@ use Rattle.basis.specs.Counts.{Counts, Allows}
 use Rattle.theory.specs.Grammar.{Node, alternative, repetition, switch, use-of, field, Grammar, _∈_}
 use Rattle.theory.specs.Derivation.{Tree, construct, Derives}
 use Rattle.theory.specs.Lookahead.{First, Predicted, Continues, Exits, Conflict}
-use Rattle.theory.specs.Machine.{Tables}
+use Rattle.theory.specs.Machine.{Tests}
 
 -- What is static covers what happens: true of every grammar read from a text, by the way its nodes are made.
 pub record Static {Context Values : Type 0} (g : Grammar Context Values) : Type 0 where
@@ -30,7 +30,7 @@ pub record Static {Context Values : Type 0} (g : Grammar Context Values) : Type 
   pub chosen-listed : {i b : ℕ} {chosen : Context → Values → Option ℕ} {is : List ℕ}
       → g .node i ≡ switch chosen is → (c : Context) (v : Values) → chosen c v ≡ some b → b ∈ is
 
-pub record Hypotheses {Context Values : Type 0} (g : Grammar Context Values) (tables : Tables) : Type 0 where
+pub record Hypotheses {Context Values : Type 0} (g : Grammar Context Values) (tests : Tests) : Type 0 where
   pub static : Static g
   -- refusal 8: a width is at least 1; a literal has at least one character
   pub width-positive : {i w : ℕ} {admits : Context → Values → Bits → Bool} {static : Bits → Bool} {binds : Context → Values → Bits → Values}
@@ -48,8 +48,8 @@ pub record Hypotheses {Context Values : Type 0} (g : Grammar Context Values) (ta
   pub values-stay : {i b : ℕ} {enters : Context → Option Context} {opens : Context → Values → Values} {closes : Values → Values → Values}
       → g .node i ≡ use-of enters opens closes b → (v v′ : Values) → closes v v′ ≡ v′
   -- refusal 23: the sets in a sound table are those of the grammar
-  pub predicts-exact : {i b : ℕ} {is : List ℕ} → g .node i ≡ alternative is → b ∈ is → (x : Bits) → length x ≤ 8 → (tables .predicts b x ≡ true) ↔ Predicted g b x
+  pub predicts-exact : {i b : ℕ} {is : List ℕ} → g .node i ≡ alternative is → b ∈ is → (x : Bits) → length x ≤ 8 → (tests .predicts b x ≡ true) ↔ Predicted g b x
   pub continues-exact : {i b : ℕ} {counts : Context → Values → Counts} {static : Counts}
-      → g .node i ≡ repetition counts static false b → (x : Bits) → length x ≤ 8 → (tables .continues i x ≡ true) ↔ Continues g i b x
+      → g .node i ≡ repetition counts static false b → (x : Bits) → length x ≤ 8 → (tests .continues i x ≡ true) ↔ Continues g i b x
   pub exits-exact : {i b : ℕ} {counts : Context → Values → Counts} {static : Counts}
-      → g .node i ≡ repetition counts static false b → (x : Bits) → length x ≤ 8 → (tables .exits i x ≡ true) ↔ Exits g i x
+      → g .node i ≡ repetition counts static false b → (x : Bits) → length x ≤ 8 → (tests .exits i x ≡ true) ↔ Exits g i x

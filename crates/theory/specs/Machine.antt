@@ -14,7 +14,7 @@ use Rattle.theory.specs.Derivation.{Capture, Tree, leaf, end, node, nil,
 
 -- What the machine looks up of a lookahead string: is it in a branch's prediction set, does it let a repetition continue (go), does it
 -- let it exit (stop)?
-pub record Tables : Type 0 where
+pub record Tests : Type 0 where
   pub predicts : ℕ → Bits → Bool
   pub continues : ℕ → Bits → Bool
   pub exits : ℕ → Bits → Bool
@@ -72,16 +72,16 @@ choose holds (b ∷ bs) = elim (holds b) [ true ↦ some b | false ↦ choose ho
 abbrev pub entries : {Context : Type 0} → Context → List ℕ → List (Entry Context)
 entries c is = map (λ i. entry i c 0) is
 
-module _ {Context Values : Type 0} (g : Grammar Context Values) (tables : Tables) where
+module _ {Context Values : Type 0} (g : Grammar Context Values) (tests : Tests) where
   -- "A step takes the first entry": what the entry (i, c, k) of this node makes of a state whose other entries are `others`, or none
   -- where it fails
   unfoldable pub act : Node Context Values → ℕ → Context → ℕ → List (Entry Context) → Bits → ℕ → Values → List Capture → Option (State Context Values)
   unfolding turn choose
   act (alternative is) i c k others s p v cs =
-      elim (choose (λ b. tables .predicts b (lookahead s)) is) [ none ↦ none | some b ↦ some (state (entry b c 0 ∷ others) s p v cs) ]
+      elim (choose (λ b. tests .predicts b (lookahead s)) is) [ none ↦ none | some b ↦ some (state (entry b c 0 ∷ others) s p v cs) ]
   act (concatenation is) i c k others s p v cs = some (state (entries c is ++ others) s p v cs)
   act (repetition counts static fixed b) i c k others s p v cs =
-      elim (turn (counts c v) k (tables .continues i (lookahead s)) (tables .exits i (lookahead s))) [
+      elim (turn (counts c v) k (tests .continues i (lookahead s)) (tests .exits i (lookahead s))) [
         | fail ↦ none
         | again ↦ some (state (entry b c 0 ∷ entry i c (suc k) ∷ others) s p v cs)
         | leave ↦ some (state others s p v cs)
@@ -143,7 +143,7 @@ state-of (run σ n d) = σ
 abbrev pub taken-of : {Context Values : Type 0} → Run Context Values → ℕ
 taken-of (run σ n d) = n
 
-module _ {Context Values : Type 0} (g : Grammar Context Values) (tables : Tables) where
+module _ {Context Values : Type 0} (g : Grammar Context Values) (tests : Tests) where
   -- "It opens undecided, with a use of the start rule on its list and the rest 0."
   unfoldable pub open-state : Bits → State Context Values
   open-state s = state (entry (g .start) (g .context) 0 ∷ []) s 0 (g .values) []
@@ -155,7 +155,7 @@ module _ {Context Values : Type 0} (g : Grammar Context Values) (tables : Tables
   -- "Where a step fails, position, list, values and fields stay as before it". "A decided, closed or broken run takes no more steps."
   unfoldable pub advance : Run Context Values → Run Context Values
   unfolding step verdict
-  advance (run σ n undecided) = elim (step g tables σ) [ none ↦ run σ (suc n) unmatched | some σ′ ↦ run σ′ (suc n) (verdict σ′) ]
+  advance (run σ n undecided) = elim (step g tests σ) [ none ↦ run σ (suc n) unmatched | some σ′ ↦ run σ′ (suc n) (verdict σ′) ]
   advance (run σ n matched) = run σ n matched
   advance (run σ n unmatched) = run σ n unmatched
 

@@ -1,17 +1,15 @@
 -- Variables. "Variables are local to a rule. A binder is the whole body of a rule or a member of its top concatenation, outside any group;
--- uses stand in later members." The machine keeps one value for each binder instead ("Values stay as last bound"); theorem `local` says
+-- uses stand in later members." The machine keeps one value for each binder instead ("Values stay as last bound"); theorem Local says
 -- that with rules that do not reach themselves this makes no difference.
 -- Assumes nothing.
 use Prim.Native.Nat.{ℕ}
 use mathlib.Core.Path.{_≡_}
-use mathlib.Core.Logic.{_↔_}
 use mathlib.Core.Bool.{Bool, true, false}
 use mathlib.Core.List.{List, [], _∷_, _++_}
 use mathlib.Core.Option.{Option, some}
 use Rattle.basis.specs.Bits.{Bits}
 use Rattle.basis.specs.Counts.{Counts}
 use Rattle.theory.specs.Grammar.{Node, alternative, concatenation, repetition, switch, use-of, field, eod, Grammar, _∈_}
-use Rattle.theory.specs.Derivation.{Tree, Derivation}
 
 -- By construct number: the variables that may be used there, those that it binds (a binder its own, any other construct none), and those
 -- that entering the rule used there binds (its parameters, Req 01; none in the base).
@@ -86,7 +84,3 @@ module _ {Context A : Type 0} (scope : Scope) (fresh : ℕ → Context → (ℕ 
     -- what a rule's body sees where it begins is bound by its opening
     pub entered : {i b : ℕ} {enters : Context → Option Context} {opens : Context → (ℕ → A) → ℕ → A} {closes : (ℕ → A) → (ℕ → A) → ℕ → A}
         → g .node i ≡ use-of enters opens closes b → (c : Context) (v v′ : ℕ → A) → Agree (scope .sees i) v v′ → Agree (scope .sees b) (opens c v) (fresh i c v′)
-
-  -- Local: threading one value for each binder gives the same derivations as variables local to each opening of a rule.
-  abbrev pub LocalTheorem : Grammar Context (ℕ → A) → Type 0
-  LocalTheorem g = (s : Bits) (t : Tree) → ((v : ℕ → A) × Derivation g s t v) ↔ ((v : ℕ → A) × Derivation (localised fresh g) s t v)
