@@ -151,5 +151,5 @@ module _ {Context Values : Type 0} (g : Grammar Context Values) (tests : Tests) 
   pub room : (rooms : Context → ℕ → ℕ) → RoomTheorem g tests rooms
   room rooms h houses = Invariants.housed g tests h rooms houses
 
-pub local : {Context A : Type 0} (scope : Scope) (fresh : ℕ → Context → (ℕ → A) → ℕ → A) (g : Grammar Context (ℕ → A)) → LocalTheorem scope fresh g
-local scope fresh g h lexical = LocalProof.same-trees scope fresh g h lexical
+pub local : {Context Values A : Type 0} (get : Values → ℕ → A) (scope : Scope) (fresh : ℕ → Context → Values → Values) (g : Grammar Context Values) → LocalTheorem get scope fresh g
+local get scope fresh g h lexical = LocalProof.same-trees get scope fresh g h lexical

@@ -37,9 +37,10 @@ module _ {Context Values : Type 0} (g : Grammar Context Values) where
   Derivable s = (t : Tree) × (v : Values) × Derivation g s t v
 
 -- Local: threading one value for each binder through a derivation gives the same trees as variables local to each opening of a rule.
-abbrev pub LocalTheorem : {Context A : Type 0} → Scope → (ℕ → Context → (ℕ → A) → ℕ → A) → Grammar Context (ℕ → A) → Type 0
-LocalTheorem {Context} {A} scope fresh g = Static g → Lexical scope fresh g
-    → (s : Bits) (t : Tree) → ((v : ℕ → A) × Derivation g s t v) ↔ ((v : ℕ → A) × Derivation (localised fresh g) s t v)
+-- `get` is a variable's value.
+abbrev pub LocalTheorem : {Context Values A : Type 0} → (Values → ℕ → A) → Scope → (ℕ → Context → Values → Values) → Grammar Context Values → Type 0
+LocalTheorem {Context} {Values} get scope fresh g = Static g → Lexical get scope fresh g
+    → (s : Bits) (t : Tree) → ((v : Values) × Derivation g s t v) ↔ ((v : Values) × Derivation (localised fresh g) s t v)
 
 module _ {Context Values : Type 0} (g : Grammar Context Values) (tests : Tests) where
   -- Additive: running m steps and then n is running m + n; a decided run takes none and changes nothing.
