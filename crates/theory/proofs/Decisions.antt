@@ -13,7 +13,7 @@ use Rattle.basis.specs.Lookahead.{lookahead}
 use Rattle.theory.specs.Grammar.{Grammar}
 use Rattle.theory.specs.Derivation.{Tree, covered, Capture, captures, construct, Derives, Derivation}
 use Rattle.theory.specs.Lookahead.{Follow}
-use Rattle.theory.specs.Machine.{Tests, Entry, entry, State, state, pending-of, Verdict, undecided, matched, unmatched, verdict, Run, run, verdict-of, state-of, taken-of, tree-steps, Passes, open-state, opened, advance, granted, taken}
+use Rattle.theory.specs.Machine.{Tests, Entry, entry, State, state, pending-of, Verdict, undecided, matched, unmatched, verdict, Run, run, verdict-of, state-of, taken-of, tree-steps, Passes, open-state, opened, stepped, granted, taken}
 use Rattle.theory.specs.Weight.{Weighs}
 use Rattle.theory.specs.Hypotheses.{Hypotheses}
 use Rattle.theory.specs.Theorems.{Derivable, step-bound, ExactTheorem, Decision}
@@ -21,7 +21,7 @@ use Rattle.theory.proofs.FirstTheorem.{covers}
 use Rattle.theory.proofs.Steps.{Path, Stuck, resize, after}
 use Rattle.theory.proofs.Completeness.{Todo, follows-derivation}
 use Rattle.theory.proofs.Progress.{Counted, Fails, Outcome, each}
-use Rattle.theory.proofs.Runs.{settle, granted-decided, granted-sum, granted-grows, path-runs, path-before, advance-stuck}
+use Rattle.theory.proofs.Runs.{settle, granted-decided, granted-sum, granted-grows, path-runs, path-before, stepped-stuck}
 
 -- where nothing is pending the run is decided, and matched only at the frame's end
 closed-settled : (Context : Type 0) {Values : Type 0} (r : Bits) (p : ℕ) (v : Values) (cs : List Capture) → verdict {Context = Context} (state [] r p v cs) ≢ undecided
@@ -48,7 +48,7 @@ module _ {Context Values : Type 0} (g : Grammar Context Values) (tests : Tests) 
   opened-before n s q m l = let x = path-before g tests 0 m q l in (x .0, x .1, x .2 ∙ ap (λ (k : ℕ). run (x .0) k undecided) (zero-add m))
 
   -- one step more
-  granted-suc : (n : ℕ) (r : Run Context Values) → granted g tests (suc n) r ≡ advance g tests (granted g tests n r)
+  granted-suc : (n : ℕ) (r : Run Context Values) → granted g tests (suc n) r ≡ stepped g tests (granted g tests n r)
   unfolding granted
   granted-suc n r = let z : suc n ≡ n + 1 = omega arith in ap (λ (m : ℕ). granted g tests m r) z ∙ granted-sum g tests n 1 r
 
@@ -100,7 +100,7 @@ module _ {Context Values : Type 0} (g : Grammar Context Values) (tests : Tests) 
       record {
         needed = suc n;
         final = run (state (x ∷ es) r p v cs) (suc n) unmatched;
-        at-end = granted-suc g tests n (opened g tests s) ∙ (ap (advance g tests) (opened-path g tests n s q) ∙ advance-stuck g tests n z);
+        at-end = granted-suc g tests n (opened g tests s) ∙ (ap (stepped g tests) (opened-path g tests n s q) ∙ stepped-stuck g tests n z);
         settled = λ e. let y : _≡_ {A = ℕ} 0 1 = cc in omega arith;
         count = refl;
         counted = k;

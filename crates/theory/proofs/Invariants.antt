@@ -15,7 +15,7 @@ use Rattle.basis.specs.Counts.{Counts}
 use Rattle.basis.specs.Lookahead.{lookahead}
 use Rattle.theory.specs.Grammar.{Node, alternative, concatenation, repetition, switch, use-of, field, eod, Grammar, _∈_}
 use Rattle.theory.specs.Derivation.{Capture}
-use Rattle.theory.specs.Machine.{Tests, Entry, entry, State, state, pending-of, rest-of, position-of, captures-of, Turn, fail, again, leave, turn, choose, entries, act, step, undecided, matched, unmatched, Run, run, verdict, state-of, open-state, opened, advance, granted}
+use Rattle.theory.specs.Machine.{Tests, Entry, entry, State, state, pending-of, rest-of, position-of, captures-of, Turn, fail, again, leave, turn, choose, entries, act, step, undecided, matched, unmatched, Run, run, verdict, state-of, open-state, opened, stepped, granted}
 use Rattle.theory.specs.Weight.{largest, members-room, room, Houses}
 use Rattle.theory.specs.Hypotheses.{Static, Hypotheses}
 use Rattle.theory.proofs.Turns.{decide}
@@ -139,20 +139,20 @@ module _ {Context Values : Type 0} (g : Grammar Context Values) (tests : Tests) 
 
   -- what a step keeps, every grant keeps
   module _ (P : State Context Values → Type 0) (kept : (σ τ : State Context Values) → P σ → step g tests σ ≡ some τ → P τ) where
-    advance-keeps : (r : Run Context Values) → P (state-of r) → P (state-of (advance g tests r))
-    unfolding advance
-    advance-keeps (run σ n undecided) t = either (step g tests σ) refl
+    stepped-keeps : (r : Run Context Values) → P (state-of r) → P (state-of (stepped g tests r))
+    unfolding stepped
+    stepped-keeps (run σ n undecided) t = either (step g tests σ) refl
       where
-        either : (o : Option (State Context Values)) → step g tests σ ≡ o → P (state-of (advance g tests (run σ n undecided)))
-        either none e = rw (e, advance) t
-        either (some τ) e = rw (e, advance) (kept σ τ t e)
-    advance-keeps (run σ n matched) t = t
-    advance-keeps (run σ n unmatched) t = t
+        either : (o : Option (State Context Values)) → step g tests σ ≡ o → P (state-of (stepped g tests (run σ n undecided)))
+        either none e = rw (e, stepped) t
+        either (some τ) e = rw (e, stepped) (kept σ τ t e)
+    stepped-keeps (run σ n matched) t = t
+    stepped-keeps (run σ n unmatched) t = t
 
     pub granted-keeps : (n : ℕ) (r : Run Context Values) → P (state-of r) → P (state-of (granted g tests n r))
     unfolding granted
     granted-keeps zero r t = t
-    granted-keeps (suc n) r t = granted-keeps n (advance g tests r) (advance-keeps r t)
+    granted-keeps (suc n) r t = granted-keeps n (stepped g tests r) (stepped-keeps r t)
 
   pub tallied : (s : Bits) (n : ℕ) → Tallied (length s) (state-of (granted g tests n (opened g tests s)))
   unfolding opened open-state

@@ -1,7 +1,7 @@
 -- Local: threading one value for each binder through a derivation gives the same trees as variables local to each opening of a rule.
 -- Assumes nothing.
 use Prim.Native.Nat.{ℕ, zero, suc}
-use mathlib.Core.Path.{_≡_, refl, sym, _∙_, ap, subst, subst₂}
+use mathlib.Core.Path.{_≡_, refl, sym, _∙_, ap, ap₂, subst, subst₂}
 use mathlib.Core.Logic.{_⊎_, inl, inr, _↔_}
 use mathlib.Core.Bool.{Bool, true, false}
 use mathlib.Core.List.{List, [], _∷_, _++_, List·Memᴰ, List·Memᴰ·head, List·Memᴰ·tail, Memᴰ·append-left, List·Memᴰ·append-cases, List·Memᴰ·not-nil}
@@ -12,7 +12,7 @@ use Rattle.basis.specs.Counts.{Counts, Allows}
 use Rattle.theory.specs.Grammar.{Node, alternative, concatenation, repetition, switch, use-of, field, eod, Grammar, _∈_}
 use Rattle.theory.specs.Derivation.{Tree, Shape, construct, members, passes, Derives, Derivation}
 use Rattle.theory.specs.Hypotheses.{Static}
-use Rattle.theory.specs.Scope.{Scope, Agree, Chain, Scoped, MayBind, local-node, localised, Lexical}
+use Rattle.theory.specs.Scope.{Scope, Agree, Chain, UseScoped, Scoped, local-use, MayBind, local-node, localised, Lexical}
 use Rattle.theory.proofs.FirstTheorem.{Known}
 
 -- agreement at more variables is agreement at fewer
@@ -41,13 +41,17 @@ module _ {Context Values A : Type 0} (get : Values → ℕ → A) (scope : Scope
     law : {i : ℕ} {n : Node Context Values} → g .node i ≡ n → Scoped get scope i n
     law {i} q = subst (Scoped get scope i) q (scoped i)
 
+    opens-unchanged : {i : ℕ} (b : ℕ) (opens : Context → Values → Values) (o : Bool) → UseScoped get scope o i opens b → (c : Context) (v : Values) (x : ℕ) → (MayBind get scope g i x → ⊥) → get (opens c v) x ≡ get v x
+    opens-unchanged b opens true l c v x f = l .1 c v x (λ y. f (MayBind.entering y))
+    opens-unchanged b opens false l c v x f = ap (λ (u : Values). get u x) (l .2 c v)
+
     pub unchanged : {what : Shape Context Values} {t : Tree} {c : Context} {v v′ : Values} {s r : Bits} → Derives g what t c v s v′ r → Known g what → (x : ℕ) → Free x what → get v′ x ≡ get v x
     unchanged (Derives.of-alternative m d) q x f = unchanged d refl x (λ y. f (MayBind.in-branch q m y))
     unchanged (Derives.of-concatenation d) q x f = unchanged d tt x (λ m z y. f (MayBind.in-member q z y))
     unchanged (Derives.of-repetition k a d) q x f = unchanged d tt x (λ y. f (MayBind.in-body q y))
     unchanged (Derives.of-switch {c = c} {v = v} e d) q x f = unchanged d refl x (λ y. f (MayBind.in-case q (h .chosen-listed q c v e) y))
     unchanged (Derives.of-use {i} {b} {enters} {opens} {closes} {c = c} {v = v} {v′ = v′} e d z) q x f =
-        ap (λ (u : Values). get u x) (z ∙ stays i b enters opens closes q v v′) ∙ (unchanged d refl x (λ y. f (MayBind.in-rule q y)) ∙ law q .1 c v x (λ y. f (MayBind.entering y)))
+        ap (λ (u : Values). get u x) (z ∙ stays i b enters opens closes q v v′) ∙ (unchanged d refl x (λ y. f (MayBind.in-rule q y)) ∙ opens-unchanged b opens (scope .opens-rule i) (law q) c v x f)
     unchanged (Derives.of-field {c = c} {v = v} bits l e a z) q x f = ap (λ (u : Values). get u x) z ∙ law q .2 c v bits x (λ y. f (MayBind.itself y))
     unchanged Derives.of-eod q x f = refl
     unchanged Derives.no-members q x f = refl
@@ -74,9 +78,12 @@ module _ {Context Values A : Type 0} (get : Values → ℕ → A) (scope : Scope
     uses : {b : ℕ} {enters : Context → Option Context} {opens opens′ : Context → Values → Values} {closes closes′ : Values → Values → Values} → scope .binds i ≡ []
         → ((c : Context) (v v′ : Values) → Agree get (scope .sees i) v v′ → Agree get (scope .sees b) (opens c v) (opens′ c v′)) → Keeps g i opens closes b → Keeps l i opens′ closes′ b
         → Alike g l i (use-of enters opens closes b) (use-of enters opens′ closes′ b)
+    through : {b : ℕ} {enters : Context → Option Context} {opens : Context → Values → Values} {closes : Values → Values → Values} → scope .binds i ≡ scope .binds b → scope .sees b ≡ scope .sees i
+      → ((c : Context) (v : Values) → opens c v ≡ v) → ((v v′ : Values) → closes v v′ ≡ v′) → Alike g l i (use-of enters opens closes b) (use-of enters opens closes b)
 
   alike-back : {g l : Grammar Context Values} {i : ℕ} {n n′ : Node Context Values} → Alike g l i n n′ → Alike l g i n′ n
   alike-back (Alike.same u s) = Alike.same u s
+  alike-back (Alike.through e e′ o k) = Alike.through e e′ o k
   alike-back (Alike.uses e o k k′) = Alike.uses e (λ c v v′ a. back get (o c v′ v (back get a))) k′ k
 
   module _ (g l : Grammar Context Values) (alike : (i : ℕ) → Alike g l i (g .node i) (l .node i)) where
@@ -113,6 +120,10 @@ module _ {Context Values A : Type 0} (get : Values → ℕ → A) (scope : Scope
           Derives.of-use e (x .1) refl,
           at-none-more get n (λ y m. ap (λ (f : Values). get f y) z ∙ (k t c c′ v w s r d y m ∙ (a y m ∙ sym (k′ t c c′ v′ (x .0) s r (x .1) y m)))),
         )
+    transfer {v′ = v′} (Derives.of-use {b = b} {opens = opens} {closes} {c = c} {v = v} {v′ = w} e d z) (Ready.one (Alike.through n n′ o k) a) =
+        let x = transfer d (Ready.one (alike b) (subst₂ (Agree get (scope .sees b)) (sym (o c v)) (sym (o c v′)) (at-same get (sym n′) a))) in
+        (x .0, Derives.of-use e (x .1) (sym (k v′ (x .0))),
+        at-same get (ap₂ _++_ n′ (sym n)) (λ y m. ap (λ (f : Values). get f y) (z ∙ k v w) ∙ x .2 y m))
     transfer {v′ = v′} (Derives.of-field {binds = binds} {c = c} {v = v} bits ln e ad z) (Ready.one (Alike.same u s) a) =
         (binds c v′ bits, Derives.of-field bits ln e (sym (s .0 c v v′ bits a) ∙ ad) refl, λ y m. ap (λ (f : Values). get f y) z ∙ s .1 c v v′ bits a y m)
     transfer {v′ = v′} Derives.of-eod (Ready.one (Alike.same u s) a) = (v′, Derives.of-eod, at-none-more get s a)
@@ -129,7 +140,7 @@ module _ {Context Values A : Type 0} (get : Values → ℕ → A) (scope : Scope
 
   module _ (fresh : ℕ → Context → Values → Values) (g : Grammar Context Values) (h : Static g) (x : Lexical get scope fresh g) where
     abbrev inner : Grammar Context Values
-    inner = localised fresh g
+    inner = localised scope fresh g
 
     -- a rule used here binds nothing that is seen here
     use-keeps : {i b : ℕ} {enters : Context → Option Context} {opens : Context → Values → Values} {closes : Values → Values → Values} → g .node i ≡ use-of enters opens closes b → Keeps g i opens closes b
@@ -137,16 +148,20 @@ module _ {Context Values A : Type 0} (get : Values → ℕ → A) (scope : Scope
         let free : MayBind get scope g b y → ⊥ = λ z. x .not-bound-again i y m (MayBind.in-rule q z) in
         ap (λ (f : Values). get f y) (x .values-stay q v w)
         ∙ (unchanged g h (x .scoped) (λ i b enters opens closes e. x .values-stay e) d refl y free
-        ∙ subst (Scoped get scope i) q (x .scoped i) .1 c v y (λ z. x .not-bound-again i y m (MayBind.entering z)))
+        ∙ opens-unchanged g h (x .scoped) (λ i b enters opens closes e. x .values-stay e) b opens (scope .opens-rule i) (subst (Scoped get scope i) q (x .scoped i)) c v y (x .not-bound-again i y m))
 
-    local-alike : (i : ℕ) (n : Node Context Values) → g .node i ≡ n → Alike g inner i n (local-node fresh i n)
+    use-alike : (i : ℕ) (enters : Context → Option Context) (opens : Context → Values → Values) (closes : Values → Values → Values) (b : ℕ) → g .node i ≡ use-of enters opens closes b
+      → (o : Bool) → scope .opens-rule i ≡ o → UseScoped get scope o i opens b → Alike g inner i (use-of enters opens closes b) (local-use scope fresh o i enters opens closes b)
+    use-alike i enters opens closes b q true e l = Alike.uses (l .0) (x .entered q e) (use-keeps q) (λ t c c′ v w s r d y m. refl)
+    use-alike i enters opens closes b q false e l = Alike.through (l .0) (l .1) (l .2) (x .values-stay q)
+
+    local-alike : (i : ℕ) (n : Node Context Values) → g .node i ≡ n → Alike g inner i n (local-node scope fresh i n)
     unfolding local-node
     local-alike i (alternative is) q = Alike.same tt (subst (Scoped get scope i) q (x .scoped i))
     local-alike i (concatenation is) q = Alike.same tt (subst (Scoped get scope i) q (x .scoped i))
     local-alike i (repetition counts static fixed b) q = Alike.same tt (subst (Scoped get scope i) q (x .scoped i))
     local-alike i (switch chosen is) q = Alike.same tt (subst (Scoped get scope i) q (x .scoped i))
-    local-alike i (use-of enters opens closes b) q =
-        Alike.uses (subst (Scoped get scope i) q (x .scoped i) .0) (x .entered q) (use-keeps q) (λ t c c′ v w s r d y m. refl)
+    local-alike i (use-of enters opens closes b) q = use-alike i enters opens closes b q (scope .opens-rule i) refl (subst (Scoped get scope i) q (x .scoped i))
     local-alike i (field w admits static binds) q = Alike.same tt (subst (Scoped get scope i) q (x .scoped i))
     local-alike i eod q = Alike.same tt (subst (Scoped get scope i) q (x .scoped i))
 

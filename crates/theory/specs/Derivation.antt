@@ -12,7 +12,7 @@ use Rattle.basis.specs.Bits.{Bits}
 use Rattle.basis.specs.Counts.{Counts, Allows}
 use Rattle.theory.specs.Grammar.{Node, alternative, concatenation, repetition, switch, use-of, field, eod, Grammar, _∈_}
 
--- The trees. Every part of a tree begins with the number of its construct, so a tree says which branch or case was taken.
+-- The trees. The tree of a construct begins with the construct's number, so a tree says which branch or case was taken.
 pub data Tree : Type 0 where
   -- a field and the bits that it covers
   leaf : (construct : ℕ) (bits : Bits) → Tree

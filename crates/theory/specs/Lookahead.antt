@@ -1,7 +1,7 @@
 -- FIRST and FOLLOW sets (document 01's first and follow windows), prediction sets (a branch's windows), conflicts (clashes).
 -- The sets are predicates on strings of at most 8 bits, given by their rules alone, so they are the least sets that meet the rules.
 -- Assumes nothing.
-use Prim.Native.Nat.{ℕ, zero, suc}
+use Prim.Native.Nat.{ℕ, zero, suc, _≤_}
 use mathlib.Core.Path.{_≡_}
 use mathlib.Core.Logic.{_≢_}
 use mathlib.Core.Bool.{Bool, true, false}
@@ -10,7 +10,7 @@ use mathlib.Core.Option.{Option}
 use lib.ListN.{length}
 use Rattle.basis.specs.Bits.{Bits}
 use Rattle.basis.specs.Counts.{Counts, Allows}
-use Rattle.basis.specs.Lookahead.{lookahead, join}
+use Rattle.basis.specs.Lookahead.{lookahead, join, number}
 use Rattle.theory.specs.Grammar.{Node, alternative, concatenation, repetition, switch, use-of, field, eod, Grammar, _∈_}
 use Rattle.theory.specs.Derivation.{Shape, construct, members, passes}
 
@@ -69,3 +69,13 @@ pub data Conflict {Context Values : Type 0} (g : Grammar Context Values) (i : �
   of-branches : {a b : ℕ} {is : List ℕ} → g .node i ≡ alternative is → a ∈ is → b ∈ is → a ≢ b → Predicted g a x → Predicted g b x → Conflict g i x
   of-passes : {b : ℕ} {counts : Context → Values → Counts} {static : Counts} → g .node i ≡ repetition counts static false b
       → Continues g i b x → Exits g i x → Conflict g i x
+
+-- "the answer carries the least common window": of construct i
+pub record LeastConflict {Context Values : Type 0} (g : Grammar Context Values) (i : ℕ) (x : Bits) : Type 0 where
+  pub common : Conflict g i x
+  pub least : (y : Bits) → Conflict g i y → number x ≤ number y
+
+-- "repeated body has the empty first window" (9)
+pub data EmptyBody {Context Values : Type 0} (g : Grammar Context Values) (i : ℕ) : Type 0 where
+  empty-body : {b : ℕ} {counts : Context → Values → Counts} {static : Counts} {fixed : Bool}
+      → g .node i ≡ repetition counts static fixed b → First g (construct b (g .node b)) [] → EmptyBody g i

@@ -100,17 +100,12 @@ module _ {Context Values : Type 0} (g : Grammar Context Values) (tests : Tests) 
   act eod i c k others [] p v cs = some (state others [] p v cs)
   act eod i c k others (b ∷ s) p v cs = none
 
-  -- a step on a state; none where it fails. (An empty list is never stepped on: the step that emptied it decided the run.)
+  -- a step on a state; none where it fails. An undecided run with an empty list does not come from an opening (the step that empties the
+  -- list decides): what is said of it here is arbitrary, and the matcher, which any run may reach, calls it broken.
   unfoldable pub step : State Context Values → Option (State Context Values)
   unfolding act
   step (state [] s p v cs) = none
   step (state (entry i c k ∷ others) s p v cs) = act (g .node i) i c k others s p v cs
-
-  -- n steps, all of which succeed
-  unfoldable pub steps : ℕ → State Context Values → Option (State Context Values)
-  unfolding step
-  steps zero σ = some σ
-  steps (suc n) σ = elim (step σ) [ none ↦ none | some σ′ ↦ steps n σ′ ]
 
 -- the steps that a run takes over a derivation: one for each construct of the tree, and for a repetition one more with each pass
 unfoldable pub tree-steps : Tree → ℕ
@@ -152,18 +147,19 @@ module _ {Context Values : Type 0} (g : Grammar Context Values) (tests : Tests) 
   unfolding open-state
   opened s = run (open-state s) 0 undecided
 
-  -- "Where a step fails, position, list, values and fields stay as before it". "A decided, closed or broken run takes no more steps."
-  unfoldable pub advance : Run Context Values → Run Context Values
+  -- "Where a step fails, position, list, values and fields stay as before it". "A decided … run takes no more steps." (The matcher adds closed and
+  -- broken runs.)
+  unfoldable pub stepped : Run Context Values → Run Context Values
   unfolding step verdict
-  advance (run σ n undecided) = elim (step g tests σ) [ none ↦ run σ (suc n) unmatched | some σ′ ↦ run σ′ (suc n) (verdict σ′) ]
-  advance (run σ n matched) = run σ n matched
-  advance (run σ n unmatched) = run σ n unmatched
+  stepped (run σ n undecided) = elim (step g tests σ) [ none ↦ run σ (suc n) unmatched | some σ′ ↦ run σ′ (suc n) (verdict σ′) ]
+  stepped (run σ n matched) = run σ n matched
+  stepped (run σ n unmatched) = run σ n unmatched
 
   -- a run granted n steps
   unfoldable pub granted : ℕ → Run Context Values → Run Context Values
-  unfolding advance
+  unfolding stepped
   granted zero r = r
-  granted (suc n) r = granted n (advance r)
+  granted (suc n) r = granted n (stepped r)
 
   -- "the answer says how many were taken"
   unfoldable pub taken : ℕ → Run Context Values → ℕ

@@ -40,7 +40,7 @@ module _ {Context Values : Type 0} (g : Grammar Context Values) where
 -- `get` is a variable's value.
 abbrev pub LocalTheorem : {Context Values A : Type 0} → (Values → ℕ → A) → Scope → (ℕ → Context → Values → Values) → Grammar Context Values → Type 0
 LocalTheorem {Context} {Values} get scope fresh g = Static g → Lexical get scope fresh g
-    → (s : Bits) (t : Tree) → ((v : Values) × Derivation g s t v) ↔ ((v : Values) × Derivation (localised fresh g) s t v)
+    → (s : Bits) (t : Tree) → ((v : Values) × Derivation g s t v) ↔ ((v : Values) × Derivation (localised scope fresh g) s t v)
 
 module _ {Context Values : Type 0} (g : Grammar Context Values) (tests : Tests) where
   -- Additive: running m steps and then n is running m + n; a decided run takes none and changes nothing.
