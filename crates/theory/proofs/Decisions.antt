@@ -14,7 +14,7 @@ use Rattle.theory.specs.Grammar.{Grammar}
 use Rattle.theory.specs.Derivation.{Tree, covered, Capture, captures, construct, Derives, Derivation}
 use Rattle.theory.specs.Lookahead.{Follow}
 use Rattle.theory.specs.Machine.{Tests, Entry, entry, State, state, pending-of, Verdict, undecided, matched, unmatched, verdict, Run, run, verdict-of, state-of, taken-of, tree-steps, Passes, open-state, opened, stepped, granted, taken}
-use Rattle.theory.specs.Weight.{Weighs}
+use Rattle.theory.specs.Weight.{Outweighs}
 use Rattle.theory.specs.Hypotheses.{Hypotheses}
 use Rattle.theory.specs.Theorems.{Derivable, step-bound, ExactTheorem, Decision}
 use Rattle.theory.proofs.FirstTheorem.{covers}
@@ -114,7 +114,7 @@ module _ {Context Values : Type 0} (g : Grammar Context Values) (tests : Tests) 
         sound = λ e. let y : _≡_ {A = ℕ} 0 1 = cc in absurd (omega arith);
       }
 
-  module _ (weight : Context → ℕ → ℕ) (weighs : Weighs g weight) where
+  module _ (weight : Context → ℕ → ℕ) (weighs : Outweighs g weight) where
     from-outcome : (s : Bits) (w : ℕ)
         → Outcome g tests h weight weighs (construct (g .start) (g .node (g .start))) (entry (g .start) (g .context) 0 ∷ []) w [] (g .context) s 0 (g .values) [] → Decided s (w * (length s + 1))
     from-outcome s w (Outcome.derived {t} {v′} {r} d q l) = decided-derived w s t v′ r d q l

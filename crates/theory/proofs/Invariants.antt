@@ -1,6 +1,6 @@
 -- What a step changes, and what therefore holds of a run at every moment.
 -- Assumes nothing.
-use Prim.Native.Nat.{ℕ, zero, suc, _+_, _≤_, _<_, max}
+use Prim.Native.Nat.{ℕ, zero, suc, _+_, _-_, _≤_, _<_, max}
 use native.Mathlib.Omega.{arith}
 use borrow.Author.Tests.{leb-true}
 use mathlib.Core.Path.{_≡_, refl, sym, _∙_, ap, subst}
@@ -9,6 +9,7 @@ use mathlib.Core.Bool.{Bool, true, false}
 use mathlib.Core.List.{List, [], _∷_, _++_}
 use mathlib.Core.Option.{Option, none, some}
 use lib.ListN.{length, take, drop, length-append, length-drop, length-map}
+use lib.Seq.{drop-drop}
 use lib.Dec.{leb}
 use Rattle.basis.specs.Bits.{Bits}
 use Rattle.basis.specs.Counts.{Counts}
@@ -38,7 +39,7 @@ module _ {Context Values : Type 0} (g : Grammar Context Values) (tests : Tests) 
   -- what a step makes of a state whose first entry is (i, c, k) with node x
   data Effect (i : ℕ) (c : Context) (k : ℕ) (x : Node Context Values) (others : List (Entry Context)) (s : Bits) (p : ℕ) (cs : List Capture) : State Context Values → Type 0 where
     replaces : {es all : List (Entry Context)} {v : Values} → Replaced i c k x es → all ≡ es ++ others → Effect i c k x others s p cs (state all s p v cs)
-    takes : {r : Bits} {p′ : ℕ} {v : Values} {cs′ : List Capture} (w : ℕ) → 1 ≤ w → p′ ≡ p + w → length s ≡ w + length r → length cs′ ≡ length cs + 1
+    takes : {r : Bits} {p′ : ℕ} {v : Values} {cs′ : List Capture} (w : ℕ) → 1 ≤ w → p′ ≡ p + w → w ≤ length s → r ≡ drop w s → length cs′ ≡ length cs + 1
         → Effect i c k x others s p cs (state others r p′ v cs′)
 
   module _ {i : ℕ} {c : Context} {k : ℕ} {others : List (Entry Context)} {s : Bits} {p : ℕ} {cs : List Capture} where
@@ -76,27 +77,31 @@ module _ {Context Values : Type 0} (g : Grammar Context Values) (tests : Tests) 
               elim (decide (admits c v (take w s))) [
                 | inl y ↦
                     is-effect (rw (z, y, act) at e)
-                    (Effect.takes w (h .width-positive q) refl (simp length-drop (let l = leb-true w (length s) z in omega arith)) (length-append cs (record { construct = i; first-bit = p } ∷ [])))
+                    (Effect.takes w (h .width-positive q) refl (leb-true w (length s) z) refl (length-append cs (record { construct = i; first-bit = p } ∷ [])))
                 | inr y ↦ never (rw (z, y, act) at e)
               ]
           | inr z ↦ never (rw (z, act) at e)
         ]
     effect v τ eod q e = effect-eod s v τ refl e
 
-  -- bits taken and bits left are the frame's; each capture took a bit
-  pub record Tallied (n : ℕ) (σ : State Context Values) : Type 0 where
-    pub bits : position-of σ + length (rest-of σ) ≡ n
+  -- what is left of the frame `all` is what stands from the position on; each capture took a bit
+  pub record Tallied (all : Bits) (σ : State Context Values) : Type 0 where
+    pub rest : rest-of σ ≡ drop (position-of σ) all
+    pub reached : position-of σ ≤ length all
     pub few : length (captures-of σ) ≤ position-of σ
 
-  tally-effect : {n i k : ℕ} {c : Context} {x : Node Context Values} {others : List (Entry Context)} {s : Bits} {p : ℕ} {v : Values} {cs : List Capture} {τ : State Context Values}
-      → Tallied n (state (entry i c k ∷ others) s p v cs) → Effect i c k x others s p cs τ → Tallied n τ
-  tally-effect t (Effect.replaces y z) = record { bits = t .bits; few = t .few }
-  tally-effect t (Effect.takes w l e e′ e″) = record { bits = omega arith; few = omega arith }
+  tally-effect : {i k : ℕ} {c : Context} {x : Node Context Values} {others : List (Entry Context)} {s : Bits} {p : ℕ} {v : Values} {cs : List Capture} {τ : State Context Values} (all : Bits)
+      → Tallied all (state (entry i c k ∷ others) s p v cs) → Effect i c k x others s p cs τ → Tallied all τ
+  tally-effect all t (Effect.replaces y z) = record { rest = t .rest; reached = t .reached; few = t .few }
+  tally-effect {s = s} {p} all t (Effect.takes w l e e′ e″ e‴) =
+      let n : length s ≡ length all - p = ap length (t .rest) ∙ length-drop p all in
+      let m = t .reached in
+      record { rest = rw (e, e″, t .rest, drop-drop w p all); reached = omega arith; few = let f = t .few in omega arith }
 
-  pub tally-step : {n : ℕ} (σ τ : State Context Values) → Tallied n σ → step g tests σ ≡ some τ → Tallied n τ
+  pub tally-step : (all : Bits) (σ τ : State Context Values) → Tallied all σ → step g tests σ ≡ some τ → Tallied all τ
   unfolding step
-  tally-step (state [] s p v cs) τ t e = never e
-  tally-step (state (entry i c k ∷ others) s p v cs) τ t e = tally-effect t (effect v τ (g .node i) refl e)
+  tally-step all (state [] s p v cs) τ t e = never e
+  tally-step all (state (entry i c k ∷ others) s p v cs) τ t e = tally-effect all t (effect v τ (g .node i) refl e)
 
   module _ (rooms : Context → ℕ → ℕ) (houses : Houses g rooms) where
     -- each entry, with those after it, has room
@@ -129,7 +134,7 @@ module _ {Context Values : Type 0} (g : Grammar Context Values) (tests : Tests) 
 
     house-effect : (m : ℕ) {i k : ℕ} {c : Context} {others : List (Entry Context)} {x : Node Context Values} {s : Bits} {p : ℕ} {cs : List Capture} {τ : State Context Values}
         → room rooms c x ≤ rooms c i → Housed (entry i c k ∷ others) m → Effect i c k x others s p cs τ → Housed (pending-of τ) m
-    house-effect m l t (Effect.takes w l′ e e′ e″) = t .1
+    house-effect m l t (Effect.takes w l′ e e′ e″ e‴) = t .1
     house-effect m {others = others} l t (Effect.replaces {all = all} y z) = subst (λ (es : List (Entry Context)). Housed es m) (sym z) (house-replaced m others y l t)
 
     house-step : (m : ℕ) (σ τ : State Context Values) → Housed (pending-of σ) m → step g tests σ ≡ some τ → Housed (pending-of τ) m
@@ -154,9 +159,9 @@ module _ {Context Values : Type 0} (g : Grammar Context Values) (tests : Tests) 
     granted-keeps zero r t = t
     granted-keeps (suc n) r t = granted-keeps n (stepped g tests r) (stepped-keeps r t)
 
-  pub tallied : (s : Bits) (n : ℕ) → Tallied (length s) (state-of (granted g tests n (opened g tests s)))
+  pub tallied : (s : Bits) (n : ℕ) → Tallied s (state-of (granted g tests n (opened g tests s)))
   unfolding opened open-state
-  tallied s n = granted-keeps (Tallied (length s)) tally-step n (opened g tests s) (record { bits = omega arith; few = omega arith })
+  tallied s n = granted-keeps (Tallied s) (tally-step s) n (opened g tests s) (record { rest = refl; reached = omega arith; few = omega arith })
 
   pub housed : (rooms : Context → ℕ → ℕ) → Houses g rooms → (s : Bits) (n : ℕ) → length (pending-of (state-of (granted g tests n (opened g tests s)))) ≤ rooms (g .context) (g .start)
   unfolding opened open-state

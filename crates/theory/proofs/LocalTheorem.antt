@@ -79,7 +79,7 @@ module _ {Context Values A : Type 0} (get : Values → ℕ → A) (scope : Scope
         → ((c : Context) (v v′ : Values) → Agree get (scope .sees i) v v′ → Agree get (scope .sees b) (opens c v) (opens′ c v′)) → Keeps g i opens closes b → Keeps l i opens′ closes′ b
         → Alike g l i (use-of enters opens closes b) (use-of enters opens′ closes′ b)
     through : {b : ℕ} {enters : Context → Option Context} {opens : Context → Values → Values} {closes : Values → Values → Values} → scope .binds i ≡ scope .binds b → scope .sees b ≡ scope .sees i
-      → ((c : Context) (v : Values) → opens c v ≡ v) → ((v v′ : Values) → closes v v′ ≡ v′) → Alike g l i (use-of enters opens closes b) (use-of enters opens closes b)
+        → ((c : Context) (v : Values) → opens c v ≡ v) → ((v v′ : Values) → closes v v′ ≡ v′) → Alike g l i (use-of enters opens closes b) (use-of enters opens closes b)
 
   alike-back : {g l : Grammar Context Values} {i : ℕ} {n n′ : Node Context Values} → Alike g l i n n′ → Alike l g i n′ n
   alike-back (Alike.same u s) = Alike.same u s
@@ -121,9 +121,11 @@ module _ {Context Values A : Type 0} (get : Values → ℕ → A) (scope : Scope
           at-none-more get n (λ y m. ap (λ (f : Values). get f y) z ∙ (k t c c′ v w s r d y m ∙ (a y m ∙ sym (k′ t c c′ v′ (x .0) s r (x .1) y m)))),
         )
     transfer {v′ = v′} (Derives.of-use {b = b} {opens = opens} {closes} {c = c} {v = v} {v′ = w} e d z) (Ready.one (Alike.through n n′ o k) a) =
-        let x = transfer d (Ready.one (alike b) (subst₂ (Agree get (scope .sees b)) (sym (o c v)) (sym (o c v′)) (at-same get (sym n′) a))) in
-        (x .0, Derives.of-use e (x .1) (sym (k v′ (x .0))),
-        at-same get (ap₂ _++_ n′ (sym n)) (λ y m. ap (λ (f : Values). get f y) (z ∙ k v w) ∙ x .2 y m))
+        let x = transfer d (Ready.one (alike b) (subst₂ (Agree get (scope .sees b)) (sym (o c v)) (sym (o c v′)) (at-same get (sym n′) a))) in (
+          x .0,
+          Derives.of-use e (x .1) (sym (k v′ (x .0))),
+          at-same get (ap₂ _++_ n′ (sym n)) (λ y m. ap (λ (f : Values). get f y) (z ∙ k v w) ∙ x .2 y m),
+        )
     transfer {v′ = v′} (Derives.of-field {binds = binds} {c = c} {v = v} bits ln e ad z) (Ready.one (Alike.same u s) a) =
         (binds c v′ bits, Derives.of-field bits ln e (sym (s .0 c v v′ bits a) ∙ ad) refl, λ y m. ap (λ (f : Values). get f y) z ∙ s .1 c v v′ bits a y m)
     transfer {v′ = v′} Derives.of-eod (Ready.one (Alike.same u s) a) = (v′, Derives.of-eod, at-none-more get s a)
@@ -151,7 +153,7 @@ module _ {Context Values A : Type 0} (get : Values → ℕ → A) (scope : Scope
         ∙ opens-unchanged g h (x .scoped) (λ i b enters opens closes e. x .values-stay e) b opens (scope .opens-rule i) (subst (Scoped get scope i) q (x .scoped i)) c v y (x .not-bound-again i y m))
 
     use-alike : (i : ℕ) (enters : Context → Option Context) (opens : Context → Values → Values) (closes : Values → Values → Values) (b : ℕ) → g .node i ≡ use-of enters opens closes b
-      → (o : Bool) → scope .opens-rule i ≡ o → UseScoped get scope o i opens b → Alike g inner i (use-of enters opens closes b) (local-use scope fresh o i enters opens closes b)
+        → (o : Bool) → scope .opens-rule i ≡ o → UseScoped get scope o i opens b → Alike g inner i (use-of enters opens closes b) (local-use scope fresh o i enters opens closes b)
     use-alike i enters opens closes b q true e l = Alike.uses (l .0) (x .entered q e) (use-keeps q) (λ t c c′ v w s r d y m. refl)
     use-alike i enters opens closes b q false e l = Alike.through (l .0) (l .1) (l .2) (x .values-stay q)
 

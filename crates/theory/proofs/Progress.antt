@@ -20,7 +20,7 @@ use Rattle.theory.specs.Grammar.{Node, alternative, concatenation, repet
 use Rattle.theory.specs.Derivation.{Tree, leaf, end, node, nil, member, pass, covered, Capture, captures, Shape, construct, members, passes, Derives}
 use Rattle.theory.specs.Lookahead.{First}
 use Rattle.theory.specs.Machine.{Tests, Entry, entry, State, state, Turn, fail, again, leave, turn, choose, entries, tree-steps, Passes}
-use Rattle.theory.specs.Weight.{sum, largest, weigh, Weighs}
+use Rattle.theory.specs.Weight.{sum, largest, weigh, Outweighs}
 use Rattle.theory.specs.Hypotheses.{Static, Hypotheses}
 use Rattle.theory.proofs.FirstTheorem.{covers, first}
 use Rattle.theory.proofs.Turns.{decide, Reached, reached-zero, reached-again, allowed-leave}
@@ -78,7 +78,7 @@ passes-new c (i ∷ is) es n h = (omega arith, passes-new c is es n h)
 abbrev pub Counted : {Context Values : Type 0} → State Context Values → Type 0
 Counted (state es s p v cs) = Passes es (suc p)
 
-module _ {Context Values : Type 0} (g : Grammar Context Values) (tests : Tests) (h : Hypotheses g tests) (weight : Context → ℕ → ℕ) (weighs : Weighs g weight) where
+module _ {Context Values : Type 0} (g : Grammar Context Values) (tests : Tests) (h : Hypotheses g tests) (weight : Context → ℕ → ℕ) (weighs : Outweighs g weight) where
   -- The machine, with these entries first, n steps later has failed.
   pub data Fails (σ : State Context Values) (most : ℕ) : Type 0 where
     fails : {n i k : ℕ} {c : Context} {es : List (Entry Context)} {s : Bits} {p : ℕ} {v : Values} {cs : List Capture} → Path g tests Counted n σ (state (entry i c k ∷ es) s p v cs)
@@ -303,10 +303,13 @@ module _ {Context Values : Type 0} (g : Grammar Context Values) (tests : Tests) 
   outcome each c i eod q l others [] p v cs k = end-of c q others p v cs k
   outcome each c i eod q l others (x ∷ s) p v cs k = Outcome.failed (at-once (omega arith, k) (Steps.fails-eod g tests q) (omega arith))
 
+  -- within a larger weight too
+  more-weight : {what : Shape Context Values} {first others : List (Entry Context)} {w W : ℕ} {c : Context} {s : Bits} {p : ℕ} {v : Values} {cs : List Capture}
+      → w ≤ W → Outcome what first w others c s p v cs → Outcome what first W others c s p v cs
+  more-weight l (Outcome.derived {t} d q b) = Outcome.derived d q (omega (arith, mul-le-mul-right (length (covered t) + 1) l))
+  more-weight {s = s} l (Outcome.failed x) = Outcome.failed (no-later (mul-le-mul-right (length s + 1) l) x)
+
   -- by recursion on a bound of the weight
   pub each : (n : ℕ) → Each n
   each zero c i l = absurd (let z = weight-positive c (g .node i) in omega (arith, weighs c i))
-  each (suc n) c i l =
-      λ others s p v cs k.
-      subst (λ (w : ℕ). Outcome (construct i (g .node i)) (entry i c 0 ∷ []) w others c s p v cs) (sym (weighs c i))
-      (outcome (each n) c i (g .node i) refl (subst (λ (w : ℕ). w ≤ suc n) (weighs c i) l) others s p v cs k)
+  each (suc n) c i l = λ others s p v cs k. more-weight (weighs c i) (outcome (each n) c i (g .node i) refl (omega (arith, weighs c i)) others s p v cs k)

@@ -6,13 +6,13 @@ use native.Mathlib.Decide.{decLt}
 use mathlib.Core.Path.{_≡_, refl, sym, _∙_, ap, subst}
 use mathlib.Core.Logic.{_⊎_, inl, inr, _≢_, _↔_}
 use mathlib.Core.List.{List, [], _∷_}
-use lib.ListN.{length}
+use lib.ListN.{length, drop, length-drop}
 use Rattle.basis.specs.Bits.{Bits}
 use Rattle.theory.specs.Grammar.{Grammar}
 use Rattle.theory.specs.Derivation.{Tree, captures, construct, Derivation}
 use Rattle.theory.specs.Lookahead.{Follow, Conflict}
-use Rattle.theory.specs.Machine.{Tests, State, state, pending-of, position-of, Verdict, undecided, matched, unmatched, Run, run, verdict-of, state-of, taken-of, tree-steps, Passes, opened, granted, taken}
-use Rattle.theory.specs.Weight.{Weighs, Houses}
+use Rattle.theory.specs.Machine.{Tests, State, state, pending-of, rest-of, position-of, Verdict, undecided, matched, unmatched, Run, run, verdict-of, state-of, taken-of, tree-steps, Passes, opened, granted, taken}
+use Rattle.theory.specs.Weight.{Outweighs, Houses}
 use Rattle.theory.specs.Hypotheses.{Static, Hypotheses}
 use Rattle.theory.specs.Theorems.{FirstTheorem, FollowTheorem, UniqueTheorem, Derivable, AdditiveTheorem, step-bound, Exact, ExactTheorem, Decision, BoundTheorem, Moment, MomentTheorem, RoomTheorem, LocalTheorem}
 use Rattle.theory.proofs.FirstTheorem as FirstProof
@@ -43,7 +43,7 @@ module _ {Context Values : Type 0} (g : Grammar Context Values) (tests : Tests) 
   additive = Runs.additive g tests
 
   module _ (h : Hypotheses g tests) where
-    module _ (weight : Context → ℕ → ℕ) (weighs : Weighs g weight) where
+    module _ (weight : Context → ℕ → ℕ) (weighs : Outweighs g weight) where
       -- past the steps needed the run stays as it is
       at-rest : (s : Bits) (x : Decided g tests h s (step-bound g tests weight s)) (n : ℕ) → x .needed ≤ n → granted g tests n (opened g tests s) ≡ x .final
       at-rest s x n l =
@@ -57,8 +57,13 @@ module _ {Context Values : Type 0} (g : Grammar Context Values) (tests : Tests) 
           → ((n < x .needed) × ((ρ : State Context Values) × Counted ρ × (granted g tests n (opened g tests s) ≡ run ρ n undecided))) ⊎ ((x .needed ≤ n) × (granted g tests n (opened g tests s) ≡ x .final))
       moment s x n = elim (decLt n (x .needed)) [ yes l ↦ inl (l, x .before n l) | no l ↦ (let m : x .needed ≤ n = omega arith in inr (m, at-rest s x n m)) ]
 
-      decision : (s : Bits) → Decision g tests weight s
+      taken-by : (s : Bits) (x : Decided g tests h s (step-bound g tests weight s)) (n : ℕ) → taken g tests n (opened g tests s) ≡ min n (x .needed)
       unfolding taken opened
+      taken-by s x n =
+          elim (moment s x n)
+          [ inl y ↦ (let l = y .0 in rw (y .1 .2) (omega arith)) | inr y ↦ (let l = y .0 in let c = x .count in rw (y .1) (omega arith)) ]
+
+      decision : (s : Bits) → Decision g tests weight s
       decision s =
           let x = decided g tests h weight weighs s in
           record {
@@ -69,10 +74,9 @@ module _ {Context Values : Type 0} (g : Grammar Context Values) (tests : Tests) 
                   λ e. elim (moment s x n) [ inl y ↦ y .0 | inr y ↦ absurd (x .settled (sym (ap verdict-of (y .1)) ∙ e)) ],
                   λ l. ap verdict-of (x .before n l .2),
                 );
-            taken-min =
-                λ n.
-                elim (moment s x n)
-                [ inl y ↦ (let l = y .0 in rw (y .1 .2) (omega arith)) | inr y ↦ (let l = y .0 in let c = x .count in rw (y .1) (omega arith)) ];
+            taken-min = taken-by s x;
+            taken-later =
+                λ m n. let a = taken-by s x (m + n) in let b = taken-by s x m in let c = additive .taken-sum m n (opened g tests s) in omega arith;
           }
 
       -- a derivation's steps are those needed
@@ -129,13 +133,17 @@ module _ {Context Values : Type 0} (g : Grammar Context Values) (tests : Tests) 
       few-passes : (m : ℕ) (σ : State Context Values) → position-of σ ≤ m → Counted σ → Passes (pending-of σ) (m + 1)
       few-passes m (state es s p v cs) l k = passes-more es (omega arith) k
 
+      rest-length : (s : Bits) (n : ℕ) → let σ = state-of (granted g tests n (opened g tests s)) in length (rest-of σ) ≡ length s - position-of σ
+      rest-length s n = let σ = state-of (granted g tests n (opened g tests s)) in ap length (Invariants.tallied g tests h s n .rest) ∙ length-drop (position-of σ) s
+
       at-moment : (s : Bits) (n : ℕ) → Moment g tests weight s (state-of (granted g tests n (opened g tests s)))
       at-moment s n =
           let t = Invariants.tallied g tests h s n in
           record {
-            bits-kept = t .bits;
-            captures-few = let a = t .bits in let b = t .few in omega arith;
-            passes-few = few-passes (length s) (state-of (granted g tests n (opened g tests s))) (let a = t .bits in omega arith) (counted-at s n);
+            rest-is = t .rest;
+            position-within = t .reached;
+            captures-few = let a = rest-length s n in let b = t .few in let c = t .reached in omega arith;
+            passes-few = few-passes (length s) (state-of (granted g tests n (opened g tests s))) (t .reached) (counted-at s n);
           }
 
   module _ (weight : Context → ℕ → ℕ) where

@@ -1,19 +1,20 @@
--- The theorems, as statements with their hypotheses. `proofs/Theorems.antt` proves each, under the same name in lower case.
+-- The theorems, as statements with their hypotheses. `proofs/Theorems.antt` proves them: `first`, `follow`, `unique`, `values`, `local`,
+-- `additive`, `exact`, `exact-local`, `bound`, `moments`, `room`.
 -- g is a grammar, `tests` what the machine looks up, `weight` its constructs' weights, `rooms` enough room for each. What `Hypotheses`,
--- `Static`, `Weighs`, `Houses` and `Lexical` ask, and which refusal of document 01 gives it, is said where they are defined.
+-- `Static`, `Outweighs`, `Houses` and `Lexical` ask, and which refusal of document 01 gives it, is said where they are defined.
 -- Assumes nothing.
-use Prim.Native.Nat.{ℕ, suc, _+_, _*_, _≤_, _<_, min}
+use Prim.Native.Nat.{ℕ, suc, _+_, _-_, _*_, _≤_, _<_, min}
 use mathlib.Core.Path.{_≡_}
 use mathlib.Core.Logic.{_↔_, _≢_}
 use mathlib.Core.List.{List, [], _∷_, _++_}
-use lib.ListN.{length}
+use lib.ListN.{length, drop}
 use Rattle.basis.specs.Bits.{Bits}
 use Rattle.basis.specs.Lookahead.{lookahead}
 use Rattle.theory.specs.Grammar.{Grammar}
 use Rattle.theory.specs.Derivation.{Tree, covered, captures, construct, Derives, Derivation, Leaves}
 use Rattle.theory.specs.Lookahead.{First, Follow, Conflict}
 use Rattle.theory.specs.Machine.{Tests, State, state, Run, run, undecided, matched, unmatched, verdict-of, state-of, taken-of, pending-of, rest-of, position-of, captures-of, Passes, tree-steps, opened, granted, taken}
-use Rattle.theory.specs.Weight.{Weighs, Houses}
+use Rattle.theory.specs.Weight.{Outweighs, Houses}
 use Rattle.theory.specs.Hypotheses.{Static, Hypotheses}
 use Rattle.theory.specs.Scope.{Scope, localised, Lexical}
 
@@ -27,7 +28,7 @@ module _ {Context Values : Type 0} (g : Grammar Context Values) where
   abbrev pub FollowTheorem : Type 0
   FollowTheorem = Static g → (s : Bits) (t : Tree) (v : Values) → Derivation g s t v → (i : ℕ) (r : Bits) → Leaves t s i r → Follow g i (lookahead r)
 
-  -- Unique ("at most one derivation"): without conflicts any two derivations of one frame are the same tree.
+  -- Unique (condition 3, "at most one derivation"): without conflicts any two derivations of one frame are the same tree.
   abbrev pub UniqueTheorem : Type 0
   UniqueTheorem = Static g → ((i : ℕ) (x : Bits) → Conflict g i x → ⊥)
       → (s : Bits) (t t′ : Tree) (v v′ : Values) → Derivation g s t v → Derivation g s t′ v′ → (t ≡ t′) × (v ≡ v′)
@@ -63,7 +64,7 @@ module _ {Context Values : Type 0} (g : Grammar Context Values) (tests : Tests) 
           → granted g tests n (opened g tests s) ≡ run (state [] [] (length s) v (captures t 0)) (tree-steps t) matched
 
     abbrev pub ExactTheorem : Type 0
-    ExactTheorem = Hypotheses g tests → Weighs g weight → Exact
+    ExactTheorem = Hypotheses g tests → Outweighs g weight → Exact
 
     -- Bound: decided within weight × (bits + 1) steps; the steps taken in all are the smaller of those granted and those needed.
     pub record Decision (s : Bits) : Type 0 where
@@ -71,18 +72,22 @@ module _ {Context Values : Type 0} (g : Grammar Context Values) (tests : Tests) 
       pub within-bound : needed ≤ step-bound s
       pub undecided-iff : (n : ℕ) → (verdict-of (granted g tests n (opened g tests s)) ≡ undecided) ↔ (n < needed)
       pub taken-min : (n : ℕ) → taken g tests n (opened g tests s) ≡ min n needed
+      -- "the smaller of its grant and the steps still missing until decided"
+      pub taken-later : (m n : ℕ) → taken g tests n (granted g tests m (opened g tests s)) ≡ min n (needed - m)
 
     abbrev pub BoundTheorem : Type 0
-    BoundTheorem = Hypotheses g tests → Weighs g weight → (s : Bits) → Decision s
+    BoundTheorem = Hypotheses g tests → Outweighs g weight → (s : Bits) → Decision s
 
-    -- At every moment of a run: no bit is lost; captures never exceed the bits, those unread not counted; passes never exceed bits + 1.
+    -- At every moment of a run: what is left is the frame from the position on; captures never exceed the bits, those unread not counted;
+    -- passes never exceed bits + 1.
     pub record Moment (s : Bits) (σ : State Context Values) : Type 0 where
-      pub bits-kept : position-of σ + length (rest-of σ) ≡ length s
+      pub rest-is : rest-of σ ≡ drop (position-of σ) s
+      pub position-within : position-of σ ≤ length s
       pub captures-few : length (captures-of σ) + length (rest-of σ) ≤ length s
       pub passes-few : Passes (pending-of σ) (length s + 1)
 
     abbrev pub MomentTheorem : Type 0
-    MomentTheorem = Hypotheses g tests → Weighs g weight → (s : Bits) (n : ℕ) → Moment s (state-of (granted g tests n (opened g tests s)))
+    MomentTheorem = Hypotheses g tests → Outweighs g weight → (s : Bits) (n : ℕ) → Moment s (state-of (granted g tests n (opened g tests s)))
 
   -- Room: the list of pending entries never grows longer than the room that the opening use is given.
   abbrev pub RoomTheorem : (Context → ℕ → ℕ) → Type 0

@@ -31,7 +31,11 @@ weigh weight c eod = 1
 abbrev pub Weighs : {Context Values : Type 0} → Grammar Context Values → (Context → ℕ → ℕ) → Type 0
 Weighs {Context} g weight = (c : Context) (i : ℕ) → weight c i ≡ weigh weight c (g .node i)
 
--- Room in the list of pending entries: the most entries that a node and what it becomes take up at a time.
+-- The theorems ask only that `weight` is large enough; the weight is (refusal 7 gives that there is one).
+abbrev pub Outweighs : {Context Values : Type 0} → Grammar Context Values → (Context → ℕ → ℕ) → Type 0
+Outweighs {Context} g weight = (c : Context) (i : ℕ) → weigh weight c (g .node i) ≤ weight c i
+
+-- Room in the list of pending entries: entries enough for what a node becomes.
 
 -- members one after the other: each with those after it still pending
 unfoldable pub members-room : (ℕ → ℕ) → List ℕ → ℕ
@@ -48,6 +52,7 @@ room rooms c (use-of enters opens closes b) = elim (enters c) [ none ↦ 0 | som
 room rooms c (field w admits static binds) = 0
 room rooms c eod = 0
 
--- `rooms` gives each construct enough, itself counted
+-- `rooms` gives each construct enough, itself counted. (With no rule that reaches itself, refusal 7, a construct stands in the list at
+-- most once, so the number of constructs is enough.)
 abbrev pub Houses : {Context Values : Type 0} → Grammar Context Values → (Context → ℕ → ℕ) → Type 0
 Houses {Context} g rooms = (c : Context) (i : ℕ) → (1 ≤ rooms c i) × (room rooms c (g .node i) ≤ rooms c i)
