@@ -11,4 +11,9 @@ pub mod Runs
 pub mod Invariants
 pub mod Decisions
 pub mod LocalTheorem
+pub mod ValuesTheorem
 pub mod Theorems
+pub mod Inversion
+pub mod NodeLaws
+pub mod Weights
+pub mod Sheet

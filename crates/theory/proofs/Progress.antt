@@ -18,11 +18,12 @@ use Rattle.basis.specs.Counts.{Counts, Allows}
 use Rattle.basis.specs.Lookahead.{lookahead}
 use Rattle.theory.specs.Grammar.{Node, alternative, concatenation, repetition, switch, use-of, field, eod, Grammar, _∈_}
 use Rattle.theory.specs.Derivation.{Tree, leaf, end, node, nil, member, pass, covered, Capture, captures, Shape, construct, members, passes, Derives}
-use Rattle.theory.specs.Lookahead.{First}
+use Rattle.theory.specs.Lookahead.{First, EmptyBody}
 use Rattle.theory.specs.Machine.{Tests, Entry, entry, State, state, Turn, fail, again, leave, turn, choose, entries, tree-steps, Passes}
 use Rattle.theory.specs.Weight.{sum, largest, weigh, Outweighs}
 use Rattle.theory.specs.Hypotheses.{Static, Hypotheses}
 use Rattle.theory.proofs.FirstTheorem.{covers, first}
+use Rattle.theory.proofs.Weights.{weigh-positive}
 use Rattle.theory.proofs.Turns.{decide, Reached, reached-zero, reached-again, allowed-leave}
 use Rattle.theory.proofs.Steps as Steps
 use Rattle.theory.proofs.Steps.{Stuck, Path, resize, arrive, then, after, after-both, after-none}
@@ -157,7 +158,7 @@ module _ {Context Values : Type 0} (g : Grammar Context Values) (tests : Tests) 
   -- a body that is derived takes a bit
   takes-a-bit : {i b : ℕ} {counts : Context → Values → Counts} {static : Counts} {fixed : Bool} {t : Tree} {c : Context} {v v′ : Values} {s r : Bits}
       → g .node i ≡ repetition counts static fixed b → Derives g (construct b (g .node b)) t c v s v′ r → 1 ≤ length (covered t)
-  takes-a-bit {b = b} {t = t} q d = some-bit (covered t) (λ e. h .no-empty-body q (subst (λ (x : Bits). First g (construct b (g .node b)) (lookahead x)) e (first g (h .static) d refl)))
+  takes-a-bit {i} {b} {t = t} q d = some-bit (covered t) (λ e. h .no-empty-body i (EmptyBody.empty-body q (subst (λ (x : Bits). First g (construct b (g .node b)) (lookahead x)) e (first g (h .static) d refl))))
     where
       some-bit : (x : Bits) → (x ≡ [] → ⊥) → 1 ≤ length x
       some-bit [] n = absurd (n refl)
@@ -228,16 +229,6 @@ module _ {Context Values : Type 0} (g : Grammar Context Values) (tests : Tests) 
     whole {v = v} (Repeats.repeated {k} a d q₁ l) = Outcome.derived (Derives.of-repetition k (subst (Allows (counts c v)) (zero-add k) a) d) q₁ l
     whole (Repeats.stopped x) = Outcome.failed x
 
-  weight-positive : (c : Context) (x : Node Context Values) → 1 ≤ weigh weight c x
-  unfolding weigh
-  weight-positive c (alternative is) = omega arith
-  weight-positive c (concatenation is) = omega arith
-  weight-positive c (repetition counts static fixed b) = omega arith
-  weight-positive c (switch chosen is) = omega arith
-  weight-positive c (use-of enters opens closes b) = elim (given (enters c)) [ inl e ↦ rw (e, weigh) (omega arith) | inr e ↦ rw (e .1, weigh) (omega arith) ]
-  weight-positive c (field w admits static binds) = omega arith
-  weight-positive c eod = omega arith
-
   -- a field's leaf
   leaf-of : {i w : ℕ} {admits : Context → Values → Bits → Bool} {static : Bits → Bool} {binds : Context → Values → Bits → Values} (c : Context)
       → g .node i ≡ field w admits static binds → (others : List (Entry Context)) (s : Bits) (p : ℕ) (v : Values) (cs : List Capture) → Passes others (suc p)
@@ -286,7 +277,7 @@ module _ {Context Values : Type 0} (g : Grammar Context Values) (tests : Tests) 
       ]
   outcome each c i (use-of enters opens closes b) q l others s p v cs k =
       elim (given (enters c)) [
-        | inl e ↦ Outcome.failed (at-once (omega arith, k) (Steps.fails-use g tests q e) (let z = weight-positive c (use-of enters opens closes b) in at-least z (length s)))
+        | inl e ↦ Outcome.failed (at-once (omega arith, k) (Steps.fails-use g tests q e) (let z = weigh-positive weight c (use-of enters opens closes b) in at-least z (length s)))
         | inr e ↦
             let w : weigh weight c (use-of enters opens closes b) ≡ 1 + weight (e .0) b = rw (e .1, weigh) in
             subst (λ (x : ℕ). Outcome (construct i (use-of enters opens closes b)) (entry i c 0 ∷ []) x others c s p v cs) (sym w)
@@ -311,5 +302,5 @@ module _ {Context Values : Type 0} (g : Grammar Context Values) (tests : Tests) 
 
   -- by recursion on a bound of the weight
   pub each : (n : ℕ) → Each n
-  each zero c i l = absurd (let z = weight-positive c (g .node i) in omega (arith, weighs c i))
+  each zero c i l = absurd (let z = weigh-positive weight c (g .node i) in omega (arith, weighs c i))
   each (suc n) c i l = λ others s p v cs k. more-weight (weighs c i) (outcome (each n) c i (g .node i) refl (omega (arith, weighs c i)) others s p v cs k)

@@ -14,7 +14,7 @@ use Rattle.theory.specs.Lookahead.{Follow, Conflict}
 use Rattle.theory.specs.Machine.{Tests, State, state, pending-of, rest-of, position-of, Verdict, undecided, matched, unmatched, Run, run, verdict-of, state-of, taken-of, tree-steps, Passes, opened, granted, taken}
 use Rattle.theory.specs.Weight.{Outweighs, Houses}
 use Rattle.theory.specs.Hypotheses.{Static, Hypotheses}
-use Rattle.theory.specs.Theorems.{FirstTheorem, FollowTheorem, UniqueTheorem, Derivable, AdditiveTheorem, step-bound, Exact, ExactTheorem, Decision, BoundTheorem, Moment, MomentTheorem, RoomTheorem, LocalTheorem}
+use Rattle.theory.specs.Theorems.{FirstTheorem, FollowTheorem, UniqueTheorem, Derivable, AdditiveTheorem, step-bound, Exact, ExactTheorem, Decision, BoundTheorem, Moment, MomentTheorem, RoomTheorem, ValuesTheorem, LocalTheorem, ExactLocal, ExactLocalTheorem}
 use Rattle.theory.proofs.FirstTheorem as FirstProof
 use Rattle.theory.proofs.FollowTheorem as FollowProof
 use Rattle.theory.proofs.FollowTheorem.{After}
@@ -24,8 +24,9 @@ use Rattle.theory.proofs.Progress.{Counted, passes-more}
 use Rattle.theory.proofs.Runs as Runs
 use Rattle.theory.proofs.Runs.{granted-decided, granted-sum}
 use Rattle.theory.proofs.Invariants as Invariants
-use Rattle.theory.specs.Scope.{Scope}
+use Rattle.theory.specs.Scope.{Scope, localised}
 use Rattle.theory.proofs.LocalTheorem as LocalProof
+use Rattle.theory.proofs.ValuesTheorem as ValuesProof
 use Rattle.theory.proofs.Decisions.{derivation-runs, Decided, decided}
 
 module _ {Context Values : Type 0} (g : Grammar Context Values) where
@@ -37,6 +38,12 @@ module _ {Context Values : Type 0} (g : Grammar Context Values) where
 
   pub unique : UniqueTheorem g
   unique h n s t t′ v v′ d d′ = let x = UniqueProof.unique g h n d (Twins.one refl (Follow.of-start refl) (Follow.of-start refl)) d′ in (x .0, x .1)
+
+  pub values : ValuesTheorem g
+  values bind plain s t v d = ValuesProof.replays g bind plain d refl
+
+pub local : {Context Values A : Type 0} (get : Values → ℕ → A) (scope : Scope) (fresh : ℕ → Context → Values → Values) (g : Grammar Context Values) → LocalTheorem get scope fresh g
+local get scope fresh g h lexical = LocalProof.same-trees get scope fresh g h lexical
 
 module _ {Context Values : Type 0} (g : Grammar Context Values) (tests : Tests) where
   pub additive : AdditiveTheorem g tests
@@ -159,5 +166,18 @@ module _ {Context Values : Type 0} (g : Grammar Context Values) (tests : Tests) 
   pub room : (rooms : Context → ℕ → ℕ) → RoomTheorem g tests rooms
   room rooms h houses = Invariants.housed g tests h rooms houses
 
-pub local : {Context Values A : Type 0} (get : Values → ℕ → A) (scope : Scope) (fresh : ℕ → Context → Values → Values) (g : Grammar Context Values) → LocalTheorem get scope fresh g
-local get scope fresh g h lexical = LocalProof.same-trees get scope fresh g h lexical
+  module _ (weight : Context → ℕ → ℕ) {A : Type 0} (get : Values → ℕ → A) (scope : Scope) (fresh : ℕ → Context → Values → Values) where
+    pub exact-local : ExactLocalTheorem g tests weight get scope fresh
+    exact-local h weighs lexical =
+        let same = local get scope fresh g (h .static) lexical in
+        let e = exact weight h weighs in
+        let there : (s : Bits) → Derivable g s → Derivable (localised scope fresh g) s = λ s d. (let x = same s (d .0) .0 (d .1, d .2) in (d .0, x .0, x .1)) in
+        let back : (s : Bits) → Derivable (localised scope fresh g) s → Derivable g s = λ s d. (let x = same s (d .0) .1 (d .1, d .2) in (d .0, x .0, x .1)) in
+        record {
+          match-iff = λ s n l. (λ x. there s (e .match-iff s n l .0 x), λ d. e .match-iff s n l .1 (back s d));
+          mismatch-iff = λ s n l. (λ x d. e .mismatch-iff s n l .0 x (back s d), λ f. e .mismatch-iff s n l .1 (λ d. f (there s d)));
+          match-end = λ s t v d n l. (let x = same s t .1 (v, d) in (x .0, x .1, e .match-end s t (x .0) (x .1) n l));
+          once =
+              λ s t t′ v v′ d d′.
+              let x = same s t .1 (v, d) in let y = same s t′ .1 (v′, d′) in unique g (h .static) (h .no-conflict) s t t′ (x .0) (y .0) (x .1) (y .1) .0;
+        }

@@ -49,6 +49,15 @@ captures nil p = []
 captures (member t u) p = captures t p ++ captures u (p + length (covered t))
 captures (pass t u) p = captures t p ++ captures u (p + length (covered t))
 
+-- The values after a tree, where `bind i v bits` are those after the field i: each field binds in turn ("Values stay as last bound").
+unfoldable pub replayed : {Values : Type 0} → (ℕ → Values → Bits → Values) → Tree → Values → Values
+replayed bind (leaf i bits) v = bind i v bits
+replayed bind (end i) v = v
+replayed bind (node i t) v = replayed bind t v
+replayed bind nil v = v
+replayed bind (member t u) v = replayed bind u (replayed bind t v)
+replayed bind (pass t u) v = replayed bind u (replayed bind t v)
+
 -- What is derived: a construct (with its node), the members of a concatenation, or so many passes of a body.
 pub data Shape (Context Values : Type 0) : Type 0 where
   construct : (i : ℕ) (n : Node Context Values) → Shape Context Values

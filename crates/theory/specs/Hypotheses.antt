@@ -5,14 +5,14 @@ use Prim.Native.Nat.{ℕ, _≤_}
 use mathlib.Core.Path.{_≡_}
 use mathlib.Core.Logic.{_↔_}
 use mathlib.Core.Bool.{Bool, true, false}
-use mathlib.Core.List.{List, []}
+use mathlib.Core.List.{List}
 use mathlib.Core.Option.{Option, some}
 use lib.ListN.{length}
 use Rattle.basis.specs.Bits.{Bits}
 use Rattle.basis.specs.Counts.{Counts, Allows}
 use Rattle.theory.specs.Grammar.{Node, alternative, repetition, switch, use-of, field, Grammar, _∈_}
 use Rattle.theory.specs.Derivation.{Tree, construct, Derives}
-use Rattle.theory.specs.Lookahead.{First, Predicted, Continues, Exits, Conflict}
+use Rattle.theory.specs.Lookahead.{Predicted, Continues, Exits, Conflict, EmptyBody}
 use Rattle.theory.specs.Machine.{Tests}
 
 -- What is static covers what happens: true of every grammar read from a text, by the way its nodes are made.
@@ -32,19 +32,19 @@ pub record Static {Context Values : Type 0} (g : Grammar Context Values) : Type 
 
 pub record Hypotheses {Context Values : Type 0} (g : Grammar Context Values) (tests : Tests) : Type 0 where
   pub static : Static g
-  -- refusal 8: a width is at least 1; a literal has at least one character
+  -- refusal 8: a width is at least 1; refusal 4: a literal has at least one character
   pub width-positive : {i w : ℕ} {admits : Context → Values → Bits → Bool} {static : Bits → Bool} {binds : Context → Values → Bits → Values}
       → g .node i ≡ field w admits static binds → 1 ≤ w
   -- refusal 9: "repeated body has the empty first window"
-  pub no-empty-body : {i b : ℕ} {counts : Context → Values → Counts} {static : Counts} {fixed : Bool}
-      → g .node i ≡ repetition counts static fixed b → First g (construct b (g .node b)) [] → ⊥
+  pub no-empty-body : (i : ℕ) → EmptyBody g i → ⊥
   -- refusal 10: a clash
   pub no-conflict : (i : ℕ) (x : Bits) → Conflict g i x → ⊥
   -- refusal 6, scoping: what a repetition's counts name is bound outside its body ("uses stand in later members" of their own rule), and
-  -- refusal 7: the rules that the body uses do not come back to it
+  -- refusal 7: the rules that the body uses do not come back to it (`keeps-counts` in proofs/LocalTheorem.antt)
   pub body-keeps-counts : {i b : ℕ} {counts : Context → Values → Counts} {static : Counts} {fixed : Bool} {t : Tree} {c : Context} {v v′ : Values} {s r : Bits}
       → g .node i ≡ repetition counts static fixed b → Derives g (construct b (g .node b)) t c v s v′ r → counts c v′ ≡ counts c v
-  -- "Values stay as last bound": nothing is put back where a rule ends. (Theorem `local` says that this changes no derivation.)
+  -- "Values stay as last bound": nothing is put back where a rule ends. (Theorem Local says that this changes no tree, under the rules
+  -- of names.)
   pub values-stay : {i b : ℕ} {enters : Context → Option Context} {opens : Context → Values → Values} {closes : Values → Values → Values}
       → g .node i ≡ use-of enters opens closes b → (v v′ : Values) → closes v v′ ≡ v′
   -- refusal 23: the sets in a sound table are those of the grammar

@@ -6,3 +6,4 @@ pub mod Weight
 pub mod Scope
 pub mod Hypotheses
 pub mod Theorems
+pub mod Sheet

@@ -6,12 +6,14 @@
 use Prim.Native.Nat.{ℕ, suc, _+_, _-_, _*_, _≤_, _<_, min}
 use mathlib.Core.Path.{_≡_}
 use mathlib.Core.Logic.{_↔_, _≢_}
+use mathlib.Core.Bool.{Bool}
 use mathlib.Core.List.{List, [], _∷_, _++_}
+use mathlib.Core.Option.{Option}
 use lib.ListN.{length, drop}
 use Rattle.basis.specs.Bits.{Bits}
 use Rattle.basis.specs.Lookahead.{lookahead}
-use Rattle.theory.specs.Grammar.{Grammar}
-use Rattle.theory.specs.Derivation.{Tree, covered, captures, construct, Derives, Derivation, Leaves}
+use Rattle.theory.specs.Grammar.{Grammar, use-of, field}
+use Rattle.theory.specs.Derivation.{Tree, covered, captures, replayed, construct, Derives, Derivation, Leaves}
 use Rattle.theory.specs.Lookahead.{First, Follow, Conflict}
 use Rattle.theory.specs.Machine.{Tests, State, state, Run, run, undecided, matched, unmatched, verdict-of, state-of, taken-of, pending-of, rest-of, position-of, captures-of, Passes, tree-steps, opened, granted, taken}
 use Rattle.theory.specs.Weight.{Outweighs, Houses}
@@ -32,6 +34,18 @@ module _ {Context Values : Type 0} (g : Grammar Context Values) where
   abbrev pub UniqueTheorem : Type 0
   UniqueTheorem = Static g → ((i : ℕ) (x : Bits) → Conflict g i x → ⊥)
       → (s : Bits) (t t′ : Tree) (v v′ : Values) → Derivation g s t v → Derivation g s t′ v′ → (t ≡ t′) × (v ≡ v′)
+
+  -- Values: where a use passes the values on and a field binds as `bind` says, a derivation ends with the values last bound.
+  pub record Plain (bind : ℕ → Values → Bits → Values) : Type 0 where
+    pub opens-same : {i b : ℕ} {enters : Context → Option Context} {opens : Context → Values → Values} {closes : Values → Values → Values}
+        → g .node i ≡ use-of enters opens closes b → (c : Context) (v : Values) → opens c v ≡ v
+    pub closes-after : {i b : ℕ} {enters : Context → Option Context} {opens : Context → Values → Values} {closes : Values → Values → Values}
+        → g .node i ≡ use-of enters opens closes b → (v v′ : Values) → closes v v′ ≡ v′
+    pub binds-so : {i w : ℕ} {admits : Context → Values → Bits → Bool} {static : Bits → Bool} {binds : Context → Values → Bits → Values}
+        → g .node i ≡ field w admits static binds → (c : Context) (v : Values) (bits : Bits) → binds c v bits ≡ bind i v bits
+
+  abbrev pub ValuesTheorem : Type 0
+  ValuesTheorem = (bind : ℕ → Values → Bits → Values) → Plain bind → (s : Bits) (t : Tree) (v : Values) → Derivation g s t v → v ≡ replayed bind t (g .values)
 
   -- some derivation covers the frame
   abbrev pub Derivable : Bits → Type 0
@@ -65,6 +79,17 @@ module _ {Context Values : Type 0} (g : Grammar Context Values) (tests : Tests) 
 
     abbrev pub ExactTheorem : Type 0
     ExactTheorem = Hypotheses g tests → Outweighs g weight → Exact
+
+    -- Exact, of derivations whose variables are local to each opening of a rule, as document 01 has them: the fields are the derivation's.
+    pub record ExactLocal (localised-g : Grammar Context Values) : Type 0 where
+      pub match-iff : (s : Bits) (n : ℕ) → step-bound s ≤ n → (verdict-of (granted g tests n (opened g tests s)) ≡ matched) ↔ Derivable localised-g s
+      pub mismatch-iff : (s : Bits) (n : ℕ) → step-bound s ≤ n → (verdict-of (granted g tests n (opened g tests s)) ≡ unmatched) ↔ (Derivable localised-g s → ⊥)
+      pub match-end : (s : Bits) (t : Tree) (v : Values) → Derivation localised-g s t v → (n : ℕ) → tree-steps t ≤ n
+          → (v′ : Values) × Derivation g s t v′ × (granted g tests n (opened g tests s) ≡ run (state [] [] (length s) v′ (captures t 0)) (tree-steps t) matched)
+      pub once : (s : Bits) (t t′ : Tree) (v v′ : Values) → Derivation localised-g s t v → Derivation localised-g s t′ v′ → t ≡ t′
+
+    abbrev pub ExactLocalTheorem : {A : Type 0} → (Values → ℕ → A) → Scope → (ℕ → Context → Values → Values) → Type 0
+    ExactLocalTheorem get scope fresh = Hypotheses g tests → Outweighs g weight → Lexical get scope fresh g → ExactLocal (localised scope fresh g)
 
     -- Bound: decided within weight × (bits + 1) steps; the steps taken in all are the smaller of those granted and those needed.
     pub record Decision (s : Bits) : Type 0 where
