@@ -27,9 +27,9 @@ pub at-least-allows : (a : ℤ) (k : ℕ) → Allows (atLeast a) k ↔ (a ≤ℤ
 unfolding atLeast
 at-least-allows a k = least-iff a k
 
-between-allows : (low high k : ℕ) → Allows (between low high) k ↔ ((low ≤ k) × (k ≤ high))
+pub allows-between : (low high k : ℕ) → Allows (between low high) k ↔ ((low ≤ k) × (k ≤ high))
 unfolding between
-between-allows low high k = either (leb low high) refl
+allows-between low high k = either (leb low high) refl
   where
     either : (b : Bool) → leb low high ≡ b → Allows (between low high) k ↔ ((low ≤ k) × (k ≤ high))
     either true e = let l = leb-true low high e in rw (e, between) (λ a. (a .0, omega arith), λ a. (a .0, omega arith))
@@ -39,7 +39,7 @@ between-allows low high k = either (leb low high) refl
 pub span-allows : (a b : ℤ) (k : ℕ) → Allows (span a b) k ↔ ((a ≤ℤ pos k) × (pos k ≤ℤ b))
 unfolding span
 span-allows a (pos b) k =
-    let x = between-allows (least a) b k in
+    let x = allows-between (least a) b k in
     let y = least-iff a k in
     (λ z. (y .0 (x .0 z .0), record { le = le→leb k b (x .0 z .1) }), λ z. x .1 (y .1 (z .0), leb→le k b (z .1 .le)))
 span-allows a (negsuc b) k = (λ z. absurd z, λ z. z .1 .le)

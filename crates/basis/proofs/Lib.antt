@@ -1,3 +1,5 @@
 -- Laws of the definitions in `specs/`.
+pub mod Values
+pub mod Numbers
 pub mod Joins
 pub mod CountLaws

@@ -1,7 +1,7 @@
 -- Bit strings. "Most significant bit first" (document 01): the first bit of a byte or of a uint is its highest.
 -- Assumes nothing.
 use Prim.Native.Nat.{ℕ, zero, suc, _+_, _*_, _/_, _%_, _^_}
-use mathlib.Core.Bool.{Bool, true, false}
+use mathlib.Core.Bool.{Bool, true, false, _&&_, Bool·beq}
 use mathlib.Core.List.{List, [], _∷_, _++_}
 use lib.Dec.{eqb}
 
@@ -32,3 +32,10 @@ unfoldable pub frameBits : List ℕ → Bits
 unfolding bitsOf
 frameBits [] = []
 frameBits (b ∷ bs) = bitsOf 8 b ++ frameBits bs
+
+-- two strings of bits are the same
+unfoldable pub same : Bits → Bits → Bool
+same [] [] = true
+same [] (b ∷ t) = false
+same (a ∷ s) [] = false
+same (a ∷ s) (b ∷ t) = Bool·beq a b && same s t

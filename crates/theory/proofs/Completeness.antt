@@ -16,7 +16,7 @@ use lib.Dec.{leb}
 use Rattle.basis.specs.Bits.{Bits}
 use Rattle.basis.specs.Counts.{Counts, Allows}
 use Rattle.basis.specs.Lookahead.{lookahead}
-use Rattle.basis.proofs.Joins.{length-lookahead}
+use Rattle.basis.proofs.Joins.{lookahead-length}
 use Rattle.theory.specs.Grammar.{Node, alternative, repetition, Grammar, _∈_}
 use Rattle.theory.specs.Derivation.{Tree, covered, Capture, captures, Shape, construct, members, passes, Derives}
 use Rattle.theory.specs.Lookahead.{First, Follow, Predicted, Continues, Conflict}
@@ -64,7 +64,7 @@ module _ {Context Values : Type 0} (g : Grammar Context Values) (tests : Tests) 
       → Derives g (construct b (g .node b)) t c v s v′ r → Follow g i (lookahead r) → choose (λ a. tests .predicts a (lookahead s)) is ≡ some b
   branch-chosen {i} {b} {is} {s = s} q m d f =
       let x = lookahead s in
-      let l = length-lookahead s in
+      let l = lookahead-length s in
       let here : Predicted g b x = derived-predicted g (h .static) d (Follow.of-branch q m f) in
       chooses (λ a. tests .predicts a x) m (h .predicts-exact q m x l .1 here)
       (λ a m′ t.
@@ -79,7 +79,7 @@ module _ {Context Values : Type 0} (g : Grammar Context Values) (tests : Tests) 
       turn-again (counts c v) j k _ _ a (inr (λ a₀. let z = h .static .fixed-once q c v j (j + suc k) a₀ a in omega arith))
   again-turn {k = k} {counts} false {c = c} {v = v} {s = s} j q a d f =
       turn-again (counts c v) j k _ _ a
-      (inl (h .continues-exact q (lookahead s) (length-lookahead s) .1 (Continues.continues k (first g (h .static) d tt) f (next-follows g d))))
+      (inl (h .continues-exact q (lookahead s) (lookahead-length s) .1 (Continues.continues k (first g (h .static) d tt) f (next-follows g d))))
 
   leave-turn : {i b : ℕ} {counts : Context → Values → Counts} {static : Counts} (fixed : Bool) (c : Context) (v : Values) (s : Bits) (j : ℕ)
       → g .node i ≡ repetition counts static fixed b → Allows (counts c v) j → Follow g i (lookahead s)
@@ -88,7 +88,7 @@ module _ {Context Values : Type 0} (g : Grammar Context Values) (tests : Tests) 
       turn-leave (counts c v) j _ _ a (inr (λ a₁. let z = h .static .fixed-once q c v j (suc j) a a₁ in omega arith))
   leave-turn {i} {counts = counts} false c v s j q a f =
       let x = lookahead s in
-      let l = length-lookahead s in
+      let l = lookahead-length s in
       turn-leave (counts c v) j _ _ a
       (inl (
         elim (decide (tests .continues i x))

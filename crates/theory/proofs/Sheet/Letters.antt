@@ -10,7 +10,7 @@ use mathlib.Core.Option.{none, some}
 use lib.ListN.{length}
 use Rattle.basis.specs.Bits.{Bits, bitsOf, frameBits}
 use Rattle.basis.specs.Lookahead.{join}
-use Rattle.basis.proofs.Joins.{join-nil-right}
+use Rattle.basis.proofs.Joins.{join-empty-right}
 use Rattle.theory.specs.Grammar.{alternative, _∈_}
 use Rattle.theory.specs.Derivation.{passes}
 use Rattle.theory.specs.Lookahead.{First, Follow, Predicted, Continues}
@@ -57,7 +57,7 @@ after-short x m =
     elim (List·Memᴰ·cases-cons m) [ inl e ↦ omega (arith, ap length e) | inr k ↦ omega (arith, letters-full x k) ]
 
 before-end : (x y : Bits) → List·Memᴰ x after-letter → List·Memᴰ y at-end → List·Memᴰ (join x y) after-letter
-before-end x y m n = Memᴰ·cast (ap (join x) (List·Memᴰ·eq-of-singleton n) ∙ join-nil-right x (after-short x m)) m
+before-end x y m n = Memᴰ·cast (ap (join x) (List·Memᴰ·eq-of-singleton n) ∙ join-empty-right x (after-short x m)) m
 
 follow-within : (i : ℕ) (x : Bits) → Follow g i x → Claimed claims i x
 unfolding grammar-of lettered claimed
@@ -84,7 +84,7 @@ letter-followed x m =
     elim (List·Memᴰ·cases-cons m) [
       | inl e ↦ Follow.of-body {i = 4} 0 refl First.no-passes end-follows-star e
       | inr k ↦
-          Follow.of-body {i = 4} 1 refl ((passes-first g 5 letters first-letter letters-full 0 x) .1 k) end-follows-star (sym (join-nil-right x (after-short x m)))
+          Follow.of-body {i = 4} 1 refl ((passes-first g 5 letters first-letter letters-full 0 x) .1 k) end-follows-star (sym (join-empty-right x (after-short x m)))
     ]
 
 branch-followed : (b : ℕ) → b ∈ (6 ∷ 7 ∷ []) → (x : Bits) → List·Memᴰ x after-letter → Follow g b x

@@ -1,0 +1,12 @@
+pub mod BitLaws
+pub mod SetLaws
+pub mod LeastLaws
+pub mod FoldLaws
+pub mod PrefixLaws
+pub mod SpreadLaws
+pub mod PieceLaws
+pub mod JoinLaws
+pub mod LanguageLaws
+pub mod WriteLaws
+pub mod FamilyLaws
+pub mod PassLaws

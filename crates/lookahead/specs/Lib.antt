@@ -1,0 +1,4 @@
+pub mod Sets
+pub mod Least
+pub mod Inner
+pub mod Family

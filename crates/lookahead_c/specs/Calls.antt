@@ -1,0 +1,26 @@
+-- What the calls of the tests' library promise, over a lent slice with three sets: two that are given, and a third for the result.
+-- Assumes nothing.
+use Prim.Native.Nat.{ℕ, _≤_, _<_}
+use mathlib.Core.Path.{_≡_}
+use mathlib.Core.Bool.{Bool, true, false}
+use mathlib.Core.Logic.{_↔_}
+use mathlib.Core.List.{List}
+use lib.ListN.{length}
+use Rattle.basis.specs.Bits.{Bits}
+use Rattle.basis.specs.Lookahead.{number}
+use Rattle.lookahead.specs.Sets.{Has}
+use Rattle.lookahead.specs.Family.{part}
+
+-- a way to make a set of strings of two
+abbrev pub Way : Type 1
+Way = (Bits → Type 0) → (Bits → Type 0) → Bits → Type 0
+
+-- the third set is made of the first two; or there is no room, and nothing changes
+abbrev pub Made : Way → List ℕ → List ℕ → Bool → Type 0
+Made way old new true = (24 ≤ length old) × ((s : Bits) → Has (part 2 new) s ↔ way (Has (part 0 old)) (Has (part 1 old)) s)
+Made way old new false = (length old < 24) × (new ≡ old)
+
+-- the number of the least common string of the first two sets, 0 where there is none or no room
+pub record Least (sets : List ℕ) (n : ℕ) : Type 0 where
+  pub found : 16 ≤ length sets → 0 < n → (s : Bits) × (number s ≡ n) × Has (part 0 sets) s × Has (part 1 sets) s
+  pub least : 16 ≤ length sets → (s : Bits) → Has (part 0 sets) s → Has (part 1 sets) s → (0 < n) × (n ≤ number s)

@@ -1,0 +1,59 @@
+use Rattle.prefixes.proofs.Orders.{read₃}
+use Rattle.terms.specs.Numbers.{pick}
+use Rattle.prefixes.specs.declared.Ends.{Ends}
+use Rattle.terms.specs.Words.{terms}
+use Rattle.prefixes.specs.Ends.{topEnds, pairEnds, topRest, pairRest, anyIn, someEnd, isYes, holds, tryAt, tryEnd, itemEnds, numbersAfter}
+use lib.IntN.{ℤ, sucℤ}
+use mathlib.Core.Bool.{Bool, true, false}
+use mathlib.Core.Path.{_≡_, refl, sym, ap, _∙_}
+use borrow.Author.Needs.{needs}
+use Rattle.prefixes.proofs.try_ends.Statement.{statement}
+use Rattle.prefixes.proofs.try_ends.Tie as tie
+
+enum-told : tie.Need-enum-told
+enum-told c = search needs
+
+enum-known-ends : tie.Need-enum-known-ends
+enum-known-ends c = search needs
+
+try-end-requires : tie.Need-try-end-requires
+try-end-requires c κs = search needs
+
+enum-known-ends-2 : tie.Need-enum-known-ends-2
+enum-known-ends-2 c = search needs
+
+try-end-requires-2 : tie.Need-try-end-requires-2
+try-end-requires-2 c κs = search needs
+
+returns : tie.Need-returns
+returns c =
+    sym (ap (λ (u : Bool). pick u true ((tryEnd (holds (c .before .before .before .before .before .before .args .values .now) (c .before .before .before .before .before .before .args .start) (terms (c .before .before .before .before .before .before .args .words .now) (c .before .before .before .before .before .before .args .start) (c .before .before .before .before .before .before .args .end))) (c .before .before .before .before .before .before .args .lo) (c .before .before .before .before .before .before .args .hi)) (c .before .before .before .ends2 .given .0 .1 .0))) (sym (read₃ (tryEnd (holds (c .before .before .before .before .before .before .args .values .now) (c .before .before .before .before .before .before .args .start) (terms (c .before .before .before .before .before .before .args .words .now) (c .before .before .before .before .before .before .args .start) (c .before .before .before .before .before .before .args .end)))) (c .before .before .before .before .before .before .args .lo) (c .before .before .before .before .before .before .args .hi) (c .before .before .before .ends2 .given .0 .0) (c .before .before .before .before .before .before .fits .lo .sfits) (c .before .before .before .before .before .before .fits .hi .sfits) (c .before .before .known-told2 .given .0 .1) (c .before .try-end2 .ensures)) ∙ c .if1 .taken)) ∙ ap (anyIn (tryEnd (holds (c .before .before .before .before .before .before .args .values .now) (c .before .before .before .before .before .before .args .start) (terms (c .before .before .before .before .before .before .args .words .now) (c .before .before .before .before .before .before .args .start) (c .before .before .before .before .before .before .args .end))) (c .before .before .before .before .before .before .args .lo) (c .before .before .before .before .before .before .args .hi))) (sym (c .before .before .before .ends2 .given .1))
+
+try-end-requires-3 : tie.Need-try-end-requires-3
+try-end-requires-3 c κs = search needs
+
+returns-2 : tie.Need-returns-2
+returns-2 c = search needs
+
+returns-3 : tie.Need-returns-3
+returns-3 c =
+    read₃ (tryEnd (holds (c .before .before .before .before .before .args .values .now) (c .before .before .before .before .before .args .start) (terms (c .before .before .before .before .before .args .words .now) (c .before .before .before .before .before .args .start) (c .before .before .before .before .before .args .end)))) (c .before .before .before .before .before .args .lo) (c .before .before .before .before .before .args .hi) (c .before .before .ends .given .0 .0) (c .before .before .before .before .before .fits .lo .sfits) (c .before .before .before .before .before .fits .hi .sfits) (c .before .known-told .given .0 .1) (c .try-end .ensures) ∙ ap (anyIn (tryEnd (holds (c .before .before .before .before .before .args .values .now) (c .before .before .before .before .before .args .start) (terms (c .before .before .before .before .before .args .words .now) (c .before .before .before .before .before .args .start) (c .before .before .before .before .before .args .end))) (c .before .before .before .before .before .args .lo) (c .before .before .before .before .before .args .hi))) (sym (c .before .before .ends .given .1))
+
+returns-4 : tie.Need-returns-4
+returns-4 c =
+    read₃ (tryEnd (holds (c .before .before .before .before .before .before .before .args .values .now) (c .before .before .before .before .before .before .before .args .start) (terms (c .before .before .before .before .before .before .before .args .words .now) (c .before .before .before .before .before .before .before .args .start) (c .before .before .before .before .before .before .before .args .end)))) (c .before .before .before .before .before .before .before .args .lo) (c .before .before .before .before .before .before .before .args .hi) (c .before .before .before .before .ends2 .given .0 .1 .0) (c .before .before .before .before .before .before .before .fits .lo .sfits) (c .before .before .before .before .before .before .before .fits .hi .sfits) (c .before .before .before .known-told2 .given .1 .0 .1) (c .try-end3 .ensures) ∙ sym (ap (λ (u : Bool). pick u true ((tryEnd (holds (c .before .before .before .before .before .before .before .args .values .now) (c .before .before .before .before .before .before .before .args .start) (terms (c .before .before .before .before .before .before .before .args .words .now) (c .before .before .before .before .before .before .before .args .start) (c .before .before .before .before .before .before .before .args .end))) (c .before .before .before .before .before .before .before .args .lo) (c .before .before .before .before .before .before .before .args .hi)) (c .before .before .before .before .ends2 .given .0 .1 .0))) (sym (read₃ (tryEnd (holds (c .before .before .before .before .before .before .before .args .values .now) (c .before .before .before .before .before .before .before .args .start) (terms (c .before .before .before .before .before .before .before .args .words .now) (c .before .before .before .before .before .before .before .args .start) (c .before .before .before .before .before .before .before .args .end)))) (c .before .before .before .before .before .before .before .args .lo) (c .before .before .before .before .before .before .before .args .hi) (c .before .before .before .before .ends2 .given .0 .0) (c .before .before .before .before .before .before .before .fits .lo .sfits) (c .before .before .before .before .before .before .before .fits .hi .sfits) (c .before .before .before .known-told2 .given .0 .1) (c .before .before .try-end2 .ensures)) ∙ c .before .if1 .left)) ∙ ap (anyIn (tryEnd (holds (c .before .before .before .before .before .before .before .args .values .now) (c .before .before .before .before .before .before .before .args .start) (terms (c .before .before .before .before .before .before .before .args .words .now) (c .before .before .before .before .before .before .before .args .start) (c .before .before .before .before .before .before .before .args .end))) (c .before .before .before .before .before .before .before .args .lo) (c .before .before .before .before .before .before .before .args .hi))) (sym (c .before .before .before .before .ends2 .given .1))
+
+pub try-ends-spec : {M : Type 1} → statement M
+try-ends-spec =
+    tie.close
+    (tie.spec
+    enum-told
+    enum-known-ends
+    try-end-requires
+    enum-known-ends-2
+    try-end-requires-2
+    returns
+    try-end-requires-3
+    returns-2
+    returns-3
+    returns-4)

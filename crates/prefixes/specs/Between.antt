@@ -1,0 +1,17 @@
+-- Values of a set between two numbers.
+-- Assumes nothing.
+use mathlib.Core.Path.{_≡_}
+use mathlib.Core.Bool.{Bool, true}
+use lib.IntN.{ℤ}
+use lib.Signed.{leZ}
+
+-- v is between lo and hi, and in the set that f tests
+pub record Lies (f : ℤ → Bool) (lo hi v : ℤ) : Type 0 where
+  pub least : leZ lo v ≡ true
+  pub most : leZ v hi ≡ true
+  pub member : f v ≡ true
+
+-- r says whether some value of the set lies between lo and hi
+pub record Decides (f : ℤ → Bool) (lo hi : ℤ) (r : Bool) : Type 0 where
+  pub found : r ≡ true → (v : ℤ) × Lies f lo hi v
+  pub all : (v : ℤ) → Lies f lo hi v → r ≡ true

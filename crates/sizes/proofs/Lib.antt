@@ -1,0 +1,4 @@
+pub mod Bounds
+pub mod Depths
+pub mod Passing
+pub mod Theorems

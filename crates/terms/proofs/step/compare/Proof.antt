@@ -1,0 +1,45 @@
+use Rattle.wholes.proofs.Laws.{read₂}
+use Rattle.terms.specs.declared.Pair.{Pair}
+use Rattle.terms.specs.Tests.{noted}
+use Rattle.terms.specs.Steps.{binary, unary, equalTo, within, from, upTo, compares, compared, variableOf}
+use Rattle.terms.specs.Numbers.{pick, bounded, equals, differenceOf, oppositeOf, kept}
+use lib.Signed.{leZ}
+use lib.IntN.{ℤ, pos, negℤ, _+ℤ_, _-ℤ_, _*ℤ_}
+use mathlib.Core.Path.{_≡_, refl, sym, ap, _∙_}
+use borrow.Author.Needs.{needs}
+use Rattle.terms.proofs.step.compare.Statement.{statement}
+use Rattle.terms.proofs.step.compare.Tie as tie
+
+pair-requires : tie.Need-pair-requires
+pair-requires c κs = search needs
+
+enum-known-rest : tie.Need-enum-known-rest
+enum-known-rest c = search needs
+
+holds-requires : tie.Need-holds-requires
+holds-requires c κs = search needs
+
+note-requires : tie.Need-note-requires
+note-requires c κs = search needs
+
+enum-told : tie.Need-enum-told
+enum-told c = search needs
+
+returns : tie.Need-returns
+returns c =
+    c .note .ensures ∙ ap (noted (c .before .before .before .rest .given .0 .0) (c .before .before .before .before .before .before .args .truths)) (read₂ (compares (c .before .before .before .before .before .before .args .comparison)) (c .before .before .before .rest .given .0 .1 .0) (c .before .before .before .rest .given .0 .1 .1 .0) (c .before .before .known-told .given .1 .0 .1) (c .before .before .known-told .given .1 .1 .0 .1) (c .before .holds .ensures)) ∙ ap (λ (p : Pair). compared (c .before .before .before .before .before .before .args .comparison) p (c .before .before .before .before .before .before .args .truths)) (sym (c .before .before .before .rest .given .1) ∙ c .before .before .before .before .before .pair .ensures)
+
+returns-2 : tie.Need-returns-2
+returns-2 c = search needs
+
+pub compare-spec : {M : Type 1} → statement M
+compare-spec =
+    tie.close
+    (tie.spec
+    pair-requires
+    enum-known-rest
+    holds-requires
+    note-requires
+    enum-told
+    returns
+    returns-2)

@@ -1,0 +1,386 @@
+// Runs the cases of sets, counts, conditions and sizes that document 01 singles out.
+use libc::STDOUT_FILENO;
+use sizes::Sized;
+use terms::Calculated;
+use terms::Counted;
+use terms::Kind;
+use terms::Tested;
+
+fn text(bytes: &[u8]) {
+    io::write_all(STDOUT_FILENO, bytes);
+}
+
+fn natural(n: u64) {
+    io::print_decimal(STDOUT_FILENO, n);
+}
+
+fn whole(z: i64) {
+    if wholes::negative(z) {
+        text(b"-");
+    }
+    natural(wholes::magnitude(z));
+}
+
+fn calculated(name: &[u8], answer: Calculated) {
+    text(name);
+    match answer {
+        Calculated::Number(z) => whole(z),
+        Calculated::Malformed => text(b"malformed"),
+        Calculated::Overflow => text(b"overflow"),
+    }
+    text(b"\n");
+}
+
+fn counted(name: &[u8], answer: Counted) {
+    text(name);
+    match answer {
+        Counted::None => text(b"none"),
+        Counted::From { low } => {
+            natural(low);
+            text(b" and more");
+        }
+        Counted::Within { low, more } => {
+            natural(low);
+            text(b" and up to ");
+            natural(more);
+            text(b" more");
+        }
+        Counted::Malformed => text(b"malformed"),
+        Counted::Overflow => text(b"overflow"),
+    }
+    text(b"\n");
+}
+
+fn tested(answer: Tested) {
+    match answer {
+        Tested::No => text(b"-"),
+        Tested::Yes => text(b"x"),
+        Tested::Malformed => text(b"malformed"),
+        Tested::Overflow => text(b"overflow"),
+    }
+}
+
+fn sized(name: &[u8], answer: Sized) {
+    text(name);
+    match answer {
+        Sized::Passes => text(b"passes"),
+        Sized::Malformed => text(b"malformed"),
+        Sized::Exceeds(at) => {
+            text(b"exceeds at term ");
+            natural(at as u64);
+        }
+    }
+    text(b"\n");
+}
+
+// The values 0 to 11 of a set.
+fn members(name: &[u8], words: &[u32], end: usize) {
+    text(name);
+    let none = [0i64; 1];
+    let mut value: u64 = 0;
+    while value < 12 {
+        tested(terms::evaluate::contains(words, 0, end, &none, wholes::signed(value)));
+        value += 1;
+    }
+    text(b"\n");
+}
+
+struct Windows {
+    count: u64,
+    least: u64,
+    greatest: u64,
+}
+
+// How many first windows a set has at a width, and the least and the greatest of them.
+fn first_windows(words: &[u32], end: usize, width: u32) -> Windows {
+    let mut count: u64 = 0;
+    let mut least: u64 = 0;
+    let mut greatest: u64 = 0;
+    let mut number: u64 = 1;
+    while number < 512 {
+        if prefixes::leads_with(words, 0, end, width, number) {
+            if least == 0 {
+                least = number;
+            }
+            greatest = number;
+            count += 1;
+        }
+        number += 1;
+    }
+    Windows {
+        count,
+        least,
+        greatest,
+    }
+}
+
+fn show_windows(name: &[u8], words: &[u32], end: usize, width: u32) {
+    text(name);
+    let found = first_windows(words, end, width);
+    natural(found.count);
+    text(b": ");
+    natural(found.least);
+    text(b" ");
+    natural(found.greatest);
+    text(b"\n");
+}
+
+fn calculations() {
+    let none = [0i64; 1];
+    // 2 - 5 * 3
+    let mixed = [1, 2, 0, 1, 5, 0, 1, 3, 0, 5, 0, 0, 4, 0, 0];
+    calculated(
+        b"2 - 5 * 3 = ",
+        terms::evaluate::calculate(&mixed, 0, 5, &none),
+    );
+    // 1 - -1
+    let double = [1, 1, 0, 1, 1, 0, 6, 0, 0, 4, 0, 0];
+    calculated(
+        b"1 - -1 = ",
+        terms::evaluate::calculate(&double, 0, 4, &none),
+    );
+    // 2^31 * 2^31, and once more by 2
+    let large = [
+        1,
+        2147483648,
+        0,
+        1,
+        2147483648,
+        0,
+        5,
+        0,
+        0,
+        1,
+        2,
+        0,
+        5,
+        0,
+        0,
+    ];
+    calculated(
+        b"2^31 * 2^31 = ",
+        terms::evaluate::calculate(&large, 0, 3, &none),
+    );
+    calculated(
+        b"2^31 * 2^31 * 2 = ",
+        terms::evaluate::calculate(&large, 0, 5, &none),
+    );
+    // a sign without its numbers, and a variable that is not there
+    calculated(b"+ = ", terms::evaluate::calculate(&mixed, 3, 4, &none));
+    let missing = [2, 7, 0];
+    calculated(
+        b"missing = ",
+        terms::evaluate::calculate(&missing, 0, 1, &none),
+    );
+    let far = [4611686018427387905i64; 1];
+    let first = [2, 0, 0];
+    calculated(b"forged = ", terms::evaluate::calculate(&first, 0, 1, &far));
+}
+
+fn counts() {
+    // length - 8
+    let length = [2, 0, 0, 1, 8, 0, 4, 0, 0];
+    let five = [5i64; 1];
+    counted(
+        b"{length - 8} at 5: ",
+        terms::counts::count(&length, 0, 3, &five),
+    );
+    let twelve = [12i64; 1];
+    counted(
+        b"{length - 8} at 12: ",
+        terms::counts::count(&length, 0, 3, &twelve),
+    );
+    // n - 1
+    let less = [2, 0, 0, 1, 1, 0, 4, 0, 0];
+    let zero = [0i64; 1];
+    counted(b"{n - 1} at 0: ", terms::counts::count(&less, 0, 3, &zero));
+    let one = [1i64; 1];
+    counted(b"{n - 1} at 1: ", terms::counts::count(&less, 0, 3, &one));
+    let around = [1, 1, 0, 6, 0, 0, 1, 1, 0, 8, 0, 0];
+    counted(b"{-1~1}: ", terms::counts::count(&around, 0, 4, &zero));
+    counted(b"{-1}: ", terms::counts::count(&around, 0, 2, &zero));
+    let below = [1, 1, 0, 6, 0, 0, 10, 0, 0];
+    counted(b"{~-1}: ", terms::counts::count(&below, 0, 3, &zero));
+    let turned = [1, 5, 0, 1, 3, 0, 8, 0, 0];
+    counted(b"{5~3}: ", terms::counts::count(&turned, 0, 3, &zero));
+    let open = [1, 2, 0, 9, 0, 0];
+    counted(b"{2~}: ", terms::counts::count(&open, 0, 2, &zero));
+    counted(b"{}: ", terms::counts::count(&open, 0, 0, &zero));
+}
+
+fn sets() {
+    let range = [1, 1, 0, 1, 8, 0, 8, 0, 0];
+    members(b"1~8            ", &range, 3);
+    let all = [7, 0, 0];
+    members(b"~              ", &all, 1);
+    let without = [1, 1, 0, 1, 10, 0, 8, 0, 0, 33, 5, 0, 12, 0, 0];
+    members(b"1~10 ! 5       ", &without, 5);
+    let mixed = [
+        33,
+        1,
+        0,
+        1,
+        3,
+        0,
+        1,
+        4,
+        0,
+        8,
+        0,
+        0,
+        33,
+        3,
+        0,
+        12,
+        0,
+        0,
+        11,
+        0,
+        0,
+    ];
+    members(b"1 | 3~4 ! (3)  ", &mixed, 7);
+    show_windows(b"1~8 of 8: ", &range, 3, 8);
+    show_windows(b"1~8 of 4: ", &range, 3, 4);
+    show_windows(b"1~8 of 9: ", &range, 3, 9);
+    show_windows(b"1~8 of 32: ", &range, 3, 32);
+    show_windows(b"~ of 1: ", &all, 1, 1);
+    show_windows(b"~ of 4: ", &all, 1, 4);
+    show_windows(b"~ of 8: ", &all, 1, 8);
+    show_windows(b"~ of 9: ", &all, 1, 9);
+    show_windows(b"~ of 16: ", &all, 1, 16);
+    show_windows(b"~ of 32: ", &all, 1, 32);
+    show_windows(b"1~10 ! 5 of 8: ", &without, 5, 8);
+    show_windows(b"1 | 3~4 ! (3) of 4: ", &mixed, 7, 4);
+    let beyond = [33, 300, 0];
+    show_windows(b"300 of 8: ", &beyond, 1, 8);
+    show_windows(b"300 of 9: ", &beyond, 1, 9);
+    let odd = [1, 1000, 0, 1, 1023, 0, 8, 0, 0];
+    show_windows(b"1000~1023 of 16: ", &odd, 3, 16);
+    let variable = [34, 0, 0];
+    show_windows(b"n of 4: ", &variable, 1, 4);
+}
+
+fn condition(name: &[u8], words: &[u32], end: usize) {
+    text(name);
+    let mut value: u64 = 0;
+    while value < 6 {
+        let at = wholes::signed(value);
+        let values = [at; 1];
+        tested(terms::evaluate::satisfied(words, 0, end, &values));
+        value += 1;
+    }
+    text(b"\n");
+}
+
+fn conditions() {
+    let equal = [2, 0, 0, 1, 1, 0, 14, 0, 0];
+    condition(b"t = 1          ", &equal, 3);
+    let other = [2, 0, 0, 1, 1, 0, 15, 0, 0];
+    condition(b"t != 1         ", &other, 3);
+    // t > 1 & t <= 4
+    let both = [
+        2,
+        0,
+        0,
+        1,
+        1,
+        0,
+        18,
+        0,
+        0,
+        2,
+        0,
+        0,
+        1,
+        4,
+        0,
+        17,
+        0,
+        0,
+        13,
+        0,
+        0,
+    ];
+    condition(b"t > 1 & t <= 4 ", &both, 7);
+    let either = [
+        2,
+        0,
+        0,
+        1,
+        1,
+        0,
+        16,
+        0,
+        0,
+        2,
+        0,
+        0,
+        1,
+        4,
+        0,
+        19,
+        0,
+        0,
+        11,
+        0,
+        0,
+    ];
+    condition(b"t < 1 | t >= 4 ", &either, 7);
+}
+
+fn size_rule() {
+    let widest = [4294967295i64; 2];
+    // x * z, of which the size passes 2^62, then by 0
+    let part = [2, 0, 0, 2, 1, 0, 5, 0, 0, 1, 0, 0, 5, 0, 0];
+    sized(
+        b"x * z * 0: ",
+        sizes::measure(Kind::Calculation, &part, 0, 5, &widest),
+    );
+    let whole = [1, 0, 0, 2, 0, 0, 5, 0, 0, 2, 1, 0, 5, 0, 0];
+    sized(
+        b"0 * x * z: ",
+        sizes::measure(Kind::Calculation, &whole, 0, 5, &widest),
+    );
+    let exact = [1, 2147483648, 0, 1, 2147483648, 0, 5, 0, 0];
+    sized(
+        b"2^31 * 2^31: ",
+        sizes::measure(Kind::Calculation, &exact, 0, 3, &widest),
+    );
+    let less = [
+        1,
+        2147483648,
+        0,
+        1,
+        2147483648,
+        0,
+        5,
+        0,
+        0,
+        1,
+        1,
+        0,
+        4,
+        0,
+        0,
+    ];
+    sized(
+        b"2^31 * 2^31 - 1: ",
+        sizes::measure(Kind::Calculation, &less, 0, 5, &widest),
+    );
+    sized(
+        b"{x * z * 0}: ",
+        sizes::measure_counts(&part, 0, 5, &widest),
+    );
+    sized(
+        b"a sign alone: ",
+        sizes::measure(Kind::Set, &part, 2, 3, &widest),
+    );
+}
+
+fn main() {
+    calculations();
+    counts();
+    sets();
+    conditions();
+    size_rule();
+}

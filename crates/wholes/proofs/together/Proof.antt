@@ -1,0 +1,16 @@
+use Prim.Native.Nat.{_+_, _*_, _^_, _≤_, _<_, _/_}
+use mathlib.Core.Path.{_≡_, refl, sym, ap, _∙_}
+use native.Mathlib.Omega.{arith}
+use Rattle.wholes.proofs.Laws.{leb-shift}
+use borrow.Author.Tests.{leb-true, leb-false, lt-leb}
+use Rattle.wholes.proofs.together.Statement.{statement}
+use Rattle.wholes.proofs.together.Tie as tie
+
+returns : tie.Need-returns
+returns c = sym (lt-leb (c .before .args .m + c .before .args .n) (2 ^ 62) (omega arith))
+
+returns-2 : tie.Need-returns-2
+returns-2 c = leb-shift (c .before .args .m) (c .before .args .n) (2 ^ 62) (c .if1 .left)
+
+pub together-spec : {M : Type 1} → statement M
+together-spec = tie.close (tie.spec returns returns-2)

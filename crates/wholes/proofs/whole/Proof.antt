@@ -1,0 +1,20 @@
+use Rattle.wholes.proofs.Laws.{back, bounded-in, bounded-out}
+use Prim.Native.Nat.{_+_, _*_, _^_, _≤_, _<_, _/_}
+use Rattle.wholes.specs.Wholes.{bounded, equals, sameSign}
+use lib.IntN.{ℤ, pos, natAbs, negℤ, sucℤ, _+ℤ_, _-ℤ_, _*ℤ_, +ℤ-one}
+use mathlib.Core.Path.{_≡_, refl, sym, ap, _∙_}
+use borrow.Author.Needs.{needs}
+use Rattle.wholes.proofs.whole.Statement.{statement}
+use Rattle.wholes.proofs.whole.Tie as tie
+
+signed-requires : tie.Need-signed-requires
+signed-requires c κs = search needs
+
+returns : tie.Need-returns
+returns c = rw (back (c .signed .result) (c .signed .ok), c .signed .ensures) (sym (bounded-in (pos (c .before .before .args .n)) (c .before .if1 .taken)))
+
+returns-2 : tie.Need-returns-2
+returns-2 c = sym (bounded-out (pos (c .before .args .n)) (c .if1 .left))
+
+pub whole-spec : {M : Type 1} → statement M
+whole-spec = tie.close (tie.spec signed-requires returns returns-2)

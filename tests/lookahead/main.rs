@@ -1,0 +1,158 @@
+// Compares the lookahead sets' join, union and least common string with ones that go pair by pair and string by string, and reports
+// how long the two joins take on two full sets. The time is printed and never fails the test.
+use std::collections::BTreeSet;
+use std::hint::black_box;
+use std::time::Instant;
+
+extern "C" {
+    fn lookahead_c_join(sets: *mut u64, len: usize) -> bool;
+    fn lookahead_c_union(sets: *mut u64, len: usize) -> bool;
+    fn lookahead_c_least(sets: *const u64, len: usize) -> usize;
+}
+
+type Words = [u64; 8];
+
+const EMPTY: Words = [0; 8];
+const FULL: Words = [!1, !0, !0, !0, !0, !0, !0, !0];
+
+fn call(f: unsafe extern "C" fn(*mut u64, usize) -> bool, a: &Words, b: &Words) -> Words {
+    let mut sets = [0; 24];
+    sets[..8].copy_from_slice(a);
+    sets[8..16].copy_from_slice(b);
+    assert!(unsafe { f(sets.as_mut_ptr(), sets.len()) });
+    assert_eq!((&sets[..8], &sets[8..16]), (&a[..], &b[..]), "the given sets changed");
+    sets[16..].try_into().unwrap()
+}
+
+fn least(a: &Words, b: &Words) -> usize {
+    let mut sets = [0; 16];
+    sets[..8].copy_from_slice(a);
+    sets[8..].copy_from_slice(b);
+    unsafe { lookahead_c_least(sets.as_ptr(), sets.len()) }
+}
+
+fn has(set: &Words, number: usize) -> bool {
+    set[number / 64] >> (number % 64) & 1 == 1
+}
+
+fn words(numbers: impl IntoIterator<Item = usize>) -> Words {
+    let mut set = EMPTY;
+    for n in numbers {
+        set[n / 64] |= 1 << (n % 64);
+    }
+    set
+}
+
+// A string as its bits, and its number as document 01 has it: a 1 followed by the bits.
+fn string(number: usize) -> String {
+    format!("{number:b}")[1..].to_string()
+}
+
+fn number(string: &str) -> usize {
+    usize::from_str_radix(&format!("1{string}"), 2).unwrap()
+}
+
+fn strings(set: &Words) -> BTreeSet<String> {
+    (1..512).filter(|n| has(set, *n)).map(string).collect()
+}
+
+// The join by its definition, over strings.
+fn join_by_strings(a: &Words, b: &Words) -> Words {
+    let (a, b) = (strings(a), strings(b));
+    let pairs = a.iter().flat_map(|x| b.iter().map(move |y| format!("{x}{y}")));
+    words(pairs.map(|s| number(&s[..s.len().min(8)])))
+}
+
+// The join pair by pair, over numbers: what the benchmark compares with.
+fn join_by_pairs(a: &Words, b: &Words) -> Words {
+    let mut out = EMPTY;
+    for n in (1..512).filter(|n| has(a, *n)) {
+        for m in (1..512).filter(|m| has(b, *m)) {
+            let (i, j) = (n.ilog2(), m.ilog2());
+            let whole = (n << j) + (m - (1 << j));
+            let cut = if i + j > 8 { whole >> (i + j - 8) } else { whole };
+            out[cut / 64] |= 1 << (cut % 64);
+        }
+    }
+    out
+}
+
+fn compare(a: &Words, b: &Words) {
+    let joined = join_by_pairs(a, b);
+    assert_eq!(call(lookahead_c_join, a, b), joined, "join of {a:x?} and {b:x?}");
+    let union = words((1..512).filter(|n| has(a, *n) || has(b, *n)));
+    assert_eq!(call(lookahead_c_union, a, b), union, "union of {a:x?} and {b:x?}");
+    let common = (1..512).find(|n| has(a, *n) && has(b, *n)).unwrap_or(0);
+    assert_eq!(least(a, b), common, "least common string of {a:x?} and {b:x?}");
+}
+
+// Numbers that look random, the same in each run (xorshift).
+struct Random(u64);
+
+impl Random {
+    fn next(&mut self) -> u64 {
+        self.0 ^= self.0 << 13;
+        self.0 ^= self.0 >> 7;
+        self.0 ^= self.0 << 17;
+        self.0
+    }
+
+    // About one bit in 2^thin set, in some of the words; the unused bit may be set too.
+    fn set(&mut self, thin: u32) -> Words {
+        let mut set = EMPTY;
+        let some = self.next();
+        for (i, word) in set.iter_mut().enumerate() {
+            if some >> i & 1 == 1 {
+                *word = (0..thin).fold(!0, |w, _| w & self.next());
+            }
+        }
+        set
+    }
+}
+
+fn nanoseconds(turns: u32, mut f: impl FnMut() -> Words) -> f64 {
+    let start = Instant::now();
+    for _ in 0..turns {
+        black_box(f());
+    }
+    start.elapsed().as_nanos() as f64 / f64::from(turns)
+}
+
+fn main() {
+    let mut pairs = 0;
+    let special = [EMPTY, FULL, words([1]), words([2]), words([18]), words([321]), words([511]), words(256..512), words([1, 321]), [1, 0, 0, 0, 0, 0, 0, 0], [!0; 8]];
+    for a in &special {
+        for b in &special {
+            compare(a, b);
+            assert_eq!(call(lookahead_c_join, a, b), join_by_strings(a, b));
+            pairs += 1;
+        }
+    }
+    for n in 1..512 {
+        for m in 1..512 {
+            let (a, b) = (words([n]), words([m]));
+            assert_eq!(call(lookahead_c_join, &a, &b), join_by_pairs(&a, &b), "join of {n} and {m}");
+            pairs += 1;
+        }
+        compare(&words([n]), &FULL);
+        compare(&FULL, &words([n]));
+        pairs += 2;
+    }
+    let mut random = Random(0x9e37_79b9_7f4a_7c15);
+    for turn in 0..4000 {
+        let (a, b) = (random.set(turn % 7), random.set(turn / 7 % 7));
+        compare(&a, &b);
+        if turn % 50 == 0 {
+            assert_eq!(join_by_pairs(&a, &b), join_by_strings(&a, &b));
+        }
+        pairs += 1;
+    }
+    let mut short = [0u64; 23];
+    assert!(!unsafe { lookahead_c_join(short.as_mut_ptr(), short.len()) }, "a slice without room for three sets");
+    println!("{pairs} pairs of sets: joins, unions and least common strings are the same");
+    for (name, a, b) in [("full sets", FULL, FULL), ("sets of all bytes", words(256..512), words(256..512)), ("sets of one byte", words([321]), words([322]))] {
+        let by_words = nanoseconds(20_000, || call(lookahead_c_join, black_box(&a), black_box(&b)));
+        let by_pairs = nanoseconds(100, || join_by_pairs(black_box(&a), black_box(&b)));
+        println!("two {name}: {by_words:.0} ns by words, {by_pairs:.0} ns pair by pair, ratio {:.5}", by_words / by_pairs);
+    }
+}
