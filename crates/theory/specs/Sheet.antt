@@ -2,13 +2,13 @@
 -- They show that the hypotheses can be met, and that the machine gives the sheet's answers.
 -- Assumes nothing.
 use Prim.Native.Nat.{ℕ, zero, suc, _+_, _*_}
-use mathlib.Core.Bool.{Bool, true, false, _&&_, Bool·beq}
+use mathlib.Core.Bool.{Bool, true, false, _&&_}
 use mathlib.Core.List.{List, [], _∷_}
 use mathlib.Core.Option.{Option, none, some}
 use lib.Dec.{leb, eqb}
 use lib.IntN.{ℤ, pos, _-ℤ_}
 use lib.ListN.{length, getD}
-use Rattle.basis.specs.Bits.{Bits, bitsOf, value, frameBits}
+use Rattle.basis.specs.Bits.{Bits, bitsOf, value, frameBits, same}
 use Rattle.basis.specs.Counts.{from, within, exactly}
 use Rattle.theory.specs.Grammar.{Node, alternative, concatenation, repetition, switch, use-of, field, Grammar}
 use Rattle.theory.specs.Derivation.{Capture}
@@ -45,13 +45,6 @@ unfoldable pub numbered : {A : Type 0} → A → A → List A → ℕ → A
 numbered opening neither listed i = elim (eqb i opening-number) [ true ↦ opening | false ↦ getD listed i neither ]
 
 -- Nodes.
-
--- two strings of bits are the same
-unfoldable pub same : Bits → Bits → Bool
-same [] [] = true
-same [] (b ∷ t) = false
-same (a ∷ s) [] = false
-same (a ∷ s) (b ∷ t) = Bool·beq a b && same s t
 
 -- "a literal …; 8 bits a character"
 abbrev pub literal : List ℕ → SheetNode

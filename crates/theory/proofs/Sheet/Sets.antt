@@ -14,7 +14,8 @@ use Rattle.basis.specs.Lookahead.{lookahead, join}
 use Rattle.theory.specs.Grammar.{alternative, Grammar, _∈_}
 use Rattle.theory.specs.Derivation.{construct, passes}
 use Rattle.theory.specs.Lookahead.{First, Follow, Predicted, Continues}
-use Rattle.theory.specs.Sheet.{SheetNode, SheetGrammar, same, literal, uint, only, one-of}
+use Rattle.theory.specs.Sheet.{SheetNode, SheetGrammar, literal, uint, only, one-of}
+use Rattle.basis.specs.Bits.{same}
 use Rattle.theory.proofs.Turns.{decide}
 use Rattle.theory.proofs.Completeness.{not-both}
 use Rattle.theory.proofs.Inversion.{First-of, FirstBy, first-by}
