@@ -3,3 +3,4 @@ pub mod Values
 pub mod Numbers
 pub mod Joins
 pub mod CountLaws
+pub mod Frames

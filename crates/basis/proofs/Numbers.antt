@@ -14,6 +14,7 @@ use lib.Dec.{eqb}
 use lib.Pow.{pow-mono, pow-pos, mod-pow-add, shr-shr, high, low}
 use Rattle.basis.specs.Bits.{Bits, digit, bitsOf, append-digits, value}
 use Rattle.basis.specs.Lookahead.{lookahead, number}
+use Rattle.basis.proofs.Values.{length-bitsOf, append-bitsOf, append-value, value-less, take-bitsOf}
 
 digit-lt : (b : Bool) → digit b < 2
 digit-lt true = omega arith
@@ -25,37 +26,14 @@ digit-injective true false e = let z : _≡_ {A = ℕ} 1 0 = e in absurd (omega 
 digit-injective false true e = let z : _≡_ {A = ℕ} 0 1 = e in absurd (omega arith)
 digit-injective false false e = refl
 
--- the digits of s after those of n
-pub appended : (n : ℕ) (s : Bits) → append-digits n s ≡ n * 2 ^ length s + value s
-unfolding append-digits
-appended n [] = sym (ap (λ (x : ℕ). x + 0) (mul-one n) ∙ omega arith)
-appended n (b ∷ s) =
-    let h : append-digits (n * 2 + digit b) s ≡ (n * 2 + digit b) * 2 ^ length s + value s = appended (n * 2 + digit b) s in
-    let k : append-digits (0 * 2 + digit b) s ≡ (0 * 2 + digit b) * 2 ^ length s + value s = appended (0 * 2 + digit b) s in
-    let p : 2 ^ suc (length s) ≡ 2 ^ length s * 2 = pow-suc 2 (length s) in
-    rw p (omega arith)
-
 pub append-append : (n : ℕ) (a b : Bits) → append-digits n (a ++ b) ≡ append-digits (append-digits n a) b
 unfolding append-digits
 append-append n [] b = refl
 append-append n (x ∷ a) b = append-append (n * 2 + digit x) a b
 
-pub value-lt : (s : Bits) → value s < 2 ^ length s
-unfolding append-digits
-value-lt [] = omega arith
-value-lt (b ∷ s) =
-    let e : append-digits (0 * 2 + digit b) s ≡ (0 * 2 + digit b) * 2 ^ length s + value s = appended (0 * 2 + digit b) s in
-    let l : value s < 2 ^ length s = value-lt s in
-    let p : 2 ^ suc (length s) ≡ 2 ^ length s * 2 = pow-suc 2 (length s) in
-    rw (p, e) (top b l)
-  where
-    top : {v p : ℕ} (b : Bool) → v < p → (0 * 2 + digit b) * p + v < p * 2
-    top true h = omega arith
-    top false h = omega arith
-
 -- a number is a 1 followed by the bits
 pub number-value : (s : Bits) → number s ≡ 2 ^ length s + value s
-number-value s = appended 1 s ∙ ap (λ (x : ℕ). x + value s) (one-mul (2 ^ length s))
+number-value s = append-value s 1 ∙ ap (λ (x : ℕ). x + value s) (one-mul (2 ^ length s))
 
 pub number-ge : (s : Bits) → 2 ^ length s ≤ number s
 number-ge s = let e : number s ≡ 2 ^ length s + value s = number-value s in omega arith
@@ -63,7 +41,7 @@ number-ge s = let e : number s ≡ 2 ^ length s + value s = number-value s in om
 pub number-lt : (s : Bits) → number s < 2 ^ suc (length s)
 number-lt s =
     let e : number s ≡ 2 ^ length s + value s = number-value s in
-    let l : value s < 2 ^ length s = value-lt s in
+    let l : value s < 2 ^ length s = value-less s in
     omega arith
 
 pub number-pos : (s : Bits) → 0 < number s
@@ -79,13 +57,13 @@ number-small s h =
 -- the parts of a string: all but the last bits are the quotient, the last bits the remainder
 module _ (a b : Bits) where
   pub number-append : number (a ++ b) ≡ number a * 2 ^ length b + value b
-  number-append = append-append 1 a b ∙ appended (number a) b
+  number-append = append-append 1 a b ∙ append-value b (number a)
 
   pub front-number : number (a ++ b) / 2 ^ length b ≡ number a
-  front-number = rw number-append (high (number a) (length b) (value-lt b))
+  front-number = rw number-append (high (number a) (length b) (value-less b))
 
   pub back-number : 2 ^ length b + number (a ++ b) % 2 ^ length b ≡ number b
-  back-number = rw (number-append, low (number a) (length b) (value-lt b)) (sym (number-value b))
+  back-number = rw (number-append, low (number a) (length b) (value-less b)) (sym (number-value b))
 
 -- strings with the same number are the same string
 same-length : (s t : Bits) → number s ≡ number t → length s ≤ length t
@@ -116,30 +94,6 @@ number-injective s t e =
     let k : length t ≤ length s = same-length t s (sym e) in
     append-injective 1 1 s t (omega arith) e .1
 
--- the string that a number names
-bit-digit : (d : ℕ) → d < 2 → digit (eqb d 1) ≡ d
-bit-digit zero h = refl
-bit-digit (suc zero) h = refl
-bit-digit (suc (suc d)) h = absurd (omega arith)
-
-pub bitsOf-length : (w v : ℕ) → length (bitsOf w v) ≡ w
-unfolding bitsOf
-bitsOf-length zero v = refl
-bitsOf-length (suc w) v = ap suc (bitsOf-length w v)
-
-pub append-bitsOf : (n w v : ℕ) → append-digits n (bitsOf w v) ≡ n * 2 ^ w + v % 2 ^ w
-unfolding append-digits bitsOf
-append-bitsOf n zero v = let e : n * 1 + v % 1 ≡ n = omega arith in sym e
-append-bitsOf n (suc w) v =
-    let d : digit (eqb (v / 2 ^ w % 2) 1) ≡ v / 2 ^ w % 2 = bit-digit (v / 2 ^ w % 2) (omega arith) in
-    let h : append-digits (n * 2 + v / 2 ^ w % 2) (bitsOf w v) ≡ (n * 2 + v / 2 ^ w % 2) * 2 ^ w + v % 2 ^ w =
-    append-bitsOf (n * 2 + v / 2 ^ w % 2) w v in
-    let p : 2 ^ suc w ≡ 2 ^ w * 2 = pow-suc 2 w in
-    let m : v % 2 ^ (1 + w) ≡ v / 2 ^ w % 2 * 2 ^ w + v % 2 ^ w = mod-pow-add v 1 w in
-    let m' : v % 2 ^ suc w ≡ v / 2 ^ w % 2 * 2 ^ w + v % 2 ^ w = rw one-add at m in
-    let f : (n * 2 + v / 2 ^ w % 2) * 2 ^ w + v % 2 ^ w ≡ n * 2 ^ suc w + v % 2 ^ suc w = rw (m', p) (omega arith) in
-    ap (λ (x : ℕ). append-digits (n * 2 + x) (bitsOf w v)) d ∙ h ∙ f
-
 -- the length of the string that has a number
 log : (k n : ℕ) → 0 < n → n < 2 ^ suc k → (l : ℕ) × (l ≤ k) × (2 ^ l ≤ n) × (n < 2 ^ suc l)
 log zero n p h = (0, omega arith, omega arith, h)
@@ -152,27 +106,19 @@ pub named : (k n : ℕ) → 0 < n → n < 2 ^ suc k → (s : Bits) × (length s 
 named k n p h =
     let r = log k n p h in
     let l = r .0 in
-    let e : append-digits 1 (bitsOf l (n - 2 ^ l)) ≡ 1 * 2 ^ l + (n - 2 ^ l) % 2 ^ l = append-bitsOf 1 l (n - 2 ^ l) in
+    let e : append-digits 1 (bitsOf l (n - 2 ^ l)) ≡ 1 * 2 ^ l + (n - 2 ^ l) % 2 ^ l = append-bitsOf l 1 (n - 2 ^ l) in
     let q : 2 ^ suc l ≡ 2 ^ l * 2 = pow-suc 2 l in
     let a : 2 ^ l ≤ n = r .2 in
     let b : n < 2 ^ suc l = r .3 in
     let m : (n - 2 ^ l) % 2 ^ l ≡ n - 2 ^ l = mod-eq-of-lt (omega arith) in
-    (bitsOf l (n - 2 ^ l), rw bitsOf-length (r .1), omega arith)
-
--- the leading bits of a field are the bits of its value without the others
-pub take-bitsOf : (k d v : ℕ) → take k (bitsOf (k + d) v) ≡ bitsOf k (v / 2 ^ d)
-unfolding bitsOf
-take-bitsOf zero d v = refl
-take-bitsOf (suc k) d v =
-    ap (λ (w : ℕ). take (suc k) (bitsOf w v)) (suc-add k d)
-    ∙ ap₂ (λ (m : ℕ) (s : Bits). eqb (m % 2) 1 ∷ s) (ap (λ (e : ℕ). v / 2 ^ e) (add-comm k d) ∙ sym (shr-shr v d k)) (take-bitsOf k d v)
+    (bitsOf l (n - 2 ^ l), rw length-bitsOf (r .1), omega arith)
 
 pub number-bitsOf : (w v : ℕ) → number (bitsOf w v) ≡ 2 ^ w + v % 2 ^ w
-number-bitsOf w v = append-bitsOf 1 w v ∙ ap (λ (x : ℕ). x + v % 2 ^ w) (one-mul (2 ^ w))
+number-bitsOf w v = append-bitsOf w 1 v ∙ ap (λ (x : ℕ). x + v % 2 ^ w) (one-mul (2 ^ w))
 
 -- the number of a field's lookahead string
 pub field-short : (w v : ℕ) → w ≤ 8 → number (lookahead (bitsOf w v)) ≡ 2 ^ w + v % 2 ^ w
-field-short w v h = ap number (take-all 8 (bitsOf w v) (rw bitsOf-length h)) ∙ number-bitsOf w v
+field-short w v h = ap number (take-all 8 (bitsOf w v) (rw length-bitsOf h)) ∙ number-bitsOf w v
 
 pub field-long : (w v : ℕ) → 8 < w → number (lookahead (bitsOf w v)) ≡ 256 + v / 2 ^ (w - 8) % 256
 field-long w v h =
