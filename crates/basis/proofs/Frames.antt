@@ -6,11 +6,12 @@ use native.Mathlib.Nat.{mod-eq-of-lt, zero-add, suc-add}
 use mathlib.Core.Path.{_≡_, refl, sym, ap, _∙_}
 use mathlib.Core.List.{List, [], _∷_, _++_, append-nil, append-assoc}
 use lib.ListN.{length, take, drop, getD, length-append, length-take, length-drop, take-append-drop}
-use lib.Seq.{take-at, drop-at, take-suc, take-take, drop-drop, take-nil, getD-drop, length-take-le}
-use lib.Pow.{high, low}
+use lib.Seq.{take-all, take-at, drop-at, take-suc, take-take, drop-drop, take-nil, getD-drop, length-take-le}
+use lib.Pow.{high, low, pow-mono}
 use Rattle.basis.specs.Bits.{Bits, bitsOf, append-digits, value, frameBits}
 use Rattle.basis.proofs.Values.{length-bitsOf, value-bitsOf, append-value, value-less}
-use Rattle.basis.proofs.Numbers.{append-append}
+use Rattle.basis.specs.Lookahead.{lookahead, number}
+use Rattle.basis.proofs.Numbers.{append-append, number-value}
 
 -- the number of one string after another
 pub value-append : (a b : Bits) → value (a ++ b) ≡ value a * 2 ^ length b + value b
@@ -93,7 +94,7 @@ same-bits fs q r n w l h =
     ∙ ap (take w) (sym (drop-take r k (frameBits (drop q fs))) ∙ ap (drop r) (ap (λ (m : ℕ). take m (frameBits (drop q fs))) (sym z) ∙ frame-take n (drop q fs) i)))
 
 pub bits-in-bytes : (fs : List ℕ) (q r n w : ℕ) → q + n ≤ length fs → r + w ≤ 8 * n
-  → value (take w (drop (8 * q + r) (frameBits fs))) ≡ bytes-value fs q n % 2 ^ (8 * n - r) / 2 ^ (8 * n - r - w)
+    → value (take w (drop (8 * q + r) (frameBits fs))) ≡ bytes-value fs q n % 2 ^ (8 * n - r) / 2 ^ (8 * n - r - w)
 bits-in-bytes fs q r n w l h =
     let b = frameBits (take n (drop q fs)) in
     let i : n ≤ length (drop q fs) = simp length-drop (omega arith) in
@@ -102,3 +103,27 @@ bits-in-bytes fs q r n w l h =
     let y : length (drop w (drop r b)) ≡ 8 * n - r - w = length-drop w (drop r b) ∙ ap (_- w) x in
     ap value (same-bits fs q r n w l h)
     ∙ (value-take w (drop r b) ∙ (ap (λ (e : ℕ). value (drop r b) / 2 ^ e) y ∙ ap (λ (v : ℕ). v / 2 ^ (8 * n - r - w)) (value-drop r b ∙ ap (λ (e : ℕ). value b % 2 ^ e) x)))
+
+pub value-take-less : (w : ℕ) (s : Bits) → value (take w s) < 2 ^ w
+value-take-less w s =
+    let l : length (take w s) ≤ w = simp length-take (omega arith) in
+    let z : 2 ^ length (take w s) ≤ 2 ^ w = pow-mono l in
+    let v = value-less (take w s) in
+    omega arith
+
+-- the number of what comes next at bit p, where fewer than 8 bits are left, and where there are 8
+pub ahead-short : (fs : List ℕ) (p left : ℕ) → left + p ≡ 8 * length fs → left < 8
+    → 2 ^ left + value (take left (drop p (frameBits fs))) ≡ number (lookahead (drop p (frameBits fs)))
+ahead-short fs p left e l =
+    let s = drop p (frameBits fs) in
+    let n : length s ≡ left = length-drop p (frameBits fs) ∙ (let x = frame-length fs in omega arith) in
+    let t : take left s ≡ s = take-all left s (omega arith) in
+    let u : take 8 s ≡ s = take-all 8 s (omega arith) in
+    rw (t, u) (ap (λ (k : ℕ). 2 ^ k + value s) (sym n) ∙ sym (number-value s))
+
+pub ahead-long : (fs : List ℕ) (p : ℕ) → p + 8 ≤ 8 * length fs → 256 + value (take 8 (drop p (frameBits fs))) ≡ number (lookahead (drop p (frameBits fs)))
+ahead-long fs p l =
+    let s = drop p (frameBits fs) in
+    let n : length s ≡ 8 * length fs - p = length-drop p (frameBits fs) ∙ ap (_- p) (frame-length fs) in
+    let m : length (take 8 s) ≡ 8 = length-take-le 8 s (omega arith) in
+    ap (λ (k : ℕ). 2 ^ k + value (take 8 s)) (sym m) ∙ sym (number-value (take 8 s))
