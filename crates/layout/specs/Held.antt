@@ -10,13 +10,13 @@ use lib.ListN.{length, take, drop, set, replicate}
 use Rattle.basis.specs.Bits.{Bits, value, frameBits, same}
 use Rattle.basis.specs.Counts.{Counts, from, within, zero-or-one, zero-or-more, one-or-more}
 use Rattle.terms.specs.Words.{termAt, terms}
-use Rattle.terms.specs.Meaning.{membership, condition}
-use Rattle.terms.specs.Counts.{counts, formOf}
-use Rattle.terms.specs.Variables.{hasVariable}
-use Rattle.terms.specs.declared.Counted.{Counted}
-use Rattle.terms.specs.declared.Form.{Form}
+use Rattle.evaluation.specs.Meaning.{membership, condition}
+use Rattle.evaluation.specs.Counts.{counts, formOf}
+use Rattle.evaluation.specs.Variables.{hasVariable}
+use Rattle.evaluation.specs.declared.Counted.{Counted}
+use Rattle.evaluation.specs.declared.Form.{Form}
 use Rattle.terms.specs.declared.Term.{Term}
-use Rattle.terms.specs.declared.Tested.{Tested}
+use Rattle.evaluation.specs.declared.Tested.{Tested}
 use Rattle.theory.specs.Grammar.{Node, alternative, concatenation, repetition, switch, use-of, field, eod, Grammar}
 use Rattle.layout.specs.Places.{word, rule-word, construct-word, literals-at, terms-at}
 use Rattle.layout.specs.Constructs.{pick, both, constructAt}

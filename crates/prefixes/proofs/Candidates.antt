@@ -1,19 +1,18 @@
 -- The candidates decide exactly whether some value of a set lies between two numbers.
 -- Assumes nothing.
-use Prim.Native.Nat.{ℕ, zero, suc, _+_, _-_, _≤_, _<_}
+use Prim.Native.Nat.{ℕ, zero, suc, _+_, _-_, _≤_}
 use mathlib.Core.Path.{_≡_, refl, sym, ap, subst, _∙_}
 use mathlib.Core.Bool.{Bool, true, false}
 use mathlib.Core.List.{List, [], _∷_}
 use native.Mathlib.Omega.{arith}
 use native.Mathlib.Nat.{add-suc, suc-add}
 use borrow.Author.Tests.{le-leb, leb-true}
-use lib.Dec.{leb}
 use lib.IntN.{ℤ, pos, negsuc, sucℤ}
 use lib.Signed.{leZ}
 use Rattle.wholes.proofs.Laws.{differ}
 use Rattle.terms.specs.Numbers.{pick}
-use Rattle.terms.specs.Meaning.{run, verdictOf, membership}
-use Rattle.terms.specs.declared.Ended.{Ended}
+use Rattle.evaluation.specs.Meaning.{verdictOf, membership}
+use Rattle.evaluation.specs.declared.Ended.{Ended}
 use Rattle.terms.specs.declared.Numbers.{Numbers}
 use Rattle.terms.specs.declared.Outcome.{Outcome}
 use Rattle.terms.specs.declared.Term.{Term}

@@ -1,11 +1,10 @@
 -- Laws of the order of whole numbers, at a number and the one after it.
 -- Assumes nothing.
-use Prim.Native.Nat.{ℕ, zero, suc, _^_, _≤_, _<_}
+use Prim.Native.Nat.{zero, suc, _^_, _≤_, _<_}
 use mathlib.Core.Path.{_≡_, refl, sym, ap, _∙_}
 use mathlib.Core.Bool.{Bool, true, false}
 use native.Mathlib.Omega.{arith}
-use borrow.Author.Tests.{lt-leb, le-leb, leb-true, leb-false}
-use lib.Dec.{leb}
+use borrow.Author.Tests.{lt-leb, leb-true, leb-false}
 use lib.IntN.{ℤ, pos, negsuc, sucℤ}
 use lib.Signed.{mag, leZ}
 use mir.Syntax.{w64}

@@ -1,7 +1,7 @@
 -- A set does not change between two neighbours u and u + 1 where no end is u or u + 1.
 -- Assumes nothing.
 use Prim.Native.Nat.{ℕ, zero, suc, _+_, _*_, _^_, _≤_, _<_, _/_, _%_}
-use mathlib.Core.Path.{_≡_, refl, sym, ap, ap₂, subst, _∙_}
+use mathlib.Core.Path.{_≡_, refl, sym, ap, ap₂, _∙_}
 use mathlib.Core.Bool.{Bool, true, false}
 use mathlib.Core.List.{List, [], _∷_}
 use native.Mathlib.Omega.{arith}
@@ -17,8 +17,8 @@ use Rattle.wholes.specs.Wholes.{equals}
 use Rattle.terms.specs.Numbers.{pick, topOf, pairOf}
 use Rattle.terms.specs.Tests.{noted, joins, combined}
 use Rattle.terms.specs.Steps.{operateOf, afterOf, testTop, testPair, equalTo, within, from, upTo, operated, stepOf}
-use Rattle.terms.specs.Meaning.{next, run}
-use Rattle.terms.specs.declared.Ended.{Ended}
+use Rattle.evaluation.specs.Meaning.{next, run}
+use Rattle.evaluation.specs.declared.Ended.{Ended}
 use Rattle.terms.specs.declared.Joint.{Joint}
 use Rattle.terms.specs.declared.Kind.{Kind}
 use Rattle.terms.specs.declared.Mode.{Mode}

@@ -1,16 +1,16 @@
 -- Laws of the walk over a set's ends.
 -- Assumes nothing.
 use Prim.Native.Nat.{ℕ, _+_, _≤_, _<_}
-use mathlib.Core.Path.{_≡_, refl, sym, ap, ap₂, _∙_}
+use mathlib.Core.Path.{_≡_, ap, ap₂, _∙_}
 use mathlib.Core.Bool.{Bool, true, false}
-use mathlib.Core.List.{List, [], _∷_}
+use mathlib.Core.List.{List}
 use lib.IntN.{ℤ}
 use Rattle.terms.specs.Numbers.{pick}
 use Rattle.terms.specs.Words.{termAt, terms}
 use Rattle.terms.specs.declared.Numbers.{Numbers}
 use Rattle.terms.specs.declared.Outcome.{Outcome}
 use Rattle.terms.specs.declared.Term.{Term}
-use Rattle.terms.proofs.Runs.{terms-next, terms-none}
+use Rattle.evaluation.proofs.Runs.{terms-next, terms-none}
 use Rattle.prefixes.specs.Ends.{itemEnds, numbersAfter, anyIn, onward, someEnd}
 
 module _ (p : ℤ → Bool) (env : List ℤ) (ws : List ℕ) (i end : ℕ) (s : Numbers) where

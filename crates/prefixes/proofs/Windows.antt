@@ -1,13 +1,12 @@
 -- Which values have a window: those of one block of the values of a width.
 -- Assumes nothing.
-use Prim.Native.Nat.{ℕ, zero, suc, _+_, _*_, _-_, _/_, _^_, _≤_, _<_}
+use Prim.Native.Nat.{ℕ, _+_, _*_, _-_, _/_, _^_, _≤_, _<_}
 use mathlib.Core.Path.{_≡_, refl, sym, ap, subst, _∙_}
 use mathlib.Core.Bool.{Bool, true, false}
 use mathlib.Core.List.{List, []}
 use native.Mathlib.Omega.{arith}
 use native.Mathlib.Nat.{add-mul, one-mul, mul-le-mul-right, mul-add-div-right, div-eq-of-lt-le, le-div-iff-mul-le, div-lt-iff-lt-mul}
 use borrow.Author.Tests.{le-leb, leb-true}
-use lib.Dec.{leb}
 use lib.IntN.{ℤ, pos, negsuc}
 use lib.Pow.{pow-pos, pow-mono, pow-add}
 use lib.Signed.{leZ}
@@ -16,7 +15,7 @@ use Rattle.basis.specs.Lookahead.{lookahead, number}
 use Rattle.basis.proofs.Values.{number-lookahead}
 use Rattle.wholes.proofs.Laws.{differ}
 use Rattle.terms.specs.Numbers.{pick}
-use Rattle.terms.specs.Variables.{hasVariable}
+use Rattle.evaluation.specs.Variables.{hasVariable}
 use Rattle.terms.specs.declared.Term.{Term}
 use Rattle.prefixes.specs.Ends.{holds}
 use Rattle.prefixes.specs.Between.{Lies, Decides}

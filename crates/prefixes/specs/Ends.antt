@@ -1,19 +1,19 @@
 -- Where a set without variables changes: at the ends of its items and just after them.
 -- Assumes nothing.
-use Prim.Native.Nat.{ℕ, _+_}
+use Prim.Native.Nat.{ℕ}
 use mathlib.Core.Bool.{Bool, true, false}
 use mathlib.Core.List.{List, [], _∷_}
 use lib.IntN.{ℤ, sucℤ}
 use lib.Signed.{leZ}
 use Rattle.terms.specs.Numbers.{pick, topOf, pairOf}
 use Rattle.terms.specs.Steps.{operateOf}
-use Rattle.terms.specs.Meaning.{membership}
+use Rattle.evaluation.specs.Meaning.{membership}
 use Rattle.terms.specs.declared.Mode.{Mode}
 use Rattle.terms.specs.declared.Numbers.{Numbers}
 use Rattle.terms.specs.declared.Outcome.{Outcome}
 use Rattle.terms.specs.declared.Pair.{Pair}
 use Rattle.terms.specs.declared.Term.{Term}
-use Rattle.terms.specs.declared.Tested.{Tested}
+use Rattle.evaluation.specs.declared.Tested.{Tested}
 use Rattle.terms.specs.declared.Top.{Top}
 use Rattle.prefixes.specs.declared.Ends.{Ends}
 

@@ -9,7 +9,7 @@ use lib.IntN.{ℤ, pos}
 use Rattle.basis.specs.Bits.{bitsOf}
 use Rattle.basis.specs.Lookahead.{lookahead, number}
 use Rattle.terms.specs.Numbers.{pick}
-use Rattle.terms.specs.Variables.{hasVariable}
+use Rattle.evaluation.specs.Variables.{hasVariable}
 use Rattle.terms.specs.declared.Term.{Term}
 use Rattle.prefixes.specs.Ends.{holds}
 

@@ -1,18 +1,18 @@
 // Which values of a set lie between two numbers, and which leading bits its values have. A set changes only at the ends of its items and
 // just after them, so that few values are tried.
+use evaluation::Tested;
+use evaluation::contains;
+use evaluation::variables::has_variable;
 use terms::Mode;
 use terms::Numbers;
 use terms::Outcome;
 use terms::Pair;
 use terms::Term;
-use terms::Tested;
 use terms::Top;
 use terms::decode::term_at;
-use terms::evaluate::contains;
 use terms::stack::pair;
 use terms::stack::top;
 use terms::step::operate;
-use terms::variables::has_variable;
 use wholes::at_most;
 use wholes::signed;
 ghost use mathlib.Core.Path.{_≡_};

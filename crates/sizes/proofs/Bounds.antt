@@ -1,31 +1,22 @@
 -- A number is never larger than its size: what is worked out of values stays below what is worked out of sizes, term by term.
 -- Assumes nothing.
-use Prim.Native.Nat.{ℕ, zero, suc, _+_, _*_, _-_, _/_, _%_, _^_, _≤_, _<_}
-use mathlib.Core.Path.{_≡_, refl, sym, ap, ap₂, subst, subst₂, _∙_}
+use Prim.Native.Nat.{ℕ, suc, _+_, _*_, _-_, _^_, _≤_, _<_}
+use mathlib.Core.Path.{_≡_, refl, ap, ap₂}
 use mathlib.Core.Bool.{Bool, true, false, cond}
-use mathlib.Core.List.{List, [], _∷_}
+use mathlib.Core.List.{List}
 use native.Mathlib.Omega.{arith}
-use native.Mathlib.Nat.{pow-succ', mul-le-mul}
-use borrow.Author.Tests.{lt-ltb, le-ltb, ltb-true, ltb-false, leb-true, leb-false}
+use native.Mathlib.Nat.{mul-le-mul}
+use borrow.Author.Tests.{ltb-true, leb-true, leb-false}
 use lib.Dec.{leb, ltb}
 use lib.ListN.{length, getD}
-use lib.IntN.{ℤ, pos, negsuc, natAbs, negℤ, subℕ, _+ℤ_, _-ℤ_, _*ℤ_}
-use lib.Pow.{pow-mono}
-use Rattle.basis.specs.Bits.{digit}
+use lib.IntN.{ℤ, pos, negsuc, natAbs, negℤ, _+ℤ_, _-ℤ_, _*ℤ_}
 use Rattle.wholes.proofs.Laws.{natAbs-neg, abs-product, bounded-in, bounded-out}
-use Rattle.terms.specs.Numbers.{pick, bounded, differenceOf, oppositeOf, pushed, kept, topOf, pairOf}
-use Rattle.terms.specs.Tests.{noted, joins, combined}
-use Rattle.terms.specs.Steps.{variableOf, binary, unary, operateOf, afterOf, testTop, testPair, operated, stepOf}
-use Rattle.terms.specs.Meaning.{next, run}
-use Rattle.terms.specs.declared.Ended.{Ended}
-use Rattle.terms.specs.declared.Joint.{Joint}
-use Rattle.terms.specs.declared.Kind.{Kind}
+use Rattle.terms.specs.Numbers.{pick, bounded, pushed, kept, topOf, pairOf}
+use Rattle.terms.specs.Steps.{variableOf, binary, unary, operateOf}
 use Rattle.terms.specs.declared.Mode.{Mode}
 use Rattle.terms.specs.declared.Numbers.{Numbers}
 use Rattle.terms.specs.declared.Operation.{Operation}
 use Rattle.terms.specs.declared.Outcome.{Outcome}
-use Rattle.terms.specs.declared.Term.{Term}
-use Rattle.terms.specs.declared.Trial.{Trial}
 
 -- ---- one number and its size
 

@@ -1,18 +1,18 @@
 -- Where the sizes of a list come to an end, its values come to the same end.
 -- Assumes nothing.
-use Prim.Native.Nat.{ℕ, _+_, _*_, _/_, _%_, _^_, _≤_, _<_}
-use mathlib.Core.Path.{_≡_, refl, sym, ap, subst, _∙_}
+use Prim.Native.Nat.{ℕ, _+_, _*_, _/_, _%_, _^_, _≤_}
+use mathlib.Core.Path.{_≡_, refl, sym, ap, subst}
 use mathlib.Core.Bool.{Bool, true, false}
 use mathlib.Core.List.{List, [], _∷_}
 use borrow.Author.Tests.{lt-ltb, le-ltb, ltb-true, ltb-false}
 use lib.Dec.{ltb, eqb}
-use lib.IntN.{ℤ, pos}
+use lib.IntN.{ℤ}
 use Rattle.basis.specs.Bits.{digit}
 use Rattle.terms.specs.Numbers.{topOf, pairOf}
 use Rattle.terms.specs.Tests.{noted, joins, combined}
 use Rattle.terms.specs.Steps.{operateOf, afterOf, testTop, testPair, operated, stepOf}
-use Rattle.terms.specs.Meaning.{next, run}
-use Rattle.terms.specs.declared.Ended.{Ended}
+use Rattle.evaluation.specs.Meaning.{next, run}
+use Rattle.evaluation.specs.declared.Ended.{Ended}
 use Rattle.terms.specs.declared.Joint.{Joint}
 use Rattle.terms.specs.declared.Kind.{Kind}
 use Rattle.terms.specs.declared.Mode.{Mode}
@@ -22,7 +22,7 @@ use Rattle.terms.specs.declared.Outcome.{Outcome}
 use Rattle.terms.specs.declared.Term.{Term}
 use Rattle.terms.specs.declared.Trial.{Trial}
 use Rattle.sizes.proofs.Bounds.{Smaller, none, one, two, three, four, Kept, Inside, operate-kept}
-use Rattle.sizes.proofs.Depths.{SameDepth, depth-none, depth-more, depth-below, depth-less}
+use Rattle.sizes.proofs.Depths.{SameDepth, depth-more, depth-below, depth-less}
 
 -- where sizes go on, values go on with smaller numbers and equally many tests
 abbrev pub Follows : Trial → Trial → Type 0

@@ -1,8 +1,8 @@
 -- The size rule keeps its promise: a list that it passes, at values within the variables' sizes, is worked out to an answer, and never
 -- leaves 2^62 on the way.
 -- Assumes nothing.
-use Prim.Native.Nat.{ℕ, _-_, _^_, _≤_, _<_}
-use mathlib.Core.Path.{_≡_, refl, sym, ap, _∙_}
+use Prim.Native.Nat.{ℕ, _-_, _≤_, _<_}
+use mathlib.Core.Path.{_≡_, refl, ap, _∙_}
 use mathlib.Core.Bool.{Bool, true, false}
 use mathlib.Core.Logic.{_⊎_, inl, inr}
 use mathlib.Core.List.{List}
@@ -15,17 +15,16 @@ use lib.IntN.{ℤ, pos}
 use Rattle.basis.specs.Counts.{Counts, exactly, atLeast, span}
 use Rattle.terms.specs.Numbers.{pick}
 use Rattle.terms.specs.Words.{termAt, terms}
-use Rattle.terms.specs.Meaning.{run, aloneOf, numberOf, lastOf, verdictOf, calculation, membership, condition}
-use Rattle.terms.specs.Counts.{shown, formOf, calculationsEnd, ofOne, ofTwo, ofNumbers, ofTrial, countsBy, counts}
-use Rattle.terms.specs.declared.Calculated.{Calculated}
-use Rattle.terms.specs.declared.Counted.{Counted}
-use Rattle.terms.specs.declared.Ended.{Ended}
-use Rattle.terms.specs.declared.Form.{Form}
+use Rattle.evaluation.specs.Meaning.{run, aloneOf, numberOf, lastOf, verdictOf, calculation, membership, condition}
+use Rattle.evaluation.specs.Counts.{shown, formOf, calculationsEnd, ofOne, ofTwo, ofNumbers, ofTrial, countsBy, counts}
+use Rattle.evaluation.specs.declared.Calculated.{Calculated}
+use Rattle.evaluation.specs.declared.Counted.{Counted}
+use Rattle.evaluation.specs.declared.Form.{Form}
 use Rattle.terms.specs.declared.Kind.{Kind}
 use Rattle.terms.specs.declared.Mode.{Mode}
 use Rattle.terms.specs.declared.Numbers.{Numbers}
 use Rattle.terms.specs.declared.Term.{Term}
-use Rattle.terms.specs.declared.Tested.{Tested}
+use Rattle.evaluation.specs.declared.Tested.{Tested}
 use Rattle.terms.specs.declared.Trial.{Trial}
 use Rattle.sizes.specs.Sizes.{ofCalculated, ofTested, ofCounted, sizes, countSizesBy, countSizes}
 use Rattle.sizes.specs.declared.Sized.{Sized}

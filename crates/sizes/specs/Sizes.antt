@@ -7,17 +7,17 @@ use lib.Dec.{ltb}
 use lib.IntN.{ℤ, pos}
 use Rattle.terms.specs.Numbers.{pick}
 use Rattle.terms.specs.Words.{termAt, terms}
-use Rattle.terms.specs.Meaning.{run, numberOf, verdictOf}
-use Rattle.terms.specs.Counts.{formOf, calculationsEnd, ofTrial}
-use Rattle.terms.specs.declared.Calculated.{Calculated}
-use Rattle.terms.specs.declared.Counted.{Counted}
-use Rattle.terms.specs.declared.Ended.{Ended}
-use Rattle.terms.specs.declared.Form.{Form}
+use Rattle.evaluation.specs.Meaning.{run, numberOf, verdictOf}
+use Rattle.evaluation.specs.Counts.{formOf, calculationsEnd, ofTrial}
+use Rattle.evaluation.specs.declared.Calculated.{Calculated}
+use Rattle.evaluation.specs.declared.Counted.{Counted}
+use Rattle.evaluation.specs.declared.Ended.{Ended}
+use Rattle.evaluation.specs.declared.Form.{Form}
 use Rattle.terms.specs.declared.Kind.{Kind}
 use Rattle.terms.specs.declared.Mode.{Mode}
 use Rattle.terms.specs.declared.Numbers.{Numbers}
 use Rattle.terms.specs.declared.Term.{Term}
-use Rattle.terms.specs.declared.Tested.{Tested}
+use Rattle.evaluation.specs.declared.Tested.{Tested}
 use Rattle.terms.specs.declared.Trial.{Trial}
 use Rattle.sizes.specs.declared.Sized.{Sized}
 

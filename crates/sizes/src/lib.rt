@@ -1,17 +1,17 @@
 // The size rule of refusal 8: sizes of calculations, and which lists of terms can never leave 2^62.
-use terms::Calculated;
-use terms::Counted;
+use evaluation::Calculated;
+use evaluation::Counted;
+use evaluation::Tested;
+use evaluation::counts::calculations;
+use evaluation::counts::form;
+use evaluation::counts::of_trial;
+use evaluation::number;
+use evaluation::verdict;
+use evaluation::work_out;
 use terms::Kind;
 use terms::Mode;
-use terms::Tested;
 use terms::Trial;
-use terms::counts::calculations;
-use terms::counts::form;
-use terms::counts::of_trial;
 use terms::decode::term_at;
-use terms::evaluate::number;
-use terms::evaluate::verdict;
-use terms::evaluate::work_out;
 ghost use mathlib.Core.Path.{_≡_};
 ghost use Rattle.terms.specs.Words.{terms};
 ghost use Rattle.sizes.specs.Sizes.{ofCalculated, ofTested, ofCounted, judged, sizes, countSizes};

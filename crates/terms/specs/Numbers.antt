@@ -1,8 +1,6 @@
 -- The stack on which a calculation is worked out.
 -- Assumes nothing.
 use lib.IntN.{ℤ, negℤ, _+ℤ_, _-ℤ_}
-pub use Rattle.wholes.specs.Wholes.{pick}
-unfoldable pub use Rattle.wholes.specs.Wholes.{bounded, equals}
 use Rattle.wholes.specs.declared.Checked.{Checked}
 use Rattle.terms.specs.declared.Mode.{Mode}
 use Rattle.terms.specs.declared.Mode.the-variants.{Values, Sizes}
@@ -11,6 +9,8 @@ use Rattle.terms.specs.declared.Numbers.the-variants.{Zero, One, Two, Th
 use Rattle.terms.specs.declared.Outcome.{Outcome}
 use Rattle.terms.specs.declared.Top.{Top}
 use Rattle.terms.specs.declared.Pair.{Pair}
+pub use Rattle.wholes.specs.Wholes.{pick}
+unfoldable pub use Rattle.wholes.specs.Wholes.{bounded, equals}
 
 -- `a - b`; "sizes added": a size has no sign
 abbrev pub differenceOf : Mode → ℤ → ℤ → ℤ

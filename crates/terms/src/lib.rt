@@ -10,14 +10,11 @@
 //                                          13  `&`
 //
 // An item that is one value, `a`, has no sign of its own: the last term of its calculation, tag 1 to 6, has 32 added to its tag.
-pub mod counts;
 pub mod decode;
-pub mod evaluate;
 pub mod modes;
 pub mod stack;
 pub mod step;
 pub mod truths;
-pub mod variables;
 
 // What a number, a variable's use or a sign of a calculation does. `Unknown` is no such term.
 pub enum Operation {
@@ -107,41 +104,4 @@ pub enum Joint {
     Or,
     And,
     Except,
-}
-
-// A list's end: what waits there, and the number of the term at which it ended.
-pub struct Ended {
-    pub trial: Trial,
-    pub at: usize,
-}
-
-pub enum Calculated {
-    Number(i64),
-    Malformed,
-    Overflow,
-}
-
-// The answer of a set for one value, and of a condition.
-pub enum Tested {
-    No,
-    Yes,
-    Malformed,
-    Overflow,
-}
-
-// A set of counts: none, from `low` on, or `low` and up to `more` above it.
-pub enum Counted {
-    None,
-    From { low: u64 },
-    Within { low: u64, more: u64 },
-    Malformed,
-    Overflow,
-}
-
-// How counts are written: `{n}`, `{a~}`, `{~b}` or `{a~b}`.
-pub enum Form {
-    Exact,
-    Open,
-    UpTo,
-    Closed,
 }

@@ -1,10 +1,10 @@
 // Runs the cases of sets, counts, conditions and sizes that document 01 singles out.
+use evaluation::Calculated;
+use evaluation::Counted;
+use evaluation::Tested;
 use libc::STDOUT_FILENO;
 use sizes::Sized;
-use terms::Calculated;
-use terms::Counted;
 use terms::Kind;
-use terms::Tested;
 
 fn text(bytes: &[u8]) {
     io::write_all(STDOUT_FILENO, bytes);
@@ -79,7 +79,7 @@ fn members(name: &[u8], words: &[u32], end: usize) {
     let none = [0i64; 1];
     let mut value: u64 = 0;
     while value < 12 {
-        tested(terms::evaluate::contains(words, 0, end, &none, wholes::signed(value)));
+        tested(evaluation::contains(words, 0, end, &none, wholes::signed(value)));
         value += 1;
     }
     text(b"\n");
@@ -129,16 +129,10 @@ fn calculations() {
     let none = [0i64; 1];
     // 2 - 5 * 3
     let mixed = [1, 2, 0, 1, 5, 0, 1, 3, 0, 5, 0, 0, 4, 0, 0];
-    calculated(
-        b"2 - 5 * 3 = ",
-        terms::evaluate::calculate(&mixed, 0, 5, &none),
-    );
+    calculated(b"2 - 5 * 3 = ", evaluation::calculate(&mixed, 0, 5, &none));
     // 1 - -1
     let double = [1, 1, 0, 1, 1, 0, 6, 0, 0, 4, 0, 0];
-    calculated(
-        b"1 - -1 = ",
-        terms::evaluate::calculate(&double, 0, 4, &none),
-    );
+    calculated(b"1 - -1 = ", evaluation::calculate(&double, 0, 4, &none));
     // 2^31 * 2^31, and once more by 2
     let large = [
         1,
@@ -159,22 +153,19 @@ fn calculations() {
     ];
     calculated(
         b"2^31 * 2^31 = ",
-        terms::evaluate::calculate(&large, 0, 3, &none),
+        evaluation::calculate(&large, 0, 3, &none),
     );
     calculated(
         b"2^31 * 2^31 * 2 = ",
-        terms::evaluate::calculate(&large, 0, 5, &none),
+        evaluation::calculate(&large, 0, 5, &none),
     );
     // a sign without its numbers, and a variable that is not there
-    calculated(b"+ = ", terms::evaluate::calculate(&mixed, 3, 4, &none));
+    calculated(b"+ = ", evaluation::calculate(&mixed, 3, 4, &none));
     let missing = [2, 7, 0];
-    calculated(
-        b"missing = ",
-        terms::evaluate::calculate(&missing, 0, 1, &none),
-    );
+    calculated(b"missing = ", evaluation::calculate(&missing, 0, 1, &none));
     let far = [4611686018427387905i64; 1];
     let first = [2, 0, 0];
-    calculated(b"forged = ", terms::evaluate::calculate(&first, 0, 1, &far));
+    calculated(b"forged = ", evaluation::calculate(&first, 0, 1, &far));
 }
 
 fn counts() {
@@ -183,73 +174,100 @@ fn counts() {
     let five = [5i64; 1];
     counted(
         b"{length - 8} at 5: ",
-        terms::counts::count(&length, 0, 3, &five),
+        evaluation::counts::count(&length, 0, 3, &five),
     );
     let twelve = [12i64; 1];
     counted(
         b"{length - 8} at 12: ",
-        terms::counts::count(&length, 0, 3, &twelve),
+        evaluation::counts::count(&length, 0, 3, &twelve),
     );
     // n - 1
     let less = [2, 0, 0, 1, 1, 0, 4, 0, 0];
     let zero = [0i64; 1];
-    counted(b"{n - 1} at 0: ", terms::counts::count(&less, 0, 3, &zero));
+    counted(
+        b"{n - 1} at 0: ",
+        evaluation::counts::count(&less, 0, 3, &zero),
+    );
     let one = [1i64; 1];
-    counted(b"{n - 1} at 1: ", terms::counts::count(&less, 0, 3, &one));
+    counted(
+        b"{n - 1} at 1: ",
+        evaluation::counts::count(&less, 0, 3, &one),
+    );
     let around = [1, 1, 0, 6, 0, 0, 1, 1, 0, 8, 0, 0];
-    counted(b"{-1~1}: ", terms::counts::count(&around, 0, 4, &zero));
-    counted(b"{-1}: ", terms::counts::count(&around, 0, 2, &zero));
+    counted(b"{-1~1}: ", evaluation::counts::count(&around, 0, 4, &zero));
+    counted(b"{-1}: ", evaluation::counts::count(&around, 0, 2, &zero));
     let below = [1, 1, 0, 6, 0, 0, 10, 0, 0];
-    counted(b"{~-1}: ", terms::counts::count(&below, 0, 3, &zero));
+    counted(b"{~-1}: ", evaluation::counts::count(&below, 0, 3, &zero));
     let turned = [1, 5, 0, 1, 3, 0, 8, 0, 0];
-    counted(b"{5~3}: ", terms::counts::count(&turned, 0, 3, &zero));
+    counted(b"{5~3}: ", evaluation::counts::count(&turned, 0, 3, &zero));
     let open = [1, 2, 0, 9, 0, 0];
-    counted(b"{2~}: ", terms::counts::count(&open, 0, 2, &zero));
-    counted(b"{}: ", terms::counts::count(&open, 0, 0, &zero));
+    counted(b"{2~}: ", evaluation::counts::count(&open, 0, 2, &zero));
+    counted(b"{}: ", evaluation::counts::count(&open, 0, 0, &zero));
 }
 
+const RANGE: [u32; 9] = [1, 1, 0, 1, 8, 0, 8, 0, 0];
+
+const ALL: [u32; 3] = [7, 0, 0];
+
+const WITHOUT: [u32; 15] = [1, 1, 0, 1, 10, 0, 8, 0, 0, 33, 5, 0, 12, 0, 0];
+
+const MIXED: [u32; 21] = [
+    33,
+    1,
+    0,
+    1,
+    3,
+    0,
+    1,
+    4,
+    0,
+    8,
+    0,
+    0,
+    33,
+    3,
+    0,
+    12,
+    0,
+    0,
+    11,
+    0,
+    0,
+];
+
 fn sets() {
-    let range = [1, 1, 0, 1, 8, 0, 8, 0, 0];
+    let range = RANGE;
     members(b"1~8            ", &range, 3);
-    let all = [7, 0, 0];
+    let all = ALL;
     members(b"~              ", &all, 1);
-    let without = [1, 1, 0, 1, 10, 0, 8, 0, 0, 33, 5, 0, 12, 0, 0];
+    let without = WITHOUT;
     members(b"1~10 ! 5       ", &without, 5);
-    let mixed = [
-        33,
-        1,
-        0,
-        1,
-        3,
-        0,
-        1,
-        4,
-        0,
-        8,
-        0,
-        0,
-        33,
-        3,
-        0,
-        12,
-        0,
-        0,
-        11,
-        0,
-        0,
-    ];
+    let mixed = MIXED;
     members(b"1 | 3~4 ! (3)  ", &mixed, 7);
+}
+
+fn windows_of_range() {
+    let range = RANGE;
     show_windows(b"1~8 of 8: ", &range, 3, 8);
     show_windows(b"1~8 of 4: ", &range, 3, 4);
     show_windows(b"1~8 of 9: ", &range, 3, 9);
     show_windows(b"1~8 of 32: ", &range, 3, 32);
+}
+
+fn windows_of_all() {
+    let all = ALL;
     show_windows(b"~ of 1: ", &all, 1, 1);
     show_windows(b"~ of 4: ", &all, 1, 4);
     show_windows(b"~ of 8: ", &all, 1, 8);
     show_windows(b"~ of 9: ", &all, 1, 9);
     show_windows(b"~ of 16: ", &all, 1, 16);
     show_windows(b"~ of 32: ", &all, 1, 32);
+}
+
+fn windows_of_others() {
+    let without = WITHOUT;
     show_windows(b"1~10 ! 5 of 8: ", &without, 5, 8);
+    let mixed = MIXED;
     show_windows(b"1 | 3~4 ! (3) of 4: ", &mixed, 7, 4);
     let beyond = [33, 300, 0];
     show_windows(b"300 of 8: ", &beyond, 1, 8);
@@ -266,7 +284,7 @@ fn condition(name: &[u8], words: &[u32], end: usize) {
     while value < 6 {
         let at = wholes::signed(value);
         let values = [at; 1];
-        tested(terms::evaluate::satisfied(words, 0, end, &values));
+        tested(evaluation::satisfied(words, 0, end, &values));
         value += 1;
     }
     text(b"\n");
@@ -381,6 +399,9 @@ fn main() {
     calculations();
     counts();
     sets();
+    windows_of_range();
+    windows_of_all();
+    windows_of_others();
     conditions();
     size_rule();
 }

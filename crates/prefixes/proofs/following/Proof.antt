@@ -1,9 +1,6 @@
-use lib.IntN.{sucℤ}
+use lib.IntN.{sucℤ, +ℤ-one}
 use Rattle.prefixes.proofs.Orders.{suc-fits}
 use Rattle.wholes.proofs.Laws.{back}
-use mir.Val.{SFits}
-use lib.IntN.{+ℤ-one}
-use mathlib.Core.Path.{_≡_, refl, sym, ap, _∙_}
 use Rattle.prefixes.proofs.following.Statement.{statement}
 use Rattle.prefixes.proofs.following.Tie as tie
 

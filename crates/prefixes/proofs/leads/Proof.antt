@@ -1,9 +1,9 @@
+use Prim.Native.Nat.{ℕ, _+_, _*_, _-_, _^_, _≤_}
+use mathlib.Core.Path.{ap, _∙_}
+use native.Mathlib.Omega.{arith}
+use borrow.Author.Needs.{needs}
 use Rattle.prefixes.proofs.Windows.{block-fits, tells-below, tells-above, tells-block}
 use Rattle.terms.specs.Words.{terms}
-use Prim.Native.Nat.{ℕ, _+_, _*_, _-_, _^_, _≤_, _<_}
-use native.Mathlib.Omega.{arith}
-use mathlib.Core.Path.{_≡_, refl, sym, ap, _∙_}
-use borrow.Author.Needs.{needs}
 use Rattle.prefixes.proofs.leads.Statement.{statement}
 use Rattle.prefixes.proofs.leads.Tie as tie
 

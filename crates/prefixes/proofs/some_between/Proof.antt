@@ -1,14 +1,14 @@
+use mathlib.Core.Bool.{Bool}
+use mathlib.Core.Path.{sym, subst, _∙_}
+use borrow.Author.Needs.{needs}
+use lib.IntN.{ℤ}
 use Rattle.prefixes.proofs.Candidates.{decides-first, decides-rest}
 use Rattle.prefixes.proofs.Orders.{read₃}
 use Rattle.wholes.proofs.Laws.{read₂}
 use Rattle.terms.specs.declared.Numbers.{Numbers}
 use Rattle.prefixes.specs.Between.{Decides}
 use Rattle.terms.specs.Words.{terms}
-use Rattle.prefixes.specs.Ends.{topEnds, pairEnds, topRest, pairRest, anyIn, someEnd, isYes, holds, tryAt, tryEnd, itemEnds, numbersAfter}
-use lib.IntN.{ℤ, sucℤ}
-use mathlib.Core.Bool.{Bool, true, false}
-use mathlib.Core.Path.{_≡_, refl, sym, ap, subst, _∙_}
-use borrow.Author.Needs.{needs}
+use Rattle.prefixes.specs.Ends.{someEnd, holds, tryAt, tryEnd}
 use Rattle.prefixes.proofs.some_between.Statement.{statement}
 use Rattle.prefixes.proofs.some_between.Tie as tie
 

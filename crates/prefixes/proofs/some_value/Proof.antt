@@ -1,12 +1,12 @@
-use Rattle.prefixes.proofs.Windows.{spans-all, spans-set}
 use mathlib.Core.List.{[]}
+use mathlib.Core.Path.{sym, subst₂, _∙_}
+use borrow.Author.Needs.{needs}
+use lib.IntN.{ℤ}
+use Rattle.prefixes.proofs.Windows.{spans-all, spans-set}
 use Rattle.wholes.proofs.Laws.{back}
 use Rattle.prefixes.specs.Between.{Decides}
 use Rattle.terms.specs.Words.{terms}
-use Rattle.prefixes.specs.Ends.{topEnds, pairEnds, topRest, pairRest, anyIn, someEnd, isYes, holds, tryAt, tryEnd, itemEnds, numbersAfter}
-use lib.IntN.{ℤ, sucℤ}
-use mathlib.Core.Path.{_≡_, refl, sym, ap, subst₂, _∙_}
-use borrow.Author.Needs.{needs}
+use Rattle.prefixes.specs.Ends.{holds}
 use Rattle.prefixes.proofs.some_value.Statement.{statement}
 use Rattle.prefixes.proofs.some_value.Tie as tie
 

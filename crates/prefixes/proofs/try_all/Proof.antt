@@ -1,19 +1,18 @@
-use Rattle.prefixes.proofs.Walks.{walks, walked}
-use Rattle.terms.specs.Words.{termAt}
-use Rattle.wholes.proofs.Laws.{read₂}
-use mir.Val.{toZ, ofZ}
-use mir.Syntax.{w64}
 use Prim.Native.Nat.{_-_}
+use mathlib.Core.Bool.{true, false}
+use mathlib.Core.Path.{_≡_, refl, sym, ap, _∙_}
 use native.Mathlib.Omega.{arith}
 use borrow.Author.Needs.{needs}
+use lib.IntN.{ℤ}
+use mir.Val.{toZ, ofZ}
+use mir.Syntax.{w64}
+use Rattle.prefixes.proofs.Walks.{walks, walked}
+use Rattle.terms.specs.Words.{termAt, terms}
+use Rattle.wholes.proofs.Laws.{read₂}
 use Rattle.terms.specs.declared.Term.{Term}
 use Rattle.terms.specs.declared.Outcome.{Outcome}
 use Rattle.terms.specs.declared.Numbers.{Numbers}
-use Rattle.terms.specs.Words.{terms}
-use Rattle.prefixes.specs.Ends.{topEnds, pairEnds, topRest, pairRest, anyIn, someEnd, isYes, holds, tryAt, tryEnd, itemEnds, numbersAfter}
-use lib.IntN.{ℤ, sucℤ}
-use mathlib.Core.Bool.{Bool, true, false}
-use mathlib.Core.Path.{_≡_, refl, sym, ap, _∙_}
+use Rattle.prefixes.specs.Ends.{anyIn, someEnd, holds, tryEnd, itemEnds, numbersAfter}
 use Rattle.prefixes.proofs.try_all.Statement.{statement}
 use Rattle.prefixes.proofs.try_all.Tie as tie
 

@@ -1,13 +1,12 @@
+use mathlib.Core.Path.{sym, ap, _∙_}
+use borrow.Author.Needs.{needs}
+use lib.Signed.{leZ}
+use lib.IntN.{ℤ}
 use Rattle.prefixes.proofs.Orders.{try-in, try-above, try-below}
 use Rattle.wholes.proofs.Laws.{read₁, read₂}
-use Rattle.terms.specs.Meaning.{membership}
+use Rattle.evaluation.specs.Meaning.{membership}
 use Rattle.terms.specs.Words.{terms}
-use Rattle.prefixes.specs.Ends.{topEnds, pairEnds, topRest, pairRest, anyIn, someEnd, isYes, holds, tryAt, tryEnd, itemEnds, numbersAfter}
-use lib.Signed.{leZ}
-use lib.IntN.{ℤ, sucℤ}
-use mathlib.Core.Bool.{Bool, true, false}
-use mathlib.Core.Path.{_≡_, refl, sym, ap, _∙_}
-use borrow.Author.Needs.{needs}
+use Rattle.prefixes.specs.Ends.{isYes, holds}
 use Rattle.prefixes.proofs.try_at.Statement.{statement}
 use Rattle.prefixes.proofs.try_at.Tie as tie
 

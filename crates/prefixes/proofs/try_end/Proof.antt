@@ -1,12 +1,11 @@
+use mathlib.Core.Path.{sym, ap, _∙_}
+use borrow.Author.Needs.{needs}
+use lib.Signed.{leZ}
+use lib.IntN.{sucℤ}
 use Rattle.prefixes.proofs.Orders.{read₃, suc-above, try-above, try-first, try-second}
 use Rattle.wholes.proofs.Laws.{back, read₁, read₂}
 use Rattle.terms.specs.Words.{terms}
-use Rattle.prefixes.specs.Ends.{topEnds, pairEnds, topRest, pairRest, anyIn, someEnd, isYes, holds, tryAt, tryEnd, itemEnds, numbersAfter}
-use lib.Signed.{leZ}
-use lib.IntN.{ℤ, sucℤ}
-use mathlib.Core.Bool.{Bool, true, false}
-use mathlib.Core.Path.{_≡_, refl, sym, ap, _∙_}
-use borrow.Author.Needs.{needs}
+use Rattle.prefixes.specs.Ends.{holds, tryAt}
 use Rattle.prefixes.proofs.try_end.Statement.{statement}
 use Rattle.prefixes.proofs.try_end.Tie as tie
 

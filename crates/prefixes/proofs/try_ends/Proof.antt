@@ -1,12 +1,10 @@
+use mathlib.Core.Bool.{Bool, true}
+use mathlib.Core.Path.{sym, ap, _∙_}
+use borrow.Author.Needs.{needs}
 use Rattle.prefixes.proofs.Orders.{read₃}
 use Rattle.terms.specs.Numbers.{pick}
-use Rattle.prefixes.specs.declared.Ends.{Ends}
 use Rattle.terms.specs.Words.{terms}
-use Rattle.prefixes.specs.Ends.{topEnds, pairEnds, topRest, pairRest, anyIn, someEnd, isYes, holds, tryAt, tryEnd, itemEnds, numbersAfter}
-use lib.IntN.{ℤ, sucℤ}
-use mathlib.Core.Bool.{Bool, true, false}
-use mathlib.Core.Path.{_≡_, refl, sym, ap, _∙_}
-use borrow.Author.Needs.{needs}
+use Rattle.prefixes.specs.Ends.{anyIn, holds, tryEnd}
 use Rattle.prefixes.proofs.try_ends.Statement.{statement}
 use Rattle.prefixes.proofs.try_ends.Tie as tie
 

@@ -1,6 +1,6 @@
-use Rattle.sizes.specs.Sizes.{judgedEnd, sizes, countSizes}
-use mathlib.Core.Path.{_≡_, refl, sym, ap, _∙_}
+use mathlib.Core.Path.{ap, _∙_}
 use borrow.Author.Needs.{needs}
+use Rattle.sizes.specs.Sizes.{judgedEnd, sizes}
 use Rattle.sizes.proofs.measure.Statement.{statement}
 use Rattle.sizes.proofs.measure.Tie as tie
 

@@ -1,6 +1,6 @@
 use borrow.Author.Tests.{lt-ltb, le-ltb}
-use Rattle.sizes.specs.Sizes.{judgedEnd, sizes, countSizes}
 use borrow.Author.Needs.{needs}
+use Rattle.sizes.specs.Sizes.{countSizes}
 use Rattle.sizes.proofs.measure_counts.Statement.{statement}
 use Rattle.sizes.proofs.measure_counts.Tie as tie
 

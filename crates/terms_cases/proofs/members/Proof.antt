@@ -2,12 +2,6 @@ use Prim.Native.Nat.{_≤_, _-_}
 use borrow.Author.Needs.{needs}
 use Rattle.terms_cases.proofs.members.Statement.{statement}
 use Rattle.terms_cases.proofs.members.Tie as tie
-use Rattle.terms_cases.proofs.members.Reads as reads
-use Rattle.terms_cases.proofs.members.Lts as lts
-use Rattle.terms.proofs.evaluate.contains.Reads as contains-reads
-use Rattle.terms_cases.proofs.tested.Reads as tested-reads
-use Rattle.terms_cases.proofs.text.Reads as text-reads
-use Rattle.wholes.proofs.signed.Reads as signed-reads
 
 abbrev Inv-loop : tie.InvT-loop
 Inv-loop name words end none value₀ t6 value = value ≤ 12
@@ -15,51 +9,39 @@ Inv-loop name words end none value₀ t6 value = value ≤ 12
 abbrev μ-loop : tie.MeasureT-loop
 μ-loop name words end none value₀ t6 value = 12 - value
 
--- src/main.rt:75:5
 text-requires : tie.Need-text-requires Inv-loop μ-loop
 text-requires c κs = search needs
 
--- src/main.rt:78:5
 loop-holds : tie.Need-loop-holds Inv-loop μ-loop
 loop-holds c = search needs
 
--- src/main.rt:79:57
 slice-aggregate-contains : tie.Need-slice-aggregate-contains Inv-loop μ-loop
 slice-aggregate-contains c = search needs
 
--- src/main.rt:79:64
 signed-requires : tie.Need-signed-requires Inv-loop μ-loop
 signed-requires c κs = search needs
 
--- src/main.rt:79:16
 contains-requires : tie.Need-contains-requires Inv-loop μ-loop
 contains-requires c κs = search needs
 
--- src/main.rt:79:9
 tested-requires : tie.Need-tested-requires Inv-loop μ-loop
 tested-requires c κs = search needs
 
--- src/main.rt:80:9
 add-value : tie.Need-add-value Inv-loop μ-loop
 add-value c = search needs
 
--- src/main.rt:78:5
 loop-less : tie.Need-loop-less Inv-loop μ-loop
 loop-less c = search needs
 
--- src/main.rt:78:5
 loop-again : tie.Need-loop-again Inv-loop μ-loop
 loop-again c = search needs
 
--- src/main.rt:82:10
 slice-aggregate-text : tie.Need-slice-aggregate-text Inv-loop μ-loop
 slice-aggregate-text c = search needs
 
--- src/main.rt:82:5
 text-requires-2 : tie.Need-text-requires-2 Inv-loop μ-loop
 text-requires-2 c κs = search needs
 
--- src/main.rt:74:1
 returns : tie.Need-returns Inv-loop μ-loop
 returns c = search needs
 

@@ -1,9 +1,9 @@
-use Rattle.wholes.proofs.Laws.{read₁, sign-alike, positive-alike, zero-at-most}
+use mathlib.Core.Bool.{true, false, not}
+use mathlib.Core.Path.{_≡_, sym, _∙_}
+use borrow.Author.Needs.{needs}
 use lib.IntN.{ℤ, pos}
 use lib.Signed.{leZ, nonNeg}
-use mathlib.Core.Bool.{true, false, not}
-use mathlib.Core.Path.{_≡_, refl, sym, ap, _∙_}
-use borrow.Author.Needs.{needs}
+use Rattle.wholes.proofs.Laws.{read₁, sign-alike, positive-alike, zero-at-most}
 use Rattle.wholes.proofs.alike.Statement.{statement}
 use Rattle.wholes.proofs.alike.Tie as tie
 

@@ -1,9 +1,8 @@
-use Rattle.wholes.proofs.Laws.{read₂, equals-if, equals-not}
-use Rattle.wholes.specs.Wholes.{bounded, equals, sameSign}
-use lib.Signed.{leZ}
-use mathlib.Core.Bool.{true, false, not}
-use mathlib.Core.Path.{_≡_, refl, sym, ap, _∙_}
+use mathlib.Core.Bool.{true, false}
+use mathlib.Core.Path.{_≡_, sym, _∙_}
 use borrow.Author.Needs.{needs}
+use lib.Signed.{leZ}
+use Rattle.wholes.proofs.Laws.{read₂, equals-if, equals-not}
 use Rattle.wholes.proofs.equal.Statement.{statement}
 use Rattle.wholes.proofs.equal.Tie as tie
 

@@ -1,10 +1,10 @@
-use Rattle.wholes.proofs.Laws.{negative-next, negative-opposite, negative-abs, positive, back, read₁}
-use lib.Signed.{nonNeg, mag}
-use lib.IntN.{ℤ, pos, natAbs, negℤ, sucℤ, _+ℤ_, _-ℤ_, _*ℤ_, +ℤ-one}
-use native.Mathlib.Omega.{arith}
 use mathlib.Core.Bool.{true, false, not}
-use mathlib.Core.Path.{_≡_, refl, sym, ap, _∙_}
+use mathlib.Core.Path.{_≡_, sym, ap, _∙_}
+use native.Mathlib.Omega.{arith}
 use borrow.Author.Needs.{needs}
+use lib.Signed.{nonNeg, mag}
+use lib.IntN.{ℤ, pos, natAbs, negℤ, sucℤ, _+ℤ_, +ℤ-one}
+use Rattle.wholes.proofs.Laws.{negative-next, negative-opposite, negative-abs, positive, back, read₁}
 use Rattle.wholes.proofs.magnitude.Statement.{statement}
 use Rattle.wholes.proofs.magnitude.Tie as tie
 

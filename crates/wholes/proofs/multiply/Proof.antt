@@ -1,11 +1,9 @@
-use Rattle.wholes.proofs.Laws.{back, read₁, read₂, fits-bound, bounded-in, bounded-out, abs-product, product-zero, product-in, product-out}
-use Prim.Native.Nat.{_+_, _*_, _^_, _≤_, _<_, _/_}
-use Rattle.wholes.specs.Wholes.{bounded, equals, sameSign}
-use lib.IntN.{ℤ, pos, natAbs, negℤ, sucℤ, _+ℤ_, _-ℤ_, _*ℤ_, +ℤ-one}
+use Prim.Native.Nat.{_^_, _≤_, _<_, _/_}
+use mathlib.Core.Path.{_≡_, sym}
 use native.Mathlib.Omega.{arith}
-use mathlib.Core.Bool.{true, false, not}
-use mathlib.Core.Path.{_≡_, refl, sym, ap, _∙_}
 use borrow.Author.Needs.{needs}
+use lib.IntN.{natAbs, _*ℤ_}
+use Rattle.wholes.proofs.Laws.{back, read₁, read₂, fits-bound, bounded-in, bounded-out, abs-product, product-zero, product-in, product-out}
 use Rattle.wholes.proofs.multiply.Statement.{statement}
 use Rattle.wholes.proofs.multiply.Tie as tie
 

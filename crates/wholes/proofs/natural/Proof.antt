@@ -1,6 +1,6 @@
-use Rattle.wholes.proofs.Laws.{positive-fits}
-use mir.Facts.{toZ-ofZ}
 use borrow.Author.Needs.{needs}
+use mir.Facts.{toZ-ofZ}
+use Rattle.wholes.proofs.Laws.{positive-fits}
 use Rattle.wholes.proofs.natural.Statement.{statement}
 use Rattle.wholes.proofs.natural.Tie as tie
 

@@ -1,5 +1,5 @@
-use Rattle.wholes.proofs.Laws.{below-zero}
 use mir.Facts.{toZ-ofZ}
+use Rattle.wholes.proofs.Laws.{below-zero}
 use Rattle.wholes.proofs.negative.Statement.{statement}
 use Rattle.wholes.proofs.negative.Tie as tie
 

@@ -1,13 +1,13 @@
-use Rattle.wholes.proofs.Laws.{back, read₁, read₂, fits-bound, bounded-in, bounded-out, difference-unlike, difference-alike}
-use Prim.Native.Nat.{_+_, _*_, _^_, _≤_, _<_, _/_}
-use lib.Dec.{leb}
-use borrow.Author.Tests.{leb-true, leb-false, lt-leb}
-use Rattle.wholes.specs.Wholes.{bounded, equals, sameSign}
-use lib.IntN.{ℤ, pos, natAbs, negℤ, sucℤ, _+ℤ_, _-ℤ_, _*ℤ_, +ℤ-one}
+use Prim.Native.Nat.{_+_, _^_, _≤_, _<_}
+use mathlib.Core.Bool.{true, false}
+use mathlib.Core.Path.{_≡_, sym, ap, _∙_}
 use native.Mathlib.Omega.{arith}
-use mathlib.Core.Bool.{true, false, not}
-use mathlib.Core.Path.{_≡_, refl, sym, ap, _∙_}
+use borrow.Author.Tests.{leb-true, leb-false}
 use borrow.Author.Needs.{needs}
+use lib.Dec.{leb}
+use lib.IntN.{natAbs, _-ℤ_}
+use Rattle.wholes.proofs.Laws.{back, read₁, read₂, fits-bound, bounded-in, bounded-out, difference-unlike, difference-alike}
+use Rattle.wholes.specs.Wholes.{bounded, sameSign}
 use Rattle.wholes.proofs.subtract.Statement.{statement}
 use Rattle.wholes.proofs.subtract.Tie as tie
 

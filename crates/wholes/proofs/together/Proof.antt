@@ -1,8 +1,8 @@
-use Prim.Native.Nat.{_+_, _*_, _^_, _≤_, _<_, _/_}
-use mathlib.Core.Path.{_≡_, refl, sym, ap, _∙_}
+use Prim.Native.Nat.{_+_, _^_}
+use mathlib.Core.Path.{sym}
 use native.Mathlib.Omega.{arith}
+use borrow.Author.Tests.{lt-leb}
 use Rattle.wholes.proofs.Laws.{leb-shift}
-use borrow.Author.Tests.{leb-true, leb-false, lt-leb}
 use Rattle.wholes.proofs.together.Statement.{statement}
 use Rattle.wholes.proofs.together.Tie as tie
 

@@ -1,9 +1,7 @@
-use Rattle.wholes.proofs.Laws.{back, bounded-in, bounded-out}
-use Prim.Native.Nat.{_+_, _*_, _^_, _≤_, _<_, _/_}
-use Rattle.wholes.specs.Wholes.{bounded, equals, sameSign}
-use lib.IntN.{ℤ, pos, natAbs, negℤ, sucℤ, _+ℤ_, _-ℤ_, _*ℤ_, +ℤ-one}
-use mathlib.Core.Path.{_≡_, refl, sym, ap, _∙_}
+use mathlib.Core.Path.{sym}
 use borrow.Author.Needs.{needs}
+use lib.IntN.{pos}
+use Rattle.wholes.proofs.Laws.{back, bounded-in, bounded-out}
 use Rattle.wholes.proofs.whole.Statement.{statement}
 use Rattle.wholes.proofs.whole.Tie as tie
 

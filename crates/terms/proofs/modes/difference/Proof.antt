@@ -1,9 +1,9 @@
+use mathlib.Core.Path.{sym, ap, _∙_}
+use borrow.Author.Needs.{needs}
+use lib.IntN.{ℤ, _+ℤ_, _-ℤ_}
 use Rattle.wholes.proofs.Laws.{read₂}
 use Rattle.terms.specs.declared.Mode.{Mode}
-use Rattle.terms.specs.Numbers.{bounded, equals, differenceOf, oppositeOf}
-use lib.IntN.{ℤ, pos, natAbs, negℤ, sucℤ, _+ℤ_, _-ℤ_, _*ℤ_, +ℤ-one}
-use mathlib.Core.Path.{_≡_, refl, sym, ap, _∙_}
-use borrow.Author.Needs.{needs}
+use Rattle.terms.specs.Numbers.{bounded, differenceOf}
 use Rattle.terms.proofs.modes.difference.Statement.{statement}
 use Rattle.terms.proofs.modes.difference.Tie as tie
 

@@ -1,12 +1,11 @@
+use mathlib.Core.Bool.{not}
+use mathlib.Core.Path.{sym, ap, _∙_}
+use borrow.Author.Needs.{needs}
+use lib.Signed.{leZ}
 use Rattle.wholes.proofs.Laws.{read₂}
 use Rattle.terms.specs.declared.Comparison.{Comparison}
-use Rattle.terms.specs.Steps.{binary, unary, equalTo, within, from, upTo, compares, compared, variableOf}
-use Rattle.terms.specs.Numbers.{pick, bounded, equals, differenceOf, oppositeOf, kept}
-use lib.Signed.{leZ}
-use lib.IntN.{ℤ, pos, negℤ, _+ℤ_, _-ℤ_, _*ℤ_}
-use mathlib.Core.Bool.{true, false, not}
-use mathlib.Core.Path.{_≡_, refl, sym, ap, _∙_}
-use borrow.Author.Needs.{needs}
+use Rattle.terms.specs.Steps.{compares}
+use Rattle.terms.specs.Numbers.{equals}
 use Rattle.terms.proofs.step.holds.Statement.{statement}
 use Rattle.terms.proofs.step.holds.Tie as tie
 

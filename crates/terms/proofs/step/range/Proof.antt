@@ -1,13 +1,12 @@
+use mathlib.Core.Bool.{Bool, true, false}
+use mathlib.Core.Path.{_≡_, sym, ap, _∙_}
+use borrow.Author.Needs.{needs}
+use lib.Signed.{leZ}
 use Rattle.wholes.proofs.Laws.{read₂}
 use Rattle.terms.specs.declared.Pair.{Pair}
 use Rattle.terms.specs.Tests.{noted}
-use Rattle.terms.specs.Steps.{binary, unary, equalTo, within, from, upTo, compares, compared, variableOf}
-use Rattle.terms.specs.Numbers.{pick, bounded, equals, differenceOf, oppositeOf, kept}
-use lib.Signed.{leZ}
-use lib.IntN.{ℤ, pos, negℤ, _+ℤ_, _-ℤ_, _*ℤ_}
-use mathlib.Core.Bool.{Bool, true, false, not}
-use mathlib.Core.Path.{_≡_, refl, sym, ap, _∙_}
-use borrow.Author.Needs.{needs}
+use Rattle.terms.specs.Steps.{within}
+use Rattle.terms.specs.Numbers.{pick}
 use Rattle.terms.proofs.step.range.Statement.{statement}
 use Rattle.terms.proofs.step.range.Tie as tie
 

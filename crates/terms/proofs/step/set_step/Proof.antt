@@ -1,11 +1,11 @@
+use mathlib.Core.Path.{sym, ap, _∙_}
+use borrow.Author.Needs.{needs}
+use lib.IntN.{ℤ}
 use Rattle.wholes.proofs.Laws.{read₁}
 use Rattle.terms.specs.declared.Term.{Term}
 use Rattle.terms.specs.declared.Outcome.{Outcome}
 use Rattle.terms.specs.Numbers.{topOf, pairOf}
-use Rattle.terms.specs.Steps.{operated, equalTo, within, from, upTo, setStep, stepOf}
-use lib.IntN.{ℤ, pos, negℤ, _+ℤ_, _-ℤ_, _*ℤ_}
-use mathlib.Core.Path.{_≡_, refl, sym, ap, _∙_}
-use borrow.Author.Needs.{needs}
+use Rattle.terms.specs.Steps.{operated, within, from, upTo, setStep}
 use Rattle.terms.proofs.step.set_step.Statement.{statement}
 use Rattle.terms.proofs.step.set_step.Tie as tie
 

@@ -1,9 +1,9 @@
+use mathlib.Core.Path.{sym, ap, _∙_}
+use borrow.Author.Needs.{needs}
+use lib.IntN.{ℤ}
 use Rattle.wholes.proofs.Laws.{read₁}
 use Rattle.terms.specs.declared.Kind.{Kind}
-use Rattle.terms.specs.Steps.{operated, equalTo, within, from, upTo, setStep, stepOf}
-use lib.IntN.{ℤ, pos, negℤ, _+ℤ_, _-ℤ_, _*ℤ_}
-use mathlib.Core.Path.{_≡_, refl, sym, ap, _∙_}
-use borrow.Author.Needs.{needs}
+use Rattle.terms.specs.Steps.{setStep, stepOf}
 use Rattle.terms.proofs.step.step.Statement.{statement}
 use Rattle.terms.proofs.step.step.Tie as tie
 

@@ -1,11 +1,11 @@
-use Rattle.wholes.proofs.Laws.{read₁}
-use Rattle.terms.specs.Numbers.{bounded, kept}
+use mathlib.Core.Path.{ap, _∙_}
+use borrow.Author.Tests.{lt-ltb, le-ltb}
+use borrow.Author.Needs.{needs}
 use lib.ListN.{length, getD}
 use lib.IntN.{pos}
-use Rattle.terms.specs.Steps.{binary, unary, equalTo, within, from, upTo, compares, compared, variableOf}
-use borrow.Author.Tests.{lt-ltb, le-ltb}
-use mathlib.Core.Path.{_≡_, refl, sym, ap, _∙_}
-use borrow.Author.Needs.{needs}
+use Rattle.wholes.proofs.Laws.{read₁}
+use Rattle.terms.specs.Numbers.{bounded, kept}
+use Rattle.terms.specs.Steps.{variableOf}
 use Rattle.terms.proofs.step.variable.Statement.{statement}
 use Rattle.terms.proofs.step.variable.Tie as tie
 

@@ -1,6 +1,6 @@
 use borrow.Author.Tests.{lt-ltb, le-ltb}
-use Rattle.terms.specs.Tests.{noted, combined}
 use borrow.Author.Needs.{needs}
+use Rattle.terms.specs.Tests.{combined}
 use Rattle.terms.proofs.truths.combine.Statement.{statement}
 use Rattle.terms.proofs.truths.combine.Tie as tie
 

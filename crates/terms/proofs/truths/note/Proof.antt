@@ -1,7 +1,7 @@
 use native.Mathlib.Nat.{add-zero}
 use borrow.Author.Tests.{lt-ltb, le-ltb}
-use Rattle.terms.specs.Tests.{noted, combined}
 use borrow.Author.Needs.{needs}
+use Rattle.terms.specs.Tests.{noted}
 use Rattle.terms.proofs.truths.note.Statement.{statement}
 use Rattle.terms.proofs.truths.note.Tie as tie
 

@@ -1,0 +1,78 @@
+-- The counts of a repetition: `{n}`, `{a~b}`, `{a~}` or `{~b}`. A list of them ends in its `~`, where it has one.
+-- "A repetition's counts are a set of whole numbers from 0: `{length - 8}` with length 5 is the empty set."
+-- Assumes nothing.
+use Prim.Native.Nat.{ℕ, _-_}
+use mathlib.Core.List.{List}
+use lib.Dec.{ltb}
+use lib.IntN.{ℤ, pos}
+use Rattle.basis.specs.Counts.{Counts, exactly, atLeast, span}
+use Rattle.terms.specs.Numbers.{pick}
+use Rattle.terms.specs.Words.{termAt, terms}
+use Rattle.evaluation.specs.Meaning.{run}
+use Rattle.evaluation.specs.declared.Counted.{Counted}
+use Rattle.evaluation.specs.declared.Form.{Form}
+use Rattle.terms.specs.declared.Kind.{Kind}
+use Rattle.terms.specs.declared.Mode.{Mode}
+use Rattle.terms.specs.declared.Numbers.{Numbers}
+use Rattle.terms.specs.declared.Term.{Term}
+use Rattle.terms.specs.declared.Trial.{Trial}
+
+-- a set of counts as an answer
+abbrev pub shown : Counts → Counted
+shown Counts.none = Counted.None
+shown (Counts.from low) = Counted.From low
+shown (Counts.within low more) = Counted.Within low more
+
+-- how counts are written, by their last term
+abbrev pub formOf : Term → Form
+formOf Term.Range = Form.Closed
+formOf Term.From = Form.Open
+formOf Term.UpTo = Form.UpTo
+formOf (Term.Part o) = Form.Exact
+formOf (Term.Single o) = Form.Exact
+formOf Term.All = Form.Exact
+formOf Term.Or = Form.Exact
+formOf Term.Except = Form.Exact
+formOf Term.And = Form.Exact
+formOf (Term.Compare k) = Form.Exact
+formOf Term.Bad = Form.Exact
+
+-- where the calculations end, of a list whose last term has number `last`
+abbrev pub calculationsEnd : Form → ℕ → ℕ → ℕ
+calculationsEnd Form.Exact last end = end
+calculationsEnd Form.Open last end = last
+calculationsEnd Form.UpTo last end = last
+calculationsEnd Form.Closed last end = last
+
+abbrev pub ofOne : Form → ℤ → Counted
+ofOne Form.Exact a = shown (exactly a)
+ofOne Form.Open a = shown (atLeast a)
+ofOne Form.UpTo a = shown (span (pos 0) a)
+ofOne Form.Closed a = Counted.Malformed
+
+abbrev pub ofTwo : Form → ℤ → ℤ → Counted
+ofTwo Form.Exact a b = Counted.Malformed
+ofTwo Form.Open a b = Counted.Malformed
+ofTwo Form.UpTo a b = Counted.Malformed
+ofTwo Form.Closed a b = shown (span a b)
+
+-- `{n}`, `{a~}` and `{~b}` of one number, `{a~b}` of two
+abbrev pub ofNumbers : Form → Numbers → Counted
+ofNumbers f Numbers.Zero = Counted.Malformed
+ofNumbers f (Numbers.One a) = ofOne f a
+ofNumbers f (Numbers.Two a b) = ofTwo f a b
+ofNumbers f (Numbers.Three a b c) = Counted.Malformed
+ofNumbers f (Numbers.Four a b c d) = Counted.Malformed
+
+abbrev pub ofTrial : Form → Trial → Counted
+ofTrial f (Trial.Running s t) = ofNumbers f s
+ofTrial f Trial.Malformed = Counted.Malformed
+ofTrial f Trial.Overflow = Counted.Overflow
+
+-- counts with that form, at the values of the variables
+abbrev pub countsBy : Form → List ℤ → List ℕ → ℕ → ℕ → Counted
+countsBy f env ws start end = ofTrial f (run Kind.Calculation Mode.Values env (pos 0) start (terms ws start (calculationsEnd f (end - 1) end)) Numbers.Zero 1 .trial)
+
+-- the counts that the terms from number `start` up to number `end` allow
+unfoldable pub counts : List ℤ → List ℕ → ℕ → ℕ → Counted
+counts env ws start end = pick (ltb start end) (countsBy (formOf (termAt ws (end - 1))) env ws start end) Counted.Malformed

@@ -1,0 +1,33 @@
+-- Which lists of terms have a variable: "a set with a variable counting as `~`", "counts with a variable allowing all".
+-- Assumes nothing.
+use mathlib.Core.Bool.{Bool, true, false}
+use mathlib.Core.List.{List, [], _∷_}
+use Rattle.terms.specs.Numbers.{pick}
+use Rattle.terms.specs.declared.Operation.{Operation}
+use Rattle.terms.specs.declared.Term.{Term}
+
+abbrev pub isUse : Operation → Bool
+isUse (Operation.Number n) = false
+isUse (Operation.Variable k) = true
+isUse Operation.Add = false
+isUse Operation.Subtract = false
+isUse Operation.Multiply = false
+isUse Operation.Negate = false
+isUse Operation.Unknown = false
+
+abbrev pub usesVariable : Term → Bool
+usesVariable (Term.Part o) = isUse o
+usesVariable (Term.Single o) = isUse o
+usesVariable Term.All = false
+usesVariable Term.Range = false
+usesVariable Term.From = false
+usesVariable Term.UpTo = false
+usesVariable Term.Or = false
+usesVariable Term.Except = false
+usesVariable Term.And = false
+usesVariable (Term.Compare k) = false
+usesVariable Term.Bad = false
+
+unfoldable pub hasVariable : List Term → Bool
+hasVariable [] = false
+hasVariable (x ∷ xs) = pick (usesVariable x) true (hasVariable xs)

@@ -1,0 +1,40 @@
+-- The list of terms that holds a calculation, a set or a condition: each sign stands after what it joins.
+-- Assumes nothing.
+use mathlib.Core.List.{List, [], _∷_, _++_}
+use Rattle.terms.specs.declared.Operation.{Operation}
+use Rattle.terms.specs.declared.Term.{Term}
+use Rattle.trees.specs.Trees.{Calculation, literal, use-of, plus, minus, times, opposite, ValueSet, everything, only, between, from, upTo, either, without, Condition, compare, both, any}
+
+-- the last term of a calculation, and the terms before it
+abbrev pub lastSign : Calculation → Operation
+lastSign (literal n) = Operation.Number n
+lastSign (use-of k) = Operation.Variable k
+lastSign (plus a b) = Operation.Add
+lastSign (minus a b) = Operation.Subtract
+lastSign (times a b) = Operation.Multiply
+lastSign (opposite a) = Operation.Negate
+
+unfoldable pub before : Calculation → List Term
+before (literal n) = []
+before (use-of k) = []
+before (plus a b) = (before a ++ (Term.Part (lastSign a) ∷ [])) ++ (before b ++ (Term.Part (lastSign b) ∷ []))
+before (minus a b) = (before a ++ (Term.Part (lastSign a) ∷ [])) ++ (before b ++ (Term.Part (lastSign b) ∷ []))
+before (times a b) = (before a ++ (Term.Part (lastSign a) ∷ [])) ++ (before b ++ (Term.Part (lastSign b) ∷ []))
+before (opposite a) = before a ++ (Term.Part (lastSign a) ∷ [])
+
+abbrev pub calculationTerms : Calculation → List Term
+calculationTerms c = before c ++ (Term.Part (lastSign c) ∷ [])
+
+unfoldable pub setTerms : ValueSet → List Term
+setTerms everything = Term.All ∷ []
+setTerms (only a) = before a ++ (Term.Single (lastSign a) ∷ [])
+setTerms (between a b) = (calculationTerms a ++ calculationTerms b) ++ (Term.Range ∷ [])
+setTerms (from a) = calculationTerms a ++ (Term.From ∷ [])
+setTerms (upTo b) = calculationTerms b ++ (Term.UpTo ∷ [])
+setTerms (either x y) = (setTerms x ++ setTerms y) ++ (Term.Or ∷ [])
+setTerms (without x y) = (setTerms x ++ setTerms y) ++ (Term.Except ∷ [])
+
+unfoldable pub conditionTerms : Condition → List Term
+conditionTerms (compare k a b) = (calculationTerms a ++ calculationTerms b) ++ (Term.Compare k ∷ [])
+conditionTerms (both x y) = (conditionTerms x ++ conditionTerms y) ++ (Term.And ∷ [])
+conditionTerms (any x y) = (conditionTerms x ++ conditionTerms y) ++ (Term.Or ∷ [])
