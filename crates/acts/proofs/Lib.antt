@@ -1,0 +1,4 @@
+-- Laws of what a step does.
+pub mod Walks
+pub mod Sizes
+pub mod Parts

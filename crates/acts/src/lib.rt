@@ -1,0 +1,197 @@
+// What a step does with the first entry of a run's list, decided by reading alone.
+ghost use mathlib.Core.Path.{_≡_};
+ghost use Prim.Native.Nat.{ℕ, _+_, _*_, _^_, _≤_, _<_};
+ghost use lib.ListN.{length, take, drop};
+ghost use Rattle.basis.specs.Bits.{value, frameBits};
+ghost use Rattle.layout.specs.Constructs.{constructAt};
+ghost use Rattle.layout.specs.Held.{term-words, size-of, literal-bytes};
+ghost use Rattle.acts.specs.Stored.{stored as storedOf};
+ghost use Rattle.acts.specs.Acts.{in-table, enter as enterOf, ahead-at, branch-act, case-test, case-act, members-act, choice-act, turn-act, counted as countedOf, literal-act, range-act, uint-act, construct-act, actOf};
+use evaluation::Counted;
+use evaluation::Tested;
+use layout::Construct;
+use layout::Passes;
+
+// What a step is to do.
+pub enum Act {
+    // Something in the table is missing or against its layout, or a calculation leaves 2^62.
+    Broken,
+    // No match.
+    Fail,
+    // The construct takes the entry's place.
+    Enter { construct: usize },
+    // The parts from `start` up to `end`, `count` of them, take the entry's place.
+    Members { start: usize, end: usize, count: usize },
+    // The body is done, and the entry again with one pass more.
+    Again { body: usize },
+    // The entry is done.
+    Leave,
+    // A field of `width` bits holds; `value` goes to the variable `binder` - 1, where there is one.
+    Take { width: usize, binder: usize, value: u64 },
+}
+
+// A power of two.
+fn power(k: u64) -> u64
+    requires { ⌜ k < 32 ⌝ }
+    ensures { λ r. ⌜ r ≡ 2 ^ k ⌝ }
+{
+    1u64 << k
+}
+
+// Whether the string with number n is in the set whose words begin at `base`.
+fn stored(table: &[u32], base: usize, n: u64) -> bool
+    requires { ⌜ (base < 16384) × (n < 512) ⌝ }
+    ensures { λ r. ⌜ r ≡ storedOf (now (table .entry)) base n ⌝ }
+{
+    let at = (n / 32) as usize;
+    let w = layout::word(table, base + at) as u64;
+    w / power(n % 32) % 2 == 1
+}
+
+fn size(construct: Construct) -> usize
+    ensures { λ r. ⌜ r ≡ size-of construct ⌝ }
+{
+    match construct {
+        Construct::Missing => 0,
+        Construct::Alternative { size } => size,
+        Construct::Concatenation { size } => size,
+        Construct::Repetition { size, passes: _ } => size,
+        Construct::Switch { size } => size,
+        Construct::Use { rule: _ } => 1,
+        Construct::Literal { length: _ } => 1,
+        Construct::Range { low: _, high: _ } => 1,
+        Construct::Uint { width: _, start: _, end: _, binder: _ } => 1,
+        Construct::Eod => 1,
+    }
+}
+
+// How many constructs construct j is; a missing one is none.
+fn size_at(table: &[u32], j: usize) -> usize
+    ensures { λ r. ⌜ (r ≡ size-of (constructAt (now (table .entry)) j)) × (r ≤ 256) ⌝ }
+{
+    size(layout::construct_at(table, j))
+}
+
+// The first branch whose prediction set holds what comes next, number n.
+fn branch(table: &[u32], n: u64, start: usize, end: usize) -> Act
+    requires { ⌜ (n < 512) × (end ≤ 256) ⌝ }
+    ensures { λ r. ⌜ r ≡ branch-act (now (table .entry)) n start end ⌝ }
+{
+    let mut j = start;
+    while j < end {
+        if stored(table, 7744 + 32 * j, n) {
+            return Act::Enter { construct: j };
+        }
+        let step = size_at(table, j);
+        if step == 0 {
+            return Act::Broken;
+        }
+        j += step;
+    }
+    Act::Fail
+}
+
+// The words of the terms.
+fn terms(table: &[u32]) -> &[u32]
+    requires { ⌜ 16384 ≤ length (now table) ⌝ }
+    ensures { λ r. ⌜ now r ≡ term-words (now (table .entry)) ⌝ }
+{
+    &table[2624..5696]
+}
+
+// Whether the case j of a switch is to be taken; one without a condition is the default.
+fn case_holds(table: &[u32], values: &[i64], j: usize) -> Tested
+    requires { ⌜ (16384 ≤ length (now table)) × (j < 256) ⌝ }
+    ensures { λ r. ⌜ r ≡ case-test (now (table .entry)) (now (values .entry)) j ⌝ }
+{
+    let start = layout::word(table, 576 + 8 * j + 6);
+    let end = layout::word(table, 576 + 8 * j + 7);
+    if start < end {
+        return evaluation::satisfied(terms(table), start, end, values);
+    }
+    Tested::Yes
+}
+
+// The first case to be taken.
+fn case(table: &[u32], values: &[i64], start: usize, end: usize) -> Act
+    requires { ⌜ (16384 ≤ length (now table)) × (end ≤ 256) ⌝ }
+    ensures { λ r. ⌜ r ≡ case-act (now (table .entry)) (now (values .entry)) start end ⌝ }
+{
+    let mut j = start;
+    while j < end {
+        match case_holds(table, values, j) {
+            Tested::Yes => {
+                return Act::Enter { construct: j };
+            }
+            Tested::No => {}
+            Tested::Malformed => {
+                return Act::Broken;
+            }
+            Tested::Overflow => {
+                return Act::Broken;
+            }
+        }
+        let step = size_at(table, j);
+        if step == 0 {
+            return Act::Broken;
+        }
+        j += step;
+    }
+    Act::Fail
+}
+
+// The members of a concatenation, counted.
+fn members(table: &[u32], start: usize, end: usize) -> Act
+    requires { ⌜ end ≤ 256 ⌝ }
+    ensures { λ r. ⌜ r ≡ members-act (now (table .entry)) start end ⌝ }
+{
+    let mut count = 0;
+    let mut j = start;
+    while j < end {
+        let step = size_at(table, j);
+        if step == 0 {
+            return Act::Broken;
+        }
+        count += 1;
+        j += step;
+    }
+    Act::Members { start, end, count }
+}
+
+// A construct takes the entry's place, if the table has it.
+fn enter(table: &[u32], i: usize) -> Act
+    ensures { λ r. ⌜ r ≡ enterOf (now (table .entry)) i ⌝ }
+{
+    if i < 256 {
+        if i < layout::word(table, 2) {
+            return Act::Enter { construct: i };
+        }
+    }
+    Act::Broken
+}
+
+// Lookahead is asked only where the counts leave a choice.
+fn choice(table: &[u32], n: u64, i: usize) -> Act
+    requires { ⌜ (n < 512) × (i < 255) ⌝ }
+    ensures { λ r. ⌜ r ≡ choice-act (now (table .entry)) n i ⌝ }
+{
+    if stored(table, 7744 + 32 * (i + 1), n) {
+        return Act::Again { body: i + 1 };
+    }
+    if stored(table, 7744 + 32 * i + 16, n) {
+        return Act::Leave;
+    }
+    Act::Fail
+}
+
+fn counts(table: &[u32], values: &[i64], passes: Passes) -> Counted
+    requires { ⌜ 16384 ≤ length (now table) ⌝ }
+    ensures { λ r. ⌜ r ≡ countedOf (now (table .entry)) (now (values .entry)) passes ⌝ }
+{
+    match passes {
+        Passes::Optional => Counted::Within { low: 0, more: 1 },
+        Passes::Any => Counted::From { low: 0 },
+        Passes::Some => Counted::From { low: 1 },
+        Passes::Counted { start, end } => evaluation::counts::count(terms(table), start, end, values),
+    }
+}
