@@ -2,3 +2,4 @@
 pub mod Walks
 pub mod Sizes
 pub mod Parts
+pub mod Literals

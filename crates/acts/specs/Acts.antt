@@ -107,9 +107,13 @@ counted ws vs (Passes.Counted start end) = counts vs (term-words ws) start end
 abbrev pub field-act : List ℕ → ℕ → ℕ → ℕ → Bool → Act
 field-act fs p width binder holds = pick holds (Act.Take width binder (value (take width (drop p (frameBits fs))))) Act.Fail
 
+-- n bytes of the literal of construct i, from byte k on, stand where its first byte would stand at bit p
+abbrev pub literal-holds : List ℕ → List ℕ → ℕ → ℕ → ℕ → ℕ → Bool
+literal-holds ws fs p i k n = same (take (8 * n) (drop (p + 8 * k) (frameBits fs))) (frameBits (literal-bytes ws i k n))
+
 abbrev pub literal-act : List ℕ → List ℕ → ℕ → ℕ → ℕ → Act
 literal-act ws fs p i n =
-    pick (leb (p + 8 * n) (bits-of fs)) (pick (same (take (8 * n) (drop p (frameBits fs))) (frameBits (literal-bytes ws i 0 n))) (Act.Take (8 * n) 0 0) Act.Fail) Act.Fail
+    pick (leb (p + 8 * n) (bits-of fs)) (pick (literal-holds ws fs p i 0 n) (Act.Take (8 * n) 0 0) Act.Fail) Act.Fail
 
 abbrev pub range-act : List ℕ → ℕ → ℕ → ℕ → Act
 range-act fs p low high =

@@ -1,12 +1,14 @@
 // What a step does with the first entry of a run's list, decided by reading alone.
 ghost use mathlib.Core.Path.{_≡_};
 ghost use Prim.Native.Nat.{ℕ, _+_, _*_, _^_, _≤_, _<_};
+ghost use lib.IntN.{pos};
 ghost use lib.ListN.{length, take, drop};
 ghost use Rattle.basis.specs.Bits.{value, frameBits};
 ghost use Rattle.layout.specs.Constructs.{constructAt};
-ghost use Rattle.layout.specs.Held.{term-words, size-of, literal-bytes};
+ghost use Rattle.evaluation.specs.Meaning.{membership};
+ghost use Rattle.layout.specs.Held.{term-words, terms-of, size-of, literal-byte};
 ghost use Rattle.acts.specs.Stored.{stored as storedOf};
-ghost use Rattle.acts.specs.Acts.{in-table, enter as enterOf, ahead-at, branch-act, case-test, case-act, members-act, choice-act, turn-act, counted as countedOf, literal-act, range-act, uint-act, construct-act, actOf};
+ghost use Rattle.acts.specs.Acts.{in-table, enter as enterOf, ahead-at, branch-act, case-test, case-act, members-act, choice-act, turn-act, counted as countedOf, literal-holds, literal-act, by-set, range-act, uint-act, construct-act, actOf};
 use evaluation::Counted;
 use evaluation::Tested;
 use layout::Construct;
@@ -193,5 +195,135 @@ fn counts(table: &[u32], values: &[i64], passes: Passes) -> Counted
         Passes::Any => Counted::From { low: 0 },
         Passes::Some => Counted::From { low: 1 },
         Passes::Counted { start, end } => evaluation::counts::count(terms(table), start, end, values),
+    }
+}
+
+// What a repetition with k passes begun does.
+fn turn(table: &[u32], frame: &[u8], p: usize, i: usize, k: u64, counts: Counted) -> Act
+    requires { ⌜ (i < 255) × (p ≤ 8 * length (now frame)) × (length (now frame) ≤ 256) ⌝ }
+    ensures { λ r. ⌜ r ≡ turn-act (now (table .entry)) (ahead-at (now (frame .entry)) p) i k counts ⌝ }
+{
+    match counts {
+        Counted::None => Act::Fail,
+        Counted::From { low } => {
+            if k < low {
+                return Act::Again { body: i + 1 };
+            }
+            choice(table, ahead(frame, p), i)
+        }
+        Counted::Within { low, more } => {
+            if k < low {
+                return Act::Again { body: i + 1 };
+            }
+            if more <= k - low {
+                return Act::Leave;
+            }
+            choice(table, ahead(frame, p), i)
+        }
+        Counted::Malformed => Act::Broken,
+        Counted::Overflow => Act::Broken,
+    }
+}
+
+// The number of what comes next, which is below 512.
+fn ahead(frame: &[u8], p: usize) -> u64
+    requires { ⌜ (p ≤ 8 * length (now frame)) × (length (now frame) ≤ 256) ⌝ }
+    ensures { λ r. ⌜ (r ≡ ahead-at (now (frame .entry)) p) × (r < 512) ⌝ }
+{
+    frame::ahead(frame, p)
+}
+
+// Byte k of the literal of construct i.
+fn literal_byte(table: &[u32], i: usize, k: usize) -> u64
+    requires { ⌜ (i < 256) × (k < 32) ⌝ }
+    ensures { λ r. ⌜ (r ≡ literal-byte (now (table .entry)) i k) × (r < 256) ⌝ }
+{
+    let w = layout::word(table, 5696 + 8 * i + k / 4) as u64;
+    let place = (k % 4) as u64;
+    w / power(8 * place) % 256
+}
+
+// Whether the n bytes of a literal stand at bit p.
+fn literal_holds(table: &[u32], frame: &[u8], p: usize, i: usize, n: usize) -> bool
+    requires { ⌜ (p + 8 * n ≤ 8 * length (now frame)) × (length (now frame) ≤ 256) × (i < 256) × (n ≤ 32) ⌝ }
+    ensures { λ r. ⌜ r ≡ literal-holds (now (table .entry)) (now (frame .entry)) p i 0 n ⌝ }
+{
+    let mut k = 0;
+    while k < n {
+        let want = literal_byte(table, i, k);
+        if frame::bits(frame, p + 8 * k, 8) != want {
+            return false;
+        }
+        k += 1;
+    }
+    true
+}
+
+fn literal(table: &[u32], frame: &[u8], p: usize, i: usize, n: usize) -> Act
+    requires { ⌜ (p ≤ 8 * length (now frame)) × (length (now frame) ≤ 256) × (i < 256) × (n ≤ 32) ⌝ }
+    ensures { λ r. ⌜ r ≡ literal-act (now (table .entry)) (now (frame .entry)) p i n ⌝ }
+{
+    if p + 8 * n <= 8 * frame.len() {
+        if literal_holds(table, frame, p, i, n) {
+            return Act::Take { width: 8 * n, binder: 0, value: 0 };
+        }
+    }
+    Act::Fail
+}
+
+fn range(frame: &[u8], p: usize, low: usize, high: usize) -> Act
+    requires { ⌜ (p ≤ 8 * length (now frame)) × (length (now frame) ≤ 256) ⌝ }
+    ensures { λ r. ⌜ r ≡ range-act (now (frame .entry)) p low high ⌝ }
+{
+    if p + 8 <= 8 * frame.len() {
+        let v = frame::bits(frame, p, 8) as usize;
+        if low <= v {
+            if v <= high {
+                return Act::Take { width: 8, binder: 0, value: 0 };
+            }
+        }
+    }
+    Act::Fail
+}
+
+fn uint(table: &[u32], frame: &[u8], values: &[i64], p: usize, width: usize, start: usize, end: usize, binder: usize) -> Act
+    requires { ⌜ (16384 ≤ length (now table)) × (p ≤ 8 * length (now frame)) × (length (now frame) ≤ 256) × (width ≤ 32) ⌝ }
+    ensures { λ r. ⌜ r ≡ uint-act (now (table .entry)) (now (frame .entry)) (now (values .entry)) p width start end binder ⌝ }
+{
+    if p + width <= 8 * frame.len() {
+        let value = frame::bits(frame, p, width);
+        return by_set(
+            set_holds(table, values, start, end, value),
+            width,
+            binder,
+            value,
+        );
+    }
+    Act::Fail
+}
+
+// Whether a field's value is in the set of these terms.
+fn set_holds(table: &[u32], values: &[i64], start: usize, end: usize, value: u64) -> Tested
+    requires { ⌜ (16384 ≤ length (now table)) × (value < 4294967296) ⌝ }
+    ensures { λ r. ⌜ r ≡ membership (now (values .entry)) (pos value) start (terms-of (now (table .entry)) start end) ⌝ }
+{
+    evaluation::contains(terms(table), start, end, values, whole(value))
+}
+
+fn whole(n: u64) -> i64
+    requires { ⌜ n < 4294967296 ⌝ }
+    ensures { λ r. ⌜ r ≡ pos n ⌝ }
+{
+    wholes::signed(n)
+}
+
+fn by_set(tested: Tested, width: usize, binder: usize, value: u64) -> Act
+    ensures { λ r. ⌜ r ≡ by-set tested width binder value ⌝ }
+{
+    match tested {
+        Tested::Yes => Act::Take { width, binder, value },
+        Tested::No => Act::Fail,
+        Tested::Malformed => Act::Broken,
+        Tested::Overflow => Act::Broken,
     }
 }

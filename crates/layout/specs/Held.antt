@@ -109,10 +109,14 @@ first-case ws v (b ∷ bs) =
 
 -- ---- fields
 
--- n bytes of the literal of construct i from byte k on
+-- byte k of the literal of construct i
+abbrev pub literal-byte : List ℕ → ℕ → ℕ → ℕ
+literal-byte ws i k = word ws (literals-at + 8 * i + k / 4) / 2 ^ (8 * (k % 4)) % 256
+
+-- n bytes of it from byte k on
 unfoldable pub literal-bytes : List ℕ → ℕ → ℕ → ℕ → List ℕ
 literal-bytes ws i k zero = []
-literal-bytes ws i k (suc n) = word ws (literals-at + 8 * i + k / 4) / 256 ^ (k % 4) % 256 ∷ literal-bytes ws i (k + 1) n
+literal-bytes ws i k (suc n) = literal-byte ws i k ∷ literal-bytes ws i (k + 1) n
 
 abbrev pub literal-node : List ℕ → HeldNode
 literal-node bytes = field (8 * length bytes) (λ c v bits. same bits (frameBits bytes)) (λ bits. same bits (frameBits bytes)) (λ c v bits. v)
