@@ -70,7 +70,7 @@ same-byte s b n l = either (same s (bitsOf 8 b)) refl
 
 -- a literal holds where its first byte does and the rest of it
 pub literal-more : (ws fs : List ℕ) (p i k n : ℕ) → p + 8 * k + 8 ≤ 8 * length fs → literal-byte ws i k < 256
-  → literal-holds ws fs p i k (suc n) ≡ (eqb (value (take 8 (drop (p + 8 * k) (frameBits fs)))) (literal-byte ws i k) && literal-holds ws fs p i (k + 1) n)
+    → literal-holds ws fs p i k (suc n) ≡ (eqb (value (take 8 (drop (p + 8 * k) (frameBits fs)))) (literal-byte ws i k) && literal-holds ws fs p i (k + 1) n)
 unfolding literal-bytes frameBits
 literal-more ws fs p i k n l b =
     let s = drop (p + 8 * k) (frameBits fs) in

@@ -1,8 +1,8 @@
--- A construct is at most 256 constructs.
+-- What holds of every construct that a table has at a place, whatever its words: `Fine`.
 -- Assumes nothing.
-use Prim.Native.Nat.{ℕ, _+_, _≤_}
+use Prim.Native.Nat.{ℕ, _+_, _≤_, _<_}
 use native.Mathlib.Omega.{arith}
-use borrow.Author.Tests.{leb-true}
+use borrow.Author.Tests.{leb-true, ltb-true}
 use mathlib.Core.Path.{_≡_, refl}
 use mathlib.Core.Bool.{Bool, true, false}
 use mathlib.Core.List.{List}
@@ -11,47 +11,76 @@ use Rattle.layout.specs.Places.{construct-word}
 use Rattle.layout.specs.Constructs.{pick, both, branches, listed, repetitionOf, innerOf, literalOf, rangeOf, uintOf, leafOf, withoutParts, constructOf, constructAt}
 use Rattle.layout.specs.Held.{size-of}
 use Rattle.layout.specs.declared.Construct.{Construct}
+use Rattle.acts.specs.Acts.{Fine}
 
-abbrev Small : Construct → Type 0
-Small c = size-of c ≤ 256
+-- both tests passed
+both-true : (s t : Bool) → both s t ≡ true → (s ≡ true) × (t ≡ true)
+both-true true t e = (refl, e)
+both-true false t e = let z : _≡_ {A = ℕ} 0 1 = cc in absurd (omega arith)
+
+-- it is fine, and at most 256 constructs
+pub record Good (i : ℕ) (c : Construct) : Type 0 where
+  pub fine : Fine i c
+  pub small : size-of c ≤ 256
+
+missing : (i : ℕ) → Good i Construct.Missing
+missing i = record { fine = tt; small = omega arith }
 
 -- one of two by a test, with what the test says
-picked : (t : Bool) (a b : Construct) → (t ≡ true → Small a) → Small b → Small (pick t a b)
-picked true a b h k = h refl
-picked false a b h k = k
+picked : (i : ℕ) (t : Bool) (a b : Construct) → (t ≡ true → Good i a) → Good i b → Good i (pick t a b)
+picked i true a b h k = h refl
+picked i false a b h k = k
 
-inner-small : (i kind size a b c : ℕ) → branches i size ≡ true → Small (innerOf kind size a b c)
-inner-small i kind size a b c e =
-    let l : size ≤ 256 = within (leb 2 size) e in
-    picked (eqb kind 1) (Construct.Alternative size) _ (λ x. l)
-    (picked (eqb kind 2) (Construct.Concatenation size) _ (λ x. l)
-    (picked (eqb kind 3) (repetitionOf size a b c) (Construct.Switch size) (λ x. repetition-small l) l))
-  where
-    within : (t : Bool) → both t (leb (i + size) 256) ≡ true → size ≤ 256
-    within true z = let y = leb-true (i + size) 256 z in omega arith
-    within false z = let y : _≡_ {A = ℕ} 0 1 = cc in absurd (omega arith)
+or-missing : (i : ℕ) (t : Bool) (a : Construct) → (t ≡ true → Good i a) → Good i (pick t a Construct.Missing)
+or-missing i t a h = picked i t a Construct.Missing h (missing i)
 
-    repetition-small : size ≤ 256 → Small (repetitionOf size a b c)
-    repetition-small l =
-        picked (eqb a 1) _ _ (λ x. l) (picked (eqb a 2) _ _ (λ x. l) (picked (eqb a 3) _ _ (λ x. l) (picked (both (eqb a 4) (listed b c)) _ Construct.Missing (λ x. l) (omega arith))))
+repetition-good : (i size a b c : ℕ) → 2 ≤ size → i + size ≤ 256 → Good i (repetitionOf size a b c)
+repetition-good i size a b c m l =
+    picked i (eqb a 1) _ _ (λ x. record { fine = omega arith; small = omega arith })
+    (picked i (eqb a 2) _ _ (λ x. record { fine = omega arith; small = omega arith })
+    (picked i (eqb a 3) _ _ (λ x. record { fine = omega arith; small = omega arith })
+    (or-missing i (both (eqb a 4) (listed b c)) _ (λ x. record { fine = omega arith; small = omega arith }))))
 
-leaf-small : (kind a b c d : ℕ) → Small (leafOf kind a b c d)
-leaf-small kind a b c d =
-    picked (eqb kind 5) (pick (ltb a 64) (Construct.Use a) Construct.Missing) _ (λ x. one-or-none (ltb a 64) (Construct.Use a) (omega arith))
-    (picked (eqb kind 6) (literalOf a) _ (λ x. one-or-none (both (leb 1 a) (leb a 32)) (Construct.Literal a) (omega arith))
-    (picked (eqb kind 7) (rangeOf a b) _ (λ x. one-or-none (both (ltb a 128) (ltb b 128)) (Construct.Range a b) (omega arith))
-    (picked (eqb kind 8) (uintOf a b c d) _ (λ x. one-or-none (both (both (leb 1 a) (leb a 32)) (both (listed b c) (leb d 64))) (Construct.Uint a b c d) (omega arith)) (one-or-none (eqb kind 9) Construct.Eod (omega arith)))))
-  where
-    one-or-none : (t : Bool) (x : Construct) → Small x → Small (pick t x Construct.Missing)
-    one-or-none t x l = picked t x Construct.Missing (λ e. l) (omega arith)
+inner-good : (i kind size a b c : ℕ) → branches i size ≡ true → Good i (innerOf kind size a b c)
+inner-good i kind size a b c e =
+    let x = both-true (leb 2 size) (leb (i + size) 256) e in
+    let m : 2 ≤ size = leb-true 2 size (x .0) in
+    let l : i + size ≤ 256 = leb-true (i + size) 256 (x .1) in
+    picked i (eqb kind 1) (Construct.Alternative size) _ (λ y. record { fine = l; small = omega arith })
+    (picked i (eqb kind 2) (Construct.Concatenation size) _ (λ y. record { fine = l; small = omega arith })
+    (picked i (eqb kind 3) (repetitionOf size a b c) (Construct.Switch size) (λ y. repetition-good i size a b c m l) (record { fine = l; small = omega arith })))
 
-construct-small : (i kind size a b c d : ℕ) → Small (constructOf i kind size a b c d)
+uint-good : (i a b c d : ℕ) → Good i (uintOf a b c d)
+uint-good i a b c d =
+    or-missing i (both (both (leb 1 a) (leb a 32)) (both (listed b c) (leb d 64))) (Construct.Uint a b c d)
+    (λ e.
+    let x = both-true (both (leb 1 a) (leb a 32)) (both (listed b c) (leb d 64)) e in
+    let y = both-true (leb 1 a) (leb a 32) (x .0) in
+    let z = both-true (listed b c) (leb d 64) (x .1) in
+    record { fine = (leb-true a 32 (y .1), leb-true d 64 (z .1)); small = omega arith })
+
+leaf-good : (i kind a b c d : ℕ) → Good i (leafOf kind a b c d)
+leaf-good i kind a b c d =
+    picked i (eqb kind 5) (pick (ltb a 64) (Construct.Use a) Construct.Missing) _ (λ x. or-missing i (ltb a 64) (Construct.Use a) (λ e. record { fine = ltb-true a 64 e; small = omega arith }))
+    (picked i (eqb kind 6) (literalOf a) _
+    (λ x. or-missing i (both (leb 1 a) (leb a 32)) (Construct.Literal a) (λ e. record { fine = leb-true a 32 (both-true (leb 1 a) (leb a 32) e .1); small = omega arith }))
+    (picked i (eqb kind 7) (rangeOf a b) _ (λ x. or-missing i (both (ltb a 128) (ltb b 128)) (Construct.Range a b) (λ e. record { fine = tt; small = omega arith }))
+    (picked i (eqb kind 8) (uintOf a b c d) _ (λ x. uint-good i a b c d) (or-missing i (eqb kind 9) Construct.Eod (λ e. record { fine = tt; small = omega arith })))))
+
+construct-good : (i kind size a b c d : ℕ) → Good i (constructOf i kind size a b c d)
 unfolding constructOf
-construct-small i kind size a b c d =
-    picked (both (leb 1 kind) (leb kind 4)) (pick (branches i size) (innerOf kind size a b c) Construct.Missing) (withoutParts kind size a b c d)
-    (λ x. picked (branches i size) (innerOf kind size a b c) Construct.Missing (λ e. inner-small i kind size a b c e) (omega arith))
-    (picked (eqb size 1) (leafOf kind a b c d) Construct.Missing (λ x. leaf-small kind a b c d) (omega arith))
+construct-good i kind size a b c d =
+    picked i (both (leb 1 kind) (leb kind 4)) (pick (branches i size) (innerOf kind size a b c) Construct.Missing) (withoutParts kind size a b c d)
+    (λ x. or-missing i (branches i size) (innerOf kind size a b c) (λ e. inner-good i kind size a b c e)) (or-missing i (eqb size 1) (leafOf kind a b c d) (λ x. leaf-good i kind a b c d))
+
+good : (ws : List ℕ) (i : ℕ) → Good i (constructAt ws i)
+unfolding constructAt
+good ws i =
+    or-missing i (ltb i 256) (constructOf i (construct-word ws i 0) (construct-word ws i 1) (construct-word ws i 2) (construct-word ws i 3) (construct-word ws i 4) (construct-word ws i 5))
+    (λ e. construct-good i (construct-word ws i 0) (construct-word ws i 1) (construct-word ws i 2) (construct-word ws i 3) (construct-word ws i 4) (construct-word ws i 5))
 
 pub size-small : (ws : List ℕ) (i : ℕ) → size-of (constructAt ws i) ≤ 256
-unfolding constructAt
-size-small ws i = picked (ltb i 256) (constructOf i (construct-word ws i 0) (construct-word ws i 1) (construct-word ws i 2) (construct-word ws i 3) (construct-word ws i 4) (construct-word ws i 5)) Construct.Missing (λ e. construct-small i (construct-word ws i 0) (construct-word ws i 1) (construct-word ws i 2) (construct-word ws i 3) (construct-word ws i 4) (construct-word ws i 5)) (omega arith)
+size-small ws i = good ws i .small
+
+pub construct-fine : (ws : List ℕ) (i : ℕ) → Fine i (constructAt ws i)
+construct-fine ws i = good ws i .fine

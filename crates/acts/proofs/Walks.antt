@@ -58,4 +58,4 @@ module _ {A : Type 0} (visit : ℕ → A → A) (done broken : A) (ws : List ℕ
 
   -- whatever stands after it, the first part is visited
   pub walk-first : (j : ℕ) → j < end → (rest : A) × (walk visit done broken (end - j) ws j end ≡ visit j rest)
-  walk-first j l = elim (ℕ-discrete (size j) 0) [ | yes z ↦ (broken, walk-missing j l z) | no z ↦ (walk visit done broken (end - (j + size j)) ws (j + size j) end, walk-part j l z) ]
+  walk-first j l = elim (ℕ-discrete (size j) 0) [ yes z ↦ (broken, walk-missing j l z) | no z ↦ (walk visit done broken (end - (j + size j)) ws (j + size j) end, walk-part j l z) ]

@@ -5,7 +5,7 @@
 -- and itself again; at or past its greatest, nothing; between, by go or stop, in neither no match. Literal, range, uint and eod compare".
 -- Broken where "a table entry missing or against the layout, a calculation past 2^62" is met.
 -- Assumes nothing.
-use Prim.Native.Nat.{ℕ, zero, suc, _+_, _*_, _-_, _/_}
+use Prim.Native.Nat.{ℕ, zero, suc, _+_, _*_, _-_, _/_, _≤_, _<_}
 use mathlib.Core.Bool.{Bool, true, false}
 use mathlib.Core.List.{List}
 use lib.Dec.{leb, ltb, eqb}
@@ -47,9 +47,9 @@ bits-of fs = 8 * length fs
 unfoldable pub walk : {A : Type 0} → (ℕ → A → A) → A → A → ℕ → List ℕ → ℕ → ℕ → A
 walk visit done broken zero ws j end = done
 walk visit done broken (suc most) ws j end =
-    elim (ltb j end)
-    [ true ↦ visit j (elim (eqb (size-of (constructAt ws j)) 0) [ true ↦ broken | false ↦ walk visit done broken most ws (j + size-of (constructAt ws j)) end ])
-    | false ↦ done
+    elim (ltb j end) [
+      | true ↦ visit j (elim (eqb (size-of (constructAt ws j)) 0) [ true ↦ broken | false ↦ walk visit done broken most ws (j + size-of (constructAt ws j)) end ])
+      | false ↦ done
     ]
 
 -- the first branch whose prediction set holds what comes next, number n; a bad one before it is against the layout
@@ -133,7 +133,23 @@ uint-act ws fs vs p width start end binder =
     (by-set (membership vs (pos (value (take width (drop p (frameBits fs))))) start (terms-of ws start end)) width binder (value (take width (drop p (frameBits fs)))))
     Act.Fail
 
+abbrev pub end-act : List ℕ → ℕ → Act
+end-act fs p = pick (eqb p (bits-of fs)) Act.Leave Act.Fail
+
 -- ---- all kinds
+
+-- what holds of every construct i that `constructAt` answers
+abbrev pub Fine : ℕ → Construct → Type 0
+Fine i Construct.Missing = Unit {0}
+Fine i (Construct.Alternative size) = i + size ≤ 256
+Fine i (Construct.Concatenation size) = i + size ≤ 256
+Fine i (Construct.Repetition size passes) = i < 255
+Fine i (Construct.Switch size) = i + size ≤ 256
+Fine i (Construct.Use rule) = rule < 64
+Fine i (Construct.Literal n) = n ≤ 32
+Fine i (Construct.Range low high) = Unit {0}
+Fine i (Construct.Uint width start end binder) = (width ≤ 32) × (binder ≤ 64)
+Fine i Construct.Eod = Unit {0}
 
 abbrev pub construct-act : List ℕ → List ℕ → List ℤ → ℕ → ℕ → ℕ → Construct → Act
 construct-act ws fs vs p i k Construct.Missing = Act.Broken
@@ -145,7 +161,7 @@ construct-act ws fs vs p i k (Construct.Use rule) = enter ws (rule-word ws rule 
 construct-act ws fs vs p i k (Construct.Literal n) = literal-act ws fs p i n
 construct-act ws fs vs p i k (Construct.Range low high) = range-act fs p low high
 construct-act ws fs vs p i k (Construct.Uint width start end binder) = uint-act ws fs vs p width start end binder
-construct-act ws fs vs p i k Construct.Eod = pick (eqb p (bits-of fs)) Act.Leave Act.Fail
+construct-act ws fs vs p i k Construct.Eod = end-act fs p
 
 -- the opening use of the start rule has number 256
 unfoldable pub actOf : List ℕ → List ℕ → List ℤ → ℕ → ℕ → ℕ → Act

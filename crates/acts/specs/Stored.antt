@@ -27,5 +27,5 @@ tests-of ws =
     record {
       predicts = λ b x. stored ws (prediction-at b) (number x);
       continues = λ i x. stored ws (prediction-at (i + 1)) (number x);
-      exits = λ i x. stored ws (follow-at i) (number x)
+      exits = λ i x. stored ws (follow-at i) (number x);
     }

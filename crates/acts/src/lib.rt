@@ -8,7 +8,7 @@ ghost use Rattle.layout.specs.Constructs.{constructAt};
 ghost use Rattle.evaluation.specs.Meaning.{membership};
 ghost use Rattle.layout.specs.Held.{term-words, terms-of, size-of, literal-byte};
 ghost use Rattle.acts.specs.Stored.{stored as storedOf};
-ghost use Rattle.acts.specs.Acts.{in-table, enter as enterOf, ahead-at, branch-act, case-test, case-act, members-act, choice-act, turn-act, counted as countedOf, literal-holds, literal-act, by-set, range-act, uint-act, construct-act, actOf};
+ghost use Rattle.acts.specs.Acts.{in-table, enter as enterOf, ahead-at, branch-act, case-test, case-act, members-act, choice-act, turn-act, counted as countedOf, literal-holds, literal-act, by-set, range-act, uint-act, end-act, Fine, construct-act, actOf};
 use evaluation::Counted;
 use evaluation::Tested;
 use layout::Construct;
@@ -21,15 +21,27 @@ pub enum Act {
     // No match.
     Fail,
     // The construct takes the entry's place.
-    Enter { construct: usize },
+    Enter {
+        construct: usize,
+    },
     // The parts from `start` up to `end`, `count` of them, take the entry's place.
-    Members { start: usize, end: usize, count: usize },
+    Members {
+        start: usize,
+        end: usize,
+        count: usize,
+    },
     // The body is done, and the entry again with one pass more.
-    Again { body: usize },
+    Again {
+        body: usize,
+    },
     // The entry is done.
     Leave,
     // A field of `width` bits holds; `value` goes to the variable `binder` - 1, where there is one.
-    Take { width: usize, binder: usize, value: u64 },
+    Take {
+        width: usize,
+        binder: usize,
+        value: u64,
+    },
 }
 
 // A power of two.
@@ -62,7 +74,12 @@ fn size(construct: Construct) -> usize
         Construct::Use { rule: _ } => 1,
         Construct::Literal { length: _ } => 1,
         Construct::Range { low: _, high: _ } => 1,
-        Construct::Uint { width: _, start: _, end: _, binder: _ } => 1,
+        Construct::Uint {
+            width: _,
+            start: _,
+            end: _,
+            binder: _,
+        } => 1,
         Construct::Eod => 1,
     }
 }
@@ -194,7 +211,12 @@ fn counts(table: &[u32], values: &[i64], passes: Passes) -> Counted
         Passes::Optional => Counted::Within { low: 0, more: 1 },
         Passes::Any => Counted::From { low: 0 },
         Passes::Some => Counted::From { low: 1 },
-        Passes::Counted { start, end } => evaluation::counts::count(terms(table), start, end, values),
+        Passes::Counted { start, end } => evaluation::counts::count(
+            terms(table),
+            start,
+            end,
+            values,
+        ),
     }
 }
 
@@ -265,7 +287,11 @@ fn literal(table: &[u32], frame: &[u8], p: usize, i: usize, n: usize) -> Act
 {
     if p + 8 * n <= 8 * frame.len() {
         if literal_holds(table, frame, p, i, n) {
-            return Act::Take { width: 8 * n, binder: 0, value: 0 };
+            return Act::Take {
+                width: 8 * n,
+                binder: 0,
+                value: 0,
+            };
         }
     }
     Act::Fail
@@ -279,14 +305,27 @@ fn range(frame: &[u8], p: usize, low: usize, high: usize) -> Act
         let v = frame::bits(frame, p, 8) as usize;
         if low <= v {
             if v <= high {
-                return Act::Take { width: 8, binder: 0, value: 0 };
+                return Act::Take {
+                    width: 8,
+                    binder: 0,
+                    value: 0,
+                };
             }
         }
     }
     Act::Fail
 }
 
-fn uint(table: &[u32], frame: &[u8], values: &[i64], p: usize, width: usize, start: usize, end: usize, binder: usize) -> Act
+fn uint(
+    table: &[u32],
+    frame: &[u8],
+    values: &[i64],
+    p: usize,
+    width: usize,
+    start: usize,
+    end: usize,
+    binder: usize,
+) -> Act
     requires { ⌜ (16384 ≤ length (now table)) × (p ≤ 8 * length (now frame)) × (length (now frame) ≤ 256) × (width ≤ 32) ⌝ }
     ensures { λ r. ⌜ r ≡ uint-act (now (table .entry)) (now (frame .entry)) (now (values .entry)) p width start end binder ⌝ }
 {
@@ -321,9 +360,97 @@ fn by_set(tested: Tested, width: usize, binder: usize, value: u64) -> Act
     ensures { λ r. ⌜ r ≡ by-set tested width binder value ⌝ }
 {
     match tested {
-        Tested::Yes => Act::Take { width, binder, value },
+        Tested::Yes => Act::Take {
+            width,
+            binder,
+            value,
+        },
         Tested::No => Act::Fail,
         Tested::Malformed => Act::Broken,
         Tested::Overflow => Act::Broken,
     }
+}
+
+// A repetition's first step or another.
+fn repeat(
+    table: &[u32],
+    frame: &[u8],
+    values: &[i64],
+    p: usize,
+    i: usize,
+    k: u64,
+    passes: Passes,
+) -> Act
+    requires { ⌜ (16384 ≤ length (now table)) × (i < 255) × (p ≤ 8 * length (now frame)) × (length (now frame) ≤ 256) ⌝ }
+    ensures { λ r. ⌜ r ≡ turn-act (now (table .entry)) (ahead-at (now (frame .entry)) p) i k (countedOf (now (table .entry)) (now (values .entry)) passes) ⌝ }
+{
+    turn(table, frame, p, i, k, counts(table, values, passes))
+}
+
+fn end(frame: &[u8], p: usize) -> Act
+    requires { ⌜ length (now frame) ≤ 256 ⌝ }
+    ensures { λ r. ⌜ r ≡ end-act (now (frame .entry)) p ⌝ }
+{
+    if p == 8 * frame.len() {
+        return Act::Leave;
+    }
+    Act::Fail
+}
+
+fn alternative(table: &[u32], frame: &[u8], p: usize, i: usize, size: usize) -> Act
+    requires { ⌜ (i + size ≤ 256) × (p ≤ 8 * length (now frame)) × (length (now frame) ≤ 256) ⌝ }
+    ensures { λ r. ⌜ r ≡ branch-act (now (table .entry)) (ahead-at (now (frame .entry)) p) (i + 1) (i + size) ⌝ }
+{
+    branch(table, ahead(frame, p), i + 1, i + size)
+}
+
+// What a construct's entry does, the construct being known.
+fn of_construct(
+    table: &[u32],
+    frame: &[u8],
+    values: &[i64],
+    p: usize,
+    i: usize,
+    k: u64,
+    construct: Construct,
+) -> Act
+    requires { ⌜ (16384 ≤ length (now table)) × (i < 256) × (p ≤ 8 * length (now frame)) × (length (now frame) ≤ 256) × Fine i construct ⌝ }
+    ensures { λ r. ⌜ r ≡ construct-act (now (table .entry)) (now (frame .entry)) (now (values .entry)) p i k construct ⌝ }
+{
+    match construct {
+        Construct::Missing => Act::Broken,
+        Construct::Alternative { size } => alternative(table, frame, p, i, size),
+        Construct::Concatenation { size } => members(table, i + 1, i + size),
+        Construct::Repetition { size: _, passes } => repeat(table, frame, values, p, i, k, passes),
+        Construct::Switch { size } => case(table, values, i + 1, i + size),
+        Construct::Use { rule } => enter(table, layout::word(table, 64 + 4 * rule)),
+        Construct::Literal { length } => literal(table, frame, p, i, length),
+        Construct::Range { low, high } => range(frame, p, low, high),
+        Construct::Uint {
+            width,
+            start,
+            end,
+            binder,
+        } => uint(table, frame, values, p, width, start, end, binder),
+        Construct::Eod => end(frame, p),
+    }
+}
+
+// What a step does with the entry (i, k) of a run at bit p: nothing is written.
+pub fn decide(table: &[u32], frame: &[u8], values: &[i64], p: usize, i: usize, k: u64) -> Act
+    requires { ⌜ (16384 ≤ length (now table)) × (i ≤ 256) × (p ≤ 8 * length (now frame)) × (length (now frame) ≤ 256) ⌝ }
+    ensures { λ r. ⌜ r ≡ actOf (now (table .entry)) (now (frame .entry)) (now (values .entry)) p i k ⌝ }
+{
+    if i == 256 {
+        return enter(table, layout::word(table, 64));
+    }
+    of_construct(
+        table,
+        frame,
+        values,
+        p,
+        i,
+        k,
+        layout::construct_at(table, i),
+    )
 }

@@ -152,14 +152,19 @@ combined-good j s t x y = go (ltb T 4)
   where
     T : ℕ
     T = (t * 2 + digit x) * 2 + digit y
+
     rest : T / 4 ≡ t
     rest = omega (arith, digit-most x, digit-most y)
+
     left : T / 2 % 2 ≡ digit x
     left = omega (arith, digit-most x, digit-most y)
+
     right : T % 2 ≡ digit y
     right = omega (arith, digit-most x, digit-most y)
+
     test : joins j (eqb (T / 2 % 2) 1) (eqb (T % 2) 1) ≡ joins j x y
     test = ap (λ (n : ℕ). joins j (eqb n 1) (eqb (T % 2) 1)) left ∙ ap (λ (n : ℕ). joins j (eqb (digit x) 1) (eqb n 1)) right ∙ ap (λ (b : Bool). joins j b (eqb (digit y) 1)) (digit-back x) ∙ ap (joins j x) (digit-back y)
+
     go : (b : Bool) → Good (Noted s t (joins j x y)) (pick b Trial.Malformed (noted s (T / 4) (joins j (eqb (T / 2 % 2) 1) (eqb (T % 2) 1))))
     go true = tt
     go false = rw (test, rest) (noted-good s t (joins j x y))

@@ -49,7 +49,7 @@ returns-3 c = search needs
 
 -- src/lib.rt:187:1
 returns-4 : tie.Need-returns-4
-returns-4 c = 
+returns-4 c =
     c .count .ensures
     ∙ (ap (λ (t : List ℕ). counts (c .before .before .before .before .before .before .args .values .now) t (c .before .before .before .passes .given .0 .0) (c .before .before .before .passes .given .0 .1 .0)) (c .before .terms .ensures) ∙ sym (ap (counted (c .before .before .before .before .before .before .args .table .now) (c .before .before .before .before .before .before .args .values .now)) (c .before .before .before .passes .given .1)))
 

@@ -45,7 +45,7 @@ bits-requires c κs = (omega arith, omega arith, omega arith)
 
 -- src/lib.rt:254:13
 returns : tie.Need-returns Inv-loop μ-loop
-returns c = 
+returns c =
     let ws = c .before .before .before .before .before .before .before .args .table .now in
     let fs = c .before .before .before .before .before .before .before .args .frame .now in
     let p = c .before .before .before .before .before .before .before .args .p in
@@ -68,7 +68,7 @@ loop-less c = omega arith
 
 -- src/lib.rt:251:5
 loop-again : tie.Need-loop-again Inv-loop μ-loop
-loop-again c = 
+loop-again c =
     let ws = c .before .before .before .before .before .before .before .args .table .now in
     let fs = c .before .before .before .before .before .before .before .args .frame .now in
     let p = c .before .before .before .before .before .before .before .args .p in
@@ -83,7 +83,7 @@ loop-again c =
 
 -- src/lib.rt:246:1
 returns-2 : tie.Need-returns-2 Inv-loop μ-loop
-returns-2 c = 
+returns-2 c =
     let e : c .before .before .before .before .args .n - c .before .loop .k ≡ 0 = omega arith in
     sym (ap (literal-holds (c .before .before .before .before .args .table .now) (c .before .before .before .before .args .frame .now) (c .before .before .before .before .args .p) (c .before .before .before .before .args .i) (c .before .loop .k)) e ∙ literal-done (c .before .before .before .before .args .table .now) (c .before .before .before .before .args .frame .now) (c .before .before .before .before .args .p) (c .before .before .before .before .args .i) (c .before .loop .k)) ∙ c .before .loop .inv .0
 

@@ -42,12 +42,13 @@ loop-less c = (let z : 1 ≤ c .before .size-at .result = positive (c .before .s
 
 -- src/lib.rt:150:5
 loop-again : tie.Need-loop-again Inv-loop μ-loop
-loop-again c = 
+loop-again c =
     let e = c .before .size-at .ensures .0 in
-    let z : 1 ≤ c .before .size-at .result = positive (c .before .size-at .result) (c .if1 .left) in
-    (ap (λ (x : ℕ). members-from (c .before .before .before .before .before .args .table .now) (c .before .before .before .before .before .args .end) (c .before .before .before .before .before .args .start) (c .before .before .before .loop .j + x) (c .before .before .before .loop .count + 1)) e
-    ∙ (sym (members-next (c .before .before .before .before .before .args .table .now) (c .before .before .before .before .before .args .end) (c .before .before .before .before .before .args .start) (c .before .before .before .loop .j) (c .before .before .before .loop .count) (c .before .before .loop-test .taken) (λ y. c .if1 .left (e ∙ y))) ∙ c .before .before .before .loop .inv .0)
-    , omega arith)
+    let z : 1 ≤ c .before .size-at .result = positive (c .before .size-at .result) (c .if1 .left) in (
+      ap (λ (x : ℕ). members-from (c .before .before .before .before .before .args .table .now) (c .before .before .before .before .before .args .end) (c .before .before .before .before .before .args .start) (c .before .before .before .loop .j + x) (c .before .before .before .loop .count + 1)) e
+          ∙ (sym (members-next (c .before .before .before .before .before .args .table .now) (c .before .before .before .before .before .args .end) (c .before .before .before .before .before .args .start) (c .before .before .before .loop .j) (c .before .before .before .loop .count) (c .before .before .loop-test .taken) (λ y. c .if1 .left (e ∙ y))) ∙ c .before .before .before .loop .inv .0),
+      omega arith,
+    )
 
 -- src/lib.rt:144:1
 returns-2 : tie.Need-returns-2 Inv-loop μ-loop

@@ -15,7 +15,7 @@ shl-result c = search needs
 
 -- src/lib.rt:34:1
 returns : tie.Need-returns
-returns c = 
+returns c =
     ap (_% 18446744073709551616) (one-mul (2 ^ c .args .k))
     ∙ mod-eq-of-lt (let z : 2 ^ c .args .k ≤ 2 ^ 32 = pow-mono {j = 32} (omega arith) in omega arith)
 

@@ -47,7 +47,7 @@ returns-2 c = simp (c .before .before .counts2 .given .1, lt-ltb _ _ (c .if2 .ta
 
 -- src/lib.rt:218:17
 returns-3 : tie.Need-returns-3
-returns-3 c = 
+returns-3 c =
     let low = c .before .before .before .counts2 .given .0 .0 in
     let more = c .before .before .before .counts2 .given .0 .1 .0 in
     let l : low + more ≤ c .before .before .before .before .before .before .before .args .k = omega arith in
@@ -79,7 +79,7 @@ returns-5 c = simp (c .before .before .before .before .counts .given .1, le-ltb 
 
 -- src/lib.rt:201:1
 returns-6 : tie.Need-returns-6
-returns-6 c = 
+returns-6 c =
     let low = c .before .before .before .before .before .counts2 .given .0 .0 in
     let more = c .before .before .before .before .before .counts2 .given .0 .1 .0 in
     let l : c .before .before .before .before .before .before .before .before .before .args .k < low + more = omega arith in
