@@ -1,4 +1,4 @@
-// Compares the lookahead sets' join, union and least common string with ones that go pair by pair and string by string, and reports
+// Compares the lookahead sets' join, union, addition, halves and least common string with ones that go pair by pair and string by string, and reports
 // how long the two joins take on two full sets. The time is printed and never fails the test.
 use std::collections::BTreeSet;
 use std::hint::black_box;
@@ -8,6 +8,8 @@ extern "C" {
     fn lookahead_c_join(sets: *mut u64, len: usize) -> bool;
     fn lookahead_c_union(sets: *mut u64, len: usize) -> bool;
     fn lookahead_c_least(sets: *const u64, len: usize) -> usize;
+    fn lookahead_c_add(sets: *mut u64, len: usize) -> bool;
+    fn lookahead_c_narrow(set: *const u64, len: usize, table: *mut u32, room: usize) -> bool;
 }
 
 type Words = [u64; 8];
@@ -29,6 +31,24 @@ fn least(a: &Words, b: &Words) -> usize {
     sets[..8].copy_from_slice(a);
     sets[8..].copy_from_slice(b);
     unsafe { lookahead_c_least(sets.as_ptr(), sets.len()) }
+}
+
+// The first set with the second added, and whether that changed it.
+fn add(a: &Words, b: &Words) -> (Words, bool) {
+    let mut sets = [0; 16];
+    sets[..8].copy_from_slice(a);
+    sets[8..].copy_from_slice(b);
+    let grew = unsafe { lookahead_c_add(sets.as_mut_ptr(), sets.len()) };
+    assert_eq!(&sets[8..], &b[..], "the second set changed");
+    (sets[..8].try_into().unwrap(), grew)
+}
+
+// The sixteen u32 words of a set; a word behind them stays.
+fn narrow(set: &Words) -> [u32; 16] {
+    let mut table = [7; 17];
+    assert!(unsafe { lookahead_c_narrow(set.as_ptr(), set.len(), table.as_mut_ptr(), table.len()) });
+    assert_eq!(table[16], 7);
+    table[..16].try_into().unwrap()
 }
 
 fn has(set: &Words, number: usize) -> bool {
@@ -82,6 +102,10 @@ fn compare(a: &Words, b: &Words) {
     assert_eq!(call(lookahead_c_join, a, b), joined, "join of {a:x?} and {b:x?}");
     let union = words((1..512).filter(|n| has(a, *n) || has(b, *n)));
     assert_eq!(call(lookahead_c_union, a, b), union, "union of {a:x?} and {b:x?}");
+    let both: Words = std::array::from_fn(|i| a[i] | b[i]);
+    assert_eq!(add(a, b), (both, both != *a), "{b:x?} added to {a:x?}");
+    let halves = narrow(a);
+    assert!((0..512).all(|n| (halves[n / 32] >> (n % 32) & 1 == 1) == has(a, n)), "halves of {a:x?}");
     let common = (1..512).find(|n| has(a, *n) && has(b, *n)).unwrap_or(0);
     assert_eq!(least(a, b), common, "least common string of {a:x?} and {b:x?}");
 }
@@ -149,7 +173,7 @@ fn main() {
     }
     let mut short = [0u64; 23];
     assert!(!unsafe { lookahead_c_join(short.as_mut_ptr(), short.len()) }, "a slice without room for three sets");
-    println!("{pairs} pairs of sets: joins, unions and least common strings are the same");
+    println!("{pairs} pairs of sets: joins, unions, additions, halves and least common strings are the same");
     for (name, a, b) in [("full sets", FULL, FULL), ("sets of all bytes", words(256..512), words(256..512)), ("sets of one byte", words([321]), words([322]))] {
         let by_words = nanoseconds(20_000, || call(lookahead_c_join, black_box(&a), black_box(&b)));
         let by_pairs = nanoseconds(100, || join_by_pairs(black_box(&a), black_box(&b)));

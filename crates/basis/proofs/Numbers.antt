@@ -4,7 +4,7 @@ use Prim.Native.Nat.{ℕ, zero, suc, _+_, _-_, _*_, _/_, _%_, _^_, _≤_, _<_}
 use mathlib.Core.Path.{_≡_, refl, sym, ap, ap₂, _∙_}
 use mathlib.Core.Bool.{Bool, true, false}
 use mathlib.Core.List.{[], _∷_, _++_}
-use native.Mathlib.Nat.{pow-suc, one-mul, mul-one, mod-eq-of-lt, suc-add, add-comm}
+use native.Mathlib.Nat.{pow-suc, one-mul, mod-eq-of-lt, div-eq-of-lt}
 use native.Mathlib.Decide.{decLe, decLt}
 use native.Mathlib.Omega.{arith}
 use native.Mathlib.Numerals.{one-add}
@@ -123,3 +123,15 @@ field-short w v h = ap number (take-all 8 (bitsOf w v) (rw length-bitsOf h)) ∙
 pub field-long : (w v : ℕ) → 8 < w → number (lookahead (bitsOf w v)) ≡ 256 + v / 2 ^ (w - 8) % 256
 field-long w v h =
     ap (λ (n : ℕ). number (take 8 (bitsOf n v))) (let e : w ≡ 8 + (w - 8) = omega arith in e) ∙ ap number (take-bitsOf 8 (w - 8) v) ∙ number-bitsOf 8 (v / 2 ^ (w - 8))
+
+-- a value of 32 bits begins with zeros in a field of 40 bits or more
+pub field-wide : (w v : ℕ) → 40 ≤ w → v < 2 ^ 32 → number (lookahead (bitsOf w v)) ≡ 256
+field-wide w v h l =
+    let p : 2 ^ 32 ≤ 2 ^ (w - 8) = pow-mono {i = 32} (omega arith) in
+    let z : v / 2 ^ (w - 8) ≡ 0 = div-eq-of-lt (omega arith) in
+    field-long w v (omega arith) ∙ omega arith
+
+-- "empty 1, 0010 is 18, byte 41 is 321"
+worked : (number [] ≡ 1) × (number (bitsOf 4 2) ≡ 18) × (number (bitsOf 8 0x41) ≡ 321)
+unfolding append-digits bitsOf
+worked = (refl, refl, refl)

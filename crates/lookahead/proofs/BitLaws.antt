@@ -1,6 +1,6 @@
 -- Laws of a word's bits: of or, and, shifts, remainders and trailing zeros, and that its bits make a word.
 -- Assumes nothing.
-use Prim.Native.Nat.{ℕ, zero, suc, _+_, _*_, _/_, _%_, _^_, _≤_, _<_, min, max}
+use Prim.Native.Nat.{ℕ, zero, suc, _+_, _-_, _*_, _/_, _%_, _^_, _≤_, _<_, min, max}
 use mathlib.Core.Path.{_≡_, refl, sym, ap, _∙_}
 use native.Mathlib.Nat.{pow-suc, zero-div, add-zero, div-eq-of-lt, mod-eq-of-lt, one-mul}
 use native.Mathlib.Numerals.{one-add}
@@ -107,3 +107,16 @@ lowest w p h = let r = lowest-in 64 w p h in record { here = r .0; below = r .1;
 -- a 1 shifted by less than the width
 pub shifted-one : (e w : ℕ) → e < w → 1 * 2 ^ e % 2 ^ w ≡ 2 ^ e
 shifted-one e w h = ap (λ (y : ℕ). y % 2 ^ w) (one-mul (2 ^ e)) ∙ mod-eq-of-lt (pow-lt h)
+
+-- a word of m set bits
+pub bit-ones : (m k : ℕ) → k < m → bit (2 ^ m - 1) k ≡ 1
+bit-ones zero k h = absurd (omega arith)
+bit-ones (suc m) zero h =
+    let p : 2 ^ suc m ≡ 2 ^ m * 2 = pow-suc 2 m in
+    let z : 0 < 2 ^ m = pow-pos m in
+    bit-first (2 ^ suc m - 1) ∙ omega arith
+bit-ones (suc m) (suc k) h =
+    let p : 2 ^ suc m ≡ 2 ^ m * 2 = pow-suc 2 m in
+    let z : 0 < 2 ^ m = pow-pos m in
+    let e : (2 ^ suc m - 1) / 2 ≡ 2 ^ m - 1 = omega arith in
+    sym (bit-half (2 ^ suc m - 1) k) ∙ ap (λ (w : ℕ). bit w k) e ∙ bit-ones m k (omega arith)

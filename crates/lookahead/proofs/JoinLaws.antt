@@ -16,7 +16,7 @@ use Rattle.basis.proofs.Numbers.{number-pos, number-ge, number-lt, number-small
 use Rattle.basis.proofs.Joins.{lookahead-short, join-full}
 use Rattle.lookahead.specs.Sets.{bit, member, Has, Is, Joined}
 use Rattle.lookahead.specs.Inner.{Cleared, Prefixes, Splits, Word, JoinedWord, Filled}
-use Rattle.lookahead.proofs.SetLaws.{member-lt}
+use Rattle.lookahead.proofs.SetLaws.{member-lt, absent}
 
 both-one : (u v : ℕ) → u < 2 → v < 2 → u * v ≡ 1 → (u ≡ 1) × (v ≡ 1)
 both-one zero v p q e = absurd (omega arith)
@@ -152,13 +152,8 @@ module _ (a b x p out : List ℕ) (i : ℕ) (g : 8 ≤ i) (c : Cleared a x) (P :
       to : (s : Bits) → Has out s → Joined (Has a) (Has b) s
       to s e = elim (decLt (length s) 8) [ yes h ↦ to-short s h e | no h ↦ to-full s (omega (arith, e .0)) e ]
 
-      none : (v : ℕ) → v < 2 → (v ≡ 1 → ⊥) → v ≡ 0
-      none zero l f = refl
-      none (suc zero) l f = absurd (f refl)
-      none (suc (suc v)) l f = absurd (omega arith)
-
       unused : member out 0 ≡ 0
-      unused = none (member out 0) (member-lt out 0) (λ e. go (at-number x b out 0 (F .at 0 (omega arith) .short (omega arith)) .0 e))
+      unused = absent (member out 0) (member-lt out 0) (λ e. go (at-number x b out 0 (F .at 0 (omega arith) .short (omega arith)) .0 e))
         where
           go : Splits x b 9 0 → ⊥
           go q =

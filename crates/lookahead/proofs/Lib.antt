@@ -7,6 +7,5 @@ pub mod SpreadLaws
 pub mod PieceLaws
 pub mod JoinLaws
 pub mod LanguageLaws
-pub mod WriteLaws
-pub mod FamilyLaws
 pub mod PassLaws
+pub mod SpanLaws

@@ -6,7 +6,7 @@ use mathlib.Core.Bool.{Bool, true, false}
 use mathlib.Core.Logic.{_⊎_, inl, inr, _↔_, _≢_}
 use mathlib.Core.List.{List, [], _∷_}
 use native.Mathlib.Nat.{one-mul, add-zero, mod-eq-of-lt}
-use native.Mathlib.Decide.{decLt, ℕ-discrete}
+use native.Mathlib.Decide.{decLe, decLt, ℕ-discrete}
 use native.Mathlib.Omega.{arith}
 use lib.ListN.{length, getD, set, replicate, length-set, getD-replicate, List·getD-eq-default}
 use lib.Seq.{getD-set-same, getD-set-other, ext-getD}
@@ -33,6 +33,12 @@ member-at x i k h =
 pub member-lt : (x : List ℕ) (n : ℕ) → member x n < 2
 unfolding member
 member-lt x n = bit-lt (getD x (n / 64) 0) (n % 64)
+
+-- what is not there is 0
+pub absent : (v : ℕ) → v < 2 → (v ≡ 1 → ⊥) → v ≡ 0
+absent zero l f = refl
+absent (suc zero) l f = absurd (f refl)
+absent (suc (suc v)) l f = absurd (omega arith)
 
 -- the bit that names no string, cleared
 abbrev pub evened : List ℕ → List ℕ
@@ -107,6 +113,15 @@ pub max-one : (a b : ℕ) → a < 2 → b < 2 → max a b ≡ 1 → (a ≡ 1) �
 max-one zero b p q e = inr (omega arith)
 max-one (suc zero) b p q e = inl refl
 max-one (suc (suc a)) b p q e = absurd (omega arith)
+
+-- a string is in a set or it is not
+pub has-decided : (x : List ℕ) (s : Bits) → Dec (Has x s)
+has-decided x s = go (decLe (length s) 8) (ℕ-discrete (member x (number s)) 1)
+  where
+    go : Dec (length s ≤ 8) → Dec (member x (number s) ≡ 1) → Dec (Has x s)
+    go (yes a) (yes b) = yes (a, b)
+    go (yes a) (no b) = no (λ h. b (h .1))
+    go (no a) b = no (λ h. a (h .0))
 
 -- sets with the same numbers have the same strings
 pub has-same : (x y : List ℕ) → ((n : ℕ) → 0 < n → n < 512 → member x n ≡ member y n) → (s : Bits) → Has x s → Has y s
@@ -223,17 +238,17 @@ decides-of r A B d f g = ((λ e. f (d .0 e)), (λ b. d .1 (g b)))
 pub number-in : (x : List ℕ) (n : ℕ) → 0 < n → n < 512 → member x n ≡ 1 → (s : Bits) × (number s ≡ n) × Has x s
 number-in x n p h e = let r = named 8 n p h in (r .0, r .2, (r .1, ap (member x) (r .2) ∙ e))
 
-pub contains-is : (x : List ℕ) (n : ℕ) → 0 < n → n < 512 → Decides (eqb (getD x (n / 64) 0 / 2 ^ (n % 64) % 2) 1) ((s : Bits) × (number s ≡ n) × Has x s)
-unfolding member bit
-contains-is x n p h = (
-  (λ e. number-in x n p h (eqb-true (member x n) 1 e)),
-  (λ q. eq-eqb (member x n) 1 (sym (ap (member x) (q .1)) ∙ q .2 .1)),
+-- a test of a number, whatever the words: member of eight, or of sixteen halves
+pub decides-number : (P : ℕ → ℕ) (n : ℕ) → 0 < n → n < 512 → Decides (eqb (P n) 1) ((s : Bits) × (number s ≡ n) × ((length s ≤ 8) × (P (number s) ≡ 1)))
+decides-number P n p h = (
+  (λ e. let r = named 8 n p h in (r .0, r .2, (r .1, ap P (r .2) ∙ eqb-true (P n) 1 e))),
+  (λ q. eq-eqb (P n) 1 (sym (ap P (q .1)) ∙ q .2 .1)),
 )
 
 -- a number that is no string's
-pub no-number : (x : List ℕ) (n : ℕ) → (n ≡ 0) ⊎ (512 ≤ n) → ((s : Bits) × (number s ≡ n) × Has x s) → ⊥
-no-number x n (inl e) q = omega (arith, number-pos (q .0), q .1)
-no-number x n (inr e) q = omega (arith, number-small (q .0) (q .2 .0), q .1)
+pub no-number : (n : ℕ) → (n ≡ 0) ⊎ (512 ≤ n) → (s : Bits) → number s ≡ n → length s ≤ 8 → ⊥
+no-number n (inl e) s q l = omega (arith, number-pos s)
+no-number n (inr e) s q l = omega (arith, number-small s l)
 
 -- the empty string has number 1
 pub empty-string : (x : List ℕ) → ((s : Bits) × (number s ≡ 1) × Has x s) ↔ Has x []

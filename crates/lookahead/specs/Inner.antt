@@ -1,4 +1,4 @@
--- What the crate's own helpers promise each other. No promise of a public function speaks of these.
+-- What the helpers promise each other. A reader of what the sets promise needs none of this.
 -- Assumes nothing.
 use Prim.Native.Nat.{ℕ, _+_, _*_, _/_, _%_, _^_, _≤_, _<_, min, max}
 use mathlib.Core.Path.{_≡_}
@@ -87,3 +87,7 @@ pub record Filled (P : ℕ → ℕ → Type 0) (n : ℕ) (words : List ℕ) : Ty
   pub eight : length words ≡ 8
   pub fit : (i : ℕ) → getD words i 0 < 2 ^ 64
   pub at : (i : ℕ) → i < n → P i (getD words i 0)
+
+-- the bits from l up to h
+abbrev pub Stripe : ℕ → ℕ → ℕ → Type 0
+Stripe l h w = (k : ℕ) → k < 64 → (bit w k ≡ 1) ↔ ((l ≤ k) × (k < h))

@@ -1,4 +1,3 @@
 pub mod Sets
 pub mod Least
 pub mod Inner
-pub mod Family

@@ -11,11 +11,11 @@ ghost use Rattle.basis.specs.Lookahead.{lookahead, number};
 ghost use Rattle.lookahead.specs.Sets.{Has, Is, Decides, Union, Joined, SameWords};
 ghost use Rattle.lookahead.specs.Least.{LeastCommon};
 
-pub mod family;
 pub mod passes;
 mod pieces;
 mod prefixes;
-mod words;
+pub mod spans;
+pub mod words;
 
 pub struct Set {
     pub words: [u64; 8],
@@ -29,13 +29,15 @@ pub enum Common {
 
 // The number of a field's lookahead string: its leading 8 bits, or all of them if there are fewer, most significant bit first.
 pub fn number_of(value: u32, width: u32) -> usize
-    requires { ⌜ width ≤ 32 ⌝ }
     ensures { λ r. ⌜ r ≡ number (lookahead (bitsOf width value)) ⌝ }
 {
     if width <= 8 {
         return (1usize << width) + (value % (1u32 << width)) as usize;
     }
-    256 + ((value >> (width - 8)) % 256) as usize
+    if width < 40 {
+        return 256 + ((value >> (width - 8)) % 256) as usize;
+    }
+    256
 }
 
 pub fn empty() -> Set

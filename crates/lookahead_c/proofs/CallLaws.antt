@@ -8,7 +8,7 @@ use native.Mathlib.Omega.{arith}
 use lib.ListN.{length}
 use Rattle.basis.proofs.Numbers.{number-pos}
 use Rattle.lookahead.specs.Sets.{Has, Is, SameWords}
-use Rattle.lookahead.specs.Family.{part}
+use Rattle.lookahead_slices.specs.Family.{part}
 use Rattle.lookahead.specs.Least.{LeastCommon}
 use Rattle.lookahead.specs.declared.Common.the-variants.{Nothing, Least as Found}
 use Rattle.lookahead.proofs.SetLaws.{same-strings}

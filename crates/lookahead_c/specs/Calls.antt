@@ -9,7 +9,8 @@ use lib.ListN.{length}
 use Rattle.basis.specs.Bits.{Bits}
 use Rattle.basis.specs.Lookahead.{number}
 use Rattle.lookahead.specs.Sets.{Has}
-use Rattle.lookahead.specs.Family.{part}
+use Rattle.lookahead_slices.specs.Family.{part, Added}
+use Rattle.lookahead_slices.specs.Narrow.{StandsAt}
 
 -- a way to make a set of strings of two
 abbrev pub Way : Type 1
@@ -24,3 +25,13 @@ Made way old new false = (length old < 24) × (new ≡ old)
 pub record Least (sets : List ℕ) (n : ℕ) : Type 0 where
   pub found : 16 ≤ length sets → 0 < n → (s : Bits) × (number s ≡ n) × Has (part 0 sets) s × Has (part 1 sets) s
   pub least : 16 ≤ length sets → (s : Bits) → Has (part 0 sets) s → Has (part 1 sets) s → (0 < n) × (n ≤ number s)
+
+-- the second set is added to the first; or there is no room, and nothing changes
+pub record Adds (old new : List ℕ) (grew : Bool) : Type 0 where
+  pub room : 16 ≤ length old → Added old new 0 (part 1 old) grew
+  pub no-room : length old < 16 → (new ≡ old) × (grew ≡ false)
+
+-- a set is written as sixteen u32 words; or there is no room, and nothing changes
+abbrev pub Narrowed : List ℕ → List ℕ → List ℕ → Bool → Type 0
+Narrowed set old new true = StandsAt new 0 (part 0 set)
+Narrowed set old new false = new ≡ old

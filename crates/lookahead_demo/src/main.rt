@@ -3,6 +3,7 @@ use libc::STDOUT_FILENO;
 use lookahead::Common;
 use lookahead::Set;
 use lookahead::passes;
+use lookahead::spans;
 
 fn line(text: &[u8]) {
     io::write_all(STDOUT_FILENO, text);
@@ -54,10 +55,7 @@ fn full() -> Set {
 }
 
 fn field(value: u32, width: u32) -> Set {
-    if width <= 32 {
-        return lookahead::single(lookahead::number_of(value, width));
-    }
-    lookahead::empty()
+    lookahead::single(lookahead::number_of(value, width))
 }
 
 fn numbers() {
@@ -150,6 +148,21 @@ fn tests() {
     );
 }
 
+fn ranges() {
+    let a = lookahead::number_of(0x61, 8);
+    let z = lookahead::number_of(0x7a, 8);
+    show(b"a to z:", spans::span(a, z));
+    show(b"strings of 4 bits:", spans::span(16, 31));
+    ask(
+        b"strings of any number are all:",
+        lookahead::equal(spans::span(0, 4000), full()),
+    );
+    ask(
+        b"no string from 5 to 4:",
+        lookahead::is_empty(spans::span(5, 4)),
+    );
+}
+
 // Past 8 passes nothing is added, with or without the empty string in the body.
 fn repetitions() {
     let body = field(1, 4);
@@ -174,6 +187,7 @@ fn repetitions() {
 fn main() {
     numbers();
     conflicts();
+    ranges();
     joins();
     repetitions();
     tests();

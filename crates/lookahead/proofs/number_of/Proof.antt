@@ -1,6 +1,6 @@
 -- `lookahead::number_of` meets its contract. Assumes nothing.
 use Rattle.lookahead.proofs.BitLaws.{shifted-one}
-use Rattle.basis.proofs.Numbers.{field-short, field-long}
+use Rattle.basis.proofs.Numbers.{field-short, field-long, field-wide}
 use Prim.Native.Nat.{_*_, _%_, _^_, _≤_}
 use mathlib.Core.Path.{_≡_, sym}
 use lib.Pow.{pow-pos, pow-mono}
@@ -54,7 +54,10 @@ add-result-2 : tie.Need-add-result-2
 add-result-2 c = search needs
 
 returns-2 : tie.Need-returns-2
-returns-2 c = sym (field-long (c .before .args .width) (c .before .args .value) (c .if1 .left))
+returns-2 c = sym (field-long (c .before .before .args .width) (c .before .before .args .value) (c .before .if1 .left))
+
+returns-3 : tie.Need-returns-3
+returns-3 c = sym (field-wide (c .before .before .args .width) (c .before .before .args .value) (c .if2 .left) (search needs))
 
 pub number-of-spec : {M : Type 1} → statement M
 number-of-spec =
@@ -70,4 +73,5 @@ number-of-spec =
     shr-result
     cast-result-2
     add-result-2
-    returns-2)
+    returns-2
+    returns-3)

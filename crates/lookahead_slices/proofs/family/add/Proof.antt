@@ -1,11 +1,11 @@
 use borrow.Author.Needs.{needs}
--- `lookahead::family::add` meets its contract. The invariant: the words passed are added, and whether they grew. Assumes nothing.
+-- `lookahead_slices::family::add` meets its contract. The invariant: the words passed are added, and whether they grew. Assumes nothing.
 use Prim.Native.Nat.{_-_}
-use Rattle.lookahead.proofs.FamilyLaws.{Adding, growth-none, adding-written, adding-kept, added}
-use Rattle.lookahead.proofs.WriteLaws.{written-none}
+use Rattle.lookahead_slices.proofs.FamilyLaws.{Adding, growth-none, adding-written, adding-kept, added}
+use Rattle.lookahead_slices.proofs.WriteLaws.{written-none}
 use mathlib.Core.Logic.{⊎-elim}
-use Rattle.lookahead.proofs.family.add.Statement.{statement}
-use Rattle.lookahead.proofs.family.add.Tie as tie
+use Rattle.lookahead_slices.proofs.family.add.Statement.{statement}
+use Rattle.lookahead_slices.proofs.family.add.Tie as tie
 
 abbrev Inv-loop : tie.InvT-loop
 Inv-loop family₀ i x grew₀ k₀ family grew k = Adding x family₀ i k family grew

@@ -10,12 +10,12 @@ use native.Mathlib.Omega.{arith}
 use lib.ListN.{length, getD, set, drop, length-take, length-drop, List·getD-eq-default}
 use lib.Seq.{getD-take, getD-drop, ext-getD}
 use lib.Bits.{bitOr, or-lt, or-add-and, and-le-r}
 use Rattle.lookahead.specs.Sets.{bit, member, Proper}
-use Rattle.lookahead.specs.Family.{part, room, Added, Stored}
+use Rattle.lookahead_slices.specs.Family.{part, room, Added, Stored}
 use Rattle.lookahead.specs.Inner.{Filled}
 use Rattle.lookahead.proofs.BitLaws.{bit-or}
 use Rattle.lookahead.proofs.SetLaws.{has-union}
-use Rattle.lookahead.proofs.WriteLaws.{Written, written-kept, written-set, written-next}
+use Rattle.lookahead_slices.proofs.WriteLaws.{Written, written-kept, written-set, written-next}
 
 -- ---- a part
 

@@ -2,9 +2,9 @@
 ghost use mathlib.Core.Path.{_≡_};
 ghost use Prim.Native.Nat.{_+_, _*_, _≤_};
 ghost use lib.ListN.{length};
-ghost use Rattle.lookahead.specs.Family.{part, Added, Stored};
-use super::Set;
-use super::words;
+ghost use Rattle.lookahead_slices.specs.Family.{part, Added, Stored};
+use lookahead::Set;
+use lookahead::words;
 
 pub fn load(family: &[u64], i: usize) -> Set
     requires { ⌜ 8 * i + 8 ≤ length (now family) ⌝ }

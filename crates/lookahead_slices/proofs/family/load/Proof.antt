@@ -1,13 +1,13 @@
 use borrow.Author.Needs.{needs}
--- `lookahead::family::load` meets its contract. The invariant: the words passed are copied. Assumes nothing.
+-- `lookahead_slices::family::load` meets its contract. The invariant: the words passed are copied. Assumes nothing.
 use Prim.Native.Nat.{_+_, _*_, _≤_, _-_}
 use mathlib.Core.Path.{_≡_}
 use lib.ListN.{getD}
-use Rattle.lookahead.proofs.FamilyLaws.{loaded}
+use Rattle.lookahead_slices.proofs.FamilyLaws.{loaded}
 use Rattle.lookahead.proofs.SetLaws.{filled-none, filled-more}
 use Rattle.lookahead.specs.Inner.{Filled}
-use Rattle.lookahead.proofs.family.load.Statement.{statement}
-use Rattle.lookahead.proofs.family.load.Tie as tie
+use Rattle.lookahead_slices.proofs.family.load.Statement.{statement}
+use Rattle.lookahead_slices.proofs.family.load.Tie as tie
 
 abbrev Inv-loop : tie.InvT-loop
 Inv-loop family i out₀ k₀ out k = Filled (λ m w. w ≡ getD family (8 * i + m) 0) k out × (k ≤ 8)

@@ -1,12 +1,12 @@
 use borrow.Author.Needs.{needs}
--- `lookahead::family::store` meets its contract. The invariant: the words passed are written. Assumes nothing.
+-- `lookahead_slices::family::store` meets its contract. The invariant: the words passed are written. Assumes nothing.
 use Prim.Native.Nat.{_*_, _≤_, _-_}
 use lib.ListN.{getD}
 use mathlib.Core.Path.{refl}
-use Rattle.lookahead.proofs.FamilyLaws.{stored}
-use Rattle.lookahead.proofs.WriteLaws.{Written, written-none, written-set}
-use Rattle.lookahead.proofs.family.store.Statement.{statement}
-use Rattle.lookahead.proofs.family.store.Tie as tie
+use Rattle.lookahead_slices.proofs.FamilyLaws.{stored}
+use Rattle.lookahead_slices.proofs.WriteLaws.{Written, written-none, written-set}
+use Rattle.lookahead_slices.proofs.family.store.Statement.{statement}
+use Rattle.lookahead_slices.proofs.family.store.Tie as tie
 
 abbrev Inv-loop : tie.InvT-loop
 Inv-loop family₀ i x k₀ family k = Written (λ m. getD x m 0) family₀ (8 * i) k family × (k ≤ 8)
