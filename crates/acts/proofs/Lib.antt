@@ -3,3 +3,4 @@ pub mod Walks
 pub mod Sizes
 pub mod Parts
 pub mod Literals
+pub mod Doing

@@ -14,7 +14,7 @@ use Rattle.layout.specs.declared.Construct.{Construct}
 use Rattle.acts.specs.Acts.{Fine}
 
 -- both tests passed
-both-true : (s t : Bool) → both s t ≡ true → (s ≡ true) × (t ≡ true)
+pub both-true : (s t : Bool) → both s t ≡ true → (s ≡ true) × (t ≡ true)
 both-true true t e = (refl, e)
 both-true false t e = let z : _≡_ {A = ℕ} 0 1 = cc in absurd (omega arith)
 

@@ -166,3 +166,13 @@ construct-act ws fs vs p i k Construct.Eod = end-act fs p
 -- the opening use of the start rule has number 256
 unfoldable pub actOf : List ℕ → List ℕ → List ℤ → ℕ → ℕ → ℕ → Act
 actOf ws fs vs p i k = pick (eqb i 256) (enter ws (rule-word ws 0 0)) (construct-act ws fs vs p i k (constructAt ws i))
+
+-- what holds of every act that is decided at bit p, whatever the words
+abbrev pub Doable : List ℕ → ℕ → Act → Type 0
+Doable fs p Act.Broken = Unit {0}
+Doable fs p Act.Fail = Unit {0}
+Doable fs p (Act.Enter b) = b < 256
+Doable fs p (Act.Members start end n) = (end ≤ 256) × (n ≤ 256)
+Doable fs p (Act.Again b) = b < 256
+Doable fs p Act.Leave = Unit {0}
+Doable fs p (Act.Take width binder n) = (p + width ≤ bits-of fs) × (binder ≤ 64) × (n < 4294967296)

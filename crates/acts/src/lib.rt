@@ -85,7 +85,7 @@ fn size(construct: Construct) -> usize
 }
 
 // How many constructs construct j is; a missing one is none.
-fn size_at(table: &[u32], j: usize) -> usize
+pub fn size_at(table: &[u32], j: usize) -> usize
     ensures { λ r. ⌜ (r ≡ size-of (constructAt (now (table .entry)) j)) × (r ≤ 256) ⌝ }
 {
     size(layout::construct_at(table, j))
@@ -349,7 +349,7 @@ fn set_holds(table: &[u32], values: &[i64], start: usize, end: usize, value: u64
     evaluation::contains(terms(table), start, end, values, whole(value))
 }
 
-fn whole(n: u64) -> i64
+pub fn whole(n: u64) -> i64
     requires { ⌜ n < 4294967296 ⌝ }
     ensures { λ r. ⌜ r ≡ pos n ⌝ }
 {

@@ -1,0 +1,148 @@
+-- What holds of every act that is decided: `Doable`.
+-- Assumes nothing.
+use Prim.Native.Nat.{ℕ, zero, suc, _+_, _*_, _-_, _^_, _≤_, _<_}
+use native.Mathlib.Omega.{arith}
+use borrow.Author.Tests.{leb-true, ltb-true}
+use mathlib.Core.Path.{_≡_, refl}
+use mathlib.Core.Bool.{Bool, true, false}
+use mathlib.Core.Logic.{_⊎_, inl, inr}
+use mathlib.Core.List.{List}
+use lib.Dec.{leb, ltb, eqb}
+use lib.IntN.{ℤ, pos}
+use lib.ListN.{length, take, drop}
+use lib.Pow.{pow-mono}
+use Rattle.basis.specs.Bits.{value, frameBits}
+use Rattle.basis.proofs.Frames.{value-take-less}
+use Rattle.evaluation.specs.Meaning.{membership}
+use Rattle.evaluation.specs.declared.Counted.{Counted}
+use Rattle.evaluation.specs.declared.Tested.{Tested}
+use Rattle.layout.specs.Places.{rule-word, construct-count}
+use Rattle.layout.specs.Constructs.{pick, both, constructAt}
+use Rattle.layout.specs.Held.{terms-of, size-of}
+use Rattle.layout.specs.declared.Construct.{Construct}
+use Rattle.acts.specs.Stored.{stored, prediction-at, follow-at}
+use Rattle.acts.specs.Acts.{in-table, enter, ahead-at, bits-of, walk, by-branch, branch-act, case-test, by-case, case-act, members-act, by-lookahead, choice-act, turn-act, counted, literal-holds, literal-act, range-act, by-set, uint-act, end-act, Fine, construct-act, actOf, Doable}
+use Rattle.acts.specs.declared.Act.{Act}
+use Rattle.acts.proofs.Sizes.{both-true, construct-fine}
+
+-- a test, with what it says
+decide : (t : Bool) → (t ≡ true) ⊎ (t ≡ false)
+decide true = inl refl
+decide false = inr refl
+
+-- a walk gives what its end, a missing part and each visit give
+module _ {A : Type 0} (P : A → Type 0) (visit : ℕ → A → A) (done broken : A) (ws : List ℕ) (end : ℕ) (d : P done) (b : P broken) (v : (j : ℕ) (rest : A) → j < end → P rest → P (visit j rest)) where
+  either : (t : Bool) (x : A) → P x → P (elim t [ true ↦ broken | false ↦ x ])
+  either true x h = b
+  either false x h = h
+
+  step-keeps : (most j : ℕ) → P (walk visit done broken most ws (j + size-of (constructAt ws j)) end) → P (walk visit done broken (suc most) ws j end)
+  unfolding walk
+  step-keeps most j h =
+      elim (decide (ltb j end))
+      [ inl e ↦ rw (e, walk) (v j _ (ltb-true j end e) (either (eqb (size-of (constructAt ws j)) 0) (walk visit done broken most ws (j + size-of (constructAt ws j)) end) h)) | inr e ↦ rw (e, walk) d ]
+
+  walk-keeps : (most j : ℕ) → P (walk visit done broken most ws j end)
+  unfolding walk
+  walk-keeps zero j = d
+  walk-keeps (suc most) j = step-keeps most j (walk-keeps most (j + size-of (constructAt ws j)))
+
+-- members, counted, are no more than the room for them
+members-few : (ws : List ℕ) (start end most j n : ℕ) (fs : List ℕ) (p : ℕ) → end ≤ 256 → n + most ≤ 256
+  → Doable fs p (walk {A = ℕ → Act} (λ i rest m. rest (m + 1)) (λ m. Act.Members start end m) (λ m. Act.Broken) most ws j end n)
+unfolding walk
+members-few ws start end zero j n fs p l h = (l, omega arith)
+members-few ws start end (suc most) j n fs p l h =
+    elim (decide (ltb j end))
+    [ inl e ↦
+      elim (decide (eqb (size-of (constructAt ws j)) 0))
+      [ inl z ↦ rw (e, z, walk) tt | inr z ↦ rw (e, z, walk) (members-few ws start end most (j + size-of (constructAt ws j)) (n + 1) fs p l (omega arith)) ]
+    | inr e ↦ rw (e, walk) (l, omega arith)
+    ]
+
+module _ (ws fs : List ℕ) (vs : List ℤ) (p : ℕ) where
+  abbrev Good : Act → Type 0
+  Good = Doable fs p
+
+  -- one of two by a test, with what the test says
+  picked : (t : Bool) (a b : Act) → (t ≡ true → Good a) → Good b → Good (pick t a b)
+  picked true a b h k = h refl
+  picked false a b h k = k
+
+  enter-good : (i : ℕ) → Good (enter ws i)
+  enter-good i = picked (in-table ws i) (Act.Enter i) Act.Broken (λ e. ltb-true i 256 (both-true (ltb i 256) (ltb i (construct-count ws)) e .0)) tt
+
+  branch-good : (n j end : ℕ) → end ≤ 256 → Good (branch-act ws n j end)
+  branch-good n j end l = walk-keeps Good (λ i rest. by-branch (stored ws (prediction-at i) n) i rest) Act.Fail Act.Broken ws end tt tt (λ i rest m h. visit i rest (stored ws (prediction-at i) n) m h) (end - j) j
+    where
+      visit : (i : ℕ) (rest : Act) (t : Bool) → i < end → Good rest → Good (by-branch t i rest)
+      visit i rest true m h = omega arith
+      visit i rest false m h = h
+
+  case-good : (j end : ℕ) → end ≤ 256 → Good (case-act ws vs j end)
+  case-good j end l = walk-keeps Good (λ i rest. by-case (case-test ws vs i) i rest) Act.Fail Act.Broken ws end tt tt (λ i rest m h. visit i rest (case-test ws vs i) m h) (end - j) j
+    where
+      visit : (i : ℕ) (rest : Act) (t : Tested) → i < end → Good rest → Good (by-case t i rest)
+      visit i rest Tested.Yes m h = omega arith
+      visit i rest Tested.No m h = h
+      visit i rest Tested.Malformed m h = tt
+      visit i rest Tested.Overflow m h = tt
+
+  choice-good : (n i : ℕ) → i < 255 → Good (choice-act ws n i)
+  choice-good n i l = by (stored ws (prediction-at (i + 1)) n) (stored ws (follow-at i) n)
+    where
+      by : (c e : Bool) → Good (by-lookahead c e (i + 1))
+      by true e = omega arith
+      by false true = tt
+      by false false = tt
+
+  turn-good : (n i k : ℕ) (c : Counted) → i < 255 → Good (turn-act ws n i k c)
+  turn-good n i k Counted.None l = tt
+  turn-good n i k (Counted.From low) l = picked (ltb k low) (Act.Again (i + 1)) (choice-act ws n i) (λ e. omega arith) (choice-good n i l)
+  turn-good n i k (Counted.Within low more) l =
+      picked (ltb k low) (Act.Again (i + 1)) (pick (leb (low + more) k) Act.Leave (choice-act ws n i)) (λ e. omega arith)
+      (picked (leb (low + more) k) Act.Leave (choice-act ws n i) (λ e. tt) (choice-good n i l))
+  turn-good n i k Counted.Malformed l = tt
+  turn-good n i k Counted.Overflow l = tt
+
+  literal-good : (i n : ℕ) → Good (literal-act ws fs p i n)
+  literal-good i n =
+      picked (leb (p + 8 * n) (bits-of fs)) (pick (literal-holds ws fs p i 0 n) (Act.Take (8 * n) 0 0) Act.Fail) Act.Fail
+      (λ e. picked (literal-holds ws fs p i 0 n) (Act.Take (8 * n) 0 0) Act.Fail (λ h. (leb-true (p + 8 * n) (bits-of fs) e, omega arith, omega arith)) tt) tt
+
+  range-good : (low high : ℕ) → Good (range-act fs p low high)
+  range-good low high =
+      let v = value (take 8 (drop p (frameBits fs))) in
+      picked (leb (p + 8) (bits-of fs)) (pick (both (leb low v) (leb v high)) (Act.Take 8 0 0) Act.Fail) Act.Fail
+      (λ e. picked (both (leb low v) (leb v high)) (Act.Take 8 0 0) Act.Fail (λ h. (leb-true (p + 8) (bits-of fs) e, omega arith, omega arith)) tt) tt
+
+  set-good : (t : Tested) (width binder n : ℕ) → p + width ≤ bits-of fs → binder ≤ 64 → n < 4294967296 → Good (by-set t width binder n)
+  set-good Tested.Yes width binder n a b c = (a, b, c)
+  set-good Tested.No width binder n a b c = tt
+  set-good Tested.Malformed width binder n a b c = tt
+  set-good Tested.Overflow width binder n a b c = tt
+
+  uint-good : (width start end binder : ℕ) → width ≤ 32 → binder ≤ 64 → Good (uint-act ws fs vs p width start end binder)
+  uint-good width start end binder l m =
+      let v = value (take width (drop p (frameBits fs))) in
+      let small : v < 4294967296 = (let a = value-take-less width (drop p (frameBits fs)) in let z : 2 ^ width ≤ 2 ^ 32 = pow-mono {j = 32} l in omega arith) in
+      picked (leb (p + width) (bits-of fs)) (by-set (membership vs (pos v) start (terms-of ws start end)) width binder v) Act.Fail
+      (λ e. set-good (membership vs (pos v) start (terms-of ws start end)) width binder v (leb-true (p + width) (bits-of fs) e) m small) tt
+
+  construct-good : (i k : ℕ) (c : Construct) → Fine i c → Good (construct-act ws fs vs p i k c)
+  construct-good i k Construct.Missing f = tt
+  construct-good i k (Construct.Alternative size) f = branch-good (ahead-at fs p) (i + 1) (i + size) f
+  construct-good i k (Construct.Concatenation size) f = members-few ws (i + 1) (i + size) (i + size - (i + 1)) (i + 1) 0 fs p f (omega arith)
+  construct-good i k (Construct.Repetition size passes) f = turn-good (ahead-at fs p) i k (counted ws vs passes) f
+  construct-good i k (Construct.Switch size) f = case-good (i + 1) (i + size) f
+  construct-good i k (Construct.Use rule) f = enter-good (rule-word ws rule 0)
+  construct-good i k (Construct.Literal n) f = literal-good i n
+  construct-good i k (Construct.Range low high) f = range-good low high
+  construct-good i k (Construct.Uint width start end binder) f = uint-good width start end binder (f .0) (f .1)
+  construct-good i k Construct.Eod f = picked (eqb p (bits-of fs)) Act.Leave Act.Fail (λ e. tt) tt
+
+  pub doable : (i k : ℕ) → Good (actOf ws fs vs p i k)
+  unfolding actOf
+  doable i k =
+      picked (eqb i 256) (enter ws (rule-word ws 0 0)) (construct-act ws fs vs p i k (constructAt ws i)) (λ e. enter-good (rule-word ws 0 0))
+      (construct-good i k (constructAt ws i) (construct-fine ws i))

@@ -1,0 +1,2 @@
+-- Laws of a step's writes.
+pub mod Places

@@ -1,0 +1,101 @@
+-- A step over any words: "A step takes the first entry". The list of pending entries is two arrays, the first entry last; `count` of each
+-- are pending, and what stands beyond may be anything.
+-- Assumes nothing.
+use Prim.Native.Nat.{ℕ, zero, suc, _+_, _*_, _-_}
+use mathlib.Core.Bool.{Bool, true, false}
+use mathlib.Core.List.{List}
+use lib.Dec.{leb, ltb, eqb}
+use lib.IntN.{ℤ, pos}
+use lib.ListN.{length, getD, set}
+use Rattle.layout.specs.Places.{weight-of}
+use Rattle.layout.specs.Constructs.{pick}
+use Rattle.acts.specs.Acts.{walk, bits-of, actOf}
+use Rattle.acts.specs.declared.Act.{Act}
+use Rattle.steps.specs.declared.Head.{Head}
+
+-- the verdicts, as numbers: any bytes may arrive as a run
+abbrev pub undecided : ℕ
+undecided = 0
+
+abbrev pub matched : ℕ
+matched = 1
+
+abbrev pub unmatched : ℕ
+unmatched = 2
+
+abbrev pub closed : ℕ
+closed = 3
+
+abbrev pub broken : ℕ
+broken = 4
+
+-- all that a step may change: the entries' constructs and passes, the values, the reading's words, and the numbers beside them
+pub data Whole : Type 0 where
+  whole : (constructs passes : List ℕ) (values : List ℤ) (reading : List ℕ) (head : Head) → Whole
+
+-- "ends as *broken*, only its verdict changed and no word written"
+abbrev pub break : Head → Head
+break h = record { position = h .position; count = h .count; captures = h .captures; steps = h .steps; verdict = broken }
+
+-- "Where a step fails, position, list, values and fields stay as before it"
+abbrev pub fail : Head → Head
+fail h = record { position = h .position; count = h .count; captures = h .captures; steps = h .steps + 1; verdict = unmatched }
+
+-- "When the list is empty the run is decided: match at the end of the frame, else no match."
+abbrev pub verdict-after : List ℕ → ℕ → ℕ → ℕ
+verdict-after fs count position = pick (eqb count 0) (pick (eqb position (bits-of fs)) matched unmatched) undecided
+
+-- a step taken, after which so many entries, this position and so many captures are there
+abbrev pub taken : List ℕ → Head → ℕ → ℕ → ℕ → Head
+taken fs h count position captures =
+    record { position = position; count = count; captures = captures; steps = h .steps + 1; verdict = verdict-after fs count position }
+
+-- members put below each other, the first one last, ending below place `at`: `what` is put for each
+abbrev pub put : (ℕ → ℕ) → ℕ → (ℕ → List ℕ → List ℕ) → ℕ → List ℕ → List ℕ
+put what j rest k xs = pick (eqb k 0) xs (rest (k - 1) (set xs (k - 1) (what j)))
+
+unfoldable pub placed : (ℕ → ℕ) → List ℕ → ℕ → ℕ → ℕ → List ℕ → List ℕ
+unfolding walk
+placed what ws start end at xs = walk {A = ℕ → List ℕ → List ℕ} (put what) (λ k ys. ys) (λ k ys. ys) (end - start) ws start end at xs
+
+-- a binder is 1 + its variable; 0 binds none
+abbrev pub bind : ℕ → ℕ → List ℤ → List ℤ
+bind zero n vs = vs
+bind (suc x) n vs = set vs x (pos n)
+
+-- what is done; i is the first entry's construct. "List or reading without room" is broken.
+abbrev pub effect : List ℕ → List ℕ → ℕ → List ℕ → List ℕ → List ℤ → List ℕ → Head → Act → Whole
+effect ws fs i cs ps vs rs h Act.Broken = whole cs ps vs rs (break h)
+effect ws fs i cs ps vs rs h Act.Fail = whole cs ps vs rs (fail h)
+effect ws fs i cs ps vs rs h (Act.Enter b) = whole (set cs (h .count - 1) b) (set ps (h .count - 1) 0) vs rs (taken fs h (h .count) (h .position) (h .captures))
+effect ws fs i cs ps vs rs h (Act.Members start end n) =
+    pick (leb (h .count + n) 257)
+    (whole (placed (λ j. j) ws start end (h .count - 1 + n) cs) (placed (λ j. 0) ws start end (h .count - 1 + n) ps) vs rs (taken fs h (h .count - 1 + n) (h .position) (h .captures)))
+    (whole cs ps vs rs (break h))
+effect ws fs i cs ps vs rs h (Act.Again b) =
+    pick (ltb (h .count) 256)
+    (pick (ltb (getD ps (h .count - 1) 0) 4294967295)
+    (whole (set cs (h .count) b) (set (set ps (h .count - 1) (getD ps (h .count - 1) 0 + 1)) (h .count) 0) vs rs (taken fs h (h .count + 1) (h .position) (h .captures)))
+    (whole cs ps vs rs (break h)))
+    (whole cs ps vs rs (break h))
+effect ws fs i cs ps vs rs h Act.Leave = whole cs ps vs rs (taken fs h (h .count - 1) (h .position) (h .captures))
+effect ws fs i cs ps vs rs h (Act.Take width binder n) =
+    pick (leb (2 * h .captures + 2) (length rs))
+    (whole cs ps (bind binder n vs) (set (set rs (2 * h .captures) i) (2 * h .captures + 1) (h .position)) (taken fs h (h .count - 1) (h .position + width) (h .captures + 1)))
+    (whole cs ps vs rs (break h))
+
+-- "condition 3's bound": weight × (bits + 1), from the table's weight word, which past 65,535 is against the layout
+abbrev pub in-bound : List ℕ → List ℕ → Head → Bool
+in-bound ws fs h = pick (leb (weight-of ws) 65535) (ltb (h .steps) (weight-of ws * (bits-of fs + 1))) false
+
+abbrev pub first-step : List ℕ → List ℕ → ℕ → ℕ → List ℕ → List ℕ → List ℤ → List ℕ → Head → Whole
+first-step ws fs i k cs ps vs rs h = pick (leb i 256) (effect ws fs i cs ps vs rs h (actOf ws fs vs (h .position) i k)) (whole cs ps vs rs (break h))
+
+-- a step of an undecided run; "A decided, closed or broken run takes no more steps."
+unfoldable pub step-of : List ℕ → List ℕ → Whole → Whole
+step-of ws fs (whole cs ps vs rs h) =
+    pick (eqb (h .verdict) undecided)
+    (pick (in-bound ws fs h)
+    (pick (eqb (h .count) 0) (whole cs ps vs rs (break h)) (first-step ws fs (getD cs (h .count - 1) 0) (getD ps (h .count - 1) 0) cs ps vs rs h))
+    (whole cs ps vs rs (break h)))
+    (whole cs ps vs rs h)

@@ -1,0 +1,138 @@
+// The steps of a run over any table's words. The work of a step is over lent arrays; the rest of the run is a small struct by value.
+ghost use mathlib.Core.Path.{_≡_};
+ghost use Prim.Native.Nat.{ℕ, _+_, _*_, _-_, _≤_, _<_};
+ghost use lib.ListN.{length, getD, set};
+ghost use Rattle.acts.specs.Acts.{bits-of};
+ghost use Rattle.steps.specs.Steps.{break as breakOf, fail as failOf, verdict-after, taken as takenOf, placed, bind as bindOf, Whole, whole, effect as effectOf, in-bound, step-of};
+use acts::Act;
+
+// What a run holds beside its arrays.
+pub struct Head {
+    pub position: usize,
+    pub count: usize,
+    pub captures: usize,
+    pub steps: u64,
+    pub verdict: u32,
+}
+
+fn broken(head: Head) -> Head
+    ensures { λ r. ⌜ r ≡ breakOf head ⌝ }
+{
+    Head {
+        position: head.position,
+        count: head.count,
+        captures: head.captures,
+        steps: head.steps,
+        verdict: 4,
+    }
+}
+
+fn failed(head: Head) -> Head
+    requires { ⌜ head .steps < 18446744073709551615 ⌝ }
+    ensures { λ r. ⌜ r ≡ failOf head ⌝ }
+{
+    Head {
+        position: head.position,
+        count: head.count,
+        captures: head.captures,
+        steps: head.steps + 1,
+        verdict: 2,
+    }
+}
+
+fn verdict(frame: &[u8], count: usize, position: usize) -> u32
+    requires { ⌜ length (now frame) ≤ 256 ⌝ }
+    ensures { λ r. ⌜ r ≡ verdict-after (now (frame .entry)) count position ⌝ }
+{
+    if count == 0 {
+        if position == 8 * frame.len() {
+            return 1;
+        }
+        return 2;
+    }
+    0
+}
+
+fn taken(frame: &[u8], head: Head, count: usize, position: usize, captures: usize) -> Head
+    requires { ⌜ (length (now frame) ≤ 256) × (head .steps < 18446744073709551615) ⌝ }
+    ensures { λ r. ⌜ r ≡ takenOf (now (frame .entry)) head count position captures ⌝ }
+{
+    let after = verdict(frame, count, position);
+    Head {
+        position,
+        count,
+        captures,
+        steps: head.steps + 1,
+        verdict: after,
+    }
+}
+
+// Whether the bound of condition 3 leaves a step.
+fn bounded(table: &[u32], frame: &[u8], head: Head) -> bool
+    requires { ⌜ length (now frame) ≤ 256 ⌝ }
+    ensures { λ r. ⌜ r ≡ in-bound (now (table .entry)) (now (frame .entry)) head ⌝ }
+{
+    let weight = layout::word(table, 5);
+    if weight <= 65535 {
+        return head.steps < (weight * (8 * frame.len() + 1)) as u64;
+    }
+    false
+}
+
+// A construct takes the first entry's place.
+fn enter(constructs: &mut [u32; 256], passes: &mut [u32; 256], count: usize, construct: usize)
+    requires { ⌜ (0 < count) × (count ≤ 256) × (construct < 4294967296) ⌝ }
+    ensures { λ r. ⌜ (now (constructs .exit) ≡ set (now (constructs .entry)) (count - 1) construct) × (now (passes .exit) ≡ set (now (passes .entry)) (count - 1) 0) ⌝ }
+{
+    constructs[count - 1] = construct as u32;
+    passes[count - 1] = 0;
+}
+
+// The first entry again with one pass more, below its body.
+fn again(constructs: &mut [u32; 256], passes: &mut [u32; 256], count: usize, k: u32, body: usize)
+    requires { ⌜ (0 < count) × (count < 256) × (k < 4294967295) × (body < 4294967296) ⌝ }
+    ensures { λ r. ⌜ (now (constructs .exit) ≡ set (now (constructs .entry)) count body) × (now (passes .exit) ≡ set (set (now (passes .entry)) (count - 1) (k + 1)) count 0) ⌝ }
+{
+    passes[count - 1] = k + 1;
+    constructs[count] = body as u32;
+    passes[count] = 0;
+}
+
+fn record(reading: &mut [u32], captures: usize, construct: usize, position: usize)
+    requires { ⌜ (2 * captures + 2 ≤ length (now reading)) × (construct < 4294967296) × (position < 4294967296) ⌝ }
+    ensures { λ r. ⌜ now (reading .exit) ≡ set (set (now (reading .entry)) (2 * captures) construct) (2 * captures + 1) position ⌝ }
+{
+    reading[2 * captures] = construct as u32;
+    reading[2 * captures + 1] = position as u32;
+}
+
+fn bind(values: &mut [i64; 64], binder: usize, value: u64)
+    requires { ⌜ (binder ≤ 64) × (value < 4294967296) ⌝ }
+    ensures { λ r. ⌜ now (values .exit) ≡ bindOf binder value (now (values .entry)) ⌝ }
+{
+    if 0 < binder {
+        values[binder - 1] = acts::whole(value);
+    }
+}
+
+// The members from `start` up to `end` below each other, the first one last, ending below place `at`.
+fn place(table: &[u32], constructs: &mut [u32; 256], passes: &mut [u32; 256], start: usize, end: usize, at: usize)
+    requires { ⌜ (end ≤ 256) × (at ≤ 256) × (length (now constructs) ≡ 256) × (length (now passes) ≡ 256) ⌝ }
+    ensures { λ r. ⌜ (now (constructs .exit) ≡ placed (λ (j : ℕ). j) (now (table .entry)) start end at (now (constructs .entry))) × (now (passes .exit) ≡ placed (λ (j : ℕ). 0) (now (table .entry)) start end at (now (passes .entry))) ⌝ }
+{
+    let mut j = start;
+    let mut k = at;
+    while j < end {
+        if k == 0 {
+            return;
+        }
+        k -= 1;
+        constructs[k] = j as u32;
+        passes[k] = 0;
+        let step = acts::size_at(table, j);
+        if step == 0 {
+            return;
+        }
+        j += step;
+    }
+}
