@@ -49,15 +49,15 @@ module _ {A : Type 0} (P : A → Type 0) (visit : ℕ → A → A) (done broken 
 
 -- members, counted, are no more than the room for them
 members-few : (ws : List ℕ) (start end most j n : ℕ) (fs : List ℕ) (p : ℕ) → end ≤ 256 → n + most ≤ 256
-  → Doable fs p (walk {A = ℕ → Act} (λ i rest m. rest (m + 1)) (λ m. Act.Members start end m) (λ m. Act.Broken) most ws j end n)
+    → Doable fs p (walk {A = ℕ → Act} (λ i rest m. rest (m + 1)) (λ m. Act.Members start end m) (λ m. Act.Broken) most ws j end n)
 unfolding walk
 members-few ws start end zero j n fs p l h = (l, omega arith)
 members-few ws start end (suc most) j n fs p l h =
-    elim (decide (ltb j end))
-    [ inl e ↦
-      elim (decide (eqb (size-of (constructAt ws j)) 0))
-      [ inl z ↦ rw (e, z, walk) tt | inr z ↦ rw (e, z, walk) (members-few ws start end most (j + size-of (constructAt ws j)) (n + 1) fs p l (omega arith)) ]
-    | inr e ↦ rw (e, walk) (l, omega arith)
+    elim (decide (ltb j end)) [
+      | inl e ↦
+          elim (decide (eqb (size-of (constructAt ws j)) 0))
+          [ inl z ↦ rw (e, z, walk) tt | inr z ↦ rw (e, z, walk) (members-few ws start end most (j + size-of (constructAt ws j)) (n + 1) fs p l (omega arith)) ]
+      | inr e ↦ rw (e, walk) (l, omega arith)
     ]
 
 module _ (ws fs : List ℕ) (vs : List ℤ) (p : ℕ) where

@@ -3,12 +3,13 @@
 -- Assumes nothing.
 use Prim.Native.Nat.{ℕ, zero, suc, _+_, _*_, _-_}
 use mathlib.Core.Bool.{Bool, true, false}
+use mathlib.Core.Path.{_≡_}
 use mathlib.Core.List.{List}
 use lib.Dec.{leb, ltb, eqb}
 use lib.IntN.{ℤ, pos}
 use lib.ListN.{length, getD, set}
 use Rattle.layout.specs.Places.{weight-of}
-use Rattle.layout.specs.Constructs.{pick}
+use Rattle.layout.specs.Constructs.{pick, both}
 use Rattle.acts.specs.Acts.{walk, bits-of, actOf}
 use Rattle.acts.specs.declared.Act.{Act}
 use Rattle.steps.specs.declared.Head.{Head}
@@ -63,33 +64,54 @@ abbrev pub bind : ℕ → ℕ → List ℤ → List ℤ
 bind zero n vs = vs
 bind (suc x) n vs = set vs x (pos n)
 
--- what is done; i is the first entry's construct. "List or reading without room" is broken.
-abbrev pub effect : List ℕ → List ℕ → ℕ → List ℕ → List ℕ → List ℤ → List ℕ → Head → Act → Whole
-effect ws fs i cs ps vs rs h Act.Broken = whole cs ps vs rs (break h)
-effect ws fs i cs ps vs rs h Act.Fail = whole cs ps vs rs (fail h)
-effect ws fs i cs ps vs rs h (Act.Enter b) = whole (set cs (h .count - 1) b) (set ps (h .count - 1) 0) vs rs (taken fs h (h .count) (h .position) (h .captures))
-effect ws fs i cs ps vs rs h (Act.Members start end n) =
+-- What is done. "List or reading without room" is broken.
+
+-- the members of a concatenation in the place of the first entry
+abbrev pub members-done : List ℕ → List ℕ → List ℕ → List ℕ → List ℤ → List ℕ → Head → ℕ → ℕ → ℕ → Whole
+members-done ws fs cs ps vs rs h start end n =
     pick (leb (h .count + n) 257)
     (whole (placed (λ j. j) ws start end (h .count - 1 + n) cs) (placed (λ j. 0) ws start end (h .count - 1 + n) ps) vs rs (taken fs h (h .count - 1 + n) (h .position) (h .captures)))
     (whole cs ps vs rs (break h))
-effect ws fs i cs ps vs rs h (Act.Again b) =
-    pick (ltb (h .count) 256)
-    (pick (ltb (getD ps (h .count - 1) 0) 4294967295)
-    (whole (set cs (h .count) b) (set (set ps (h .count - 1) (getD ps (h .count - 1) 0 + 1)) (h .count) 0) vs rs (taken fs h (h .count + 1) (h .position) (h .captures)))
-    (whole cs ps vs rs (break h)))
+
+-- the first entry with one pass more than k, below its body
+abbrev pub again-done : List ℕ → List ℕ → List ℕ → List ℤ → List ℕ → Head → ℕ → ℕ → Whole
+again-done fs cs ps vs rs h k b =
+    pick (both (ltb (h .count) 256) (ltb k 4294967295))
+    (whole (set cs (h .count) b) (set (set ps (h .count - 1) (k + 1)) (h .count) 0) vs rs (taken fs h (h .count + 1) (h .position) (h .captures)))
     (whole cs ps vs rs (break h))
-effect ws fs i cs ps vs rs h Act.Leave = whole cs ps vs rs (taken fs h (h .count - 1) (h .position) (h .captures))
-effect ws fs i cs ps vs rs h (Act.Take width binder n) =
+
+-- "where they hold, all but eod write two words in the reading: construct number, first bit"; i is the first entry's construct
+abbrev pub take-done : List ℕ → List ℕ → List ℕ → List ℤ → List ℕ → Head → ℕ → ℕ → ℕ → ℕ → Whole
+take-done fs cs ps vs rs h i width binder n =
     pick (leb (2 * h .captures + 2) (length rs))
     (whole cs ps (bind binder n vs) (set (set rs (2 * h .captures) i) (2 * h .captures + 1) (h .position)) (taken fs h (h .count - 1) (h .position + width) (h .captures + 1)))
     (whole cs ps vs rs (break h))
+
+abbrev pub effect : List ℕ → List ℕ → ℕ → ℕ → List ℕ → List ℕ → List ℤ → List ℕ → Head → Act → Whole
+effect ws fs i k cs ps vs rs h Act.Broken = whole cs ps vs rs (break h)
+effect ws fs i k cs ps vs rs h Act.Fail = whole cs ps vs rs (fail h)
+effect ws fs i k cs ps vs rs h (Act.Enter b) = whole (set cs (h .count - 1) b) (set ps (h .count - 1) 0) vs rs (taken fs h (h .count) (h .position) (h .captures))
+effect ws fs i k cs ps vs rs h (Act.Members start end n) = members-done ws fs cs ps vs rs h start end n
+effect ws fs i k cs ps vs rs h (Act.Again b) = again-done fs cs ps vs rs h k b
+effect ws fs i k cs ps vs rs h Act.Leave = whole cs ps vs rs (taken fs h (h .count - 1) (h .position) (h .captures))
+effect ws fs i k cs ps vs rs h (Act.Take width binder n) = take-done fs cs ps vs rs h i width binder n
+
+-- the same of the arrays that a part of a step writes, whatever the others are
+abbrev pub MembersDone : List ℕ → List ℕ → List ℕ → List ℕ → Head → ℕ → ℕ → ℕ → List ℕ → List ℕ → Head → Type 0
+MembersDone ws fs cs ps h start end n cs′ ps′ h′ = (vs : List ℤ) (rs : List ℕ) → whole cs′ ps′ vs rs h′ ≡ members-done ws fs cs ps vs rs h start end n
+
+abbrev pub AgainDone : List ℕ → List ℕ → List ℕ → Head → ℕ → ℕ → List ℕ → List ℕ → Head → Type 0
+AgainDone fs cs ps h k b cs′ ps′ h′ = (vs : List ℤ) (rs : List ℕ) → whole cs′ ps′ vs rs h′ ≡ again-done fs cs ps vs rs h k b
+
+abbrev pub TakeDone : List ℕ → List ℤ → List ℕ → Head → ℕ → ℕ → ℕ → ℕ → List ℤ → List ℕ → Head → Type 0
+TakeDone fs vs rs h i width binder n vs′ rs′ h′ = (cs ps : List ℕ) → whole cs ps vs′ rs′ h′ ≡ take-done fs cs ps vs rs h i width binder n
 
 -- "condition 3's bound": weight × (bits + 1), from the table's weight word, which past 65,535 is against the layout
 abbrev pub in-bound : List ℕ → List ℕ → Head → Bool
 in-bound ws fs h = pick (leb (weight-of ws) 65535) (ltb (h .steps) (weight-of ws * (bits-of fs + 1))) false
 
 abbrev pub first-step : List ℕ → List ℕ → ℕ → ℕ → List ℕ → List ℕ → List ℤ → List ℕ → Head → Whole
-first-step ws fs i k cs ps vs rs h = pick (leb i 256) (effect ws fs i cs ps vs rs h (actOf ws fs vs (h .position) i k)) (whole cs ps vs rs (break h))
+first-step ws fs i k cs ps vs rs h = pick (leb i 256) (effect ws fs i k cs ps vs rs h (actOf ws fs vs (h .position) i k)) (whole cs ps vs rs (break h))
 
 -- a step of an undecided run; "A decided, closed or broken run takes no more steps."
 unfoldable pub step-of : List ℕ → List ℕ → Whole → Whole

@@ -3,7 +3,7 @@ ghost use mathlib.Core.Path.{_≡_};
 ghost use Prim.Native.Nat.{ℕ, _+_, _*_, _-_, _≤_, _<_};
 ghost use lib.ListN.{length, getD, set};
 ghost use Rattle.acts.specs.Acts.{bits-of};
-ghost use Rattle.steps.specs.Steps.{break as breakOf, fail as failOf, verdict-after, taken as takenOf, placed, bind as bindOf, Whole, whole, effect as effectOf, in-bound, step-of};
+ghost use Rattle.steps.specs.Steps.{break as breakOf, fail as failOf, verdict-after, taken as takenOf, placed, bind as bindOf, MembersDone, AgainDone, TakeDone, Whole, whole, effect as effectOf, in-bound, step-of};
 use acts::Act;
 
 // What a run holds beside its arrays.
@@ -116,7 +116,14 @@ fn bind(values: &mut [i64; 64], binder: usize, value: u64)
 }
 
 // The members from `start` up to `end` below each other, the first one last, ending below place `at`.
-fn place(table: &[u32], constructs: &mut [u32; 256], passes: &mut [u32; 256], start: usize, end: usize, at: usize)
+fn place(
+    table: &[u32],
+    constructs: &mut [u32; 256],
+    passes: &mut [u32; 256],
+    start: usize,
+    end: usize,
+    at: usize,
+)
     requires { ⌜ (end ≤ 256) × (at ≤ 256) × (length (now constructs) ≡ 256) × (length (now passes) ≡ 256) ⌝ }
     ensures { λ r. ⌜ (now (constructs .exit) ≡ placed (λ (j : ℕ). j) (now (table .entry)) start end at (now (constructs .entry))) × (now (passes .exit) ≡ placed (λ (j : ℕ). 0) (now (table .entry)) start end at (now (passes .entry))) ⌝ }
 {
@@ -135,4 +142,79 @@ fn place(table: &[u32], constructs: &mut [u32; 256], passes: &mut [u32; 256], st
         }
         j += step;
     }
+}
+
+// The members take the first entry's place, where there is room.
+fn do_members(
+    table: &[u32],
+    frame: &[u8],
+    constructs: &mut [u32; 256],
+    passes: &mut [u32; 256],
+    head: Head,
+    start: usize,
+    end: usize,
+    n: usize,
+) -> Head
+    requires { ⌜ (length (now frame) ≤ 256) × (head .steps < 18446744073709551615) × (0 < head .count) × (head .count ≤ 256) × (end ≤ 256) × (n ≤ 256) × (length (now constructs) ≡ 256) × (length (now passes) ≡ 256) ⌝ }
+    ensures { λ r. ⌜ MembersDone (now (table .entry)) (now (frame .entry)) (now (constructs .entry)) (now (passes .entry)) head start end n (now (constructs .exit)) (now (passes .exit)) r ⌝ }
+{
+    let count = head.count;
+    if count + n <= 257 {
+        let top = count - 1 + n;
+        place(table, constructs, passes, start, end, top);
+        let position = head.position;
+        let captures = head.captures;
+        return taken(frame, head, top, position, captures);
+    }
+    broken(head)
+}
+
+// One pass more, where there is room.
+fn do_again(
+    frame: &[u8],
+    constructs: &mut [u32; 256],
+    passes: &mut [u32; 256],
+    head: Head,
+    k: u32,
+    body: usize,
+) -> Head
+    requires { ⌜ (length (now frame) ≤ 256) × (head .steps < 18446744073709551615) × (0 < head .count) × (head .count ≤ 256) × (body < 256) ⌝ }
+    ensures { λ r. ⌜ AgainDone (now (frame .entry)) (now (constructs .entry)) (now (passes .entry)) head k body (now (constructs .exit)) (now (passes .exit)) r ⌝ }
+{
+    let count = head.count;
+    if 256 <= count {
+        return broken(head);
+    }
+    if 4294967295 <= k {
+        return broken(head);
+    }
+    again(constructs, passes, count, k, body);
+    let position = head.position;
+    let captures = head.captures;
+    taken(frame, head, count + 1, position, captures)
+}
+
+// A field is recorded and its value bound, where the reading has room.
+fn do_take(
+    frame: &[u8],
+    values: &mut [i64; 64],
+    reading: &mut [u32],
+    head: Head,
+    i: usize,
+    width: usize,
+    binder: usize,
+    value: u64,
+) -> Head
+    requires { ⌜ (length (now frame) ≤ 256) × (head .steps < 18446744073709551615) × (0 < head .count) × (head .captures < 4294967296) × (i < 4294967296) × (head .position + width ≤ 8 * length (now frame)) × (binder ≤ 64) × (value < 4294967296) ⌝ }
+    ensures { λ r. ⌜ TakeDone (now (frame .entry)) (now (values .entry)) (now (reading .entry)) head i width binder value (now (values .exit)) (now (reading .exit)) r ⌝ }
+{
+    let captures = head.captures;
+    if 2 * captures + 2 <= reading.len() {
+        let position = head.position;
+        let count = head.count;
+        record(reading, captures, i, position);
+        bind(values, binder, value);
+        return taken(frame, head, count - 1, position + width, captures + 1);
+    }
+    broken(head)
 }

@@ -67,13 +67,14 @@ loop-less c = (let z : 1 ≤ c .before .size-at .result = positive (c .before .s
 
 -- src/lib.rt:125:5
 loop-again : tie.Need-loop-again Inv-loop μ-loop
-loop-again c = 
-    let e = c .before .size-at .ensures .0 in
-    (ap (λ (x : ℕ). placed (λ (i : ℕ). i) (c .before .before .before .before .before .before .args .table .now) (c .before .before .before .before .loop .j + x) (c .before .before .before .before .before .before .args .end) (c .before .before .before .before .loop .k - 1) (set (c .before .before .before .before .loop .constructs) (c .before .before .before .before .loop .k - 1) (c .before .before .before .before .loop .j))) e
-    ∙ (sym (placed-next (λ (i : ℕ). i) (c .before .before .before .before .before .before .args .table .now) (c .before .before .before .before .before .before .args .end) (c .before .before .before .before .loop .j) (c .before .before .before .before .loop .k) (c .before .before .before .before .loop .constructs) (c .before .before .before .loop-test .taken) (c .before .before .if1 .left) (λ z. c .if2 .left (e ∙ z))) ∙ c .before .before .before .before .loop .inv .0)
-    , ap (λ (x : ℕ). placed (λ (i : ℕ). 0) (c .before .before .before .before .before .before .args .table .now) (c .before .before .before .before .loop .j + x) (c .before .before .before .before .before .before .args .end) (c .before .before .before .before .loop .k - 1) (set (c .before .before .before .before .loop .passes) (c .before .before .before .before .loop .k - 1) 0)) e
-    ∙ (sym (placed-next (λ (i : ℕ). 0) (c .before .before .before .before .before .before .args .table .now) (c .before .before .before .before .before .before .args .end) (c .before .before .before .before .loop .j) (c .before .before .before .before .loop .k) (c .before .before .before .before .loop .passes) (c .before .before .before .loop-test .taken) (c .before .before .if1 .left) (λ z. c .if2 .left (e ∙ z))) ∙ c .before .before .before .before .loop .inv .1)
-    , omega arith)
+loop-again c =
+    let e = c .before .size-at .ensures .0 in (
+      ap (λ (x : ℕ). placed (λ (i : ℕ). i) (c .before .before .before .before .before .before .args .table .now) (c .before .before .before .before .loop .j + x) (c .before .before .before .before .before .before .args .end) (c .before .before .before .before .loop .k - 1) (set (c .before .before .before .before .loop .constructs) (c .before .before .before .before .loop .k - 1) (c .before .before .before .before .loop .j))) e
+          ∙ (sym (placed-next (λ (i : ℕ). i) (c .before .before .before .before .before .before .args .table .now) (c .before .before .before .before .before .before .args .end) (c .before .before .before .before .loop .j) (c .before .before .before .before .loop .k) (c .before .before .before .before .loop .constructs) (c .before .before .before .loop-test .taken) (c .before .before .if1 .left) (λ z. c .if2 .left (e ∙ z))) ∙ c .before .before .before .before .loop .inv .0),
+      ap (λ (x : ℕ). placed (λ (i : ℕ). 0) (c .before .before .before .before .before .before .args .table .now) (c .before .before .before .before .loop .j + x) (c .before .before .before .before .before .before .args .end) (c .before .before .before .before .loop .k - 1) (set (c .before .before .before .before .loop .passes) (c .before .before .before .before .loop .k - 1) 0)) e
+          ∙ (sym (placed-next (λ (i : ℕ). 0) (c .before .before .before .before .before .before .args .table .now) (c .before .before .before .before .before .before .args .end) (c .before .before .before .before .loop .j) (c .before .before .before .before .loop .k) (c .before .before .before .before .loop .passes) (c .before .before .before .loop-test .taken) (c .before .before .if1 .left) (λ z. c .if2 .left (e ∙ z))) ∙ c .before .before .before .before .loop .inv .1),
+      omega arith,
+    )
 
 -- src/lib.rt:119:1
 returns-3 : tie.Need-returns-3 Inv-loop μ-loop
