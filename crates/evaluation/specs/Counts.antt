@@ -10,7 +10,9 @@ use Rattle.terms.specs.Numbers.{pick}
 use Rattle.terms.specs.Words.{termAt, terms}
 use Rattle.evaluation.specs.Meaning.{run}
 use Rattle.evaluation.specs.declared.Counted.{Counted}
+use Rattle.evaluation.specs.declared.Ended.{Ended}
 use Rattle.evaluation.specs.declared.Form.{Form}
+use Rattle.evaluation.specs.declared.Tally.{Tally}
 use Rattle.terms.specs.declared.Kind.{Kind}
 use Rattle.terms.specs.declared.Mode.{Mode}
 use Rattle.terms.specs.declared.Numbers.{Numbers}
@@ -69,10 +71,20 @@ ofTrial f (Trial.Running s t) = ofNumbers f s
 ofTrial f Trial.Malformed = Counted.Malformed
 ofTrial f Trial.Overflow = Counted.Overflow
 
--- counts with that form, at the values of the variables
-abbrev pub countsBy : Form → List ℤ → List ℕ → ℕ → ℕ → Counted
-countsBy f env ws start end = ofTrial f (run Kind.Calculation Mode.Values env (pos 0) start (terms ws start (calculationsEnd f (end - 1) end)) Numbers.Zero 1 .trial)
+abbrev pub tallyEnd : Form → Ended → Tally
+tallyEnd f e = record { counted = ofTrial f (e .trial); at = e .at }
 
--- the counts that the terms from number `start` up to number `end` allow
+-- counts with that form
+abbrev pub talliedBy : Form → Mode → List ℤ → List ℕ → ℕ → ℕ → Tally
+talliedBy f m env ws start end =
+    tallyEnd f (run Kind.Calculation m env (pos 0) start (terms ws start (calculationsEnd f (end - 1) end)) Numbers.Zero 1)
+
+-- what the terms from number `start` up to number `end` say, at the values or the sizes of the variables
+unfoldable pub tallied : Mode → List ℤ → List ℕ → ℕ → ℕ → Tally
+tallied m env ws start end =
+    pick (ltb start end) (talliedBy (formOf (termAt ws (end - 1))) m env ws start end)
+    (record { counted = Counted.Malformed; at = start })
+
+-- the counts that they allow
 unfoldable pub counts : List ℤ → List ℕ → ℕ → ℕ → Counted
-counts env ws start end = pick (ltb start end) (countsBy (formOf (termAt ws (end - 1))) env ws start end) Counted.Malformed
+counts env ws start end = tallied Mode.Values env ws start end .counted

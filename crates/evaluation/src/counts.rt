@@ -1,6 +1,7 @@
 // The counts of a repetition.
 use crate::Counted;
 use crate::Form;
+use crate::Tally;
 use crate::work_out;
 use terms::Kind;
 use terms::Mode;
@@ -13,7 +14,7 @@ use wholes::negative;
 ghost use mathlib.Core.Path.{_≡_};
 ghost use Rattle.basis.specs.Counts.{least, exactly, atLeast, span};
 ghost use Rattle.terms.specs.Words.{terms};
-ghost use Rattle.evaluation.specs.Counts.{shown, formOf, calculationsEnd, ofOne, ofTwo, ofNumbers, ofTrial, counts};
+ghost use Rattle.evaluation.specs.Counts.{shown, formOf, calculationsEnd, ofOne, ofTwo, ofNumbers, ofTrial, tallied, counts};
 
 fn from_zero(a: i64) -> u64
     ensures { λ r. ⌜ r ≡ least a ⌝ }
@@ -60,7 +61,7 @@ fn closed(a: i64, b: i64) -> Counted
 }
 
 // How counts are written, by their last term.
-pub fn form(last: Term) -> Form
+fn form(last: Term) -> Form
     ensures { λ r. ⌜ r ≡ formOf last ⌝ }
 {
     match last {
@@ -112,7 +113,7 @@ fn of_numbers(form: Form, numbers: Numbers) -> Counted
     }
 }
 
-pub fn of_trial(form: Form, trial: Trial) -> Counted
+fn of_trial(form: Form, trial: Trial) -> Counted
     ensures { λ r. ⌜ r ≡ ofTrial form trial ⌝ }
 {
     match trial {
@@ -123,7 +124,7 @@ pub fn of_trial(form: Form, trial: Trial) -> Counted
 }
 
 // Where the calculations of counts end: before their `~`, where they have one.
-pub fn calculations(form: Form, last: usize, end: usize) -> usize
+fn calculations(form: Form, last: usize, end: usize) -> usize
     ensures { λ r. ⌜ r ≡ calculationsEnd form last end ⌝ }
 {
     match form {
@@ -134,25 +135,31 @@ pub fn calculations(form: Form, last: usize, end: usize) -> usize
     }
 }
 
-// The counts that the terms from `start` up to `end` allow.
-pub fn count(words: &[u32], start: usize, end: usize, values: &[i64]) -> Counted
-    ensures { λ r. ⌜ r ≡ counts (now (values .entry)) (now (words .entry)) start end ⌝ }
+// The counts that the terms from `start` up to `end` allow, or what is worked out of their sizes.
+pub fn tally(mode: Mode, words: &[u32], start: usize, end: usize, values: &[i64]) -> Tally
+    ensures { λ r. ⌜ r ≡ tallied mode (now (values .entry)) (now (words .entry)) start end ⌝ }
 {
     if end <= start {
-        return Counted::Malformed;
+        return Tally {
+            counted: Counted::Malformed,
+            at: start,
+        };
     }
     let last = end - 1;
     let shape = form(term_at(words, last));
     let stop = calculations(shape, last, end);
-    let ended = work_out(
-        Kind::Calculation,
-        Mode::Values,
-        words,
-        start,
-        stop,
-        values,
-        0,
-    );
+    let ended = work_out(Kind::Calculation, mode, words, start, stop, values, 0);
     let trial = ended.trial;
-    of_trial(shape, trial)
+    let at = ended.at;
+    let counted = of_trial(shape, trial);
+    Tally { counted, at }
+}
+
+// The counts of a repetition.
+pub fn count(words: &[u32], start: usize, end: usize, values: &[i64]) -> Counted
+    ensures { λ r. ⌜ r ≡ counts (now (values .entry)) (now (words .entry)) start end ⌝ }
+{
+    let all = tally(Mode::Values, words, start, end, values);
+    let counted = all.counted;
+    counted
 }

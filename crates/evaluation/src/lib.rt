@@ -42,6 +42,12 @@ pub enum Counted {
     Overflow,
 }
 
+// Counts, and the number of the term at which their calculations ended.
+pub struct Tally {
+    pub counted: Counted,
+    pub at: usize,
+}
+
 // How counts are written: `{n}`, `{a~}`, `{~b}` or `{a~b}`.
 pub enum Form {
     Exact,

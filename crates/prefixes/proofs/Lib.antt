@@ -3,3 +3,5 @@ pub mod Walks
 pub mod Steady
 pub mod Candidates
 pub mod Windows
+pub mod Static
+pub mod Blocks

@@ -55,21 +55,21 @@ module _ (i : ℕ) (xs : List Term) (lo hi : ℕ) where
 -- ---- blocks: the values whose leading bits are alike
 
 module _ (w : ℕ) where
-  abbrev block : ℕ
+  abbrev pub block : ℕ
   block = 2 ^ (w - 8)
 
-  abbrev strings : ℕ
+  abbrev pub strings : ℕ
   strings = 2 ^ (w - (w - 8))
 
-  blocks : 2 ^ w ≡ strings * block
+  pub blocks : 2 ^ w ≡ strings * block
   blocks =
       let e : w - (w - 8) + (w - 8) ≡ w = omega arith in
       ap (λ (k : ℕ). 2 ^ k) (sym e) ∙ pow-add 2 (w - (w - 8)) (w - 8)
 
-  lead-number : (v : ℕ) → v < 2 ^ w → number (lookahead (bitsOf w v)) ≡ strings + v / block
+  pub lead-number : (v : ℕ) → v < 2 ^ w → number (lookahead (bitsOf w v)) ≡ strings + v / block
   lead-number v h = number-lookahead w v h ∙ ap (λ (x : ℕ). (x + v) / block) blocks ∙ mul-add-div-right (pow-pos (w - 8)) strings v
 
-  next-block : (x : ℕ) → (x + 1) * block ≡ x * block + block
+  pub next-block : (x : ℕ) → (x + 1) * block ≡ x * block + block
   next-block x = add-mul x 1 block ∙ ap (λ (y : ℕ). x * block + y) (one-mul block)
 
   -- a block lies among the values of the width

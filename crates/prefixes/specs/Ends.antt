@@ -1,4 +1,4 @@
--- Where a set without variables changes: at the ends of its items and just after them.
+-- Where a set changes: at the ends of its items and just after them. Only the private functions of the crate speak of this.
 -- Assumes nothing.
 use Prim.Native.Nat.{ℕ}
 use mathlib.Core.Bool.{Bool, true, false}
@@ -7,15 +7,16 @@ use lib.IntN.{ℤ, sucℤ}
 use lib.Signed.{leZ}
 use Rattle.terms.specs.Numbers.{pick, topOf, pairOf}
 use Rattle.terms.specs.Steps.{operateOf}
-use Rattle.evaluation.specs.Meaning.{membership}
 use Rattle.terms.specs.declared.Mode.{Mode}
 use Rattle.terms.specs.declared.Numbers.{Numbers}
 use Rattle.terms.specs.declared.Outcome.{Outcome}
 use Rattle.terms.specs.declared.Pair.{Pair}
 use Rattle.terms.specs.declared.Term.{Term}
-use Rattle.evaluation.specs.declared.Tested.{Tested}
 use Rattle.terms.specs.declared.Top.{Top}
 use Rattle.prefixes.specs.declared.Ends.{Ends}
+use Rattle.prefixes.specs.declared.Probe.{Probe}
+pub use Rattle.prefixes.specs.Members.{isYes}
+unfoldable pub use Rattle.prefixes.specs.Members.{holds}
 
 -- ---- the ends of one item, and the numbers that wait after a term
 
@@ -90,16 +91,6 @@ someEnd p env (x ∷ xs) s = pick (anyIn p (itemEnds env x s)) true (onward (λ 
 
 -- ---- the candidates: the least value, each end and the value after it
 
-abbrev pub isYes : Tested → Bool
-isYes Tested.No = false
-isYes Tested.Yes = true
-isYes Tested.Malformed = false
-isYes Tested.Overflow = false
-
--- v is in the set
-unfoldable pub holds : List ℤ → ℕ → List Term → ℤ → Bool
-holds env i xs v = isYes (membership env v i xs)
-
 abbrev pub tryAt : (ℤ → Bool) → ℤ → ℤ → ℤ → Bool
 tryAt f lo hi v = pick (leZ lo v) (pick (leZ v hi) (f v) false) false
 
@@ -108,3 +99,12 @@ tryEnd f lo hi x = pick (tryAt f lo hi x) true (tryAt f lo hi (sucℤ x))
 
 unfoldable pub candidates : List ℤ → ℕ → List Term → ℤ → ℤ → Bool
 candidates env i xs lo hi = pick (tryAt (holds env i xs) lo hi lo) true (someEnd (tryEnd (holds env i xs) lo hi) env xs Numbers.Zero)
+
+-- ---- the two questions that are asked of an end
+
+abbrev pub between : ℤ → ℤ → ℤ → Bool
+between lo hi x = pick (leZ lo x) (leZ x hi) false
+
+abbrev pub probes : Probe → (ℤ → Bool) → ℤ → ℤ → ℤ → Bool
+probes Probe.Try f lo hi x = tryEnd f lo hi x
+probes Probe.Inside f lo hi x = between lo hi x

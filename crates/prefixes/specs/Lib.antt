@@ -1,3 +1,4 @@
+pub mod Members
 pub mod Ends
 pub mod Between
 pub mod Prefixes

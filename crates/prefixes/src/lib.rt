@@ -22,15 +22,28 @@ ghost use lib.IntN.{sucℤ};
 ghost use lib.Signed.{leZ};
 ghost use Rattle.terms.specs.Words.{terms};
 ghost use Rattle.terms.specs.Numbers.{topOf, pairOf};
-ghost use Rattle.prefixes.specs.Ends.{topEnds, pairEnds, singleEnds, itemEnds, topRest, pairRest, singleRest, numbersAfter, anyIn, someEnd, isYes, holds, tryAt, tryEnd};
-ghost use Rattle.prefixes.specs.Between.{Decides};
-ghost use Rattle.prefixes.specs.Prefixes.{admits, Spans, Tells};
+ghost use Rattle.prefixes.specs.Ends.{topEnds, pairEnds, singleEnds, itemEnds, topRest, pairRest, singleRest, numbersAfter, anyIn, someEnd, isYes, holds, tryAt, tryEnd, between, probes};
+ghost use Rattle.prefixes.specs.Between.{Decides, Whole};
+ghost use Rattle.prefixes.specs.Prefixes.{admits, Spans, Tells, WholeNaturals, TellsAll};
 
 // The ends of an item.
 pub enum Ends {
     None,
     One(i64),
     Two(i64, i64),
+}
+
+// What is asked of an end: whether it or the value after it is a value of the set between two numbers, or whether it lies between them.
+pub enum Probe {
+    Try,
+    Inside,
+}
+
+// Of several values or windows: all of them, none, or some perhaps.
+pub enum Block {
+    All,
+    None,
+    Mixed,
 }
 
 fn top_ends(numbers: Numbers) -> Ends
@@ -183,7 +196,37 @@ fn try_end(
     try_at(words, start, end, values, lo, hi, following(value, hi))
 }
 
-fn try_ends(
+// An end lies between two numbers.
+fn inside(lo: i64, hi: i64, value: i64) -> bool
+    ensures { λ r. ⌜ r ≡ between lo hi value ⌝ }
+{
+    if at_most(lo, value) {
+        at_most(value, hi)
+    } else {
+        false
+    }
+}
+
+fn probe_end(
+    probe: Probe,
+    words: &[u32],
+    start: usize,
+    end: usize,
+    values: &[i64],
+    lo: i64,
+    hi: i64,
+    value: i64,
+) -> bool
+    ensures { λ r. ⌜ r ≡ probes probe (holds (now (values .entry)) start (terms (now (words .entry)) start end)) lo hi value ⌝ }
+{
+    match probe {
+        Probe::Try => try_end(words, start, end, values, lo, hi, value),
+        Probe::Inside => inside(lo, hi, value),
+    }
+}
+
+fn probe_ends(
+    probe: Probe,
     words: &[u32],
     start: usize,
     end: usize,
@@ -192,28 +235,37 @@ fn try_ends(
     hi: i64,
     ends: Ends,
 ) -> bool
-    ensures { λ r. ⌜ r ≡ anyIn (tryEnd (holds (now (values .entry)) start (terms (now (words .entry)) start end)) lo hi) ends ⌝ }
+    ensures { λ r. ⌜ r ≡ anyIn (probes probe (holds (now (values .entry)) start (terms (now (words .entry)) start end)) lo hi) ends ⌝ }
 {
     match ends {
         Ends::None => false,
-        Ends::One(a) => try_end(words, start, end, values, lo, hi, a),
+        Ends::One(a) => probe_end(probe, words, start, end, values, lo, hi, a),
         Ends::Two(a, b) => {
-            if try_end(words, start, end, values, lo, hi, a) {
+            if probe_end(probe, words, start, end, values, lo, hi, a) {
                 return true;
             }
-            try_end(words, start, end, values, lo, hi, b)
+            probe_end(probe, words, start, end, values, lo, hi, b)
         }
     }
 }
 
-fn try_all(words: &[u32], start: usize, end: usize, values: &[i64], lo: i64, hi: i64) -> bool
-    ensures { λ r. ⌜ r ≡ someEnd (tryEnd (holds (now (values .entry)) start (terms (now (words .entry)) start end)) lo hi) (now (values .entry)) (terms (now (words .entry)) start end) Numbers.Zero ⌝ }
+fn probe_all(
+    probe: Probe,
+    words: &[u32],
+    start: usize,
+    end: usize,
+    values: &[i64],
+    lo: i64,
+    hi: i64,
+) -> bool
+    ensures { λ r. ⌜ r ≡ someEnd (probes probe (holds (now (values .entry)) start (terms (now (words .entry)) start end)) lo hi) (now (values .entry)) (terms (now (words .entry)) start end) Numbers.Zero ⌝ }
 {
     let mut numbers = Numbers::Zero;
     let mut at = start;
     while at < end {
         let term = term_at(words, at);
-        if try_ends(
+        if probe_ends(
+            probe,
             words,
             start,
             end,
@@ -254,7 +306,7 @@ pub fn some_between(
     if try_at(words, start, end, values, lo, hi, lo) {
         return true;
     }
-    try_all(words, start, end, values, lo, hi)
+    probe_all(Probe::Try, words, start, end, values, lo, hi)
 }
 
 // The same for a set at no values, which counts as `~` where it has a variable.
@@ -311,4 +363,85 @@ pub fn leads_with(words: &[u32], start: usize, end: usize, width: u32, number: u
         return false;
     }
     leads(words, start, end, width, number)
+}
+
+// The values between two numbers together: no end among them says that they are all in the set or all not.
+fn values_together(
+    words: &[u32],
+    start: usize,
+    end: usize,
+    values: &[i64],
+    lo: i64,
+    hi: i64,
+) -> Block
+    ensures { λ r. ⌜ Whole (holds (now (values .entry)) start (terms (now (words .entry)) start end)) lo hi r ⌝ }
+{
+    if probe_all(Probe::Inside, words, start, end, values, lo, hi) {
+        return Block::Mixed;
+    }
+    if is_yes(contains(words, start, end, values, lo)) {
+        return Block::All;
+    }
+    Block::None
+}
+
+// The same for a set at no values, which counts as `~` where it has a variable.
+fn naturals_together(words: &[u32], start: usize, end: usize, lo: u64, hi: u64) -> Block
+    requires { ⌜ (lo ≤ hi) × (hi < 2 ^ 63) ⌝ }
+    ensures { λ r. ⌜ WholeNaturals (admits start (terms (now (words .entry)) start end)) lo hi r ⌝ }
+{
+    if has_variable(words, start, end) {
+        return Block::All;
+    }
+    let none = [0i64; 1];
+    values_together(words, start, end, &none[0..0], signed(lo), signed(hi))
+}
+
+fn windows_together(
+    words: &[u32],
+    start: usize,
+    end: usize,
+    width: u32,
+    first: u64,
+    count: u64,
+) -> Block
+    requires { ⌜ (width ≤ 62) × (0 < count) ⌝ }
+    ensures { λ r. ⌜ TellsAll width start (terms (now (words .entry)) start end) first count r ⌝ }
+{
+    let shift = hidden(width);
+    let block = power(shift);
+    let strings = power(width - shift);
+    if first < strings {
+        return Block::Mixed;
+    }
+    let leading = first - strings;
+    if strings < leading {
+        return Block::Mixed;
+    }
+    if strings - leading < count {
+        return Block::Mixed;
+    }
+    let lo = leading * block;
+    naturals_together(words, start, end, lo, lo + (count * block - 1))
+}
+
+// Whether the windows of `count` numbers from `first` on are first windows of a field of a width with a set: all, or none. Where neither is
+// plain at once, or they are not all windows of the field, the answer is `Mixed`, and each is asked for by itself.
+pub fn leads_together(
+    words: &[u32],
+    start: usize,
+    end: usize,
+    width: u32,
+    first: u64,
+    count: u64,
+) -> Block
+    ensures { λ r. ⌜ TellsAll width start (terms (now (words .entry)) start end) first count r ⌝ }
+{
+    if 62 < width {
+        return Block::Mixed;
+    }
+    if 0 < count {
+        return windows_together(words, start, end, width, first, count);
+    }
+    Block::Mixed
 }

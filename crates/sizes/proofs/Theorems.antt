@@ -16,7 +16,7 @@ use Rattle.basis.specs.Counts.{Counts, exactly, atLeast, span}
 use Rattle.terms.specs.Numbers.{pick}
 use Rattle.terms.specs.Words.{termAt, terms}
 use Rattle.evaluation.specs.Meaning.{run, aloneOf, numberOf, lastOf, verdictOf, calculation, membership, condition}
-use Rattle.evaluation.specs.Counts.{shown, formOf, calculationsEnd, ofOne, ofTwo, ofNumbers, ofTrial, countsBy, counts}
+use Rattle.evaluation.specs.Counts.{shown, formOf, calculationsEnd, ofOne, ofTwo, ofNumbers, ofTrial, talliedBy, tallied, counts}
 use Rattle.evaluation.specs.declared.Calculated.{Calculated}
 use Rattle.evaluation.specs.declared.Counted.{Counted}
 use Rattle.evaluation.specs.declared.Form.{Form}
@@ -24,9 +24,10 @@ use Rattle.terms.specs.declared.Kind.{Kind}
 use Rattle.terms.specs.declared.Mode.{Mode}
 use Rattle.terms.specs.declared.Numbers.{Numbers}
 use Rattle.terms.specs.declared.Term.{Term}
+use Rattle.evaluation.specs.declared.Tally.{Tally}
 use Rattle.evaluation.specs.declared.Tested.{Tested}
 use Rattle.terms.specs.declared.Trial.{Trial}
-use Rattle.sizes.specs.Sizes.{ofCalculated, ofTested, ofCounted, sizes, countSizesBy, countSizes}
+use Rattle.sizes.specs.Sizes.{ofCalculated, ofTested, ofCounted, ofTally, sizes, countSizes}
 use Rattle.sizes.specs.declared.Sized.{Sized}
 use Rattle.sizes.proofs.Bounds.{Smaller, none, one, two, three, four, Inside}
 use Rattle.sizes.proofs.Depths.{SameDepth, depth-none, depth-below, depth-swap}
@@ -144,16 +145,19 @@ module _ (env widest : List ℤ) (inside : Inside env widest) where
   condition-passes i xs e =
       verdict-answers (run Kind.Condition Mode.Values env (pos 0) i xs Numbers.Zero 1 .trial) (run Kind.Condition Mode.Sizes widest (pos 0) i xs Numbers.Zero 1 .trial) (run Kind.Condition Mode.Sizes widest (pos 0) i xs Numbers.Zero 1 .at) (run-follows env widest inside (pos 0) (pos 0) Kind.Condition xs i Numbers.Zero Numbers.Zero 1 1 none depth-none) e
 
-  counts-by : (f : Form) (ws : List ℕ) (start end : ℕ) → countSizesBy f widest ws start end ≡ Sized.Passes → (n : Counts) × (countsBy f env ws start end ≡ shown n)
+  counts-by : (f : Form) (ws : List ℕ) (start end : ℕ) → ofTally (talliedBy f Mode.Sizes widest ws start end) ≡ Sized.Passes → (n : Counts) × (talliedBy f Mode.Values env ws start end .counted ≡ shown n)
   counts-by f ws start end e =
       let xs : List Term = terms ws start (calculationsEnd f (end - 1) end) in
       counts-answer f (run Kind.Calculation Mode.Values env (pos 0) start xs Numbers.Zero 1 .trial) (run Kind.Calculation Mode.Sizes widest (pos 0) start xs Numbers.Zero 1 .trial) (run Kind.Calculation Mode.Sizes widest (pos 0) start xs Numbers.Zero 1 .at) (run-follows env widest inside (pos 0) (pos 0) Kind.Calculation xs start Numbers.Zero Numbers.Zero 1 1 none depth-none) e
 
   -- counts that pass are a set of counts
   pub counts-pass : (ws : List ℕ) (start end : ℕ) → countSizes widest ws start end ≡ Sized.Passes → (n : Counts) × (counts env ws start end ≡ shown n)
-  unfolding counts countSizes
+  unfolding counts countSizes tallied
   counts-pass ws start end e = go (ltb start end) e
     where
-      go : (t : Bool) → pick t (countSizesBy (formOf (termAt ws (end - 1))) widest ws start end) Sized.Malformed ≡ Sized.Passes → (n : Counts) × (pick t (countsBy (formOf (termAt ws (end - 1))) env ws start end) Counted.Malformed ≡ shown n)
+      none-at : Tally
+      none-at = record { counted = Counted.Malformed; at = start }
+
+      go : (t : Bool) → ofTally (pick t (talliedBy (formOf (termAt ws (end - 1))) Mode.Sizes widest ws start end) none-at) ≡ Sized.Passes → (n : Counts) × (pick t (talliedBy (formOf (termAt ws (end - 1))) Mode.Values env ws start end) none-at .counted ≡ shown n)
       go true h = counts-by (formOf (termAt ws (end - 1))) ws start end h
       go false h = malformed-not h

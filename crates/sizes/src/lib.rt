@@ -2,16 +2,13 @@
 use evaluation::Calculated;
 use evaluation::Counted;
 use evaluation::Tested;
-use evaluation::counts::calculations;
-use evaluation::counts::form;
-use evaluation::counts::of_trial;
+use evaluation::counts::tally;
 use evaluation::number;
 use evaluation::verdict;
 use evaluation::work_out;
 use terms::Kind;
 use terms::Mode;
 use terms::Trial;
-use terms::decode::term_at;
 ghost use mathlib.Core.Path.{_≡_};
 ghost use Rattle.terms.specs.Words.{terms};
 ghost use Rattle.sizes.specs.Sizes.{ofCalculated, ofTested, ofCounted, judged, sizes, countSizes};
@@ -80,22 +77,8 @@ pub fn measure(kind: Kind, words: &[u32], start: usize, end: usize, widest: &[i6
 pub fn measure_counts(words: &[u32], start: usize, end: usize, widest: &[i64]) -> Sized
     ensures { λ r. ⌜ r ≡ countSizes (now (widest .entry)) (now (words .entry)) start end ⌝ }
 {
-    if end <= start {
-        return Sized::Malformed;
-    }
-    let last = end - 1;
-    let shape = form(term_at(words, last));
-    let stop = calculations(shape, last, end);
-    let ended = work_out(
-        Kind::Calculation,
-        Mode::Sizes,
-        words,
-        start,
-        stop,
-        widest,
-        0,
-    );
-    let trial = ended.trial;
-    let at = ended.at;
-    of_counted(of_trial(shape, trial), at)
+    let all = tally(Mode::Sizes, words, start, end, widest);
+    let counted = all.counted;
+    let at = all.at;
+    of_counted(counted, at)
 }

@@ -3,6 +3,7 @@ use evaluation::Calculated;
 use evaluation::Counted;
 use evaluation::Tested;
 use libc::STDOUT_FILENO;
+use prefixes::Block;
 use sizes::Sized;
 use terms::Kind;
 
@@ -123,6 +124,16 @@ fn show_windows(name: &[u8], words: &[u32], end: usize, width: u32) {
     text(b" ");
     natural(found.greatest);
     text(b"\n");
+}
+
+// Whether windows are all first windows, or none.
+fn show_block(name: &[u8], words: &[u32], end: usize, width: u32, first: u64, count: u64) {
+    text(name);
+    match prefixes::leads_together(words, 0, end, width, first, count) {
+        Block::All => text(b"all\n"),
+        Block::None => text(b"none\n"),
+        Block::Mixed => text(b"mixed\n"),
+    }
 }
 
 fn calculations() {
@@ -278,6 +289,20 @@ fn windows_of_others() {
     show_windows(b"n of 4: ", &variable, 1, 4);
 }
 
+fn blocks() {
+    let all = ALL;
+    show_block(b"~ of 8, 256 to 511: ", &all, 1, 8, 256, 256);
+    show_block(b"~ of 8, 255 to 511: ", &all, 1, 8, 255, 257);
+    let range = RANGE;
+    show_block(b"1~8 of 8, 320 to 383: ", &range, 3, 8, 320, 64);
+    show_block(b"1~8 of 8, 256 to 263: ", &range, 3, 8, 256, 8);
+    show_block(b"1~8 of 8, 258 to 263: ", &range, 3, 8, 258, 6);
+    let beyond = [33, 300, 0];
+    show_block(b"300 of 8, 256 to 511: ", &beyond, 1, 8, 256, 256);
+    let variable = [34, 0, 0];
+    show_block(b"n of 4, 16 to 31: ", &variable, 1, 4, 16, 16);
+}
+
 fn condition(name: &[u8], words: &[u32], end: usize) {
     text(name);
     let mut value: u64 = 0;
@@ -402,6 +427,7 @@ fn main() {
     windows_of_range();
     windows_of_all();
     windows_of_others();
+    blocks();
     conditions();
     size_rule();
 }

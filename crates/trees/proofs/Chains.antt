@@ -1,6 +1,6 @@
 -- Lists of terms worked out one after the other, and what holds where they come to an end.
 -- Assumes nothing.
-use Prim.Native.Nat.{ℕ, _+_, _*_, _/_, _%_, _^_, _≤_, _<_}
+use Prim.Native.Nat.{ℕ, _+_, _*_, _/_, _%_, _^_, _≤_}
 use mathlib.Core.Path.{_≡_, refl, sym, ap, subst, _∙_}
 use mathlib.Core.Bool.{Bool, true, false}
 use mathlib.Core.List.{List, [], _∷_, _++_}
@@ -54,29 +54,29 @@ next-chain go f i (Trial.Running s t) h = h s t
 next-chain go f i Trial.Malformed h = refl
 next-chain go f i Trial.Overflow h = refl
 
-module _ (k : Kind) (env : List ℤ) (v : ℤ) where
+module _ (k : Kind) (m : Mode) (env : List ℤ) (v : ℤ) where
   unfoldable pub ends : List Term → Numbers → ℕ → Trial
   ends [] s t = Trial.Running s t
-  ends (x ∷ xs) s t = chain (λ s′ t′. ends xs s′ t′) (stepOf k Mode.Values env v x s t)
+  ends (x ∷ xs) s t = chain (λ s′ t′. ends xs s′ t′) (stepOf k m env v x s t)
 
-  pub run-ends : (xs : List Term) (i : ℕ) (s : Numbers) (t : ℕ) → run k Mode.Values env v i xs s t .trial ≡ ends xs s t
+  pub run-ends : (xs : List Term) (i : ℕ) (s : Numbers) (t : ℕ) → run k m env v i xs s t .trial ≡ ends xs s t
   unfolding run ends
   run-ends [] i s t = refl
-  run-ends (x ∷ xs) i s t = next-chain (λ (s′ : Numbers) (t′ : ℕ). run k Mode.Values env v (i + 1) xs s′ t′) (λ (s′ : Numbers) (t′ : ℕ). ends xs s′ t′) i (stepOf k Mode.Values env v x s t) (λ s′ t′. run-ends xs (i + 1) s′ t′)
+  run-ends (x ∷ xs) i s t = next-chain (λ (s′ : Numbers) (t′ : ℕ). run k m env v (i + 1) xs s′ t′) (λ (s′ : Numbers) (t′ : ℕ). ends xs s′ t′) i (stepOf k m env v x s t) (λ s′ t′. run-ends xs (i + 1) s′ t′)
 
-  ends-append : (xs ys : List Term) (s : Numbers) (t : ℕ) → ends (xs ++ ys) s t ≡ chain (λ (s′ : Numbers) (t′ : ℕ). ends ys s′ t′) (ends xs s t)
+  pub ends-append : (xs ys : List Term) (s : Numbers) (t : ℕ) → ends (xs ++ ys) s t ≡ chain (λ (s′ : Numbers) (t′ : ℕ). ends ys s′ t′) (ends xs s t)
   unfolding ends
   ends-append [] ys s t = refl
-  ends-append (x ∷ xs) ys s t = chain-chain (λ (s′ : Numbers) (t′ : ℕ). ends (xs ++ ys) s′ t′) (λ (s′ : Numbers) (t′ : ℕ). ends xs s′ t′) (λ (s′ : Numbers) (t′ : ℕ). ends ys s′ t′) (stepOf k Mode.Values env v x s t) (λ s′ t′. ends-append xs ys s′ t′)
+  ends-append (x ∷ xs) ys s t = chain-chain (λ (s′ : Numbers) (t′ : ℕ). ends (xs ++ ys) s′ t′) (λ (s′ : Numbers) (t′ : ℕ). ends xs s′ t′) (λ (s′ : Numbers) (t′ : ℕ). ends ys s′ t′) (stepOf k m env v x s t) (λ s′ t′. ends-append xs ys s′ t′)
 
   -- after a list comes another
   pub good-append : (P Q : Numbers → ℕ → Type 0) (xs ys : List Term) (s : Numbers) (t : ℕ) → Good P (ends xs s t) → ((s′ : Numbers) (t′ : ℕ) → P s′ t′ → Good Q (ends ys s′ t′)) → Good Q (ends (xs ++ ys) s t)
   good-append P Q xs ys s t p h = subst (Good Q) (sym (ends-append xs ys s t)) (good-chain P Q (λ (s′ : Numbers) (t′ : ℕ). ends ys s′ t′) (ends xs s t) p h)
 
   -- after a list comes one term
-  pub good-last : (P Q : Numbers → ℕ → Type 0) (xs : List Term) (x : Term) (s : Numbers) (t : ℕ) → Good P (ends xs s t) → ((s′ : Numbers) (t′ : ℕ) → P s′ t′ → Good Q (stepOf k Mode.Values env v x s′ t′)) → Good Q (ends (xs ++ (x ∷ [])) s t)
+  pub good-last : (P Q : Numbers → ℕ → Type 0) (xs : List Term) (x : Term) (s : Numbers) (t : ℕ) → Good P (ends xs s t) → ((s′ : Numbers) (t′ : ℕ) → P s′ t′ → Good Q (stepOf k m env v x s′ t′)) → Good Q (ends (xs ++ (x ∷ [])) s t)
   unfolding ends
-  good-last P Q xs x s t p h = good-append P Q xs (x ∷ []) s t p (λ s′ t′ q. good-chain Q Q (λ (s″ : Numbers) (t″ : ℕ). Trial.Running s″ t″) (stepOf k Mode.Values env v x s′ t′) (h s′ t′ q) (λ s″ t″ r. r))
+  good-last P Q xs x s t p h = good-append P Q xs (x ∷ []) s t p (λ s′ t′ q. good-chain Q Q (λ (s″ : Numbers) (t″ : ℕ). Trial.Running s″ t″) (stepOf k m env v x s′ t′) (h s′ t′ q) (λ s″ t″ r. r))
 
 -- ---- a number put on the stack, and taken off it
 

@@ -3,7 +3,7 @@
 use mathlib.Core.List.{List, [], _∷_, _++_}
 use Rattle.terms.specs.declared.Operation.{Operation}
 use Rattle.terms.specs.declared.Term.{Term}
-use Rattle.trees.specs.Trees.{Calculation, literal, use-of, plus, minus, times, opposite, ValueSet, everything, only, between, from, upTo, either, without, Condition, compare, both, any}
+use Rattle.trees.specs.Trees.{Calculation, literal, use-of, plus, minus, times, opposite, ValueSet, everything, only, between, from, upTo, either, without, Condition, compare, both, any, Repeats, exact, on-from, up-to, spanning}
 
 -- the last term of a calculation, and the terms before it
 abbrev pub lastSign : Calculation → Operation
@@ -38,3 +38,9 @@ unfoldable pub conditionTerms : Condition → List Term
 conditionTerms (compare k a b) = (calculationTerms a ++ calculationTerms b) ++ (Term.Compare k ∷ [])
 conditionTerms (both x y) = (conditionTerms x ++ conditionTerms y) ++ (Term.And ∷ [])
 conditionTerms (any x y) = (conditionTerms x ++ conditionTerms y) ++ (Term.Or ∷ [])
+
+unfoldable pub repeatTerms : Repeats → List Term
+repeatTerms (exact n) = calculationTerms n
+repeatTerms (on-from a) = calculationTerms a ++ (Term.From ∷ [])
+repeatTerms (up-to b) = calculationTerms b ++ (Term.UpTo ∷ [])
+repeatTerms (spanning a b) = (calculationTerms a ++ calculationTerms b) ++ (Term.Range ∷ [])

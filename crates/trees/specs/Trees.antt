@@ -6,6 +6,7 @@ use mathlib.Core.List.{List}
 use lib.IntN.{ℤ, pos, negℤ, _+ℤ_, _-ℤ_, _*ℤ_}
 use lib.ListN.{getD}
 use lib.Signed.{leZ}
+use Rattle.basis.specs.Counts.{Counts, exactly, atLeast, span}
 use Rattle.terms.specs.Numbers.{pick, equals}
 use Rattle.terms.specs.Steps.{compares}
 use Rattle.terms.specs.declared.Comparison.{Comparison}
@@ -58,3 +59,16 @@ unfoldable pub true-at : List ℤ → Condition → Bool
 true-at env (compare k a b) = compares k (value env a) (value env b)
 true-at env (both x y) = pick (true-at env x) (true-at env y) false
 true-at env (any x y) = pick (true-at env x) true (true-at env y)
+
+-- the counts of a repetition: `{n}`, `{a~}`, `{~b}` or `{a~b}`
+pub data Repeats : Type 0 where
+  exact : Calculation → Repeats
+  on-from : Calculation → Repeats
+  up-to : Calculation → Repeats
+  spanning : Calculation → Calculation → Repeats
+
+unfoldable pub repeats : List ℤ → Repeats → Counts
+repeats env (exact n) = exactly (value env n)
+repeats env (on-from a) = atLeast (value env a)
+repeats env (up-to b) = span (pos 0) (value env b)
+repeats env (spanning a b) = span (value env a) (value env b)

@@ -155,6 +155,13 @@ read₁ f a p e = e ∙ ap f (back a p)
 pub read₂ : {A : Type 0} (f : ℤ → ℤ → A) (a b : ℤ) {r : A} → mag a < 2 ^ 63 → mag b < 2 ^ 63 → r ≡ f (toZ w64 (ofZ w64 a)) (toZ w64 (ofZ w64 b)) → r ≡ f a b
 read₂ f a b p q e = e ∙ ap (λ (z : ℤ). f z (toZ w64 (ofZ w64 b))) (back a p) ∙ ap (f a) (back b q)
 
+-- the whole of two parts is in bounds where the parts together are
+pub whole-in : (a b z : ℤ) → natAbs z ≡ natAbs a + natAbs b → leb (natAbs a + natAbs b) (2 ^ 62) ≡ true → natAbs z ≤ 2 ^ 62
+whole-in a b z e t = omega (arith, e, leb-true (natAbs a + natAbs b) (2 ^ 62) t)
+
+pub whole-out : (a b z : ℤ) → natAbs z ≡ natAbs a + natAbs b → leb (natAbs a + natAbs b) (2 ^ 62) ≡ false → 2 ^ 62 < natAbs z
+whole-out a b z e t = omega (arith, e, leb-false (natAbs a + natAbs b) (2 ^ 62) t)
+
 -- ---- tests
 
 pub leb-shift : (m n l : ℕ) → m ≤ l → leb n (l - m) ≡ leb (m + n) l

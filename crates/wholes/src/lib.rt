@@ -124,8 +124,7 @@ pub fn whole(n: u64) -> Checked
     }
 }
 
-// The sum of two numbers is in bounds.
-fn together(m: u64, n: u64) -> bool
+fn small(m: u64, n: u64) -> bool
     ensures { λ r. ⌜ r ≡ leb (m + n) (2 ^ 62) ⌝ }
 {
     if LIMIT < m {
@@ -134,11 +133,18 @@ fn together(m: u64, n: u64) -> bool
     n <= LIMIT - m
 }
 
+// The sum of two numbers without their signs is in bounds.
+fn together(a: i64, b: i64) -> bool
+    ensures { λ r. ⌜ r ≡ leb (natAbs a + natAbs b) (2 ^ 62) ⌝ }
+{
+    small(magnitude(a), magnitude(b))
+}
+
 pub fn add(a: i64, b: i64) -> Checked
     ensures { λ r. ⌜ r ≡ bounded (a +ℤ b) ⌝ }
 {
     if alike(a, b) {
-        if together(magnitude(a), magnitude(b)) {
+        if together(a, b) {
             return Checked::Exact(plus(a, b));
         }
         return Checked::Overflow;
@@ -152,7 +158,7 @@ pub fn subtract(a: i64, b: i64) -> Checked
     if alike(a, b) {
         return in_bounds(minus(a, b));
     }
-    if together(magnitude(a), magnitude(b)) {
+    if together(a, b) {
         return Checked::Exact(minus(a, b));
     }
     Checked::Overflow

@@ -3,19 +3,13 @@ use native.Mathlib.Omega.{arith}
 use borrow.Author.Needs.{needs}
 use Rattle.prefixes.proofs.leads_with.Statement.{statement}
 use Rattle.prefixes.proofs.leads_with.Tie as tie
-use Rattle.prefixes.proofs.leads_with.Reads as reads
-use Rattle.prefixes.proofs.leads_with.Lts as lts
-use Rattle.prefixes.proofs.leads.Reads as leads-reads
 
--- src/lib.rt:265:9
 returns : tie.Need-returns
 returns c = ((λ h. absurd (omega (arith, c .if1 .taken))), (λ h. refl))
 
--- src/lib.rt:267:5
 leads-requires : tie.Need-leads-requires
 leads-requires c κs = search needs
 
--- src/lib.rt:260:1
 returns-2 : tie.Need-returns-2
 returns-2 c = ((λ h. c .leads .ensures), (λ h. absurd (omega (arith, c .before .if1 .left))))
 

@@ -18,12 +18,12 @@ try-at-requires c κs = search needs
 returns : tie.Need-returns
 returns c = decides-first (c .before .before .before .args .values .now) (c .before .before .before .args .start) (terms (c .before .before .before .args .words .now) (c .before .before .before .args .start) (c .before .before .before .args .end)) (c .before .before .before .args .lo) (c .before .before .before .args .hi) (sym (read₃ (tryAt (holds (c .before .before .before .args .values .now) (c .before .before .before .args .start) (terms (c .before .before .before .args .words .now) (c .before .before .before .args .start) (c .before .before .before .args .end)))) (c .before .before .before .args .lo) (c .before .before .before .args .hi) (c .before .before .before .args .lo) (c .before .before .before .fits .lo .sfits) (c .before .before .before .fits .hi .sfits) (c .before .before .before .fits .lo .sfits) (c .before .try-at .ensures)) ∙ c .if1 .taken)
 
-try-all-requires : tie.Need-try-all-requires
-try-all-requires c κs = search needs
+probe-all-requires : tie.Need-probe-all-requires
+probe-all-requires c κs = search needs
 
 returns-2 : tie.Need-returns-2
 returns-2 c =
-    subst (λ (t : Bool). Decides (holds (c .before .before .before .before .args .values .now) (c .before .before .before .before .args .start) (terms (c .before .before .before .before .args .words .now) (c .before .before .before .before .args .start) (c .before .before .before .before .args .end))) (c .before .before .before .before .args .lo) (c .before .before .before .before .args .hi) t) (sym (read₂ (λ (x y : ℤ). someEnd (tryEnd (holds (c .before .before .before .before .args .values .now) (c .before .before .before .before .args .start) (terms (c .before .before .before .before .args .words .now) (c .before .before .before .before .args .start) (c .before .before .before .before .args .end))) x y) (c .before .before .before .before .args .values .now) (terms (c .before .before .before .before .args .words .now) (c .before .before .before .before .args .start) (c .before .before .before .before .args .end)) Numbers.Zero) (c .before .before .before .before .args .lo) (c .before .before .before .before .args .hi) (c .before .before .before .before .fits .lo .sfits) (c .before .before .before .before .fits .hi .sfits) (c .try-all .ensures))) (decides-rest (c .before .before .before .before .args .values .now) (c .before .before .before .before .args .start) (terms (c .before .before .before .before .args .words .now) (c .before .before .before .before .args .start) (c .before .before .before .before .args .end)) (c .before .before .before .before .args .lo) (c .before .before .before .before .args .hi) (sym (read₃ (tryAt (holds (c .before .before .before .before .args .values .now) (c .before .before .before .before .args .start) (terms (c .before .before .before .before .args .words .now) (c .before .before .before .before .args .start) (c .before .before .before .before .args .end)))) (c .before .before .before .before .args .lo) (c .before .before .before .before .args .hi) (c .before .before .before .before .args .lo) (c .before .before .before .before .fits .lo .sfits) (c .before .before .before .before .fits .hi .sfits) (c .before .before .before .before .fits .lo .sfits) (c .before .before .try-at .ensures)) ∙ c .before .if1 .left))
+    subst (λ (t : Bool). Decides (holds (c .before .before .before .before .args .values .now) (c .before .before .before .before .args .start) (terms (c .before .before .before .before .args .words .now) (c .before .before .before .before .args .start) (c .before .before .before .before .args .end))) (c .before .before .before .before .args .lo) (c .before .before .before .before .args .hi) t) (sym (read₂ (λ (x y : ℤ). someEnd (tryEnd (holds (c .before .before .before .before .args .values .now) (c .before .before .before .before .args .start) (terms (c .before .before .before .before .args .words .now) (c .before .before .before .before .args .start) (c .before .before .before .before .args .end))) x y) (c .before .before .before .before .args .values .now) (terms (c .before .before .before .before .args .words .now) (c .before .before .before .before .args .start) (c .before .before .before .before .args .end)) Numbers.Zero) (c .before .before .before .before .args .lo) (c .before .before .before .before .args .hi) (c .before .before .before .before .fits .lo .sfits) (c .before .before .before .before .fits .hi .sfits) (c .probe-all .ensures))) (decides-rest (c .before .before .before .before .args .values .now) (c .before .before .before .before .args .start) (terms (c .before .before .before .before .args .words .now) (c .before .before .before .before .args .start) (c .before .before .before .before .args .end)) (c .before .before .before .before .args .lo) (c .before .before .before .before .args .hi) (sym (read₃ (tryAt (holds (c .before .before .before .before .args .values .now) (c .before .before .before .before .args .start) (terms (c .before .before .before .before .args .words .now) (c .before .before .before .before .args .start) (c .before .before .before .before .args .end)))) (c .before .before .before .before .args .lo) (c .before .before .before .before .args .hi) (c .before .before .before .before .args .lo) (c .before .before .before .before .fits .lo .sfits) (c .before .before .before .before .fits .hi .sfits) (c .before .before .before .before .fits .lo .sfits) (c .before .before .try-at .ensures)) ∙ c .before .if1 .left))
 
 pub some-between-spec : {M : Type 1} → statement M
-some-between-spec = tie.close (tie.spec try-at-requires returns try-all-requires returns-2)
+some-between-spec = tie.close (tie.spec try-at-requires returns probe-all-requires returns-2)

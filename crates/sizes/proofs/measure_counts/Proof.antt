@@ -1,48 +1,18 @@
-use borrow.Author.Tests.{lt-ltb, le-ltb}
+use mathlib.Core.Path.{ap, _∙_}
 use borrow.Author.Needs.{needs}
-use Rattle.sizes.specs.Sizes.{countSizes}
+use Rattle.sizes.specs.Sizes.{ofTally, countSizes}
 use Rattle.sizes.proofs.measure_counts.Statement.{statement}
 use Rattle.sizes.proofs.measure_counts.Tie as tie
 
-returns : tie.Need-returns
-unfolding countSizes
-returns c = simp (le-ltb _ _ (c .if1 .taken))
-
-sub-last : tie.Need-sub-last
-sub-last c = search needs
-
-term-at-requires : tie.Need-term-at-requires
-term-at-requires c κs = search needs
-
-form-requires : tie.Need-form-requires
-form-requires c κs = search needs
-
-calculations-requires : tie.Need-calculations-requires
-calculations-requires c κs = search needs
-
-work-out-requires : tie.Need-work-out-requires
-work-out-requires c κs = search needs
-
-of-trial-requires : tie.Need-of-trial-requires
-of-trial-requires c κs = search needs
+tally-requires : tie.Need-tally-requires
+tally-requires c κs = search needs
 
 of-counted-requires : tie.Need-of-counted-requires
 of-counted-requires c κs = search needs
 
-returns-2 : tie.Need-returns-2
+returns : tie.Need-returns
 unfolding countSizes
-returns-2 c = simp (c .of-counted .ensures, c .before .of-trial .ensures, c .before .before .work-out .ensures, c .before .before .before .calculations .ensures, c .before .before .before .before .form .ensures, c .before .before .before .before .before .term-at .ensures, lt-ltb _ _ (c .before .before .before .before .before .before .if1 .left))
+returns c = c .of-counted .ensures ∙ ap ofTally (c .before .tally .ensures)
 
 pub measure-counts-spec : {M : Type 1} → statement M
-measure-counts-spec =
-    tie.close
-    (tie.spec
-    returns
-    sub-last
-    term-at-requires
-    form-requires
-    calculations-requires
-    work-out-requires
-    of-trial-requires
-    of-counted-requires
-    returns-2)
+measure-counts-spec = tie.close (tie.spec tally-requires of-counted-requires returns)

@@ -1,12 +1,9 @@
-use Prim.Native.Nat.{_+_, _^_, _≤_, _<_}
-use mathlib.Core.Bool.{true, false}
-use mathlib.Core.Path.{_≡_, sym, ap, _∙_}
-use native.Mathlib.Omega.{arith}
-use borrow.Author.Tests.{leb-true, leb-false}
+use Prim.Native.Nat.{_+_, _^_}
+use mathlib.Core.Path.{sym, ap, _∙_}
 use borrow.Author.Needs.{needs}
 use lib.Dec.{leb}
-use lib.IntN.{natAbs, _+ℤ_}
-use Rattle.wholes.proofs.Laws.{back, read₁, read₂, fits-bound, bounded-in, bounded-out, sum-alike, sum-unlike}
+use lib.IntN.{ℤ, natAbs, _+ℤ_}
+use Rattle.wholes.proofs.Laws.{back, read₁, read₂, fits-bound, bounded-in, bounded-out, whole-in, whole-out, sum-alike, sum-unlike}
 use Rattle.wholes.specs.Wholes.{bounded, sameSign}
 use Rattle.wholes.proofs.add.Statement.{statement}
 use Rattle.wholes.proofs.add.Tie as tie
@@ -14,63 +11,36 @@ use Rattle.wholes.proofs.add.Tie as tie
 alike-requires : tie.Need-alike-requires
 alike-requires c κs = search needs
 
-magnitude-requires : tie.Need-magnitude-requires
-magnitude-requires c κs = search needs
-
-magnitude-requires-2 : tie.Need-magnitude-requires-2
-magnitude-requires-2 c κs = search needs
-
 together-requires : tie.Need-together-requires
 together-requires c κs = search needs
 
 plus-requires : tie.Need-plus-requires
 plus-requires c κs =
-    let s : sameSign (c .before .before .before .before .before .before .args .a) (c .before .before .before .before .before .before .args .b) ≡ true = sym (read₂ sameSign (c .before .before .before .before .before .before .args .a) (c .before .before .before .before .before .before .args .b) (c .before .before .before .before .before .before .fits .a .sfits) (c .before .before .before .before .before .before .fits .b .sfits) (c .before .before .before .before .before .alike .ensures)) ∙ c .before .before .before .before .if1 .taken in
-    let m : c .before .before .before .magnitude .result ≡ natAbs (c .before .before .before .before .before .before .args .a) = read₁ natAbs (c .before .before .before .before .before .before .args .a) (c .before .before .before .before .before .before .fits .a .sfits) (c .before .before .before .magnitude .ensures) in
-    let n : c .before .before .magnitude2 .result ≡ natAbs (c .before .before .before .before .before .before .args .b) = read₁ natAbs (c .before .before .before .before .before .before .args .b) (c .before .before .before .before .before .before .fits .b .sfits) (c .before .before .magnitude2 .ensures) in
-    let t : leb (c .before .before .before .magnitude .result + c .before .before .magnitude2 .result) (2 ^ 62) ≡ true = sym (c .before .together .ensures) ∙ c .if2 .taken in
-    let u : natAbs ((c .before .before .before .before .before .before .args .a) +ℤ (c .before .before .before .before .before .before .args .b)) ≤ 2 ^ 62 = omega (arith, leb-true (c .before .before .before .magnitude .result + c .before .before .magnitude2 .result) (2 ^ 62) t, m, n, sum-alike (c .before .before .before .before .before .before .args .a) (c .before .before .before .before .before .before .args .b) s) in
-    rw (back (c .before .before .before .before .before .before .args .a) (c .before .before .before .before .before .before .fits .a .sfits), back (c .before .before .before .before .before .before .args .b) (c .before .before .before .before .before .before .fits .b .sfits)) (fits-bound ((c .before .before .before .before .before .before .args .a) +ℤ (c .before .before .before .before .before .before .args .b)) u)
+    rw (back (c .before .before .before .before .args .a) (c .before .before .before .before .fits .a .sfits), back (c .before .before .before .before .args .b) (c .before .before .before .before .fits .b .sfits)) (fits-bound ((c .before .before .before .before .args .a) +ℤ (c .before .before .before .before .args .b)) (whole-in (c .before .before .before .before .args .a) (c .before .before .before .before .args .b) ((c .before .before .before .before .args .a) +ℤ (c .before .before .before .before .args .b)) (sum-alike (c .before .before .before .before .args .a) (c .before .before .before .before .args .b) (sym (read₂ sameSign (c .before .before .before .before .args .a) (c .before .before .before .before .args .b) (c .before .before .before .before .fits .a .sfits) (c .before .before .before .before .fits .b .sfits) (c .before .before .before .alike .ensures)) ∙ c .before .before .if1 .taken)) (sym (read₂ (λ (x y : ℤ). leb (natAbs x + natAbs y) (2 ^ 62)) (c .before .before .before .before .args .a) (c .before .before .before .before .args .b) (c .before .before .before .before .fits .a .sfits) (c .before .before .before .before .fits .b .sfits) (c .before .together .ensures)) ∙ c .if2 .taken)))
 
 returns : tie.Need-returns
 returns c =
-    let s : sameSign (c .before .before .before .before .before .before .before .args .a) (c .before .before .before .before .before .before .before .args .b) ≡ true = sym (read₂ sameSign (c .before .before .before .before .before .before .before .args .a) (c .before .before .before .before .before .before .before .args .b) (c .before .before .before .before .before .before .before .fits .a .sfits) (c .before .before .before .before .before .before .before .fits .b .sfits) (c .before .before .before .before .before .before .alike .ensures)) ∙ c .before .before .before .before .before .if1 .taken in
-    let m : c .before .before .before .before .magnitude .result ≡ natAbs (c .before .before .before .before .before .before .before .args .a) = read₁ natAbs (c .before .before .before .before .before .before .before .args .a) (c .before .before .before .before .before .before .before .fits .a .sfits) (c .before .before .before .before .magnitude .ensures) in
-    let n : c .before .before .before .magnitude2 .result ≡ natAbs (c .before .before .before .before .before .before .before .args .b) = read₁ natAbs (c .before .before .before .before .before .before .before .args .b) (c .before .before .before .before .before .before .before .fits .b .sfits) (c .before .before .before .magnitude2 .ensures) in
-    let t : leb (c .before .before .before .before .magnitude .result + c .before .before .before .magnitude2 .result) (2 ^ 62) ≡ true = sym (c .before .before .together .ensures) ∙ c .before .if2 .taken in
-    let u : natAbs ((c .before .before .before .before .before .before .before .args .a) +ℤ (c .before .before .before .before .before .before .before .args .b)) ≤ 2 ^ 62 = omega (arith, leb-true (c .before .before .before .before .magnitude .result + c .before .before .before .magnitude2 .result) (2 ^ 62) t, m, n, sum-alike (c .before .before .before .before .before .before .before .args .a) (c .before .before .before .before .before .before .before .args .b) s) in
-    let r : c .plus .result ≡ (c .before .before .before .before .before .before .before .args .a) +ℤ (c .before .before .before .before .before .before .before .args .b) = read₂ _+ℤ_ (c .before .before .before .before .before .before .before .args .a) (c .before .before .before .before .before .before .before .args .b) (c .before .before .before .before .before .before .before .fits .a .sfits) (c .before .before .before .before .before .before .before .fits .b .sfits) (c .plus .ensures) in
-    rw (back (c .plus .result) (c .plus .ok), r) (sym (bounded-in ((c .before .before .before .before .before .before .before .args .a) +ℤ (c .before .before .before .before .before .before .before .args .b)) u))
+    rw (back (c .plus .result) (c .plus .ok), read₂ _+ℤ_ (c .before .before .before .before .before .args .a) (c .before .before .before .before .before .args .b) (c .before .before .before .before .before .fits .a .sfits) (c .before .before .before .before .before .fits .b .sfits) (c .plus .ensures)) (sym (bounded-in ((c .before .before .before .before .before .args .a) +ℤ (c .before .before .before .before .before .args .b)) (whole-in (c .before .before .before .before .before .args .a) (c .before .before .before .before .before .args .b) ((c .before .before .before .before .before .args .a) +ℤ (c .before .before .before .before .before .args .b)) (sum-alike (c .before .before .before .before .before .args .a) (c .before .before .before .before .before .args .b) (sym (read₂ sameSign (c .before .before .before .before .before .args .a) (c .before .before .before .before .before .args .b) (c .before .before .before .before .before .fits .a .sfits) (c .before .before .before .before .before .fits .b .sfits) (c .before .before .before .before .alike .ensures)) ∙ c .before .before .before .if1 .taken)) (sym (read₂ (λ (x y : ℤ). leb (natAbs x + natAbs y) (2 ^ 62)) (c .before .before .before .before .before .args .a) (c .before .before .before .before .before .args .b) (c .before .before .before .before .before .fits .a .sfits) (c .before .before .before .before .before .fits .b .sfits) (c .before .before .together .ensures)) ∙ c .before .if2 .taken))))
 
 returns-2 : tie.Need-returns-2
-returns-2 c =
-    let s : sameSign (c .before .before .before .before .before .before .args .a) (c .before .before .before .before .before .before .args .b) ≡ true = sym (read₂ sameSign (c .before .before .before .before .before .before .args .a) (c .before .before .before .before .before .before .args .b) (c .before .before .before .before .before .before .fits .a .sfits) (c .before .before .before .before .before .before .fits .b .sfits) (c .before .before .before .before .before .alike .ensures)) ∙ c .before .before .before .before .if1 .taken in
-    let m : c .before .before .before .magnitude .result ≡ natAbs (c .before .before .before .before .before .before .args .a) = read₁ natAbs (c .before .before .before .before .before .before .args .a) (c .before .before .before .before .before .before .fits .a .sfits) (c .before .before .before .magnitude .ensures) in
-    let n : c .before .before .magnitude2 .result ≡ natAbs (c .before .before .before .before .before .before .args .b) = read₁ natAbs (c .before .before .before .before .before .before .args .b) (c .before .before .before .before .before .before .fits .b .sfits) (c .before .before .magnitude2 .ensures) in
-    let t : leb (c .before .before .before .magnitude .result + c .before .before .magnitude2 .result) (2 ^ 62) ≡ false = sym (c .before .together .ensures) ∙ c .if2 .left in
-    let u : 2 ^ 62 < natAbs ((c .before .before .before .before .before .before .args .a) +ℤ (c .before .before .before .before .before .before .args .b)) = omega (arith, leb-false (c .before .before .before .magnitude .result + c .before .before .magnitude2 .result) (2 ^ 62) t, m, n, sum-alike (c .before .before .before .before .before .before .args .a) (c .before .before .before .before .before .before .args .b) s) in
-    sym (bounded-out ((c .before .before .before .before .before .before .args .a) +ℤ (c .before .before .before .before .before .before .args .b)) u)
+returns-2 c = sym (bounded-out ((c .before .before .before .before .args .a) +ℤ (c .before .before .before .before .args .b)) (whole-out (c .before .before .before .before .args .a) (c .before .before .before .before .args .b) ((c .before .before .before .before .args .a) +ℤ (c .before .before .before .before .args .b)) (sum-alike (c .before .before .before .before .args .a) (c .before .before .before .before .args .b) (sym (read₂ sameSign (c .before .before .before .before .args .a) (c .before .before .before .before .args .b) (c .before .before .before .before .fits .a .sfits) (c .before .before .before .before .fits .b .sfits) (c .before .before .before .alike .ensures)) ∙ c .before .before .if1 .taken)) (sym (read₂ (λ (x y : ℤ). leb (natAbs x + natAbs y) (2 ^ 62)) (c .before .before .before .before .args .a) (c .before .before .before .before .args .b) (c .before .before .before .before .fits .a .sfits) (c .before .before .before .before .fits .b .sfits) (c .before .together .ensures)) ∙ c .if2 .left)))
 
 plus-requires-2 : tie.Need-plus-requires-2
 plus-requires-2 c κs =
-    let s : sameSign (c .before .before .args .a) (c .before .before .args .b) ≡ false = sym (read₂ sameSign (c .before .before .args .a) (c .before .before .args .b) (c .before .before .fits .a .sfits) (c .before .before .fits .b .sfits) (c .before .alike .ensures)) ∙ c .if1 .left in
-    rw (back (c .before .before .args .a) (c .before .before .fits .a .sfits), back (c .before .before .args .b) (c .before .before .fits .b .sfits)) (sum-unlike (c .before .before .args .a) (c .before .before .args .b) s (c .before .before .fits .a .sfits) (c .before .before .fits .b .sfits))
+    rw (back (c .before .before .args .a) (c .before .before .fits .a .sfits), back (c .before .before .args .b) (c .before .before .fits .b .sfits)) (sum-unlike (c .before .before .args .a) (c .before .before .args .b) (sym (read₂ sameSign (c .before .before .args .a) (c .before .before .args .b) (c .before .before .fits .a .sfits) (c .before .before .fits .b .sfits) (c .before .alike .ensures)) ∙ c .if1 .left) (c .before .before .fits .a .sfits) (c .before .before .fits .b .sfits))
 
 in-bounds-requires : tie.Need-in-bounds-requires
 in-bounds-requires c κs = search needs
 
 returns-3 : tie.Need-returns-3
 returns-3 c =
-    let r : c .before .plus2 .result ≡ (c .before .before .before .before .args .a) +ℤ (c .before .before .before .before .args .b) = read₂ _+ℤ_ (c .before .before .before .before .args .a) (c .before .before .before .before .args .b) (c .before .before .before .before .fits .a .sfits) (c .before .before .before .before .fits .b .sfits) (c .before .plus2 .ensures) in
-    read₁ bounded (c .before .plus2 .result) (c .before .plus2 .ok) (c .in-bounds .ensures) ∙ ap bounded r
+    read₁ bounded (c .before .plus2 .result) (c .before .plus2 .ok) (c .in-bounds .ensures) ∙ ap bounded (read₂ _+ℤ_ (c .before .before .before .before .args .a) (c .before .before .before .before .args .b) (c .before .before .before .before .fits .a .sfits) (c .before .before .before .before .fits .b .sfits) (c .before .plus2 .ensures))
 
 pub add-spec : {M : Type 1} → statement M
 add-spec =
     tie.close
     (tie.spec
     alike-requires
-    magnitude-requires
-    magnitude-requires-2
     together-requires
     plus-requires
     returns

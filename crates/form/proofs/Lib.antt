@@ -1,0 +1,5 @@
+pub mod Every
+pub mod Walks
+pub mod Pointers
+pub mod Decoded
+pub mod Limits

@@ -1,0 +1,28 @@
+use Prim.Native.Nat.{ℕ, _^_}
+use mathlib.Core.Path.{_≡_, sym, ap}
+use native.Mathlib.Omega.{arith}
+use Rattle.form.proofs.constructs.power.Statement.{statement}
+use Rattle.form.proofs.constructs.power.Tie as tie
+use Rattle.form.proofs.constructs.power.Reads as reads
+use Rattle.form.proofs.constructs.power.Lts as lts
+
+-- src/constructs.rt:140:9
+returns : tie.Need-returns
+returns c = (sym (ap (λ (k : ℕ). 256 ^ k) (c .if1 .taken)), omega arith)
+
+-- src/constructs.rt:143:9
+returns-2 : tie.Need-returns-2
+returns-2 c = (sym (ap (λ (k : ℕ). 256 ^ k) (c .if2 .taken)), omega arith)
+
+-- src/constructs.rt:146:9
+returns-3 : tie.Need-returns-3
+returns-3 c = (sym (ap (λ (k : ℕ). 256 ^ k) (c .if3 .taken)), omega arith)
+
+-- src/constructs.rt:135:1
+returns-4 : tie.Need-returns-4
+returns-4 c =
+    let e : c .before .before .before .args .k ≡ 3 = omega (arith, c .before .before .before .pre)
+    in (sym (ap (λ (k : ℕ). 256 ^ k) e), omega arith)
+
+pub power-spec : {M : Type 1} → statement M
+power-spec = tie.close (tie.spec returns returns-2 returns-3 returns-4)

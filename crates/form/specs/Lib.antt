@@ -1,0 +1,5 @@
+pub mod Checks
+pub mod Parts
+pub mod Lists
+pub mod Rules
+pub mod Laid

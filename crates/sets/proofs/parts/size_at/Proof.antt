@@ -1,0 +1,30 @@
+use Rattle.sets.proofs.PartLaws.{size-small}
+use Rattle.layout.specs.Constructs.{constructAt}
+use Rattle.layout.specs.Held.{size-of}
+use Prim.Native.Nat.{ℕ, _≤_}
+use mathlib.Core.Path.{_≡_, ap, subst, sym, _∙_}
+use borrow.Author.Needs.{needs}
+use Rattle.sets.proofs.parts.size_at.Statement.{statement}
+use Rattle.sets.proofs.parts.size_at.Tie as tie
+use Rattle.sets.proofs.parts.size_at.Reads as reads
+use Rattle.sets.proofs.parts.size_at.Lts as lts
+use Rattle.layout.proofs.construct_at.Reads as construct-at-reads
+use Rattle.sets.proofs.parts.size_of.Reads as size-of-reads
+
+-- src/parts.rt:39:13
+construct-at-requires : tie.Need-construct-at-requires
+construct-at-requires c κs = search needs
+
+-- src/parts.rt:39:5
+size-of-requires : tie.Need-size-of-requires
+size-of-requires c κs = search needs
+
+-- src/parts.rt:36:1
+returns : tie.Need-returns
+returns c =
+    let a = c .before .before .before .args in
+    let e : c .size-of .result ≡ size-of (constructAt (a .table .now) (a .i)) = c .size-of .ensures ∙ ap size-of (c .before .construct-at .ensures) in
+    (e, subst (λ (n : ℕ). n ≤ 256) (sym e) (size-small (a .table .now) (a .i)))
+
+pub size-at-spec : {M : Type 1} → statement M
+size-at-spec = tie.close (tie.spec construct-at-requires size-of-requires returns)
