@@ -16,8 +16,8 @@ use lib.Seq.{take-append-le, take-at}
 use lib.Pow.{pow-pos, pow-mono}
 use Rattle.basis.specs.Bits.{Bits, bitsOf, value, frameBits, same}
 use Rattle.basis.specs.Lookahead.{lookahead, number}
-use Rattle.basis.proofs.Numbers.{number-value, number-ge, number-lt, number-injective, number-bitsOf, bitsOf-length}
-use Rattle.basis.proofs.Values.{value-bitsOf, value-less, bitsOf-value}
+use Rattle.basis.proofs.Numbers.{number-value, number-ge, number-lt, number-injective, number-bitsOf}
+use Rattle.basis.proofs.Values.{length-bitsOf, value-bitsOf, value-less, bitsOf-value}
 use Rattle.basis.proofs.Joins.{lookahead-length, lookahead-short}
 use Rattle.lookahead.specs.Sets.{Has, Is, Union}
 use Rattle.lookahead.proofs.PassLaws.{is-map, no-pass}
@@ -147,11 +147,11 @@ same-true (a ∷ s) (b ∷ t) e =
 frame-length : (bytes : List ℕ) → length (frameBits bytes) ≡ 8 * length bytes
 unfolding frameBits
 frame-length [] = refl
-frame-length (b ∷ bs) = length-append (bitsOf 8 b) (frameBits bs) ∙ omega (arith, bitsOf-length 8 b, frame-length bs)
+frame-length (b ∷ bs) = length-append (bitsOf 8 b) (frameBits bs) ∙ omega (arith, length-bitsOf 8 b, frame-length bs)
 
 frame-first : (b : ℕ) (bs : List ℕ) → lookahead (frameBits (b ∷ bs)) ≡ bitsOf 8 b
 unfolding frameBits
-frame-first b bs = take-at (bitsOf 8 b) (frameBits bs) 8 (bitsOf-length 8 b)
+frame-first b bs = take-at (bitsOf 8 b) (frameBits bs) 8 (length-bitsOf 8 b)
 
 module _ (b : ℕ) (bs : List ℕ) where
   -- the strings of a literal: its first byte
@@ -193,7 +193,7 @@ module _ (ws : List ℕ) (start end : ℕ) where
         to : Numbered count (count + count) (Led width (term-words ws) start end) x → Leading width (λ bits. in-static-set ws start end (value bits)) x
         to (l, lo, hi, (v, k)) =
             let e : value (bitsOf width v) ≡ v = value-bitsOf width v ∙ mod-eq-of-lt (k .less) in
-            (bitsOf width v, bitsOf-length width v, ap (in-static-set ws start end) e ∙ static-admits v ∙ k .member, number-injective x (lookahead (bitsOf width v)) (sym (k .leading)))
+            (bitsOf width v, length-bitsOf width v, ap (in-static-set ws start end) e ∙ static-admits v ∙ k .member, number-injective x (lookahead (bitsOf width v)) (sym (k .leading)))
 
         back : Leading width (λ bits. in-static-set ws start end (value bits)) x → Numbered count (count + count) (Led width (term-words ws) start end) x
         back (bits, l, t, p) =

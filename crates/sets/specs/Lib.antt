@@ -3,4 +3,3 @@ pub mod Rules
 pub mod Rounds
 pub mod Parts
 pub mod Fields
-pub mod Follows

@@ -3,6 +3,5 @@
 // nothing changes.
 mod fields;
 pub mod first;
-pub mod follow;
 mod parts;
 mod rules;
