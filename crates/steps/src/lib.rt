@@ -2,7 +2,7 @@
 ghost use mathlib.Core.Path.{_≡_};
 ghost use Prim.Native.Nat.{ℕ, _+_, _*_, _-_, _≤_, _<_};
 ghost use lib.ListN.{length, getD, set};
-ghost use Rattle.acts.specs.Acts.{bits-of};
+ghost use Rattle.acts.specs.Acts.{bits-of, Doable};
 ghost use Rattle.steps.specs.Steps.{break as breakOf, fail as failOf, verdict-after, taken as takenOf, placed, bind as bindOf, MembersDone, AgainDone, TakeDone, Whole, whole, effect as effectOf, in-bound, step-of};
 use acts::Act;
 
@@ -217,4 +217,41 @@ fn do_take(
         return taken(frame, head, count - 1, position + width, captures + 1);
     }
     broken(head)
+}
+
+// What was decided for the first entry, the construct i after k passes, is done.
+fn do_act(
+    table: &[u32],
+    frame: &[u8],
+    constructs: &mut [u32; 256],
+    passes: &mut [u32; 256],
+    values: &mut [i64; 64],
+    reading: &mut [u32],
+    head: Head,
+    i: usize,
+    k: u32,
+    act: Act,
+) -> Head
+    requires { ⌜ (length (now frame) ≤ 256) × (head .steps < 18446744073709551615) × (0 < head .count) × (head .count ≤ 256) × (head .captures < 4294967296) × (i ≤ 256) × (length (now constructs) ≡ 256) × (length (now passes) ≡ 256) × Doable (now frame) (head .position) act ⌝ }
+    ensures { λ r. ⌜ whole (now (constructs .exit)) (now (passes .exit)) (now (values .exit)) (now (reading .exit)) r ≡ effectOf (now (table .entry)) (now (frame .entry)) i k (now (constructs .entry)) (now (passes .entry)) (now (values .entry)) (now (reading .entry)) head act ⌝ }
+{
+    let count = head.count;
+    let position = head.position;
+    let captures = head.captures;
+    match act {
+        Act::Broken => broken(head),
+        Act::Fail => failed(head),
+        Act::Enter { construct } => {
+            enter(constructs, passes, count, construct);
+            taken(frame, head, count, position, captures)
+        }
+        Act::Members { start, end, count: n } => {
+            do_members(table, frame, constructs, passes, head, start, end, n)
+        }
+        Act::Again { body } => do_again(frame, constructs, passes, head, k, body),
+        Act::Leave => taken(frame, head, count - 1, position, captures),
+        Act::Take { width, binder, value } => {
+            do_take(frame, values, reading, head, i, width, binder, value)
+        }
+    }
 }
