@@ -1,2 +1,3 @@
--- Laws of a step's writes.
+-- Laws of a step's writes and bound.
 pub mod Places
+pub mod Bounds

@@ -107,8 +107,8 @@ abbrev pub TakeDone : List ℕ → List ℤ → List ℕ → Head → ℕ → �
 TakeDone fs vs rs h i width binder n vs′ rs′ h′ = (cs ps : List ℕ) → whole cs ps vs′ rs′ h′ ≡ take-done fs cs ps vs rs h i width binder n
 
 -- "condition 3's bound": weight × (bits + 1), from the table's weight word, which past 65,535 is against the layout
-abbrev pub in-bound : List ℕ → List ℕ → Head → Bool
-in-bound ws fs h = pick (leb (weight-of ws) 65535) (ltb (h .steps) (weight-of ws * (bits-of fs + 1))) false
+abbrev pub in-bound : List ℕ → List ℕ → ℕ → Bool
+in-bound ws fs n = pick (leb (weight-of ws) 65535) (ltb n (weight-of ws * (bits-of fs + 1))) false
 
 abbrev pub first-step : List ℕ → List ℕ → ℕ → ℕ → List ℕ → List ℕ → List ℤ → List ℕ → Head → Whole
 first-step ws fs i k cs ps vs rs h = pick (leb i 256) (effect ws fs i k cs ps vs rs h (actOf ws fs vs (h .position) i k)) (whole cs ps vs rs (break h))
@@ -117,7 +117,7 @@ first-step ws fs i k cs ps vs rs h = pick (leb i 256) (effect ws fs i k cs ps vs
 unfoldable pub step-of : List ℕ → List ℕ → Whole → Whole
 step-of ws fs (whole cs ps vs rs h) =
     pick (eqb (h .verdict) undecided)
-    (pick (in-bound ws fs h)
+    (pick (in-bound ws fs (h .steps))
     (pick (eqb (h .count) 0) (whole cs ps vs rs (break h)) (first-step ws fs (getD cs (h .count - 1) 0) (getD ps (h .count - 1) 0) cs ps vs rs h))
     (whole cs ps vs rs (break h)))
     (whole cs ps vs rs h)

@@ -3,7 +3,7 @@ ghost use mathlib.Core.Path.{_≡_};
 ghost use Prim.Native.Nat.{ℕ, _+_, _*_, _-_, _≤_, _<_};
 ghost use lib.ListN.{length, getD, set};
 ghost use Rattle.acts.specs.Acts.{bits-of, Doable};
-ghost use Rattle.steps.specs.Steps.{break as breakOf, fail as failOf, verdict-after, taken as takenOf, placed, bind as bindOf, MembersDone, AgainDone, TakeDone, Whole, whole, effect as effectOf, in-bound, step-of};
+ghost use Rattle.steps.specs.Steps.{break as breakOf, fail as failOf, verdict-after, taken as takenOf, placed, bind as bindOf, MembersDone, AgainDone, TakeDone, Whole, whole, effect as effectOf, in-bound, first-step, step-of};
 use acts::Act;
 
 // What a run holds beside its arrays.
@@ -68,13 +68,13 @@ fn taken(frame: &[u8], head: Head, count: usize, position: usize, captures: usiz
 }
 
 // Whether the bound of condition 3 leaves a step.
-fn bounded(table: &[u32], frame: &[u8], head: Head) -> bool
+fn bounded(table: &[u32], frame: &[u8], steps: u64) -> bool
     requires { ⌜ length (now frame) ≤ 256 ⌝ }
-    ensures { λ r. ⌜ r ≡ in-bound (now (table .entry)) (now (frame .entry)) head ⌝ }
+    ensures { λ r. ⌜ r ≡ in-bound (now (table .entry)) (now (frame .entry)) steps ⌝ }
 {
     let weight = layout::word(table, 5);
     if weight <= 65535 {
-        return head.steps < (weight * (8 * frame.len() + 1)) as u64;
+        return steps < (weight * (8 * frame.len() + 1)) as u64;
     }
     false
 }
@@ -245,13 +245,88 @@ fn do_act(
             enter(constructs, passes, count, construct);
             taken(frame, head, count, position, captures)
         }
-        Act::Members { start, end, count: n } => {
-            do_members(table, frame, constructs, passes, head, start, end, n)
-        }
+        Act::Members {
+            start,
+            end,
+            count: n,
+        } => { do_members(table, frame, constructs, passes, head, start, end, n) }
         Act::Again { body } => do_again(frame, constructs, passes, head, k, body),
         Act::Leave => taken(frame, head, count - 1, position, captures),
-        Act::Take { width, binder, value } => {
-            do_take(frame, values, reading, head, i, width, binder, value)
-        }
+        Act::Take {
+            width,
+            binder,
+            value,
+        } => { do_take(frame, values, reading, head, i, width, binder, value) }
     }
+}
+
+// The number in the first entry.
+fn first_of(entries: &[u32; 256], count: usize) -> u32
+    requires { ⌜ (0 < count) × (count ≤ 256) ⌝ }
+    ensures { λ r. ⌜ r ≡ getD (now (entries .entry)) (count - 1) 0 ⌝ }
+{
+    entries[count - 1]
+}
+
+// A step within the bound takes the first entry.
+fn take_first(
+    table: &[u32],
+    frame: &[u8],
+    constructs: &mut [u32; 256],
+    passes: &mut [u32; 256],
+    values: &mut [i64; 64],
+    reading: &mut [u32],
+    head: Head,
+) -> Head
+    requires { ⌜ (16384 ≤ length (now table)) × (length (now frame) ≤ 256) × (head .position ≤ 8 * length (now frame)) × (0 < head .count) × (head .count ≤ 256) × (head .captures < 4294967296) × (head .steps < 18446744073709551615) × (length (now constructs) ≡ 256) × (length (now passes) ≡ 256) ⌝ }
+    ensures { λ r. ⌜ whole (now (constructs .exit)) (now (passes .exit)) (now (values .exit)) (now (reading .exit)) r ≡ first-step (now (table .entry)) (now (frame .entry)) (getD (now (constructs .entry)) (head .count - 1) 0) (getD (now (passes .entry)) (head .count - 1) 0) (now (constructs .entry)) (now (passes .entry)) (now (values .entry)) (now (reading .entry)) head ⌝ }
+{
+    let count = head.count;
+    let i = first_of(constructs, count) as usize;
+    let k = first_of(passes, count);
+    if i <= 256 {
+        let position = head.position;
+        let act = acts::decide(table, frame, values, position, i, k as u64);
+        return do_act(
+            table,
+            frame,
+            constructs,
+            passes,
+            values,
+            reading,
+            head,
+            i,
+            k,
+            act,
+        );
+    }
+    broken(head)
+}
+
+// One step of a run.
+pub fn step(
+    table: &[u32],
+    frame: &[u8],
+    constructs: &mut [u32; 256],
+    passes: &mut [u32; 256],
+    values: &mut [i64; 64],
+    reading: &mut [u32],
+    head: Head,
+) -> Head
+    requires { ⌜ (16384 ≤ length (now table)) × (length (now frame) ≤ 256) × (head .position ≤ 8 * length (now frame)) × (head .count ≤ 256) × (head .captures < 4294967296) × (length (now constructs) ≡ 256) × (length (now passes) ≡ 256) ⌝ }
+    ensures { λ r. ⌜ whole (now (constructs .exit)) (now (passes .exit)) (now (values .exit)) (now (reading .exit)) r ≡ step-of (now (table .entry)) (now (frame .entry)) (whole (now (constructs .entry)) (now (passes .entry)) (now (values .entry)) (now (reading .entry)) head) ⌝ }
+{
+    let verdict = head.verdict;
+    if verdict == 0 {
+        let steps = head.steps;
+        if bounded(table, frame, steps) {
+            let count = head.count;
+            if count == 0 {
+                return broken(head);
+            }
+            return take_first(table, frame, constructs, passes, values, reading, head);
+        }
+        return broken(head);
+    }
+    head
 }

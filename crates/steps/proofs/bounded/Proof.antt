@@ -28,7 +28,7 @@ mul-result-2 c = record { fits = (let z : c .before .word .result * (8 * length 
 
 -- src/lib.rt:77:9
 returns : tie.Need-returns
-returns c = simp (← (c .before .before .word .ensures .0), le-leb _ _ (c .before .if1 .taken))
+returns c = simp (← (c .before .word .ensures .0), le-leb _ _ (c .if1 .taken))
 
 -- src/lib.rt:71:1
 returns-2 : tie.Need-returns-2
