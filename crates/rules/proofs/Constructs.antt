@@ -3,7 +3,7 @@
 use Prim.Native.Nat.{ℕ, _+_, _≤_, _<_}
 use native.Mathlib.Decide.{decLt}
 use native.Mathlib.Omega.{arith}
-use mathlib.Core.Path.{_≡_, refl, sym, subst}
+use mathlib.Core.Path.{_≡_, refl, subst}
 use mathlib.Core.Bool.{Bool, true, false}
 use mathlib.Core.List.{List}
 use borrow.Author.Tests.{ltb-true, leb-true, le-ltb}
@@ -90,3 +90,20 @@ within i Construct.Eod h f = omega arith
 
 pub size-within : (ws : List ℕ) (i : ℕ) → i < 256 → i + size-of (constructAt ws i) ≤ 256
 size-within ws i h = within i (constructAt ws i) h (fine ws i .good)
+
+-- where its kind and its size are 0 there is none
+no-words : (i a b c d : ℕ) → constructOf i 0 0 a b c d ≡ Construct.Missing
+unfolding constructOf
+no-words i a b c d = refl
+
+same-way : (b : Bool) (x : Construct) → pick b x x ≡ x
+same-way true x = refl
+same-way false x = refl
+
+nothing : (i kind size a b c d : ℕ) → kind ≡ 0 → size ≡ 0 → pick (ltb i 256) (constructOf i kind size a b c d) Construct.Missing ≡ Construct.Missing
+nothing i kind size a b c d e f = rw (e, f, no-words i a b c d) (same-way (ltb i 256) Construct.Missing)
+
+pub missing-zero : (ws : List ℕ) (i : ℕ) → construct-word ws i 0 ≡ 0 → construct-word ws i 1 ≡ 0 → constructAt ws i ≡ Construct.Missing
+unfolding constructAt
+missing-zero ws i e f =
+    nothing i (construct-word ws i 0) (construct-word ws i 1) (construct-word ws i 2) (construct-word ws i 3) (construct-word ws i 4) (construct-word ws i 5) e f

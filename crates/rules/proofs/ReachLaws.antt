@@ -1,10 +1,9 @@
 -- What the functions work out is which rules reach which.
 -- Assumes nothing.
-use Prim.Native.Nat.{ℕ, zero, suc, _+_, _-_, _≤_, _<_, min}
+use Prim.Native.Nat.{ℕ, _-_, _≤_, _<_, min}
 use native.Mathlib.Omega.{arith}
 use mathlib.Core.Path.{_≡_, refl, sym, ap, _∙_}
 use mathlib.Core.Bool.{Bool, true, false}
-use mathlib.Core.Logic.{_↔_}
 use mathlib.Core.List.{List}
 use borrow.Author.Tests.{ltb-true, lt-ltb, eqb-true, eq-eqb}
 use lib.Dec.{ltb, eqb}
@@ -13,7 +12,7 @@ use Rattle.layout.specs.Places.{rule-count}
 use Rattle.layout.specs.Constructs.{pick, constructAt}
 use Rattle.layout.specs.declared.Construct.{Construct}
 use Rattle.lookahead.specs.Sets.{bit}
-use Rattle.rules.specs.Reaching.{body-of, rule-end, Uses, Reaches, Acyclic, Found}
+use Rattle.rules.specs.Reaching.{body-of, rule-end, Uses, Reaches, Found}
 use Rattle.rules.specs.Closure.{used-rule, calls, uses-between, uses, closure, Matrix, Diagonal}
 use Rattle.rules.specs.declared.Recursion.{Recursion}
 use Rattle.rules.proofs.Searches.{some-binary, some-found, some-there}

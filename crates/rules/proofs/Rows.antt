@@ -2,7 +2,7 @@
 -- Assumes nothing.
 use Prim.Native.Nat.{ℕ, zero, suc, _+_, _-_, _*_, _%_, _^_, _≤_, _<_, max, min}
 use native.Mathlib.Nat.{one-mul}
-use native.Mathlib.Decide.{decLt, decLe}
+use native.Mathlib.Decide.{decLt}
 use native.Mathlib.Omega.{arith}
 use native.Mathlib.Numerals.{add-one}
 use mathlib.Core.Path.{_≡_, refl, sym, ap, _∙_}
@@ -15,8 +15,8 @@ use lib.ListN.{length, getD, set, length-set}
 use lib.Seq.{getD-set-same, getD-set-other}
 use Rattle.layout.specs.Constructs.{pick}
 use Rattle.lookahead.specs.Sets.{bit}
-use Rattle.lookahead.proofs.BitLaws.{bit-lt, bit-or, bit-none, bit-shl, bit-shl-low, bit-above, bit-first, shifted-one}
-use Rattle.rules.specs.Closure.{some-of, closure, Matrix, Mended}
+use Rattle.lookahead.proofs.BitLaws.{bit-lt, bit-or, bit-shl, bit-shl-low, bit-above, bit-first, shifted-one}
+use Rattle.rules.specs.Closure.{closure, Matrix, Mended}
 
 -- the one bit of a power of two
 power-bit : (p q : ℕ) → bit (1 * 2 ^ p) q ≡ pick (eqb p q) 1 0

@@ -1,11 +1,11 @@
 // Which rules reach which: row r is a word whose bit q says whether rule r reaches rule q.
 ghost use mathlib.Core.Path.{_≡_};
-ghost use Prim.Native.Nat.{ℕ, _+_, _*_, _<_, _≤_, max, min};
+ghost use Prim.Native.Nat.{ℕ, _<_, max, min};
 ghost use lib.Dec.{eqb};
-ghost use lib.ListN.{length, getD};
+ghost use lib.ListN.{length};
 ghost use Rattle.layout.specs.Constructs.{pick};
 ghost use Rattle.lookahead.specs.Sets.{bit};
-ghost use Rattle.rules.specs.Reaching.{body-of, rule-end};
+ghost use Rattle.rules.specs.Reaching.{rule-end};
 ghost use Rattle.rules.specs.Closure.{used-rule, uses-between, uses, closure, Matrix, Mended, Diagonal};
 use super::Recursion;
 use super::at_most;

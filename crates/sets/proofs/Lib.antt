@@ -5,3 +5,5 @@ pub mod PartLaws
 pub mod CountLaws
 pub mod AppliedLaws
 pub mod FieldLaws
+pub mod FollowLaws
+pub mod PushLaws

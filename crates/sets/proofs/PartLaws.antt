@@ -4,11 +4,13 @@ use Prim.Native.Nat.{ℕ, zero, suc, _+_, _-_, _≤_, _<_}
 use mathlib.Core.Path.{_≡_, refl, sym, ap, _∙_, subst}
 use mathlib.Core.Bool.{Bool, true, false}
 use mathlib.Core.Logic.{_⊎_, inl, inr, _↔_}
-use mathlib.Core.List.{List, [], _∷_, List·Memᴰ·head, List·Memᴰ·tail, List·Memᴰ·not-nil, List·Memᴰ·cases-cons}
+use mathlib.Core.List.{List, [], _∷_, _++_, append-assoc, append-nil, List·Memᴰ·head, List·Memᴰ·tail, List·Memᴰ·not-nil, List·Memᴰ·cases-cons}
 use native.Mathlib.Omega.{arith}
 use native.Mathlib.Decide.{decLt, ℕ-discrete}
 use borrow.Author.Tests.{le-ltb, lt-ltb, ne-eqb, eq-eqb}
-use lib.ListN.{length}
+use lib.ListN.{length, take, set, length-set}
+use lib.Seq.{take-suc-set}
+use native.Mathlib.Numerals.{add-one}
 use Rattle.basis.specs.Bits.{Bits}
 use Rattle.lookahead.specs.Sets.{Has, Is, Proper, Joined, Union}
 use Rattle.lookahead.proofs.LanguageLaws.{Strings, Short, joined-short, joined-map, joined-assoc, joined-unit-left, joined-unit-right}
@@ -200,3 +202,26 @@ joint F (m ∷ is) x j = joined-map (F m) (Gathered true F is) (F m) (Members F 
 pub disjoint : (F : Family) (is : List ℕ) (x : Bits) → Members F is x → Gathered true F is x
 disjoint F [] x e = e
 disjoint F (m ∷ is) x j = joined-map (F m) (Members F is) (F m) (Gathered true F is) (λ y h. h) (λ y h. disjoint F is y h) x j
+
+-- ---- the parts' numbers written down
+
+-- n numbers are written, and with those still to come they are the whole
+pub record Placing (whole : List ℕ) (n : ℕ) (out rest : List ℕ) : Type 0 where
+  pub size : length out ≡ 256
+  pub list : take n out ++ rest ≡ whole
+
+module _ (whole : List ℕ) where
+  pub place-none : (out : List ℕ) → length out ≡ 256 → Placing whole 0 out whole
+  place-none out e = record { size = e; list = refl }
+
+  pub place-more : (n j : ℕ) (out rest all : List ℕ) → n < 256 → all ≡ j ∷ rest → Placing whole n out all → Placing whole (n + 1) (set out n j) rest
+  place-more n j out rest all h e p =
+      let z : n < length out = omega (arith, p .size) in
+      record {
+        size = length-set out n j ∙ p .size;
+        list = ap (λ (l : List ℕ). l ++ rest) (ap (λ (k : ℕ). take k (set out n j)) (add-one n) ∙ take-suc-set out n j z) ∙ append-assoc (take n out) (j ∷ []) rest
+            ∙ ap (λ (l : List ℕ). take n out ++ l) (sym e) ∙ p .list;
+      }
+
+  pub place-done : (n : ℕ) (out rest : List ℕ) → rest ≡ [] → Placing whole n out rest → take n out ≡ whole
+  place-done n out rest e p = sym (append-nil (take n out)) ∙ ap (λ (l : List ℕ). take n out ++ l) (sym e) ∙ p .list

@@ -14,11 +14,13 @@ use Rattle.basis.specs.Lookahead.{number}
 use Rattle.lookahead.specs.Sets.{Has, Is, Proper, Union, member, bit}
 use Rattle.lookahead_slices.specs.Family.{part, room, Added, Stored}
 use Rattle.lookahead.proofs.BitLaws.{bit-none}
-use Rattle.lookahead.proofs.PassLaws.{is-map}
-use Rattle.layout.specs.Held.{held, HeldNode}
+use Rattle.lookahead.proofs.PassLaws.{is-map, no-pass}
+use Rattle.layout.specs.Held.{held, HeldNode, opening}
 use Rattle.theory.proofs.Inversion.{Keeps, follow-least}
 use Rattle.sets.specs.Rules.{Family, Seeded, Applied}
 use Rattle.sets.specs.Rounds.{strings, Between, Step, first-of, first-low, FirstClosed, FirstStep, follow-of, follow-low, within, FollowClosed, FollowStep, From, either-of}
+use Rattle.theory.specs.Lookahead.{Follow}
+use Rattle.sets.specs.Follows.{Started, StartSets}
 use Rattle.sets.specs.Sets.{sets-held, family-words, FirstSets, FollowSets}
 use Rattle.sets.proofs.RuleLaws.{seeded-first, applied-first, first-least}
 use Rattle.sets.proofs.HeldLaws.{node-past}
@@ -209,7 +211,23 @@ module _ (ws : List ℕ) where
 
 -- ---- FOLLOW
 
+pub started-here : (i : ℕ) (one : List ℕ) → i ≡ opening → Is one (λ (x : Bits). (length x ≤ 8) × (number x ≡ 1)) → Is one (Started i)
+started-here i one e s =
+    is-map one (λ (x : Bits). x ≡ []) (Started i) (λ x. ((λ q. (e, q)), (λ q. q .1))) (no-pass (λ (x : Bits). ⊥) one s)
+
+pub started-elsewhere : (i : ℕ) (none : List ℕ) → (i ≡ opening → ⊥) → Is none (λ (x : Bits). ⊥) → Is none (Started i)
+started-elsewhere i none n s = is-map none (λ (x : Bits). ⊥) (Started i) (λ x. ((λ z. absurd z), (λ q. n (q .0)))) s
+
+-- a round that goes up
+pub from-turned : (Closed : ℕ → List ℕ → Type 0) (words : List ℕ) → From (λ n ws. Closed (256 - n) ws) 0 words → From Closed 0 words
+from-turned Closed words c j h l = subst (λ (n : ℕ). Closed n words) (let z : 256 - (256 - j) ≡ j = omega arith in z) (c (256 - j) (omega arith) (omega arith))
+
 module _ (ws : List ℕ) where
+  pub starts-between : (words : List ℕ) → length words ≡ family-words → StartSets words → Between (follow-low ws) (follow-of ws) words
+  unfolding held
+  starts-between words e s = planted-done (follow-low ws) (follow-of ws) words sets-held (omega arith) (λ j x q. subst (Follow (held ws) j) (sym (q .1)) (Follow.of-start (q .0)))
+      (record { size = e; done = s })
+
   -- a family that no rule changes is FOLLOW
   pub follow-done : (words : List ℕ) → Between (follow-low ws) (follow-of ws) words → From (FollowClosed ws) 0 words → FollowSets ws words
   unfolding held

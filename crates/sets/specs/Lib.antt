@@ -3,3 +3,4 @@ pub mod Rules
 pub mod Rounds
 pub mod Parts
 pub mod Fields
+pub mod Follows

@@ -16,7 +16,7 @@ fn apply(table: &[u32], family: &mut [u64], i: usize) -> bool
     lookahead_slices::family::add(family, i, set)
 }
 
-fn either(a: bool, b: bool) -> bool
+pub fn either(a: bool, b: bool) -> bool
     ensures { λ r. ⌜ r ≡ eitherOf a b ⌝ }
 {
     if a { true } else { b }

@@ -3,5 +3,7 @@
 // nothing changes.
 mod fields;
 pub mod first;
+pub mod follow;
 mod parts;
+pub mod prediction;
 mod rules;

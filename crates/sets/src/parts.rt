@@ -1,7 +1,7 @@
 // The parts of a construct: its first is the next number, and each is as far after the one before as that one is large.
 ghost use mathlib.Core.Path.{_≡_};
 ghost use Prim.Native.Nat.{_≤_};
-ghost use lib.ListN.{length};
+ghost use lib.ListN.{length, take};
 ghost use Rattle.lookahead.specs.Sets.{Has, Is};
 ghost use Rattle.layout.specs.Constructs.{constructAt};
 ghost use Rattle.layout.specs.Held.{size-of as sizeOf};
@@ -45,10 +45,7 @@ pub fn set_of(family: &[u64], i: usize) -> Set
     ensures { λ r. ⌜ Is (r .words) (strings (now (family .entry)) i) ⌝ }
 {
     if i < 257 {
-        return lookahead::union(
-            lookahead::empty(),
-            lookahead_slices::family::load(family, i),
-        );
+        return lookahead::union(lookahead::empty(), lookahead_slices::family::load(family, i));
     }
     lookahead::empty()
 }
@@ -87,4 +84,23 @@ pub fn gather(table: &[u32], family: &[u64], start: usize, end: usize, joined: b
         at += size;
     }
     out
+}
+
+// The numbers of the parts from `start` up to `end`; how many there are.
+pub fn places(table: &[u32], start: usize, end: usize, out: &mut [usize]) -> usize
+    requires { ⌜ (length (now out) ≡ 256) × (end ≤ 256) ⌝ }
+    ensures { λ r. ⌜ (take r (now (out .exit)) ≡ siblings (now (table .entry)) start end) × (r ≤ 256) ⌝ }
+{
+    let mut n = 0;
+    let mut at = start;
+    while at < end {
+        out[n] = at;
+        n += 1;
+        let size = size_at(table, at);
+        if size == 0 {
+            return n;
+        }
+        at += size;
+    }
+    n
 }

@@ -3,12 +3,12 @@
 use Prim.Native.Nat.{ℕ, zero, suc, _+_, _≤_, _<_}
 use native.Mathlib.Decide.{decLt}
 use native.Mathlib.Omega.{arith}
-use mathlib.Core.Path.{_≡_, refl, sym, ap, subst, _∙_}
+use mathlib.Core.Path.{_≡_, refl, ap}
 use mathlib.Core.List.{List, [], _∷_}
-use borrow.Author.Tests.{eq-eqb, ne-eqb}
-use Rattle.theory.specs.Grammar.{Node, alternative, concatenation, repetition, switch, use-of, field, eod}
+use borrow.Author.Tests.{ne-eqb}
+use Rattle.theory.specs.Grammar.{alternative, concatenation, repetition, switch, use-of, field, eod}
 use Rattle.layout.specs.Places.{rule-count, construct-count}
-use Rattle.layout.specs.Constructs.{pick, constructAt}
+use Rattle.layout.specs.Constructs.{constructAt}
 use Rattle.layout.specs.Held.{HeldNode, size-of, parts, node-of, use-node, held, opening}
 use Rattle.layout.specs.declared.Construct.{Construct}
 use Rattle.rules.specs.Reaching.{body-of}

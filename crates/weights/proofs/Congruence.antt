@@ -1,11 +1,11 @@
 -- Weights that are the same up to a bound below a node are so at the node.
 -- Assumes nothing.
-use Prim.Native.Nat.{ℕ, _+_, _*_, _≤_, max, min}
+use Prim.Native.Nat.{ℕ, _+_, max, min}
 use native.Mathlib.Omega.{arith}
 use mathlib.Core.Path.{_≡_, refl, sym, ap, ap₂, _∙_}
 use mathlib.Core.List.{List, [], _∷_}
 use mathlib.Core.Option.{none, some}
-use Rattle.theory.specs.Grammar.{Node, alternative, concatenation, repetition, switch, use-of, field, eod}
+use Rattle.theory.specs.Grammar.{alternative, concatenation, repetition, switch, use-of, field, eod}
 use Rattle.theory.specs.Weight.{sum, largest, weigh}
 use Rattle.layout.specs.Held.{HeldNode}
 use Rattle.weights.proofs.Children.{All, Each}
@@ -51,7 +51,7 @@ all-map : (P Q : ℕ → Type 0) → ((k : ℕ) → P k → Q k) → (is : List 
 all-map P Q f [] a = tt
 all-map P Q f (i ∷ is) a = (f i (a .0), all-map P Q f is (a .1))
 
-each-map : (P Q : ℕ → Type 0) → ((k : ℕ) → P k → Q k) → (n : HeldNode) → Each P n → Each Q n
+pub each-map : (P Q : ℕ → Type 0) → ((k : ℕ) → P k → Q k) → (n : HeldNode) → Each P n → Each Q n
 each-map P Q f (alternative is) a = all-map P Q f is a
 each-map P Q f (concatenation is) a = all-map P Q f is a
 each-map P Q f (repetition counts static fixed b) a = f b a

@@ -1,22 +1,22 @@
 -- Which rules a construct leads to, and the totals over them: below a construct they only shrink, and a use leads to one more than its
 -- rule's body, for no rule reaches itself.
 -- Assumes nothing.
-use Prim.Native.Nat.{ℕ, zero, suc, _+_, _-_, _≤_, _<_, max}
+use Prim.Native.Nat.{ℕ, zero, suc, _+_, _≤_, _<_, max}
 use native.Mathlib.Decide.{decLt}
 use native.Mathlib.Omega.{arith}
-use mathlib.Core.Path.{_≡_, refl, sym, ap, subst, _∙_}
+use mathlib.Core.Path.{_≡_, refl, ap, subst, _∙_}
 use mathlib.Core.Logic.{_⊎_, inl, inr}
 use mathlib.Core.List.{List}
-use Rattle.layout.specs.Places.{rule-count, construct-count}
+use Rattle.layout.specs.Places.{rule-count}
 use Rattle.layout.specs.Constructs.{constructAt}
 use Rattle.layout.specs.Held.{size-of}
 use Rattle.layout.specs.declared.Construct.{Construct}
-use Rattle.rules.specs.Reaching.{body-of, rule-end, Uses, Reaches, Acyclic}
+use Rattle.rules.specs.Reaching.{body-of, Uses, Reaches, Acyclic}
 use Rattle.rules.specs.Closure.{some-of, used-rule, calls}
 use Rattle.rules.proofs.Searches.{some-binary, some-found, some-there}
-use Rattle.rules.proofs.ReachLaws.{used-construct, calls-binary, called, calls-use, reach, reach-binary, reach-there, reach-found, reaches-joined}
-use Rattle.weights.specs.Ruled.{size-at, Filled, Ruled}
-use Rattle.weights.proofs.Totals.{total, all, total-mono, total-more, total-ones}
+use Rattle.rules.proofs.ReachLaws.{used-construct, calls-binary, called, calls-use, reach, reach-binary, reach-there, reach-found}
+use Rattle.weights.specs.Ruled.{size-at, Ruled}
+use Rattle.weights.proofs.Totals.{total, all, total-mono, total-more}
 
 -- construct j is a use of rule q, or of one that reaches it
 abbrev leads : List ℕ → ℕ → ℕ → ℕ

@@ -1,30 +1,24 @@
 -- A height for every construct that falls from a construct to what stands below it: the constructs that it is, and those of all the rules
 -- that it leads to. So a grammar in which no rule reaches itself has weights, and room enough is known.
 -- Assumes nothing.
-use Prim.Native.Nat.{ℕ, zero, suc, _+_, _-_, _≤_, _<_, max}
+use Prim.Native.Nat.{ℕ, zero, suc, _+_, _≤_, _<_}
 use native.Mathlib.Decide.{decLt}
 use native.Mathlib.Omega.{arith}
-use native.Mathlib.Numerals.{add-one}
-use mathlib.Core.Path.{_≡_, refl, sym, ap, subst, _∙_}
-use mathlib.Core.List.{List, [], _∷_}
-use mathlib.Core.Option.{none, some}
-use borrow.Author.Tests.{lt-ltb, le-ltb, eq-eqb, ne-eqb}
-use lib.Dec.{ltb, eqb}
-use lib.ListN.{length}
-use Rattle.theory.specs.Grammar.{Node, alternative, concatenation, repetition, switch, use-of, field, eod}
-use Rattle.theory.specs.Weight.{largest, weigh, Weighs, members-room, room, Houses}
+use mathlib.Core.Path.{_≡_, refl, sym, ap, _∙_}
+use mathlib.Core.List.{List}
+use borrow.Author.Tests.{ne-eqb}
+use lib.Dec.{eqb}
+use Rattle.theory.specs.Weight.{weigh, Weighs}
 use Rattle.layout.specs.Places.{rule-count, construct-count}
-use Rattle.layout.specs.Constructs.{pick, constructAt}
-use Rattle.layout.specs.Held.{HeldNode, size-of, parts, node-of, use-node, held, opening}
-use Rattle.layout.specs.declared.Construct.{Construct}
-use Rattle.rules.specs.Reaching.{body-of, rule-end, Acyclic}
+use Rattle.layout.specs.Constructs.{pick}
+use Rattle.layout.specs.Held.{size-of, held, opening}
+use Rattle.rules.specs.Reaching.{body-of, Acyclic}
 use Rattle.rules.proofs.Constructs.{size-within, missing-past}
-use Rattle.weights.specs.Ruled.{size-at, Tiles, Filled, Ruled}
-use Rattle.weights.proofs.Parts.{parts-past, parts-more}
+use Rattle.weights.specs.Ruled.{size-at, Ruled}
 use Rattle.weights.proofs.Totals.{total, all}
-use Rattle.weights.proofs.Depths.{spread, spread-inside, spread-used, spread-body, spread-most}
-use Rattle.weights.proofs.Children.{All, Each, Child, tiles-le, tiled, children, held-node, held-opening, held-children}
-use Rattle.weights.proofs.Congruence.{weigh-equal}
+use Rattle.weights.proofs.Depths.{spread, spread-inside, spread-used, spread-most}
+use Rattle.weights.proofs.Children.{Each, Child, held-children}
+use Rattle.weights.proofs.Congruence.{each-map, weigh-equal}
 
 -- how many constructs rule q is
 abbrev pub rule-size : List ℕ → ℕ → ℕ
@@ -97,16 +91,24 @@ module _ (ws : List ℕ) (ruled : Ruled ws) (acyclic : Acyclic ws) where
       let b : depth i ≡ 1 + height ws (body-of ws 0) = ap depth e ∙ depth-opening in
       omega arith
 
+  -- induction from what stands below
+  descend : (P : ℕ → ℕ → Type 0) → ((n i : ℕ) → Each (λ k. (m : ℕ) × (n ≡ suc m) × P m k) (held ws .node i) → P n i) → (n i : ℕ) → depth i ≤ n → P n i
+  descend P step zero i h =
+      step zero i
+      (held-children ws ruled (λ k. (m : ℕ) × (zero ≡ suc m) × P m k) i (λ e. absurd (omega (arith, start-depth i e))) (λ k c. absurd (omega (arith, child-depth i k c))))
+  descend P step (suc n) i h =
+      step (suc n) i
+      (held-children ws ruled (λ k. (m : ℕ) × (suc n ≡ suc m) × P m k) i (λ e. (n, refl, descend P step n (body-of ws 0) (omega (arith, start-depth i e))))
+      (λ k c. (n, refl, descend P step n k (omega (arith, child-depth i k c)))))
+
   -- after as many rounds as it is deep, a construct's weight stands
   stands : (n i : ℕ) → depth i ≤ n → rounds ws (suc n) i ≡ rounds ws (suc (suc n)) i
   unfolding rounds
-  stands zero i h =
-      weigh-equal (λ c j. rounds ws 0 j) (λ c j. rounds ws 1 j) (held ws .node i)
-      (held-children ws ruled (λ k. rounds ws 0 k ≡ rounds ws 1 k) i (λ e. absurd (omega (arith, start-depth i e))) (λ k c. absurd (omega (arith, child-depth i k c))))
-  stands (suc n) i h =
-      weigh-equal (λ c j. rounds ws (suc n) j) (λ c j. rounds ws (suc (suc n)) j) (held ws .node i)
-      (held-children ws ruled (λ k. rounds ws (suc n) k ≡ rounds ws (suc (suc n)) k) i (λ e. stands n (body-of ws 0) (omega (arith, start-depth i e)))
-      (λ k c. stands n k (omega (arith, child-depth i k c))))
+  stands =
+      descend (λ n i. rounds ws (suc n) i ≡ rounds ws (suc (suc n)) i)
+      (λ n i below.
+      weigh-equal (λ c j. rounds ws n j) (λ c j. rounds ws (suc n) j) (held ws .node i)
+      (each-map (λ k. (m : ℕ) × (n ≡ suc m) × (rounds ws (suc m) k ≡ rounds ws (suc (suc m)) k)) (λ k. rounds ws n k ≡ rounds ws (suc n) k) (λ k b. rw (b .1) (b .2)) (held ws .node i) below))
 
   height-most : (i : ℕ) → i < 256 → height ws i ≤ 256 + total (rule-count ws) all (rule-size ws)
   height-most i h = omega (arith, size-within ws i h, spread-most ws ruled (rule-size ws) i)
@@ -127,3 +129,13 @@ module _ (ws : List ℕ) (ruled : Ruled ws) (acyclic : Acyclic ws) where
   pub weighs : Weighs (held ws) (λ c i. weight-at ws i)
   unfolding rounds
   weighs c i = stands (limit ws) i (depth-most i)
+
+  -- and no other function gives the weights
+  pub unique : (v w : Unit {0} → ℕ → ℕ) → Weighs (held ws) v → Weighs (held ws) w → (i : ℕ) → v tt i ≡ w tt i
+  unique v w a b i =
+      descend (λ n i. v tt i ≡ w tt i)
+      (λ n i below.
+      a tt i
+      ∙ weigh-equal v w (held ws .node i) (each-map (λ k. (m : ℕ) × (n ≡ suc m) × (v tt k ≡ w tt k)) (λ k. v tt k ≡ w tt k) (λ k b. b .2) (held ws .node i) below)
+      ∙ sym (b tt i))
+      (limit ws) i (depth-most i)

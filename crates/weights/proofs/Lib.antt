@@ -8,3 +8,5 @@ pub mod Congruence
 pub mod Settling
 pub mod Heights
 pub mod Rooms
+pub mod Theorems
+pub mod Sample

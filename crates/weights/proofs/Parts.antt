@@ -1,6 +1,6 @@
 -- Laws of the parts of a construct and of the loops over them.
 -- Assumes nothing.
-use Prim.Native.Nat.{ℕ, zero, suc, _+_, _-_, _*_, _≤_, _<_, max, min}
+use Prim.Native.Nat.{ℕ, zero, suc, _+_, _*_, _≤_, _<_, max}
 use native.Mathlib.Decide.{decLt}
 use native.Mathlib.Omega.{arith}
 use native.Mathlib.Numerals.{add-one}
@@ -8,9 +8,8 @@ use mathlib.Core.Path.{_≡_, refl, sym, ap, _∙_}
 use mathlib.Core.Bool.{Bool, true, false}
 use mathlib.Core.List.{List, [], _∷_}
 use borrow.Author.Tests.{lt-ltb, le-ltb, eq-eqb, ne-eqb}
-use lib.Dec.{ltb, eqb}
 use lib.ListN.{getD}
-use Rattle.theory.specs.Weight.{sum, largest, weigh}
+use Rattle.theory.specs.Weight.{weigh}
 use Rattle.layout.specs.Constructs.{constructAt}
 use Rattle.layout.specs.Held.{parts, node-of}
 use Rattle.layout.specs.declared.Construct.{Construct}

@@ -3,19 +3,19 @@
 use Prim.Native.Nat.{ℕ, zero, suc, _+_, _≤_, _<_, min}
 use native.Mathlib.Decide.{decLt}
 use native.Mathlib.Omega.{arith}
-use native.Mathlib.Nat.{add-suc, add-zero}
-use mathlib.Core.Path.{_≡_, refl, sym, ap, ap₂, subst, _∙_}
+use native.Mathlib.Nat.{add-zero}
+use mathlib.Core.Path.{_≡_, sym, ap, ap₂, subst, _∙_}
 use mathlib.Core.List.{List}
 use lib.ListN.{length, getD, set, replicate, length-set, length-replicate, getD-replicate}
 use lib.Seq.{getD-set-same, getD-set-other}
 use Rattle.theory.specs.Weight.{largest, weigh, Weighs}
 use Rattle.layout.specs.Places.{rule-count, construct-count}
 use Rattle.layout.specs.Constructs.{constructAt}
-use Rattle.layout.specs.Held.{node-of, use-node, held, opening}
+use Rattle.layout.specs.Held.{node-of, held, opening}
 use Rattle.layout.specs.declared.Construct.{Construct}
 use Rattle.rules.specs.Reaching.{body-of, Acyclic}
 use Rattle.rules.proofs.Constructs.{size-within}
-use Rattle.weights.specs.Ruled.{size-at, Ruled}
+use Rattle.weights.specs.Ruled.{Ruled}
 use Rattle.weights.specs.Sweeps.{capped, weighed, swept, settled}
 use Rattle.weights.specs.Weighed.{Weights, Weight}
 use Rattle.weights.proofs.Totals.{total-ones}

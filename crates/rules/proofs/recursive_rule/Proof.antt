@@ -1,3 +1,4 @@
+-- `rules::recursive_rule` meets its contract. Assumes nothing.
 use Rattle.rules.specs.Closure.{uses}
 use Rattle.rules.proofs.ReachLaws.{found}
 use borrow.Author.Needs.{needs}

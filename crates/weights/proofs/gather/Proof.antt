@@ -1,6 +1,7 @@
-use lib.ListN.{length, getD, length-set}
-use Prim.Native.Nat.{ℕ, _+_, _-_, _≤_, _<_, max, min}
-use mathlib.Core.Path.{_≡_, refl, sym, ap, _∙_}
+-- `weights::gather` meets its contract. The invariant: what is gathered, and what is left to gather, come to the whole. Assumes nothing.
+use lib.ListN.{getD}
+use Prim.Native.Nat.{ℕ, _-_, _≤_}
+use mathlib.Core.Path.{ap, _∙_}
 use native.Mathlib.Omega.{arith}
 use Rattle.weights.specs.Sweeps.{capped, joined}
 use Rattle.weights.proofs.Parts.{Gathering, gathering-none, gathering-more, gathering-all}

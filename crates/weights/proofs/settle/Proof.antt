@@ -1,8 +1,9 @@
-use lib.ListN.{length, getD, length-set}
-use Prim.Native.Nat.{ℕ, _+_, _-_, _≤_, _<_, max, min}
+-- `weights::settle` meets its contract. The invariant: the sweeps that are left come to all of them. Assumes nothing.
+use lib.ListN.{length}
+use Prim.Native.Nat.{_-_}
 use mathlib.Core.Path.{_≡_, refl, sym, ap, _∙_}
 use native.Mathlib.Omega.{arith}
-use Rattle.weights.specs.Sweeps.{swept, settled}
+use Rattle.weights.specs.Sweeps.{settled}
 use Rattle.weights.proofs.SweepLaws.{settled-next, settled-kept, settled-done, swept-length}
 use borrow.Author.Needs.{needs}
 use Rattle.weights.proofs.settle.Statement.{statement}

@@ -1,6 +1,7 @@
-use lib.ListN.{length, getD, length-set}
-use Prim.Native.Nat.{ℕ, _+_, _-_, _≤_, _<_, max, min}
-use mathlib.Core.Path.{_≡_, refl, sym, ap, _∙_}
+-- `weights::sweep` meets its contract. The invariant: what is left to sweep comes to the whole sweep; where nothing changed the list is as it was. Assumes nothing.
+use lib.ListN.{length, length-set}
+use Prim.Native.Nat.{ℕ, _-_, _≤_}
+use mathlib.Core.Path.{_≡_, refl, sym, _∙_}
 use native.Mathlib.Omega.{arith}
 use mathlib.Core.Bool.{false}
 use Rattle.weights.specs.Sweeps.{swept}

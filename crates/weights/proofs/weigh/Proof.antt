@@ -1,7 +1,6 @@
-use lib.ListN.{length, getD, length-set}
-use Prim.Native.Nat.{ℕ, _+_, _-_, _≤_, _<_, max, min}
-use mathlib.Core.Path.{_≡_, refl, sym, ap, _∙_}
-use native.Mathlib.Omega.{arith}
+-- `weights::weigh` meets its contract. Assumes nothing.
+use Prim.Native.Nat.{min}
+use mathlib.Core.Path.{ap, _∙_}
 use Rattle.weights.proofs.Settling.{made-all}
 use borrow.Author.Needs.{needs}
 use Rattle.weights.proofs.weigh.Statement.{statement}

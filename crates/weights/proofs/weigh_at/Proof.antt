@@ -1,5 +1,5 @@
-use lib.ListN.{length, getD, length-set}
-use Prim.Native.Nat.{ℕ, _+_, _-_, _≤_, _<_, max, min}
+-- `weights::weigh_at` meets its contract, one kind of construct after the other. Assumes nothing.
+use Prim.Native.Nat.{ℕ, _+_}
 use mathlib.Core.Path.{_≡_, refl, sym, ap, _∙_}
 use native.Mathlib.Omega.{arith}
 use mathlib.Core.Bool.{true, false}

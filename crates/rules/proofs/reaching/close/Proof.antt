@@ -1,7 +1,7 @@
-use lib.ListN.{length, getD, length-set}
-use Prim.Native.Nat.{ℕ, _+_, _-_, _≤_, _<_, max, min}
-use mathlib.Core.Path.{_≡_, refl, sym, ap, _∙_}
-use native.Mathlib.Omega.{arith}
+-- `rules::reaching::close` meets its contract. The invariant: the rows hold the closure by way of the rules below k. Assumes nothing.
+use lib.ListN.{length}
+use Prim.Native.Nat.{ℕ, _-_, _≤_}
+use mathlib.Core.Path.{_≡_, refl}
 use Rattle.rules.specs.Closure.{Matrix, closure}
 use Rattle.rules.proofs.Rows.{matrix-first, matrix-next, matrix-last}
 use borrow.Author.Needs.{needs}
@@ -33,10 +33,10 @@ loop-less : tie.Need-loop-less Inv-loop μ-loop
 loop-less c = search needs
 
 loop-again : tie.Need-loop-again Inv-loop μ-loop
-loop-again c = let l = c .before .before .before .before .loop in (c .through .ensures .many, (λ u m. matrix-next u _ _ _ _ (c .before .before .before .loop-test .taken) refl (c .through .ensures) (l .inv .1 u m)), search needs)
+loop-again c = let l = c .before .before .before .before .loop in (c .through .ensures .many, (λ u m. matrix-next u _ _ _ _ (search needs) refl (c .through .ensures) (l .inv .1 u m)), search needs)
 
 returns : tie.Need-returns Inv-loop μ-loop
-returns c = λ u m. matrix-last u _ _ (c .before .loop .inv .1 u m) (c .loop-test .left) (c .before .loop .inv .2)
+returns c = λ u m. matrix-last u _ _ (c .before .loop .inv .1 u m) (search needs) (search needs)
 
 pub close-spec : {M : Type 1} → statement M
 close-spec =

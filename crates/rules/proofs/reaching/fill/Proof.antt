@@ -1,9 +1,10 @@
+-- `rules::reaching::fill` meets its contract. The invariant: the rows below r are filled. Assumes nothing.
 use lib.ListN.{length, getD, length-set}
-use Prim.Native.Nat.{ℕ, _+_, _-_, _≤_, _<_, max, min}
-use mathlib.Core.Path.{_≡_, refl, sym, ap, _∙_}
+use Prim.Native.Nat.{ℕ, _-_, _≤_, _<_}
+use mathlib.Core.Path.{_≡_, _∙_}
 use native.Mathlib.Omega.{arith}
 use Rattle.lookahead.specs.Sets.{bit}
-use Rattle.rules.specs.Closure.{uses, Matrix}
+use Rattle.rules.specs.Closure.{uses}
 use Rattle.rules.proofs.Rows.{write-next}
 use borrow.Author.Needs.{needs}
 use Rattle.rules.proofs.reaching.fill.Statement.{statement}

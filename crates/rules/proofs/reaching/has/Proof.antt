@@ -1,3 +1,4 @@
+-- `rules::reaching::has` meets its contract. Assumes nothing.
 use mathlib.Core.Path.{refl}
 use Rattle.lookahead.specs.Sets.{bit}
 use borrow.Author.Needs.{needs}

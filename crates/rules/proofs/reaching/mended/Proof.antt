@@ -1,3 +1,4 @@
+-- `rules::reaching::mended` meets its contract. Assumes nothing.
 use mathlib.Core.Path.{sym, _∙_}
 use Rattle.rules.proofs.Rows.{has-bit, lacks-bit}
 use borrow.Author.Needs.{needs}

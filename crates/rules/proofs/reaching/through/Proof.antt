@@ -1,7 +1,5 @@
-use lib.ListN.{length, getD, length-set}
-use Prim.Native.Nat.{ℕ, _+_, _-_, _≤_, _<_, max, min}
-use mathlib.Core.Path.{_≡_, refl, sym, ap, _∙_}
-use native.Mathlib.Omega.{arith}
+-- `rules::reaching::through` meets its contract. The invariant: the rows below i are mended, the others as they were. Assumes nothing.
+use Prim.Native.Nat.{_-_, _≤_}
 use Rattle.rules.specs.Closure.{Mended}
 use Rattle.rules.proofs.Rows.{mended-none, mended-more, mended-all}
 use borrow.Author.Needs.{needs}

@@ -1,3 +1,4 @@
+-- `rules::reaching::with_use` meets its contract. Assumes nothing.
 use Rattle.rules.proofs.Rows.{marked-bit, unmarked}
 use borrow.Author.Needs.{needs}
 use Rattle.rules.proofs.reaching.with_use.Statement.{statement}
