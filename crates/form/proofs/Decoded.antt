@@ -85,3 +85,49 @@ size-fits ws i =
 
     d : ℕ
     d = construct-word ws i 5
+
+-- a construct with parts is at least two
+abbrev pub Parted : Construct → Type 0
+Parted Construct.Missing = Unit {0}
+Parted (Construct.Alternative size) = 2 ≤ size
+Parted (Construct.Concatenation size) = 2 ≤ size
+Parted (Construct.Repetition size passes) = 2 ≤ size
+Parted (Construct.Switch size) = 2 ≤ size
+Parted (Construct.Use rule) = Unit {0}
+Parted (Construct.Literal length) = Unit {0}
+Parted (Construct.Range low high) = Unit {0}
+Parted (Construct.Uint width start end binder) = Unit {0}
+Parted Construct.Eod = Unit {0}
+
+inner-parted : (kind size a b c : ℕ) → 2 ≤ size → Parted (innerOf kind size a b c)
+inner-parted kind size a b c h =
+    picked Parted (eqb kind 1) (λ e. h) (λ e.
+    picked Parted (eqb kind 2) (λ e. h) (λ e.
+    picked Parted (eqb kind 3)
+    (λ e.
+    picked Parted (eqb a 1) (λ e. h) (λ e.
+    picked Parted (eqb a 2) (λ e. h) (λ e.
+    picked Parted (eqb a 3) (λ e. h) (λ e.
+    picked Parted (both (eqb a 4) (listed b c)) (λ e. h) (λ e. tt)))))
+    (λ e. h)))
+
+leaf-parted : (kind a b c d : ℕ) → Parted (leafOf kind a b c d)
+leaf-parted kind a b c d =
+    picked Parted (eqb kind 5) (λ e. picked Parted (ltb a 64) (λ e. tt) (λ e. tt)) (λ e.
+    picked Parted (eqb kind 6) (λ e. picked Parted (both (leb 1 a) (leb a 32)) (λ e. tt) (λ e. tt)) (λ e.
+    picked Parted (eqb kind 7) (λ e. picked Parted (both (ltb a 128) (ltb b 128)) (λ e. tt) (λ e. tt)) (λ e.
+    picked Parted (eqb kind 8) (λ e. picked Parted (both (both (leb 1 a) (leb a 32)) (both (listed b c) (leb d 64))) (λ e. tt) (λ e. tt)) (λ e.
+    picked Parted (eqb kind 9) (λ e. tt) (λ e. tt)))))
+
+pub parted : (ws : List ℕ) (i : ℕ) → Parted (constructAt ws i)
+unfolding constructAt constructOf
+parted ws i =
+    picked Parted (ltb i 256)
+    (λ h.
+    picked Parted (both (leb 1 (construct-word ws i 0)) (leb (construct-word ws i 0) 4))
+    (λ e.
+    picked Parted (branches i (construct-word ws i 1))
+    (λ e. inner-parted (construct-word ws i 0) (construct-word ws i 1) (construct-word ws i 2) (construct-word ws i 3) (construct-word ws i 4) (leb-true 2 (construct-word ws i 1) (both-first (leb 2 (construct-word ws i 1)) (leb (i + construct-word ws i 1) 256) e)))
+    (λ e. tt))
+    (λ e. picked Parted (eqb (construct-word ws i 1) 1) (λ e. leaf-parted (construct-word ws i 0) (construct-word ws i 2) (construct-word ws i 3) (construct-word ws i 4) (construct-word ws i 5)) (λ e. tt)))
+    (λ h. tt)

@@ -3,3 +3,11 @@ pub mod Walks
 pub mod Pointers
 pub mod Decoded
 pub mod Limits
+pub mod Tiles
+pub mod Facts
+pub mod PartLaws
+pub mod RuleLaws
+pub mod Owners
+pub mod Reading
+pub mod StaticLaw
+pub mod Binding

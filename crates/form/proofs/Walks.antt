@@ -34,7 +34,7 @@ module _ (ws : List ℕ) (check : ℕ → ℕ → Bool) (next : ℕ → ℕ → 
   unfolding walk
   one-step n j x t h e = rw (lt-ltb j end h, e, walk)
 
-  at-once : (n j x : ℕ) → end ≤ j → walk n ws check next finish end j x ≡ finish j x
+  pub at-once : (n j x : ℕ) → end ≤ j → walk n ws check next finish end j x ≡ finish j x
   unfolding walk
   at-once zero j x h = refl
   at-once (suc n) j x h = rw (le-ltb j end h, walk)

@@ -45,7 +45,10 @@ pub fn set_of(family: &[u64], i: usize) -> Set
     ensures { λ r. ⌜ Is (r .words) (strings (now (family .entry)) i) ⌝ }
 {
     if i < 257 {
-        return lookahead::union(lookahead::empty(), lookahead_slices::family::load(family, i));
+        return lookahead::union(
+            lookahead::empty(),
+            lookahead_slices::family::load(family, i),
+        );
     }
     lookahead::empty()
 }

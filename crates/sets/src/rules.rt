@@ -8,11 +8,11 @@ ghost use Rattle.layout.specs.Held.{held, term-words as termWords, allowed, pas
 ghost use Rattle.sets.specs.Rules.{Applied};
 ghost use Rattle.sets.specs.Rounds.{strings};
 use crate::parts;
+use evaluation::Counted;
 use layout::Construct;
 use layout::Passes;
 use layout::construct_at;
 use lookahead::Set;
-use evaluation::Counted;
 
 // The words of the terms.
 pub fn term_words(table: &[u32]) -> &[u32]
