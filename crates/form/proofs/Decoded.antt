@@ -1,4 +1,4 @@
--- What holds of a construct whatever its words: its size leaves it within the 256.
+-- What holds of a construct whatever its words: its size leaves it within the 256, and its operands are within their limits.
 -- Assumes nothing.
 use Prim.Native.Nat.{ℕ, zero, suc, _+_, _-_, _≤_, _<_}
 use mathlib.Core.Path.{_≡_, refl, sym, ap, _∙_}
@@ -20,53 +20,66 @@ pub picked : {A : Type 0} (P : A → Type 0) (b : Bool) {x y : A} → (b ≡ tru
 picked P true f g = f refl
 picked P false f g = g refl
 
--- nothing, or one construct, or as many as the words say
-AtMost : ℕ → Construct → Type 0
-AtMost n c = size-of c ≤ n
+-- what the words of construct i are where they say something
+abbrev pub Fine : ℕ → Construct → Type 0
+Fine i Construct.Missing = Unit {0}
+Fine i (Construct.Alternative size) = (2 ≤ size) × (i + size ≤ 256)
+Fine i (Construct.Concatenation size) = (2 ≤ size) × (i + size ≤ 256)
+Fine i (Construct.Repetition size passes) = (2 ≤ size) × (i + size ≤ 256)
+Fine i (Construct.Switch size) = (2 ≤ size) × (i + size ≤ 256)
+Fine i (Construct.Use rule) = (i < 256) × (rule < 64)
+Fine i (Construct.Literal length) = (i < 256) × (1 ≤ length) × (length ≤ 32)
+Fine i (Construct.Range low high) = (i < 256) × (low < 128) × (high < 128)
+Fine i (Construct.Uint width start end binder) = (i < 256) × (1 ≤ width) × (width ≤ 32) × (start ≤ end) × (end ≤ 1024) × (binder ≤ 64)
+Fine i Construct.Eod = i < 256
 
-inner-size : (kind size a b c : ℕ) → AtMost size (innerOf kind size a b c)
-unfolding AtMost
-inner-size kind size a b c =
-    picked (AtMost size) (eqb kind 1) (λ e. omega arith) (λ e.
-    picked (AtMost size) (eqb kind 2) (λ e. omega arith) (λ e.
-    picked (AtMost size) (eqb kind 3)
+inner-fine : (i kind size a b c : ℕ) → (2 ≤ size) × (i + size ≤ 256) → Fine i (innerOf kind size a b c)
+inner-fine i kind size a b c h =
+    picked (Fine i) (eqb kind 1) (λ e. h) (λ e.
+    picked (Fine i) (eqb kind 2) (λ e. h) (λ e.
+    picked (Fine i) (eqb kind 3)
     (λ e.
-    picked (AtMost size) (eqb a 1) (λ e. omega arith) (λ e.
-    picked (AtMost size) (eqb a 2) (λ e. omega arith) (λ e.
-    picked (AtMost size) (eqb a 3) (λ e. omega arith) (λ e.
-    picked (AtMost size) (both (eqb a 4) (listed b c)) (λ e. omega arith) (λ e. omega arith)))))
-    (λ e. omega arith)))
+    picked (Fine i) (eqb a 1) (λ e. h) (λ e.
+    picked (Fine i) (eqb a 2) (λ e. h) (λ e.
+    picked (Fine i) (eqb a 3) (λ e. h) (λ e.
+    picked (Fine i) (both (eqb a 4) (listed b c)) (λ e. h) (λ e. tt)))))
+    (λ e. h)))
 
-leaf-size : (kind a b c d : ℕ) → AtMost 1 (leafOf kind a b c d)
-unfolding AtMost
-leaf-size kind a b c d =
-    picked (AtMost 1) (eqb kind 5) (λ e. picked (AtMost 1) (ltb a 64) (λ e. omega arith) (λ e. omega arith)) (λ e.
-    picked (AtMost 1) (eqb kind 6) (λ e. picked (AtMost 1) (both (leb 1 a) (leb a 32)) (λ e. omega arith) (λ e. omega arith)) (λ e.
-    picked (AtMost 1) (eqb kind 7) (λ e. picked (AtMost 1) (both (ltb a 128) (ltb b 128)) (λ e. omega arith) (λ e. omega arith)) (λ e.
-    picked (AtMost 1) (eqb kind 8) (λ e. picked (AtMost 1) (both (both (leb 1 a) (leb a 32)) (both (listed b c) (leb d 64))) (λ e. omega arith) (λ e. omega arith)) (λ e.
-    picked (AtMost 1) (eqb kind 9) (λ e. omega arith) (λ e. omega arith)))))
+uint-fine : (i a b c d : ℕ) → i < 256 → Fine i (uintOf a b c d)
+uint-fine i a b c d h =
+    let W : Bool = both (leb 1 a) (leb a 32)
+    in let L : Bool = listed b c
+    in picked (Fine i) (both W (both L (leb d 64)))
+    (λ e.
+    let w : W ≡ true = both-first W (both L (leb d 64)) e
+    in let l : L ≡ true = both-first L (leb d 64) (both-second W (both L (leb d 64)) e)
+    in (h, leb-true 1 a (both-first (leb 1 a) (leb a 32) w), leb-true a 32 (both-second (leb 1 a) (leb a 32) w), leb-true b c (both-first (leb b c) (leb c 1024) l), leb-true c 1024 (both-second (leb b c) (leb c 1024) l), leb-true d 64 (both-second L (leb d 64) (both-second W (both L (leb d 64)) e))))
+    (λ e. tt)
 
-pub size-fits : (ws : List ℕ) (i : ℕ) → size-at ws i ≤ 256 - i
-unfolding AtMost constructAt constructOf
-size-fits ws i =
-    picked (AtMost (256 - i)) (ltb i 256)
+leaf-fine : (i kind a b c d : ℕ) → i < 256 → Fine i (leafOf kind a b c d)
+leaf-fine i kind a b c d h =
+    picked (Fine i) (eqb kind 5) (λ e. picked (Fine i) (ltb a 64) (λ e. (h, ltb-true a 64 e)) (λ e. tt)) (λ e.
+    picked (Fine i) (eqb kind 6)
+    (λ e. picked (Fine i) (both (leb 1 a) (leb a 32)) (λ e. (h, leb-true 1 a (both-first (leb 1 a) (leb a 32) e), leb-true a 32 (both-second (leb 1 a) (leb a 32) e))) (λ e. tt))
+    (λ e.
+    picked (Fine i) (eqb kind 7)
+    (λ e. picked (Fine i) (both (ltb a 128) (ltb b 128)) (λ e. (h, ltb-true a 128 (both-first (ltb a 128) (ltb b 128) e), ltb-true b 128 (both-second (ltb a 128) (ltb b 128) e))) (λ e. tt))
+    (λ e.
+    picked (Fine i) (eqb kind 8) (λ e. uint-fine i a b c d h) (λ e.
+    picked (Fine i) (eqb kind 9) (λ e. h) (λ e. tt)))))
+
+pub fine : (ws : List ℕ) (i : ℕ) → Fine i (constructAt ws i)
+unfolding constructAt constructOf
+fine ws i =
+    picked (Fine i) (ltb i 256)
     (λ h.
-    picked (AtMost (256 - i)) (both (leb 1 kind) (leb kind 4))
+    picked (Fine i) (both (leb 1 kind) (leb kind 4))
     (λ e.
-    picked (AtMost (256 - i)) (branches i size)
-    (λ e.
-    let small : AtMost size (innerOf kind size a b c) = inner-size kind size a b c
-    in let within : i + size ≤ 256 = leb-true (i + size) 256 (both-second (leb 2 size) (leb (i + size) 256) e)
-    in omega arith)
-    (λ e. omega arith))
-    (λ e.
-    picked (AtMost (256 - i)) (eqb size 1)
-    (λ e.
-    let small : AtMost 1 (leafOf kind a b c d) = leaf-size kind a b c d
-    in let within : i < 256 = ltb-true i 256 h
-    in omega arith)
-    (λ e. omega arith)))
-    (λ h. omega arith)
+    picked (Fine i) (branches i size)
+    (λ e. inner-fine i kind size a b c (leb-true 2 size (both-first (leb 2 size) (leb (i + size) 256) e), leb-true (i + size) 256 (both-second (leb 2 size) (leb (i + size) 256) e)))
+    (λ e. tt))
+    (λ e. picked (Fine i) (eqb size 1) (λ e. leaf-fine i kind a b c d (ltb-true i 256 h)) (λ e. tt)))
+    (λ h. tt)
   where
     kind : ℕ
     kind = construct-word ws i 0
@@ -86,48 +99,17 @@ size-fits ws i =
     d : ℕ
     d = construct-word ws i 5
 
--- a construct with parts is at least two
-abbrev pub Parted : Construct → Type 0
-Parted Construct.Missing = Unit {0}
-Parted (Construct.Alternative size) = 2 ≤ size
-Parted (Construct.Concatenation size) = 2 ≤ size
-Parted (Construct.Repetition size passes) = 2 ≤ size
-Parted (Construct.Switch size) = 2 ≤ size
-Parted (Construct.Use rule) = Unit {0}
-Parted (Construct.Literal length) = Unit {0}
-Parted (Construct.Range low high) = Unit {0}
-Parted (Construct.Uint width start end binder) = Unit {0}
-Parted Construct.Eod = Unit {0}
+fine-size : (i : ℕ) (c : Construct) → Fine i c → size-of c ≤ 256 - i
+fine-size i Construct.Missing f = omega arith
+fine-size i (Construct.Alternative size) f = omega (arith, f .1)
+fine-size i (Construct.Concatenation size) f = omega (arith, f .1)
+fine-size i (Construct.Repetition size passes) f = omega (arith, f .1)
+fine-size i (Construct.Switch size) f = omega (arith, f .1)
+fine-size i (Construct.Use rule) f = omega (arith, f .0)
+fine-size i (Construct.Literal length) f = omega (arith, f .0)
+fine-size i (Construct.Range low high) f = omega (arith, f .0)
+fine-size i (Construct.Uint width start end binder) f = omega (arith, f .0)
+fine-size i Construct.Eod f = omega arith
 
-inner-parted : (kind size a b c : ℕ) → 2 ≤ size → Parted (innerOf kind size a b c)
-inner-parted kind size a b c h =
-    picked Parted (eqb kind 1) (λ e. h) (λ e.
-    picked Parted (eqb kind 2) (λ e. h) (λ e.
-    picked Parted (eqb kind 3)
-    (λ e.
-    picked Parted (eqb a 1) (λ e. h) (λ e.
-    picked Parted (eqb a 2) (λ e. h) (λ e.
-    picked Parted (eqb a 3) (λ e. h) (λ e.
-    picked Parted (both (eqb a 4) (listed b c)) (λ e. h) (λ e. tt)))))
-    (λ e. h)))
-
-leaf-parted : (kind a b c d : ℕ) → Parted (leafOf kind a b c d)
-leaf-parted kind a b c d =
-    picked Parted (eqb kind 5) (λ e. picked Parted (ltb a 64) (λ e. tt) (λ e. tt)) (λ e.
-    picked Parted (eqb kind 6) (λ e. picked Parted (both (leb 1 a) (leb a 32)) (λ e. tt) (λ e. tt)) (λ e.
-    picked Parted (eqb kind 7) (λ e. picked Parted (both (ltb a 128) (ltb b 128)) (λ e. tt) (λ e. tt)) (λ e.
-    picked Parted (eqb kind 8) (λ e. picked Parted (both (both (leb 1 a) (leb a 32)) (both (listed b c) (leb d 64))) (λ e. tt) (λ e. tt)) (λ e.
-    picked Parted (eqb kind 9) (λ e. tt) (λ e. tt)))))
-
-pub parted : (ws : List ℕ) (i : ℕ) → Parted (constructAt ws i)
-unfolding constructAt constructOf
-parted ws i =
-    picked Parted (ltb i 256)
-    (λ h.
-    picked Parted (both (leb 1 (construct-word ws i 0)) (leb (construct-word ws i 0) 4))
-    (λ e.
-    picked Parted (branches i (construct-word ws i 1))
-    (λ e. inner-parted (construct-word ws i 0) (construct-word ws i 1) (construct-word ws i 2) (construct-word ws i 3) (construct-word ws i 4) (leb-true 2 (construct-word ws i 1) (both-first (leb 2 (construct-word ws i 1)) (leb (i + construct-word ws i 1) 256) e)))
-    (λ e. tt))
-    (λ e. picked Parted (eqb (construct-word ws i 1) 1) (λ e. leaf-parted (construct-word ws i 0) (construct-word ws i 2) (construct-word ws i 3) (construct-word ws i 4) (construct-word ws i 5)) (λ e. tt)))
-    (λ h. tt)
+pub size-fits : (ws : List ℕ) (i : ℕ) → size-at ws i ≤ 256 - i
+size-fits ws i = fine-size i (constructAt ws i) (fine ws i)

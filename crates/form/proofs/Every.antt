@@ -6,7 +6,8 @@ use mathlib.Core.Bool.{Bool, true, false}
 use native.Mathlib.Omega.{arith}
 use Rattle.form.specs.Checks.{every, from-to}
 
-left : (end i : ℕ) → i < end → end - i ≡ suc (end - (i + 1))
+-- what is left of the numbers up to `end`, from i on
+pub left : (end i : ℕ) → i < end → end - i ≡ suc (end - (i + 1))
 left end i h = omega arith
 
 pub every-turn : (end i : ℕ) (f : ℕ → Bool) → i < end → f i ≡ true → from-to i end f ≡ from-to (i + 1) end f

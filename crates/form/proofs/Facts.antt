@@ -53,6 +53,7 @@ pub record RuleLaid (ws : List ℕ) (r : ℕ) : Type 0 where
 pub record Laid (ws : List ℕ) : Type 0 where
   pub long : table-words ≤ length ws
   pub counts : Limits ws
+  pub rest : rest-zero ws ≡ true
   pub start-body : body ws 0 ≡ 0
   pub start-variables : rule-word ws 0 1 ≡ 0
   pub rule : (r : ℕ) → r < rule-count ws → rule-laid ws r ≡ true
@@ -87,6 +88,7 @@ facts ws h =
     in record {
       long = leb-true table-words (length ws) (both-first L (both (headed ws) (both P (names-laid ws))) h);
       counts = limits ws (both-first (headed ws) (both P (names-laid ws)) after-length);
+      rest = both-first (rest-zero ws) (rules-laid ws) zeros-rules;
       start-body = eqb-true (body ws 0) 0 (both-first B X starts);
       start-variables = eqb-true (rule-word ws 0 1) 0 (both-second B X starts);
       rule = λ r l. each (rule-laid ws) (rule-count ws) 0 r (both-second (both B X) R rules) (omega arith) l;

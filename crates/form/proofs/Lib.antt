@@ -11,3 +11,5 @@ pub mod Owners
 pub mod Reading
 pub mod StaticLaw
 pub mod Binding
+pub mod Agreement
+pub mod NodeFacts

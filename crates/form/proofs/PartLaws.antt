@@ -17,7 +17,7 @@ use Rattle.form.specs.Checks.{size-at}
 use Rattle.form.specs.Parts.{part-laid, parts-laid}
 use Rattle.form.specs.Laid.{operands-zero, second-part, construct-end, passes-laid, kind-laid}
 use Rattle.form.proofs.Walks.{both-first, both-second}
-use Rattle.form.proofs.Decoded.{Parted, parted}
+use Rattle.form.proofs.Decoded.{Fine, fine}
 use Rattle.form.proofs.Tiles.{Tiles, none, more, tiles, parts-more, parts-none}
 use Rattle.form.proofs.Facts.{Laid}
 
@@ -72,7 +72,7 @@ module _ (ws : List ℕ) (i : ℕ) where
   tiled-by Construct.Missing e h = let z : _≡_ {A = ℕ} 0 1 = cc in absurd (omega arith)
   tiled-by (Construct.Alternative size) e h = walked false size (ap size-of e) (both-second (ltb (second-part ws i) (construct-end ws i)) (parts-laid ws false (i + 1) (construct-end ws i)) (both-second (operands-zero ws i 2) (both (ltb (second-part ws i) (construct-end ws i)) (parts-laid ws false (i + 1) (construct-end ws i))) h))
   tiled-by (Construct.Concatenation size) e h = walked false size (ap size-of e) (both-second (ltb (second-part ws i) (construct-end ws i)) (parts-laid ws false (i + 1) (construct-end ws i)) (both-second (operands-zero ws i 2) (both (ltb (second-part ws i) (construct-end ws i)) (parts-laid ws false (i + 1) (construct-end ws i))) h))
-  tiled-by (Construct.Repetition size passes) e h = single size (ap size-of e) (rw e at (parted ws i)) (both-second (passes-laid ws i passes) (both (eqb (second-part ws i) (construct-end ws i)) (parts-laid ws false (i + 1) (construct-end ws i))) h)
+  tiled-by (Construct.Repetition size passes) e h = single size (ap size-of e) ((rw e at (fine ws i)) .0) (both-second (passes-laid ws i passes) (both (eqb (second-part ws i) (construct-end ws i)) (parts-laid ws false (i + 1) (construct-end ws i))) h)
   tiled-by (Construct.Switch size) e h = walked true size (ap size-of e) (both-second (operands-zero ws i 2) (parts-laid ws true (i + 1) (construct-end ws i)) h)
   tiled-by (Construct.Use rule) e h = none refl
   tiled-by (Construct.Literal length) e h = none refl

@@ -7,10 +7,8 @@ use mathlib.Core.List.{List}
 use native.Mathlib.Omega.{arith}
 use lib.Dec.{eqb}
 use Rattle.layout.specs.Places.{term-count}
+use Rattle.form.proofs.Every.{left}
 use Rattle.form.specs.Lists.{lists-begin, after-lists, lists-from}
-
-left : (end i : ℕ) → i < end → end - i ≡ suc (end - (i + 1))
-left end i h = omega arith
 
 module _ (ws : List ℕ) (end i p : ℕ) where
   pub lists-turn : i < end → lists-begin ws i p ≡ true → lists-from (end - i) ws i p ≡ lists-from (end - (i + 1)) ws (i + 1) (after-lists ws i p)

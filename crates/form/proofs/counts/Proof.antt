@@ -1,49 +1,34 @@
 use borrow.Author.Needs.{needs}
 use Rattle.form.proofs.counts.Statement.{statement}
 use Rattle.form.proofs.counts.Tie as tie
-use Rattle.form.proofs.counts.Reads as reads
-use Rattle.form.proofs.counts.Lts as lts
-use Rattle.form.proofs.checks.both.Reads as both-reads
-use Rattle.form.proofs.checks.limited.Reads as limited-reads
-use Rattle.layout.proofs.word.Reads as word-reads
 
--- src/lib.rt:29:24
 word-requires : tie.Need-word-requires
 word-requires c κs = search needs
 
--- src/lib.rt:29:13
 limited-requires : tie.Need-limited-requires
 limited-requires c κs = search needs
 
--- src/lib.rt:30:24
 word-requires-2 : tie.Need-word-requires-2
 word-requires-2 c κs = search needs
 
--- src/lib.rt:30:13
 limited-requires-2 : tie.Need-limited-requires-2
 limited-requires-2 c κs = search needs
 
--- src/lib.rt:28:9
 both-requires : tie.Need-both-requires
 both-requires c κs = search needs
 
--- src/lib.rt:32:14
 word-requires-3 : tie.Need-word-requires-3
 word-requires-3 c κs = search needs
 
--- src/lib.rt:32:36
 word-requires-4 : tie.Need-word-requires-4
 word-requires-4 c κs = search needs
 
--- src/lib.rt:32:9
 both-requires-2 : tie.Need-both-requires-2
 both-requires-2 c κs = search needs
 
--- src/lib.rt:27:5
 both-requires-3 : tie.Need-both-requires-3
 both-requires-3 c κs = search needs
 
--- src/lib.rt:24:1
 returns : tie.Need-returns
 returns c = simp (c .both3 .ensures, c .before .both2 .ensures, c .before .before .word4 .ensures .0, c .before .before .before .word3 .ensures .0, c .before .before .before .before .both .ensures, c .before .before .before .before .before .limited2 .ensures, c .before .before .before .before .before .before .word2 .ensures .0, c .before .before .before .before .before .before .before .limited .ensures, c .before .before .before .before .before .before .before .before .word .ensures .0)
 

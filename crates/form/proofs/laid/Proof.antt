@@ -5,40 +5,28 @@ use Rattle.form.proofs.Limits.{limits}
 use borrow.Author.Needs.{needs}
 use Rattle.form.proofs.laid.Statement.{statement}
 use Rattle.form.proofs.laid.Tie as tie
-use Rattle.form.proofs.laid.Reads as reads
-use Rattle.form.proofs.laid.Lts as lts
-use Rattle.form.proofs.headed.Reads as headed-reads
-use Rattle.form.proofs.names.names.Reads as names-reads
-use Rattle.form.proofs.placed.Reads as placed-reads
 
--- src/lib.rt:83:9
 returns : tie.Need-returns
 unfolding laid
 returns c = simp (lt-leb _ _ (c .if1 .taken))
 
--- src/lib.rt:85:8
 headed-requires : tie.Need-headed-requires
 headed-requires c κs = search needs
 
--- src/lib.rt:86:12
 placed-requires : tie.Need-placed-requires
 placed-requires c κs = (search needs, limits _ (sym (c .before .headed .ensures) ∙ c .if2 .taken) .constructs)
 
--- src/lib.rt:87:13
 names-requires : tie.Need-names-requires
 names-requires c κs = search needs
 
--- src/lib.rt:87:13
 returns-2 : tie.Need-returns-2
 unfolding laid
 returns-2 c = simp (le-leb _ _ (c .before .before .before .before .before .if1 .left), sym (c .before .before .before .before .headed .ensures) ∙ c .before .before .before .if2 .taken, sym (c .before .before .placed .ensures) ∙ c .before .if3 .taken) (c .names .ensures)
 
--- src/lib.rt:79:1
 returns-3 : tie.Need-returns-3
 unfolding laid
 returns-3 c = simp (le-leb _ _ (c .before .before .before .before .if1 .left), sym (c .before .before .before .headed .ensures) ∙ c .before .before .if2 .taken, sym (c .before .placed .ensures) ∙ c .if3 .left)
 
--- src/lib.rt:79:1
 returns-4 : tie.Need-returns-4
 unfolding laid
 returns-4 c = simp (le-leb _ _ (c .before .before .if1 .left), sym (c .before .headed .ensures) ∙ c .if2 .left)

@@ -7,20 +7,13 @@ use Rattle.form.proofs.Decoded.{size-fits}
 use borrow.Author.Needs.{needs}
 use Rattle.form.proofs.checks.size_at.Statement.{statement}
 use Rattle.form.proofs.checks.size_at.Tie as tie
-use Rattle.form.proofs.checks.size_at.Reads as reads
-use Rattle.form.proofs.checks.size_at.Lts as lts
-use Rattle.form.proofs.checks.size.Reads as size-reads
-use Rattle.layout.proofs.construct_at.Reads as construct-at-reads
 
--- src/checks.rt:107:10
 construct-at-requires : tie.Need-construct-at-requires
 construct-at-requires c κs = search needs
 
--- src/checks.rt:107:5
 size-requires : tie.Need-size-requires
 size-requires c κs = search needs
 
--- src/checks.rt:104:1
 returns : tie.Need-returns
 returns c =
     let e : c .size .result ≡ size-at (c .before .before .before .args .table .now) (c .before .before .before .args .i) = c .size .ensures ∙ ap size-of (c .before .construct-at .ensures)

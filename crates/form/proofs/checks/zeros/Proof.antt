@@ -1,5 +1,5 @@
-use Prim.Native.Nat.{ℕ, _+_, _-_, _≤_}
-use mathlib.Core.Path.{_≡_, refl, sym, ap, _∙_}
+use Prim.Native.Nat.{_-_}
+use mathlib.Core.Path.{_≡_, refl, sym, _∙_}
 use native.Mathlib.Omega.{arith}
 use borrow.Author.Needs.{needs}
 use Rattle.form.specs.Checks.{from-to}
@@ -9,9 +9,6 @@ use lib.Dec.{eqb}
 use Rattle.layout.specs.Places.{word}
 use Rattle.form.proofs.checks.zeros.Statement.{statement}
 use Rattle.form.proofs.checks.zeros.Tie as tie
-use Rattle.form.proofs.checks.zeros.Reads as reads
-use Rattle.form.proofs.checks.zeros.Lts as lts
-use Rattle.layout.proofs.word.Reads as word-reads
 
 abbrev Inv-loop : tie.InvT-loop
 Inv-loop table start end k₀ k = from-to k end (λ j. eqb (word table j) 0) ≡ from-to start end (λ j. eqb (word table j) 0)
@@ -19,31 +16,24 @@ Inv-loop table start end k₀ k = from-to k end (λ j. eqb (word table j) 0) ≡
 abbrev μ-loop : tie.MeasureT-loop
 μ-loop table start end k₀ k = end - k
 
--- src/checks.rt:50:5
 loop-holds : tie.Need-loop-holds Inv-loop μ-loop
 loop-holds c = refl
 
--- src/checks.rt:51:12
 word-requires : tie.Need-word-requires Inv-loop μ-loop
 word-requires c κs = search needs
 
--- src/checks.rt:52:13
 add-k : tie.Need-add-k Inv-loop μ-loop
 add-k c = omega arith
 
--- src/checks.rt:50:5
 loop-less : tie.Need-loop-less Inv-loop μ-loop
 loop-less c = omega arith
 
--- src/checks.rt:50:5
 loop-again : tie.Need-loop-again Inv-loop μ-loop
 loop-again c = sym (every-turn _ _ (λ j. eqb (word (c .before .before .before .before .before .args .table .now) j) 0) (c .before .before .loop-test .taken) (eq-eqb _ _ (sym (c .before .word .ensures .0) ∙ c .if1 .taken))) ∙ c .before .before .before .loop .inv
 
--- src/checks.rt:54:13
 returns : tie.Need-returns Inv-loop μ-loop
 returns c = sym (every-stop _ _ (λ j. eqb (word (c .before .before .before .before .before .args .table .now) j) 0) (c .before .before .loop-test .taken) (ne-eqb _ _ (λ e. c .if1 .left (c .before .word .ensures .0 ∙ e)))) ∙ c .before .before .before .loop .inv
 
--- src/checks.rt:46:1
 returns-2 : tie.Need-returns-2 Inv-loop μ-loop
 returns-2 c = sym (every-end _ _ (λ j. eqb (word (c .before .before .before .args .table .now) j) 0) (c .loop-test .left)) ∙ c .before .loop .inv
 

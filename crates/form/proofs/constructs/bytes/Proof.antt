@@ -1,5 +1,5 @@
-use Prim.Native.Nat.{ℕ, _+_, _-_, _≤_}
-use mathlib.Core.Path.{_≡_, refl, sym, ap, _∙_}
+use Prim.Native.Nat.{_-_}
+use mathlib.Core.Path.{_≡_, refl, sym, _∙_}
 use native.Mathlib.Omega.{arith}
 use borrow.Author.Needs.{needs}
 use Rattle.form.specs.Checks.{from-to}
@@ -7,9 +7,6 @@ use Rattle.form.proofs.Every.{every-turn, every-stop, every-end}
 use Rattle.form.specs.Laid.{byte-laid}
 use Rattle.form.proofs.constructs.bytes.Statement.{statement}
 use Rattle.form.proofs.constructs.bytes.Tie as tie
-use Rattle.form.proofs.constructs.bytes.Reads as reads
-use Rattle.form.proofs.constructs.bytes.Lts as lts
-use Rattle.form.proofs.constructs.byte.Reads as byte-reads
 
 abbrev Inv-loop : tie.InvT-loop
 Inv-loop table i n k₀ k = from-to k 32 (byte-laid table i n) ≡ from-to 0 32 (byte-laid table i n)
@@ -17,31 +14,24 @@ Inv-loop table i n k₀ k = from-to k 32 (byte-laid table i n) ≡ from-to 0 32 
 abbrev μ-loop : tie.MeasureT-loop
 μ-loop table i n k₀ k = 32 - k
 
--- src/constructs.rt:165:5
 loop-holds : tie.Need-loop-holds Inv-loop μ-loop
 loop-holds c = refl
 
--- src/constructs.rt:166:12
 byte-requires : tie.Need-byte-requires Inv-loop μ-loop
 byte-requires c κs = search needs
 
--- src/constructs.rt:167:13
 add-k : tie.Need-add-k Inv-loop μ-loop
 add-k c = omega arith
 
--- src/constructs.rt:165:5
 loop-less : tie.Need-loop-less Inv-loop μ-loop
 loop-less c = omega arith
 
--- src/constructs.rt:165:5
 loop-again : tie.Need-loop-again Inv-loop μ-loop
 loop-again c = sym (every-turn _ _ (byte-laid (c .before .before .before .before .before .args .table .now) (c .before .before .before .before .before .args .i) (c .before .before .before .before .before .args .n)) (c .before .before .loop-test .taken) (sym (c .before .byte .ensures) ∙ c .if1 .taken)) ∙ c .before .before .before .loop .inv
 
--- src/constructs.rt:169:13
 returns : tie.Need-returns Inv-loop μ-loop
 returns c = sym (every-stop _ _ (byte-laid (c .before .before .before .before .before .args .table .now) (c .before .before .before .before .before .args .i) (c .before .before .before .before .before .args .n)) (c .before .before .loop-test .taken) (sym (c .before .byte .ensures) ∙ c .if1 .left)) ∙ c .before .before .before .loop .inv
 
--- src/constructs.rt:160:1
 returns-2 : tie.Need-returns-2 Inv-loop μ-loop
 returns-2 c = sym (every-end _ _ (byte-laid (c .before .before .before .args .table .now) (c .before .before .before .args .i) (c .before .before .before .args .n)) (c .loop-test .left)) ∙ c .before .loop .inv
 

@@ -1,4 +1,4 @@
-use Prim.Native.Nat.{ℕ, _+_, _-_, _≤_}
+use Prim.Native.Nat.{ℕ, _-_}
 use mathlib.Core.Path.{_≡_, refl, sym, ap, _∙_}
 use native.Mathlib.Omega.{arith}
 use borrow.Author.Needs.{needs}
@@ -7,10 +7,6 @@ use Rattle.form.proofs.Every.{every-turn, every-stop, every-end}
 use Rattle.form.specs.Laid.{construct-laid}
 use Rattle.form.proofs.constructs.constructs.Statement.{statement}
 use Rattle.form.proofs.constructs.constructs.Tie as tie
-use Rattle.form.proofs.constructs.constructs.Reads as reads
-use Rattle.form.proofs.constructs.constructs.Lts as lts
-use Rattle.form.proofs.constructs.construct_laid.Reads as construct-laid-reads
-use Rattle.layout.proofs.word.Reads as word-reads
 
 abbrev Inv-loop : tie.InvT-loop
 Inv-loop table count i₀ i = from-to i count (construct-laid table) ≡ from-to 0 count (construct-laid table)
@@ -18,35 +14,27 @@ Inv-loop table count i₀ i = from-to i count (construct-laid table) ≡ from-to
 abbrev μ-loop : tie.MeasureT-loop
 μ-loop table count i₀ i = count - i
 
--- src/constructs.rt:193:9
 word-requires : tie.Need-word-requires Inv-loop μ-loop
 word-requires c κs = search needs
 
--- src/constructs.rt:195:5
 loop-holds : tie.Need-loop-holds Inv-loop μ-loop
 loop-holds c = refl
 
--- src/constructs.rt:196:12
 construct-laid-requires : tie.Need-construct-laid-requires Inv-loop μ-loop
 construct-laid-requires c κs = search needs
 
--- src/constructs.rt:197:13
 add-i : tie.Need-add-i Inv-loop μ-loop
 add-i c = omega arith
 
--- src/constructs.rt:195:5
 loop-less : tie.Need-loop-less Inv-loop μ-loop
 loop-less c = omega arith
 
--- src/constructs.rt:195:5
 loop-again : tie.Need-loop-again Inv-loop μ-loop
 loop-again c = sym (every-turn _ _ (construct-laid (c .before .before .before .before .before .before .args .table .now)) (c .before .before .loop-test .taken) (sym (c .before .construct-laid .ensures) ∙ c .if1 .taken)) ∙ c .before .before .before .loop .inv
 
--- src/constructs.rt:199:13
 returns : tie.Need-returns Inv-loop μ-loop
 returns c = sym (every-stop _ _ (construct-laid (c .before .before .before .before .before .before .args .table .now)) (c .before .before .loop-test .taken) (sym (c .before .construct-laid .ensures) ∙ c .if1 .left)) ∙ c .before .before .before .loop .inv ∙ ap (λ (n : ℕ). from-to 0 n (construct-laid (c .before .before .before .before .before .before .args .table .now))) (c .before .before .before .before .word .ensures .0)
 
--- src/constructs.rt:189:1
 returns-2 : tie.Need-returns-2 Inv-loop μ-loop
 returns-2 c = sym (every-end _ _ (construct-laid (c .before .before .before .before .args .table .now)) (c .loop-test .left)) ∙ c .before .loop .inv ∙ ap (λ (n : ℕ). from-to 0 n (construct-laid (c .before .before .before .before .args .table .now))) (c .before .before .word .ensures .0)
 

@@ -1,146 +1,103 @@
 use borrow.Author.Needs.{needs}
 use Rattle.form.proofs.constructs.kind.Statement.{statement}
 use Rattle.form.proofs.constructs.kind.Tie as tie
-use Rattle.form.proofs.constructs.kind.Reads as reads
-use Rattle.form.proofs.constructs.kind.Lts as lts
-use Rattle.form.proofs.checks.both.Reads as both-reads
-use Rattle.form.proofs.constructs.chain.Reads as chain-reads
-use Rattle.form.proofs.constructs.operands_zero.Reads as operands-zero-reads
-use Rattle.form.proofs.constructs.repetition.Reads as repetition-reads
-use Rattle.form.proofs.constructs.switch.Reads as switch-reads
-use Rattle.form.proofs.lists.list_formed.Reads as list-formed-reads
-use Rattle.form.proofs.names.named_back.Reads as named-back-reads
-use Rattle.layout.proofs.word.Reads as word-reads
 
--- src/constructs.rt:92:31
 enum-told : tie.Need-enum-told
 enum-told c = search needs
 
--- src/constructs.rt:93:47
 enum-told-2 : tie.Need-enum-told-2
 enum-told-2 c = search needs
 
--- src/constructs.rt:93:47
 chain-requires : tie.Need-chain-requires
 chain-requires c κs = search needs
 
--- src/constructs.rt:94:49
 enum-told-3 : tie.Need-enum-told-3
 enum-told-3 c = search needs
 
--- src/constructs.rt:94:49
 chain-requires-2 : tie.Need-chain-requires-2
 chain-requires-2 c κs = search needs
 
--- src/constructs.rt:95:42
 enum-known-construct : tie.Need-enum-known-construct
 enum-known-construct c = search needs
 
--- src/constructs.rt:95:54
 repetition-requires : tie.Need-repetition-requires
 repetition-requires c κs = search needs
 
--- src/constructs.rt:96:42
 enum-told-4 : tie.Need-enum-told-4
 enum-told-4 c = search needs
 
--- src/constructs.rt:96:42
 switch-requires : tie.Need-switch-requires
 switch-requires c κs = search needs
 
--- src/constructs.rt:97:26
 enum-known-construct-2 : tie.Need-enum-known-construct-2
 enum-known-construct-2 c = search needs
 
--- src/constructs.rt:97:48
 word-requires : tie.Need-word-requires
 word-requires c κs = search needs
 
--- src/constructs.rt:97:64
 operands-zero-requires : tie.Need-operands-zero-requires
 operands-zero-requires c κs = search needs
 
--- src/constructs.rt:97:36
 both-requires : tie.Need-both-requires
 both-requires c κs = search needs
 
--- src/constructs.rt:98:45
 enum-told-5 : tie.Need-enum-told-5
 enum-told-5 c = search needs
 
--- src/constructs.rt:98:45
 operands-zero-requires-2 : tie.Need-operands-zero-requires-2
 operands-zero-requires-2 c κs = search needs
 
--- src/constructs.rt:99:49
 enum-told-6 : tie.Need-enum-told-6
 enum-told-6 c = search needs
 
--- src/constructs.rt:99:49
 operands-zero-requires-3 : tie.Need-operands-zero-requires-3
 operands-zero-requires-3 c κs = search needs
 
--- src/constructs.rt:102:13
 enum-known-construct-3 : tie.Need-enum-known-construct-3
 enum-known-construct-3 c = search needs
 
--- src/constructs.rt:106:13
 named-back-requires : tie.Need-named-back-requires
 named-back-requires c κs = search needs
 
--- src/constructs.rt:107:13
 list-formed-requires : tie.Need-list-formed-requires
 list-formed-requires c κs = search needs
 
--- src/constructs.rt:105:14
 both-requires-2 : tie.Need-both-requires-2
 both-requires-2 c κs = search needs
 
--- src/constructs.rt:109:27
 enum-told-7 : tie.Need-enum-told-7
 enum-told-7 c = search needs
 
--- src/constructs.rt:109:27
 operands-zero-requires-4 : tie.Need-operands-zero-requires-4
 operands-zero-requires-4 c κs = search needs
 
--- src/constructs.rt:87:1
 returns : tie.Need-returns
 returns c = simp (c .enum-told .given .1)
 
--- src/constructs.rt:87:1
 returns-2 : tie.Need-returns-2
 returns-2 c = simp (c .chain .ensures, c .before .enum-told2 .given .1)
 
--- src/constructs.rt:87:1
 returns-3 : tie.Need-returns-3
 returns-3 c = simp (c .chain2 .ensures, c .before .enum-told3 .given .1)
 
--- src/constructs.rt:87:1
 returns-4 : tie.Need-returns-4
 returns-4 c = simp (c .repetition .ensures, c .before .before .construct .given .1)
 
--- src/constructs.rt:87:1
 returns-5 : tie.Need-returns-5
 returns-5 c = simp (c .switch .ensures, c .before .enum-told4 .given .1)
 
--- src/constructs.rt:87:1
 returns-6 : tie.Need-returns-6
 returns-6 c = simp (c .both .ensures, c .before .operands-zero .ensures, c .before .before .word .ensures .0, c .before .before .before .before .construct2 .given .1)
 
--- src/constructs.rt:87:1
 returns-7 : tie.Need-returns-7
 returns-7 c = simp (c .operands-zero2 .ensures, c .before .enum-told5 .given .1)
 
--- src/constructs.rt:87:1
 returns-8 : tie.Need-returns-8
 returns-8 c = simp (c .operands-zero3 .ensures, c .before .enum-told6 .given .1)
 
--- src/constructs.rt:87:1
 returns-9 : tie.Need-returns-9
 returns-9 c = simp (c .both2 .ensures, c .before .list-formed .ensures, c .before .before .named-back .ensures, c .before .before .before .before .construct3 .given .1)
 
--- src/constructs.rt:87:1
 returns-10 : tie.Need-returns-10
 returns-10 c = simp (c .operands-zero4 .ensures, c .before .enum-told7 .given .1)
 

@@ -3,22 +3,16 @@ use mathlib.Core.Path.{_≡_, sym, ap}
 use native.Mathlib.Omega.{arith}
 use Rattle.form.proofs.constructs.power.Statement.{statement}
 use Rattle.form.proofs.constructs.power.Tie as tie
-use Rattle.form.proofs.constructs.power.Reads as reads
-use Rattle.form.proofs.constructs.power.Lts as lts
 
--- src/constructs.rt:140:9
 returns : tie.Need-returns
 returns c = (sym (ap (λ (k : ℕ). 256 ^ k) (c .if1 .taken)), omega arith)
 
--- src/constructs.rt:143:9
 returns-2 : tie.Need-returns-2
 returns-2 c = (sym (ap (λ (k : ℕ). 256 ^ k) (c .if2 .taken)), omega arith)
 
--- src/constructs.rt:146:9
 returns-3 : tie.Need-returns-3
 returns-3 c = (sym (ap (λ (k : ℕ). 256 ^ k) (c .if3 .taken)), omega arith)
 
--- src/constructs.rt:135:1
 returns-4 : tie.Need-returns-4
 returns-4 c =
     let e : c .before .before .before .args .k ≡ 3 = omega (arith, c .before .before .before .pre)

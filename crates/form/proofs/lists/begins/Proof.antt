@@ -1,14 +1,10 @@
 use borrow.Author.Tests.{le-leb, le-ltb, lt-leb, lt-ltb}
 use Rattle.form.proofs.lists.begins.Statement.{statement}
 use Rattle.form.proofs.lists.begins.Tie as tie
-use Rattle.form.proofs.lists.begins.Reads as reads
-use Rattle.form.proofs.lists.begins.Lts as lts
 
--- src/lists.rt:95:9
 returns : tie.Need-returns
 returns c = simp (lt-ltb _ _ (c .if1 .taken), lt-leb _ _ (c .if1 .taken))
 
--- src/lists.rt:91:1
 returns-2 : tie.Need-returns-2
 returns-2 c = simp (le-leb _ _ (c .if1 .left), le-ltb _ _ (c .if1 .left))
 

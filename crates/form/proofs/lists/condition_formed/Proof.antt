@@ -2,28 +2,19 @@ use borrow.Author.Tests.{le-leb, le-ltb, lt-leb, lt-ltb}
 use borrow.Author.Needs.{needs}
 use Rattle.form.proofs.lists.condition_formed.Statement.{statement}
 use Rattle.form.proofs.lists.condition_formed.Tie as tie
-use Rattle.form.proofs.lists.condition_formed.Reads as reads
-use Rattle.form.proofs.lists.condition_formed.Lts as lts
-use Rattle.form.proofs.checks.construct_word.Reads as construct-word-reads
-use Rattle.form.proofs.lists.list_formed.Reads as list-formed-reads
 
--- src/lists.rt:186:9
 construct-word-requires : tie.Need-construct-word-requires
 construct-word-requires c κs = search needs
 
--- src/lists.rt:187:9
 construct-word-requires-2 : tie.Need-construct-word-requires-2
 construct-word-requires-2 c κs = search needs
 
--- src/lists.rt:189:9
 list-formed-requires : tie.Need-list-formed-requires
 list-formed-requires c κs = search needs
 
--- src/lists.rt:189:9
 returns : tie.Need-returns
 returns c = simp (c .list-formed .ensures, lt-ltb _ _ (c .before .if1 .taken), lt-leb _ _ (c .before .if1 .taken), ← c .before .before .construct-word2 .ensures .0, ← c .before .before .before .construct-word .ensures .0)
 
--- src/lists.rt:182:1
 returns-2 : tie.Need-returns-2
 returns-2 c = simp (le-leb _ _ (c .if1 .left), le-ltb _ _ (c .if1 .left), ← c .before .construct-word2 .ensures .0, ← c .before .before .construct-word .ensures .0)
 

@@ -1,53 +1,34 @@
 use borrow.Author.Needs.{needs}
 use Rattle.form.proofs.lists.lists_begin.Statement.{statement}
 use Rattle.form.proofs.lists.lists_begin.Tie as tie
-use Rattle.form.proofs.lists.lists_begin.Reads as reads
-use Rattle.form.proofs.lists.lists_begin.Lts as lts
-use Rattle.form.proofs.checks.both.Reads as both-reads
-use Rattle.form.proofs.checks.construct_word.Reads as construct-word-reads
-use Rattle.form.proofs.lists.after.Reads as after-reads
-use Rattle.form.proofs.lists.begins.Reads as begins-reads
-use Rattle.form.proofs.lists.own_end.Reads as own-end-reads
-use Rattle.form.proofs.lists.own_start.Reads as own-start-reads
-use Rattle.layout.proofs.construct_at.Reads as construct-at-reads
 
--- src/lists.rt:110:9
 construct-word-requires : tie.Need-construct-word-requires
 construct-word-requires c κs = search needs
 
--- src/lists.rt:111:9
 construct-word-requires-2 : tie.Need-construct-word-requires-2
 construct-word-requires-2 c κs = search needs
 
--- src/lists.rt:112:9
 after-requires : tie.Need-after-requires
 after-requires c κs = search needs
 
--- src/lists.rt:113:9
 construct-at-requires : tie.Need-construct-at-requires
 construct-at-requires c κs = search needs
 
--- src/lists.rt:115:9
 begins-requires : tie.Need-begins-requires
 begins-requires c κs = search needs
 
--- src/lists.rt:116:22
 own-start-requires : tie.Need-own-start-requires
 own-start-requires c κs = search needs
 
--- src/lists.rt:116:44
 own-end-requires : tie.Need-own-end-requires
 own-end-requires c κs = search needs
 
--- src/lists.rt:116:9
 begins-requires-2 : tie.Need-begins-requires-2
 begins-requires-2 c κs = search needs
 
--- src/lists.rt:114:5
 both-requires : tie.Need-both-requires
 both-requires c κs = search needs
 
--- src/lists.rt:106:1
 returns : tie.Need-returns
 returns c = simp (c .both .ensures, c .before .begins2 .ensures, c .before .before .own-end .ensures, c .before .before .before .own-start .ensures, c .before .before .before .before .begins .ensures, c .before .before .before .before .before .construct-at .ensures, c .before .before .before .before .before .before .after .ensures, c .before .before .before .before .before .before .before .construct-word2 .ensures .0, c .before .before .before .before .before .before .before .before .construct-word .ensures .0)
 

@@ -1,4 +1,4 @@
-use Prim.Native.Nat.{ℕ, _+_, _-_, _≤_}
+use Prim.Native.Nat.{ℕ, _-_}
 use mathlib.Core.Path.{_≡_, refl, sym, ap, _∙_}
 use native.Mathlib.Omega.{arith}
 use borrow.Author.Needs.{needs}
@@ -7,10 +7,6 @@ use Rattle.form.proofs.Every.{every-turn, every-stop, every-end}
 use Rattle.form.specs.Lists.{term-laid}
 use Rattle.form.proofs.lists.terms_laid.Statement.{statement}
 use Rattle.form.proofs.lists.terms_laid.Tie as tie
-use Rattle.form.proofs.lists.terms_laid.Reads as reads
-use Rattle.form.proofs.lists.terms_laid.Lts as lts
-use Rattle.form.proofs.lists.term.Reads as term-reads
-use Rattle.layout.proofs.word.Reads as word-reads
 
 abbrev Inv-loop : tie.InvT-loop
 Inv-loop table count t₀ t = from-to t count (term-laid table) ≡ from-to 0 count (term-laid table)
@@ -18,35 +14,27 @@ Inv-loop table count t₀ t = from-to t count (term-laid table) ≡ from-to 0 co
 abbrev μ-loop : tie.MeasureT-loop
 μ-loop table count t₀ t = count - t
 
--- src/lists.rt:215:9
 word-requires : tie.Need-word-requires Inv-loop μ-loop
 word-requires c κs = search needs
 
--- src/lists.rt:217:5
 loop-holds : tie.Need-loop-holds Inv-loop μ-loop
 loop-holds c = refl
 
--- src/lists.rt:218:12
 term-requires : tie.Need-term-requires Inv-loop μ-loop
 term-requires c κs = search needs
 
--- src/lists.rt:219:13
 add-t : tie.Need-add-t Inv-loop μ-loop
 add-t c = omega arith
 
--- src/lists.rt:217:5
 loop-less : tie.Need-loop-less Inv-loop μ-loop
 loop-less c = omega arith
 
--- src/lists.rt:217:5
 loop-again : tie.Need-loop-again Inv-loop μ-loop
 loop-again c = sym (every-turn _ _ (term-laid (c .before .before .before .before .before .before .args .table .now)) (c .before .before .loop-test .taken) (sym (c .before .term .ensures) ∙ c .if1 .taken)) ∙ c .before .before .before .loop .inv
 
--- src/lists.rt:221:13
 returns : tie.Need-returns Inv-loop μ-loop
 returns c = sym (every-stop _ _ (term-laid (c .before .before .before .before .before .before .args .table .now)) (c .before .before .loop-test .taken) (sym (c .before .term .ensures) ∙ c .if1 .left)) ∙ c .before .before .before .loop .inv ∙ ap (λ (n : ℕ). from-to 0 n (term-laid (c .before .before .before .before .before .before .args .table .now))) (c .before .before .before .before .word .ensures .0)
 
--- src/lists.rt:212:1
 returns-2 : tie.Need-returns-2 Inv-loop μ-loop
 returns-2 c = sym (every-end _ _ (term-laid (c .before .before .before .before .args .table .now)) (c .loop-test .left)) ∙ c .before .loop .inv ∙ ap (λ (n : ℕ). from-to 0 n (term-laid (c .before .before .before .before .args .table .now))) (c .before .before .word .ensures .0)
 

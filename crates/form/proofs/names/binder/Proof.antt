@@ -1,86 +1,64 @@
 use borrow.Author.Needs.{needs}
 use Rattle.form.proofs.names.binder.Statement.{statement}
 use Rattle.form.proofs.names.binder.Tie as tie
-use Rattle.form.proofs.names.binder.Reads as reads
-use Rattle.form.proofs.names.binder.Lts as lts
 
--- src/names.rt:28:31
 enum-told : tie.Need-enum-told
 enum-told c = search needs
 
--- src/names.rt:29:47
 enum-told-2 : tie.Need-enum-told-2
 enum-told-2 c = search needs
 
--- src/names.rt:30:49
 enum-told-3 : tie.Need-enum-told-3
 enum-told-3 c = search needs
 
--- src/names.rt:31:57
 enum-told-4 : tie.Need-enum-told-4
 enum-told-4 c = search needs
 
--- src/names.rt:32:42
 enum-told-5 : tie.Need-enum-told-5
 enum-told-5 c = search needs
 
--- src/names.rt:33:39
 enum-told-6 : tie.Need-enum-told-6
 enum-told-6 c = search needs
 
--- src/names.rt:34:45
 enum-told-7 : tie.Need-enum-told-7
 enum-told-7 c = search needs
 
--- src/names.rt:35:49
 enum-told-8 : tie.Need-enum-told-8
 enum-told-8 c = search needs
 
--- src/names.rt:40:13
 enum-known-construct : tie.Need-enum-known-construct
 enum-known-construct c = search needs
 
--- src/names.rt:42:27
 enum-told-9 : tie.Need-enum-told-9
 enum-told-9 c = search needs
 
--- src/names.rt:24:1
 returns : tie.Need-returns
 returns c = simp (c .enum-told .given .1)
 
--- src/names.rt:24:1
 returns-2 : tie.Need-returns-2
 returns-2 c = simp (c .enum-told2 .given .1)
 
--- src/names.rt:24:1
 returns-3 : tie.Need-returns-3
 returns-3 c = simp (c .enum-told3 .given .1)
 
--- src/names.rt:24:1
 returns-4 : tie.Need-returns-4
 returns-4 c = simp (c .enum-told4 .given .1)
 
--- src/names.rt:24:1
 returns-5 : tie.Need-returns-5
 returns-5 c = simp (c .enum-told5 .given .1)
 
--- src/names.rt:24:1
 returns-6 : tie.Need-returns-6
 returns-6 c = simp (c .enum-told6 .given .1)
 
--- src/names.rt:24:1
 returns-7 : tie.Need-returns-7
 returns-7 c = simp (c .enum-told7 .given .1)
 
--- src/names.rt:24:1
 returns-8 : tie.Need-returns-8
 returns-8 c = simp (c .enum-told8 .given .1)
 
--- src/names.rt:24:1
 returns-9 : tie.Need-returns-9
 returns-9 c = simp (c .before .construct .given .1)
 
--- src/names.rt:24:1
 returns-10 : tie.Need-returns-10
 returns-10 c = simp (c .enum-told9 .given .1)
 

@@ -1,5 +1,5 @@
-use Prim.Native.Nat.{ℕ, _+_, _-_, _≤_, _<_}
-use mathlib.Core.Path.{_≡_, refl, sym, ap, _∙_}
+use Prim.Native.Nat.{_+_, _-_, _≤_, _<_}
+use mathlib.Core.Path.{sym, _∙_}
 use native.Mathlib.Omega.{arith}
 use borrow.Author.Needs.{needs}
 use borrow.Author.Tests.{ltb-true}
@@ -9,11 +9,6 @@ use Rattle.form.proofs.Walks.{Walking, both-first, walk-start, walk-tur
 use Rattle.form.specs.Rules.{member-laid, next-variable, binders-from}
 use Rattle.form.proofs.names.binders.Statement.{statement}
 use Rattle.form.proofs.names.binders.Tie as tie
-use Rattle.form.proofs.names.binders.Reads as reads
-use Rattle.form.proofs.names.binders.Lts as lts
-use Rattle.form.proofs.checks.size_at.Reads as size-at-reads
-use Rattle.form.proofs.names.member.Reads as member-reads
-use Rattle.form.proofs.names.next_variable.Reads as next-variable-reads
 
 abbrev Inv-loop : tie.InvT-loop
 Inv-loop table start end first last j₀ x₀ j x = Walking table (member-laid table) (next-variable table) (λ k y. eqb y last) end (binders-from table start end first last) j x × (x ≤ first + j)
@@ -21,39 +16,30 @@ Inv-loop table start end first last j₀ x₀ j x = Walking table (member-laid t
 abbrev μ-loop : tie.MeasureT-loop
 μ-loop table start end first last j₀ x₀ j x = end - j
 
--- src/names.rt:108:5
 loop-holds : tie.Need-loop-holds Inv-loop μ-loop
 loop-holds c = (walk-start (c .before .args .table .now) (member-laid (c .before .args .table .now)) (next-variable (c .before .args .table .now)) (λ k y. eqb y (c .before .args .last)) (c .before .args .end) (c .before .args .start) (c .before .args .first), omega arith)
 
--- src/names.rt:109:12
 member-requires : tie.Need-member-requires Inv-loop μ-loop
 member-requires c κs = search needs
 
--- src/names.rt:110:13
 next-variable-requires : tie.Need-next-variable-requires Inv-loop μ-loop
 next-variable-requires c κs = search needs
 
--- src/names.rt:111:18
 size-at-requires : tie.Need-size-at-requires Inv-loop μ-loop
 size-at-requires c κs = search needs
 
--- src/names.rt:111:13
 add-j : tie.Need-add-j Inv-loop μ-loop
 add-j c = omega (arith, c .size-at .ensures .1)
 
--- src/names.rt:108:5
 loop-less : tie.Need-loop-less Inv-loop μ-loop
 loop-less c = let grows : 0 < size-at (c .before .before .before .before .before .before .before .args .table .now) (c .before .before .before .before .before .loop .j) = ltb-true _ _ (both-first _ _ (sym (c .before .before .before .member .ensures) ∙ c .before .before .if1 .taken)) in omega (arith, c .size-at .ensures .0)
 
--- src/names.rt:108:5
 loop-again : tie.Need-loop-again Inv-loop μ-loop
 loop-again c = let grows : 0 < size-at (c .before .before .before .before .before .before .before .args .table .now) (c .before .before .before .before .before .loop .j) = ltb-true _ _ (both-first _ _ (sym (c .before .before .before .member .ensures) ∙ c .before .before .if1 .taken)) in (rw (c .size-at .ensures .0, c .before .next-variable .ensures .0) (walk-turn _ _ _ _ _ _ _ (c .before .before .before .before .before .loop .inv .0) (c .before .before .before .before .loop-test .taken) (sym (c .before .before .before .member .ensures) ∙ c .before .before .if1 .taken)), omega (arith, c .size-at .ensures .0, c .before .next-variable .ensures .1))
 
--- src/names.rt:113:13
 returns : tie.Need-returns Inv-loop μ-loop
 returns c = sym (walk-stop _ _ _ _ _ _ _ (c .before .before .before .loop .inv .0) (c .before .before .loop-test .taken) (sym (c .before .member .ensures) ∙ c .if1 .left))
 
--- src/names.rt:102:1
 returns-2 : tie.Need-returns-2 Inv-loop μ-loop
 returns-2 c = sym (walk-end _ _ _ _ _ _ _ (c .before .loop .inv .0) (c .loop-test .left))
 

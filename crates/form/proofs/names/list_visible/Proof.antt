@@ -1,4 +1,4 @@
-use Prim.Native.Nat.{ℕ, _+_, _-_, _≤_}
+use Prim.Native.Nat.{ℕ, _-_}
 use mathlib.Core.Path.{_≡_, refl, sym, ap, _∙_}
 use native.Mathlib.Omega.{arith}
 use borrow.Author.Needs.{needs}
@@ -10,11 +10,6 @@ use Rattle.layout.specs.Held.{term-words}
 use Rattle.form.specs.Rules.{term-named}
 use Rattle.form.proofs.names.list_visible.Statement.{statement}
 use Rattle.form.proofs.names.list_visible.Tie as tie
-use Rattle.form.proofs.names.list_visible.Reads as reads
-use Rattle.form.proofs.names.list_visible.Lts as lts
-use Rattle.form.proofs.lists.term_words.Reads as term-words-reads
-use Rattle.form.proofs.names.term_visible.Reads as term-visible-reads
-use Rattle.terms.proofs.decode.term_at.Reads as term-at-reads
 
 abbrev Inv-loop : tie.InvT-loop
 Inv-loop table first last i start end words t₀ t = from-to t end (λ u. term-named table first last i (termAt (term-words table) u)) ≡ from-to start end (λ u. term-named table first last i (termAt (term-words table) u))
@@ -22,39 +17,30 @@ Inv-loop table first last i start end words t₀ t = from-to t end (λ u. term-n
 abbrev μ-loop : tie.MeasureT-loop
 μ-loop table first last i start end words t₀ t = end - t
 
--- src/names.rt:213:9
 term-words-requires : tie.Need-term-words-requires Inv-loop μ-loop
 term-words-requires c κs = search needs
 
--- src/names.rt:215:5
 loop-holds : tie.Need-loop-holds Inv-loop μ-loop
 loop-holds c = refl
 
--- src/names.rt:216:48
 term-at-requires : tie.Need-term-at-requires Inv-loop μ-loop
 term-at-requires c κs = search needs
 
--- src/names.rt:216:12
 term-visible-requires : tie.Need-term-visible-requires Inv-loop μ-loop
 term-visible-requires c κs = search needs
 
--- src/names.rt:217:13
 add-t : tie.Need-add-t Inv-loop μ-loop
 add-t c = omega arith
 
--- src/names.rt:215:5
 loop-less : tie.Need-loop-less Inv-loop μ-loop
 loop-less c = omega arith
 
--- src/names.rt:215:5
 loop-again : tie.Need-loop-again Inv-loop μ-loop
 loop-again c = sym (every-turn _ _ (λ u. term-named (c .before .before .before .before .before .before .before .args .table .now) (c .before .before .before .before .before .before .before .args .first) (c .before .before .before .before .before .before .before .args .last) (c .before .before .before .before .before .before .before .args .i) (termAt (term-words (c .before .before .before .before .before .before .before .args .table .now)) u)) (c .before .before .before .loop-test .taken) (sym (c .before .term-visible .ensures ∙ ap (term-named (c .before .before .before .before .before .before .before .args .table .now) (c .before .before .before .before .before .before .before .args .first) (c .before .before .before .before .before .before .before .args .last) (c .before .before .before .before .before .before .before .args .i)) (c .before .before .term-at .ensures ∙ ap (λ (ws : List ℕ). termAt ws (c .before .before .before .before .loop .t)) (c .before .before .before .before .before .term-words .ensures))) ∙ c .if1 .taken)) ∙ c .before .before .before .before .loop .inv
 
--- src/names.rt:219:13
 returns : tie.Need-returns Inv-loop μ-loop
 returns c = sym (every-stop _ _ (λ u. term-named (c .before .before .before .before .before .before .before .args .table .now) (c .before .before .before .before .before .before .before .args .first) (c .before .before .before .before .before .before .before .args .last) (c .before .before .before .before .before .before .before .args .i) (termAt (term-words (c .before .before .before .before .before .before .before .args .table .now)) u)) (c .before .before .before .loop-test .taken) (sym (c .before .term-visible .ensures ∙ ap (term-named (c .before .before .before .before .before .before .before .args .table .now) (c .before .before .before .before .before .before .before .args .first) (c .before .before .before .before .before .before .before .args .last) (c .before .before .before .before .before .before .before .args .i)) (c .before .before .term-at .ensures ∙ ap (λ (ws : List ℕ). termAt ws (c .before .before .before .before .loop .t)) (c .before .before .before .before .before .term-words .ensures))) ∙ c .if1 .left)) ∙ c .before .before .before .before .loop .inv
 
--- src/names.rt:202:1
 returns-2 : tie.Need-returns-2 Inv-loop μ-loop
 returns-2 c = sym (every-end _ _ (λ u. term-named (c .before .before .before .before .args .table .now) (c .before .before .before .before .args .first) (c .before .before .before .before .args .last) (c .before .before .before .before .args .i) (termAt (term-words (c .before .before .before .before .args .table .now)) u)) (c .loop-test .left)) ∙ c .before .loop .inv
 

@@ -2,32 +2,22 @@ use borrow.Author.Tests.{eq-eqb, le-leb, le-ltb, lt-leb, lt-ltb, ne-eqb}
 use borrow.Author.Needs.{needs}
 use Rattle.form.proofs.names.named_back.Statement.{statement}
 use Rattle.form.proofs.names.named_back.Tie as tie
-use Rattle.form.proofs.names.named_back.Reads as reads
-use Rattle.form.proofs.names.named_back.Lts as lts
-use Rattle.form.proofs.checks.variable_word.Reads as variable-word-reads
-use Rattle.layout.proofs.word.Reads as word-reads
 
--- src/names.rt:51:9
 returns : tie.Need-returns
 returns c = simp (eq-eqb _ _ (c .if1 .taken))
 
--- src/names.rt:53:8
 word-requires : tie.Need-word-requires
 word-requires c κs = search needs
 
--- src/names.rt:54:9
 returns-2 : tie.Need-returns-2
 returns-2 c = simp (lt-ltb _ _ (c .if2 .taken), lt-leb _ _ (c .if2 .taken), ← c .before .word .ensures .0, ne-eqb _ _ (c .before .before .if1 .left))
 
--- src/names.rt:56:26
 sub-variable-word : tie.Need-sub-variable-word
 sub-variable-word c = search needs
 
--- src/names.rt:56:5
 variable-word-requires : tie.Need-variable-word-requires
 variable-word-requires c κs = search needs
 
--- src/names.rt:47:1
 returns-3 : tie.Need-returns-3
 returns-3 c = simp (c .variable-word .ensures .0, le-leb _ _ (c .before .if2 .left), le-ltb _ _ (c .before .if2 .left), ← c .before .before .word .ensures .0, ne-eqb _ _ (c .before .before .before .if1 .left))
 

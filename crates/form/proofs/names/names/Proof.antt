@@ -1,4 +1,4 @@
-use Prim.Native.Nat.{ℕ, _+_, _-_, _≤_}
+use Prim.Native.Nat.{ℕ, _-_}
 use mathlib.Core.Path.{_≡_, refl, sym, ap, _∙_}
 use native.Mathlib.Omega.{arith}
 use borrow.Author.Needs.{needs}
@@ -9,12 +9,6 @@ use Rattle.layout.specs.Constructs.{both}
 use Rattle.form.specs.Rules.{binders-laid, uses-laid}
 use Rattle.form.proofs.names.names.Statement.{statement}
 use Rattle.form.proofs.names.names.Tie as tie
-use Rattle.form.proofs.names.names.Reads as reads
-use Rattle.form.proofs.names.names.Lts as lts
-use Rattle.form.proofs.checks.both.Reads as both-reads
-use Rattle.form.proofs.names.rule_binders.Reads as rule-binders-reads
-use Rattle.form.proofs.names.rule_uses.Reads as rule-uses-reads
-use Rattle.layout.proofs.word.Reads as word-reads
 
 abbrev Inv-loop : tie.InvT-loop
 Inv-loop table count r₀ r = from-to r count (λ q. both (binders-laid table q) (uses-laid table q)) ≡ from-to 0 count (λ q. both (binders-laid table q) (uses-laid table q))
@@ -22,43 +16,33 @@ Inv-loop table count r₀ r = from-to r count (λ q. both (binders-laid table q)
 abbrev μ-loop : tie.MeasureT-loop
 μ-loop table count r₀ r = count - r
 
--- src/names.rt:280:9
 word-requires : tie.Need-word-requires Inv-loop μ-loop
 word-requires c κs = search needs
 
--- src/names.rt:282:5
 loop-holds : tie.Need-loop-holds Inv-loop μ-loop
 loop-holds c = refl
 
--- src/names.rt:283:17
 rule-binders-requires : tie.Need-rule-binders-requires Inv-loop μ-loop
 rule-binders-requires c κs = search needs
 
--- src/names.rt:283:41
 rule-uses-requires : tie.Need-rule-uses-requires Inv-loop μ-loop
 rule-uses-requires c κs = search needs
 
--- src/names.rt:283:12
 both-requires : tie.Need-both-requires Inv-loop μ-loop
 both-requires c κs = search needs
 
--- src/names.rt:284:13
 add-r : tie.Need-add-r Inv-loop μ-loop
 add-r c = omega arith
 
--- src/names.rt:282:5
 loop-less : tie.Need-loop-less Inv-loop μ-loop
 loop-less c = omega arith
 
--- src/names.rt:282:5
 loop-again : tie.Need-loop-again Inv-loop μ-loop
 loop-again c = sym (every-turn _ _ (λ q. both (binders-laid (c .before .before .before .before .before .before .before .before .args .table .now) q) (uses-laid (c .before .before .before .before .before .before .before .before .args .table .now) q)) (c .before .before .before .before .loop-test .taken) (sym (c .before .both .ensures ∙ ap (λ (b : Bool). both b (c .before .before .rule-uses .result)) (c .before .before .before .rule-binders .ensures) ∙ ap (both (binders-laid (c .before .before .before .before .before .before .before .before .args .table .now) (c .before .before .before .before .before .loop .r))) (c .before .before .rule-uses .ensures)) ∙ c .if1 .taken)) ∙ c .before .before .before .before .before .loop .inv
 
--- src/names.rt:286:13
 returns : tie.Need-returns Inv-loop μ-loop
 returns c = sym (every-stop _ _ (λ q. both (binders-laid (c .before .before .before .before .before .before .before .before .args .table .now) q) (uses-laid (c .before .before .before .before .before .before .before .before .args .table .now) q)) (c .before .before .before .before .loop-test .taken) (sym (c .before .both .ensures ∙ ap (λ (b : Bool). both b (c .before .before .rule-uses .result)) (c .before .before .before .rule-binders .ensures) ∙ ap (both (binders-laid (c .before .before .before .before .before .before .before .before .args .table .now) (c .before .before .before .before .before .loop .r))) (c .before .before .rule-uses .ensures)) ∙ c .if1 .left)) ∙ c .before .before .before .before .before .loop .inv ∙ ap (λ (n : ℕ). from-to 0 n (λ q. both (binders-laid (c .before .before .before .before .before .before .before .before .args .table .now) q) (uses-laid (c .before .before .before .before .before .before .before .before .args .table .now) q))) (c .before .before .before .before .before .before .word .ensures .0)
 
--- src/names.rt:276:1
 returns-2 : tie.Need-returns-2 Inv-loop μ-loop
 returns-2 c = sym (every-end _ _ (λ q. both (binders-laid (c .before .before .before .before .args .table .now) q) (uses-laid (c .before .before .before .before .args .table .now) q)) (c .loop-test .left)) ∙ c .before .loop .inv ∙ ap (λ (n : ℕ). from-to 0 n (λ q. both (binders-laid (c .before .before .before .before .args .table .now) q) (uses-laid (c .before .before .before .before .args .table .now) q))) (c .before .before .word .ensures .0)
 

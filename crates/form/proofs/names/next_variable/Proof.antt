@@ -3,28 +3,19 @@ use borrow.Author.Tests.{le-leb, le-ltb, lt-leb, lt-ltb}
 use borrow.Author.Needs.{needs}
 use Rattle.form.proofs.names.next_variable.Statement.{statement}
 use Rattle.form.proofs.names.next_variable.Tie as tie
-use Rattle.form.proofs.names.next_variable.Reads as reads
-use Rattle.form.proofs.names.next_variable.Lts as lts
-use Rattle.form.proofs.names.binder.Reads as binder-reads
-use Rattle.layout.proofs.construct_at.Reads as construct-at-reads
 
--- src/names.rt:95:19
 construct-at-requires : tie.Need-construct-at-requires
 construct-at-requires c κs = search needs
 
--- src/names.rt:95:12
 binder-requires : tie.Need-binder-requires
 binder-requires c κs = search needs
 
--- src/names.rt:96:16
 add-result : tie.Need-add-result
 add-result c = search needs
 
--- src/names.rt:96:9
 returns : tie.Need-returns
 returns c = (simp (lt-ltb _ _ (c .if1 .taken), lt-leb _ _ (c .if1 .taken), ← c .before .binder .ensures, ← c .before .before .construct-at .ensures), omega arith)
 
--- src/names.rt:91:1
 returns-2 : tie.Need-returns-2
 returns-2 c = (simp (le-leb _ _ (c .if1 .left), le-ltb _ _ (c .if1 .left), ← c .before .binder .ensures, ← c .before .before .construct-at .ensures), omega arith)
 

@@ -1,5 +1,5 @@
-use Prim.Native.Nat.{ℕ, _+_, _-_, _≤_}
-use mathlib.Core.Path.{_≡_, refl, sym, ap, _∙_}
+use Prim.Native.Nat.{_-_}
+use mathlib.Core.Path.{_≡_, refl, sym, _∙_}
 use native.Mathlib.Omega.{arith}
 use borrow.Author.Needs.{needs}
 use Rattle.form.specs.Checks.{from-to}
@@ -7,11 +7,6 @@ use Rattle.form.proofs.Every.{every-turn, every-stop, every-end}
 use Rattle.form.specs.Rules.{construct-named}
 use Rattle.form.proofs.names.rule_uses.Statement.{statement}
 use Rattle.form.proofs.names.rule_uses.Tie as tie
-use Rattle.form.proofs.names.rule_uses.Reads as reads
-use Rattle.form.proofs.names.rule_uses.Lts as lts
-use Rattle.form.proofs.checks.rule_word.Reads as rule-word-reads
-use Rattle.form.proofs.names.construct_visible.Reads as construct-visible-reads
-use Rattle.form.proofs.rules.rule_end.Reads as rule-end-reads
 
 abbrev Inv-loop : tie.InvT-loop
 Inv-loop table r first last end i₀ i = from-to i end (construct-named table first last) ≡ from-to i₀ end (construct-named table first last)
@@ -19,47 +14,36 @@ Inv-loop table r first last end i₀ i = from-to i end (construct-named table fi
 abbrev μ-loop : tie.MeasureT-loop
 μ-loop table r first last end i₀ i = end - i
 
--- src/names.rt:262:9
 rule-word-requires : tie.Need-rule-word-requires Inv-loop μ-loop
 rule-word-requires c κs = search needs
 
--- src/names.rt:263:9
 rule-end-requires : tie.Need-rule-end-requires Inv-loop μ-loop
 rule-end-requires c κs = search needs
 
--- src/names.rt:264:9
 rule-end-requires-2 : tie.Need-rule-end-requires-2 Inv-loop μ-loop
 rule-end-requires-2 c κs = search needs
 
--- src/names.rt:265:9
 rule-word-requires-2 : tie.Need-rule-word-requires-2 Inv-loop μ-loop
 rule-word-requires-2 c κs = search needs
 
--- src/names.rt:266:5
 loop-holds : tie.Need-loop-holds Inv-loop μ-loop
 loop-holds c = refl
 
--- src/names.rt:267:12
 construct-visible-requires : tie.Need-construct-visible-requires Inv-loop μ-loop
 construct-visible-requires c κs = search needs
 
--- src/names.rt:268:13
 add-i : tie.Need-add-i Inv-loop μ-loop
 add-i c = omega arith
 
--- src/names.rt:266:5
 loop-less : tie.Need-loop-less Inv-loop μ-loop
 loop-less c = omega arith
 
--- src/names.rt:266:5
 loop-again : tie.Need-loop-again Inv-loop μ-loop
 loop-again c = sym (every-turn _ _ (construct-named (c .before .before .before .before .before .before .before .before .before .args .table .now) (c .before .before .before .before .before .before .before .rule-word .result) (c .before .before .before .before .before .before .rule-end .result)) (c .before .before .loop-test .taken) (sym (c .before .construct-visible .ensures) ∙ c .if1 .taken)) ∙ c .before .before .before .loop .inv
 
--- src/names.rt:270:13
 returns : tie.Need-returns Inv-loop μ-loop
 returns c = sym (every-stop _ _ (construct-named (c .before .before .before .before .before .before .before .before .before .args .table .now) (c .before .before .before .before .before .before .before .rule-word .result) (c .before .before .before .before .before .before .rule-end .result)) (c .before .before .loop-test .taken) (sym (c .before .construct-visible .ensures) ∙ c .if1 .left)) ∙ c .before .before .before .loop .inv ∙ simp (c .before .before .before .before .before .before .before .rule-word .ensures .0, c .before .before .before .before .before .before .rule-end .ensures .0, c .before .before .before .before .before .rule-end2 .ensures .0, c .before .before .before .before .rule-word2 .ensures .0)
 
--- src/names.rt:258:1
 returns-2 : tie.Need-returns-2 Inv-loop μ-loop
 returns-2 c = sym (every-end _ _ (construct-named (c .before .before .before .before .before .before .before .args .table .now) (c .before .before .before .before .before .rule-word .result) (c .before .before .before .before .rule-end .result)) (c .loop-test .left)) ∙ c .before .loop .inv ∙ simp (c .before .before .before .before .before .rule-word .ensures .0, c .before .before .before .before .rule-end .ensures .0, c .before .before .before .rule-end2 .ensures .0, c .before .before .rule-word2 .ensures .0)
 

@@ -1,72 +1,49 @@
 use borrow.Author.Needs.{needs}
 use Rattle.form.proofs.names.variable.Statement.{statement}
 use Rattle.form.proofs.names.variable.Tie as tie
-use Rattle.form.proofs.names.variable.Reads as reads
-use Rattle.form.proofs.names.variable.Lts as lts
-use Rattle.form.proofs.checks.both.Reads as both-reads
-use Rattle.form.proofs.checks.construct_word.Reads as construct-word-reads
-use Rattle.form.proofs.checks.variable_word.Reads as variable-word-reads
-use Rattle.form.proofs.checks.zeros.Reads as zeros-reads
-use Rattle.form.proofs.names.binder.Reads as binder-reads
-use Rattle.layout.proofs.construct_at.Reads as construct-at-reads
 
--- src/names.rt:67:20
 mul-at : tie.Need-mul-at
 mul-at c = search needs
 
--- src/names.rt:67:14
 add-at : tie.Need-add-at
 add-at c = search needs
 
--- src/names.rt:70:20
 construct-at-requires : tie.Need-construct-at-requires
 construct-at-requires c κs = search needs
 
--- src/names.rt:70:13
 binder-requires : tie.Need-binder-requires
 binder-requires c κs = search needs
 
--- src/names.rt:70:47
 add-both : tie.Need-add-both
 add-both c = search needs
 
--- src/names.rt:71:13
 variable-word-requires : tie.Need-variable-word-requires
 variable-word-requires c κs = search needs
 
--- src/names.rt:69:9
 both-requires : tie.Need-both-requires
 both-requires c κs = search needs
 
--- src/names.rt:74:13
 variable-word-requires-2 : tie.Need-variable-word-requires-2
 variable-word-requires-2 c κs = search needs
 
--- src/names.rt:74:43
 construct-word-requires : tie.Need-construct-word-requires
 construct-word-requires c κs = search needs
 
--- src/names.rt:75:26
 add-zeros : tie.Need-add-zeros
 add-zeros c = search needs
 
--- src/names.rt:75:34
 add-zeros-2 : tie.Need-add-zeros-2
 add-zeros-2 c = search needs
 
--- src/names.rt:75:13
 zeros-requires : tie.Need-zeros-requires
 zeros-requires c κs = search needs
 
--- src/names.rt:73:9
 both-requires-2 : tie.Need-both-requires-2
 both-requires-2 c κs = search needs
 
--- src/names.rt:68:5
 both-requires-3 : tie.Need-both-requires-3
 both-requires-3 c κs = search needs
 
--- src/names.rt:63:1
 returns : tie.Need-returns
 returns c = simp (c .both3 .ensures, c .before .both2 .ensures, c .before .before .zeros .ensures, c .before .before .before .construct-word .ensures .0, c .before .before .before .before .variable-word2 .ensures .0, c .before .before .before .before .before .both .ensures, c .before .before .before .before .before .before .variable-word .ensures .0, c .before .before .before .before .before .before .before .binder .ensures, c .before .before .before .before .before .before .before .before .construct-at .ensures)
 

@@ -2,24 +2,16 @@ use borrow.Author.Tests.{le-leb, le-ltb, lt-leb, lt-ltb}
 use borrow.Author.Needs.{needs}
 use Rattle.form.proofs.names.visible.Statement.{statement}
 use Rattle.form.proofs.names.visible.Tie as tie
-use Rattle.form.proofs.names.visible.Reads as reads
-use Rattle.form.proofs.names.visible.Lts as lts
-use Rattle.form.proofs.checks.both.Reads as both-reads
-use Rattle.form.proofs.checks.variable_word.Reads as variable-word-reads
 
--- src/names.rt:156:9
 returns : tie.Need-returns
 returns c = simp (le-leb _ _ (c .if1 .taken), le-ltb _ _ (c .if1 .taken))
 
--- src/names.rt:158:22
 variable-word-requires : tie.Need-variable-word-requires
 variable-word-requires c κs = search needs
 
--- src/names.rt:158:5
 both-requires : tie.Need-both-requires
 both-requires c κs = search needs
 
--- src/names.rt:151:1
 returns-2 : tie.Need-returns-2
 returns-2 c = simp (c .both .ensures, c .before .variable-word .ensures .0, lt-ltb _ _ (c .before .before .if1 .left), lt-leb _ _ (c .before .before .if1 .left))
 

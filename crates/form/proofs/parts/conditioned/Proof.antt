@@ -1,29 +1,19 @@
 use borrow.Author.Needs.{needs}
 use Rattle.form.proofs.parts.conditioned.Statement.{statement}
 use Rattle.form.proofs.parts.conditioned.Tie as tie
-use Rattle.form.proofs.parts.conditioned.Reads as reads
-use Rattle.form.proofs.parts.conditioned.Lts as lts
-use Rattle.form.proofs.checks.both.Reads as both-reads
-use Rattle.form.proofs.checks.construct_word.Reads as construct-word-reads
-use Rattle.layout.proofs.word.Reads as word-reads
 
--- src/parts.rt:15:9
 construct-word-requires : tie.Need-construct-word-requires
 construct-word-requires c κs = search needs
 
--- src/parts.rt:16:9
 construct-word-requires-2 : tie.Need-construct-word-requires-2
 construct-word-requires-2 c κs = search needs
 
--- src/parts.rt:17:30
 word-requires : tie.Need-word-requires
 word-requires c κs = search needs
 
--- src/parts.rt:17:5
 both-requires : tie.Need-both-requires
 both-requires c κs = search needs
 
--- src/parts.rt:11:1
 returns : tie.Need-returns
 returns c = simp (c .both .ensures, c .before .word .ensures .0, c .before .before .construct-word2 .ensures .0, c .before .before .before .construct-word .ensures .0)
 

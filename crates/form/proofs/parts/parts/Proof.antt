@@ -1,6 +1,6 @@
 use Rattle.form.specs.Checks.{size-at}
-use Prim.Native.Nat.{ℕ, _+_, _-_, _≤_, _<_}
-use mathlib.Core.Path.{_≡_, refl, sym, ap, _∙_}
+use Prim.Native.Nat.{_-_, _<_}
+use mathlib.Core.Path.{sym, _∙_}
 use native.Mathlib.Omega.{arith}
 use borrow.Author.Needs.{needs}
 use borrow.Author.Tests.{ltb-true}
@@ -9,10 +9,6 @@ use Rattle.form.specs.Parts.{part-laid, parts-laid}
 use Rattle.form.proofs.Walks.{Walking, both-first, walk-start, walk-turn, walk-stop, walk-end}
 use Rattle.form.proofs.parts.parts.Statement.{statement}
 use Rattle.form.proofs.parts.parts.Tie as tie
-use Rattle.form.proofs.parts.parts.Reads as reads
-use Rattle.form.proofs.parts.parts.Lts as lts
-use Rattle.form.proofs.checks.size_at.Reads as size-at-reads
-use Rattle.form.proofs.parts.part.Reads as part-reads
 
 abbrev Inv-loop : tie.InvT-loop
 Inv-loop table switch first end j₀ j = Walking table (λ k x. part-laid table switch first k end) (λ k x. x) (λ k x. eqb k end) end (parts-laid table switch first end) j 0
@@ -20,35 +16,27 @@ Inv-loop table switch first end j₀ j = Walking table (λ k x. part-laid table 
 abbrev μ-loop : tie.MeasureT-loop
 μ-loop table switch first end j₀ j = end - j
 
--- src/parts.rt:60:5
 loop-holds : tie.Need-loop-holds Inv-loop μ-loop
 loop-holds c = walk-start (c .before .args .table .now) (λ k x. part-laid (c .before .args .table .now) (c .before .args .switch) (c .before .args .first) k (c .before .args .end)) (λ k x. x) (λ k x. eqb k (c .before .args .end)) (c .before .args .end) (c .before .args .first) 0
 
--- src/parts.rt:61:12
 part-requires : tie.Need-part-requires Inv-loop μ-loop
 part-requires c κs = search needs
 
--- src/parts.rt:62:18
 size-at-requires : tie.Need-size-at-requires Inv-loop μ-loop
 size-at-requires c κs = search needs
 
--- src/parts.rt:62:13
 add-j : tie.Need-add-j Inv-loop μ-loop
 add-j c = omega (arith, c .size-at .ensures .1)
 
--- src/parts.rt:60:5
 loop-less : tie.Need-loop-less Inv-loop μ-loop
 loop-less c = let grows : 0 < size-at (c .before .before .before .before .before .before .args .table .now) (c .before .before .before .before .loop .j) = ltb-true _ _ (both-first _ _ (sym (c .before .before .part .ensures) ∙ c .before .if1 .taken)) in omega (arith, c .size-at .ensures .0)
 
--- src/parts.rt:60:5
 loop-again : tie.Need-loop-again Inv-loop μ-loop
 loop-again c = rw (c .size-at .ensures .0) (walk-turn _ _ _ _ _ _ _ (c .before .before .before .before .loop .inv) (c .before .before .before .loop-test .taken) (sym (c .before .before .part .ensures) ∙ c .before .if1 .taken))
 
--- src/parts.rt:64:13
 returns : tie.Need-returns Inv-loop μ-loop
 returns c = sym (walk-stop _ _ _ _ _ _ _ (c .before .before .before .loop .inv) (c .before .before .loop-test .taken) (sym (c .before .part .ensures) ∙ c .if1 .left))
 
--- src/parts.rt:55:1
 returns-2 : tie.Need-returns-2 Inv-loop μ-loop
 returns-2 c = sym (walk-end _ _ _ _ _ _ _ (c .before .loop .inv) (c .loop-test .left))
 

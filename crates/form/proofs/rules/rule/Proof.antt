@@ -1,71 +1,49 @@
 use borrow.Author.Needs.{needs}
 use Rattle.form.proofs.rules.rule.Statement.{statement}
 use Rattle.form.proofs.rules.rule.Tie as tie
-use Rattle.form.proofs.rules.rule.Reads as reads
-use Rattle.form.proofs.rules.rule.Lts as lts
-use Rattle.form.proofs.checks.both.Reads as both-reads
-use Rattle.form.proofs.checks.rule_word.Reads as rule-word-reads
-use Rattle.form.proofs.checks.size_at.Reads as size-at-reads
-use Rattle.form.proofs.parts.unconditioned.Reads as unconditioned-reads
-use Rattle.form.proofs.rules.rule_end.Reads as rule-end-reads
 
--- src/rules.rt:29:9
 rule-word-requires : tie.Need-rule-word-requires
 rule-word-requires c κs = search needs
 
--- src/rules.rt:30:9
 rule-end-requires : tie.Need-rule-end-requires
 rule-end-requires c κs = search needs
 
--- src/rules.rt:31:21
 rule-word-requires-2 : tie.Need-rule-word-requires-2
 rule-word-requires-2 c κs = search needs
 
--- src/rules.rt:31:46
 rule-word-requires-3 : tie.Need-rule-word-requires-3
 rule-word-requires-3 c κs = search needs
 
--- src/rules.rt:31:21
 add-variables : tie.Need-add-variables
 add-variables c = search needs
 
--- src/rules.rt:33:33
 size-at-requires : tie.Need-size-at-requires
 size-at-requires c κs = search needs
 
--- src/rules.rt:33:26
 add-both : tie.Need-add-both
 add-both c = search needs
 
--- src/rules.rt:33:9
 both-requires : tie.Need-both-requires
 both-requires c κs = search needs
 
--- src/rules.rt:35:26
 rule-end-requires-2 : tie.Need-rule-end-requires-2
 rule-end-requires-2 c κs = search needs
 
--- src/rules.rt:36:18
 rule-word-requires-4 : tie.Need-rule-word-requires-4
 rule-word-requires-4 c κs = search needs
 
--- src/rules.rt:36:47
 unconditioned-requires : tie.Need-unconditioned-requires
 unconditioned-requires c κs = search needs
 
--- src/rules.rt:36:13
 both-requires-2 : tie.Need-both-requires-2
 both-requires-2 c κs = search needs
 
--- src/rules.rt:34:9
 both-requires-3 : tie.Need-both-requires-3
 both-requires-3 c κs = search needs
 
--- src/rules.rt:32:5
 both-requires-4 : tie.Need-both-requires-4
 both-requires-4 c κs = search needs
 
--- src/rules.rt:25:1
 returns : tie.Need-returns
 returns c = simp (c .both4 .ensures, c .before .both3 .ensures, c .before .before .both2 .ensures, c .before .before .before .unconditioned .ensures, c .before .before .before .before .rule-word4 .ensures .0, c .before .before .before .before .before .rule-end2 .ensures .0, c .before .before .before .before .before .before .both .ensures, c .before .before .before .before .before .before .before .size-at .ensures .0, c .before .before .before .before .before .before .before .before .rule-word3 .ensures .0, c .before .before .before .before .before .before .before .before .before .rule-word2 .ensures .0, c .before .before .before .before .before .before .before .before .before .before .rule-end .ensures .0, c .before .before .before .before .before .before .before .before .before .before .before .rule-word .ensures .0)
 

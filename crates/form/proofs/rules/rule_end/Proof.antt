@@ -2,40 +2,28 @@ use borrow.Author.Tests.{le-leb, le-ltb, lt-leb, lt-ltb}
 use borrow.Author.Needs.{needs}
 use Rattle.form.proofs.rules.rule_end.Statement.{statement}
 use Rattle.form.proofs.rules.rule_end.Tie as tie
-use Rattle.form.proofs.rules.rule_end.Reads as reads
-use Rattle.form.proofs.rules.rule_end.Lts as lts
-use Rattle.form.proofs.checks.rule_word.Reads as rule-word-reads
-use Rattle.layout.proofs.word.Reads as word-reads
 
--- src/rules.rt:19:8
 add-if1 : tie.Need-add-if1
 add-if1 c = search needs
 
--- src/rules.rt:19:16
 word-requires : tie.Need-word-requires
 word-requires c κs = search needs
 
--- src/rules.rt:20:33
 add-rule-word : tie.Need-add-rule-word
 add-rule-word c = search needs
 
--- src/rules.rt:20:9
 rule-word-requires : tie.Need-rule-word-requires
 rule-word-requires c κs = search needs
 
--- src/rules.rt:20:9
 returns : tie.Need-returns
 returns c = (simp (c .rule-word .ensures .0, lt-ltb _ _ (c .before .if1 .taken), lt-leb _ _ (c .before .if1 .taken), ← c .before .before .word .ensures .0), c .rule-word .ensures .1)
 
--- src/rules.rt:22:17
 add-word : tie.Need-add-word
 add-word c = search needs
 
--- src/rules.rt:22:5
 word-requires-2 : tie.Need-word-requires-2
 word-requires-2 c κs = search needs
 
--- src/rules.rt:15:1
 returns-2 : tie.Need-returns-2
 returns-2 c = (simp (← c .word2 .ensures .0, le-leb _ _ (c .before .if1 .left), le-ltb _ _ (c .before .if1 .left), ← c .before .before .word .ensures .0), c .word2 .ensures .1)
 
