@@ -42,7 +42,7 @@ module _ {A : Type 0} (P : A → Type 0) (visit : ℕ → A → A) (done broken 
       elim (decide (ltb j end))
       [ inl e ↦ rw (e, walk) (v j _ (ltb-true j end e) (either (eqb (size-of (constructAt ws j)) 0) (walk visit done broken most ws (j + size-of (constructAt ws j)) end) h)) | inr e ↦ rw (e, walk) d ]
 
-  walk-keeps : (most j : ℕ) → P (walk visit done broken most ws j end)
+  pub walk-keeps : (most j : ℕ) → P (walk visit done broken most ws j end)
   unfolding walk
   walk-keeps zero j = d
   walk-keeps (suc most) j = step-keeps most j (walk-keeps most (j + size-of (constructAt ws j)))

@@ -1,3 +1,4 @@
--- Laws of a step's writes and bound.
+-- Laws of a step's writes and bound, and of runs.
 pub mod Places
 pub mod Bounds
+pub mod Running

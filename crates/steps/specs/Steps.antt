@@ -1,7 +1,7 @@
 -- A step over any words: "A step takes the first entry". The list of pending entries is two arrays, the first entry last; `count` of each
 -- are pending, and what stands beyond may be anything.
 -- Assumes nothing.
-use Prim.Native.Nat.{ℕ, zero, suc, _+_, _*_, _-_}
+use Prim.Native.Nat.{ℕ, zero, suc, _+_, _*_, _-_, _≤_}
 use mathlib.Core.Bool.{Bool, true, false}
 use mathlib.Core.Path.{_≡_}
 use mathlib.Core.List.{List}
@@ -121,3 +121,12 @@ step-of ws fs (whole cs ps vs rs h) =
     (pick (eqb (h .count) 0) (whole cs ps vs rs (break h)) (first-step ws fs (getD cs (h .count - 1) 0) (getD ps (h .count - 1) 0) cs ps vs rs h))
     (whole cs ps vs rs (break h)))
     (whole cs ps vs rs h)
+
+-- so many steps
+unfoldable pub steps-of : List ℕ → List ℕ → ℕ → Whole → Whole
+steps-of ws fs zero w = w
+steps-of ws fs (suc n) w = steps-of ws fs n (step-of ws fs w)
+
+-- what 24 asks of a run that may take steps: position within the frame, at most 256 entries, room for the fields recorded
+abbrev pub Fits : List ℕ → Whole → Type 0
+Fits fs (whole cs ps vs rs h) = (h .position ≤ 8 * length fs) × (h .count ≤ 256) × (2 * h .captures ≤ length rs) × (length cs ≡ 256) × (length ps ≡ 256)

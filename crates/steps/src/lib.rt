@@ -3,7 +3,7 @@ ghost use mathlib.Core.Path.{_≡_};
 ghost use Prim.Native.Nat.{ℕ, _+_, _*_, _-_, _≤_, _<_};
 ghost use lib.ListN.{length, getD, set};
 ghost use Rattle.acts.specs.Acts.{bits-of, Doable};
-ghost use Rattle.steps.specs.Steps.{break as breakOf, fail as failOf, verdict-after, taken as takenOf, placed, bind as bindOf, MembersDone, AgainDone, TakeDone, Whole, whole, effect as effectOf, in-bound, first-step, step-of};
+ghost use Rattle.steps.specs.Steps.{break as breakOf, fail as failOf, verdict-after, taken as takenOf, placed, bind as bindOf, MembersDone, AgainDone, TakeDone, Whole, whole, effect as effectOf, in-bound, first-step, step-of, steps-of, Fits};
 use acts::Act;
 
 // What a run holds beside its arrays.
@@ -205,7 +205,7 @@ fn do_take(
     binder: usize,
     value: u64,
 ) -> Head
-    requires { ⌜ (length (now frame) ≤ 256) × (head .steps < 18446744073709551615) × (0 < head .count) × (head .captures < 4294967296) × (i < 4294967296) × (head .position + width ≤ 8 * length (now frame)) × (binder ≤ 64) × (value < 4294967296) ⌝ }
+    requires { ⌜ (length (now frame) ≤ 256) × (head .steps < 18446744073709551615) × (0 < head .count) × (2 * head .captures ≤ length (now reading)) × (i < 4294967296) × (head .position + width ≤ 8 * length (now frame)) × (binder ≤ 64) × (value < 4294967296) ⌝ }
     ensures { λ r. ⌜ TakeDone (now (frame .entry)) (now (values .entry)) (now (reading .entry)) head i width binder value (now (values .exit)) (now (reading .exit)) r ⌝ }
 {
     let captures = head.captures;
@@ -232,7 +232,7 @@ fn do_act(
     k: u32,
     act: Act,
 ) -> Head
-    requires { ⌜ (length (now frame) ≤ 256) × (head .steps < 18446744073709551615) × (0 < head .count) × (head .count ≤ 256) × (head .captures < 4294967296) × (i ≤ 256) × (length (now constructs) ≡ 256) × (length (now passes) ≡ 256) × Doable (now frame) (head .position) act ⌝ }
+    requires { ⌜ (length (now frame) ≤ 256) × (head .steps < 18446744073709551615) × (0 < head .count) × (head .count ≤ 256) × (2 * head .captures ≤ length (now reading)) × (i ≤ 256) × (length (now constructs) ≡ 256) × (length (now passes) ≡ 256) × Doable (now frame) (head .position) act ⌝ }
     ensures { λ r. ⌜ whole (now (constructs .exit)) (now (passes .exit)) (now (values .exit)) (now (reading .exit)) r ≡ effectOf (now (table .entry)) (now (frame .entry)) i k (now (constructs .entry)) (now (passes .entry)) (now (values .entry)) (now (reading .entry)) head act ⌝ }
 {
     let count = head.count;
@@ -278,7 +278,7 @@ fn take_first(
     reading: &mut [u32],
     head: Head,
 ) -> Head
-    requires { ⌜ (16384 ≤ length (now table)) × (length (now frame) ≤ 256) × (head .position ≤ 8 * length (now frame)) × (0 < head .count) × (head .count ≤ 256) × (head .captures < 4294967296) × (head .steps < 18446744073709551615) × (length (now constructs) ≡ 256) × (length (now passes) ≡ 256) ⌝ }
+    requires { ⌜ (16384 ≤ length (now table)) × (length (now frame) ≤ 256) × (head .position ≤ 8 * length (now frame)) × (0 < head .count) × (head .count ≤ 256) × (2 * head .captures ≤ length (now reading)) × (head .steps < 18446744073709551615) × (length (now constructs) ≡ 256) × (length (now passes) ≡ 256) ⌝ }
     ensures { λ r. ⌜ whole (now (constructs .exit)) (now (passes .exit)) (now (values .exit)) (now (reading .exit)) r ≡ first-step (now (table .entry)) (now (frame .entry)) (getD (now (constructs .entry)) (head .count - 1) 0) (getD (now (passes .entry)) (head .count - 1) 0) (now (constructs .entry)) (now (passes .entry)) (now (values .entry)) (now (reading .entry)) head ⌝ }
 {
     let count = head.count;
@@ -313,7 +313,7 @@ pub fn step(
     reading: &mut [u32],
     head: Head,
 ) -> Head
-    requires { ⌜ (16384 ≤ length (now table)) × (length (now frame) ≤ 256) × (head .position ≤ 8 * length (now frame)) × (head .count ≤ 256) × (head .captures < 4294967296) × (length (now constructs) ≡ 256) × (length (now passes) ≡ 256) ⌝ }
+    requires { ⌜ (16384 ≤ length (now table)) × (length (now frame) ≤ 256) × (head .position ≤ 8 * length (now frame)) × (head .count ≤ 256) × (2 * head .captures ≤ length (now reading)) × (length (now constructs) ≡ 256) × (length (now passes) ≡ 256) ⌝ }
     ensures { λ r. ⌜ whole (now (constructs .exit)) (now (passes .exit)) (now (values .exit)) (now (reading .exit)) r ≡ step-of (now (table .entry)) (now (frame .entry)) (whole (now (constructs .entry)) (now (passes .entry)) (now (values .entry)) (now (reading .entry)) head) ⌝ }
 {
     let verdict = head.verdict;
@@ -329,4 +329,30 @@ pub fn step(
         return broken(head);
     }
     head
+}
+
+// So many steps, or as many as there are until the run is decided.
+pub fn advance(
+    table: &[u32],
+    frame: &[u8],
+    constructs: &mut [u32; 256],
+    passes: &mut [u32; 256],
+    values: &mut [i64; 64],
+    reading: &mut [u32],
+    head: Head,
+    grant: u64,
+) -> Head
+    requires { ⌜ (16384 ≤ length (now table)) × (length (now frame) ≤ 256) × Fits (now frame) (whole (now constructs) (now passes) (now values) (now reading) head) ⌝ }
+    ensures { λ r. ⌜ whole (now (constructs .exit)) (now (passes .exit)) (now (values .exit)) (now (reading .exit)) r ≡ steps-of (now (table .entry)) (now (frame .entry)) grant (whole (now (constructs .entry)) (now (passes .entry)) (now (values .entry)) (now (reading .entry)) head) ⌝ }
+{
+    let mut run = head;
+    let mut left = grant;
+    while 0 < left {
+        if run.verdict != 0 {
+            return run;
+        }
+        run = step(table, frame, constructs, passes, values, reading, run);
+        left -= 1;
+    }
+    run
 }
