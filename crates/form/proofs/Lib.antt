@@ -1,15 +1,6 @@
+-- Laws that the proofs of the functions cite.
 pub mod Every
 pub mod Walks
 pub mod Pointers
 pub mod Decoded
 pub mod Limits
-pub mod Tiles
-pub mod Facts
-pub mod PartLaws
-pub mod RuleLaws
-pub mod Owners
-pub mod Reading
-pub mod StaticLaw
-pub mod Binding
-pub mod Agreement
-pub mod NodeFacts

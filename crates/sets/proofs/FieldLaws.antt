@@ -3,17 +3,17 @@
 use Prim.Native.Nat.{ℕ, zero, suc, _+_, _-_, _*_, _/_, _%_, _^_, _≤_, _<_, min, max}
 use mathlib.Core.Path.{_≡_, refl, sym, ap, _∙_, subst}
 use mathlib.Core.Bool.{Bool, true, false, Bool·beq, _&&_}
-use mathlib.Core.Logic.{_⊎_, inl, inr, _↔_}
-use mathlib.Core.List.{List, [], _∷_, _++_}
+use mathlib.Core.Logic.{inl, inr, _↔_}
+use mathlib.Core.List.{List, [], _∷_}
 use native.Mathlib.Omega.{arith}
 use native.Mathlib.Decide.{ℕ-discrete, decLt}
 use native.Mathlib.Nat.{mod-eq-of-lt, add-zero}
 use borrow.Author.Tests.{le-leb, leb-true}
 use lib.Dec.{leb}
 use lib.IntN.{pos}
-use lib.ListN.{length, take, length-take, length-append}
-use lib.Seq.{take-append-le, take-at}
-use lib.Pow.{pow-pos, pow-mono}
+use lib.ListN.{length, length-take, length-append}
+use lib.Seq.{take-at}
+use lib.Pow.{pow-mono}
 use Rattle.basis.specs.Bits.{Bits, bitsOf, value, frameBits, same}
 use Rattle.basis.specs.Lookahead.{lookahead, number}
 use Rattle.basis.proofs.Numbers.{number-value, number-ge, number-lt, number-injective, number-bitsOf}
@@ -28,8 +28,7 @@ use Rattle.layout.specs.declared.Construct.{Construct}
 use Rattle.evaluation.specs.Meaning.{membership}
 use Rattle.evaluation.specs.Variables.{hasVariable}
 use Rattle.evaluation.specs.declared.Tested.{Tested}
-use Rattle.terms.specs.declared.Term.{Term}
-use Rattle.prefixes.specs.Prefixes.{admits, Leads, Tells}
+use Rattle.prefixes.specs.Prefixes.{admits}
 use Rattle.prefixes.specs.Ends.{holds}
 use Rattle.prefixes.specs.Ends as Ends
 use Rattle.terms.specs.Numbers as Numbers

@@ -1,27 +1,25 @@
 -- What a construct hands to its parts is of FOLLOW, and where nothing grew the parts have it.
 -- Assumes nothing.
-use Prim.Native.Nat.{ℕ, zero, suc, _+_, _-_, _≤_, _<_, min}
-use mathlib.Core.Path.{_≡_, refl, sym, ap, _∙_, subst}
+use Prim.Native.Nat.{ℕ, zero, suc, _-_, _≤_, _<_, min}
+use mathlib.Core.Path.{_≡_, sym, ap, _∙_, subst}
 use mathlib.Core.Bool.{Bool, true, false}
 use mathlib.Core.Logic.{_↔_}
-use mathlib.Core.List.{List, [], _∷_, _++_, append-assoc, List·Memᴰ·not-nil}
+use mathlib.Core.List.{List, [], _∷_, List·Memᴰ·not-nil}
 use native.Mathlib.Decide.{decLt}
 use native.Mathlib.Omega.{arith}
-use native.Mathlib.Numerals.{add-one}
 use lib.ListN.{length, getD, take, drop, length-take, drop-of-length-le}
 use lib.Seq.{drop-cons, getD-take}
 use Rattle.basis.specs.Bits.{Bits}
 use Rattle.lookahead.specs.Sets.{Has, Is, Proper, Joined}
 use Rattle.lookahead_slices.specs.Family.{part}
-use Rattle.lookahead.proofs.LanguageLaws.{Strings, Short, joined-map, joined-assoc, joined-unit-left}
+use Rattle.lookahead.proofs.LanguageLaws.{Strings, joined-map, joined-assoc, joined-unit-left}
 use Rattle.lookahead.proofs.PassLaws.{is-map, is-joined}
 use Rattle.layout.specs.Held.{held, HeldNode}
-use Rattle.theory.specs.Grammar.{alternative}
 use Rattle.theory.specs.Derivation.{construct}
 use Rattle.theory.specs.Lookahead.{First, Predicted}
 use Rattle.theory.proofs.Inversion.{first-by}
 use Rattle.sets.specs.Rules.{Family, Members}
-use Rattle.sets.specs.Rounds.{strings, Between, Step, within, first-of, follow-of, follow-low, FollowStep, either-of}
+use Rattle.sets.specs.Rounds.{strings, Step, within, first-of, follow-of, follow-low, FollowStep, either-of}
 use Rattle.sets.specs.Follows.{Given, Before, After, Handed, Predicting, JoinedSets}
 use Rattle.sets.specs.Sets.{sets-held, family-words, FirstSets, FollowSets, PredictionSets}
 use Rattle.sets.proofs.HeldLaws.{node-past}

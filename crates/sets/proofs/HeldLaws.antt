@@ -1,18 +1,17 @@
 -- The nodes of the grammar that a table's words hold.
 -- Assumes nothing.
-use Prim.Native.Nat.{ℕ, zero, suc, _+_, _*_, _≤_, _<_}
-use mathlib.Core.Path.{_≡_, refl, sym, ap, _∙_, subst}
+use Prim.Native.Nat.{ℕ, _+_, _≤_, _<_}
+use mathlib.Core.Path.{_≡_, refl, sym, _∙_, subst}
 use mathlib.Core.Bool.{Bool, true, false}
-use mathlib.Core.List.{List, [], _∷_}
+use mathlib.Core.List.{List, []}
 use native.Mathlib.Omega.{arith}
-use borrow.Author.Tests.{le-ltb, lt-ltb, ne-eqb, eq-eqb, leb-true, ltb-true}
+use borrow.Author.Tests.{le-ltb, ne-eqb, eq-eqb, leb-true, ltb-true}
 use lib.Dec.{leb, ltb, eqb}
-use Rattle.layout.specs.Places.{rule-word, construct-word}
-use Rattle.layout.specs.Constructs.{pick, both, branches, listed, repetitionOf, innerOf, uintOf, literalOf, rangeOf, leafOf, withoutParts, constructOf, constructAt}
-use Rattle.layout.specs.Held.{held, node-of, use-node, HeldNode}
+use Rattle.layout.specs.Places.{construct-word}
+use Rattle.layout.specs.Constructs.{pick, both, branches, listed, repetitionOf, innerOf, leafOf, constructOf, constructAt}
+use Rattle.layout.specs.Held.{held, node-of, use-node}
 use Rattle.layout.specs.declared.Construct.{Construct}
-use Rattle.layout.specs.declared.Passes.{Passes}
-use Rattle.theory.specs.Grammar.{Node, alternative}
+use Rattle.theory.specs.Grammar.{alternative}
 
 -- ---- which node a number has
 

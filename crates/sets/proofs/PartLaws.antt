@@ -3,7 +3,7 @@
 use Prim.Native.Nat.{ℕ, zero, suc, _+_, _-_, _≤_, _<_}
 use mathlib.Core.Path.{_≡_, refl, sym, ap, _∙_, subst}
 use mathlib.Core.Bool.{Bool, true, false}
-use mathlib.Core.Logic.{_⊎_, inl, inr, _↔_}
+use mathlib.Core.Logic.{inl, inr, _↔_}
 use mathlib.Core.List.{List, [], _∷_, _++_, append-assoc, append-nil, List·Memᴰ·head, List·Memᴰ·tail, List·Memᴰ·not-nil, List·Memᴰ·cases-cons}
 use native.Mathlib.Omega.{arith}
 use native.Mathlib.Decide.{decLt, ℕ-discrete}
@@ -12,7 +12,7 @@ use lib.ListN.{length, take, set, length-set}
 use lib.Seq.{take-suc-set}
 use native.Mathlib.Numerals.{add-one}
 use Rattle.basis.specs.Bits.{Bits}
-use Rattle.lookahead.specs.Sets.{Has, Is, Proper, Joined, Union}
+use Rattle.lookahead.specs.Sets.{Has, Is, Proper, Union}
 use Rattle.lookahead.proofs.LanguageLaws.{Strings, Short, joined-short, joined-map, joined-assoc, joined-unit-left, joined-unit-right}
 use Rattle.lookahead.proofs.PassLaws.{is-map}
 use Rattle.layout.specs.Constructs.{constructAt}

@@ -1,6 +1,6 @@
 -- The rules of FOLLOW, node by node: what a construct may hand on, and that its parts then have it.
 -- Assumes nothing.
-use Prim.Native.Nat.{ℕ, _+_, _≤_, _<_}
+use Prim.Native.Nat.{ℕ, _+_, _<_}
 use mathlib.Core.Path.{_≡_, refl, sym, ap, _∙_, subst}
 use mathlib.Core.Bool.{Bool, true, false}
 use mathlib.Core.Logic.{inl, inr}
@@ -10,21 +10,21 @@ use lib.ListN.{length}
 use Rattle.basis.specs.Bits.{Bits}
 use Rattle.basis.specs.Counts.{from}
 use Rattle.basis.specs.Lookahead.{join}
-use Rattle.lookahead.specs.Sets.{Has, Is, Proper, Joined, Passes, Repeated}
+use Rattle.lookahead.specs.Sets.{Has, Is, Joined, Passes, Repeated}
 use Rattle.lookahead.proofs.LanguageLaws.{Strings}
 use Rattle.layout.specs.Places.{rule-word}
 use Rattle.layout.specs.Constructs.{constructAt}
-use Rattle.layout.specs.Held.{held, node-of, HeldNode}
+use Rattle.layout.specs.Held.{held, node-of}
 use Rattle.layout.specs.declared.Construct.{Construct}
 use Rattle.layout.specs.declared.Passes as Times
-use Rattle.theory.specs.Grammar.{alternative, concatenation, switch, repetition, use-of, _∈_}
+use Rattle.theory.specs.Grammar.{alternative, concatenation, repetition, use-of, _∈_}
 use Rattle.theory.specs.Derivation.{members, passes}
-use Rattle.theory.specs.Lookahead.{First, Follow}
+use Rattle.theory.specs.Lookahead.{Follow}
 use Rattle.theory.proofs.Inversion.{Keeps, MembersKeep}
-use Rattle.sets.specs.Rules.{Family, Members}
-use Rattle.sets.specs.Rounds.{strings, Between, Step, within, first-of, follow-of, follow-low, FollowStep, FollowClosed}
+use Rattle.sets.specs.Rules.{Family}
+use Rattle.sets.specs.Rounds.{strings, Between, within, first-of, follow-of, follow-low, FollowStep, FollowClosed}
 use Rattle.sets.specs.Parts.{siblings}
-use Rattle.sets.specs.Follows.{Given, After, Handed}
+use Rattle.sets.specs.Follows.{Given, Handed}
 use Rattle.sets.specs.Sets.{sets-held, family-words, FirstSets}
 use Rattle.sets.proofs.HeldLaws.{node-inside, node-opening}
 use Rattle.sets.proofs.PartLaws.{parts-siblings}

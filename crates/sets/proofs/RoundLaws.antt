@@ -3,7 +3,7 @@
 use Prim.Native.Nat.{ℕ, _+_, _-_, _*_, _/_, _%_, _≤_, _<_, min}
 use mathlib.Core.Path.{_≡_, refl, sym, ap, _∙_, subst}
 use mathlib.Core.Bool.{Bool, true, false}
-use mathlib.Core.Logic.{_⊎_, inl, inr, ⊎-elim}
+use mathlib.Core.Logic.{inl, inr}
 use mathlib.Core.List.{List, [], List·Memᴰ·not-nil}
 use native.Mathlib.Decide.{ℕ-discrete, decLt}
 use native.Mathlib.Omega.{arith}
@@ -18,7 +18,7 @@ use Rattle.lookahead.proofs.PassLaws.{is-map, no-pass}
 use Rattle.layout.specs.Held.{held, HeldNode, opening}
 use Rattle.theory.proofs.Inversion.{Keeps, follow-least}
 use Rattle.sets.specs.Rules.{Family, Seeded, Applied}
-use Rattle.sets.specs.Rounds.{strings, Between, Step, first-of, first-low, FirstClosed, FirstStep, follow-of, follow-low, within, FollowClosed, FollowStep, From, either-of}
+use Rattle.sets.specs.Rounds.{strings, Between, Step, first-of, first-low, FirstClosed, FirstStep, follow-of, follow-low, within, FollowClosed, From, either-of}
 use Rattle.theory.specs.Lookahead.{Follow}
 use Rattle.sets.specs.Follows.{Started, StartSets}
 use Rattle.sets.specs.Sets.{sets-held, family-words, FirstSets, FollowSets}

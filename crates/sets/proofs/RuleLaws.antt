@@ -2,16 +2,16 @@
 -- closed under the rules has all of it. For any grammar, rules that reach themselves too.
 -- Assumes nothing.
 use Prim.Native.Nat.{ℕ, zero, suc}
-use mathlib.Core.Path.{_≡_, refl}
+use mathlib.Core.Path.{refl}
 use mathlib.Core.Logic.{_⊎_, inl, inr}
 use mathlib.Core.List.{List, [], _∷_}
 use Rattle.basis.specs.Bits.{Bits}
-use Rattle.lookahead.specs.Sets.{Joined, Passes}
-use Rattle.theory.specs.Grammar.{Node, alternative, concatenation, repetition, switch, use-of, field, eod, Grammar, _∈_}
+use Rattle.lookahead.specs.Sets.{Passes}
+use Rattle.theory.specs.Grammar.{Node, alternative, concatenation, repetition, switch, use-of, field, eod, Grammar}
 use Rattle.theory.specs.Derivation.{Shape, construct, members, passes}
 use Rattle.theory.specs.Lookahead.{First}
 use Rattle.theory.proofs.Inversion.{First-of}
-use Rattle.sets.specs.Rules.{Family, Some, Members, Seeded, Applied}
+use Rattle.sets.specs.Rules.{Family, Members, Seeded, Applied}
 
 module _ {Context Values : Type 0} (g : Grammar Context Values) where
   -- ---- soundness

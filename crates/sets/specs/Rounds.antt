@@ -6,7 +6,7 @@ use mathlib.Core.Bool.{Bool, true, false}
 use mathlib.Core.List.{List, []}
 use lib.ListN.{length}
 use Rattle.basis.specs.Bits.{Bits}
-use Rattle.lookahead.specs.Sets.{Has, Is, Proper}
+use Rattle.lookahead.specs.Sets.{Has, Proper}
 use Rattle.lookahead_slices.specs.Family.{part, room}
 use Rattle.layout.specs.Held.{held}
 use Rattle.theory.specs.Derivation.{construct}

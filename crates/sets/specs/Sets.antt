@@ -1,10 +1,8 @@
 -- The FIRST, FOLLOW and prediction sets (document 01's first and follow windows, and a branch's windows) of the grammar that a table's
 -- words hold: 257 sets of eight words, one for each construct and one for the opening use of the start rule.
 -- Assumes nothing.
-use Prim.Native.Nat.{ℕ, _*_, _<_}
-use mathlib.Core.Path.{_≡_}
+use Prim.Native.Nat.{ℕ, _<_}
 use mathlib.Core.List.{List}
-use Rattle.basis.specs.Bits.{Bits}
 use Rattle.lookahead.specs.Sets.{Is}
 use Rattle.lookahead_slices.specs.Family.{part}
 use Rattle.layout.specs.Held.{held}

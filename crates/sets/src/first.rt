@@ -2,9 +2,10 @@
 ghost use mathlib.Core.Path.{_≡_};
 ghost use Prim.Native.Nat.{_<_};
 ghost use lib.ListN.{length};
-ghost use Rattle.sets.specs.Rounds.{Between, FirstStep, FirstClosed, From, first-low as firstLow, first-of as firstOf, either-of as eitherOf};
+ghost use Rattle.sets.specs.Rounds.{Between, FirstStep, FirstClosed, From, first-low as firstLow, first-of as firstOf};
 ghost use Rattle.sets.specs.Sets.{FirstSets};
 use crate::fields;
+use crate::parts::either;
 use crate::rules;
 
 // What the rule of construct i makes of the sets is added to its own; whether a word grew.
@@ -14,12 +15,6 @@ fn apply(table: &[u32], family: &mut [u64], i: usize) -> bool
 {
     let set = rules::applied(table, family, i);
     lookahead_slices::family::add(family, i, set)
-}
-
-pub fn either(a: bool, b: bool) -> bool
-    ensures { λ r. ⌜ r ≡ eitherOf a b ⌝ }
-{
-    if a { true } else { b }
 }
 
 // From the last construct down, so that parts come before their owners.

@@ -5,7 +5,7 @@ ghost use lib.ListN.{length, take};
 ghost use Rattle.lookahead.specs.Sets.{Has, Is};
 ghost use Rattle.layout.specs.Constructs.{constructAt};
 ghost use Rattle.layout.specs.Held.{size-of as sizeOf};
-ghost use Rattle.sets.specs.Rounds.{strings};
+ghost use Rattle.sets.specs.Rounds.{strings, either-of as eitherOf};
 ghost use Rattle.sets.specs.Parts.{siblings, Combined, Neutral, Gathered};
 use layout::Construct;
 use layout::construct_at;
@@ -106,4 +106,10 @@ pub fn places(table: &[u32], start: usize, end: usize, out: &mut [usize]) -> usi
         at += size;
     }
     n
+}
+
+pub fn either(a: bool, b: bool) -> bool
+    ensures { λ r. ⌜ r ≡ eitherOf a b ⌝ }
+{
+    if a { true } else { b }
 }

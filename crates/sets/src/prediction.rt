@@ -1,6 +1,5 @@
 // Prediction sets (document 01's windows of a branch), and all three families together.
 ghost use mathlib.Core.Path.{_≡_};
-ghost use Prim.Native.Nat.{_≤_};
 ghost use lib.ListN.{length};
 ghost use Rattle.sets.specs.Sets.{FirstSets, FollowSets, PredictionSets};
 ghost use Rattle.sets.specs.Follows.{JoinedSets};

@@ -1,6 +1,6 @@
 // What the rule of a node makes of the sets of its parts.
 ghost use mathlib.Core.Path.{_≡_};
-ghost use Prim.Native.Nat.{_≤_, _<_, min};
+ghost use Prim.Native.Nat.{_<_, min};
 ghost use lib.ListN.{length};
 ghost use Rattle.lookahead.specs.Sets.{Has, Is, Repeated};
 ghost use Rattle.layout.specs.Places.{rule-word as ruleWord};

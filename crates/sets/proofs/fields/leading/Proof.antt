@@ -1,22 +1,15 @@
-use Rattle.sets.proofs.FieldLaws.{numbered-none, numbered-hit, numbered-miss, numbered-end}
-use Rattle.sets.specs.Fields.{Numbered, Led}
-use Rattle.lookahead.specs.declared.Set.{Set}
-use Rattle.lookahead.specs.Sets.{Is}
+-- `sets::fields::leading` meets its contract. The invariant: the strings with numbers below n that the test holds for. Assumes nothing.
 use Prim.Native.Nat.{ℕ, _+_, _-_, _≤_, max}
-use mathlib.Core.List.{List}
-use mathlib.Core.Bool.{true, false}
-use mathlib.Core.Path.{_≡_, refl, sym, subst, _∙_}
-use mathlib.Core.Logic.{⊎-elim}
 use borrow.Author.Needs.{needs}
+use mathlib.Core.Logic.{⊎-elim}
+use mathlib.Core.Path.{_≡_, refl, sym, subst}
 use native.Mathlib.Omega.{arith}
+use Rattle.lookahead.specs.Sets.{Is}
+use Rattle.lookahead.specs.declared.Set.{Set}
+use Rattle.sets.specs.Fields.{Numbered, Led}
+use Rattle.sets.proofs.FieldLaws.{numbered-none, numbered-hit, numbered-miss, numbered-end}
 use Rattle.sets.proofs.fields.leading.Statement.{statement}
 use Rattle.sets.proofs.fields.leading.Tie as tie
-use Rattle.sets.proofs.fields.leading.Reads as reads
-use Rattle.sets.proofs.fields.leading.Lts as lts
-use Rattle.lookahead.proofs.empty.Reads as empty-reads
-use Rattle.lookahead.proofs.single.Reads as single-reads
-use Rattle.lookahead.proofs.union.Reads as union-reads
-use Rattle.prefixes.proofs.leads_with.Reads as leads-with-reads
 
 abbrev Inv-loop : tie.InvT-loop
 Inv-loop words start end width low high out₀ n₀ out n = Is (out .words) (Numbered low n (Led width words start end)) × (low ≤ n) × (n ≤ max low high)
@@ -24,37 +17,29 @@ Inv-loop words start end width low high out₀ n₀ out n = Is (out .words) (Num
 abbrev μ-loop : tie.MeasureT-loop
 μ-loop words start end width low high out₀ n₀ out n = high - n
 
--- src/fields.rt:31:9
 empty-requires : tie.Need-empty-requires Inv-loop μ-loop
 empty-requires c κs = search needs
 
--- src/fields.rt:33:5
 loop-holds : tie.Need-loop-holds Inv-loop μ-loop
 loop-holds c =
     let a = c .before .before .args in
     (numbered-none (a .low) (Led (a .width) (a .words .now) (a .start) (a .end)) (a .low) (c .empty .result .words) refl (c .empty .ensures), omega arith, omega arith)
 
--- src/fields.rt:34:12
 leads-with-requires : tie.Need-leads-with-requires Inv-loop μ-loop
 leads-with-requires c κs = search needs
 
--- src/fields.rt:35:41
 single-requires : tie.Need-single-requires Inv-loop μ-loop
 single-requires c κs = search needs
 
--- src/fields.rt:35:13
 union-requires : tie.Need-union-requires Inv-loop μ-loop
 union-requires c κs = search needs
 
--- src/fields.rt:37:9
 add-n : tie.Need-add-n Inv-loop μ-loop
 add-n c = search needs
 
--- src/fields.rt:33:5
 loop-less : tie.Need-loop-less Inv-loop μ-loop
 loop-less c = search needs
 
--- src/fields.rt:33:5
 loop-again : tie.Need-loop-again Inv-loop μ-loop
 loop-again c =
     let a = c .before .before .before .before .before .before .args in
@@ -71,7 +56,6 @@ loop-again c =
       omega (arith, c .before .before .loop-test .taken),
     )
 
--- src/fields.rt:27:1
 returns : tie.Need-returns Inv-loop μ-loop
 returns c =
     let a = c .before .before .before .before .args in

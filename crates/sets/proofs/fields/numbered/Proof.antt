@@ -1,17 +1,13 @@
-use Rattle.sets.proofs.FieldLaws.{numbered-none, numbered-hit, numbered-end}
-use Rattle.sets.specs.Fields.{Numbered, Any}
-use Rattle.lookahead.specs.Sets.{Is}
-use Prim.Native.Nat.{ℕ, _+_, _-_, _≤_, max}
-use mathlib.Core.Path.{refl}
+-- `sets::fields::numbered` meets its contract. The invariant: the strings with numbers below n. Assumes nothing.
+use Prim.Native.Nat.{_-_, _≤_, max}
 use borrow.Author.Needs.{needs}
+use mathlib.Core.Path.{refl}
 use native.Mathlib.Omega.{arith}
+use Rattle.lookahead.specs.Sets.{Is}
+use Rattle.sets.specs.Fields.{Numbered, Any}
+use Rattle.sets.proofs.FieldLaws.{numbered-none, numbered-hit, numbered-end}
 use Rattle.sets.proofs.fields.numbered.Statement.{statement}
 use Rattle.sets.proofs.fields.numbered.Tie as tie
-use Rattle.sets.proofs.fields.numbered.Reads as reads
-use Rattle.sets.proofs.fields.numbered.Lts as lts
-use Rattle.lookahead.proofs.empty.Reads as empty-reads
-use Rattle.lookahead.proofs.single.Reads as single-reads
-use Rattle.lookahead.proofs.union.Reads as union-reads
 
 abbrev Inv-loop : tie.InvT-loop
 Inv-loop low high out₀ n₀ out n = Is (out .words) (Numbered low n Any) × (low ≤ n) × (n ≤ max low high)
@@ -19,37 +15,29 @@ Inv-loop low high out₀ n₀ out n = Is (out .words) (Numbered low n Any) × (l
 abbrev μ-loop : tie.MeasureT-loop
 μ-loop low high out₀ n₀ out n = high - n
 
--- src/fields.rt:17:9
 empty-requires : tie.Need-empty-requires Inv-loop μ-loop
 empty-requires c κs = search needs
 
--- src/fields.rt:19:5
 loop-holds : tie.Need-loop-holds Inv-loop μ-loop
 loop-holds c = (numbered-none (c .before .args .low) Any (c .before .args .low) (c .empty .result .words) refl (c .empty .ensures), omega arith, omega arith)
 
--- src/fields.rt:20:37
 single-requires : tie.Need-single-requires Inv-loop μ-loop
 single-requires c κs = search needs
 
--- src/fields.rt:20:9
 union-requires : tie.Need-union-requires Inv-loop μ-loop
 union-requires c κs = search needs
 
--- src/fields.rt:21:9
 add-n : tie.Need-add-n Inv-loop μ-loop
 add-n c = search needs
 
--- src/fields.rt:19:5
 loop-less : tie.Need-loop-less Inv-loop μ-loop
 loop-less c = search needs
 
--- src/fields.rt:19:5
 loop-again : tie.Need-loop-again Inv-loop μ-loop
 loop-again c =
     let l = c .before .before .before .loop in
     (numbered-hit (c .before .before .before .before .before .args .low) Any (l .n) (l .out .words) (c .before .single .result .words) (c .union .result .words) (l .inv .1) tt (l .inv .0) (c .before .single .ensures) (c .union .ensures), omega (arith, l .inv .1), omega (arith, c .before .before .loop-test .taken))
 
--- src/fields.rt:14:1
 returns : tie.Need-returns Inv-loop μ-loop
 returns c =
     let l = c .before .loop in

@@ -1,102 +1,74 @@
+-- `sets::fields::seed` meets its contract. A law for each kind of construct. Assumes nothing.
+use Prim.Native.Nat.{_<_}
+use borrow.Author.Needs.{needs}
+use native.Mathlib.Omega.{arith}
+use Rattle.layout.specs.Held.{node-of}
+use Rattle.layout.specs.declared.Construct.{Construct}
 use Rattle.sets.proofs.FieldLaws.{seed-none, seed-literal, seed-range, seed-uint, seed-eod}
 use Rattle.sets.proofs.HeldLaws.{fine-as}
-use Rattle.layout.specs.declared.Construct.{Construct}
-use Rattle.layout.specs.Held.{node-of}
-use Prim.Native.Nat.{ℕ, _<_}
-use native.Mathlib.Omega.{arith}
-use borrow.Author.Needs.{needs}
 use Rattle.sets.proofs.fields.seed.Statement.{statement}
 use Rattle.sets.proofs.fields.seed.Tie as tie
-use Rattle.sets.proofs.fields.seed.Reads as reads
-use Rattle.sets.proofs.fields.seed.Lts as lts
-use Rattle.layout.proofs.construct_at.Reads as construct-at-reads
-use Rattle.layout.proofs.word.Reads as word-reads
-use Rattle.lookahead.proofs.empty.Reads as empty-reads
-use Rattle.lookahead.proofs.single.Reads as single-reads
-use Rattle.sets.proofs.fields.numbered.Reads as numbered-reads
-use Rattle.sets.proofs.fields.uint.Reads as uint-reads
 
--- src/fields.rt:65:11
 construct-at-requires : tie.Need-construct-at-requires
 construct-at-requires c κs = search needs
 
--- src/fields.rt:66:31
 enum-told : tie.Need-enum-told
 enum-told c = search needs
 
--- src/fields.rt:66:31
 empty-requires : tie.Need-empty-requires
 empty-requires c κs = search needs
 
--- src/fields.rt:67:47
 enum-told-2 : tie.Need-enum-told-2
 enum-told-2 c = search needs
 
--- src/fields.rt:67:47
 empty-requires-2 : tie.Need-empty-requires-2
 empty-requires-2 c κs = search needs
 
--- src/fields.rt:68:49
 enum-told-3 : tie.Need-enum-told-3
 enum-told-3 c = search needs
 
--- src/fields.rt:68:49
 empty-requires-3 : tie.Need-empty-requires-3
 empty-requires-3 c κs = search needs
 
--- src/fields.rt:69:57
 enum-told-4 : tie.Need-enum-told-4
 enum-told-4 c = search needs
 
--- src/fields.rt:69:57
 empty-requires-4 : tie.Need-empty-requires-4
 empty-requires-4 c κs = search needs
 
--- src/fields.rt:70:42
 enum-told-5 : tie.Need-enum-told-5
 enum-told-5 c = search needs
 
--- src/fields.rt:70:42
 empty-requires-5 : tie.Need-empty-requires-5
 empty-requires-5 c κs = search needs
 
--- src/fields.rt:71:39
 enum-told-6 : tie.Need-enum-told-6
 enum-told-6 c = search needs
 
--- src/fields.rt:71:39
 empty-requires-6 : tie.Need-empty-requires-6
 empty-requires-6 c κs = search needs
 
--- src/fields.rt:73:64
 enum-told-7 : tie.Need-enum-told-7
 enum-told-7 c = search needs
 
--- src/fields.rt:73:64
 mul-word : tie.Need-mul-word
 mul-word c = search needs
 
--- src/fields.rt:73:57
 add-word : tie.Need-add-word
 add-word c = search needs
 
--- src/fields.rt:73:37
 word-requires : tie.Need-word-requires
 word-requires c κs = search needs
 
--- src/fields.rt:73:31
 add-single : tie.Need-add-single
 add-single c = search needs
 
--- src/fields.rt:73:13
 single-requires : tie.Need-single-requires
 single-requires c κs = search needs
 
--- src/fields.rt:75:28
 enum-known-low : tie.Need-enum-known-low
 enum-known-low c = search needs
 
--- src/fields.rt:75:52
 add-numbered : tie.Need-add-numbered
 add-numbered c =
     let a = c .before .before .before .before .before .args in
@@ -104,7 +76,6 @@ add-numbered c =
     let g : c .before .low .given .0 .0 < 128 = f .0 in
     record { fits = omega arith }
 
--- src/fields.rt:75:63
 add-numbered-2 : tie.Need-add-numbered-2
 add-numbered-2 c =
     let a = c .before .before .before .before .before .args in
@@ -112,91 +83,76 @@ add-numbered-2 c =
     let g : c .before .low .given .0 .1 .0 < 128 = f .1 in
     record { fits = omega arith }
 
--- src/fields.rt:75:43
 numbered-requires : tie.Need-numbered-requires
 numbered-requires c κs = search needs
 
--- src/fields.rt:76:27
 enum-known-width : tie.Need-enum-known-width
 enum-known-width c = search needs
 
--- src/fields.rt:76:61
 uint-requires : tie.Need-uint-requires
 uint-requires c κs =
     let a = c .before .before .before .before .before .args in
     fine-as (a .table .now) (a .i) (c .before .before .before .construct-at .result) (c .before .before .before .construct-at .ensures) (Construct.Uint (c .before .width .given .0 .0) (c .before .width .given .0 .1 .0) (c .before .width .given .0 .1 .1 .0) (c .before .width .given .0 .1 .1 .1 .0)) (c .before .width .given .1) .1
 
--- src/fields.rt:77:27
 enum-told-8 : tie.Need-enum-told-8
 enum-told-8 c = search needs
 
--- src/fields.rt:77:27
 single-requires-2 : tie.Need-single-requires-2
 single-requires-2 c κs = search needs
 
--- src/fields.rt:61:1
 returns : tie.Need-returns
 unfolding node-of
 returns c =
     let a = c .before .before .before .before .before .args in
     seed-none (a .table .now) (a .i) (c .before .before .before .before .before .pre) (c .before .before .before .construct-at .result) (c .before .before .before .construct-at .ensures) (c .empty .result .words) Construct.Missing (c .before .enum-told .given .1) (λ x s. s) (c .empty .ensures)
 
--- src/fields.rt:61:1
 returns-2 : tie.Need-returns-2
 unfolding node-of
 returns-2 c =
     let a = c .before .before .before .before .before .args in
     seed-none (a .table .now) (a .i) (c .before .before .before .before .before .pre) (c .before .before .before .construct-at .result) (c .before .before .before .construct-at .ensures) (c .empty2 .result .words) (Construct.Alternative (c .before .enum-told2 .given .0 .0)) (c .before .enum-told2 .given .1) (λ x s. s) (c .empty2 .ensures)
 
--- src/fields.rt:61:1
 returns-3 : tie.Need-returns-3
 unfolding node-of
 returns-3 c =
     let a = c .before .before .before .before .before .args in
     seed-none (a .table .now) (a .i) (c .before .before .before .before .before .pre) (c .before .before .before .construct-at .result) (c .before .before .before .construct-at .ensures) (c .empty3 .result .words) (Construct.Concatenation (c .before .enum-told3 .given .0 .0)) (c .before .enum-told3 .given .1) (λ x s. s) (c .empty3 .ensures)
 
--- src/fields.rt:61:1
 returns-4 : tie.Need-returns-4
 unfolding node-of
 returns-4 c =
     let a = c .before .before .before .before .before .args in
     seed-none (a .table .now) (a .i) (c .before .before .before .before .before .pre) (c .before .before .before .construct-at .result) (c .before .before .before .construct-at .ensures) (c .empty4 .result .words) (Construct.Repetition (c .before .enum-told4 .given .0 .0) (c .before .enum-told4 .given .0 .1 .0)) (c .before .enum-told4 .given .1) (λ x s. s) (c .empty4 .ensures)
 
--- src/fields.rt:61:1
 returns-5 : tie.Need-returns-5
 unfolding node-of
 returns-5 c =
     let a = c .before .before .before .before .before .args in
     seed-none (a .table .now) (a .i) (c .before .before .before .before .before .pre) (c .before .before .before .construct-at .result) (c .before .before .before .construct-at .ensures) (c .empty5 .result .words) (Construct.Switch (c .before .enum-told5 .given .0 .0)) (c .before .enum-told5 .given .1) (λ x s. s) (c .empty5 .ensures)
 
--- src/fields.rt:61:1
 returns-6 : tie.Need-returns-6
 unfolding node-of
 returns-6 c =
     let a = c .before .before .before .before .before .args in
     seed-none (a .table .now) (a .i) (c .before .before .before .before .before .pre) (c .before .before .before .construct-at .result) (c .before .before .before .construct-at .ensures) (c .empty6 .result .words) (Construct.Use (c .before .enum-told6 .given .0 .0)) (c .before .enum-told6 .given .1) (λ x s. s) (c .empty6 .ensures)
 
--- src/fields.rt:61:1
 returns-7 : tie.Need-returns-7
 returns-7 c =
     let a = c .before .before .before .before .before .before .args in
     seed-literal (a .table .now) (a .i) (c .before .before .before .before .before .before .pre) (c .before .before .before .before .construct-at .result) (c .before .before .before .before .construct-at .ensures) (c .single .result .words) (c .before .before .enum-told7 .given .0 .0) (c .before .word .result) (c .before .before .enum-told7 .given .1)
     (fine-as (a .table .now) (a .i) (c .before .before .before .before .construct-at .result) (c .before .before .before .before .construct-at .ensures) (Construct.Literal (c .before .before .enum-told7 .given .0 .0)) (c .before .before .enum-told7 .given .1) .0) (c .before .word .ensures .0) (c .single .ensures)
 
--- src/fields.rt:61:1
 returns-8 : tie.Need-returns-8
 returns-8 c =
     let a = c .before .before .before .before .before .before .args in
     seed-range (a .table .now) (a .i) (c .before .before .before .before .before .before .pre) (c .before .before .before .before .construct-at .result) (c .before .before .before .before .construct-at .ensures) (c .numbered .result .words) (c .before .before .low .given .0 .0) (c .before .before .low .given .0 .1 .0) (c .before .before .low .given .1)
     (fine-as (a .table .now) (a .i) (c .before .before .before .before .construct-at .result) (c .before .before .before .before .construct-at .ensures) (Construct.Range (c .before .before .low .given .0 .0) (c .before .before .low .given .0 .1 .0)) (c .before .before .low .given .1) .1) (c .numbered .ensures)
 
--- src/fields.rt:61:1
 returns-9 : tie.Need-returns-9
 returns-9 c =
     let a = c .before .before .before .before .before .before .args in
     seed-uint (a .table .now) (a .i) (c .before .before .before .before .before .before .pre) (c .before .before .before .before .construct-at .result) (c .before .before .before .before .construct-at .ensures) (c .uint .result .words) (c .before .before .width .given .0 .0) (c .before .before .width .given .0 .1 .0) (c .before .before .width .given .0 .1 .1 .0) (c .before .before .width .given .0 .1 .1 .1 .0) (c .before .before .width .given .1) (c .uint .ensures)
 
--- src/fields.rt:61:1
 returns-10 : tie.Need-returns-10
 returns-10 c =
     let a = c .before .before .before .before .before .args in

@@ -1,19 +1,16 @@
-use Rattle.lookahead.proofs.BitLaws.{shifted-one}
-use lib.Pow.{pow-mono}
+-- `sets::fields::strings_of` meets its contract. Assumes nothing.
 use Prim.Native.Nat.{ℕ, _*_, _%_, _^_, _≤_, _<_, min}
-use mathlib.Core.Path.{_≡_, sym, ap, subst, _∙_}
-use native.Mathlib.Omega.{arith}
 use borrow.Author.Needs.{needs}
+use lib.Pow.{pow-mono}
+use mathlib.Core.Path.{_≡_, sym, ap, _∙_}
+use native.Mathlib.Omega.{arith}
+use Rattle.lookahead.proofs.BitLaws.{shifted-one}
 use Rattle.sets.proofs.fields.strings_of.Statement.{statement}
 use Rattle.sets.proofs.fields.strings_of.Tie as tie
-use Rattle.sets.proofs.fields.strings_of.Reads as reads
-use Rattle.sets.proofs.fields.strings_of.Lts as lts
 
--- src/fields.rt:47:16
 shl-result : tie.Need-shl-result
 shl-result c = search needs
 
--- src/fields.rt:47:9
 returns : tie.Need-returns
 returns c =
     let w = c .before .args .width in
@@ -23,7 +20,6 @@ returns c =
     let e : 1 * 2 ^ w % 2 ^ 64 ≡ 2 ^ w = shifted-one w 64 (omega arith) in
     (e ∙ ap (λ (k : ℕ). 2 ^ k) (sym m), omega arith)
 
--- src/fields.rt:43:1
 returns-2 : tie.Need-returns-2
 returns-2 c =
     let w = c .before .args .width in

@@ -1,25 +1,18 @@
-use Rattle.sets.proofs.RoundLaws.{first-step}
+-- `sets::first::apply` meets its contract. Assumes nothing.
 use borrow.Author.Needs.{needs}
+use Rattle.sets.proofs.RoundLaws.{first-step}
 use Rattle.sets.proofs.first.apply.Statement.{statement}
 use Rattle.sets.proofs.first.apply.Tie as tie
-use Rattle.sets.proofs.first.apply.Reads as reads
-use Rattle.sets.proofs.first.apply.Lts as lts
-use Rattle.lookahead_slices.proofs.family.add.Reads as add-reads
-use Rattle.sets.proofs.rules.applied.Reads as applied-reads
 
--- src/first.rt:13:9
 applied-requires : tie.Need-applied-requires
 applied-requires c κs = search needs
 
--- src/first.rt:14:5
 add-requires : tie.Need-add-requires
 add-requires c κs = search needs
 
--- src/first.rt:9:1
 same-length : tie.Need-same-length
 same-length c = search needs
 
--- src/first.rt:9:1
 returns : tie.Need-returns
 returns c =
     let a = c .before .before .before .before .before .before .before .before .args in

@@ -1,16 +1,13 @@
-use Rattle.sets.proofs.RoundLaws.{round-start, round-turn}
-use Rattle.sets.specs.Rounds.{FirstStep, FirstClosed, From, first-low, first-of}
-use lib.ListN.{length}
+-- `sets::first::round` meets its contract. The invariant: strings of FIRST were added, and where no word grew the sets from i on are closed. Assumes nothing.
 use Prim.Native.Nat.{ℕ, _≤_}
-use mathlib.Core.Path.{_≡_, sym, subst, _∙_}
 use borrow.Author.Needs.{needs}
+use lib.ListN.{length}
+use mathlib.Core.Path.{_≡_, sym, subst, _∙_}
 use native.Mathlib.Omega.{arith}
+use Rattle.sets.specs.Rounds.{FirstStep, FirstClosed, From, first-low, first-of}
+use Rattle.sets.proofs.RoundLaws.{round-start, round-turn}
 use Rattle.sets.proofs.first.round.Statement.{statement}
 use Rattle.sets.proofs.first.round.Tie as tie
-use Rattle.sets.proofs.first.round.Reads as reads
-use Rattle.sets.proofs.first.round.Lts as lts
-use Rattle.sets.proofs.first.apply.Reads as apply-reads
-use Rattle.sets.proofs.first.either.Reads as either-reads
 
 abbrev Inv-loop : tie.InvT-loop
 Inv-loop table family₀ grew₀ i₀ family grew i = FirstStep table (From (FirstClosed table) i) family₀ family grew × (i ≤ 257) × (length family ≡ 2056)
@@ -18,29 +15,23 @@ Inv-loop table family₀ grew₀ i₀ family grew i = FirstStep table (From (Fir
 abbrev μ-loop : tie.MeasureT-loop
 μ-loop table family₀ grew₀ i₀ family grew i = i
 
--- src/first.rt:30:5
 loop-holds : tie.Need-loop-holds Inv-loop μ-loop
 loop-holds c =
     let a = c .before .before .args in
     (round-start (first-low (a .table .now)) (first-of (a .table .now)) (FirstClosed (a .table .now)) (a .family .now), search needs, c .before .before .pre)
 
--- src/first.rt:31:9
 sub-i : tie.Need-sub-i Inv-loop μ-loop
 sub-i c = search needs
 
--- src/first.rt:32:29
 apply-requires : tie.Need-apply-requires Inv-loop μ-loop
 apply-requires c κs = (c .before .before .loop .inv .2, omega (arith, c .before .before .loop .inv .1))
 
--- src/first.rt:32:9
 either-requires : tie.Need-either-requires Inv-loop μ-loop
 either-requires c κs = search needs
 
--- src/first.rt:30:5
 loop-less : tie.Need-loop-less Inv-loop μ-loop
 loop-less c = search needs
 
--- src/first.rt:30:5
 loop-again : tie.Need-loop-again Inv-loop μ-loop
 loop-again c =
     let ws = c .before .before .before .before .before .before .before .before .before .args .table .now in
@@ -50,11 +41,9 @@ loop-again c =
       c .before .before .before .apply .kept .1 .0 ∙ l .inv .2,
     )
 
--- src/first.rt:24:1
 same-length : tie.Need-same-length Inv-loop μ-loop
 same-length c = c .before .loop .inv .2 ∙ sym (c .before .before .before .before .pre)
 
--- src/first.rt:24:1
 returns : tie.Need-returns Inv-loop μ-loop
 returns c =
     let l = c .before .loop in

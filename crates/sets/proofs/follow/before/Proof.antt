@@ -1,33 +1,26 @@
-use Rattle.sets.specs.Follows.{Before}
-use Rattle.sets.specs.Rounds.{strings}
+-- `sets::follow::before` meets its contract. Assumes nothing.
+use borrow.Author.Needs.{needs}
+use mathlib.Core.Bool.{Bool}
+use mathlib.Core.Path.{sym, subst}
 use Rattle.lookahead.proofs.PassLaws.{is-joined}
 use Rattle.lookahead.specs.Sets.{Has, Is}
-use mathlib.Core.Path.{sym, subst}
-use mathlib.Core.Bool.{Bool}
-use borrow.Author.Needs.{needs}
+use Rattle.sets.specs.Follows.{Before}
+use Rattle.sets.specs.Rounds.{strings}
 use Rattle.sets.proofs.follow.before.Statement.{statement}
 use Rattle.sets.proofs.follow.before.Tie as tie
-use Rattle.sets.proofs.follow.before.Reads as reads
-use Rattle.sets.proofs.follow.before.Lts as lts
-use Rattle.lookahead.proofs.join.Reads as join-reads
-use Rattle.sets.proofs.parts.set_of.Reads as set-of-reads
 
--- src/follow.rt:33:32
 set-of-requires : tie.Need-set-of-requires
 set-of-requires c κs = search needs
 
--- src/follow.rt:33:9
 join-requires : tie.Need-join-requires
 join-requires c κs = search needs
 
--- src/follow.rt:33:9
 returns : tie.Need-returns
 returns c =
     let a = c .before .before .before .before .args in
     subst (λ (j : Bool). Is (c .join .result .words) (Before j (strings (a .first .now) (a .m)) (Has (a .tail .words)))) (sym (c .before .before .if1 .taken))
     (is-joined (c .join .result .words) (c .before .set-of .result .words) (a .tail .words) (strings (a .first .now) (a .m)) (Has (a .tail .words)) (c .before .set-of .ensures .strings) (λ s. ((λ h. h), (λ h. h))) (c .join .ensures))
 
--- src/follow.rt:28:1
 returns-2 : tie.Need-returns-2
 returns-2 c =
     let a = c .before .before .args in

@@ -1,17 +1,11 @@
-use Rattle.sets.proofs.RoundLaws.{Settling, left-to-do, settle-start, settle-more, settle-less, starts-between, follow-done}
+-- `sets::follow::follow` meets its contract. The invariant and the measure are those of `first`. Assumes nothing.
+use Prim.Native.Nat.{_<_}
+use mathlib.Core.Bool.{Bool}
+use mathlib.Core.Path.{sym, subst, _∙_}
 use Rattle.sets.specs.Rounds.{follow-low, follow-of, FollowClosed, From}
-use Prim.Native.Nat.{ℕ, _<_}
-use mathlib.Core.Path.{_≡_, sym, subst, _∙_}
-use mathlib.Core.List.{List}
-use mathlib.Core.Bool.{Bool, true, false}
-use borrow.Author.Needs.{needs}
-use native.Mathlib.Omega.{arith}
+use Rattle.sets.proofs.RoundLaws.{Settling, left-to-do, settle-start, settle-more, settle-less, starts-between, follow-done}
 use Rattle.sets.proofs.follow.follow.Statement.{statement}
 use Rattle.sets.proofs.follow.follow.Tie as tie
-use Rattle.sets.proofs.follow.follow.Reads as reads
-use Rattle.sets.proofs.follow.follow.Lts as lts
-use Rattle.sets.proofs.follow.push_all.Reads as push-all-reads
-use Rattle.sets.proofs.follow.starts.Reads as starts-reads
 
 abbrev Inv-loop : tie.InvT-loop
 Inv-loop table first family₀ more₀ family more = Settling (follow-low table) (follow-of table) (From (FollowClosed table) 0) family more
@@ -19,28 +13,23 @@ Inv-loop table first family₀ more₀ family more = Settling (follow-low table)
 abbrev μ-loop : tie.MeasureT-loop
 μ-loop table first family₀ more₀ family more = left-to-do family more
 
--- src/follow.rt:144:5
 starts-requires : tie.Need-starts-requires Inv-loop μ-loop
 starts-requires c κs = c .before .before .before .before .pre .0
 
--- src/follow.rt:146:5
 loop-holds : tie.Need-loop-holds Inv-loop μ-loop
 loop-holds c =
     let ws = c .before .before .before .before .before .before .before .args .table .now in
     settle-start (follow-low ws) (follow-of ws) (From (FollowClosed ws) 0) (c .before .before .starts .last .0) (starts-between ws (c .before .before .starts .last .0) (c .before .before .starts .kept .0 ∙ c .before .before .before .before .before .before .before .pre .0) (c .before .before .starts .ensures))
 
--- src/follow.rt:147:9
 push-all-requires : tie.Need-push-all-requires Inv-loop μ-loop
 push-all-requires c κs = (c .before .before .before .before .before .before .before .before .before .before .pre .1, c .before .before .before .before .before .before .before .before .before .before .pre .2, c .before .before .loop .inv .between)
 
--- src/follow.rt:146:5
 loop-less : tie.Need-loop-less Inv-loop μ-loop
 loop-less c =
     let ws = c .before .before .before .before .before .before .before .before .before .before .before .before .before .args .table .now in
     let l = c .before .before .before .before .before .loop in
     subst (λ (b : Bool). left-to-do (c .before .before .push-all .last .1 .1 .0) (c .before .before .push-all .result) < left-to-do (l .family) b) (sym (c .before .before .before .before .loop-test .taken)) (settle-less (follow-low ws) (follow-of ws) (From (FollowClosed ws) 0) (l .family) (c .before .before .push-all .last .1 .1 .0) (c .before .before .push-all .result) (c .before .before .push-all .ensures))
 
--- src/follow.rt:146:5
 loop-again : tie.Need-loop-again Inv-loop μ-loop
 loop-again c =
     let ws = c .before .before .before .before .before .before .before .before .before .before .before .before .before .args .table .now in
@@ -48,11 +37,9 @@ loop-again c =
     settle-more (follow-low ws) (follow-of ws) (From (FollowClosed ws) 0) (l .family) (c .before .before .push-all .last .1 .1 .0) (c .before .before .push-all .result)
     (subst (λ (b : Bool). Settling (follow-low ws) (follow-of ws) (From (FollowClosed ws) 0) (l .family) b) (c .before .before .before .before .loop-test .taken) (l .inv)) (c .before .before .push-all .ensures)
 
--- src/follow.rt:140:1
 same-length : tie.Need-same-length Inv-loop μ-loop
 same-length c = c .before .loop .inv .between .size ∙ sym (c .before .before .before .before .before .before .before .before .before .pre .0)
 
--- src/follow.rt:140:1
 returns : tie.Need-returns Inv-loop μ-loop
 returns c =
     let l = c .before .loop in

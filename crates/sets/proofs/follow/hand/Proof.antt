@@ -1,22 +1,17 @@
-use Rattle.sets.proofs.FollowLaws.{Handing, hand-start, hand-more, placed-at, placed-length}
-use Rattle.sets.specs.Follows.{Handed}
-use Rattle.sets.specs.Rounds.{first-of, within, FollowStep}
-use Rattle.sets.specs.Parts.{siblings}
-use Rattle.lookahead.specs.Sets.{Has}
-use lib.ListN.{length, take, drop}
+-- `sets::follow::hand` meets its contract. The invariant: the parts from place k on have what follows them, and `tail` is what follows the part before. Assumes nothing.
 use Prim.Native.Nat.{ℕ, _-_, _≤_, _<_}
-use mathlib.Core.List.{List}
-use mathlib.Core.Path.{_≡_, refl, sym, ap, subst, _∙_}
 use borrow.Author.Needs.{needs}
+use lib.ListN.{length, take, drop}
+use mathlib.Core.List.{List}
+use mathlib.Core.Path.{_≡_, sym, ap, subst, _∙_}
 use native.Mathlib.Omega.{arith}
+use Rattle.lookahead.specs.Sets.{Has}
+use Rattle.sets.specs.Follows.{Handed}
+use Rattle.sets.specs.Parts.{siblings}
+use Rattle.sets.specs.Rounds.{first-of, within, FollowStep}
+use Rattle.sets.proofs.FollowLaws.{Handing, hand-start, hand-more, placed-at, placed-length}
 use Rattle.sets.proofs.follow.hand.Statement.{statement}
 use Rattle.sets.proofs.follow.hand.Tie as tie
-use Rattle.sets.proofs.follow.hand.Reads as reads
-use Rattle.sets.proofs.follow.hand.Lts as lts
-use Rattle.sets.proofs.first.either.Reads as either-reads
-use Rattle.sets.proofs.follow.before.Reads as before-reads
-use Rattle.sets.proofs.follow.give.Reads as give-reads
-use Rattle.sets.proofs.parts.places.Reads as places-reads
 
 abbrev Inv-loop : tie.InvT-loop
 Inv-loop table first family₀ start end joined places k₀ tail₀ grew₀ family k tail grew = Handing table joined (tail₀ .words) (siblings table start end) k (tail .words) family₀ family grew × (take k₀ places ≡ siblings table start end) × (k ≤ k₀) × (k₀ ≤ 256) × (length places ≡ 256)
@@ -24,15 +19,12 @@ Inv-loop table first family₀ start end joined places k₀ tail₀ grew₀ fami
 abbrev μ-loop : tie.MeasureT-loop
 μ-loop table first family₀ start end joined places k₀ tail₀ grew₀ family k tail grew = k
 
--- src/follow.rt:53:50
 slice-aggregate-places : tie.Need-slice-aggregate-places Inv-loop μ-loop
 slice-aggregate-places c = search needs
 
--- src/follow.rt:53:9
 places-requires : tie.Need-places-requires Inv-loop μ-loop
 places-requires c κs = (search needs, c .before .before .before .before .pre .2)
 
--- src/follow.rt:56:5
 loop-holds : tie.Need-loop-holds Inv-loop μ-loop
 loop-holds c =
     let a = c .before .before .before .before .before .before .args in
@@ -46,35 +38,27 @@ loop-holds c =
       l,
     )
 
--- src/follow.rt:57:9
 sub-k : tie.Need-sub-k Inv-loop μ-loop
 sub-k c = search needs
 
--- src/follow.rt:58:17
 mul-m : tie.Need-mul-m Inv-loop μ-loop
 mul-m c = search needs
 
--- src/follow.rt:58:17
 array-read-m : tie.Need-array-read-m Inv-loop μ-loop
 array-read-m c = omega (arith, c .before .loop .inv .2, c .before .loop .inv .3, c .before .loop .inv .4, c .loop-test .taken)
 
--- src/follow.rt:59:29
 give-requires : tie.Need-give-requires Inv-loop μ-loop
 give-requires c κs = c .before .before .loop .inv .0 .size
 
--- src/follow.rt:59:9
 either-requires : tie.Need-either-requires Inv-loop μ-loop
 either-requires c κs = search needs
 
--- src/follow.rt:60:9
 before-requires : tie.Need-before-requires Inv-loop μ-loop
 before-requires c κs = (c .before .before .before .before .before .before .before .before .before .before .before .before .before .pre .1, c .before .before .before .before .before .before .loop .inv .0 .tails .proper)
 
--- src/follow.rt:56:5
 loop-less : tie.Need-loop-less Inv-loop μ-loop
 loop-less c = search needs
 
--- src/follow.rt:56:5
 loop-again : tie.Need-loop-again Inv-loop μ-loop
 loop-again c =
     let a = c .before .before .before .before .before .before .before .before .before .before .before .before .before .before .args in
@@ -91,11 +75,9 @@ loop-again c =
       i .4,
     )
 
--- src/follow.rt:40:1
 same-length : tie.Need-same-length Inv-loop μ-loop
 same-length c = c .before .loop .inv .0 .size ∙ sym (c .before .before .before .before .before .before .before .before .pre .0)
 
--- src/follow.rt:40:1
 returns : tie.Need-returns Inv-loop μ-loop
 returns c =
     let a = c .before .before .before .before .before .before .before .before .args in

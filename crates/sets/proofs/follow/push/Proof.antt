@@ -1,48 +1,34 @@
-use Rattle.sets.proofs.PushLaws.{opening-pushed}
-use Prim.Native.Nat.{ℕ, _<_}
+-- `sets::follow::push` meets its contract. Assumes nothing.
+use borrow.Author.Needs.{needs}
 use mathlib.Core.Path.{_≡_}
 use native.Mathlib.Omega.{arith}
-use borrow.Author.Needs.{needs}
+use Rattle.sets.proofs.PushLaws.{opening-pushed}
 use Rattle.sets.proofs.follow.push.Statement.{statement}
 use Rattle.sets.proofs.follow.push.Tie as tie
-use Rattle.sets.proofs.follow.push.Reads as reads
-use Rattle.sets.proofs.follow.push.Lts as lts
-use Rattle.sets.proofs.follow.give.Reads as give-reads
-use Rattle.sets.proofs.follow.push_inside.Reads as push-inside-reads
-use Rattle.sets.proofs.parts.set_of.Reads as set-of-reads
-use Rattle.sets.proofs.rules.body_of.Reads as body-of-reads
 
--- src/follow.rt:98:9
 push-inside-requires : tie.Need-push-inside-requires
 push-inside-requires c κs =
     let p = c .before .before .before .before .before .pre in
     (c .before .if1 .taken, p .1, p .2, p .3)
 
--- src/follow.rt:98:9
 same-length : tie.Need-same-length
 same-length c = search needs
 
--- src/follow.rt:98:9
 returns : tie.Need-returns
 returns c = search needs
 
--- src/follow.rt:100:9
 set-of-requires : tie.Need-set-of-requires
 set-of-requires c κs = c .before .before .before .before .before .pre .3 .size
 
--- src/follow.rt:101:18
 body-of-requires : tie.Need-body-of-requires
 body-of-requires c κs = search needs
 
--- src/follow.rt:101:5
 give-requires : tie.Need-give-requires
 give-requires c κs = c .before .before .before .before .before .before .before .before .pre .3 .size
 
--- src/follow.rt:93:1
 same-length-2 : tie.Need-same-length-2
 same-length-2 c = search needs
 
--- src/follow.rt:93:1
 returns-2 : tie.Need-returns-2
 returns-2 c =
     let a = c .before .before .before .before .before .before .before .before .before .before .before .args in

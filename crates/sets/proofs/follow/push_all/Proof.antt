@@ -1,17 +1,12 @@
-use Rattle.sets.proofs.RoundLaws.{round-start, round-turn, step-map, from-turned}
-use Rattle.sets.specs.Rounds.{Between, FollowStep, FollowClosed, From, follow-low, follow-of}
-use lib.ListN.{length}
+-- `sets::follow::push_all` meets its contract. The invariant: strings of FOLLOW were added, and where no word grew the constructs passed have handed on what follows them. Assumes nothing.
 use Prim.Native.Nat.{ℕ, _-_, _≤_}
-use mathlib.Core.Path.{_≡_, sym, subst, _∙_}
-use mathlib.Core.List.{List}
 use borrow.Author.Needs.{needs}
+use mathlib.Core.Path.{_≡_, sym, subst, _∙_}
 use native.Mathlib.Omega.{arith}
+use Rattle.sets.specs.Rounds.{Between, FollowStep, FollowClosed, From, follow-low, follow-of}
+use Rattle.sets.proofs.RoundLaws.{round-start, round-turn, step-map, from-turned}
 use Rattle.sets.proofs.follow.push_all.Statement.{statement}
 use Rattle.sets.proofs.follow.push_all.Tie as tie
-use Rattle.sets.proofs.follow.push_all.Reads as reads
-use Rattle.sets.proofs.follow.push_all.Lts as lts
-use Rattle.sets.proofs.first.either.Reads as either-reads
-use Rattle.sets.proofs.follow.push.Reads as push-reads
 
 abbrev Inv-loop : tie.InvT-loop
 Inv-loop table first family₀ grew₀ i₀ family grew i = FollowStep table (From (λ n words. FollowClosed table (256 - n) words) i) family₀ family grew × (i ≤ 257) × Between (follow-low table) (follow-of table) family
@@ -19,33 +14,26 @@ Inv-loop table first family₀ grew₀ i₀ family grew i = FollowStep table (Fr
 abbrev μ-loop : tie.MeasureT-loop
 μ-loop table first family₀ grew₀ i₀ family grew i = i
 
--- src/follow.rt:111:5
 loop-holds : tie.Need-loop-holds Inv-loop μ-loop
 loop-holds c =
     let a = c .before .before .before .args in
     (round-start (follow-low (a .table .now)) (follow-of (a .table .now)) (λ n words. FollowClosed (a .table .now) (256 - n) words) (a .family .now), search needs, c .before .before .before .pre .2)
 
--- src/follow.rt:112:9
 sub-i : tie.Need-sub-i Inv-loop μ-loop
 sub-i c = search needs
 
--- src/follow.rt:113:56
 sub-push : tie.Need-sub-push Inv-loop μ-loop
 sub-push c = search needs
 
--- src/follow.rt:113:29
 push-requires : tie.Need-push-requires Inv-loop μ-loop
 push-requires c κs = (omega (arith, c .before .before .loop .inv .1), c .before .before .before .before .before .before .pre .0, c .before .before .before .before .before .before .pre .1, c .before .before .loop .inv .2)
 
--- src/follow.rt:113:9
 either-requires : tie.Need-either-requires Inv-loop μ-loop
 either-requires c κs = search needs
 
--- src/follow.rt:111:5
 loop-less : tie.Need-loop-less Inv-loop μ-loop
 loop-less c = search needs
 
--- src/follow.rt:111:5
 loop-again : tie.Need-loop-again Inv-loop μ-loop
 loop-again c =
     let ws = c .before .before .before .before .before .before .before .before .before .before .args .table .now in
@@ -55,11 +43,9 @@ loop-again c =
       c .before .before .before .push .ensures .keeps (l .inv .2),
     )
 
--- src/follow.rt:105:1
 same-length : tie.Need-same-length Inv-loop μ-loop
 same-length c = c .before .loop .inv .2 .size ∙ sym (c .before .before .before .before .before .pre .2 .size)
 
--- src/follow.rt:105:1
 returns : tie.Need-returns Inv-loop μ-loop
 returns c =
     let ws = c .before .before .before .before .before .args .table .now in

@@ -1,15 +1,12 @@
-use Rattle.sets.proofs.RoundLaws.{Planted, planted-none, planted-more}
-use Rattle.sets.specs.Follows.{Started}
-use Prim.Native.Nat.{ℕ, _-_, _≤_}
-use mathlib.Core.Path.{_≡_, sym, _∙_}
+-- `sets::follow::starts` meets its contract. The invariant: the sets below i are those of the start. Assumes nothing.
+use Prim.Native.Nat.{_-_, _≤_}
 use borrow.Author.Needs.{needs}
+use mathlib.Core.Path.{sym, _∙_}
 use native.Mathlib.Omega.{arith}
+use Rattle.sets.specs.Follows.{Started}
+use Rattle.sets.proofs.RoundLaws.{Planted, planted-none, planted-more}
 use Rattle.sets.proofs.follow.starts.Statement.{statement}
 use Rattle.sets.proofs.follow.starts.Tie as tie
-use Rattle.sets.proofs.follow.starts.Reads as reads
-use Rattle.sets.proofs.follow.starts.Lts as lts
-use Rattle.lookahead_slices.proofs.family.store.Reads as store-reads
-use Rattle.sets.proofs.follow.start.Reads as start-reads
 
 abbrev Inv-loop : tie.InvT-loop
 Inv-loop family₀ i₀ family i = Planted Started i family × (i ≤ 257)
@@ -17,37 +14,29 @@ Inv-loop family₀ i₀ family i = Planted Started i family × (i ≤ 257)
 abbrev μ-loop : tie.MeasureT-loop
 μ-loop family₀ i₀ family i = 257 - i
 
--- src/follow.rt:133:5
 loop-holds : tie.Need-loop-holds Inv-loop μ-loop
 loop-holds c = (planted-none Started (c .before .args .family .now) (c .before .pre), omega arith)
 
--- src/follow.rt:134:45
 start-requires : tie.Need-start-requires Inv-loop μ-loop
 start-requires c κs = search needs
 
--- src/follow.rt:134:9
 store-requires : tie.Need-store-requires Inv-loop μ-loop
 store-requires c κs = omega (arith, c .before .before .before .loop .inv .0 .size)
 
--- src/follow.rt:135:9
 add-i : tie.Need-add-i Inv-loop μ-loop
 add-i c = search needs
 
--- src/follow.rt:133:5
 loop-less : tie.Need-loop-less Inv-loop μ-loop
 loop-less c = search needs
 
--- src/follow.rt:133:5
 loop-again : tie.Need-loop-again Inv-loop μ-loop
 loop-again c =
     let l = c .before .before .before .before .before .before .loop in
     (planted-more Started (l .family) (c .before .before .store .last .0) (l .i) (c .before .before .before .start .result .words) (c .before .before .before .before .before .loop-test .taken) (l .inv .0) (c .before .before .before .start .ensures) (c .before .before .store .ensures), omega (arith, c .before .before .before .before .before .loop-test .taken))
 
--- src/follow.rt:128:1
 same-length : tie.Need-same-length Inv-loop μ-loop
 same-length c = c .before .loop .inv .0 .size ∙ sym (c .before .before .before .pre)
 
--- src/follow.rt:128:1
 returns : tie.Need-returns Inv-loop μ-loop
 returns c = λ j h. c .before .loop .inv .0 .done j (omega (arith, c .loop-test .left))
 

@@ -1,19 +1,13 @@
-use Rattle.sets.proofs.PartLaws.{Gathering, gather-none, gather-next, gather-done, gather-set, siblings-done, siblings-last, siblings-next}
-use Rattle.sets.specs.Parts.{siblings}
-use Rattle.lookahead.specs.Sets.{Has, Is}
+-- `sets::parts::gather` meets its contract. The invariant: what is gathered, combined with what the parts still to come give, is what all parts give. Assumes nothing.
+use Prim.Native.Nat.{ℕ, _+_, _-_}
 use borrow.Author.Needs.{needs}
-use mathlib.Core.List.{List, [], _∷_}
-use Prim.Native.Nat.{ℕ, _+_, _-_, _≤_}
-use mathlib.Core.Path.{_≡_, refl, sym, ap, subst, _∙_}
+use mathlib.Core.List.{[], _∷_}
+use mathlib.Core.Path.{_≡_, refl, sym, subst, _∙_}
 use native.Mathlib.Omega.{arith}
+use Rattle.sets.specs.Parts.{siblings}
+use Rattle.sets.proofs.PartLaws.{Gathering, gather-none, gather-next, gather-done, gather-set, siblings-done, siblings-last, siblings-next}
 use Rattle.sets.proofs.parts.gather.Statement.{statement}
 use Rattle.sets.proofs.parts.gather.Tie as tie
-use Rattle.sets.proofs.parts.gather.Reads as reads
-use Rattle.sets.proofs.parts.gather.Lts as lts
-use Rattle.sets.proofs.parts.combine.Reads as combine-reads
-use Rattle.sets.proofs.parts.neutral.Reads as neutral-reads
-use Rattle.sets.proofs.parts.set_of.Reads as set-of-reads
-use Rattle.sets.proofs.parts.size_at.Reads as size-at-reads
 
 abbrev Inv-loop : tie.InvT-loop
 Inv-loop table family start end joined out₀ at₀ out at = Gathering joined family (siblings table start end) (out .words) (siblings table at end)
@@ -21,29 +15,23 @@ Inv-loop table family start end joined out₀ at₀ out at = Gathering joined fa
 abbrev μ-loop : tie.MeasureT-loop
 μ-loop table family start end joined out₀ at₀ out at = end - at
 
--- src/parts.rt:76:9
 neutral-requires : tie.Need-neutral-requires Inv-loop μ-loop
 neutral-requires c κs = search needs
 
--- src/parts.rt:78:5
 loop-holds : tie.Need-loop-holds Inv-loop μ-loop
 loop-holds c =
     let a = c .before .before .before .args in
     gather-none (a .joined) (a .family .now) (siblings (a .table .now) (a .start) (a .end)) (c .neutral .result .words) (c .neutral .ensures)
 
--- src/parts.rt:79:36
 set-of-requires : tie.Need-set-of-requires Inv-loop μ-loop
 set-of-requires c κs = search needs
 
--- src/parts.rt:79:9
 combine-requires : tie.Need-combine-requires Inv-loop μ-loop
 combine-requires c κs = search needs
 
--- src/parts.rt:80:13
 size-at-requires : tie.Need-size-at-requires Inv-loop μ-loop
 size-at-requires c κs = search needs
 
--- src/parts.rt:82:13
 returns : tie.Need-returns Inv-loop μ-loop
 returns c =
     let a = c .before .before .before .before .before .before .before .before .before .args in
@@ -54,15 +42,12 @@ returns c =
     (siblings-last (a .table .now) (a .end) (l .at) (c .before .before .before .before .loop-test .taken) (sym (c .before .size-at .ensures .0) ∙ c .if1 .taken)) (l .inv)
     (gather-set (a .joined) (a .family .now) whole (l .out .words) (c .before .before .before .set-of .result .words) (c .before .before .combine .result .words) (l .at) (c .before .before .before .set-of .ensures) (c .before .before .combine .ensures)))
 
--- src/parts.rt:84:9
 add-at : tie.Need-add-at Inv-loop μ-loop
 add-at c = search needs
 
--- src/parts.rt:78:5
 loop-less : tie.Need-loop-less Inv-loop μ-loop
 loop-less c = omega (arith, c .if1 .left)
 
--- src/parts.rt:78:5
 loop-again : tie.Need-loop-again Inv-loop μ-loop
 loop-again c =
     let a = c .before .before .before .before .before .before .before .before .before .args in
@@ -73,7 +58,6 @@ loop-again c =
     (siblings-next (a .table .now) (a .end) (l .at) (c .before .before .before .before .loop-test .taken) (λ e. c .if1 .left (c .before .size-at .ensures .0 ∙ e)))) (l .inv)
     (gather-set (a .joined) (a .family .now) whole (l .out .words) (c .before .before .before .set-of .result .words) (c .before .before .combine .result .words) (l .at) (c .before .before .before .set-of .ensures) (c .before .before .combine .ensures))
 
--- src/parts.rt:72:1
 returns-2 : tie.Need-returns-2 Inv-loop μ-loop
 returns-2 c =
     let a = c .before .before .before .before .before .args in

@@ -1,16 +1,14 @@
-use Rattle.sets.proofs.PartLaws.{Placing, place-none, place-more, place-done, siblings-done, siblings-last, siblings-next}
-use Rattle.sets.specs.Parts.{siblings}
-use lib.ListN.{length, set, length-set}
+-- `sets::parts::places` meets its contract. The invariant: the numbers written, with those of the parts still to come, are those of all parts. Assumes nothing.
 use Prim.Native.Nat.{ℕ, _+_, _-_, _≤_}
+use borrow.Author.Needs.{needs}
+use lib.ListN.{set, length-set}
 use mathlib.Core.List.{[], _∷_}
 use mathlib.Core.Path.{_≡_, refl, sym, subst, _∙_}
-use borrow.Author.Needs.{needs}
 use native.Mathlib.Omega.{arith}
+use Rattle.sets.specs.Parts.{siblings}
+use Rattle.sets.proofs.PartLaws.{Placing, place-none, place-more, place-done, siblings-done, siblings-last, siblings-next}
 use Rattle.sets.proofs.parts.places.Statement.{statement}
 use Rattle.sets.proofs.parts.places.Tie as tie
-use Rattle.sets.proofs.parts.places.Reads as reads
-use Rattle.sets.proofs.parts.places.Lts as lts
-use Rattle.sets.proofs.parts.size_at.Reads as size-at-reads
 
 abbrev Inv-loop : tie.InvT-loop
 Inv-loop table start end out₀ n₀ at₀ out n at = Placing (siblings table start end) n out (siblings table at end) × (n ≤ at) × (n ≤ 256)
@@ -18,31 +16,24 @@ Inv-loop table start end out₀ n₀ at₀ out n at = Placing (siblings table st
 abbrev μ-loop : tie.MeasureT-loop
 μ-loop table start end out₀ n₀ at₀ out n at = end - at
 
--- src/parts.rt:96:5
 loop-holds : tie.Need-loop-holds Inv-loop μ-loop
 loop-holds c = (place-none (siblings (c .before .before .args .table .now) (c .before .before .args .start) (c .before .before .args .end)) (c .before .before .args .out .now) (c .before .before .pre .0), omega arith, omega arith)
 
--- src/parts.rt:97:9
 mul-out : tie.Need-mul-out Inv-loop μ-loop
 mul-out c = omega (arith, c .before .loop .inv .1, c .loop-test .taken, c .before .before .before .before .pre .1)
 
--- src/parts.rt:97:9
 slice-write-out : tie.Need-slice-write-out Inv-loop μ-loop
 slice-write-out c = omega (arith, c .before .loop .inv .0 .size, c .before .loop .inv .1, c .loop-test .taken, c .before .before .before .before .pre .1)
 
--- src/parts.rt:98:9
 add-n : tie.Need-add-n Inv-loop μ-loop
 add-n c = omega (arith, c .before .loop .inv .1, c .loop-test .taken, c .before .before .before .before .pre .1)
 
--- src/parts.rt:99:13
 size-at-requires : tie.Need-size-at-requires Inv-loop μ-loop
 size-at-requires c κs = search needs
 
--- src/parts.rt:101:13
 same-length : tie.Need-same-length Inv-loop μ-loop
 same-length c = length-set (c .before .before .before .loop .out) (c .before .before .before .loop .n) (c .before .before .before .loop .at) ∙ c .before .before .before .loop .inv .0 .size ∙ sym (c .before .before .before .before .before .before .pre .0)
 
--- src/parts.rt:101:13
 returns : tie.Need-returns Inv-loop μ-loop
 returns c =
     let a = c .before .before .before .before .before .before .args in
@@ -54,15 +45,12 @@ returns c =
       omega (arith, l .inv .1, c .before .before .loop-test .taken, c .before .before .before .before .before .before .pre .1),
     )
 
--- src/parts.rt:103:9
 add-at : tie.Need-add-at Inv-loop μ-loop
 add-at c = omega (arith, c .before .size-at .ensures .1, c .before .before .loop-test .taken, c .before .before .before .before .before .before .pre .1)
 
--- src/parts.rt:96:5
 loop-less : tie.Need-loop-less Inv-loop μ-loop
 loop-less c = omega (arith, c .if1 .left, c .before .before .loop-test .taken)
 
--- src/parts.rt:96:5
 loop-again : tie.Need-loop-again Inv-loop μ-loop
 loop-again c =
     let a = c .before .before .before .before .before .before .args in
@@ -75,11 +63,9 @@ loop-again c =
       omega (arith, l .inv .1, c .before .before .loop-test .taken, c .before .before .before .before .before .before .pre .1),
     )
 
--- src/parts.rt:90:1
 same-length-2 : tie.Need-same-length-2 Inv-loop μ-loop
 same-length-2 c = c .before .loop .inv .0 .size ∙ sym (c .before .before .before .before .pre .0)
 
--- src/parts.rt:90:1
 returns-2 : tie.Need-returns-2 Inv-loop μ-loop
 returns-2 c =
     let a = c .before .before .before .before .args in

@@ -1,34 +1,24 @@
-use Rattle.sets.proofs.RoundLaws.{set-loaded, set-past}
+-- `sets::parts::set_of` meets its contract. United with nothing, a set has its one form. Assumes nothing.
 use borrow.Author.Needs.{needs}
+use Rattle.sets.proofs.RoundLaws.{set-loaded, set-past}
 use Rattle.sets.proofs.parts.set_of.Statement.{statement}
 use Rattle.sets.proofs.parts.set_of.Tie as tie
-use Rattle.sets.proofs.parts.set_of.Reads as reads
-use Rattle.sets.proofs.parts.set_of.Lts as lts
-use Rattle.lookahead.proofs.empty.Reads as empty-reads
-use Rattle.lookahead_slices.proofs.family.load.Reads as load-reads
-use Rattle.lookahead.proofs.union.Reads as union-reads
 
--- src/parts.rt:48:33
 empty-requires : tie.Need-empty-requires
 empty-requires c κs = search needs
 
--- src/parts.rt:48:53
 load-requires : tie.Need-load-requires
 load-requires c κs = search needs
 
--- src/parts.rt:48:9
 union-requires : tie.Need-union-requires
 union-requires c κs = search needs
 
--- src/parts.rt:48:9
 returns : tie.Need-returns
 returns c = set-loaded (c .before .before .before .before .before .args .family .now) (c .before .before .before .before .before .args .i) (c .before .before .empty .result .words) (c .before .load .result .words) (c .union .result .words) (c .before .before .empty .ensures) (c .before .load .ensures) (c .union .ensures)
 
--- src/parts.rt:50:5
 empty-requires-2 : tie.Need-empty-requires-2
 empty-requires-2 c κs = search needs
 
--- src/parts.rt:43:1
 returns-2 : tie.Need-returns-2
 returns-2 c = set-past (c .before .before .before .args .family .now) (c .before .before .before .args .i) (c .empty2 .result .words) (c .before .before .before .pre) (c .before .if1 .left) (c .empty2 .ensures)
 

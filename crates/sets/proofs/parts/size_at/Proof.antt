@@ -1,25 +1,19 @@
-use Rattle.sets.proofs.PartLaws.{size-small}
+-- `sets::parts::size_at` meets its contract. The size is below 257 whatever the words are. Assumes nothing.
+use Prim.Native.Nat.{ℕ, _≤_}
+use borrow.Author.Needs.{needs}
+use mathlib.Core.Path.{_≡_, ap, subst, sym, _∙_}
 use Rattle.layout.specs.Constructs.{constructAt}
 use Rattle.layout.specs.Held.{size-of}
-use Prim.Native.Nat.{ℕ, _≤_}
-use mathlib.Core.Path.{_≡_, ap, subst, sym, _∙_}
-use borrow.Author.Needs.{needs}
+use Rattle.sets.proofs.PartLaws.{size-small}
 use Rattle.sets.proofs.parts.size_at.Statement.{statement}
 use Rattle.sets.proofs.parts.size_at.Tie as tie
-use Rattle.sets.proofs.parts.size_at.Reads as reads
-use Rattle.sets.proofs.parts.size_at.Lts as lts
-use Rattle.layout.proofs.construct_at.Reads as construct-at-reads
-use Rattle.sets.proofs.parts.size_of.Reads as size-of-reads
 
--- src/parts.rt:39:13
 construct-at-requires : tie.Need-construct-at-requires
 construct-at-requires c κs = search needs
 
--- src/parts.rt:39:5
 size-of-requires : tie.Need-size-of-requires
 size-of-requires c κs = search needs
 
--- src/parts.rt:36:1
 returns : tie.Need-returns
 returns c =
     let a = c .before .before .before .args in

@@ -1,33 +1,23 @@
-use Rattle.sets.proofs.AppliedLaws.{of-opening}
-use Prim.Native.Nat.{ℕ}
+-- `sets::rules::applied` meets its contract. Assumes nothing.
+use borrow.Author.Needs.{needs}
 use mathlib.Core.Path.{_≡_}
 use native.Mathlib.Omega.{arith}
-use borrow.Author.Needs.{needs}
+use Rattle.sets.proofs.AppliedLaws.{of-opening}
 use Rattle.sets.proofs.rules.applied.Statement.{statement}
 use Rattle.sets.proofs.rules.applied.Tie as tie
-use Rattle.sets.proofs.rules.applied.Reads as reads
-use Rattle.sets.proofs.rules.applied.Lts as lts
-use Rattle.sets.proofs.parts.set_of.Reads as set-of-reads
-use Rattle.sets.proofs.rules.body_of.Reads as body-of-reads
-use Rattle.sets.proofs.rules.inside.Reads as inside-reads
 
--- src/rules.rt:116:9
 inside-requires : tie.Need-inside-requires
 inside-requires c κs = search needs
 
--- src/rules.rt:116:9
 returns : tie.Need-returns
 returns c = search needs
 
--- src/rules.rt:118:27
 body-of-requires : tie.Need-body-of-requires
 body-of-requires c κs = search needs
 
--- src/rules.rt:118:5
 set-of-requires : tie.Need-set-of-requires
 set-of-requires c κs = search needs
 
--- src/rules.rt:111:1
 returns-2 : tie.Need-returns-2
 returns-2 c =
     let a = c .before .before .before .before .before .args in

@@ -1,53 +1,41 @@
-use Rattle.layout.specs.Held.{allowed, term-words}
+-- `sets::rules::counted` meets its contract. Assumes nothing.
+use Prim.Native.Nat.{ℕ}
+use borrow.Author.Needs.{needs}
+use mathlib.Core.Bool.{Bool}
+use mathlib.Core.List.{List, []}
+use mathlib.Core.Path.{sym, ap, _∙_}
+use Rattle.basis.specs.Counts.{zero-or-more}
 use Rattle.layout.specs.Constructs.{pick}
+use Rattle.layout.specs.Held.{allowed, term-words}
 use Rattle.evaluation.specs.Counts.{counts}
 use Rattle.evaluation.specs.Variables.{hasVariable}
 use Rattle.terms.specs.Words.{terms}
-use Rattle.basis.specs.Counts.{zero-or-more}
-use Prim.Native.Nat.{ℕ}
-use mathlib.Core.List.{List, []}
-use mathlib.Core.Bool.{Bool}
-use mathlib.Core.Path.{_≡_, sym, ap, _∙_}
-use borrow.Author.Needs.{needs}
 use Rattle.sets.proofs.rules.counted.Statement.{statement}
 use Rattle.sets.proofs.rules.counted.Tie as tie
-use Rattle.sets.proofs.rules.counted.Reads as reads
-use Rattle.sets.proofs.rules.counted.Lts as lts
-use Rattle.sets.proofs.rules.term_words.Reads as term-words-reads
-use Rattle.evaluation.proofs.counts.count.Reads as count-reads
-use Rattle.evaluation.proofs.variables.has_variable.Reads as has-variable-reads
 
--- src/rules.rt:35:9
 term-words-requires : tie.Need-term-words-requires
 term-words-requires c κs = search needs
 
--- src/rules.rt:36:8
 has-variable-requires : tie.Need-has-variable-requires
 has-variable-requires c κs = search needs
 
--- src/rules.rt:37:9
 returns : tie.Need-returns
 returns c =
     let a = c .before .before .before .before .args in
     sym (ap (λ (b : Bool). pick b zero-or-more (allowed (counts [] (term-words (a .table .now)) (a .start) (a .end)))) (ap (λ (l : List ℕ). hasVariable (terms l (a .start) (a .end))) (sym (c .before .before .term-words .ensures)) ∙ sym (c .before .has-variable .ensures) ∙ c .if1 .taken))
 
--- src/rules.rt:40:45
 sub-count : tie.Need-sub-count
 sub-count c = search needs
 
--- src/rules.rt:40:45
 part-count-start : tie.Need-part-count-start
 part-count-start c = search needs
 
--- src/rules.rt:40:45
 part-count-end : tie.Need-part-count-end
 part-count-end c = search needs
 
--- src/rules.rt:40:5
 count-requires : tie.Need-count-requires
 count-requires c κs = search needs
 
--- src/rules.rt:32:1
 returns-2 : tie.Need-returns-2
 returns-2 c =
     let a = c .before .before .before .before .before .before .before .args in

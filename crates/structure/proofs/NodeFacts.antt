@@ -17,13 +17,13 @@ use Rattle.layout.specs.Places.{word, rules-at, variables-at, constructs-at, te
 use Rattle.layout.specs.Constructs.{pick, both, branches, listed, innerOf, leafOf, constructOf, constructAt}
 use Rattle.layout.specs.Held.{Values, HeldNode, literal-bytes, node-of, opening, held}
 use Rattle.layout.specs.declared.Construct.{Construct}
 use Rattle.form.specs.Checks.{all-zero}
 use Rattle.form.specs.Rules.{body, rule-end}
 use Rattle.form.specs.Laid.{operands-zero, kind-laid, rest-zero}
 use Rattle.form.proofs.Walks.{both-first, both-second}
 use Rattle.form.proofs.Decoded.{picked, Fine, fine}
-use Rattle.form.proofs.Facts.{Laid, RuleLaid, each}
-use Rattle.form.proofs.RuleLaws.{rule-fact, rule-within}
+use Rattle.structure.proofs.Facts.{Laid, RuleLaid, each}
+use Rattle.structure.proofs.RuleLaws.{rule-fact, rule-within}
 
 -- ---- a field takes a bit
 

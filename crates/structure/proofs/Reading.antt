@@ -26,7 +26,7 @@ use Rattle.terms.specs.declared.Trial.{Trial}
 use borrow.Author.Tests.{ltb-true, ltb-false, eqb-true, eqb-false}
 use Rattle.evaluation.specs.declared.Counted.{Counted}
 use Rattle.theory.proofs.Turns.{decide}
-use Rattle.form.proofs.Facts.{lt-of-ne}
+use Rattle.structure.proofs.Facts.{lt-of-ne}
 
 -- every variable that a term uses is one of P
 abbrev pub OperationReads : (ℕ → Type 0) → Operation → Type 0

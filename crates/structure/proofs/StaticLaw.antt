@@ -33,8 +33,8 @@ use Rattle.layout.specs.Constructs.{pick, constructAt}
 use Rattle.layout.specs.Held.{Values, HeldNode, term-words, terms-of, parts, allowed, isYes, passes-allowed, passes-static, isExact, passes-fixed, first-case, in-set, in-static-set, use-node, node-of, opening, held}
 use Rattle.layout.specs.declared.Construct.{Construct}
 use Rattle.layout.specs.declared.Passes.{Passes}
 use Rattle.form.proofs.Decoded.{picked}
-use Rattle.form.proofs.Reading.{membership-same, counts-same, no-variable, none-same}
+use Rattle.structure.proofs.Reading.{membership-same, counts-same, no-variable, none-same}
 
 -- what a node's static part is to cover
 abbrev StaticOf : HeldNode → Type 0

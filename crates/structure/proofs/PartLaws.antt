@@ -13,13 +13,13 @@ use Rattle.layout.specs.Constructs.{both, constructAt}
 use Rattle.layout.specs.Held.{size-of, parts}
 use Rattle.layout.specs.declared.Construct.{Construct}
 use Rattle.layout.specs.declared.Passes.{Passes}
 use Rattle.form.specs.Checks.{size-at}
 use Rattle.form.specs.Parts.{part-laid, parts-laid}
 use Rattle.form.specs.Laid.{operands-zero, second-part, construct-end, passes-laid, kind-laid}
 use Rattle.form.proofs.Walks.{both-first, both-second}
 use Rattle.form.proofs.Decoded.{Fine, fine}
-use Rattle.form.proofs.Tiles.{Tiles, none, more, tiles, parts-more, parts-none}
-use Rattle.form.proofs.Facts.{Laid}
+use Rattle.structure.proofs.Tiles.{Tiles, none, more, tiles, parts-more, parts-none}
+use Rattle.structure.proofs.Facts.{Laid}
 
 -- the parts of a construct, as the grammar that the table holds has them
 abbrev pub parts-of : List ℕ → ℕ → Construct → List ℕ

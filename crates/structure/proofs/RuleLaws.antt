@@ -11,11 +11,11 @@ use lib.Dec.{ltb, eqb}
 use Rattle.theory.proofs.Turns.{decide}
 use Rattle.layout.specs.Places.{word, rule-count, construct-count, rule-word}
 use Rattle.layout.specs.Constructs.{pick, both}
 use Rattle.form.specs.Checks.{size-at}
 use Rattle.form.specs.Parts.{unconditioned}
 use Rattle.form.specs.Rules.{body, rule-end, rule-laid}
 use Rattle.form.proofs.Walks.{both-first, both-second}
-use Rattle.form.proofs.Facts.{RuleLaid, Laid}
+use Rattle.structure.proofs.Facts.{RuleLaid, Laid}
 
 rule-facts : (ws : List ℕ) (r : ℕ) → rule-laid ws r ≡ true → RuleLaid ws r
 rule-facts ws r h =
@@ -34,11 +34,11 @@ rule-facts ws r h =
     }
 
 -- where rule r ends: where the next begins, or after the last construct
-next-begins : (ws : List ℕ) (r k : ℕ) → r + 1 < rule-count ws → rule-end ws r k ≡ rule-word ws (r + 1) k
+pub next-begins : (ws : List ℕ) (r k : ℕ) → r + 1 < rule-count ws → rule-end ws r k ≡ rule-word ws (r + 1) k
 next-begins ws r k h = rw (lt-ltb (r + 1) (rule-count ws) h)
 
-last-ends : (ws : List ℕ) (r : ℕ) → rule-count ws ≤ r + 1 → rule-end ws r 0 ≡ construct-count ws
-last-ends ws r h = rw (le-ltb (r + 1) (rule-count ws) h)
+pub last-ends : (ws : List ℕ) (r k : ℕ) → rule-count ws ≤ r + 1 → rule-end ws r k ≡ word ws (2 + k)
+last-ends ws r k h = rw (le-ltb (r + 1) (rule-count ws) h)
 
 -- the rule of construct i
 pub record RuleOf (ws : List ℕ) (i : ℕ) : Type 0 where
@@ -60,7 +60,7 @@ module _ {ws : List ℕ} (l : Laid ws) where
             let past : rule-end ws r 0 ≤ i = ltb-false i (rule-end ws r 0) t
             in elim (decide (ltb (r + 1) (rule-count ws))) [
               | inl s ↦ let more : r + 1 < rule-count ws = ltb-true (r + 1) (rule-count ws) s in search-from n (r + 1) i (omega arith) more (omega (arith, next-begins ws r 0 more)) high
-              | inr s ↦ let last : rule-count ws ≤ r + 1 = ltb-false (r + 1) (rule-count ws) s in absurd (omega (arith, last-ends ws r last))
+              | inr s ↦ let last : rule-count ws ≤ r + 1 = ltb-false (r + 1) (rule-count ws) s in let ends : rule-end ws r 0 ≡ construct-count ws = last-ends ws r 0 last in absurd (omega arith)
             ]
       ]
 
@@ -79,7 +79,7 @@ module _ {ws : List ℕ} (l : Laid ws) where
 
   -- no rule ends past the constructs
   ends-within : (n r : ℕ) → r + 1 + n ≡ rule-count ws → rule-end ws r 0 ≤ construct-count ws
-  ends-within zero r e = omega (arith, last-ends ws r (omega arith))
+  ends-within zero r e = let ends : rule-end ws r 0 ≡ construct-count ws = last-ends ws r 0 (omega arith) in omega arith
   ends-within (suc n) r e =
       let later : rule-end ws (r + 1) 0 ≤ construct-count ws = ends-within n (r + 1) (omega arith)
       in let within : body ws (r + 1) < rule-end ws (r + 1) 0 = rule-fact (r + 1) (omega arith) .some-construct

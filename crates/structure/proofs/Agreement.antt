@@ -26,11 +26,11 @@ use Rattle.layout.specs.Constructs.{constructAt}
 use Rattle.layout.specs.Held.{Values, term-words, terms-of, isYes, allowed, passes-allowed, first-case, in-set, bound}
 use Rattle.layout.specs.declared.Construct.{Construct}
 use Rattle.layout.specs.declared.Passes.{Passes}
 use Rattle.form.specs.Lists.{own-start, own-end}
 use Rattle.form.specs.Rules.{body, rule-end}
-use Rattle.form.proofs.Facts.{Laid}
-use Rattle.form.proofs.Reading.{Reads, Same, membership-same, condition-same, counts-same}
-use Rattle.form.proofs.Binding.{Visible, condition-reads, own-reads}
+use Rattle.structure.proofs.Facts.{Laid}
+use Rattle.structure.proofs.Reading.{Reads, Same, membership-same, condition-same, counts-same}
+use Rattle.structure.proofs.Binding.{Visible, condition-reads, own-reads}
 
 -- two lists of values that are as long and agree on the variables of P
 pub record Agreeing (P : ℕ → Type 0) (v v′ : Values) : Type 0 where

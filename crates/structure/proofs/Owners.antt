@@ -13,13 +13,13 @@ use Rattle.theory.proofs.Turns.{decide}
 use Rattle.layout.specs.Places.{rule-count, construct-count}
 use Rattle.layout.specs.Constructs.{constructAt}
 use Rattle.layout.specs.Held.{size-of}
 use Rattle.form.specs.Checks.{size-at}
 use Rattle.form.specs.Parts.{part-laid}
 use Rattle.form.specs.Rules.{body, rule-end}
-use Rattle.form.proofs.Tiles.{Within, Holds, Apart, same, before, behind, within, apart, covered}
-use Rattle.form.proofs.Facts.{RuleLaid, Laid, lt-of-ne}
-use Rattle.form.proofs.PartLaws.{parts-of, is-switch, Tiled, tiled}
-use Rattle.form.proofs.RuleLaws.{RuleOf, rule-of, rule-fact, rules-apart, rule-within}
+use Rattle.structure.proofs.Tiles.{Within, Holds, Apart, same, before, behind, within, apart, covered}
+use Rattle.structure.proofs.Facts.{RuleLaid, Laid, lt-of-ne}
+use Rattle.structure.proofs.PartLaws.{parts-of, is-switch, Tiled, tiled}
+use Rattle.structure.proofs.RuleLaws.{RuleOf, rule-of, rule-fact, rules-apart, rule-within}
 
 -- p is a part of construct o
 abbrev pub PartOf : List ℕ → ℕ → ℕ → Type 0

@@ -1,0 +1,1 @@
+// What laid out words give: no code, only laws (proofs/).
