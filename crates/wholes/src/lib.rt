@@ -1,6 +1,6 @@
 // Exact whole numbers in i64, each result of at most 2^62 without its sign.
 ghost use mathlib.Core.Path.{_≡_};
-ghost use Prim.Native.Nat.{_+_, _^_};
+ghost use Prim.Native.Nat.{_+_, _^_, _≤_};
 ghost use lib.Dec.{leb};
 ghost use lib.IntN.{ℤ, pos, natAbs, negℤ, _+ℤ_, _-ℤ_, _*ℤ_};
 ghost use lib.Signed.{nonNeg, leZ};
@@ -184,4 +184,12 @@ pub fn negate(a: i64) -> Checked
         return Checked::Overflow;
     }
     Checked::Exact(opposite(a))
+}
+
+// A power of two.
+pub fn power(exponent: u64) -> u64
+    requires { ⌜ exponent ≤ 62 ⌝ }
+    ensures { λ r. ⌜ r ≡ 2 ^ exponent ⌝ }
+{
+    1 << exponent
 }

@@ -1,0 +1,15 @@
+-- A search for the least number with a property.
+-- Assumes nothing.
+use Prim.Native.Nat.{ℕ, _+_, _≤_, _<_}
+use mathlib.Core.Path.{_≡_}
+use mathlib.Core.Logic.{inl, inr}
+use native.Mathlib.Omega.{arith}
+use borrow.Author.Count.{below-more}
+use Rattle.measures.specs.Measures.{LeastOf}
+
+module _ (P : ℕ → Type 0) (n : ℕ) where
+  pub least-here : (r : ℕ) → r < n → P r → ((j : ℕ) → j < r → P j → ⊥) → LeastOf P n r
+  least-here r h p b = record { most = omega arith; holds = λ k. p; before = b }
+
+  pub least-none : ((j : ℕ) → j < n → P j → ⊥) → LeastOf P n n
+  least-none b = record { most = omega arith; holds = λ k. absurd (omega arith); before = b }

@@ -1,0 +1,2 @@
+pub mod WidestLaws
+pub mod LeastLaws
