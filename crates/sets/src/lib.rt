@@ -4,6 +4,6 @@
 mod fields;
 pub mod first;
 pub mod follow;
-mod parts;
+pub mod parts;
 pub mod prediction;
 mod rules;

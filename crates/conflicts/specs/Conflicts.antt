@@ -1,0 +1,39 @@
+-- Refusals 9 and 10 over a table's words. What they are is the theory's `EmptyBody` and `Conflict`.
+-- Assumes nothing.
+use Prim.Native.Nat.{ℕ, _≤_, _<_}
+use mathlib.Core.Path.{_≡_}
+use mathlib.Core.Logic.{_⊎_}
+use mathlib.Core.List.{List}
+use Rattle.basis.specs.Bits.{Bits}
+use Rattle.basis.specs.Lookahead.{number}
+use Rattle.theory.specs.Grammar.{alternative, _∈_}
+use Rattle.theory.specs.Lookahead.{Predicted, Conflict, LeastConflict}
+use Rattle.layout.specs.Held.{held}
+use Rattle.conflicts.specs.Windows.{HasNumber}
+use Rattle.conflicts.specs.declared.Clash.{Clash}
+
+module _ (ws : List ℕ) (i : ℕ) where
+  -- construct i has a conflict (01's clash)
+  abbrev pub Conflicting : Type 0
+  Conflicting = (x : Bits) × Conflict (held ws) i x
+
+  -- "the answer carries the least common window", by its number
+  abbrev pub LeastWindow : ℕ → Type 0
+  LeastWindow n = (x : Bits) × (number x ≡ n) × LeastConflict (held ws) i x
+
+  -- the first two branches that have the window: for the report to a clerk
+  pub record FirstTwo (n first second : ℕ) : Type 0 where
+    pub branches : List ℕ
+    pub node : held ws .node i ≡ alternative branches
+    pub first-listed : first ∈ branches
+    pub second-listed : second ∈ branches
+    pub in-order : first < second
+    pub first-has : HasNumber (Predicted (held ws)) first n
+    pub second-has : HasNumber (Predicted (held ws)) second n
+    pub others : (j : ℕ) → j ∈ branches → HasNumber (Predicted (held ws)) j n → (j ≡ first) ⊎ (second ≤ j)
+
+  -- what an answer says: there is none; or the least window, with the two branches of an alternative or of a repetition's continue and exit
+  abbrev pub Answered : Clash → Type 0
+  Answered Clash.None = Conflicting → ⊥
+  Answered (Clash.Branches window first second) = LeastWindow window × FirstTwo window first second
+  Answered (Clash.Passes window) = LeastWindow window × ((is : List ℕ) → held ws .node i ≡ alternative is → ⊥)
