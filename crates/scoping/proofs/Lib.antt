@@ -1,2 +1,5 @@
 -- What well laid out words give of rules and names.
 pub mod RuledLaw
+pub mod Seen
+pub mod Levels
+pub mod NodeScopes
