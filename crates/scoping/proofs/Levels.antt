@@ -103,7 +103,7 @@ module _ {ws : List ℕ} (l : Laid ws) where
       in (seen-in l r j h (omega arith) (omega arith), subst (λ (xs : List ℕ). Chain (scope-of ws) (0 ∷ xs) js) next (row r rest h (omega arith) high))
 
   -- the members of a concatenation
-  pub chain : (r i : ℕ) {check : ℕ → Bool} {js : List ℕ} → Stands ws r i → bound-at ws i ≡ [] → i + size-at ws i ≤ rule-end ws r 0 → Tiles ws check (i + size-at ws i) (i + 1) js
+  pub chain : (r i : ℕ) {check : ℕ → Bool} {end : ℕ} {js : List ℕ} → Stands ws r i → bound-at ws i ≡ [] → end ≤ rule-end ws r 0 → Tiles ws check end (i + 1) js
       → Chain (scope-of ws) (seen-at ws i) js
   chain r i {js = js} s own high t =
       let next : bound-before ws (body ws r) (i + 1) ≡ bound-before ws (body ws r) i =

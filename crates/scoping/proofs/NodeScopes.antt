@@ -82,3 +82,57 @@ module _ {ws : List ℕ} (l : Laid ws) where
 
   pub agreeing : (r i : ℕ) → Stands ws r i → (v v′ : Values) → Agree value-of (seen-at ws i) v v′ → Agreeing (Visible ws r i) v v′
   agreeing r i s v v′ a = record { lengths = length-same v v′ (a 0 (List·Memᴰ·head refl)); values = λ y p. a (suc y) (visible-seen r i y s p) }
+
+-- ---- a construct by what it is
+
+own-of : (ws : List ℕ) (i : ℕ) (c : Construct) → constructAt ws i ≡ c → bound-at ws i ≡ bound-by (binder-of c)
+own-of ws i c e = ap (λ (d : Construct). bound-by (binder-of d)) e
+
+-- a field that binds nothing
+unbinding : (ws : List ℕ) (i : ℕ) → bound-at ws i ≡ [] → (v v′ : Values) → Agree value-of (seen-at ws i) v v′ → Agree value-of (seen-at ws i ++ bound-at ws i) v v′
+unbinding ws i e v v′ a x m = elim (List·Memᴰ·append-cases (seen-at ws i) m) [ inl k ↦ a x k | inr k ↦ absurd (List·Memᴰ·not-nil (rw e at k)) ]
+
+module _ {ws : List ℕ} (l : Laid ws) (r i : ℕ) (s : Stands ws r i) (whole : i + size-at ws i ≤ rule-end ws r 0) where
+  inside : (c : Construct) → constructAt ws i ≡ c → (b : ℕ) → b ∈ parts-of ws i c → (i < b) × (b < i + size-at ws i) × Stands ws r b
+  inside c e b m =
+      let w = part-within l i b (stands-within l r i s) (rw e m)
+      in (w .0, omega (arith, w .1, w .2), record { exists = s .exists; begins = omega (arith, s .begins, w .0); ends = omega (arith, w .1, w .2) })
+
+  -- a part of what is neither a concatenation nor a binder
+  same-seen : (c : Construct) → constructAt ws i ≡ c → top-members ws i c ≡ i ∷ [] → binder-of c ≡ 0 → (b : ℕ) → b ∈ parts-of ws i c → seen-at ws b ≡ seen-at ws i
+  same-seen c e top none b m =
+      let w = inside c e b m
+      in level l r i b s (rw e top) (own-of ws i c e ∙ ap bound-by none) (w .0) (w .1) (w .2)
+
+  -- a switch takes its case by what it sees
+  choice : (c : Construct) → constructAt ws i ≡ c → top-members ws i c ≡ i ∷ [] → binder-of c ≡ 0 → (v v′ : Values) → Agree value-of (seen-at ws i) v v′
+      → first-case ws v (parts-of ws i c) ≡ first-case ws v′ (parts-of ws i c)
+  choice c e top none v v′ a =
+      case-agrees ws v v′ (parts-of ws i c) (λ b m.
+      let t : Stands ws r b = inside c e b m .2
+      in condition-agrees l r b (t .exists) (t .begins) (t .ends) v v′ (agreeing l r b t v v′ (rw (same-seen c e top none b m) a)))
+
+  pub scoped-by : (c : Construct) → constructAt ws i ≡ c → Scoped value-of (scope-of ws) i (node-of ws i c)
+  unfolding node-of
+  scoped-by Construct.Missing e = (own-of ws i Construct.Missing e, λ b m. absurd (List·Memᴰ·not-nil m))
+  scoped-by (Construct.Alternative size) e = (own-of ws i (Construct.Alternative size) e, same-seen (Construct.Alternative size) e refl refl)
+  scoped-by (Construct.Concatenation size) e =
+      let own : bound-at ws i ≡ [] = own-of ws i (Construct.Concatenation size) e
+      in let f : size-at ws i ≡ size = ap size-of e
+      in (own, chain l r i s own (omega arith) (rw e at (tiled l i (stands-within l r i s))))
+  scoped-by (Construct.Repetition size passes) e =
+      (own-of ws i (Construct.Repetition size passes) e, same-seen (Construct.Repetition size passes) e refl refl (i + 1) (List·Memᴰ·head refl),
+      λ c v v′ a. passes-agree l r i (s .exists) (s .begins) (s .ends) size passes e v v′ (agreeing l r i s v v′ a))
+  scoped-by (Construct.Switch size) e =
+      (own-of ws i (Construct.Switch size) e,
+      λ c v b h. same-seen (Construct.Switch size) e refl refl b (case-listed ws v (parts size ws (i + 1) (i + size)) b h),
+      λ c v v′ a. choice (Construct.Switch size) e refl refl v v′ a)
+  scoped-by (Construct.Use rule) e = (own-of ws i (Construct.Use rule) e, λ c v x h. refl)
+  scoped-by (Construct.Literal n) e = (λ c v v′ bits a. refl, λ c v v′ bits a. unbinding ws i (own-of ws i (Construct.Literal n) e) v v′ a, λ c v bits x h. refl)
+  scoped-by (Construct.Range low high) e = (λ c v v′ bits a. refl, λ c v v′ bits a. unbinding ws i (own-of ws i (Construct.Range low high) e) v v′ a, λ c v bits x h. refl)
+  scoped-by (Construct.Uint width start end binder) e =
+      let own : bound-at ws i ≡ bound-by binder = own-of ws i (Construct.Uint width start end binder) e
+      in (λ c v v′ bits a. set-agrees l r i (s .exists) (s .begins) (s .ends) width start end binder e v v′ (agreeing l r i s v v′ a) (value bits),
+      λ c v v′ bits a. rw own (after-binder (seen-at ws i) binder v v′ (value bits) (agreeing l r i s v v′ a .lengths) a),
+      λ c v bits x h. others-stay binder v (value bits) x (λ m. h (rw own m)))
+  scoped-by Construct.Eod e = own-of ws i Construct.Eod e
