@@ -3,3 +3,4 @@ pub mod RuledLaw
 pub mod Seen
 pub mod Levels
 pub mod NodeScopes
+pub mod Once
