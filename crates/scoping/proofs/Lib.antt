@@ -4,3 +4,4 @@ pub mod Seen
 pub mod Levels
 pub mod NodeScopes
 pub mod Once
+pub mod LexicalLaw
