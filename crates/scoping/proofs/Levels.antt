@@ -3,7 +3,7 @@
 use Prim.Native.Nat.{ℕ, zero, suc, _+_, _-_, _≤_, _<_}
 use mathlib.Core.Path.{_≡_, refl, sym, subst, ap, _∙_}
 use mathlib.Core.Logic.{inl, inr}
-use mathlib.Core.Bool.{Bool, true, false}
+use mathlib.Core.Bool.{Bool}
 use mathlib.Core.List.{List, [], _∷_, _++_, List·Memᴰ·eq-of-singleton}
 use native.Mathlib.Omega.{arith}
 use borrow.Author.Tests.{eqb-true, eqb-false}
@@ -12,15 +12,15 @@ use Rattle.theory.specs.Grammar.{_∈_}
 use Rattle.theory.specs.Scope.{Chain}
 use Rattle.theory.proofs.Turns.{decide}
 use Rattle.layout.specs.Places.{rule-count, construct-count}
-use Rattle.layout.specs.Constructs.{pick, constructAt}
+use Rattle.layout.specs.Constructs.{constructAt}
 use Rattle.form.specs.Checks.{size-at}
 use Rattle.form.specs.Rules.{body, rule-end, binder-of, is-concatenation, members-at}
 use Rattle.form.proofs.Decoded.{picked}
-use Rattle.structure.proofs.Tiles.{Tiles, none, more, Within, within, tile-end}
+use Rattle.structure.proofs.Tiles.{Tiles, none, more, within, tile-end}
 use Rattle.structure.proofs.Facts.{Laid, lt-of-ne}
-use Rattle.structure.proofs.RuleLaws.{RuleOf, rule-of, rule-fact, rule-within}
+use Rattle.structure.proofs.RuleLaws.{rule-of, rule-within}
 use Rattle.structure.proofs.Owners.{one-rule}
-use Rattle.structure.proofs.Binding.{top-members, members-of, members-tile, TopBinder, top-binder}
+use Rattle.structure.proofs.Binding.{top-members, members-of, members-tile, top-binder}
 use Rattle.structure.proofs.Inside.{quiet}
 use Rattle.scoping.specs.Scope.{bound-by, bound-at, bound-before, seen-at, scope-of}
 use Rattle.scoping.proofs.Seen.{before-step, before-quiet, seen-in}
@@ -98,8 +98,8 @@ module _ {ws : List ℕ} (l : Laid ws) where
       let ends : k ≤ end = tile-end rest
       in let s : Stands ws r j = record { exists = h; begins = omega arith; ends = omega arith }
       in let next : bound-before ws (body ws r) k ≡ bound-before ws (body ws r) j ++ bound-at ws j =
-          before-quiet ws (body ws r) (k - suc j) (suc j) k (omega arith) (omega arith) (λ m p q. inner r j m s low (omega arith) (omega arith))
-          ∙ before-step ws (body ws r) j (omega arith)
+      before-quiet ws (body ws r) (k - suc j) (suc j) k (omega arith) (omega arith) (λ m p q. inner r j m s low (omega arith) (omega arith))
+      ∙ before-step ws (body ws r) j (omega arith)
       in (seen-in l r j h (omega arith) (omega arith), subst (λ (xs : List ℕ). Chain (scope-of ws) (0 ∷ xs) js) next (row r rest h (omega arith) high))
 
   -- the members of a concatenation
@@ -107,6 +107,6 @@ module _ {ws : List ℕ} (l : Laid ws) where
       → Chain (scope-of ws) (seen-at ws i) js
   chain r i {js = js} s own high t =
       let next : bound-before ws (body ws r) (i + 1) ≡ bound-before ws (body ws r) i =
-          before-quiet ws (body ws r) 1 i (i + 1) refl (s .begins) (λ k p q. let e : i ≡ k = omega arith in rw e at own)
+      before-quiet ws (body ws r) 1 i (i + 1) refl (s .begins) (λ k p q. let e : i ≡ k = omega arith in rw e at own)
       in subst (λ (xs : List ℕ). Chain (scope-of ws) xs js) (ap (λ (xs : List ℕ). 0 ∷ xs) next ∙ sym (seen-in l r i (s .exists) (s .begins) (s .ends)))
       (row r t (s .exists) (omega (arith, s .begins)) high)

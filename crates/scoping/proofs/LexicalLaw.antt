@@ -1,16 +1,16 @@
 -- Well laid out words whose rules do not reach themselves hold a grammar that keeps to document 01's rules of names.
 -- Assumes nothing.
-use Prim.Native.Nat.{ℕ, zero, suc, _+_, _≤_, _<_}
+use Prim.Native.Nat.{ℕ, _≤_, _<_}
 use mathlib.Core.Path.{_≡_, refl, sym, ap, _∙_}
 use mathlib.Core.Logic.{inl, inr}
-use mathlib.Core.Bool.{Bool, true, false}
-use mathlib.Core.List.{List, [], _∷_, List·Memᴰ, List·Memᴰ·head, List·Memᴰ·not-nil, List·Memᴰ·eq-of-singleton}
+use mathlib.Core.Bool.{true}
+use mathlib.Core.List.{List, [], List·Memᴰ·head, List·Memᴰ·not-nil, List·Memᴰ·eq-of-singleton}
 use native.Mathlib.Omega.{arith}
 use borrow.Author.Tests.{eqb-true, ltb-true, ltb-false}
 use lib.Dec.{ltb, eqb}
-use lib.IntN.{ℤ, pos}
-use lib.ListN.{length, replicate, length-replicate}
-use Rattle.theory.specs.Grammar.{alternative, concatenation, repetition, switch, use-of, field, eod, _∈_}
+use lib.IntN.{pos}
+use lib.ListN.{length, length-replicate}
+use Rattle.theory.specs.Grammar.{alternative, concatenation, repetition, switch, use-of, field, eod}
 use Rattle.theory.specs.Scope.{Agree, Scoped, Lexical}
 use Rattle.theory.proofs.Turns.{decide}
 use Rattle.layout.specs.Places.{rule-count, construct-count}
@@ -28,7 +28,7 @@ use Rattle.structure.proofs.NodeFacts.{use-names, missing-past, values-stay}
 use Rattle.scoping.specs.Scope.{value-of, fresh, bound-by, bound-at, seen-at, scope-of}
 use Rattle.scoping.proofs.Seen.{seen-first}
 use Rattle.scoping.proofs.Levels.{stands}
-use Rattle.scoping.proofs.NodeScopes.{length-same, scoped-by}
+use Rattle.scoping.proofs.NodeScopes.{scoped-by}
 use Rattle.scoping.proofs.Once.{not-again}
 
 -- what a rule's body sees where it begins is bound by its opening

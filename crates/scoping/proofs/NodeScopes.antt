@@ -1,23 +1,20 @@
 -- Each construct of well laid out words reads only what it sees, and binds only its own variable.
 -- Assumes nothing.
 use Prim.Native.Nat.{ℕ, zero, suc, _+_, _≤_, _<_}
-use mathlib.Core.Path.{_≡_, refl, sym, subst, ap, _∙_}
-use mathlib.Core.Logic.{_⊎_, inl, inr}
-use mathlib.Core.Bool.{Bool, true, false}
-use mathlib.Core.List.{List, [], _∷_, _++_, List·Memᴰ, List·Memᴰ·head, List·Memᴰ·tail, List·Memᴰ·append-cases, List·Memᴰ·not-nil, List·Memᴰ·eq-of-singleton}
-use mathlib.Core.Option.{Option, some}
+use mathlib.Core.Path.{_≡_, refl, sym, ap, _∙_}
+use mathlib.Core.Logic.{inl, inr}
+use mathlib.Core.List.{List, [], _∷_, _++_, List·Memᴰ·head, List·Memᴰ·tail, List·Memᴰ·append-cases, List·Memᴰ·not-nil, List·Memᴰ·eq-of-singleton}
 use native.Mathlib.Omega.{arith}
 use native.Mathlib.Numerals.{add-one}
 use borrow.Author.Tests.{eqb-true, eqb-false, ltb-true, ltb-false}
 use lib.Dec.{eqb, ltb}
-use lib.IntN.{ℤ, pos}
-use lib.ListN.{length, getD, set, length-set, List·getD-eq-default}
-use lib.Seq.{getD-set-same, getD-set-other}
-use Rattle.basis.specs.Bits.{Bits, value}
+use lib.IntN.{pos}
+use lib.ListN.{length, getD, List·getD-eq-default}
+use Rattle.basis.specs.Bits.{value}
 use Rattle.theory.specs.Grammar.{_∈_}
-use Rattle.theory.specs.Scope.{Agree, Chain, Scoped}
+use Rattle.theory.specs.Scope.{Agree, Scoped}
 use Rattle.theory.proofs.Turns.{decide}
-use Rattle.layout.specs.Places.{rule-count, construct-count, variable-word}
+use Rattle.layout.specs.Places.{variable-word}
 use Rattle.layout.specs.Constructs.{constructAt}
 use Rattle.layout.specs.Held.{Values, size-of, parts, bound, first-case, node-of}
 use Rattle.layout.specs.declared.Construct.{Construct}
@@ -25,17 +22,17 @@ use Rattle.form.specs.Checks.{size-at}
 use Rattle.form.specs.Rules.{body, rule-end, binder-of}
 use Rattle.structure.proofs.Facts.{Laid}
 use Rattle.structure.proofs.PartLaws.{parts-of, tiled}
-use Rattle.structure.proofs.Owners.{PartOf, part-within}
+use Rattle.structure.proofs.Owners.{part-within}
 use Rattle.structure.proofs.StaticLaw.{case-listed}
 use Rattle.structure.proofs.Binding.{Bound, Visible, bound-in, top-members}
 use Rattle.structure.proofs.Agreement.{Agreeing, set-agrees, passes-agree, condition-agrees, case-agrees, bound-length, bound-other, bound-own}
-use Rattle.scoping.specs.Scope.{value-of, bound-by, bound-at, bound-before, seen-at, scope-of}
+use Rattle.scoping.specs.Scope.{value-of, bound-by, bound-at, seen-at, scope-of}
 use Rattle.scoping.proofs.Seen.{before-has, seen-in}
 use Rattle.scoping.proofs.Levels.{Stands, stands-within, member-stands, level, chain}
 
 -- ---- what a binder does, by names
 
-pub length-same : (v v′ : Values) → value-of v 0 ≡ value-of v′ 0 → length v ≡ length v′
+length-same : (v v′ : Values) → value-of v 0 ≡ value-of v′ 0 → length v ≡ length v′
 length-same v v′ e = cc
 
 own-same : (x : ℕ) (v v′ : Values) (n : ℕ) → length v ≡ length v′ → getD (bound (suc x) v n) x (pos 0) ≡ getD (bound (suc x) v′ n) x (pos 0)
@@ -120,19 +117,24 @@ module _ {ws : List ℕ} (l : Laid ws) (r i : ℕ) (s : Stands ws r i) (whole : 
       let own : bound-at ws i ≡ [] = own-of ws i (Construct.Concatenation size) e
       in let f : size-at ws i ≡ size = ap size-of e
       in (own, chain l r i s own (omega arith) (rw e at (tiled l i (stands-within l r i s))))
-  scoped-by (Construct.Repetition size passes) e =
-      (own-of ws i (Construct.Repetition size passes) e, same-seen (Construct.Repetition size passes) e refl refl (i + 1) (List·Memᴰ·head refl),
-      λ c v v′ a. passes-agree l r i (s .exists) (s .begins) (s .ends) size passes e v v′ (agreeing l r i s v v′ a))
-  scoped-by (Construct.Switch size) e =
-      (own-of ws i (Construct.Switch size) e,
-      λ c v b h. same-seen (Construct.Switch size) e refl refl b (case-listed ws v (parts size ws (i + 1) (i + size)) b h),
-      λ c v v′ a. choice (Construct.Switch size) e refl refl v v′ a)
+  scoped-by (Construct.Repetition size passes) e = (
+    own-of ws i (Construct.Repetition size passes) e,
+    same-seen (Construct.Repetition size passes) e refl refl (i + 1) (List·Memᴰ·head refl),
+    λ c v v′ a. passes-agree l r i (s .exists) (s .begins) (s .ends) size passes e v v′ (agreeing l r i s v v′ a),
+  )
+  scoped-by (Construct.Switch size) e = (
+    own-of ws i (Construct.Switch size) e,
+    λ c v b h. same-seen (Construct.Switch size) e refl refl b (case-listed ws v (parts size ws (i + 1) (i + size)) b h),
+    λ c v v′ a. choice (Construct.Switch size) e refl refl v v′ a,
+  )
   scoped-by (Construct.Use rule) e = (own-of ws i (Construct.Use rule) e, λ c v x h. refl)
   scoped-by (Construct.Literal n) e = (λ c v v′ bits a. refl, λ c v v′ bits a. unbinding ws i (own-of ws i (Construct.Literal n) e) v v′ a, λ c v bits x h. refl)
   scoped-by (Construct.Range low high) e = (λ c v v′ bits a. refl, λ c v v′ bits a. unbinding ws i (own-of ws i (Construct.Range low high) e) v v′ a, λ c v bits x h. refl)
   scoped-by (Construct.Uint width start end binder) e =
       let own : bound-at ws i ≡ bound-by binder = own-of ws i (Construct.Uint width start end binder) e
-      in (λ c v v′ bits a. set-agrees l r i (s .exists) (s .begins) (s .ends) width start end binder e v v′ (agreeing l r i s v v′ a) (value bits),
-      λ c v v′ bits a. rw own (after-binder (seen-at ws i) binder v v′ (value bits) (agreeing l r i s v v′ a .lengths) a),
-      λ c v bits x h. others-stay binder v (value bits) x (λ m. h (rw own m)))
+      in (
+        λ c v v′ bits a. set-agrees l r i (s .exists) (s .begins) (s .ends) width start end binder e v v′ (agreeing l r i s v v′ a) (value bits),
+        λ c v v′ bits a. rw own (after-binder (seen-at ws i) binder v v′ (value bits) (agreeing l r i s v v′ a .lengths) a),
+        λ c v bits x h. others-stay binder v (value bits) x (λ m. h (rw own m)),
+      )
   scoped-by Construct.Eod e = own-of ws i Construct.Eod e

@@ -1,19 +1,18 @@
 -- What a construct sees, nothing below it binds, through the rules that it uses either.
 -- Assumes nothing.
 use Prim.Native.Nat.{ℕ, zero, suc, _+_, _≤_, _<_}
-use mathlib.Core.Path.{_≡_, refl, sym, subst, ap, _∙_}
+use mathlib.Core.Path.{_≡_, sym, subst, ap, _∙_}
 use mathlib.Core.Logic.{inl, inr}
-use mathlib.Core.Bool.{Bool, true, false}
-use mathlib.Core.List.{List, [], _∷_, List·Memᴰ, List·Memᴰ·head, List·Memᴰ·tail, List·Memᴰ·not-nil, List·Memᴰ·eq-of-singleton}
+use mathlib.Core.List.{List, [], _∷_, List·Memᴰ·head, List·Memᴰ·tail, List·Memᴰ·not-nil, List·Memᴰ·eq-of-singleton}
 use native.Mathlib.Omega.{arith}
 use borrow.Author.Tests.{ltb-true, ltb-false}
 use lib.Dec.{ltb}
 use Rattle.theory.specs.Grammar.{_∈_}
 use Rattle.theory.specs.Scope.{MayBind}
 use Rattle.theory.proofs.Turns.{decide}
-use Rattle.layout.specs.Places.{rule-count, construct-count, variable-word}
+use Rattle.layout.specs.Places.{construct-count, variable-word}
 use Rattle.layout.specs.Constructs.{constructAt}
-use Rattle.layout.specs.Held.{held, opening}
+use Rattle.layout.specs.Held.{held}
 use Rattle.form.specs.Checks.{size-at}
 use Rattle.form.specs.Rules.{body, rule-end, binder-of}
 use Rattle.rules.specs.Reaching.{Uses, Reaches, directly, through, Acyclic}
@@ -21,10 +20,10 @@ use Rattle.weights.proofs.Children.{All, Each, Child, held-children}
 use Rattle.structure.proofs.Facts.{Laid}
 use Rattle.structure.proofs.RuleLaws.{rule-of, rule-fact}
 use Rattle.structure.proofs.Owners.{rule-holds}
-use Rattle.structure.proofs.Binding.{TopBinder, top-binder}
+use Rattle.structure.proofs.Binding.{top-binder}
 use Rattle.scoping.specs.Scope.{value-of, bound-by, bound-at, bound-before, seen-at, scope-of}
 use Rattle.scoping.proofs.RuledLaw.{ruled-of}
-use Rattle.scoping.proofs.Seen.{Earlier, before-from, seen-in, seen-outside}
+use Rattle.scoping.proofs.Seen.{before-from, seen-in, seen-outside}
 use Rattle.scoping.proofs.Levels.{Stands, stands, stands-within, one-of}
 
 -- a construct, or something below it through the rules that it uses, binds the variable

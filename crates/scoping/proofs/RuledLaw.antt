@@ -1,13 +1,12 @@
 -- Well laid out words have what the laws of weight rest on.
 -- Assumes nothing.
-use Prim.Native.Nat.{ℕ, zero, suc, _+_, _≤_, _<_}
-use mathlib.Core.Path.{_≡_, refl, sym, subst, ap, _∙_}
-use mathlib.Core.Bool.{Bool, true, false}
+use Prim.Native.Nat.{ℕ, _+_, _≤_, _<_}
+use mathlib.Core.Path.{_≡_, refl, subst}
+use mathlib.Core.Bool.{Bool, true}
 use mathlib.Core.List.{List, [], _∷_}
 use native.Mathlib.Omega.{arith}
-use Rattle.layout.specs.Places.{rule-count, construct-count}
+use Rattle.layout.specs.Places.{construct-count}
 use Rattle.layout.specs.Constructs.{constructAt}
-use Rattle.layout.specs.Held.{size-of}
 use Rattle.layout.specs.declared.Construct.{Construct}
 use Rattle.form.specs.Laid.{laid}
 use Rattle.structure.proofs.Tiles.{Tiles as Row, none, more}

@@ -1,17 +1,17 @@
 -- What a construct sees: the rule that it stands in, and what is bound before it there.
 -- Assumes nothing.
 use Prim.Native.Nat.{ℕ, zero, suc, _+_, _≤_, _<_}
-use mathlib.Core.Path.{_≡_, refl, sym, ap, _∙_}
-use mathlib.Core.Logic.{_⊎_, inl, inr}
-use mathlib.Core.Bool.{Bool, true, false}
-use mathlib.Core.List.{List, [], _∷_, _++_, append-nil, List·Memᴰ, List·Memᴰ·head, List·Memᴰ·tail, Memᴰ·append-left, Memᴰ·append-right, List·Memᴰ·append-cases, List·Memᴰ·not-nil}
+use mathlib.Core.Path.{_≡_, refl, ap, _∙_}
+use mathlib.Core.Logic.{inl, inr}
+use mathlib.Core.Bool.{Bool, true}
+use mathlib.Core.List.{List, [], _∷_, _++_, append-nil, Memᴰ·append-left, Memᴰ·append-right, List·Memᴰ·append-cases, List·Memᴰ·not-nil}
 use native.Mathlib.Omega.{arith}
-use borrow.Author.Tests.{leb-true, ltb-true, ltb-false, le-leb, lt-leb, lt-ltb, eqb-true, eqb-false}
+use borrow.Author.Tests.{leb-true, ltb-true, le-leb, lt-leb, lt-ltb, eqb-true, eqb-false}
 use lib.Dec.{leb, ltb, eqb}
 use Rattle.theory.specs.Grammar.{_∈_}
 use Rattle.theory.proofs.Turns.{decide}
 use Rattle.layout.specs.Places.{rule-count, construct-count}
-use Rattle.layout.specs.Constructs.{pick, both}
+use Rattle.layout.specs.Constructs.{both}
 use Rattle.form.specs.Rules.{body, rule-end}
 use Rattle.form.proofs.Walks.{both-first, both-second}
 use Rattle.form.proofs.Decoded.{picked}
