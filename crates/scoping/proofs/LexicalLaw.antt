@@ -2,7 +2,7 @@
 -- Assumes nothing.
 use Prim.Native.Nat.{ℕ, _≤_, _<_}
 use mathlib.Core.Path.{_≡_, refl, sym, ap, _∙_}
-use mathlib.Core.Logic.{inl, inr}
+use mathlib.Core.Logic.{_↔_, inl, inr}
 use mathlib.Core.Bool.{true}
 use mathlib.Core.List.{List, [], List·Memᴰ·head, List·Memᴰ·not-nil, List·Memᴰ·eq-of-singleton}
 use native.Mathlib.Omega.{arith}
@@ -10,8 +10,11 @@ use borrow.Author.Tests.{eqb-true, ltb-true, ltb-false}
 use lib.Dec.{ltb, eqb}
 use lib.IntN.{pos}
 use lib.ListN.{length, length-replicate}
+use Rattle.basis.specs.Bits.{Bits}
 use Rattle.theory.specs.Grammar.{alternative, concatenation, repetition, switch, use-of, field, eod}
-use Rattle.theory.specs.Scope.{Agree, Scoped, Lexical}
+use Rattle.theory.specs.Scope.{Agree, Scoped, localised, Lexical}
+use Rattle.theory.specs.Derivation.{Tree, Derivation}
+use Rattle.theory.proofs.Theorems.{local}
 use Rattle.theory.proofs.Turns.{decide}
 use Rattle.layout.specs.Places.{rule-count, construct-count}
 use Rattle.layout.specs.Constructs.{constructAt}
@@ -25,6 +28,7 @@ use Rattle.structure.proofs.Facts.{Laid, facts}
 use Rattle.structure.proofs.RuleLaws.{rule-of, rule-fact}
 use Rattle.structure.proofs.Owners.{rule-holds}
 use Rattle.structure.proofs.NodeFacts.{use-names, missing-past, values-stay}
+use Rattle.structure.proofs.StaticLaw.{static}
 use Rattle.scoping.specs.Scope.{value-of, fresh, bound-by, bound-at, seen-at, scope-of}
 use Rattle.scoping.proofs.Seen.{seen-first}
 use Rattle.scoping.proofs.Levels.{stands}
@@ -107,3 +111,8 @@ module _ {ws : List ℕ} (l : Laid ws) where
 
 pub lexical : (ws : List ℕ) → laid ws ≡ true → Acyclic ws → Lexical value-of (scope-of ws) fresh (held ws)
 lexical ws h acyclic = lexical-of (facts ws h) acyclic
+
+-- so one value for each binder, as the machine keeps them, derives what document 01's local variables derive
+pub same-derivations : (ws : List ℕ) → laid ws ≡ true → Acyclic ws
+    → (s : Bits) (t : Tree) → ((v : Values) × Derivation (held ws) s t v) ↔ ((v : Values) × Derivation (localised (scope-of ws) fresh (held ws)) s t v)
+same-derivations ws h acyclic = local value-of (scope-of ws) fresh (held ws) (static ws) (lexical ws h acyclic)
