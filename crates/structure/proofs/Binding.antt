@@ -229,6 +229,7 @@ back ws k Construct.Eod h b = absurd (omega arith)
 pub record TopBinder (ws : List ℕ) (k : ℕ) : Type 0 where
   pub variable : ℕ
   pub own : VariableOf ws variable
+  pub binder : binder-of (constructAt ws k) ≡ variable + 1
   pub place : variable-word ws variable 0 ≡ k
   pub member : k ∈ members-of ws (own .rule)
 
@@ -261,6 +262,7 @@ module _ {ws : List ℕ} (l : Laid ws) where
       in record {
         variable = x;
         own = own;
+        binder = omega arith;
         place = named .1;
         member = rw (named .1) at (bound-in l (own .rule) x (own .exists) (own .begins) (own .ends) .listed);
       }
