@@ -69,7 +69,14 @@ fn holds(family: &[u64], at: usize, from: usize, n: usize) -> bool
 }
 
 // The first of the parts, from number `from` on, that has the window with number n; `end` where none has it.
-pub fn holder(table: &[u32], family: &[u64], start: usize, end: usize, from: usize, n: usize) -> usize
+pub fn holder(
+    table: &[u32],
+    family: &[u64],
+    start: usize,
+    end: usize,
+    from: usize,
+    n: usize,
+) -> usize
     requires { ⌜ (length (now family) ≡ 2056) × (end ≤ 256) ⌝ }
     ensures { λ r. ⌜ FirstFrom (strings (now (family .entry))) (siblings (now (table .entry)) start end) from n end r ⌝ }
 {
