@@ -1,3 +1,5 @@
 pub mod Walks
 pub mod Lows
 pub mod Holders
+pub mod Continuing
+pub mod Meaning
