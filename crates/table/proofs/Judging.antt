@@ -1,0 +1,138 @@
+-- From searches to what is passed.
+-- Assumes nothing.
+use Prim.Native.Nat.{ℕ, _≤_, _<_}
+use mathlib.Core.Path.{_≡_, refl, sym, subst, ap, _∙_}
+use mathlib.Core.Logic.{_⊎_, inl, inr, _↔_}
+use mathlib.Core.Bool.{Bool, true, false, false≢true}
+use mathlib.Core.List.{List, [], List·Memᴰ·not-nil}
+use native.Mathlib.Omega.{arith}
+use native.Mathlib.Decide.{decLt, ℕ-discrete}
+use Rattle.basis.specs.Bits.{Bits}
+use Rattle.theory.specs.Grammar.{Node, alternative, concatenation, repetition, switch, use-of, field, eod}
+use Rattle.theory.specs.Lookahead.{Conflict, EmptyBody}
+use Rattle.theory.specs.Weight.{Weighs}
+use Rattle.layout.specs.Places.{construct-count}
+use Rattle.layout.specs.Held.{HeldNode, held, node-of, opening}
+use Rattle.form.specs.Laid.{laid}
+use Rattle.structure.proofs.Facts.{Laid, facts}
+use Rattle.structure.proofs.NodeFacts.{missing-past}
+use Rattle.scoping.proofs.RuledLaw.{ruled}
+use Rattle.rules.specs.Reaching.{Acyclic}
+use Rattle.weights.specs.Weighed.{Weight}
+use Rattle.weights.specs.Sweeps.{capped}
+use Rattle.sets.proofs.HeldLaws.{node-inside, node-opening, node-past}
+use Rattle.measures.specs.Measures.{LeastOf}
+use Rattle.conflicts.specs.Conflicts.{Conflicting, Answered}
+use Rattle.conflicts.specs.declared.Clash.{Clash}
+use Rattle.table.specs.Judged.{Least, None, Oversized, Weighing, Passed7, Passed8, Passed9, Passed10, Judged}
+use Rattle.table.specs.Computed.{is-clash, is-passed, Formed, Computed}
+use Rattle.table.specs.declared.Judgement.{Judgement}
+use Rattle.sets.specs.Sets.{FollowSets, PredictionSets}
+
+-- a search that stops before the end
+pub least-of : (ws : List ℕ) (P : ℕ → Type 0) (count i : ℕ) → count ≡ construct-count ws → LeastOf P (construct-count ws) i → i < count → Least ws P i
+least-of ws P count i e l h = let k : i < construct-count ws = omega arith in record { there = k; holds = l .holds k; before = l .before }
+
+-- one that does not
+pub none-below : (ws : List ℕ) (P : ℕ → Type 0) (count i : ℕ) → count ≡ construct-count ws → LeastOf P (construct-count ws) i → count ≤ i → (j : ℕ) → j < construct-count ws → P j → ⊥
+none-below ws P count i e l h j k p = l .before j (omega (arith, l .most)) p
+
+-- ---- past the constructs there is nothing that could
+
+-- what conflicts and empty bodies need of a node
+abbrev Idle : HeldNode → Type 0
+Idle (alternative is) = is ≡ []
+Idle (concatenation is) = Unit {0}
+Idle (repetition counts static fixed b) = ⊥
+Idle (switch chosen is) = Unit {0}
+Idle (use-of enters opens closes b) = Unit {0}
+Idle (field w admits static binds) = Unit {0}
+Idle eod = Unit {0}
+
+module _ {ws : List ℕ} (l : Laid ws) where
+  idle : (i : ℕ) → construct-count ws ≤ i → Idle (held ws .node i)
+  unfolding node-of
+  idle i h =
+      elim (ℕ-discrete i 256) [
+        | yes e ↦ rw (node-opening ws i e) tt
+        | no e ↦ elim (decLt i 256) [
+          | yes k ↦ rw (node-inside ws i k, missing-past l i h) refl
+          | no k ↦ rw (node-past ws i (omega arith)) refl
+        ]
+      ]
+
+  unconflicted : (i : ℕ) (x : Bits) → Idle (held ws .node i) → Conflict (held ws) i x → ⊥
+  unconflicted i x n (Conflict.of-branches e ma mb d p q) = List·Memᴰ·not-nil (rw (rw e at n) at ma)
+  unconflicted i x n (Conflict.of-passes e c q) = rw e at n
+
+  nonempty : (i : ℕ) → Idle (held ws .node i) → EmptyBody (held ws) i → ⊥
+  nonempty i n (EmptyBody.empty-body e f) = rw e at n
+
+  -- what holds of the constructs holds of all numbers
+  everywhere : (P : ℕ → Type 0) → ((i : ℕ) → construct-count ws ≤ i → P i → ⊥) → ((i : ℕ) → i < construct-count ws → P i → ⊥) → None P
+  everywhere P past below i p = elim (decLt i (construct-count ws)) [ yes h ↦ below i h p | no h ↦ past i (omega arith) p ]
+
+  pub no-empty-bodies : ((i : ℕ) → i < construct-count ws → EmptyBody (held ws) i → ⊥) → None (EmptyBody (held ws))
+  no-empty-bodies below = everywhere (EmptyBody (held ws)) (λ i h b. nonempty i (idle i h) b) below
+
+  pub no-conflicts : ((i : ℕ) → i < construct-count ws → Conflicting ws i → ⊥) → None (Conflicting ws)
+  no-conflicts below = everywhere (Conflicting ws) (λ i h c. unconflicted i (c .0) (idle i h) (c .1)) below
+
+-- ---- answers of `conflict`
+
+pub clash-none : (ws : List ℕ) (i : ℕ) (r : Clash) → Answered ws i r → is-clash r ≡ false → Conflicting ws i → ⊥
+clash-none ws i Clash.None a e = a
+clash-none ws i (Clash.Branches window first second) a e = absurd (false≢true (sym e))
+clash-none ws i (Clash.Passes window) a e = absurd (false≢true (sym e))
+
+pub clash-some : (ws : List ℕ) (i : ℕ) (r : Clash) → Answered ws i r → is-clash r ≡ true → Conflicting ws i
+clash-some ws i Clash.None a e = absurd (false≢true e)
+clash-some ws i (Clash.Branches window first second) (w, t) e = (w .0, w .2 .common)
+clash-some ws i (Clash.Passes window) (w, t) e = (w .0, w .2 .common)
+
+-- ---- weight
+
+module _ (ws : List ℕ) (p : Passed7 ws) (n : ℕ) (w : Weight ws n) where
+  weighed : Weighing ws (λ m. n ≡ capped m)
+  weighed weight k = w (ruled ws (p .laid-out)) (p .acyclic) weight k
+
+  pub overweight : 65535 < n → Weighing ws (λ m. 65535 < m)
+  overweight h weight k = let e : n ≡ capped (weight tt opening) = weighed weight k in omega arith
+
+  pub exact-weight : n ≤ 65535 → Weighing ws (λ m. m ≡ n)
+  exact-weight h weight k = let e : n ≡ capped (weight tt opening) = weighed weight k in omega arith
+
+-- ---- from the form to the whole
+
+pub formed-passed : (ws : List ℕ) (r : Judgement) → Formed ws r → is-passed r ≡ true → Passed8 ws
+formed-passed ws Judgement.Unlaid f e = absurd (false≢true e)
+formed-passed ws (Judgement.Recursive rule) f e = absurd (false≢true e)
+formed-passed ws (Judgement.Oversized construct) f e = absurd (false≢true e)
+formed-passed ws (Judgement.EmptyBody construct) f e = absurd f
+formed-passed ws (Judgement.Conflict construct clash) f e = absurd f
+formed-passed ws Judgement.Overweight f e = absurd f
+formed-passed ws (Judgement.Passes weight) f e = f
+
+pub formed-refused : (ws follow prediction : List ℕ) (r : Judgement) → Formed ws r → is-passed r ≡ false → Judged ws r × Computed ws follow prediction r
+formed-refused ws follow prediction Judgement.Unlaid f e = (f, tt)
+formed-refused ws follow prediction (Judgement.Recursive rule) f e = (f, tt)
+formed-refused ws follow prediction (Judgement.Oversized construct) f e = (f, tt)
+formed-refused ws follow prediction (Judgement.EmptyBody construct) f e = absurd f
+formed-refused ws follow prediction (Judgement.Conflict construct clash) f e = absurd f
+formed-refused ws follow prediction Judgement.Overweight f e = absurd f
+formed-refused ws follow prediction (Judgement.Passes weight) f e = absurd (false≢true (sym e))
+
+pub computed : (ws follow prediction : List ℕ) (r : Judgement) → FollowSets ws follow → PredictionSets ws prediction → Computed ws follow prediction r
+computed ws follow prediction Judgement.Unlaid f p = tt
+computed ws follow prediction (Judgement.Recursive rule) f p = tt
+computed ws follow prediction (Judgement.Oversized construct) f p = tt
+computed ws follow prediction (Judgement.EmptyBody construct) f p = tt
+computed ws follow prediction (Judgement.Conflict construct clash) f p = tt
+computed ws follow prediction Judgement.Overweight f p = tt
+computed ws follow prediction (Judgement.Passes weight) f p = (f, p)
+
+pub passed9 : (ws : List ℕ) → Passed8 ws → (count i : ℕ) → count ≡ construct-count ws → LeastOf (EmptyBody (held ws)) (construct-count ws) i → count ≤ i → Passed9 ws
+passed9 ws p count i e l h = record { passed = p; no-empty-body = no-empty-bodies (facts ws (p .passed .laid-out)) (none-below ws (EmptyBody (held ws)) count i e l h) }
+
+pub passed10 : (ws : List ℕ) → Passed9 ws → (count i : ℕ) → count ≡ construct-count ws → LeastOf (Conflicting ws) (construct-count ws) i → count ≤ i → Passed10 ws
+passed10 ws p count i e l h = record { passed = p; no-conflict = no-conflicts (facts ws (p .passed .passed .laid-out)) (none-below ws (Conflicting ws) count i e l h) }

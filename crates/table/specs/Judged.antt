@@ -1,0 +1,63 @@
+-- The judgement over a table's words: "1 to 11 are tried in order". 5 and 6 are what the layout asks (`laid`).
+-- Assumes nothing.
+use Prim.Native.Nat.{ℕ, _≤_, _<_}
+use mathlib.Core.Path.{_≡_}
+use mathlib.Core.Bool.{true, false}
+use mathlib.Core.List.{List}
+use Rattle.theory.specs.Lookahead.{EmptyBody}
+use Rattle.theory.specs.Weight.{Weighs}
+use Rattle.layout.specs.Places.{construct-count}
+use Rattle.layout.specs.Held.{held, opening}
+use Rattle.form.specs.Laid.{laid}
+use Rattle.rules.specs.Reaching.{Reaches, Acyclic}
+use Rattle.measures.specs.Measures.{oversized}
+use Rattle.conflicts.specs.Conflicts.{Conflicting, Answered}
+use Rattle.table.specs.declared.Judgement.{Judgement}
+
+-- the least construct with the property
+pub record Least (ws : List ℕ) (P : ℕ → Type 0) (i : ℕ) : Type 0 where
+  pub there : i < construct-count ws
+  pub holds : P i
+  pub before : (j : ℕ) → j < i → P j → ⊥
+
+abbrev pub None : (ℕ → Type 0) → Type 0
+None P = (i : ℕ) → P i → ⊥
+
+-- refusal 8: construct i has a calculation whose size may pass 2^62
+abbrev pub Oversized : List ℕ → ℕ → Type 0
+Oversized ws i = oversized ws i ≡ true
+
+-- "Weight … grammar, as a use of its start rule": of every function that gives weights (there is exactly one where no rule reaches itself)
+abbrev pub Weighing : List ℕ → (ℕ → Type 0) → Type 0
+Weighing ws P = (weight : Unit {0} → ℕ → ℕ) → Weighs (held ws) weight → P (weight tt opening)
+
+module _ (ws : List ℕ) where
+  -- passed up to 7, 8, 9, 10
+  pub record Passed7 : Type 0 where
+    pub laid-out : laid ws ≡ true
+    pub acyclic : Acyclic ws
+
+  pub record Passed8 : Type 0 where
+    pub passed : Passed7
+    pub sized : (i : ℕ) → i < construct-count ws → Oversized ws i → ⊥
+
+  pub record Passed9 : Type 0 where
+    pub passed : Passed8
+    pub no-empty-body : None (EmptyBody (held ws))
+
+  pub record Passed10 : Type 0 where
+    pub passed : Passed9
+    pub no-conflict : None (Conflicting ws)
+
+  abbrev pub Judged : Judgement → Type 0
+  Judged Judgement.Unlaid = laid ws ≡ false
+  -- 7: "rule reaches itself", "first such rule"
+  Judged (Judgement.Recursive rule) = (laid ws ≡ true) × Reaches ws rule rule × ((q : ℕ) → q < rule → Reaches ws q q → ⊥)
+  Judged (Judgement.Oversized construct) = Passed7 × Least ws (Oversized ws) construct
+  -- 9: "repeated body has the empty first window"
+  Judged (Judgement.EmptyBody construct) = Passed8 × Least ws (EmptyBody (held ws)) construct
+  -- 10: "clash; the answer carries the least common window"
+  Judged (Judgement.Conflict construct clash) = Passed9 × Least ws (Conflicting ws) construct × Answered ws construct clash
+  -- 11: "weight over 65,535"
+  Judged Judgement.Overweight = Passed10 × Weighing ws (λ n. 65535 < n)
+  Judged (Judgement.Passes weight) = Passed10 × Weighing ws (λ n. n ≡ weight) × (weight ≤ 65535)
