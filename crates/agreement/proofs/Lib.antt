@@ -1,0 +1,9 @@
+-- A step over words that is not broken is the theory's step.
+pub mod Pending
+pub mod Walks
+pub mod Placing
+pub mod Deciding
+pub mod Effects
+pub mod Step
+pub mod Grants
+pub mod Readings
