@@ -7,3 +7,8 @@ pub mod Effects
 pub mod Step
 pub mod Grants
 pub mod Readings
+pub mod Widths
+pub mod Reliable
+pub mod Steady
+pub mod Never
+pub mod Openings

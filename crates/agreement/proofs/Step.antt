@@ -16,7 +16,7 @@ use Rattle.theory.specs.Machine.{Entry, entry, State, state, Verdict, undecided
 use Rattle.layout.specs.Constructs.{pick}
 use Rattle.layout.specs.Held.{Values, held}
 use Rattle.acts.specs.Stored.{tests-of}
-use Rattle.acts.specs.Acts.{actOf}
+use Rattle.acts.specs.Acts.{bits-of, actOf}
 use Rattle.acts.specs.declared.Act.{Act}
 use Rattle.acts.proofs.Doing.{doable}
 use Rattle.acts.proofs.Walks.{positive}
@@ -58,6 +58,12 @@ module _ (ws fs cs ps : List ℕ) (vs : List ℤ) (rs : List ℕ) (h : Head) whe
   abbrev k : ℕ
   k = getD ps (h .count - 1) 0
 
+  abbrev others : List HeldEntry
+  others = pending cs ps (h .count - 1)
+
+  abbrev rc : List Capture
+  rc = recorded rs (h .captures)
+
   abbrev a : Act
   a = actOf ws fs vs (h .position) i k
 
@@ -87,20 +93,26 @@ module _ (ws fs cs ps : List ℕ) (vs : List ℤ) (rs : List ℕ) (h : Head) whe
   effect-definite : (b : Act) → Unbroken (effect ws fs i k cs ps vs rs h b) → Definite b
   effect-definite b u e = u (ap (λ (x : Act). head-of (effect ws fs i k cs ps vs rs h x) .verdict) e)
 
-  taken-agrees : Fits fs w → h .verdict ≡ 0 → Unbroken (step-of ws fs w) → run-of fs (step-of ws fs w) ≡ stepped (held ws) (tests-of ws) (run-of fs w)
-  unfolding stepped step
-  taken-agrees f e u =
-      let t = step-taken e u in
-      let others : List HeldEntry = pending cs ps (h .count - 1) in
-      let rc : List Capture = recorded rs (h .captures) in
-      let u₁ : Unbroken (effect ws fs i k cs ps vs rs h a) = subst Unbroken (t .is) u in
-      let d = does ws fs vs (h .position) i k others rc (f .0) (effect-definite a u₁) in
-      let q : pending cs ps (h .count) ≡ entry i tt k ∷ others = pending-first cs ps (h .count) (t .entries) in
+  -- the theory's step, by the act that is decided
+  pub stepped-does : h .position ≤ bits-of fs → h .verdict ≡ 0 → 0 < h .count → Definite a
+      → stepped (held ws) (tests-of ws) (run-of fs w) ≡ after (state-held fs w) (h .steps) (done ws fs vs (h .position) i k others rc a)
+  unfolding step
+  stepped-does l e m s =
+      let d = does ws fs vs (h .position) i k others rc l s in
+      let q : pending cs ps (h .count) ≡ entry i tt k ∷ others = pending-first cs ps (h .count) m in
       let x : step (held ws) (tests-of ws) (state-held fs w) ≡ done ws fs vs (h .position) i k others rc a =
       ap (λ (es : List HeldEntry). step (held ws) (tests-of ws) (state es (drop (h .position) (frameBits fs)) (h .position) vs rc)) q ∙ d .agrees in
+      ap (λ (y : ℕ). stepped (held ws) (tests-of ws) (run (state-held fs w) (h .steps) (verdict-as y))) e
+      ∙ stepped-after ws (state-held fs w) (h .steps) (done ws fs vs (h .position) i k others rc a) x
+
+  taken-agrees : Fits fs w → h .verdict ≡ 0 → Unbroken (step-of ws fs w) → run-of fs (step-of ws fs w) ≡ stepped (held ws) (tests-of ws) (run-of fs w)
+  taken-agrees f e u =
+      let t = step-taken e u in
+      let u₁ : Unbroken (effect ws fs i k cs ps vs rs h a) = subst Unbroken (t .is) u in
+      let s : Definite a = effect-definite a u₁ in
+      let d = does ws fs vs (h .position) i k others rc (f .0) s in
       ap (run-of fs) (t .is)
-      ∙ (does-effect ws fs cs ps vs rs h f (t .entries) a (doable ws fs vs (h .position) i k) (d .members) u₁
-      ∙ sym (ap (λ (y : ℕ). stepped (held ws) (tests-of ws) (run (state-held fs w) (h .steps) (verdict-as y))) e ∙ stepped-after ws (state-held fs w) (h .steps) (done ws fs vs (h .position) i k others rc a) x))
+      ∙ (does-effect ws fs cs ps vs rs h f (t .entries) a (doable ws fs vs (h .position) i k) (d .members) u₁ ∙ sym (stepped-does (f .0) e (t .entries) s))
 
   -- a run that is not undecided takes no step, and its run in the theory takes none
   decided-agrees : (d : ℕ) → h .verdict ≡ d → (d ≡ 0 → ⊥) → run-of fs (step-of ws fs w) ≡ stepped (held ws) (tests-of ws) (run-of fs w)
