@@ -1,38 +1,37 @@
 -- What is decided for the first entry is what the theory's machine does with it, for each kind of construct.
 -- Assumes nothing.
-use Prim.Native.Nat.{ℕ, zero, suc, _+_, _*_, _-_, _≤_, _<_}
+use Prim.Native.Nat.{ℕ, suc, _+_, _*_, _-_, _≤_, _<_}
 use native.Mathlib.Omega.{arith}
-use native.Mathlib.Nat.{add-zero}
-use borrow.Author.Tests.{leb-true, leb-false, le-leb, lt-leb, eq-eqb, ne-eqb, eqb-true, eqb-false}
-use mathlib.Core.Path.{_≡_, refl, sym, _∙_, ap, ap₂, subst}
-use mathlib.Core.Logic.{_⊎_, inl, inr}
+use borrow.Author.Tests.{leb-true, leb-false, le-leb, lt-leb, eq-eqb, ne-eqb}
+use mathlib.Core.Path.{_≡_, refl, sym, _∙_, ap, subst}
+use mathlib.Core.Logic.{inl, inr}
 use mathlib.Core.Bool.{Bool, true, false}
 use mathlib.Core.List.{List, [], _∷_, _++_}
 use mathlib.Core.Option.{Option, none, some}
-use lib.Dec.{leb, ltb, eqb}
+use lib.Dec.{leb, eqb}
 use lib.IntN.{ℤ, pos}
 use lib.ListN.{length, take, drop, length-drop}
 use Rattle.basis.specs.Bits.{Bits, value, frameBits, same}
-use Rattle.basis.specs.Counts.{Counts, from, within}
-use Rattle.basis.specs.Lookahead.{lookahead, number}
+use Rattle.basis.specs.Counts.{Counts, within}
 use Rattle.basis.proofs.Frames.{frame-length}
-use Rattle.evaluation.specs.Meaning.{membership, condition}
-use Rattle.evaluation.specs.declared.Counted.{Counted}
+use Rattle.evaluation.specs.Meaning.{membership}
 use Rattle.evaluation.specs.declared.Tested.{Tested}
-use Rattle.theory.specs.Grammar.{Node, alternative, concatenation, repetition, switch, use-of, field, eod}
+use Rattle.theory.specs.Grammar.{alternative, concatenation, repetition, switch, field, eod}
 use Rattle.theory.specs.Derivation.{Capture}
-use Rattle.theory.specs.Machine.{Entry, entry, State, state, Turn, fail, again, leave, by-lookahead, turn, choose, entries, act}
+use Rattle.theory.specs.Machine.{entry, state, Turn, fail, again, leave, turn, choose, entries, act}
 use Rattle.theory.proofs.Turns.{decide}
-use Rattle.layout.specs.Places.{rule-word, construct-word, construct-count}
+use Rattle.layout.specs.Places.{rule-word}
 use Rattle.layout.specs.Constructs.{pick, both, constructAt}
-use Rattle.layout.specs.Held.{Values, HeldNode, term-words, terms-of, parts, allowed, isYes, passes-allowed, passes-static, passes-fixed, first-case, literal-bytes, bound, literal-node, range-node, uint-node, use-node, in-set, node-of, held}
+use Rattle.layout.specs.Held.{Values, HeldNode, terms-of, parts, isYes, passes-allowed, passes-static, passes-fixed, first-case, literal-bytes, bound, literal-node, range-node, use-node, in-set, node-of, held}
 use Rattle.layout.specs.declared.Construct.{Construct}
 use Rattle.layout.specs.declared.Passes.{Passes}
 use Rattle.acts.specs.Stored.{stored, prediction-at, follow-at, tests-of}
-use Rattle.acts.specs.Acts.{in-table, enter, ahead-at, bits-of, by-branch, branch-act, case-test, by-case, case-act, members-act, by-lookahead as act-by-lookahead, choice-act, turn-act, counted, literal-holds, literal-act, range-act, by-set, uint-act, end-act, construct-act, actOf}
+use Rattle.acts.specs.Acts.{in-table, enter, ahead-at, bits-of, branch-act, case-act, members-act, turn-act, counted, literal-holds, literal-act, range-act, by-set, end-act, construct-act, actOf}
 use Rattle.acts.specs.declared.Act.{Act}
 use Rattle.agreement.specs.Runs.{HeldEntry, HeldState}
-use Rattle.agreement.proofs.Walks.{Definite, Visit, chosen-act, found-chosen, Row, row-parts, row-of}
+use Rattle.agreement.proofs.Answers.{branch-chosen, case-chosen, turned, turn-turned, counted-allowed, tested, tested-yes, tested-set}
+use Rattle.structure.proofs.NodeFacts.{literal-long}
+use Rattle.agreement.proofs.Walks.{Definite, chosen-act, Row, row-parts, row-of}
 
 -- members that are put are all the parts, counted
 abbrev pub Membered : List ℕ → Act → Type 0
@@ -43,91 +42,6 @@ Membered ws (Act.Members start end n) = (js : List ℕ) × Row ws end start js �
 Membered ws (Act.Again b) = Unit {0}
 Membered ws Act.Leave = Unit {0}
 Membered ws (Act.Take width binder n) = Unit {0}
-
--- ---- what a construct's words answer, as what its node answers
-
--- a case's test is the condition that the grammar's switch goes by
-first-choose : (ws : List ℕ) (vs : List ℤ) (bs : List ℕ) → first-case ws vs bs ≡ choose (λ b. isYes (case-test ws vs b)) bs
-unfolding first-case choose
-first-choose ws vs [] = refl
-first-choose ws vs (b ∷ bs) =
-    elim (decide (ltb (construct-word ws b 6) (construct-word ws b 7))) [
-      | inl t ↦
-          elim (decide (isYes (condition vs (construct-word ws b 6) (terms-of ws (construct-word ws b 6) (construct-word ws b 7)))))
-          [ inl y ↦ rw (t, y, first-case, choose) | inr y ↦ rw (t, y, first-case, choose) (first-choose ws vs bs) ]
-      | inr t ↦ rw (t, first-case, choose)
-    ]
-
-by-branch-visit : (j : ℕ) (t : Bool) → Visit j t (λ rest. by-branch t j rest)
-by-branch-visit j true = Visit.takes refl (λ rest. refl)
-by-branch-visit j false = Visit.passes refl (λ rest. refl)
-
-by-case-visit : (j : ℕ) (t : Tested) → Visit j (isYes t) (λ rest. by-case t j rest)
-by-case-visit j Tested.Yes = Visit.takes refl (λ rest. refl)
-by-case-visit j Tested.No = Visit.passes refl (λ rest. refl)
-by-case-visit j Tested.Malformed = Visit.breaks (λ rest. refl)
-by-case-visit j Tested.Overflow = Visit.breaks (λ rest. refl)
-
-branch-chosen : (ws : List ℕ) (n m j end : ℕ) → end ≤ j + m → Definite (branch-act ws n j end) → branch-act ws n j end ≡ chosen-act (choose (λ b. stored ws (prediction-at b) n) (parts m ws j end))
-branch-chosen ws n m j end l s =
-    found-chosen ws end (λ b. stored ws (prediction-at b) n) (λ i rest. by-branch (stored ws (prediction-at i) n) i rest) (λ i. by-branch-visit i (stored ws (prediction-at i) n)) (end - j) m j (omega arith) l s
-
-case-chosen : (ws : List ℕ) (vs : List ℤ) (m j end : ℕ) → end ≤ j + m → Definite (case-act ws vs j end) → case-act ws vs j end ≡ chosen-act (first-case ws vs (parts m ws j end))
-case-chosen ws vs m j end l s =
-    found-chosen ws end (λ b. isYes (case-test ws vs b)) (λ i rest. by-case (case-test ws vs i) i rest) (λ i. by-case-visit i (case-test ws vs i)) (end - j) m j (omega arith) l s
-    ∙ ap chosen-act (sym (first-choose ws vs (parts m ws j end)))
-
--- a repetition's turn
-abbrev turned : ℕ → Turn → Act
-turned b fail = Act.Fail
-turned b again = Act.Again b
-turned b leave = Act.Leave
-
-turned-lookahead : (b : ℕ) (c e : Bool) → act-by-lookahead c e b ≡ turned b (by-lookahead c e)
-unfolding by-lookahead
-turned-lookahead b true e = refl
-turned-lookahead b false true = refl
-turned-lookahead b false false = refl
-
-turn-turned : (ws : List ℕ) (n i k : ℕ) (c : Counted) → Definite (turn-act ws n i k c)
-    → turn-act ws n i k c ≡ turned (i + 1) (turn (allowed c) k (stored ws (prediction-at (i + 1)) n) (stored ws (follow-at i) n))
-unfolding turn
-turn-turned ws n i k Counted.None s = refl
-turn-turned ws n i k (Counted.From low) s =
-    elim (decide (ltb k low)) [ inl t ↦ rw (t, turn) | inr t ↦ rw (t, turn) (turned-lookahead (i + 1) (stored ws (prediction-at (i + 1)) n) (stored ws (follow-at i) n)) ]
-turn-turned ws n i k (Counted.Within low more) s =
-    elim (decide (ltb k low)) [
-      | inl t ↦ rw (t, turn)
-      | inr t ↦
-          elim (decide (leb (low + more) k))
-          [ inl u ↦ rw (t, u, turn) | inr u ↦ rw (t, u, turn) (turned-lookahead (i + 1) (stored ws (prediction-at (i + 1)) n) (stored ws (follow-at i) n)) ]
-    ]
-turn-turned ws n i k Counted.Malformed s = absurd (s refl)
-turn-turned ws n i k Counted.Overflow s = absurd (s refl)
-
-counted-allowed : (ws : List ℕ) (vs : List ℤ) (p : Passes) → allowed (counted ws vs p) ≡ passes-allowed ws p vs
-counted-allowed ws vs Passes.Optional = refl
-counted-allowed ws vs Passes.Any = refl
-counted-allowed ws vs Passes.Some = refl
-counted-allowed ws vs (Passes.Counted start end) = refl
-
--- a test by itself
-abbrev tested : Bool → Tested
-tested true = Tested.Yes
-tested false = Tested.No
-
-tested-yes : (t : Bool) → isYes (tested t) ≡ t
-tested-yes true = refl
-tested-yes false = refl
-
-tested-set : (t : Bool) (w : ℕ) → pick t (Act.Take w 0 0) Act.Fail ≡ by-set (tested t) w 0 0
-tested-set true w = refl
-tested-set false w = refl
-
-literal-long : (ws : List ℕ) (i k n : ℕ) → length (literal-bytes ws i k n) ≡ n
-unfolding literal-bytes
-literal-long ws i k zero = refl
-literal-long ws i k (suc n) = ap suc (literal-long ws i (k + 1) n)
 
 module _ (ws fs : List ℕ) (vs : List ℤ) (p i k : ℕ) (others : List HeldEntry) (rc : List Capture) where
   abbrev rest : Bits

@@ -3,36 +3,32 @@
 use Prim.Native.Nat.{ℕ, zero, suc, _+_, _*_, _-_, _≤_, _<_}
 use native.Mathlib.Omega.{arith}
 use native.Mathlib.Numerals.{add-one}
-use borrow.Author.Tests.{leb-true, leb-false, ltb-true, eq-eqb, ne-eqb}
-use mathlib.Core.Path.{_≡_, refl, sym, _∙_, ap, ap₂, subst}
-use mathlib.Core.Logic.{_⊎_, inl, inr}
-use mathlib.Core.Bool.{Bool, true, false}
+use borrow.Author.Tests.{leb-true, ltb-true, eq-eqb, ne-eqb}
+use mathlib.Core.Path.{_≡_, refl, sym, _∙_, ap, ap₂}
+use mathlib.Core.Bool.{true}
 use mathlib.Core.List.{List, [], _∷_, _++_}
 use mathlib.Core.Option.{Option, none, some}
 use lib.Dec.{leb, ltb, eqb}
-use lib.IntN.{ℤ, pos}
-use lib.ListN.{length, getD, set, take, drop, length-drop, length-set}
+use lib.IntN.{ℤ}
+use lib.ListN.{length, getD, set, drop, length-drop, length-set}
 use lib.Seq.{drop-drop, getD-set-same}
 use Rattle.basis.specs.Bits.{Bits, frameBits}
 use Rattle.basis.proofs.Frames.{frame-length}
 use Rattle.theory.specs.Derivation.{Capture}
-use Rattle.theory.specs.Machine.{Entry, entry, State, state, Verdict, undecided, matched, unmatched, verdict, Run, run, entries}
+use Rattle.theory.specs.Machine.{entry, state, Verdict, unmatched, verdict, run, entries}
 use Rattle.layout.specs.Constructs.{pick, both}
 use Rattle.layout.specs.Held.{Values, parts, bound}
 use Rattle.acts.specs.Acts.{bits-of, Doable}
 use Rattle.acts.specs.declared.Act.{Act}
 use Rattle.acts.proofs.Sizes.{both-true}
-use Rattle.steps.specs.Steps.{Whole, whole, break, fail as fail-head, verdict-after, taken, placed, bind, members-done, again-done, take-done, effect, Fits, broken}
+use Rattle.steps.specs.Steps.{Whole, whole, break, verdict-after, taken, placed, bind, members-done, again-done, take-done, effect, Fits}
 use Rattle.steps.specs.declared.Head.{Head}
-use Rattle.agreement.specs.Runs.{HeldEntry, HeldState, HeldRun, pending, recorded, verdict-as, state-held, head-of, run-of}
+use Rattle.agreement.specs.Runs.{HeldEntry, HeldState, HeldRun, pending, recorded, verdict-as, state-held, run-of}
+use Rattle.agreement.proofs.Picks.{Unbroken, first-kept}
 use Rattle.agreement.proofs.Pending.{alike-set, pending-alike, pending-first, pending-top, recorded-more}
-use Rattle.agreement.proofs.Walks.{Row, row-parts}
+use Rattle.agreement.proofs.Walks.{row-parts}
 use Rattle.agreement.proofs.Placing.{construct-put, passes-put, placed-pending}
 use Rattle.agreement.proofs.Deciding.{Membered, done}
-
--- the run is not broken
-abbrev pub Unbroken : Whole → Type 0
-Unbroken w = head-of w .verdict ≡ broken → ⊥
 
 -- the verdict after a step
 verdict-rest : (fs : List ℕ) (p : ℕ) (vs : List ℤ) (rc : List Capture) (s : Bits) → drop p (frameBits fs) ≡ s → p ≤ bits-of fs
@@ -54,11 +50,6 @@ verdict-agrees fs cs ps (suc n) p vs rc l = rw (ne-eqb (suc n) 0 (λ z. omega ar
 abbrev pub after : HeldState → ℕ → Option HeldState → HeldRun
 after σ n none = run σ (suc n) unmatched
 after σ n (some τ) = run τ (suc n) (verdict τ)
-
--- one of two by a test, where the second is broken
-pub kept : (t : Bool) (a b : Whole) → head-of b .verdict ≡ broken → Unbroken (pick t a b) → t ≡ true
-kept true a b e u = refl
-kept false a b e u = absurd (u e)
 
 bind-bound : (b n : ℕ) (vs : List ℤ) → bind b n vs ≡ bound b vs n
 bind-bound zero n vs = refl
@@ -109,7 +100,7 @@ module _ (ws fs cs ps : List ℕ) (vs : List ℤ) (rs : List ℕ) (h : Head) (f 
       let at : ℕ = n - 1 + m in
       let e : m ≡ length js = x .2 in
       let there : Whole = whole (placed construct-put ws start end at cs) (placed passes-put ws start end at ps) vs rs (taken fs h at (h .position) (h .captures)) in
-      let t : leb (n + m) 257 ≡ true = kept (leb (n + m) 257) there (whole cs ps vs rs (break h)) refl u in
+      let t : leb (n + m) 257 ≡ true = first-kept (leb (n + m) 257) there (whole cs ps vs rs (break h)) refl u in
       let l : n + m ≤ 257 = leb-true (n + m) 257 t in
       let lc : n - 1 + length js ≤ length cs = omega (arith, f .3) in
       let lp : n - 1 + length js ≤ length ps = omega (arith, f .4) in
@@ -124,7 +115,7 @@ module _ (ws fs cs ps : List ℕ) (vs : List ℤ) (rs : List ℕ) (h : Head) (f 
   does-again b u =
       let ps′ : List ℕ = set ps (n - 1) (k + 1) in
       let there : Whole = whole (set cs n b) (set ps′ n 0) vs rs (taken fs h (n + 1) (h .position) (h .captures)) in
-      let t : both (ltb n 256) (ltb k 4294967295) ≡ true = kept (both (ltb n 256) (ltb k 4294967295)) there (whole cs ps vs rs (break h)) refl u in
+      let t : both (ltb n 256) (ltb k 4294967295) ≡ true = first-kept (both (ltb n 256) (ltb k 4294967295)) there (whole cs ps vs rs (break h)) refl u in
       let l : n < 256 = ltb-true n 256 (both-true (ltb n 256) (ltb k 4294967295) t .0) in
       let ep : length ps′ ≡ length ps = length-set ps (n - 1) (k + 1) in
       let lc : n < length cs = omega (arith, f .3) in
@@ -147,7 +138,7 @@ module _ (ws fs cs ps : List ℕ) (vs : List ℤ) (rs : List ℕ) (h : Head) (f 
       let c : ℕ = h .captures in
       let rs′ : List ℕ = set (set rs (2 * c) i) (2 * c + 1) (h .position) in
       let there : Whole = whole cs ps (bind binder v vs) rs′ (taken fs h (n - 1) (h .position + width) (c + 1)) in
-      let t : leb (2 * c + 2) (length rs) ≡ true = kept (leb (2 * c + 2) (length rs)) there (whole cs ps vs rs (break h)) refl u in
+      let t : leb (2 * c + 2) (length rs) ≡ true = first-kept (leb (2 * c + 2) (length rs)) there (whole cs ps vs rs (break h)) refl u in
       rw t
       (went cs ps (bind binder v vs) rs′ (n - 1) (h .position + width) (c + 1) others (recorded rs c ++ (record { construct = i; first-bit = h .position } ∷ [])) w refl
       (ap (recorded rs′) (add-one c) ∙ recorded-more rs c i (h .position) (leb-true (2 * c + 2) (length rs) t))

@@ -1,17 +1,16 @@
 -- A grant of steps over any words that does not end broken is the theory's grant on the grammar that the words hold.
 -- Assumes nothing.
-use Prim.Native.Nat.{ℕ, zero, suc, _-_}
+use Prim.Native.Nat.{ℕ, zero, suc, _+_, _-_}
 use native.Mathlib.Omega.{arith}
-use native.Mathlib.Nat.{add-suc}
-use mathlib.Core.Path.{_≡_, refl, sym, _∙_, ap, ap₂}
+use mathlib.Core.Path.{_≡_, refl, _∙_, ap}
 use mathlib.Core.List.{List}
 use Rattle.theory.specs.Machine.{taken-of, granted, taken}
 use Rattle.layout.specs.Held.{held}
 use Rattle.acts.specs.Stored.{tests-of}
-use Rattle.steps.specs.Steps.{Whole, whole, step-of, steps-of, Fits, broken}
+use Rattle.steps.specs.Steps.{Whole, whole, step-of, steps-of, Fits}
 use Rattle.steps.proofs.Running.{step-fits, steps-stay}
 use Rattle.agreement.specs.Runs.{head-of, run-of}
-use Rattle.agreement.proofs.Effects.{Unbroken}
+use Rattle.agreement.proofs.Picks.{Unbroken}
 use Rattle.agreement.proofs.Step.{step-agrees}
 
 module _ (ws fs : List ℕ) where
@@ -29,6 +28,12 @@ module _ (ws fs : List ℕ) where
   unfolding steps-of
   steps-last zero w = refl
   steps-last (suc n) w = steps-last n (step-of ws fs w)
+
+  -- one grant after another
+  pub steps-sum : (m n : ℕ) (w : Whole) → steps-of ws fs (m + n) w ≡ steps-of ws fs n (steps-of ws fs m w)
+  unfolding steps-of
+  steps-sum zero n w = ap (λ (k : ℕ). steps-of ws fs k w) (let z : 0 + n ≡ n = omega arith in z)
+  steps-sum (suc m) n w = ap (λ (k : ℕ). steps-of ws fs k w) (let z : suc m + n ≡ suc (m + n) = omega arith in z) ∙ steps-sum m n (step-of ws fs w)
 
   pub steps-agree : (n : ℕ) (w : Whole) → Fits fs w → Unbroken (steps-of ws fs n w) → run-of fs (steps-of ws fs n w) ≡ granted (held ws) (tests-of ws) n (run-of fs w)
   unfolding steps-of granted

@@ -1,54 +1,38 @@
 -- A run that is opened over reliable words never breaks, however many steps it is granted; so it is the theory's run.
 -- Assumes nothing.
-use Prim.Native.Nat.{ℕ, zero, suc, _+_, _*_, _-_, _^_, _≤_, _<_, min}
+use Prim.Native.Nat.{ℕ, _+_, _*_, _-_, _≤_, _<_}
 use native.Mathlib.Omega.{arith}
-use native.Mathlib.Nat.{mul-le-mul}
-use native.Mathlib.Numerals.{add-one}
 use borrow.Author.Tests.{le-leb, lt-ltb, eq-eqb, ne-eqb}
-use mathlib.Core.Path.{_≡_, refl, sym, _∙_, ap, ap₂, subst}
-use mathlib.Core.Logic.{_⊎_, inl, inr}
-use mathlib.Core.Bool.{Bool, true, false}
+use mathlib.Core.Path.{_≡_, sym, _∙_, ap, ap₂}
+use mathlib.Core.Logic.{inl, inr}
+use mathlib.Core.Bool.{true}
 use mathlib.Core.List.{List, [], _∷_, _++_}
-use mathlib.Core.Option.{Option, none, some}
-use lib.Dec.{leb, ltb, eqb}
-use lib.IntN.{ℤ, pos}
-use lib.ListN.{length, getD, drop, length-append, length-map}
-use Rattle.basis.specs.Bits.{Bits, frameBits}
-use Rattle.basis.proofs.Frames.{frame-length}
+use lib.IntN.{ℤ}
+use lib.ListN.{length, getD, length-append, length-map}
 use Rattle.theory.specs.Derivation.{Capture}
-use Rattle.theory.specs.Machine.{Entry, entry, State, state, pending-of, captures-of, Passes, Verdict, undecided, Run, run, verdict-of, state-of, taken-of, entries, stepped, open-state, opened, granted, taken}
-use Rattle.theory.specs.Theorems.{step-bound, Decision, Moment}
-use Rattle.theory.proofs.Theorems as Theory
-use Rattle.theory.proofs.Runs.{granted-sum}
-use Rattle.layout.specs.Places.{construct-count, weight-of}
-use Rattle.layout.specs.Constructs.{pick, both}
-use Rattle.layout.specs.Held.{parts, opening, held}
+use Rattle.theory.specs.Machine.{entry, pending-of, captures-of, Passes, state-of, entries, stepped}
+use Rattle.layout.specs.Held.{parts, held}
 use Rattle.acts.specs.Stored.{tests-of}
-use Rattle.acts.specs.Acts.{bits-of, actOf}
+use Rattle.acts.specs.Acts.{actOf}
 use Rattle.acts.specs.declared.Act.{Act}
-use Rattle.steps.specs.Steps.{Whole, whole, verdict-after, effect, in-bound, step-of, steps-of, Fits, broken}
+use Rattle.steps.specs.Steps.{Whole, whole, verdict-after, effect, in-bound, step-of, Fits, broken}
 use Rattle.steps.specs.declared.Head.{Head}
-use Rattle.steps.proofs.Running.{step-stays}
-use Rattle.agreement.specs.Runs.{HeldEntry, HeldState, HeldRun, pending, recorded, state-held, head-of, run-of}
+use Rattle.agreement.specs.Runs.{HeldEntry, HeldState, pending, recorded, state-held, run-of}
 use Rattle.agreement.proofs.Pending.{pending-first, pending-length, recorded-length}
-use Rattle.agreement.proofs.Walks.{Row, row-parts}
+use Rattle.agreement.proofs.Walks.{row-parts}
 use Rattle.agreement.proofs.Deciding.{Membered, done, Does, does}
-use Rattle.agreement.proofs.Effects.{Unbroken, after}
+use Rattle.agreement.proofs.Effects.{after}
+use Rattle.agreement.proofs.Picks.{Unbroken}
 use Rattle.agreement.proofs.Step.{stepped-does}
-use Rattle.agreement.proofs.Grants.{steps-fit, steps-last, steps-agree}
+use Rattle.agreement.proofs.Verdicts.{after-few}
 use Rattle.agreement.proofs.Reliable.{Reliable, Safe, safe-definite, InTable, act-safe}
-use Rattle.agreement.proofs.Steady.{There, Steady, steady-after, steady-opened}
+use Rattle.agreement.proofs.Steady.{There, Steady, steady-after}
 
 -- ---- one step
 
 -- a step that is taken is not broken
 verdict-unbroken : (fs : List ℕ) (n p : ℕ) → verdict-after fs n p ≡ broken → ⊥
-verdict-unbroken fs n p = by (eqb n 0) (eqb p (bits-of fs))
-  where
-    by : (s t : Bool) → _≡_ {A = ℕ} (pick s (pick t 1 2) 0) 4 → ⊥
-    by true true e = omega arith
-    by true false e = omega arith
-    by false t e = omega arith
+verdict-unbroken fs n p e = omega (arith, after-few fs n p)
 
 module _ (ws fs cs ps : List ℕ) (vs : List ℤ) (rs : List ℕ) (h : Head) where
   abbrev w : Whole

@@ -12,21 +12,20 @@ use lib.IntN.{ℤ}
 use lib.ListN.{length, getD}
 use Rattle.basis.specs.Bits.{Bits, frameBits}
 use Rattle.basis.proofs.Frames.{frame-length}
-use Rattle.theory.specs.Machine.{Entry, entry, state, pending-of, captures-of, Passes, undecided, Run, run, verdict-of, state-of, taken-of, stepped, open-state, opened, granted, taken}
-use Rattle.theory.specs.Theorems.{step-bound, Decision, Moment}
+use Rattle.theory.specs.Machine.{entry, state, pending-of, captures-of, Passes, undecided, run, verdict-of, state-of, taken-of, stepped, open-state, opened, granted, taken}
+use Rattle.theory.specs.Theorems.{Decision, Moment}
 use Rattle.theory.proofs.Theorems as Theory
 use Rattle.theory.proofs.Runs.{granted-sum}
 use Rattle.theory.proofs.Progress.{passes-more}
 use Rattle.layout.specs.Places.{weight-of}
-use Rattle.layout.specs.Constructs.{pick}
 use Rattle.layout.specs.Held.{opening, held}
 use Rattle.acts.specs.Stored.{tests-of}
 use Rattle.acts.specs.Acts.{bits-of}
 use Rattle.steps.specs.Steps.{Whole, whole, in-bound, step-of, steps-of, Fits}
 use Rattle.steps.specs.declared.Head.{Head}
 use Rattle.steps.proofs.Running.{step-stays}
-use Rattle.agreement.specs.Runs.{HeldEntry, HeldRun, pending, recorded, verdict-as, reading-of, run-of}
-use Rattle.agreement.proofs.Effects.{Unbroken}
+use Rattle.agreement.specs.Runs.{HeldRun, pending, recorded, verdict-as, reading-of, run-of}
+use Rattle.agreement.proofs.Picks.{Unbroken}
 use Rattle.agreement.proofs.Grants.{steps-fit, steps-last, steps-agree}
 use Rattle.agreement.proofs.Readings.{steps-record}
 use Rattle.agreement.proofs.Step.{step-agrees}
@@ -51,6 +50,9 @@ pub record Opening (fs cs ps rs : List ℕ) : Type 0 where
 abbrev pub opening-of : List ℕ → List ℕ → List ℕ → List ℕ → Whole
 opening-of ws cs ps rs = whole cs ps (held ws .values) rs opening-head
 
+pub opening-fits : (ws fs cs ps rs : List ℕ) → Opening fs cs ps rs → Fits fs (opening-of ws cs ps rs)
+opening-fits ws fs cs ps rs o = (omega arith, omega arith, omega arith, o .constructs, o .passes)
+
 module _ (ws : List ℕ) (widest : List ℤ) (weight rooms : Unit {0} → ℕ → ℕ) (r : Reliable ws widest weight rooms) (fs cs ps rs : List ℕ) (o : Opening fs cs ps rs) where
   abbrev w₀ : Whole
   w₀ = opening-of ws cs ps rs
@@ -66,8 +68,8 @@ module _ (ws : List ℕ) (widest : List ℤ) (weight rooms : Unit {0} → ℕ �
   unfolding pending recorded opened open-state held
   opened-run = ap₂ (λ (i k : ℕ). run (state (entry i tt k ∷ []) s 0 (held ws .values) []) 0 undecided) (o .first) (o .none-begun)
 
-  fits : Fits fs w₀
-  fits = (omega arith, omega arith, omega arith, o .constructs, o .passes)
+  abbrev fits : Fits fs w₀
+  fits = opening-fits ws fs cs ps rs o
 
   at-next : (n : ℕ) → at (suc n) ≡ stepped (held ws) (tests-of ws) (at n)
   unfolding granted

@@ -2,14 +2,12 @@
 -- Assumes nothing.
 use Prim.Native.Nat.{ℕ, zero, suc, _+_, _*_, _-_, _≤_, _<_}
 use native.Mathlib.Omega.{arith}
-use native.Mathlib.Numerals.{add-one}
-use mathlib.Core.Path.{_≡_, refl, sym, _∙_, ap, ap₂}
+use mathlib.Core.Path.{_≡_, refl, _∙_, ap, ap₂}
 use mathlib.Core.List.{List, [], _∷_, _++_}
 use lib.ListN.{length, getD, set, length-set, length-append}
 use lib.Seq.{getD-set-same, getD-set-other}
-use Rattle.theory.specs.Derivation.{Capture}
-use Rattle.theory.specs.Machine.{Entry, entry}
-use Rattle.agreement.specs.Runs.{HeldEntry, pending, recorded}
+use Rattle.theory.specs.Machine.{entry}
+use Rattle.agreement.specs.Runs.{pending, recorded}
 
 -- lists that agree up to n give the same entries, and the same fields
 abbrev pub Alike : ℕ → List ℕ → List ℕ → Type 0

@@ -2,19 +2,20 @@
 -- Assumes nothing.
 use Prim.Native.Nat.{ℕ, zero, suc, _+_, _-_, _≤_, _<_}
 use native.Mathlib.Omega.{arith}
-use mathlib.Core.Path.{_≡_, refl, sym, _∙_, ap, ap₂, subst}
-use mathlib.Core.List.{List, [], _∷_, _++_}
+use mathlib.Core.Path.{_≡_, _∙_, ap, ap₂}
+use mathlib.Core.List.{List, _∷_, _++_}
 use lib.ListN.{length, getD, set, length-set}
 use lib.Seq.{getD-set-same, getD-set-other}
-use Rattle.theory.specs.Machine.{Entry, entry, entries}
+use Rattle.theory.specs.Machine.{entry, entries}
+use Rattle.form.specs.Checks.{size-at}
 use Rattle.steps.specs.Steps.{placed}
 use Rattle.steps.proofs.Places.{placed-end, placed-next}
 use Rattle.agreement.specs.Runs.{HeldEntry, pending}
-use Rattle.agreement.proofs.Pending.{Alike, alike-set, pending-alike}
-use Rattle.agreement.proofs.Walks.{Row, size}
+use Rattle.agreement.proofs.Pending.{alike-set, pending-alike}
+use Rattle.agreement.proofs.Walks.{Row}
 
 -- the first of some members stands on top, the others below it
-placed-part : (what : ℕ → ℕ) (ws : List ℕ) (end j k n : ℕ) (xs : List ℕ) → j < end → (size ws j ≡ 0 → ⊥) → k ≡ j + size ws j
+placed-part : (what : ℕ → ℕ) (ws : List ℕ) (end j k n : ℕ) (xs : List ℕ) → j < end → (size-at ws j ≡ 0 → ⊥) → k ≡ j + size-at ws j
     → placed what ws j end (suc n) xs ≡ placed what ws k end n (set xs n (what j))
 placed-part what ws end j k n xs l z e =
     let y : suc n - 1 ≡ n = omega arith in

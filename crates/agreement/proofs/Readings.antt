@@ -1,22 +1,22 @@
 -- The reading's words: steps write pairs after those that stand there, and nothing else.
 -- Assumes nothing.
-use Prim.Native.Nat.{ℕ, zero, suc, _+_, _*_, _-_, _≤_, _<_}
+use Prim.Native.Nat.{ℕ, zero, suc, _+_, _*_, _-_, _≤_}
 use native.Mathlib.Omega.{arith}
 use native.Mathlib.Numerals.{add-one}
-use mathlib.Core.Path.{_≡_, refl, sym, _∙_, ap, ap₂, subst}
-use mathlib.Core.Bool.{Bool, true, false}
+use mathlib.Core.Path.{_≡_, refl, sym, _∙_, ap, ap₂}
 use mathlib.Core.List.{List, [], _∷_, _++_, append-assoc}
 use lib.Dec.{leb, ltb, eqb}
 use lib.IntN.{ℤ}
 use lib.ListN.{length, getD, set, take, drop, length-set, take-append-drop}
 use lib.Seq.{take-suc, take-take, take-set-le, drop-set-lt, drop-drop}
 use Rattle.theory.specs.Derivation.{Capture}
-use Rattle.layout.specs.Constructs.{pick, both}
+use Rattle.layout.specs.Constructs.{both}
 use Rattle.acts.specs.Acts.{actOf}
 use Rattle.acts.specs.declared.Act.{Act}
-use Rattle.steps.specs.Steps.{Whole, whole, break, members-done, again-done, take-done, effect, in-bound, first-step, step-of, steps-of, Fits}
+use Rattle.steps.specs.Steps.{Whole, whole, break, take-done, effect, in-bound, first-step, step-of, steps-of, Fits}
 use Rattle.steps.specs.declared.Head.{Head}
 use Rattle.agreement.specs.Runs.{recorded, words-of, head-of, reading-of}
+use Rattle.agreement.proofs.Picks.{either-way}
 use Rattle.agreement.proofs.Grants.{steps-fit}
 
 -- from one run to a later one: fields are added, those recorded stay, and past the new ones the words stay
@@ -54,17 +54,13 @@ module _ (ws fs cs ps : List ℕ) (vs : List ℤ) (rs : List ℕ) (h : Head) whe
   abbrev w : Whole
   w = whole cs ps vs rs h
 
-  picked : (t : Bool) (a b : Whole) → Recorded w a → Recorded w b → Recorded w (pick t a b)
-  picked true a b x y = x
-  picked false a b x y = y
-
   stays : (cs′ ps′ : List ℕ) (vs′ : List ℤ) (h′ : Head) → h .captures ≡ h′ .captures → Recorded w (whole cs′ ps′ vs′ rs h′)
   stays cs′ ps′ vs′ h′ e = same-reading cs ps cs′ ps′ vs vs′ rs h h′ e
 
   take-records : (i width binder n : ℕ) → Recorded w (take-done fs cs ps vs rs h i width binder n)
   take-records i width binder n =
       let c : ℕ = h .captures in
-      picked (leb (2 * c + 2) (length rs)) _ _
+      either-way (Recorded w) (leb (2 * c + 2) (length rs))
       (record {
         lengths = length-set (set rs (2 * c) i) (2 * c + 1) (h .position) ∙ length-set rs (2 * c) i;
         added = omega arith;
@@ -77,22 +73,22 @@ module _ (ws fs cs ps : List ℕ) (vs : List ℤ) (rs : List ℕ) (h : Head) whe
   effect-records i k Act.Broken = stays _ _ _ _ refl
   effect-records i k Act.Fail = stays _ _ _ _ refl
   effect-records i k (Act.Enter b) = stays _ _ _ _ refl
-  effect-records i k (Act.Members start end n) = picked (leb (h .count + n) 257) _ _ (stays _ _ _ _ refl) (stays _ _ _ _ refl)
-  effect-records i k (Act.Again b) = picked (both (ltb (h .count) 256) (ltb k 4294967295)) _ _ (stays _ _ _ _ refl) (stays _ _ _ _ refl)
+  effect-records i k (Act.Members start end n) = either-way (Recorded w) (leb (h .count + n) 257) (stays _ _ _ _ refl) (stays _ _ _ _ refl)
+  effect-records i k (Act.Again b) = either-way (Recorded w) (both (ltb (h .count) 256) (ltb k 4294967295)) (stays _ _ _ _ refl) (stays _ _ _ _ refl)
   effect-records i k Act.Leave = stays _ _ _ _ refl
   effect-records i k (Act.Take width binder n) = take-records i width binder n
 
   first-records : (i k : ℕ) → Recorded w (first-step ws fs i k cs ps vs rs h)
-  first-records i k = picked (leb i 256) _ _ (effect-records i k (actOf ws fs vs (h .position) i k)) (stays cs ps vs (break h) refl)
+  first-records i k = either-way (Recorded w) (leb i 256) (effect-records i k (actOf ws fs vs (h .position) i k)) (stays cs ps vs (break h) refl)
 
 -- a step, and steps
 pub step-records : (ws fs : List ℕ) (w : Whole) → Recorded w (step-of ws fs w)
 unfolding step-of
 step-records ws fs (whole cs ps vs rs h) =
     let bad = same-reading cs ps cs ps vs vs rs h (break h) refl in
-    picked ws fs cs ps vs rs h (eqb (h .verdict) 0) _ _
-    (picked ws fs cs ps vs rs h (in-bound ws fs (h .steps)) _ _
-    (picked ws fs cs ps vs rs h (eqb (h .count) 0) _ _ bad (first-records ws fs cs ps vs rs h (getD cs (h .count - 1) 0) (getD ps (h .count - 1) 0)))
+    either-way (Recorded (whole cs ps vs rs h)) (eqb (h .verdict) 0)
+    (either-way (Recorded (whole cs ps vs rs h)) (in-bound ws fs (h .steps))
+    (either-way (Recorded (whole cs ps vs rs h)) (eqb (h .count) 0) bad (first-records ws fs cs ps vs rs h (getD cs (h .count - 1) 0) (getD ps (h .count - 1) 0)))
     bad)
     (same-reading cs ps cs ps vs vs rs h h refl)
 

@@ -2,11 +2,11 @@
 -- Assumes nothing.
 use Prim.Native.Nat.{ℕ, zero, suc, _+_, _*_, _-_, _^_, _≤_, _<_, min}
 use native.Mathlib.Omega.{arith}
-use borrow.Author.Tests.{lt-ltb, le-ltb, eq-eqb, ne-eqb, ltb-true, ltb-false, eqb-true, eqb-false}
-use mathlib.Core.Path.{_≡_, refl, sym, _∙_, ap, subst}
+use borrow.Author.Tests.{lt-ltb, eq-eqb, ne-eqb, ltb-true}
+use mathlib.Core.Path.{_≡_, refl, _∙_, ap, subst}
 use mathlib.Core.Logic.{_⊎_, inl, inr}
 use mathlib.Core.Bool.{Bool, true, false}
-use mathlib.Core.List.{List, [], _∷_}
+use mathlib.Core.List.{List}
 use lib.Dec.{leb, ltb, eqb}
 use lib.IntN.{ℤ, pos}
 use lib.ListN.{length, take, drop, getD}
@@ -14,7 +14,7 @@ use Rattle.basis.specs.Bits.{value, frameBits}
 use Rattle.basis.specs.Counts.{Counts, from, within}
 use Rattle.basis.proofs.Frames.{value-take-less}
 use Rattle.terms.specs.declared.Kind.{Kind}
-use Rattle.evaluation.specs.Meaning.{membership, condition}
+use Rattle.evaluation.specs.Meaning.{membership}
 use Rattle.evaluation.specs.Counts.{counts, shown}
 use Rattle.evaluation.specs.declared.Counted.{Counted}
 use Rattle.evaluation.specs.declared.Tested.{Tested}
@@ -26,20 +26,22 @@ use Rattle.theory.specs.Hypotheses.{Hypotheses}
 use Rattle.theory.specs.Weight.{Outweighs, Houses}
 use Rattle.theory.proofs.Turns.{decide}
 use Rattle.layout.specs.Places.{rule-word, construct-word, variable-word, construct-count, weight-of}
-use Rattle.layout.specs.Constructs.{pick, both, constructAt}
+use Rattle.layout.specs.Constructs.{both, constructAt}
 use Rattle.layout.specs.Held.{size-of, term-words, terms-of, opening, held}
 use Rattle.layout.specs.declared.Construct.{Construct}
 use Rattle.layout.specs.declared.Passes.{Passes}
+use Rattle.form.specs.Checks.{size-at}
 use Rattle.form.proofs.Decoded.{Fine, fine}
 use Rattle.structure.proofs.Facts.{Laid}
 use Rattle.structure.proofs.RuleLaws.{rule-of, rule-within}
 use Rattle.structure.proofs.Owners.{rule-holds}
 use Rattle.structure.proofs.NodeFacts.{present, use-names, body-exists}
 use Rattle.acts.specs.Stored.{stored, prediction-at, follow-at, tests-of}
-use Rattle.acts.specs.Acts.{in-table, enter, ahead-at, bits-of, walk, by-branch, branch-act, case-test, by-case, case-act, members-act, by-lookahead, choice-act, turn-act, counted, literal-holds, literal-act, range-act, by-set, uint-act, end-act, construct-act, actOf}
+use Rattle.acts.specs.Acts.{enter, ahead-at, bits-of, walk, by-branch, branch-act, case-test, by-case, case-act, members-act, by-lookahead, choice-act, turn-act, counted, literal-holds, by-set, construct-act, actOf}
 use Rattle.acts.specs.declared.Act.{Act}
-use Rattle.agreement.proofs.Walks.{Definite, size}
-use Rattle.agreement.proofs.Widths.{Binder, binder-width}
+use Rattle.agreement.proofs.Picks.{either-way}
+use Rattle.agreement.proofs.Walks.{Definite}
+use Rattle.agreement.proofs.Widths.{binder-width}
 
 -- a binder's values: 1 + a variable whose size is at least the largest value of this width; 0 binds none
 abbrev pub Binds : List ℤ → ℕ → ℕ → Type 0
@@ -87,7 +89,7 @@ InTable ws i = (i ≡ opening) ⊎ (i < construct-count ws)
 
 -- a walk over parts that are all there gives what its end and each visit give
 module _ {A : Type 0} (P : A → Type 0) (visit : ℕ → A → A) (done broken : A) (ws : List ℕ) (end : ℕ)
-    (d : P done) (there : (j : ℕ) → j < end → size ws j ≡ 0 → ⊥) (v : (j : ℕ) (rest : A) → j < end → P rest → P (visit j rest)) where
+    (d : P done) (there : (j : ℕ) → j < end → size-at ws j ≡ 0 → ⊥) (v : (j : ℕ) (rest : A) → j < end → P rest → P (visit j rest)) where
   walk-holds : (most j : ℕ) → P (walk visit done broken most ws j end)
   unfolding walk
   walk-holds zero j = d
@@ -95,7 +97,7 @@ module _ {A : Type 0} (P : A → Type 0) (visit : ℕ → A → A) (done broken 
       elim (decide (ltb j end)) [
         | inl e ↦
             let l : j < end = ltb-true j end e in
-            rw (e, ne-eqb (size ws j) 0 (there j l), walk) (v j (walk visit done broken most ws (j + size ws j) end) l (walk-holds most (j + size ws j)))
+            rw (e, ne-eqb (size-at ws j) 0 (there j l), walk) (v j (walk visit done broken most ws (j + size-at ws j) end) l (walk-holds most (j + size-at ws j)))
         | inr e ↦ rw (e, walk) d
       ]
 
@@ -103,11 +105,7 @@ module _ (ws : List ℕ) (widest : List ℤ) {weight rooms : Unit {0} → ℕ �
   abbrev Good : Act → Type 0
   Good = Safe ws widest
 
-  picked : (t : Bool) (a b : Act) → Good a → Good b → Good (pick t a b)
-  picked true a b x y = x
-  picked false a b x y = y
-
-  there : (end : ℕ) → end ≤ construct-count ws → (j : ℕ) → j < end → size ws j ≡ 0 → ⊥
+  there : (end : ℕ) → end ≤ construct-count ws → (j : ℕ) → j < end → size-at ws j ≡ 0 → ⊥
   there end l j h z = sized (constructAt ws j) refl (fine ws j) z
     where
       sized : (c : Construct) → constructAt ws j ≡ c → Fine j c → size-of c ≡ 0 → ⊥
@@ -123,7 +121,7 @@ module _ (ws : List ℕ) (widest : List ℤ) {weight rooms : Unit {0} → ℕ �
       sized Construct.Eod e f z = omega arith
 
   -- a construct ends within the table
-  ends : (i n : ℕ) → i < construct-count ws → size ws i ≡ n → i + n ≤ construct-count ws
+  ends : (i n : ℕ) → i < construct-count ws → size-at ws i ≡ n → i + n ≤ construct-count ws
   ends i n h e = omega (arith, rule-holds (r .laid) i h, rule-within (r .laid) (rule-of (r .laid) i h .rule) (rule-of (r .laid) i h .exists))
 
   -- a value that a binder gives is within its variable's size
@@ -174,9 +172,9 @@ module _ (ws : List ℕ) (widest : List ℤ) {weight rooms : Unit {0} → ℕ �
 
   turn-safe : (n i k : ℕ) (c : Counts) → i + 1 < construct-count ws → Good (turn-act ws n i k (shown c))
   turn-safe n i k Counts.none l = tt
-  turn-safe n i k (Counts.from low) l = picked (ltb k low) (Act.Again (i + 1)) (choice-act ws n i) l (choice-safe n i l)
+  turn-safe n i k (Counts.from low) l = either-way Good (ltb k low) l (choice-safe n i l)
   turn-safe n i k (Counts.within low more) l =
-      picked (ltb k low) (Act.Again (i + 1)) (pick (leb (low + more) k) Act.Leave (choice-act ws n i)) l (picked (leb (low + more) k) Act.Leave (choice-act ws n i) tt (choice-safe n i l))
+      either-way Good (ltb k low) l (either-way Good (leb (low + more) k) tt (choice-safe n i l))
 
   counts-shown : (i n : ℕ) (q : Passes) → i < construct-count ws → constructAt ws i ≡ Construct.Repetition n q → (c : Counts) × (counted ws vs q ≡ shown c)
   counts-shown i n Passes.Optional h e = (within 0 1, refl)
@@ -199,19 +197,19 @@ module _ (ws : List ℕ) (widest : List ℤ) {weight rooms : Unit {0} → ℕ �
   construct-safe i k (Construct.Switch n) h e = case-safe (i + 1) (i + n) (ends i n h (ap size-of e))
   construct-safe i k (Construct.Use rule) h e = enter-safe (rule-word ws rule 0) (body-exists (r .laid) rule (use-names (r .laid) i rule h e))
   construct-safe i k (Construct.Literal n) h e =
-      picked (leb (p + 8 * n) (bits-of fs)) (pick (literal-holds ws fs p i 0 n) (Act.Take (8 * n) 0 0) Act.Fail) Act.Fail (picked (literal-holds ws fs p i 0 n) (Act.Take (8 * n) 0 0) Act.Fail tt tt) tt
+      either-way Good (leb (p + 8 * n) (bits-of fs)) (either-way Good (literal-holds ws fs p i 0 n) tt tt) tt
   construct-safe i k (Construct.Range low high) h e =
       let v = value (take 8 (drop p (frameBits fs))) in
-      picked (leb (p + 8) (bits-of fs)) (pick (both (leb low v) (leb v high)) (Act.Take 8 0 0) Act.Fail) Act.Fail (picked (both (leb low v) (leb v high)) (Act.Take 8 0 0) Act.Fail tt tt) tt
+      either-way Good (leb (p + 8) (bits-of fs)) (either-way Good (both (leb low v) (leb v high)) tt tt) tt
   construct-safe i k (Construct.Uint width start end binder) h e =
       let v = value (take width (drop p (frameBits fs))) in
       let l : v < 2 ^ width = value-take-less width (drop p (frameBits fs)) in
       let t : Tested = membership vs (pos v) start (terms-of ws start end) in
-      picked (leb (p + width) (bits-of fs)) (by-set t width binder v) Act.Fail
+      either-way Good (leb (p + width) (bits-of fs))
       (set-safe t width binder v (set-passes vs widest inside (pos v) start (terms-of ws start end) (r .sets-pass i width start end binder h e))
       (binds-within i width start end binder v h e l ((rw e at (fine ws i)) .2)))
       tt
-  construct-safe i k Construct.Eod h e = picked (eqb p (bits-of fs)) Act.Leave Act.Fail tt tt
+  construct-safe i k Construct.Eod h e = either-way Good (eqb p (bits-of fs)) tt tt
 
   pub act-safe : (i k : ℕ) → InTable ws i → Good (actOf ws fs vs p i k)
   unfolding actOf

@@ -1,25 +1,24 @@
 -- What every run from an opening keeps, as the theory has it: its entries are in the table, its values within their sizes, and while it is
 -- undecided it has an entry.
 -- Assumes nothing.
-use Prim.Native.Nat.{ℕ, zero, suc, _+_, _*_, _-_, _^_, _≤_, _<_, min}
+use Prim.Native.Nat.{ℕ, zero, suc, _-_, _^_, _≤_, _<_, min}
 use native.Mathlib.Omega.{arith}
 use borrow.Author.Tests.{eqb-true, eqb-false}
-use mathlib.Core.Path.{_≡_, refl, sym, _∙_, ap, subst}
-use mathlib.Core.Logic.{_⊎_, inl, inr}
-use mathlib.Core.Bool.{Bool, true, false}
+use mathlib.Core.Path.{_≡_, refl, sym, _∙_}
+use mathlib.Core.Logic.{inl, inr}
 use mathlib.Core.List.{List, [], _∷_, _++_}
-use mathlib.Core.Option.{Option, none, some}
+use mathlib.Core.Option.{some}
 use lib.Dec.{eqb}
-use lib.IntN.{ℤ, pos, natAbs}
-use lib.ListN.{length, getD, set, take, drop, replicate, length-set, length-replicate, getD-replicate}
+use lib.IntN.{ℤ, pos}
+use lib.ListN.{length, getD, set, length-set, length-replicate, getD-replicate}
 use lib.Seq.{getD-set-same, getD-set-other}
-use Rattle.basis.specs.Bits.{Bits, frameBits}
+use Rattle.basis.specs.Bits.{Bits}
 use Rattle.theory.specs.Derivation.{Capture}
-use Rattle.theory.specs.Machine.{Entry, entry, State, state, pending-of, Verdict, undecided, matched, unmatched, verdict, Run, run, verdict-of, state-of, entries, open-state, opened}
+use Rattle.theory.specs.Machine.{entry, state, pending-of, undecided, verdict, verdict-of, state-of, entries, open-state, opened}
 use Rattle.theory.proofs.Turns.{decide}
 use Rattle.sizes.proofs.Bounds.{Below, Inside}
 use Rattle.layout.specs.Places.{construct-count, variable-word}
-use Rattle.layout.specs.Held.{Values, parts, bound, opening, held}
+use Rattle.layout.specs.Held.{Values, parts, bound, held}
 use Rattle.acts.specs.Stored.{tests-of}
 use Rattle.acts.specs.declared.Act.{Act}
 use Rattle.agreement.specs.Runs.{HeldEntry, HeldState, HeldRun}
@@ -28,8 +27,8 @@ use Rattle.agreement.proofs.Deciding.{Membered, done}
 use Rattle.agreement.proofs.Effects.{after}
 use Rattle.agreement.proofs.Reliable.{Binds, Reliable, Safe, InTable}
 
-abbrev pub values-of : HeldState → Values
-values-of (state es s p v cs) = v
+abbrev pub state-values : HeldState → Values
+state-values (state es s p v cs) = v
 
 -- every entry is in the table
 abbrev pub There : List ℕ → List HeldEntry → Type 0
@@ -38,7 +37,7 @@ There ws (entry i c k ∷ es) = InTable ws i × There ws es
 
 pub record Steady (ws : List ℕ) (widest : List ℤ) (r : HeldRun) : Type 0 where
   pub there : There ws (pending-of (state-of r))
-  pub inside : Inside (values-of (state-of r)) widest
+  pub inside : Inside (state-values (state-of r)) widest
   pub some-entry : verdict-of r ≡ undecided → 0 < length (pending-of (state-of r))
 
 -- members of a construct whose end is in the table
@@ -69,12 +68,12 @@ undecided-entry (state [] (b ∷ s) p v cs) e = let z : _≡_ {A = ℕ} 0 1 = cc
 undecided-entry (state (x ∷ es) s p v cs) e = omega arith
 
 module _ (ws : List ℕ) (widest : List ℤ) where
-  went : (σ τ : HeldState) (n : ℕ) → There ws (pending-of τ) → Inside (values-of τ) widest → Steady ws widest (after σ n (some τ))
+  went : (σ τ : HeldState) (n : ℕ) → There ws (pending-of τ) → Inside (state-values τ) widest → Steady ws widest (after σ n (some τ))
   went σ τ n t v = record { there = t; inside = v; some-entry = undecided-entry τ }
 
   -- a step keeps it
   pub steady-after : (fs : List ℕ) (vs : List ℤ) (p i k : ℕ) (others : List HeldEntry) (rc : List Capture) (σ : HeldState) (n : ℕ) (a : Act)
-      → InTable ws i → There ws others → Inside vs widest → There ws (pending-of σ) → Inside (values-of σ) widest → Safe ws widest a → Membered ws a
+      → InTable ws i → There ws others → Inside vs widest → There ws (pending-of σ) → Inside (state-values σ) widest → Safe ws widest a → Membered ws a
       → Steady ws widest (after σ n (done ws fs vs p i k others rc a))
   steady-after fs vs p i k others rc σ n Act.Broken here t v t₀ v₀ s m = absurd s
   steady-after fs vs p i k others rc σ n Act.Fail here t v t₀ v₀ s m =

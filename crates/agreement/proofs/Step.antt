@@ -1,38 +1,34 @@
 -- A step over any words that is not broken is the theory's step on the grammar that the words hold.
 -- Assumes nothing.
-use Prim.Native.Nat.{ℕ, zero, suc, _+_, _*_, _-_, _≤_, _<_}
+use Prim.Native.Nat.{ℕ, zero, suc, _-_, _≤_, _<_}
 use native.Mathlib.Omega.{arith}
 use borrow.Author.Tests.{eqb-false, eq-eqb, leb-true}
 use mathlib.Core.Path.{_≡_, refl, sym, _∙_, ap, subst}
-use mathlib.Core.Bool.{Bool, true, false}
-use mathlib.Core.List.{List, [], _∷_}
+use mathlib.Core.Bool.{true, false}
+use mathlib.Core.List.{List, _∷_}
 use mathlib.Core.Option.{Option, none, some}
 use lib.Dec.{leb, eqb}
 use lib.IntN.{ℤ}
-use lib.ListN.{length, getD, drop}
-use Rattle.basis.specs.Bits.{Bits, frameBits}
+use lib.ListN.{getD, drop}
+use Rattle.basis.specs.Bits.{frameBits}
 use Rattle.theory.specs.Derivation.{Capture}
-use Rattle.theory.specs.Machine.{Entry, entry, State, state, Verdict, undecided, matched, unmatched, Run, run, step, act, stepped}
+use Rattle.theory.specs.Machine.{entry, state, undecided, run, step, stepped}
 use Rattle.layout.specs.Constructs.{pick}
-use Rattle.layout.specs.Held.{Values, held}
+use Rattle.layout.specs.Held.{held}
 use Rattle.acts.specs.Stored.{tests-of}
 use Rattle.acts.specs.Acts.{bits-of, actOf}
 use Rattle.acts.specs.declared.Act.{Act}
 use Rattle.acts.proofs.Doing.{doable}
 use Rattle.acts.proofs.Walks.{positive}
-use Rattle.steps.specs.Steps.{Whole, whole, break, effect, in-bound, first-step, step-of, steps-of, Fits, broken}
+use Rattle.steps.specs.Steps.{Whole, whole, break, effect, in-bound, step-of, Fits}
 use Rattle.steps.specs.declared.Head.{Head}
 use Rattle.steps.proofs.Running.{step-stays}
-use Rattle.agreement.specs.Runs.{HeldEntry, HeldState, HeldRun, pending, recorded, verdict-as, state-held, head-of, run-of}
+use Rattle.agreement.specs.Runs.{HeldEntry, HeldState, pending, recorded, verdict-as, state-held, head-of, run-of}
+use Rattle.agreement.proofs.Picks.{Unbroken, first-kept, second-kept}
 use Rattle.agreement.proofs.Pending.{pending-first}
 use Rattle.agreement.proofs.Walks.{Definite}
-use Rattle.agreement.proofs.Deciding.{Does, done, does}
-use Rattle.agreement.proofs.Effects.{Unbroken, after, kept, does-effect}
-
--- one of two by a test, where the first is broken
-pub left : (t : Bool) (a b : Whole) → head-of a .verdict ≡ broken → Unbroken (pick t a b) → t ≡ false
-left true a b e u = absurd (u e)
-left false a b e u = refl
+use Rattle.agreement.proofs.Deciding.{done, does}
+use Rattle.agreement.proofs.Effects.{after, does-effect}
 
 -- the theory's step, by the state that it leads to
 stepped-after : (ws : List ℕ) (σ : HeldState) (n : ℕ) (o : Option HeldState) → step (held ws) (tests-of ws) σ ≡ o → stepped (held ws) (tests-of ws) (run σ n undecided) ≡ after σ n o
@@ -77,11 +73,11 @@ module _ (ws fs cs ps : List ℕ) (vs : List ℤ) (rs : List ℕ) (h : Head) whe
       let here : Whole = pick (eqb (h .count) 0) bad first in
       let v : eqb (h .verdict) 0 ≡ true = eq-eqb (h .verdict) 0 e in
       let u₁ : Unbroken (pick (in-bound ws fs (h .steps)) here bad) = rw v at u in
-      let b : in-bound ws fs (h .steps) ≡ true = kept (in-bound ws fs (h .steps)) here bad refl u₁ in
+      let b : in-bound ws fs (h .steps) ≡ true = first-kept (in-bound ws fs (h .steps)) here bad refl u₁ in
       let u₂ : Unbroken here = rw b at u₁ in
-      let c : eqb (h .count) 0 ≡ false = left (eqb (h .count) 0) bad first refl u₂ in
+      let c : eqb (h .count) 0 ≡ false = second-kept (eqb (h .count) 0) bad first refl u₂ in
       let u₃ : Unbroken first = rw c at u₂ in
-      let m : leb i 256 ≡ true = kept (leb i 256) did bad refl u₃ in
+      let m : leb i 256 ≡ true = first-kept (leb i 256) did bad refl u₃ in
       record {
         bound = b;
         entries = (let z : h .count ≡ 0 → ⊥ = eqb-false (h .count) 0 c in positive (h .count) z);

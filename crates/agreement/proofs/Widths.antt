@@ -1,25 +1,22 @@
 -- A variable's width is that of its binder, so the values that a binder gives are at most the variable's largest.
 -- Assumes nothing.
-use Prim.Native.Nat.{ℕ, zero, suc, _+_, _-_, _^_, _≤_, _<_, min}
+use Prim.Native.Nat.{ℕ, suc, _-_, _≤_, _<_}
 use native.Mathlib.Omega.{arith}
-use native.Mathlib.Numerals.{sub-one}
 use borrow.Author.Tests.{leb-true, eqb-true, ne-eqb}
-use mathlib.Core.Path.{_≡_, refl, sym, _∙_, ap, subst}
-use mathlib.Core.Bool.{Bool, true, false}
+use mathlib.Core.Path.{_≡_, refl, sym, _∙_, ap}
+use mathlib.Core.Bool.{Bool, true}
 use mathlib.Core.List.{List}
 use lib.Dec.{leb, ltb, eqb}
 use Rattle.terms.specs.declared.Kind.{Kind}
 use Rattle.layout.specs.Places.{construct-word, variable-word, construct-count, variable-count}
-use Rattle.layout.specs.Constructs.{pick, both, branches, listed, repetitionOf, innerOf, uintOf, literalOf, rangeOf, leafOf, withoutParts, constructOf, constructAt}
+use Rattle.layout.specs.Constructs.{both, branches, listed, innerOf, leafOf, constructOf, constructAt}
 use Rattle.layout.specs.declared.Construct.{Construct}
-use Rattle.layout.specs.declared.Passes.{Passes}
 use Rattle.form.specs.Lists.{list-formed}
 use Rattle.form.specs.Rules.{named-back}
-use Rattle.form.specs.Laid.{kind-laid}
 use Rattle.form.proofs.Walks.{both-first, both-second}
 use Rattle.form.proofs.Decoded.{picked}
 use Rattle.structure.proofs.Facts.{Laid}
-use Rattle.structure.proofs.Binding.{Bound, VariableOf, bound-in, variable-of}
+use Rattle.structure.proofs.Binding.{bound-in, variable-of}
 
 -- a uint's width is its first operand
 abbrev HasWidth : ℕ → Construct → Type 0

@@ -43,6 +43,15 @@ state-held fs (whole cs ps vs rs h) = state (pending cs ps (h .count)) (drop (h 
 abbrev pub head-of : Whole → Head
 head-of (whole cs ps vs rs h) = h
 
+abbrev pub constructs-of : Whole → List ℕ
+constructs-of (whole cs ps vs rs h) = cs
+
+abbrev pub passes-of : Whole → List ℕ
+passes-of (whole cs ps vs rs h) = ps
+
+abbrev pub values-of : Whole → Values
+values-of (whole cs ps vs rs h) = vs
+
 abbrev pub reading-of : Whole → List ℕ
 reading-of (whole cs ps vs rs h) = rs
 
