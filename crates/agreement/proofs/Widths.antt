@@ -9,13 +9,14 @@ use mathlib.Core.List.{List}
 use lib.Dec.{leb, ltb, eqb}
 use Rattle.terms.specs.declared.Kind.{Kind}
 use Rattle.layout.specs.Places.{construct-word, variable-word, construct-count, variable-count}
-use Rattle.layout.specs.Constructs.{both, branches, listed, innerOf, leafOf, constructOf, constructAt}
+use Rattle.layout.specs.Constructs.{pick, both, branches, listed, repetitionOf, innerOf, leafOf, constructOf, constructAt}
 use Rattle.layout.specs.declared.Construct.{Construct}
+use Rattle.layout.specs.declared.Passes.{Passes}
 use Rattle.form.specs.Lists.{list-formed}
 use Rattle.form.specs.Rules.{named-back}
 use Rattle.form.proofs.Walks.{both-first, both-second}
-use Rattle.form.proofs.Decoded.{picked}
 use Rattle.structure.proofs.Facts.{Laid}
+use Rattle.agreement.proofs.Picks.{either-way}
 use Rattle.structure.proofs.Binding.{bound-in, variable-of}
 
 -- a uint's width is its first operand
@@ -33,24 +34,21 @@ HasWidth a Construct.Eod = Unit {0}
 
 inner-width : (x kind size a b c : ℕ) → HasWidth x (innerOf kind size a b c)
 inner-width x kind size a b c =
-    picked (HasWidth x) (eqb kind 1) (λ e. tt) (λ e.
-    picked (HasWidth x) (eqb kind 2) (λ e. tt) (λ e.
-    picked (HasWidth x) (eqb kind 3)
-    (λ e.
-    picked (HasWidth x) (eqb a 1) (λ e. tt) (λ e.
-    picked (HasWidth x) (eqb a 2) (λ e. tt) (λ e.
-    picked (HasWidth x) (eqb a 3) (λ e. tt) (λ e.
-    picked (HasWidth x) (both (eqb a 4) (listed b c)) (λ e. tt) (λ e. tt)))))
-    (λ e. tt)))
+    either-way (HasWidth x) (eqb kind 1) tt (either-way (HasWidth x) (eqb kind 2) tt (either-way (HasWidth x) (eqb kind 3) repeated tt))
+  where
+    counted : HasWidth x (pick (both (eqb a 4) (listed b c)) (Construct.Repetition size (Passes.Counted b c)) Construct.Missing)
+    counted = either-way (HasWidth x) (both (eqb a 4) (listed b c)) tt tt
+
+    repeated : HasWidth x (repetitionOf size a b c)
+    repeated = either-way (HasWidth x) (eqb a 1) tt (either-way (HasWidth x) (eqb a 2) tt (either-way (HasWidth x) (eqb a 3) tt counted))
 
 leaf-width : (kind a b c d : ℕ) → HasWidth a (leafOf kind a b c d)
 leaf-width kind a b c d =
-    picked (HasWidth a) (eqb kind 5) (λ e. picked (HasWidth a) (ltb a 64) (λ e. tt) (λ e. tt)) (λ e.
-    picked (HasWidth a) (eqb kind 6) (λ e. picked (HasWidth a) (both (leb 1 a) (leb a 32)) (λ e. tt) (λ e. tt)) (λ e.
-    picked (HasWidth a) (eqb kind 7) (λ e. picked (HasWidth a) (both (ltb a 128) (ltb b 128)) (λ e. tt) (λ e. tt)) (λ e.
-    picked (HasWidth a) (eqb kind 8)
-    (λ e. picked (HasWidth a) (both (both (leb 1 a) (leb a 32)) (both (listed b c) (leb d 64))) (λ e. refl) (λ e. tt)) (λ e.
-    picked (HasWidth a) (eqb kind 9) (λ e. tt) (λ e. tt)))))
+    either-way (HasWidth a) (eqb kind 5) (either-way (HasWidth a) (ltb a 64) tt tt)
+    (either-way (HasWidth a) (eqb kind 6) (either-way (HasWidth a) (both (leb 1 a) (leb a 32)) tt tt)
+    (either-way (HasWidth a) (eqb kind 7) (either-way (HasWidth a) (both (ltb a 128) (ltb b 128)) tt tt)
+    (either-way (HasWidth a) (eqb kind 8) (either-way (HasWidth a) (both (both (leb 1 a) (leb a 32)) (both (listed b c) (leb d 64))) refl tt)
+    (either-way (HasWidth a) (eqb kind 9) tt tt))))
 
 construct-width : (ws : List ℕ) (i : ℕ) → HasWidth (construct-word ws i 2) (constructAt ws i)
 unfolding constructAt constructOf
@@ -58,12 +56,11 @@ construct-width ws i =
     let x : ℕ = construct-word ws i 2 in
     let kind : ℕ = construct-word ws i 0 in
     let size : ℕ = construct-word ws i 1 in
-    picked (HasWidth x) (ltb i 256)
-    (λ e.
-    picked (HasWidth x) (both (leb 1 kind) (leb kind 4))
-    (λ e. picked (HasWidth x) (branches i size) (λ e. inner-width x kind size x (construct-word ws i 3) (construct-word ws i 4)) (λ e. tt))
-    (λ e. picked (HasWidth x) (eqb size 1) (λ e. leaf-width kind x (construct-word ws i 3) (construct-word ws i 4) (construct-word ws i 5)) (λ e. tt)))
-    (λ e. tt)
+    either-way (HasWidth x) (ltb i 256)
+    (either-way (HasWidth x) (both (leb 1 kind) (leb kind 4))
+    (either-way (HasWidth x) (branches i size) (inner-width x kind size x (construct-word ws i 3) (construct-word ws i 4)) tt)
+    (either-way (HasWidth x) (eqb size 1) (leaf-width kind x (construct-word ws i 3) (construct-word ws i 4) (construct-word ws i 5)) tt))
+    tt
 
 -- a binder's variable, and its width
 pub record Binder (ws : List ℕ) (x width : ℕ) : Type 0 where
