@@ -28,7 +28,8 @@ use Rattle.agreement.proofs.Picks.{Unbroken}
 use Rattle.agreement.proofs.Verdicts.{step-few, undecided-as, matched-as, unmatched-as}
 use Rattle.agreement.proofs.Grants.{steps-fit, steps-last}
 use Rattle.agreement.proofs.Readings.{reading-is}
-use Rattle.agreement.proofs.Reliable.{Reliable, InTable}
+use Rattle.agreement.proofs.Reliable.{Reliable}
+use Rattle.agreement.proofs.Safety.{InTable}
 use Rattle.agreement.proofs.Steady.{There, state-values}
 use Rattle.agreement.proofs.Openings.{Opening, opening-of, opening-fits, going, never-broken, opened-agrees}
 

@@ -25,7 +25,8 @@ use Rattle.agreement.proofs.Effects.{after}
 use Rattle.agreement.proofs.Picks.{Unbroken}
 use Rattle.agreement.proofs.Step.{stepped-does}
 use Rattle.agreement.proofs.Verdicts.{after-few}
-use Rattle.agreement.proofs.Reliable.{Reliable, Safe, safe-definite, InTable, act-safe}
+use Rattle.agreement.proofs.Reliable.{Reliable}
+use Rattle.agreement.proofs.Safety.{Safe, safe-definite, InTable, act-safe}
 use Rattle.agreement.proofs.Steady.{There, Steady, steady-after}
 
 -- ---- one step

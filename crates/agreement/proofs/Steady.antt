@@ -1,23 +1,23 @@
 -- What every run from an opening keeps, as the theory has it: its entries are in the table, its values within their sizes, and while it is
 -- undecided it has an entry.
 -- Assumes nothing.
-use Prim.Native.Nat.{ℕ, zero, suc, _-_, _^_, _≤_, _<_, min}
+use Prim.Native.Nat.{ℕ, zero, suc, _-_, _≤_, _<_}
 use native.Mathlib.Omega.{arith}
 use borrow.Author.Tests.{eqb-true, eqb-false}
-use mathlib.Core.Path.{_≡_, refl, sym, _∙_}
+use mathlib.Core.Path.{_≡_, refl, _∙_}
 use mathlib.Core.Logic.{inl, inr}
 use mathlib.Core.List.{List, [], _∷_, _++_}
 use mathlib.Core.Option.{some}
 use lib.Dec.{eqb}
 use lib.IntN.{ℤ, pos}
-use lib.ListN.{length, getD, set, length-set, length-replicate, getD-replicate}
+use lib.ListN.{length, getD, set, length-set}
 use lib.Seq.{getD-set-same, getD-set-other}
 use Rattle.basis.specs.Bits.{Bits}
 use Rattle.theory.specs.Derivation.{Capture}
 use Rattle.theory.specs.Machine.{entry, state, pending-of, undecided, verdict, verdict-of, state-of, entries, open-state, opened}
 use Rattle.theory.proofs.Turns.{decide}
 use Rattle.sizes.proofs.Bounds.{Below, Inside}
-use Rattle.layout.specs.Places.{construct-count, variable-word}
+use Rattle.layout.specs.Places.{construct-count}
 use Rattle.layout.specs.Held.{Values, parts, bound, held}
 use Rattle.acts.specs.Stored.{tests-of}
 use Rattle.acts.specs.declared.Act.{Act}
@@ -25,7 +25,8 @@ use Rattle.agreement.specs.Runs.{HeldEntry, HeldState, HeldRun}
 use Rattle.agreement.proofs.Walks.{Row, row-parts}
 use Rattle.agreement.proofs.Deciding.{Membered, done}
 use Rattle.agreement.proofs.Effects.{after}
-use Rattle.agreement.proofs.Reliable.{Binds, Reliable, Safe, InTable}
+use Rattle.agreement.proofs.Reliable.{Reliable, zero-inside}
+use Rattle.agreement.proofs.Safety.{Binds, Safe, InTable}
 
 abbrev pub state-values : HeldState → Values
 state-values (state es s p v cs) = v
@@ -92,13 +93,6 @@ module _ (ws : List ℕ) (widest : List ℤ) where
   steady-opened r s =
       record {
         there = (inl refl, tt);
-        inside =
-            record {
-              same = length-replicate 64 (pos 0) ∙ sym (r .variables);
-              each =
-                  λ k l.
-                  let m : k < 64 = omega (arith, r .variables) in
-                  rw (getD-replicate 64 k (pos 0) (pos 0) m) record { size = 2 ^ min 32 (variable-word ws k 1) - 1; is = r .each-widest k m; le = omega arith };
-            };
+        inside = zero-inside r;
         some-entry = λ e. omega arith;
       }
