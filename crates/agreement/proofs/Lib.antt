@@ -16,4 +16,5 @@ pub mod Safety
 pub mod Steady
 pub mod Never
 pub mod Openings
+pub mod Fitting
 pub mod Conclusions
