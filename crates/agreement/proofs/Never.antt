@@ -1,4 +1,4 @@
--- A run that is opened over reliable words never breaks, however many steps it is granted; so it is the theory's run.
+-- One step over reliable words: where the theory's next state has room, it is not broken, and that state is steady too.
 -- Assumes nothing.
 use Prim.Native.Nat.{ℕ, _+_, _*_, _-_, _≤_, _<_}
 use native.Mathlib.Omega.{arith}
@@ -28,8 +28,6 @@ use Rattle.agreement.proofs.Verdicts.{after-few}
 use Rattle.agreement.proofs.Reliable.{Reliable}
 use Rattle.agreement.proofs.Safety.{Safe, safe-definite, InTable, act-safe}
 use Rattle.agreement.proofs.Steady.{There, Steady, steady-after}
-
--- ---- one step
 
 -- a step that is taken is not broken
 verdict-unbroken : (fs : List ℕ) (n p : ℕ) → verdict-after fs n p ≡ broken → ⊥
