@@ -11,7 +11,7 @@ use lib.Dec.{leb, ltb}
 use lib.ListN.{length, getD}
 use lib.IntN.{ℤ, pos, negsuc, natAbs, negℤ, _+ℤ_, _-ℤ_, _*ℤ_}
 use Rattle.wholes.proofs.Laws.{natAbs-neg, abs-product, bounded-in, bounded-out}
-use Rattle.terms.specs.Numbers.{pick, bounded, pushed, kept, topOf, pairOf}
+use Rattle.terms.specs.Numbers.{pick, bounded, differenceOf, oppositeOf, pushed, kept, topOf, pairOf}
 use Rattle.terms.specs.Steps.{variableOf, binary, unary, operateOf}
 use Rattle.terms.specs.declared.Mode.{Mode}
 use Rattle.terms.specs.declared.Numbers.{Numbers}
@@ -44,6 +44,15 @@ below-opposite a z p = record { size = p .size; is = p .is; le = omega (arith, n
 below-difference : (a b z w : ℤ) → Below a z → Below b w → Below (a -ℤ b) (z +ℤ w)
 below-difference a b z w p q = below-sum a (negℤ b) z w p (below-opposite b w q)
 
+-- in either mode
+below-differences : (m : Mode) (a b z w : ℤ) → Below a z → Below b w → Below (differenceOf m a b) (z +ℤ w)
+below-differences Mode.Values = below-difference
+below-differences Mode.Sizes = below-sum
+
+below-opposites : (m : Mode) (a z : ℤ) → Below a z → Below (oppositeOf m a) z
+below-opposites Mode.Values = below-opposite
+below-opposites Mode.Sizes = λ a z p. p
+
 below-product : (a b z w : ℤ) → Below a z → Below b w → Below (a *ℤ b) (z *ℤ w)
 below-product a b z w p q =
     let h : natAbs a * natAbs b ≤ p .size * q .size = mul-le-mul (p .le) (q .le) in
@@ -66,10 +75,10 @@ pub data Smaller : Numbers → Numbers → Type 0 where
   three : {a a′ b b′ c c′ : ℤ} → Below a a′ → Below b b′ → Below c c′ → Smaller (Numbers.Three a b c) (Numbers.Three a′ b′ c′)
   four : {a a′ b b′ c c′ d d′ : ℤ} → Below a a′ → Below b b′ → Below c c′ → Below d d′ → Smaller (Numbers.Four a b c d) (Numbers.Four a′ b′ c′ d′)
 
--- where sizes leave numbers, values leave smaller ones
+-- where sizes leave numbers, values (or smaller sizes) leave smaller ones; a term that cannot stand there for the one cannot for the other
 abbrev pub Kept : Outcome → Outcome → Type 0
 Kept x (Outcome.Stack s′) = (s : Numbers) × (x ≡ Outcome.Stack s) × Smaller s s′
-Kept x Outcome.Malformed = Unit {0}
+Kept x Outcome.Malformed = x ≡ Outcome.Malformed
 Kept x Outcome.Overflow = Unit {0}
 
 pushed-kept : {s s′ : Numbers} {a z : ℤ} → Smaller s s′ → Below a z → Kept (pushed s a) (pushed s′ z)
@@ -77,7 +86,7 @@ pushed-kept {a = a} none p = (Numbers.One a, refl, one p)
 pushed-kept {a = a} (one {a = b} q) p = (Numbers.Two b a, refl, two q p)
 pushed-kept {a = a} (two {a = b} {b = c} q r) p = (Numbers.Three b c a, refl, three q r p)
 pushed-kept {a = a} (three {a = b} {b = c} {c = d} q r u) p = (Numbers.Four b c d a, refl, four q r u p)
-pushed-kept (four q r u v) p = tt
+pushed-kept (four q r u v) p = refl
 
 kept-kept : {s s′ : Numbers} (a z : ℤ) → Smaller s s′ → Below a z → Kept (kept s (bounded a)) (kept s′ (bounded z))
 kept-kept {s} {s′} a z r p = go (leb (natAbs z) (2 ^ 62)) refl
@@ -89,14 +98,14 @@ kept-kept {s} {s′} a z r p = go (leb (natAbs z) (2 ^ 62)) refl
     go false e = rw (bounded-out z (leb-false (natAbs z) (2 ^ 62) e)) tt
 
 binary-kept : (f g : ℤ → ℤ → ℤ) → ((a b z w : ℤ) → Below a z → Below b w → Below (f a b) (g z w)) → {s s′ : Numbers} → Smaller s s′ → Kept (binary f (pairOf s)) (binary g (pairOf s′))
-binary-kept f g h none = tt
-binary-kept f g h (one p) = tt
+binary-kept f g h none = refl
+binary-kept f g h (one p) = refl
 binary-kept f g h (two {a} {a′} {b} {b′} p q) = kept-kept (f a b) (g a′ b′) none (h a b a′ b′ p q)
 binary-kept f g h (three {b = b} {b′ = b′} {c = c} {c′ = c′} p q r) = kept-kept (f b c) (g b′ c′) (one p) (h b c b′ c′ q r)
 binary-kept f g h (four {c = c} {c′ = c′} {d = d} {d′ = d′} p q r u) = kept-kept (f c d) (g c′ d′) (two p q) (h c d c′ d′ r u)
 
 unary-kept : (f g : ℤ → ℤ) → ((a z : ℤ) → Below a z → Below (f a) (g z)) → {s s′ : Numbers} → Smaller s s′ → Kept (unary f (topOf s)) (unary g (topOf s′))
-unary-kept f g h none = tt
+unary-kept f g h none = refl
 unary-kept f g h (one {a} {a′} p) = kept-kept (f a) (g a′) none (h a a′ p)
 unary-kept f g h (two {b = b} {b′ = b′} p q) = kept-kept (f b) (g b′) (one p) (h b b′ q)
 unary-kept f g h (three {c = c} {c′ = c′} p q r) = kept-kept (f c) (g c′) (two p q) (h c c′ r)
@@ -115,13 +124,13 @@ module _ (env widest : List ℤ) (inside : Inside env widest) where
     where
       go : (t : Bool) → ltb k (length widest) ≡ t → Kept (pick (ltb k (length widest)) (kept s (bounded (getD env k (pos 0)))) Outcome.Malformed) (pick (ltb k (length widest)) (kept s′ (bounded (getD widest k (pos 0)))) Outcome.Malformed)
       go true e = rw e (kept-kept (getD env k (pos 0)) (getD widest k (pos 0)) r (inside .each k (ltb-true k (length widest) e)))
-      go false e = rw e tt
+      go false e = rw e refl
 
-  pub operate-kept : (o : Operation) {s s′ : Numbers} → Smaller s s′ → Kept (operateOf Mode.Values env o s) (operateOf Mode.Sizes widest o s′)
-  operate-kept (Operation.Number n) r = kept-kept (pos n) (pos n) r (below-natural n)
-  operate-kept (Operation.Variable k) r = variable-kept k r
-  operate-kept Operation.Add r = binary-kept _+ℤ_ _+ℤ_ below-sum r
-  operate-kept Operation.Subtract r = binary-kept _-ℤ_ _+ℤ_ below-difference r
-  operate-kept Operation.Multiply r = binary-kept _*ℤ_ _*ℤ_ below-product r
-  operate-kept Operation.Negate r = unary-kept negℤ (λ a. a) below-opposite r
-  operate-kept Operation.Unknown r = tt
+  pub operate-kept : (m : Mode) (o : Operation) {s s′ : Numbers} → Smaller s s′ → Kept (operateOf m env o s) (operateOf Mode.Sizes widest o s′)
+  operate-kept m (Operation.Number n) r = kept-kept (pos n) (pos n) r (below-natural n)
+  operate-kept m (Operation.Variable k) r = variable-kept k r
+  operate-kept m Operation.Add r = binary-kept _+ℤ_ _+ℤ_ below-sum r
+  operate-kept m Operation.Subtract r = binary-kept (differenceOf m) _+ℤ_ (below-differences m) r
+  operate-kept m Operation.Multiply r = binary-kept _*ℤ_ _*ℤ_ below-product r
+  operate-kept m Operation.Negate r = unary-kept (oppositeOf m) (λ a. a) (below-opposites m) r
+  operate-kept m Operation.Unknown r = refl

@@ -47,6 +47,15 @@ depth-below k t t′ d h = go (decLe k (d .depth))
 pub depth-swap : {t t′ : ℕ} → SameDepth t t′ → SameDepth t′ t
 depth-swap d = record { depth = d .depth; least = d .least′; most = d .most′; least′ = d .least; most′ = d .most }
 
+pub depth-past : (k t t′ : ℕ) → SameDepth t t′ → 2 ^ k ≤ t′ → 2 ^ k ≤ t
+depth-past k t t′ d h = go (decLe (2 ^ k) t)
+  where
+    go : Dec (2 ^ k ≤ t) → 2 ^ k ≤ t
+    go (yes p) = p
+    go (no p) =
+        let l : t′ < 2 ^ k = depth-below k t′ t (depth-swap d) (lt-of-not-le p) in
+        absurd (omega arith)
+
 pub depth-less : (t t′ : ℕ) → SameDepth t t′ → 4 ≤ t′ → (4 ≤ t) × SameDepth (t / 4) (t′ / 4)
 depth-less t t′ d h = go (d .depth) (d .least) (d .most) (d .least′) (d .most′)
   where

@@ -2,3 +2,4 @@ pub mod Bounds
 pub mod Depths
 pub mod Passing
 pub mod Theorems
+pub mod Forms

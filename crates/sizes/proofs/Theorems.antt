@@ -55,10 +55,10 @@ number-answers x (Trial.Running s′ t′) at f e =
 number-answers x Trial.Malformed at f e = malformed-not e
 number-answers x Trial.Overflow at f e = exceeds-not e
 
-abbrev Answered : Tested → Type 0
+abbrev pub Answered : Tested → Type 0
 Answered t = (t ≡ Tested.No) ⊎ (t ≡ Tested.Yes)
 
-two-or-three : (t : ℕ) → 2 ≤ t → t < 4 → Answered (lastOf Numbers.Zero t)
+pub two-or-three : (t : ℕ) → 2 ≤ t → t < 4 → Answered (lastOf Numbers.Zero t)
 two-or-three t p q = go (decLe t 2)
   where
     go : Dec (t ≤ 2) → Answered (lastOf Numbers.Zero t)
@@ -131,24 +131,24 @@ module _ (env widest : List ℤ) (inside : Inside env widest) where
   pub calculation-passes : (i : ℕ) (xs : List Term) → sizes Kind.Calculation widest i xs ≡ Sized.Passes → (z : ℤ) × (calculation env i xs ≡ Calculated.Number z)
   unfolding calculation sizes
   calculation-passes i xs e =
-      number-answers (run Kind.Calculation Mode.Values env (pos 0) i xs Numbers.Zero 1 .trial) (run Kind.Calculation Mode.Sizes widest (pos 0) i xs Numbers.Zero 1 .trial) (run Kind.Calculation Mode.Sizes widest (pos 0) i xs Numbers.Zero 1 .at) (run-follows env widest inside (pos 0) (pos 0) Kind.Calculation xs i Numbers.Zero Numbers.Zero 1 1 none depth-none) e
+      number-answers (run Kind.Calculation Mode.Values env (pos 0) i xs Numbers.Zero 1 .trial) (run Kind.Calculation Mode.Sizes widest (pos 0) i xs Numbers.Zero 1 .trial) (run Kind.Calculation Mode.Sizes widest (pos 0) i xs Numbers.Zero 1 .at) (run-follows Mode.Values env widest inside (pos 0) (pos 0) Kind.Calculation xs i Numbers.Zero Numbers.Zero 1 1 none depth-none) e
 
   -- each value is in a set that passes, or not
   pub set-passes : (v : ℤ) (i : ℕ) (xs : List Term) → sizes Kind.Set widest i xs ≡ Sized.Passes → (membership env v i xs ≡ Tested.No) ⊎ (membership env v i xs ≡ Tested.Yes)
   unfolding membership sizes
   set-passes v i xs e =
-      verdict-answers (run Kind.Set Mode.Values env v i xs Numbers.Zero 1 .trial) (run Kind.Set Mode.Sizes widest (pos 0) i xs Numbers.Zero 1 .trial) (run Kind.Set Mode.Sizes widest (pos 0) i xs Numbers.Zero 1 .at) (run-follows env widest inside v (pos 0) Kind.Set xs i Numbers.Zero Numbers.Zero 1 1 none depth-none) e
+      verdict-answers (run Kind.Set Mode.Values env v i xs Numbers.Zero 1 .trial) (run Kind.Set Mode.Sizes widest (pos 0) i xs Numbers.Zero 1 .trial) (run Kind.Set Mode.Sizes widest (pos 0) i xs Numbers.Zero 1 .at) (run-follows Mode.Values env widest inside v (pos 0) Kind.Set xs i Numbers.Zero Numbers.Zero 1 1 none depth-none) e
 
   -- a condition that passes holds, or not
   pub condition-passes : (i : ℕ) (xs : List Term) → sizes Kind.Condition widest i xs ≡ Sized.Passes → (condition env i xs ≡ Tested.No) ⊎ (condition env i xs ≡ Tested.Yes)
   unfolding condition sizes
   condition-passes i xs e =
-      verdict-answers (run Kind.Condition Mode.Values env (pos 0) i xs Numbers.Zero 1 .trial) (run Kind.Condition Mode.Sizes widest (pos 0) i xs Numbers.Zero 1 .trial) (run Kind.Condition Mode.Sizes widest (pos 0) i xs Numbers.Zero 1 .at) (run-follows env widest inside (pos 0) (pos 0) Kind.Condition xs i Numbers.Zero Numbers.Zero 1 1 none depth-none) e
+      verdict-answers (run Kind.Condition Mode.Values env (pos 0) i xs Numbers.Zero 1 .trial) (run Kind.Condition Mode.Sizes widest (pos 0) i xs Numbers.Zero 1 .trial) (run Kind.Condition Mode.Sizes widest (pos 0) i xs Numbers.Zero 1 .at) (run-follows Mode.Values env widest inside (pos 0) (pos 0) Kind.Condition xs i Numbers.Zero Numbers.Zero 1 1 none depth-none) e
 
   counts-by : (f : Form) (ws : List ℕ) (start end : ℕ) → ofTally (talliedBy f Mode.Sizes widest ws start end) ≡ Sized.Passes → (n : Counts) × (talliedBy f Mode.Values env ws start end .counted ≡ shown n)
   counts-by f ws start end e =
       let xs : List Term = terms ws start (calculationsEnd f (end - 1) end) in
-      counts-answer f (run Kind.Calculation Mode.Values env (pos 0) start xs Numbers.Zero 1 .trial) (run Kind.Calculation Mode.Sizes widest (pos 0) start xs Numbers.Zero 1 .trial) (run Kind.Calculation Mode.Sizes widest (pos 0) start xs Numbers.Zero 1 .at) (run-follows env widest inside (pos 0) (pos 0) Kind.Calculation xs start Numbers.Zero Numbers.Zero 1 1 none depth-none) e
+      counts-answer f (run Kind.Calculation Mode.Values env (pos 0) start xs Numbers.Zero 1 .trial) (run Kind.Calculation Mode.Sizes widest (pos 0) start xs Numbers.Zero 1 .trial) (run Kind.Calculation Mode.Sizes widest (pos 0) start xs Numbers.Zero 1 .at) (run-follows Mode.Values env widest inside (pos 0) (pos 0) Kind.Calculation xs start Numbers.Zero Numbers.Zero 1 1 none depth-none) e
 
   -- counts that pass are a set of counts
   pub counts-pass : (ws : List ℕ) (start end : ℕ) → countSizes widest ws start end ≡ Sized.Passes → (n : Counts) × (counts env ws start end ≡ shown n)

@@ -27,7 +27,7 @@ use Rattle.structure.proofs.RuleLaws.{rule-fact, rule-within}
 
 -- ---- a field takes a bit
 
-literal-long : (ws : List ℕ) (i k n : ℕ) → length (literal-bytes ws i k n) ≡ n
+pub literal-long : (ws : List ℕ) (i k n : ℕ) → length (literal-bytes ws i k n) ≡ n
 unfolding literal-bytes
 literal-long ws i k zero = refl
 literal-long ws i k (suc n) = ap suc (literal-long ws i (k + 1) n)

@@ -1,0 +1,1 @@
+// What a step over words is in the theory: no code, only laws (proofs/).
