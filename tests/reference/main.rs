@@ -1,12 +1,27 @@
-// Runs the reference implementation: `reference vectors FOLDER` checks the vectors.
+// Runs the reference implementation: `reference vectors FOLDER` checks the vectors; `reference compare SEED TEXTS` compares it with itself;
+// `reference text SEED` writes a random text, the same that the comparison has at that seed.
+mod compare;
 mod vectors;
 
+use std::io::Write;
 use std::path::Path;
+
+use reference::random::Random;
+use reference::random_grammar;
 
 fn main() {
     let arguments: Vec<String> = std::env::args().skip(1).collect();
     match arguments.iter().map(String::as_str).collect::<Vec<_>>()[..] {
         ["vectors", folder] => println!("reference: {} texts as the vectors say", vectors::check(Path::new(folder))),
-        _ => panic!("use: reference vectors FOLDER"),
+        ["compare", seed, texts] => println!("reference: {:?}", compare::check(number(seed), number(texts) as usize)),
+        ["text", seed] => {
+            let text = random_grammar::text(&mut Random::new(number(seed)));
+            std::io::stdout().write_all(&text).expect("standard output");
+        }
+        _ => panic!("use: reference vectors FOLDER | compare SEED TEXTS | text SEED"),
     }
+}
+
+fn number(text: &str) -> u64 {
+    text.parse().expect("a number")
 }

@@ -15,6 +15,8 @@ pub mod parser; // refusal 4
 pub mod random; // random numbers, damaged texts
 pub mod random_frame; // frames for a grammar
 pub mod random_grammar; // grammar texts
+mod random_terms; // their sets, counts and conditions
+mod random_text; // their header and layout
 pub mod recursion; // refusal 7
 pub mod syntax; // the tree of a grammar
 pub mod tokens; // what the parser reads
