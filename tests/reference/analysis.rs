@@ -5,23 +5,27 @@ use crate::lookahead::{self, Strings};
 use crate::recursion;
 use crate::syntax::*;
 
-// Sets by construct number. A construct outside every alternative has a prediction set too; it is not used.
+// Sets by construct number.
 #[derive(Debug)]
 pub struct Analysis {
     pub first: Vec<Strings>,
     pub follow: Vec<Strings>,
-    pub predict: Vec<Strings>,   // of a branch: FIRST joined with FOLLOW
-    pub again: Vec<Strings>,     // of a repetition: document 01's go. Its stop is its FOLLOW
+    pub predict: Vec<Strings>, // of an alternative's branch: FIRST joined with FOLLOW; empty elsewhere
+    pub again: Vec<Strings>,   // of a repetition: document 01's go; its stop is its FOLLOW. Empty elsewhere
 }
 
 pub fn analyse(rules: &[Rule], constructs: usize) -> Analysis {
     let first = firsts(rules, constructs);
     let follow = follows(rules, &first);
-    let predict = first.iter().zip(&follow).map(|(first, follow)| first.join(follow)).collect();
+    let mut predict = vec![Strings::default(); constructs];
     let mut again = vec![Strings::default(); constructs];
     for construct in rules.iter().flat_map(|rule| rule.body.all()) {
-        if let Kind::Repetition { body, .. } = &construct.kind {
-            again[construct.number] = first[body.number].repeated(1, None).join(&follow[construct.number]);
+        match &construct.kind {
+            Kind::Alternative(branches) => {
+                branches.iter().for_each(|branch| predict[branch.number] = first[branch.number].join(&follow[branch.number]));
+            }
+            Kind::Repetition { body, .. } => again[construct.number] = first[body.number].repeated(1, None).join(&follow[construct.number]),
+            _ => {}
         }
     }
     Analysis { first, follow, predict, again }

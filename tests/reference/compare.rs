@@ -1,8 +1,9 @@
-// Compares the reference implementation with itself: the recursive matcher with the step machine after every number of steps, and FIRST of
-// narrow fields with membership, on random grammars and frames.
+// Compares the reference implementation with itself on random grammars and frames: the recursive matcher with the step machine after every
+// number of steps, the verdict with the derivations by their definition, and FIRST of narrow fields with membership.
 use reference::analysis::Analysis;
 use reference::arithmetic::{set_contains, set_has_variable};
 use reference::bench::bound;
+use reference::derivations::{derivations, Derivation};
 use reference::grammar::{admit, Grammar};
 use reference::lookahead;
 use reference::machine::Machine;
@@ -12,6 +13,7 @@ use reference::syntax::Kind;
 use reference::{random_frame, random_grammar};
 
 const FRAMES: usize = 6;
+const FUEL: usize = 3000; // for the search of derivations
 
 // What was seen, so that a generator that makes nothing worth comparing is noticed.
 #[derive(Debug, Default)]
@@ -20,6 +22,7 @@ pub struct Tally {
     pub matches: usize,
     pub no_matches: usize,
     pub steps: u64,
+    pub searched: usize, // frames whose derivations were all tried
 }
 
 pub fn check(seed: u64, texts: usize) -> Tally {
@@ -39,6 +42,7 @@ pub fn check(seed: u64, texts: usize) -> Tally {
                     let frame = random_frame::frame(&grammar, &mut random);
                     let outcome = check_frame(&grammar, &frame, &mut random);
                     let outcome = outcome.unwrap_or_else(|why| panic!("seed {}, frame {frame:02x?}: {why}", seed + number));
+                    tally.searched += usize::from(check_derivations(&grammar, &frame, &outcome));
                     tally.matches += usize::from(outcome.verdict == Verdict::Match);
                     tally.no_matches += usize::from(outcome.verdict == Verdict::NoMatch);
                     tally.steps += outcome.steps;
@@ -74,6 +78,15 @@ fn check_frame(grammar: &Grammar, frame: &[u8], random: &mut Random) -> Result<O
         return Err(format!("{whole:?} by recursion, {:?} step by step", machine.run));
     }
     Ok(whole)
+}
+
+// A match has exactly one derivation, with its values and reading; else there is none. False where the search would take too long.
+fn check_derivations(grammar: &Grammar, frame: &[u8], outcome: &Outcome) -> bool {
+    let Some(found) = derivations(grammar, frame, FUEL) else { return false };
+    let Outcome { verdict, position, values, reading, .. } = outcome.clone();
+    let expected = if verdict == Verdict::Match { vec![Derivation { position, values, reading }] } else { Vec::new() };
+    assert_eq!(found, expected, "derivations of {frame:02x?}");
+    true
 }
 
 // FIRST comes from ranges; membership from the set as written.

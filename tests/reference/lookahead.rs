@@ -20,8 +20,13 @@ impl Strings {
         self.0[usize::from(string / 64)] >> (string % 64) & 1 == 1
     }
 
+    // In the order of their numbers.
     pub fn iter(&self) -> impl Iterator<Item = u16> + '_ {
-        (1..512).filter(|&string| self.contains(string))
+        let of_word = |(i, &word): (usize, &u64)| {
+            let rests = std::iter::successors(Some(word), |rest| Some(rest & rest.wrapping_sub(1)));
+            rests.take_while(|&rest| rest != 0).map(move |rest| i as u16 * 64 + rest.trailing_zeros() as u16)
+        };
+        self.0.iter().enumerate().flat_map(of_word)
     }
 
     pub fn union(&self, other: &Strings) -> Strings {
@@ -29,18 +34,18 @@ impl Strings {
     }
 
     pub fn least_common(&self, other: &Strings) -> Option<u16> {
-        self.iter().find(|&string| other.contains(string))
+        Strings(std::array::from_fn(|i| self.0[i] & other.0[i])).iter().next()
     }
 
-    // Each string of the one followed by each of the other, cut at 8 bits. Which of the other's beginnings can be seen depends on the
-    // first string's length alone, so they are gathered once for each length.
+    // Each string of the one followed by each of the other, cut at 8 bits. How much of the other is seen depends on the first string's
+    // length alone, so the other is cut once for each length and not for each pair.
     pub fn join(&self, other: &Strings) -> Strings {
-        let beginnings: Vec<Vec<u16>> = (0..=LONGEST).map(|length| other.cut(length).iter().collect()).collect();
+        let mut seen: [Option<Strings>; 9] = [None; 9];
         let mut joined = Strings::default();
         for front in self.iter() {
-            for &back in &beginnings[(LONGEST - length(front)) as usize] {
-                joined.insert(append(front, back));
-            }
+            let room = LONGEST - length(front);
+            let backs = seen[room as usize].get_or_insert_with(|| other.cut(room));
+            backs.iter().for_each(|back| joined.insert(append(front, back)));
         }
         joined
     }

@@ -90,7 +90,8 @@ impl Writer<'_> {
             if i > 0 {
                 self.put("&");
             }
-            begin = if self.random.once_in(3) { self.binder(begin) } else { self.member(begin, 3) };
+            let begins = begin && !self.random.once_in(40);
+            begin = if self.random.once_in(3) { self.binder(begins) } else { self.member(begins, 3) };
         }
     }
 
@@ -99,20 +100,25 @@ impl Writer<'_> {
             self.leading_field();
             self.put("&");
         }
-        let name = self.random.pick(&VARIABLES);
+        let name = self.new_variable();
         let width = self.random.pick(&[8, 8, 8, 8, 16, 32, 4]);
         self.put("uint (");
         self.number(width);
         self.put(&format!(", var ( {name} ,"));
         self.set(width as u32);
         self.put(") )");
-        if !self.variables.iter().any(|known| known == name) {
-            self.variables.push(name.to_string());
-        }
+        self.variables.push(name);
         if width == 4 {
             self.put("& uint ( 4 , ~ )");
         }
         false
+    }
+
+    // A name that the rule has not bound, one in thirty apart.
+    fn new_variable(&mut self) -> String {
+        let free: Vec<&str> = VARIABLES.into_iter().filter(|name| !self.variables.iter().any(|known| known == name)).collect();
+        let any = free.is_empty() || self.random.once_in(30);
+        self.random.pick(if any { &VARIABLES } else { &free[..] }).to_string()
     }
 
     // One or more members; says whether what follows must begin with a byte of its own.
@@ -227,9 +233,9 @@ impl Writer<'_> {
         self.put(")");
     }
 
-    // A field that begins with a byte of its own, one field in eighty apart.
+    // A field that begins with a byte of its own, one in sixty apart.
     fn leading_field(&mut self) {
-        if !self.random.once_in(80) {
+        if !self.random.once_in(60) {
             self.lead = self.lead.wrapping_add(37);
         }
         let lead = self.lead;

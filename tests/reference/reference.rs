@@ -3,6 +3,7 @@
 pub mod analysis; // FIRST, FOLLOW, refusals 9 and 10
 pub mod arithmetic; // calculations, sets, counts and conditions, with values
 pub mod bench; // what the bench program prints
+pub mod derivations; // derivations by their definition
 pub mod grammar; // admission, refusals 2 to 11
 pub mod header; // refusal 3
 pub mod limits; // refusal 5
