@@ -1,6 +1,7 @@
-// Runs the reference implementation: `reference vectors FOLDER` checks the vectors; `reference compare SEED TEXTS` compares it with itself;
-// `reference text SEED` writes a random text, the same that the comparison has at that seed.
+// Runs the reference implementation: `reference readings` checks the settled readings' examples; `reference vectors FOLDER` the vectors;
+// `reference compare SEED TEXTS` compares it with itself; `reference text SEED` writes the random text that the comparison has at that seed.
 mod compare;
+mod readings;
 mod vectors;
 
 use std::io::Write;
@@ -12,13 +13,14 @@ use reference::random_grammar;
 fn main() {
     let arguments: Vec<String> = std::env::args().skip(1).collect();
     match arguments.iter().map(String::as_str).collect::<Vec<_>>()[..] {
+        ["readings"] => println!("reference: {} examples of the readings", readings::check()),
         ["vectors", folder] => println!("reference: {} texts as the vectors say", vectors::check(Path::new(folder))),
         ["compare", seed, texts] => println!("reference: {:?}", compare::check(number(seed), number(texts) as usize)),
         ["text", seed] => {
             let text = random_grammar::text(&mut Random::new(number(seed)));
             std::io::stdout().write_all(&text).expect("standard output");
         }
-        _ => panic!("use: reference vectors FOLDER | compare SEED TEXTS | text SEED"),
+        _ => panic!("use: reference readings | vectors FOLDER | compare SEED TEXTS | text SEED"),
     }
 }
 

@@ -1,11 +1,12 @@
 // Random grammar texts. Most are right by construction: what follows a choice begins with a byte that nothing else begins with, rules use later
 // rules only, fields come in whole bytes. Each kind of fault is then let in now and then.
 use crate::random::{damage, noise, Random};
+use crate::random_odd::{crowded, misplace, ragged};
 use crate::random_text::{header, layout};
 
 // A text of any kind.
 pub fn text(random: &mut Random) -> Vec<u8> {
-    match random.below(24) {
+    match random.below(30) {
         0 => noise(random),
         1..=4 => {
             let text = written(random, &grammar);
@@ -17,6 +18,7 @@ pub fn text(random: &mut Random) -> Vec<u8> {
             tokens
         }),
         8 => written(random, &crowded),
+        9..=13 => written(random, &ragged),
         _ => written(random, &grammar),
     }
 }
@@ -258,57 +260,4 @@ impl Writer<'_> {
             }
         }
     }
-}
-
-const RESERVED_AND_ODD: [&str; 10] = ["uint", "var", "eod", "sized", "msb", "unknown", "n", "a", "frame", "nnnnnnnnnnnnnnnnnnnnnnnnnnnnnnnnn"];
-const NUMBERS: [&str; 12] = [
-    "0", "1", "32", "33", "0x100000000", "4294967295", "4294967296", "99999999999999999999", "0b0", "0o77777777777", "340282366920938463463374607431768211457", "007",
-];
-const SIGNS: [&str; 24] = ["=", ";", "|", "&", "(", ")", "[", "]", "{", "}", "?", "*", "+", "-", "~", "!", ",", ":", "<", ">", "!=", "<=", ">=", "@"];
-
-// One token replaced, dropped, doubled, moved or put in: mostly by one of its own kind.
-fn misplace(tokens: &mut Vec<String>, random: &mut Random) {
-    let at = random.index(tokens.len());
-    let other = tokens[random.index(tokens.len())].clone();
-    match random.below(8) {
-        0 => drop(tokens.remove(at)),
-        1 => tokens.insert(at, other),
-        2 => tokens[at] = other,
-        3 => tokens.insert(at, random.pick(&SIGNS).into()),
-        _ => {
-            let first = tokens[at].as_bytes()[0];
-            let choices: &[&str] = match first {
-                b if b.is_ascii_digit() => &NUMBERS,
-                b if b.is_ascii_alphabetic() => &RESERVED_AND_ODD,
-                _ => &SIGNS,
-            };
-            tokens[at] = random.pick(choices).into();
-        }
-    }
-}
-
-// Grammars at the limits of rules, constructs, variables, terms, nesting, sizes and weight.
-fn crowded(random: &mut Random) -> Vec<String> {
-    let near = |random: &mut Random, limit: usize| limit - 2 + random.index(4);
-    let times = |n: usize, part: &dyn Fn(usize) -> String, between: &str| (0..n).map(part).collect::<Vec<_>>().join(between);
-    let rules = match random.below(8) {
-        0 => times(near(random, 64), &|i| format!("r{i} = \"a\" ;"), " "),
-        1 => format!("f = {} ; g = 'a' ;", times(near(random, 255), &|_| "'x'".into(), " & ")),
-        2 => format!("f = {} ;", times(near(random, 64), &|i| format!("uint ( 8 , var ( v{i} , ~ ) )"), " & ")),
-        3 => format!("f = uint ( 32 , {} ) ; g = uint ( 8 , 1 ~ 2 ) ;", times(near(random, 511), &|i| format!("{i}"), " | ")),
-        4 => {
-            let n = near(random, 17);
-            format!("f = {} 'x' {} ;", times(n, &|_| "(".into(), " "), times(n, &|_| ")".into(), " "))
-        }
-        5 => format!("{} f20 = 'z' ;", times(20, &|i| format!("f{i} = f{} & f{} ;", i + 1, if i % 2 == 0 { i + 1 } else { 20 }), " ")),
-        6 => {
-            let n = near(random, 16);
-            format!("f = {} 'a' {} ;", times(n, &|_| "(".into(), " "), times(n, &|i| format!("& '{}' ) {{ 2 }}", char::from(b'b' + i as u8)), " "))
-        }
-        _ => {
-            let product = times(1 + random.index(3), &|i| ["n", "m", "k"][i % 3].into(), " * ");
-            format!("f = uint ( 32 , var ( n , ~ ) ) & uint ( 30 , var ( m , ~ ) ) & uint ( 2 , var ( k , ~ ) ) & 'x' {{ 1 - {product} }} ;")
-        }
-    };
-    rules.split(' ').map(String::from).collect()
 }

@@ -16,6 +16,7 @@ pub mod parser; // refusal 4
 pub mod random; // random numbers, damaged texts
 pub mod random_frame; // frames for a grammar
 pub mod random_grammar; // grammar texts
+mod random_odd; // texts at the limits, and worse
 mod random_terms; // their sets, counts and conditions
 mod random_text; // their header and layout
 pub mod recursion; // refusal 7
