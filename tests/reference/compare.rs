@@ -17,15 +17,24 @@ const FUEL: usize = 3000; // for the search of derivations
 
 // What was seen, so that a generator that makes nothing worth comparing is noticed.
 #[derive(Debug, Default)]
-pub struct Tally {
-    pub refused: [usize; 12], // by number; 0 counts the admitted
-    pub matches: usize,
-    pub no_matches: usize,
-    pub steps: u64,
-    pub searched: usize, // frames whose derivations were all tried
+struct Tally {
+    refused: [usize; 12], // by number; 0 counts the admitted
+    matches: usize,
+    no_matches: usize,
+    steps: u64,
+    searched: usize, // frames whose derivations were all tried
 }
 
-pub fn check(seed: u64, texts: usize) -> Tally {
+const ENOUGH: usize = 4000; // texts, for every refusal to be among them
+
+pub fn report(seed: u64, texts: usize) {
+    let Tally { refused, matches, no_matches, steps, searched } = check(seed, texts);
+    println!("reference: {texts} random texts, {} admitted, refused by number from 2: {:?}", refused[0], &refused[2..]);
+    println!("reference: {matches} frames match, {no_matches} do not, {steps} steps; all derivations of {searched} frames tried");
+    assert!(texts < ENOUGH || refused[2..].iter().all(|&count| count > 0), "a refusal never comes");
+}
+
+fn check(seed: u64, texts: usize) -> Tally {
     let mut tally = Tally::default();
     for number in 0..texts as u64 {
         let mut random = Random::new(seed + number);

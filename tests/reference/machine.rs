@@ -1,11 +1,12 @@
 // The run step by step, as document 01's "Steps and weight" tells it: a list of what is still to do, of which each step takes the first entry.
 use crate::arithmetic::{holds, passes};
 use crate::grammar::Grammar;
+use crate::limits::CONSTRUCTS;
 use crate::matcher::{bits, compare, upcoming, Outcome, Verdict};
 use crate::syntax::*;
 
 #[derive(Debug, Clone, Copy)]
-pub enum Entry<'g> {
+enum Entry<'g> {
     Start, // the opening use of the start rule, no construct
     Part { construct: &'g Construct, passes: u64 },
 }
@@ -14,7 +15,7 @@ pub enum Entry<'g> {
 pub struct Machine<'g> {
     grammar: &'g Grammar,
     frame: &'g [u8],
-    pub list: Vec<Entry<'g>>, // the first entry stands last
+    list: Vec<Entry<'g>>, // the first entry stands last
     pub run: Outcome,
 }
 
@@ -26,6 +27,15 @@ impl<'g> Machine<'g> {
     pub fn open(grammar: &'g Grammar, frame: &'g [u8]) -> Machine<'g> {
         let run = Outcome { verdict: Verdict::Undecided, steps: 0, position: 0, values: vec![0; grammar.variables], reading: Vec::new() };
         Machine { grammar, frame, list: vec![Entry::Start], run }
+    }
+
+    // The list as construct numbers and passes, the first entry first. The opening use has the number after the last construct's limit.
+    pub fn entries(&self) -> Vec<(usize, u64)> {
+        let numbers = |entry: &Entry| match entry {
+            Entry::Start => (CONSTRUCTS, 0),
+            Entry::Part { construct, passes } => (construct.number, *passes),
+        };
+        self.list.iter().rev().map(numbers).collect()
     }
 
     // Takes at most so many steps and says how many it took.

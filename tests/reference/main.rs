@@ -1,7 +1,9 @@
 // Runs the reference implementation: `reference readings` checks the settled readings' examples; `reference vectors FOLDER` the vectors;
-// `reference compare SEED TEXTS` compares it with itself; `reference text SEED` writes the random text that the comparison has at that seed.
+// `reference compare SEED TEXTS` compares it with itself; `reference text SEED` writes the random text that the comparison has at that seed;
+// `reference timing FOLDER` tells how long the vectors take.
 mod compare;
 mod readings;
+mod timing;
 mod vectors;
 
 use std::io::Write;
@@ -15,12 +17,13 @@ fn main() {
     match arguments.iter().map(String::as_str).collect::<Vec<_>>()[..] {
         ["readings"] => println!("reference: {} examples of the readings", readings::check()),
         ["vectors", folder] => println!("reference: {} texts as the vectors say", vectors::check(Path::new(folder))),
-        ["compare", seed, texts] => println!("reference: {:?}", compare::check(number(seed), number(texts) as usize)),
+        ["timing", folder] => timing::report(Path::new(folder)),
+        ["compare", seed, texts] => compare::report(number(seed), number(texts) as usize),
         ["text", seed] => {
             let text = random_grammar::text(&mut Random::new(number(seed)));
             std::io::stdout().write_all(&text).expect("standard output");
         }
-        _ => panic!("use: reference readings | vectors FOLDER | compare SEED TEXTS | text SEED"),
+        _ => panic!("use: reference readings | vectors FOLDER | timing FOLDER | compare SEED TEXTS | text SEED"),
     }
 }
 

@@ -17,7 +17,7 @@ pub fn check(folder: &Path) -> usize {
     texts.len()
 }
 
-fn grammars(folder: &Path) -> Vec<PathBuf> {
+pub fn grammars(folder: &Path) -> Vec<PathBuf> {
     let entries = fs::read_dir(folder).expect("the vectors' folder");
     let paths = entries.map(|entry| entry.expect("an entry").path());
     let mut texts: Vec<PathBuf> = paths.filter(|path| path.extension().is_some_and(|e| e == "dogma")).collect();
