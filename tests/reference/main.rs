@@ -1,6 +1,7 @@
-// Runs the reference implementation: `reference readings` checks the settled readings' examples; `reference vectors FOLDER` the vectors;
-// `reference compare SEED TEXTS` compares it with itself; `reference text SEED` writes the random text that the comparison has at that seed;
-// `reference timing FOLDER` tells how long the vectors take.
+// Runs the reference implementation. `reference readings` checks the settled readings' examples and the limits; `vectors FOLDER` checks the
+// vectors; `compare SEED TEXTS` compares it with itself; `text SEED` writes the random text that the comparison has at that seed; `timing
+// FOLDER` tells how long the vectors take.
+mod boundaries;
 mod compare;
 mod readings;
 mod timing;
@@ -15,7 +16,7 @@ use reference::random_grammar;
 fn main() {
     let arguments: Vec<String> = std::env::args().skip(1).collect();
     match arguments.iter().map(String::as_str).collect::<Vec<_>>()[..] {
-        ["readings"] => println!("reference: {} examples of the readings", readings::check()),
+        ["readings"] => println!("reference: {} examples of the readings, {} limits", readings::check(), boundaries::check()),
         ["vectors", folder] => println!("reference: {} texts as the vectors say", vectors::check(Path::new(folder))),
         ["timing", folder] => timing::report(Path::new(folder)),
         ["compare", seed, texts] => compare::report(number(seed), number(texts) as usize),

@@ -5,15 +5,13 @@ use std::cell::Cell;
 
 pub const DEEPEST: usize = 16;
 
-type Parsed<A> = Result<A, usize>;
+pub(crate) type Parsed<A> = Result<A, usize>;
 
-struct Parser {
+pub(crate) struct Parser {
     tokens: Vec<Token>,
-    at: usize,
+    pub at: usize,
     depth: usize, // open ( and [
 }
-
-const COMPARATORS: [&str; 6] = ["=", "!=", "<", "<=", ">", ">="];
 
 pub fn parse(text: &[u8], from: usize) -> Parsed<Vec<Rule>> {
     let mut parser = Parser { tokens: tokens::scan(text, from), at: 0, depth: 0 };
@@ -40,7 +38,7 @@ fn number(construct: &mut Construct, next: &mut usize) {
 // Tokens.
 impl Parser {
     // The scanner ends with End or Faulty, which nothing accepts, so the parser never goes past it.
-    fn peek(&self) -> &T {
+    pub fn peek(&self) -> &T {
         &self.tokens[self.at].kind
     }
 
@@ -48,38 +46,38 @@ impl Parser {
         self.tokens.get(self.at + 1).map_or(&T::End, |token| &token.kind)
     }
 
-    fn place(&self) -> usize {
+    pub fn place(&self) -> usize {
         self.tokens[self.at].place
     }
 
-    fn is(&self, sign: &str) -> bool {
+    pub fn is(&self, sign: &str) -> bool {
         matches!(self.peek(), T::Sign(s) if *s == sign)
     }
 
-    fn accept(&mut self, sign: &str) -> bool {
+    pub fn accept(&mut self, sign: &str) -> bool {
         let found = self.is(sign);
         self.at += usize::from(found);
         found
     }
 
-    fn expect(&mut self, sign: &str) -> Parsed<()> {
+    pub fn expect(&mut self, sign: &str) -> Parsed<()> {
         if self.accept(sign) { Ok(()) } else { Err(self.place()) }
     }
 
-    fn open(&mut self, sign: &str) -> Parsed<()> {
+    pub fn open(&mut self, sign: &str) -> Parsed<()> {
         let place = self.place();
         self.expect(sign)?;
         self.depth += 1;
         if self.depth > DEEPEST { Err(place) } else { Ok(()) }
     }
 
-    fn close(&mut self, sign: &str) -> Parsed<()> {
+    pub fn close(&mut self, sign: &str) -> Parsed<()> {
         self.expect(sign)?;
         self.depth -= 1;
         Ok(())
     }
 
-    fn name(&mut self) -> Parsed<Name> {
+    pub fn name(&mut self) -> Parsed<Name> {
         let place = self.place();
         let T::Name(text) = self.peek() else { return Err(place) };
         let name = Name { text: text.clone(), place, target: Cell::new(usize::MAX) };
@@ -87,7 +85,7 @@ impl Parser {
         Ok(name)
     }
 
-    fn number(&mut self) -> Parsed<Number> {
+    pub fn number(&mut self) -> Parsed<Number> {
         let place = self.place();
         let T::Number(value) = *self.peek() else { return Err(place) };
         self.at += 1;
@@ -250,104 +248,5 @@ impl Parser {
         let body = self.expression()?;
         self.expect(";")?;
         Ok(body)
-    }
-}
-
-// Sets, calculations, conditions.
-impl Parser {
-    fn set(&mut self) -> Parsed<Set> {
-        let mut alternatives = Vec::new();
-        loop {
-            let included = self.set_item()?;
-            let excluded = if self.accept("!") { Some(self.exclusion()?) } else { None };
-            alternatives.push((included, excluded));
-            if !self.accept("|") {
-                return Ok(Set(alternatives));
-            }
-        }
-    }
-
-    fn exclusion(&mut self) -> Parsed<Exclusion> {
-        if !self.is("(") {
-            return Ok(Exclusion::Item(self.set_item()?));
-        }
-        self.open("(")?;
-        let set = self.set()?;
-        self.close(")")?;
-        Ok(Exclusion::Set(set))
-    }
-
-    fn set_item(&mut self) -> Parsed<Item> {
-        let least = if self.is("~") { None } else { Some(self.calculation()?) };
-        if self.accept("~") {
-            let greatest = if self.begins_calculation() { Some(self.calculation()?) } else { None };
-            return Ok(Item::Span(least, greatest));
-        }
-        Ok(Item::Single(least.ok_or(self.place())?))
-    }
-
-    fn begins_calculation(&self) -> bool {
-        matches!(self.peek(), T::Number(_) | T::Name(_) | T::Sign("-"))
-    }
-
-    fn calculation(&mut self) -> Parsed<Calculation> {
-        let place = self.place();
-        let mut products = vec![(Sum::Plus, self.product()?)];
-        loop {
-            let sum = match self.peek() {
-                T::Sign("+") => Sum::Plus,
-                T::Sign("-") => Sum::Minus,
-                _ => return Ok(Calculation { place, products }),
-            };
-            self.at += 1;
-            products.push((sum, self.product()?));
-        }
-    }
-
-    fn product(&mut self) -> Parsed<Vec<Operand>> {
-        let mut operands = vec![self.operand()?];
-        while self.accept("*") {
-            operands.push(self.operand()?);
-        }
-        Ok(operands)
-    }
-
-    fn operand(&mut self) -> Parsed<Operand> {
-        let negated = self.accept("-");
-        let atom = match self.peek() {
-            T::Number(_) => Atom::Number(self.number()?),
-            _ => Atom::Variable(self.name()?),
-        };
-        Ok(Operand { negated, atom })
-    }
-
-    fn condition(&mut self) -> Parsed<Condition> {
-        let first = self.simple_condition()?;
-        let sign = match self.peek() {
-            T::Sign(sign @ ("&" | "|")) => *sign,
-            _ => return Ok(first),
-        };
-        let mut parts = vec![first];
-        while self.accept(sign) {
-            parts.push(self.simple_condition()?);
-        }
-        // The other sign cannot stand after the chain, so mixing is an error at it.
-        Ok(if sign == "&" { Condition::All(parts) } else { Condition::Any(parts) })
-    }
-
-    fn simple_condition(&mut self) -> Parsed<Condition> {
-        if self.is("(") {
-            self.open("(")?;
-            let inner = self.condition()?;
-            self.close(")")?;
-            return Ok(inner);
-        }
-        let left = self.calculation()?;
-        let comparator = match self.peek() {
-            T::Sign(sign) if COMPARATORS.contains(sign) => *sign,
-            _ => return Err(self.place()),
-        };
-        self.at += 1;
-        Ok(Condition::Compare(left, comparator, self.calculation()?))
     }
 }

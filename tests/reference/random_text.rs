@@ -5,7 +5,8 @@ use crate::random::Random;
 const FIRST_LINES: [&str; 4] = ["dogma_v1 utf-8\n", "dogma_v1 utf-8\r\n", "dogma_v1\tUTF-8\n", "dogma_v1 \t Utf-8\n"];
 const LINES: [&str; 5] = ["- identifier=kiosk_v1\n", "-  =b\n", "- n= \r\n", "-\tname with = signs=\n", "- charset = utf-8\r\n"];
 const WRONG: [&str; 12] = [
-    "dogma_v1 utf-8 \n", " dogma_v1 utf-8\n", "dogma_v2 utf-8\n", "- =b\n", "-a=b\n", "- a=\n", "# comment\n", " \n", "\r\r\n", "- a=\u{e9}\n", "- \x7f=b\n", "dogma_v1utf-8\n",
+    "dogma_v1 utf-8 \n", " dogma_v1 utf-8\n", "dogma_v2 utf-8\n", "- =b\n", "-a=b\n", "- a=\n", "# comment\n", " \n", "\r\r\n",
+    "- a=\u{e9}\n", "- \x7f=b\n", "dogma_v1utf-8\n",
 ];
 
 pub fn header(random: &mut Random) -> Vec<u8> {

@@ -13,6 +13,7 @@ pub mod matcher; // the run, by recursion
 pub mod names; // refusal 6
 pub mod numbers; // refusal 8
 pub mod parser; // refusal 4
+mod parser_terms; // sets, calculations and conditions
 pub mod random; // random numbers, damaged texts
 pub mod random_frame; // frames for a grammar
 pub mod random_grammar; // grammar texts
