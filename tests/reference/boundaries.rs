@@ -1,0 +1,41 @@
+// Grammars on both sides of each limit.
+use reference::grammar::{admit, LONGEST_TEXT};
+
+const HEADER: &str = "dogma_v1 utf-8\n\n";
+
+// Rules, a last rule that still fits, and one that does not.
+fn limits() -> Vec<(String, &'static str, &'static str)> {
+    let times = |n: usize, part: &dyn Fn(usize) -> String, between: &str| (0..n).map(part).collect::<Vec<_>>().join(between);
+    let literals = times(254, &|_| "'x'".into(), "&");
+    let binders = times(63, &|i| format!("uint(8,var(v{i},~))"), "&");
+    let numbers = times(512, &|i| i.to_string(), "|"); // with the signs, one less than the limit
+    vec![
+        (times(63, &|i| format!("r{i}='x';"), ""), "z='x';", "y='x';z='x';"),
+        (format!("a={literals};"), "z='x';", "z='x'{1};"),
+        (format!("a={literals};"), "z=('x');", "z='x'|'y';"),
+        (format!("a={binders};"), "z=uint(8,var(n,~));", "z=uint(8,var(n,~))&uint(8,var(m,~));"),
+        (format!("a=uint(32,{numbers});"), "z=uint(8,1);", "z=uint(8,-1);"),
+        (format!("a=uint(32,{numbers});"), "z=uint(32,var(n,~));", "z=uint(8,~!~);"),
+        (format!("a=uint(32,{numbers});"), "z='x'{1};", "z='x'{~0};"),
+        (format!("a=uint(32,{numbers});"), "z='a'~'b'&'c'*;", "z=[1=1:'x';];"),
+    ]
+}
+
+pub fn check() -> usize {
+    let refused = |text: &str| admit(text.as_bytes()).err().map(|refusal| (refusal.number, refusal.place));
+    let limits = limits();
+    for (rules, fits, too_much) in &limits {
+        assert_eq!(refused(&format!("{HEADER}{rules}{fits}")), None, "{rules}{fits}");
+        let text = format!("{HEADER}{rules}{too_much}");
+        assert_eq!(refused(&text), text.rfind("z=").map(|place| (5, place)), "{text}");
+    }
+    // A repetition of weight w weighs 2w + 1; the rest of 65,535 are the concatenation and the opening use.
+    let doubled = |n| (0..n).fold("'x'".to_string(), |body, _| format!("({body}){{2}}"));
+    let heavy = format!("{HEADER}a={}&{}&{}", doubled(14), doubled(13), doubled(13));
+    assert_eq!(admit(format!("{heavy};").as_bytes()).map(|grammar| grammar.weight), Ok(65_535));
+    assert_eq!(refused(&format!("{heavy}&'x';")), Some((11, HEADER.len())));
+    let mut longest = format!("{HEADER}a='x';#");
+    longest += &"p".repeat(LONGEST_TEXT - longest.len());
+    assert_eq!((refused(&longest), refused(&format!("{longest}p"))), (None, Some((2, 0))));
+    limits.len() + 2
+}

@@ -1,0 +1,159 @@
+// What the settled readings of document 01 say by example. A mark ^ in a text shows the place of the refusal.
+use reference::grammar::{admit, Between, Refusal};
+
+const HEADERS: &[(u8, &str)] = &[
+    (2, "^"),
+    (3, "^dogma_v1 utf-8 \n\na='x';"),
+    (3, "^ dogma_v1 utf-8\n\na='x';"),
+    (3, "^\u{feff}dogma_v1 utf-8\n\na='x';"),
+    (3, "^Dogma_v1 utf-8\n\na='x';"),
+    (3, "^dogma_v1 utf-8"),
+    (3, "dogma_v1 utf-8\n^"),
+    (3, "dogma_v1 utf-8\n^\r"),
+    (3, "dogma_v1 utf-8\n^\r\r\na='x';"),
+    (3, "dogma_v1 utf-8\n^- a\rb=c\n\na='x';"),
+    (3, "dogma_v1 utf-8\n^- =b\n\na='x';"),
+    (3, "dogma_v1 utf-8\n^-a=b\n\na='x';"),
+    (3, "dogma_v1 utf-8\n- a=b\n^- a=\n\na='x';"),
+    (3, "dogma_v1 utf-8\n^- a=b"),
+    (3, "dogma_v1 utf-8\n^ \n\na='x';"),
+    (3, "dogma_v1 utf-8\n^# c\n\na='x';"),
+    (3, "dogma_v1 utf-8\n^- a=\u{7f}\n\na='x';"),
+    (0, "dogma_v1 \t UTF-8\r\n-  =b\n-\tn==\n- n= \r\n\r\na='x';"),
+    (4, "dogma_v1 utf-8\n\n^"),
+    (4, "dogma_v1 utf-8\n\n # c\r\n^"),
+];
+
+const FORMS: &[(u8, &str)] = &[
+    (4, "a = uint(8, var(n, ~)) & [n < ^= 1: 'x';];"),
+    (4, "a = uint(8, var(n, ~)) & [n ^! = 1: 'x';];"),
+    (4, "a = uint(8, 1 ^!=2);"),
+    (4, "a = 'x'; ^@"),
+    (4, "a = 'x'; ^_b = 'y';"),
+    (4, "a = 'x' # \r ; \n^"),
+    (4, "a = uint(0^x);"),
+    (4, "a = uint(0b1^2, ~);"),
+    (4, "a = uint(12^ab, ~);"),
+    (0, "a = uint(0X8, 0XfF | 0B1 | 0O7 | 0009);"),
+    (4, "a = ^\"\";"),
+    (4, "a = ^\"abcdefghijklmnopqrstuvwxyzabcdefg\";"),
+    (0, "a = \"abcdefghijklmnopqrstuvwxyzabcde\\[00041]\";"),
+    (4, "a = ^\"abc;"),
+    (4, "a = ^\"a\n\";"),
+    (4, "a = ^'\\n';"),
+    (4, "a = ^'\\[]';"),
+    (4, "a = ^'\\[80]';"),
+    (0, "a = '\\[7F]' & \"\\'\" & '\"' & '\\\\';"),
+    (0, "abcdefghijklmnopqrstuvwxyzabcdef = 'x';"),
+    (4, "^abcdefghijklmnopqrstuvwxyzabcdefg = 'x';"),
+    (4, "a = sized^(8, b);"),
+    (4, "a = var^(x, ~);"),
+    (4, "a = uint(8, 1 | var^(n, ~));"),
+    (4, "a = uint(^n, ~);"),
+    (4, "a = uint(^-1, ~);"),
+    (4, "a = uint(8^+0, ~);"),
+    (4, "a = 'ab'^~'c';"),
+    (4, "a = 'a'~^'bc';"),
+    (0, "a = 'z'~'a';"),
+    (4, "a = 'a'{~^};"),
+    (4, "a = 'a'{1^|3};"),
+    (4, "a = 'a'{^(1)};"),
+    (4, "a = 'a'*^*;"),
+    (4, "a = uint(8, ^(1|2));"),
+    (4, "a = uint(8, 1!(^(2)));"),
+    (4, "a = uint(8, 1!2^!3);"),
+    (0, "a = uint(8, 1 - -1 ! (2 | 3 ! 4));"),
+    (4, "a = uint(8, -^-1);"),
+    (4, "a = [^];"),
+    (4, "a = [^: 'a';];"),
+    (4, "a = [1 = 1: 'a'; : 'b'; ^1 = 2: 'c';];"),
+    (4, "a = [1 = 1 & 2 = 2 ^| 3 = 3: 'a';];"),
+    (4, "a = [(1 + 1^) = 2: 'a';];"),
+    (0, "a = [((1 = 1)): 'a';];"),
+    (0, "a = ((((((((((((((((\"x\"))))))))))))))));"),
+    (4, "a = ((((((((((((((((^(\"x\")))))))))))))))));"),
+    (4, "a = (((((((((((((((uint(8, var^(n, ~)))))))))))))))));"),
+    (4, "a = ((((((((((((((((uint^(8, ~)))))))))))))))));"),
+];
+
+const NAMES_AND_NUMBERS: &[(u8, &str)] = &[
+    (6, "a = ^uint;"),
+    (6, "a = uint(8, ^var);"),
+    (6, "a = 'x'{^eod};"),
+    (6, "^sized = 'x';"),
+    (6, "a = 'x'; ^a = 'y';"),
+    (6, "a = (uint(8, var(^n, ~)));"),
+    (6, "a = uint(8, var(^n, ~)){2};"),
+    (6, "a = uint(8, var(^n, ~)) | 'x';"),
+    (6, "a = [1 = 1: uint(8, var(^n, ~));];"),
+    (6, "a = uint(8, var(n, ~)) & uint(8, var(^n, ~));"),
+    (6, "a = uint(8, var(n, ^n));"),
+    (6, "a = uint(8, ^n) & uint(8, var(n, ~));"),
+    (6, "a = uint(8, var(n, ~)) & b; b = uint(8, ^n);"),
+    (6, "a = ^b & uint(8, var(b, ~)); b = 'x';"),
+    (6, "a = uint(8, ^b); b = 'x';"),
+    (6, "a = uint(8, var(^msb, ~));"),
+    (6, "a = 'x'; b = ^c;"),
+    (0, "a = uint(8, var(a, ~)) & uint(8, var(b, a)); b = 'x';"),
+    (7, "a = 'x'; ^b = c{0}; c = b;"),
+    (7, "a = b; ^b = 'x' & c; c = b;"),
+    (8, "a = uint(^0, ~);"),
+    (8, "a = uint(^33, ~);"),
+    (8, "a = uint(8, 5 + ^4294967296);"),
+    (8, "a = uint(8, ^5 + 99999999999999999999);"),
+    (8, "a = uint(8, 1 | ^-99999999999999999999);"),
+    (0, "a = uint(31, var(x, ~)) & uint(32, var(z, ~)) & uint(8, 0*x*z*4);"),
+    (8, "a = uint(31, var(x, ~)) & uint(32, var(z, ~)) & uint(8, ^x*z*0);"),
+    (0, "a = uint(8, 2147483648 * 2147483648);"),
+    (8, "a = uint(8, ^2147483648 * 2147483648 + 1);"),
+];
+
+const LOOKAHEAD: &[(u8, &str)] = &[
+    (0, "a = 'x'; b = 'y' | 'y';"),
+    (9, "a = 'x'; b = ('y'?)^*;"),
+    (10, "a = ('A' & ^'A'?)?;"),
+    (10, "a = ^'A'{3~3} & 'A';"),
+    (10, "a = ^'A'{5~3} & 'A';"),
+    (0, "a = 'A'{3} & 'A';"),
+    (9, "a = ('A'?)^{0};"),
+    (9, "a = (('A'?)^*)*;"),
+    (0, "a = (eod & 'x')*;"),
+    (0, "a = uint(8, 300)*;"),
+    (0, "a = ('A' | 'A') & uint(8, 300);"),
+    (0, "a = uint(4,1)* & uint(4,1);"),
+    (10, "a = uint(8, var(n, ~)) & (^uint(8, n ! n) | 'A');"),
+    (10, "a = ^eod & 'x' | 'x';"),
+    (10, "a = ^[1 = 2: 'x';] | 'x';"),
+    (10, "a = ^('A')* & 'A';"),
+    (10, "a = 'b' & ('c' & ^'A'* & 'A' | 'd');"),
+];
+
+const HEADER: &str = "dogma_v1 utf-8\n\n";
+
+pub fn check() -> usize {
+    for (number, text) in HEADERS {
+        check_one(*number, text, "");
+    }
+    let rules = [FORMS, NAMES_AND_NUMBERS, LOOKAHEAD].concat();
+    for (number, rules) in &rules {
+        check_one(*number, rules, HEADER);
+    }
+    check_conflicts();
+    HEADERS.len() + rules.len()
+}
+
+fn check_one(number: u8, marked: &str, header: &str) {
+    let text = format!("{header}{}", marked.replacen('^', "", 1));
+    let place = marked.find('^').map(|at| header.len() + at);
+    let found = admit(text.as_bytes()).map_or_else(|refusal| (refusal.number, Some(refusal.place)), |_| (0, None));
+    assert_eq!(found, (number, place), "{text}");
+}
+
+// The least common string is over all pairs of branches, and the first pair that has it is told.
+fn check_conflicts() {
+    let refused = |rules: &str| admit(format!("{HEADER}{rules}").as_bytes()).err();
+    let conflict = |place, window, between| Some(Refusal { number: 10, place, window: Some(window), between: Some(between) });
+    assert_eq!(refused("a = 'c' | 'c' | 'b' | 'd' | 'b';"), conflict(20, 256 + 98, Between::Branches(2, 4)));
+    assert_eq!(refused("a = 'c'* & 'c';"), conflict(20, 256 + 99, Between::ContinueAndExit));
+    assert_eq!(refused("a = uint(4,2) | uint(4,2) & uint(4,~)?;"), conflict(20, 18, Between::Branches(0, 1)));
+}
