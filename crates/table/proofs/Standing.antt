@@ -24,11 +24,10 @@ same-half x y s k h = ap (λ (w : ℕ). w / 2 ^ (32 * (k % 2)) % 2 ^ 32) (s (k /
 
 -- a set has one form
 pub one-form : (ws : List ℕ) (at : ℕ) (A : Bits → Type 0) (set : List ℕ) → Is set A → StandsAt ws at set ↔ Stands ws at A
-one-form ws at A set i =
-    (
-      λ t. record { set = set; is = i; there = t },
-      λ s k h. s .there k h ∙ same-half (s .set) set (same-words (s .set) set (s .is .proper) (i .proper) (λ x. ((λ p. i .strings x .1 (s .is .strings x .0 p)), (λ p. s .is .strings x .1 (i .strings x .0 p))))) k h,
-    )
+one-form ws at A set i = (
+  λ t. record { set = set; is = i; there = t },
+  λ s k h. s .there k h ∙ same-half (s .set) set (same-words (s .set) set (s .is .proper) (i .proper) (λ x. ((λ p. i .strings x .1 (s .is .strings x .0 p)), (λ p. s .is .strings x .1 (i .strings x .0 p))))) k h,
+)
 
 module _ (ws follow prediction : List ℕ) (fs : FollowSets ws follow) (ps : PredictionSets ws prediction) (i : ℕ) (h : i < 256) where
   pub prediction-stands : StandsAt ws (prediction-at i) (part i prediction) ↔ Stands ws (prediction-at i) (Predicted (held ws) i)
@@ -39,11 +38,10 @@ module _ (ws follow prediction : List ℕ) (fs : FollowSets ws follow) (ps : Pre
 
   -- both sets were compared
   pub both-stand : (p f : List ℕ) (r : Bool) → p ≡ part i prediction → f ≡ part i follow → StandsAt ws (prediction-at i) p → Decides r (StandsAt ws (follow-at i) f) → Decides r (SetsStand ws i)
-  both-stand p f r e d a b =
-      (
-        λ t. record { prediction = prediction-stands .0 (subst (StandsAt ws (prediction-at i)) e a); follow = follow-stands .0 (subst (StandsAt ws (follow-at i)) d (b .0 t)) },
-        λ s. b .1 (subst (StandsAt ws (follow-at i)) (sym d) (follow-stands .1 (s .follow))),
-      )
+  both-stand p f r e d a b = (
+    λ t. record { prediction = prediction-stands .0 (subst (StandsAt ws (prediction-at i)) e a); follow = follow-stands .0 (subst (StandsAt ws (follow-at i)) d (b .0 t)) },
+    λ s. b .1 (subst (StandsAt ws (follow-at i)) (sym d) (follow-stands .1 (s .follow))),
+  )
 
   pub first-fails : (p : List ℕ) → p ≡ part i prediction → (StandsAt ws (prediction-at i) p → ⊥) → Decides false (SetsStand ws i)
   first-fails p e a = ((λ t. absurd (false≢true t)), (λ s. absurd (a (subst (StandsAt ws (prediction-at i)) (sym e) (prediction-stands .1 (s .prediction))))))

@@ -50,10 +50,10 @@ slice-aggregate-all-stand-2 : tie.Need-slice-aggregate-all-stand-2
 slice-aggregate-all-stand-2 c = search needs
 
 all-stand-requires : tie.Need-all-stand-requires
-all-stand-requires c κs = ?as
+all-stand-requires c κs = let s = c .before .before .before .before .before .before .before .before .before .before .before .before .before .before .before in let ws = s .args .table .now in let j = c .before .before .before .before .before .before .before .before .before .before .judge-into in let e = c .before .before .before .before .before .weight .given .1 in let q = subst (Judged ws) e (j .ensures .0) in let k = subst (Computed ws (j .last .1 .1 .0) (j .last .1 .1 .1 .0)) e (j .ensures .1) in let f = facts ws (q .0 .passed .passed .passed .laid-out) in (f .long, f .counts .constructs, j .kept .1 .1 .0, j .kept .1 .1 .1 .0, k .0, k .1)
 
 returns : tie.Need-returns
-returns c = ?r1
+returns c = let s = c .before .before .before .before .before .before .before .before .before .before .before .before .before .before .before .before in let ws = s .args .table .now in let j = c .before .before .before .before .before .before .before .before .before .before .before .judge-into in let e = c .before .before .before .before .before .before .weight .given .1 in let q = subst (Judged ws) e (j .ensures .0) in sound-iff ws _ q (c .before .before .before .if1 .taken ∙ c .before .before .before .before .word .ensures .0) (c .all-stand .result) (c .all-stand .ensures)
 
 returns-2 : tie.Need-returns-2
 returns-2 c = let s = c .before .before .before .before .before .before .before .before .before .before in let j = c .before .before .before .before .before .judge-into in unsound (s .args .table .now) (j .result) (j .ensures .0) (ap is-passed (c .enum-told .given .1))
@@ -74,7 +74,7 @@ returns-7 : tie.Need-returns-7
 returns-7 c = let s = c .before .before .before .before .before .before .before .before .before .before in let j = c .before .before .before .before .before .judge-into in unsound (s .args .table .now) (j .result) (j .ensures .0) (ap is-passed (c .enum-told6 .given .1))
 
 returns-8 : tie.Need-returns-8
-returns-8 c = ?r8
+returns-8 c = let s = c .before .before .before .before .before .before .before .before .before .before .before .before .before in let ws = s .args .table .now in let j = c .before .before .before .before .before .before .before .before .judge-into in let e = c .before .before .before .weight .given .1 in let q = subst (Judged ws) e (j .ensures .0) in other-weight ws _ q (λ z. c .if1 .left (z ∙ sym (c .before .word .ensures .0)))
 
 pub sound-words-spec : {M : Type 1} → statement M
 sound-words-spec =
