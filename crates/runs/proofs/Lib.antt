@@ -1,0 +1,3 @@
+-- Laws of what 24 asks, and of grants.
+pub mod Fitting
+pub mod Taken
