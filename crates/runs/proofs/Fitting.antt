@@ -53,16 +53,45 @@ room-left room captures unread l = leb-same captures (room / 2 - unread) (2 * (c
 pub no-room : (room captures unread : ℕ) → room / 2 < unread → leb (2 * (captures + unread)) room ≡ false
 no-room room captures unread l = lt-leb (2 * (captures + unread)) room (omega arith)
 
+-- what 24 asks beside the entries
+pub record Rest (ws fs : List ℕ) (room : ℕ) (h : Head) : Type 0 where
+  pub table : 16384 ≤ length ws
+  pub position : h .position ≤ bits-of fs
+  pub verdict : h .verdict ≤ 4
+  pub count : h .count ≤ 256
+  pub roomy : 2 * (h .captures + (bits-of fs - h .position)) ≤ room
+
+module _ (ws fs : List ℕ) (room : ℕ) (cs ps : List ℕ) (h : Head) where
+  pub fitting-rest : fitting ws fs room cs ps h ≡ true → Rest ws fs room h
+  unfolding fitting
+  fitting-rest e =
+      let all : Bool = entries-fit ws (bits-of fs) cs ps (h .count) in
+      let last : Bool = leb (2 * (h .captures + (bits-of fs - h .position))) room in
+      let a = both-true (leb 16384 (length ws)) (both (leb (h .position) (bits-of fs)) (both (leb (h .verdict) 4) (both (leb (h .count) 256) (both all last)))) e in
+      let b = both-true (leb (h .position) (bits-of fs)) (both (leb (h .verdict) 4) (both (leb (h .count) 256) (both all last))) (a .1) in
+      let v = both-true (leb (h .verdict) 4) (both (leb (h .count) 256) (both all last)) (b .1) in
+      let n = both-true (leb (h .count) 256) (both all last) (v .1) in
+      record {
+        table = leb-true 16384 (length ws) (a .0);
+        position = leb-true (h .position) (bits-of fs) (b .0);
+        verdict = leb-true (h .verdict) 4 (v .0);
+        count = leb-true (h .count) 256 (n .0);
+        roomy = leb-true (2 * (h .captures + (bits-of fs - h .position))) room (both-true all last (n .1) .1);
+      }
+
+  -- where the rest holds, only the entries are asked
+  pub rest-fitting : Rest ws fs room h → fitting ws fs room cs ps h ≡ entries-fit ws (bits-of fs) cs ps (h .count)
+  unfolding fitting
+  rest-fitting r = simp (le-leb _ _ (r .table), le-leb _ _ (r .position), le-leb _ _ (r .verdict), le-leb _ _ (r .count), le-leb _ _ (r .roomy)) (both-last (entries-fit ws (bits-of fs) cs ps (h .count)))
+    where
+      both-last : (t : Bool) → both t true ≡ t
+      both-last true = refl
+      both-last false = refl
+
 -- what passes 24 may take steps
 pub fitting-fits : (ws fs : List ℕ) (cs ps : List ℕ) (vs : List ℤ) (rs : List ℕ) (h : Head) → length cs ≡ 256 → length ps ≡ 256 → fitting ws fs (length rs) cs ps h ≡ true
     → (16384 ≤ length ws) × Fits fs (whole cs ps vs rs h)
-unfolding fitting
 fitting-fits ws fs cs ps vs rs h lc lp e =
-    let room : Bool = leb (2 * (h .captures + (bits-of fs - h .position))) (length rs) in
-    let all : Bool = entries-fit ws (bits-of fs) cs ps (h .count) in
-    let a = both-true (leb 16384 (length ws)) (both (leb (h .position) (bits-of fs)) (both (leb (h .verdict) 4) (both (leb (h .count) 256) (both all room)))) e in
-    let b = both-true (leb (h .position) (bits-of fs)) (both (leb (h .verdict) 4) (both (leb (h .count) 256) (both all room))) (a .1) in
-    let v = both-true (leb (h .verdict) 4) (both (leb (h .count) 256) (both all room)) (b .1) in
-    let n = both-true (leb (h .count) 256) (both all room) (v .1) in
-    let r : 2 * (h .captures + (bits-of fs - h .position)) ≤ length rs = leb-true (2 * (h .captures + (bits-of fs - h .position))) (length rs) (both-true all room (n .1) .1) in
-    (leb-true 16384 (length ws) (a .0), (leb-true (h .position) (bits-of fs) (b .0), leb-true (h .count) 256 (n .0), (let z : 2 * h .captures ≤ length rs = omega arith in z), lc, lp))
+    let r = fitting-rest ws fs (length rs) cs ps h e in
+    let m : 2 * (h .captures + (bits-of fs - h .position)) ≤ length rs = r .roomy in
+    (r .table, (r .position, r .count, (let z : 2 * h .captures ≤ length rs = omega arith in z), lc, lp))

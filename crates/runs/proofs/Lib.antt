@@ -1,3 +1,5 @@
 -- Laws of what 24 asks, and of grants.
 pub mod Fitting
 pub mod Taken
+pub mod Kept
+pub mod Grants

@@ -194,13 +194,7 @@ pub fn step(table: &[u32], frame: &[u8], reading: &mut [u32], run: Run) -> Grant
 }
 
 // A grant to the one run that the kiosk keeps, which is changed in place.
-pub fn grant(
-    table: &[u32],
-    frame: &[u8],
-    reading: &mut [u32],
-    run: &mut Run,
-    steps: u64,
-) -> Answer
+pub fn grant(table: &[u32], frame: &[u8], reading: &mut [u32], run: &mut Run, steps: u64) -> Answer
     ensures { λ r. ⌜ after (now (run .exit)) (now (reading .exit)) r ≡ grant-of (now (table .entry)) (now (frame .entry)) (now (reading .entry)) (now (run .entry)) steps ⌝ }
 {
     let done = advance(table, frame, reading, *run, steps);
