@@ -1,6 +1,6 @@
 -- What is true of grants, for any words.
 -- Assumes nothing.
-use Prim.Native.Nat.{ℕ, _+_, _*_, _-_, _≤_, _<_}
+use Prim.Native.Nat.{ℕ, zero, suc, _+_, _*_, _-_, _≤_, _<_}
 use native.Mathlib.Omega.{arith}
 use borrow.Author.Tests.{leb-true, le-leb}
 use mathlib.Core.Path.{_≡_, refl, sym, ap, subst, _∙_}
@@ -11,24 +11,14 @@ use lib.ListN.{length}
 use Rattle.layout.specs.Constructs.{pick, both}
 use Rattle.acts.specs.Acts.{bits-of}
 use Rattle.acts.proofs.Sizes.{both-true}
-use Rattle.steps.specs.Steps.{Whole, whole, steps-of, Fits}
+use Rattle.steps.specs.Steps.{Whole, whole, step-of, steps-of, Fits}
 use Rattle.steps.proofs.Running.{steps-stay, steps-none}
-use Rattle.runs.specs.Runs.{head-of, whole-of, entries-fit, fitting, refusal-of, After, after, after-steps, grant-of, number-of, taken-of}
+use Rattle.runs.specs.Runs.{head-of, whole-of, entries-fit, fitting, refusal-of, After, after, run-in, reading-in, answer-in, after-steps, grant-of, number-of, taken-of, opened-run}
 use Rattle.runs.specs.declared.Run.{Run}
 use Rattle.runs.specs.declared.Answer.{Answer}
 use Rattle.runs.proofs.Fitting.{Rest, fitting-rest, rest-fitting, fitting-fits}
 use Rattle.runs.proofs.Taken.{steps-in, steps-near, steps-add}
 use Rattle.runs.proofs.Kept.{Roomy, steps-roomy, steps-fit}
-
--- what a grant leaves, taken apart
-abbrev pub run-in : After → Run
-run-in (after run rs answer) = run
-
-abbrev pub reading-in : After → List ℕ
-reading-in (after run rs answer) = rs
-
-abbrev pub answer-in : After → Answer
-answer-in (after run rs answer) = answer
 
 -- "no step is taken and nothing changes"
 abbrev pub Unchanged : Run → List ℕ → After → Type 0
@@ -93,6 +83,27 @@ module _ (ws fs : List ℕ) where
   -- "A decided, closed or broken run takes no more steps."
   pub decided-stays : (rs : List ℕ) (run : Run) (n : ℕ) → refusal-of ws fs rs run ≡ 0 → (run .verdict ≡ 0 → ⊥) → grant-of ws fs rs run n ≡ after run rs (Answer.Taken 0)
   decided-stays rs run n ok h = nothing-taken rs run n ok (steps-stay ws fs n (run .constructs) (run .passes) (run .values) rs (head-of run) h)
+
+  -- "verdict closed, which no grant changes": refused or not, a grant leaves a run that is not undecided as it is
+  pub unchanged : (rs : List ℕ) (run : Run) (n : ℕ) → (run .verdict ≡ 0 → ⊥) → Unchanged run rs (grant-of ws fs rs run n)
+  unchanged rs run n h = by (refusal-of ws fs rs run) refl
+    where
+      by : (r : ℕ) → refusal-of ws fs rs run ≡ r → Unchanged run rs (grant-of ws fs rs run n)
+      by zero e = subst (Unchanged run rs) (sym (decided-stays rs run n e h)) (refl, refl, refl)
+      by (suc k) e = refused rs run n (λ z. absurd (omega (arith, e, z)))
+
+  -- an opened run fits where the table is whole, the frame is not too long and there is room for each of its bits
+  pub opened-fits : (rs : List ℕ) → 16384 ≤ length ws → length fs ≤ 256 → 2 * bits-of fs ≤ length rs → refusal-of ws fs rs opened-run ≡ 0
+  unfolding entries-fit
+  opened-fits rs table frame room =
+      let k : Rest ws fs (length rs) (head-of opened-run) = record { table = table; position = omega arith; verdict = omega arith; count = omega arith; roomy = omega arith } in
+      let all : fit rs opened-run ≡ true = rest-fitting ws fs (length rs) (opened-run .constructs) (opened-run .passes) (head-of opened-run) k ∙ ap (λ (t : Bool). both (both t true) true) (le-leb 0 (bits-of fs + 1) (omega arith)) in
+      simp (le-leb _ _ frame, all)
+
+  -- a grant of one is a step
+  pub one-step : (rs : List ℕ) (run : Run) → refusal-of ws fs rs run ≡ 0 → grant-of ws fs rs run 1 ≡ after-steps (run .steps) (step-of ws fs (whole-of rs run))
+  unfolding steps-of
+  one-step rs run ok = granted rs run 1 ok
 
   pub none-granted : (rs : List ℕ) (run : Run) → refusal-of ws fs rs run ≡ 0 → grant-of ws fs rs run 0 ≡ after run rs (Answer.Taken 0)
   none-granted rs run ok = nothing-taken rs run 0 ok (steps-none ws fs 0 (whole-of rs run) refl)

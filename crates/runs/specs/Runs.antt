@@ -5,12 +5,12 @@ use mathlib.Core.Bool.{Bool, true, false}
 use mathlib.Core.Path.{_≡_}
 use mathlib.Core.List.{List}
 use lib.Dec.{leb, eqb}
-use lib.IntN.{ℤ}
-use lib.ListN.{length, getD}
+use lib.IntN.{ℤ, pos}
+use lib.ListN.{length, getD, set, replicate}
 use Rattle.layout.specs.Constructs.{pick, both}
 use Rattle.layout.specs.Places.{table-words}
 use Rattle.acts.specs.Acts.{bits-of, in-table}
-use Rattle.steps.specs.Steps.{Whole, whole, broken, steps-of}
+use Rattle.steps.specs.Steps.{Whole, whole, undecided, closed, broken, steps-of}
 use Rattle.steps.specs.declared.Head.{Head}
 use Rattle.runs.specs.declared.Run.{Run}
 use Rattle.runs.specs.declared.Answer.{Answer}
@@ -22,6 +22,15 @@ head-of run = record { position = run .position; count = run .count; captures = 
 -- "A run holds a position, a to-do list, variable values, fields recorded, steps taken and a verdict": with the reading's words, what steps change
 abbrev pub whole-of : List ℕ → Run → Whole
 whole-of rs run = whole (run .constructs) (run .passes) (run .values) rs (head-of run)
+
+-- "It opens undecided, with a use of the start rule on its list and the rest 0."
+abbrev pub opened-run : Run
+opened-run =
+    record { position = 0; count = 1; captures = 0; steps = 0; verdict = undecided; constructs = set (replicate 256 0) 0 256; passes = replicate 256 0; values = replicate 64 (pos 0) }
+
+-- "a refused open gives a closed run (empty list, no steps, verdict closed, which no grant changes)"
+abbrev pub closed-run : Run
+closed-run = record { position = 0; count = 0; captures = 0; steps = 0; verdict = closed; constructs = replicate 256 0; passes = replicate 256 0; values = replicate 64 (pos 0) }
 
 -- "an entry isn't in the table or counts more passes than the frame's bits and one"; the opening use of the start rule, number 256, is in every table
 abbrev pub entry-fits : List ℕ → ℕ → ℕ → ℕ → Bool
@@ -51,6 +60,15 @@ refusal-of ws fs rs run = pick (leb (length fs) 256) (pick (fitting ws fs (lengt
 -- what a grant leaves: the run, the reading's words, and the answer
 pub data After : Type 0 where
   after : Run → List ℕ → Answer → After
+
+abbrev pub run-in : After → Run
+run-in (after run rs answer) = run
+
+abbrev pub reading-in : After → List ℕ
+reading-in (after run rs answer) = rs
+
+abbrev pub answer-in : After → Answer
+answer-in (after run rs answer) = answer
 
 -- what steps made, of a run that had taken so many steps before
 abbrev pub after-steps : ℕ → Whole → After

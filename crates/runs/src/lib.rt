@@ -4,7 +4,7 @@ ghost use Prim.Native.Nat.{ℕ, _+_, _*_, _-_, _≤_, _<_};
 ghost use lib.Dec.{leb};
 ghost use lib.ListN.{length, getD};
 ghost use Rattle.acts.specs.Acts.{bits-of};
-ghost use Rattle.runs.specs.Runs.{entry-fits, entries-fit, fitting, PutTogether, after, grant-of};
+ghost use Rattle.runs.specs.Runs.{entry-fits, entries-fit, fitting, PutTogether, after, grant-of, opened-run, closed-run};
 use steps::Head;
 
 // The first of `count` pending entries stands last; what stands beyond them may be anything.
@@ -33,6 +33,45 @@ pub enum Answer {
 pub struct Granted {
     pub run: Run,
     pub answer: Answer,
+}
+
+// A run that has its one entry, the opening use of the start rule, before it.
+pub fn opened() -> Run
+    ensures { λ r. ⌜ r ≡ opened-run ⌝ }
+{
+    let mut constructs = [0u32; 256];
+    constructs[0] = 256;
+    let passes = [0u32; 256];
+    let values = [0i64; 64];
+    Run {
+        position: 0,
+        count: 1,
+        captures: 0,
+        steps: 0,
+        verdict: 0,
+        constructs,
+        passes,
+        values,
+    }
+}
+
+// What a refused opening gives.
+pub fn closed() -> Run
+    ensures { λ r. ⌜ r ≡ closed-run ⌝ }
+{
+    let constructs = [0u32; 256];
+    let passes = [0u32; 256];
+    let values = [0i64; 64];
+    Run {
+        position: 0,
+        count: 0,
+        captures: 0,
+        steps: 0,
+        verdict: 3,
+        constructs,
+        passes,
+        values,
+    }
 }
 
 // Whether an entry is in the table and counts no more passes than there may be.
