@@ -13,6 +13,9 @@ use Rattle.acts.specs.Acts.{actOf}
 use Rattle.acts.specs.declared.Act.{Act}
 use Rattle.steps.specs.Steps.{Whole, whole, break, taken, placed, bind, effect, in-bound, first-step, step-of, steps-of}
 use Rattle.steps.specs.declared.Head.{Head}
+use Rattle.runs.specs.Runs.{after}
+use Rattle.runs.specs.declared.Run.{Run}
+use Rattle.runs.specs.declared.Answer.{Answer}
 
 abbrev pub steps-in : Whole → ℕ
 steps-in (whole cs ps vs rs h) = h .steps
@@ -82,3 +85,7 @@ module _ (ws fs : List ℕ) where
   unfolding steps-of
   steps-add zero n w = ap (λ (k : ℕ). steps-of ws fs k w) (let z : n ≡ 0 + n = omega arith in z)
   steps-add (suc m) n w = steps-add m n (step-of ws fs w) ∙ ap (λ (k : ℕ). steps-of ws fs k w) (let z : suc (m + n) ≡ suc m + n = omega arith in z)
+
+-- what a grant leaves is the same where its parts are
+pub same-parts : (rs : List ℕ) {run run′ : Run} {answer answer′ : Answer} → run ≡ run′ → answer ≡ answer′ → after run rs answer ≡ after run′ rs answer′
+same-parts rs e d = λ i. after (e i) rs (d i)

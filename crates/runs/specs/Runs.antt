@@ -2,7 +2,6 @@
 -- Assumes nothing.
 use Prim.Native.Nat.{ℕ, zero, suc, _+_, _*_, _-_}
 use mathlib.Core.Bool.{Bool, true, false}
-use mathlib.Core.Path.{_≡_}
 use mathlib.Core.List.{List}
 use lib.Dec.{leb, eqb}
 use lib.IntN.{ℤ, pos}
@@ -18,6 +17,10 @@ use Rattle.runs.specs.declared.Answer.{Answer}
 -- the numbers of a run beside its arrays
 abbrev pub head-of : Run → Head
 head-of run = record { position = run .position; count = run .count; captures = run .captures; steps = run .steps; verdict = run .verdict }
+
+-- and the run of such numbers and arrays
+abbrev pub run-of : Head → List ℕ → List ℕ → List ℤ → Run
+run-of h cs ps vs = record { position = h .position; count = h .count; captures = h .captures; steps = h .steps; verdict = h .verdict; constructs = cs; passes = ps; values = vs }
 
 -- "A run holds a position, a to-do list, variable values, fields recorded, steps taken and a verdict": with the reading's words, what steps change
 abbrev pub whole-of : List ℕ → Run → Whole
@@ -53,9 +56,13 @@ fitting ws fs room cs ps h =
     (both (entries-fit ws (bits-of fs) cs ps (h .count))
     (leb (2 * (h .captures + (bits-of fs - h .position))) room)))))
 
--- "it tries 21, then 24"; 0 is no refusal
+-- "it tries 21, then 24": one of three
+abbrev pub tries : {A : Type 0} → List ℕ → List ℕ → List ℕ → Run → A → A → A → A
+tries ws fs rs run long unfit granted = pick (leb (length fs) 256) (pick (fitting ws fs (length rs) (run .constructs) (run .passes) (head-of run)) granted unfit) long
+
+-- this paper's number; 0 is no refusal
 abbrev pub refusal-of : List ℕ → List ℕ → List ℕ → Run → ℕ
-refusal-of ws fs rs run = pick (leb (length fs) 256) (pick (fitting ws fs (length rs) (run .constructs) (run .passes) (head-of run)) 0 24) 21
+refusal-of ws fs rs run = tries ws fs rs run 21 24 0
 
 -- what a grant leaves: the run, the reading's words, and the answer
 pub data After : Type 0 where
@@ -72,19 +79,11 @@ answer-in (after run rs answer) = answer
 
 -- what steps made, of a run that had taken so many steps before
 abbrev pub after-steps : ℕ → Whole → After
-after-steps before (whole cs ps vs rs h) =
-    after (record { position = h .position; count = h .count; captures = h .captures; steps = h .steps; verdict = h .verdict; constructs = cs; passes = ps; values = vs }) rs (Answer.Taken (h .steps - before))
-
--- the run is put together, whatever the reading is
-abbrev pub PutTogether : ℕ → List ℕ → List ℕ → List ℤ → Head → Run → Answer → Type 0
-PutTogether before cs ps vs h run answer = (rs : List ℕ) → after run rs answer ≡ after-steps before (whole cs ps vs rs h)
+after-steps before (whole cs ps vs rs h) = after (run-of h cs ps vs) rs (Answer.Taken (h .steps - before))
 
 -- a grant: refused, "then no step is taken and nothing changes"; else so many steps, and "the answer says how many were taken"
 unfoldable pub grant-of : List ℕ → List ℕ → List ℕ → Run → ℕ → After
-grant-of ws fs rs run n =
-    pick (leb (length fs) 256)
-    (pick (fitting ws fs (length rs) (run .constructs) (run .passes) (head-of run)) (after-steps (run .steps) (steps-of ws fs n (whole-of rs run))) (after run rs Answer.Unfit))
-    (after run rs Answer.LongFrame)
+grant-of ws fs rs run n = tries ws fs rs run (after run rs Answer.LongFrame) (after run rs Answer.Unfit) (after-steps (run .steps) (steps-of ws fs n (whole-of rs run)))
 
 -- this paper's number and count for each answer
 abbrev pub number-of : Answer → ℕ

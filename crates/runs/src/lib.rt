@@ -4,7 +4,7 @@ ghost use Prim.Native.Nat.{ℕ, _+_, _*_, _-_, _≤_, _<_};
 ghost use lib.Dec.{leb};
 ghost use lib.ListN.{length, getD};
 ghost use Rattle.acts.specs.Acts.{bits-of};
-ghost use Rattle.runs.specs.Runs.{entry-fits, entries-fit, fitting, PutTogether, after, grant-of, opened-run, closed-run};
+ghost use Rattle.runs.specs.Runs.{entry-fits, entries-fit, fitting, run-of, after, grant-of, opened-run, closed-run};
 use steps::Head;
 
 // The first of `count` pending entries stands last; what stands beyond them may be anything.
@@ -161,13 +161,12 @@ fn fits(
 // The run is put together after steps.
 fn put_together(
     head: Head,
-    before: u64,
     constructs: [u32; 256],
     passes: [u32; 256],
     values: [i64; 64],
+    taken: u64,
 ) -> Granted
-    requires { ⌜ before ≤ head .steps ⌝ }
-    ensures { λ r. ⌜ PutTogether before constructs passes values head (r .run) (r .answer) ⌝ }
+    ensures { λ r. ⌜ (r .run ≡ run-of head constructs passes values) × (r .answer ≡ Answer.Taken taken) ⌝ }
 {
     Granted {
         run: Run {
@@ -180,7 +179,7 @@ fn put_together(
             passes,
             values,
         },
-        answer: Answer::Taken(head.steps - before),
+        answer: Answer::Taken(taken),
     }
 }
 
@@ -217,7 +216,8 @@ pub fn advance(table: &[u32], frame: &[u8], reading: &mut [u32], run: Run, steps
             head,
             steps,
         );
-        return put_together(head, before, constructs, passes, values);
+        let taken = head.steps - before;
+        return put_together(head, constructs, passes, values, taken);
     }
     Granted {
         run,
