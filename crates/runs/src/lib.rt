@@ -216,7 +216,8 @@ pub fn advance(table: &[u32], frame: &[u8], reading: &mut [u32], run: Run, steps
             head,
             steps,
         );
-        let taken = head.steps - before;
+        let after = head.steps;
+        let taken = after - before;
         return put_together(head, constructs, passes, values, taken);
     }
     Granted {

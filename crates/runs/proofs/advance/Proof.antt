@@ -31,7 +31,7 @@ advance-requires c κs = let x = fitting-fits (c .before .before .before .before
 
 -- src/lib.rt:219:21
 sub-taken : tie.Need-sub-taken
-sub-taken c = let x : c .before .before .before .before .before .before .before .before .before .before .before .before .before .before .before .before .before .before .before .args .run .steps ≤ c .before .before .before .advance .result .steps = subst (λ (w : Whole). c .before .before .before .before .before .before .before .before .before .before .before .before .before .before .before .before .before .before .before .args .run .steps ≤ steps-in w) (sym (c .before .before .before .advance .ensures)) (steps-near (c .before .before .before .before .before .before .before .before .before .before .before .before .before .before .before .before .before .before .before .args .table .now) (c .before .before .before .before .before .before .before .before .before .before .before .before .before .before .before .before .before .before .before .args .frame .now) (c .before .before .before .before .before .before .before .before .before .before .before .before .before .before .before .before .before .before .before .args .steps) (whole-of (c .before .before .before .before .before .before .before .before .before .before .before .before .before .before .before .before .before .before .before .args .reading .now) (c .before .before .before .before .before .before .before .before .before .before .before .before .before .before .before .before .before .before .before .args .run)) .0) in omega arith
+sub-taken c = let x : c .before .before .before .before .before .before .before .before .before .before .before .before .before .before .before .before .before .before .args .run .steps ≤ c .before .before .advance .result .steps = subst (λ (w : Whole). c .before .before .before .before .before .before .before .before .before .before .before .before .before .before .before .before .before .before .args .run .steps ≤ steps-in w) (sym (c .before .before .advance .ensures)) (steps-near (c .before .before .before .before .before .before .before .before .before .before .before .before .before .before .before .before .before .before .args .table .now) (c .before .before .before .before .before .before .before .before .before .before .before .before .before .before .before .before .before .before .args .frame .now) (c .before .before .before .before .before .before .before .before .before .before .before .before .before .before .before .before .before .before .args .steps) (whole-of (c .before .before .before .before .before .before .before .before .before .before .before .before .before .before .before .before .before .before .args .reading .now) (c .before .before .before .before .before .before .before .before .before .before .before .before .before .before .before .before .before .before .args .run)) .0) in omega arith
 
 -- src/lib.rt:220:9
 put-together-requires : tie.Need-put-together-requires
@@ -44,7 +44,7 @@ same-length c = search needs
 -- src/lib.rt:220:9
 returns-2 : tie.Need-returns-2
 unfolding grant-of
-returns-2 c = simp (le-leb _ _ (c .before .before .before .before .before .before .before .before .before .before .before .before .before .before .before .before .if1 .left), ← (c .before .before .before .before .before .before .before .before .before .before .fits2 .ensures), c .before .before .before .before .before .before .before .before .before .if2 .taken) (same-parts _ (c .put-together .ensures .0) (c .put-together .ensures .1) ∙ ap (after-steps (c .before .before .before .before .before .before .before .before .before .before .before .before .before .before .before .before .before .before .before .before .args .run .steps)) (c .before .before .before .before .advance .ensures))
+returns-2 c = simp (le-leb _ _ (c .before .before .before .before .before .before .before .before .before .before .before .before .before .before .before .if1 .left), ← (c .before .before .before .before .before .before .before .before .before .fits2 .ensures), c .before .before .before .before .before .before .before .before .if2 .taken) (same-parts _ (c .put-together .ensures .0) (c .put-together .ensures .1) ∙ ap (after-steps (c .before .before .before .before .before .before .before .before .before .before .before .before .before .before .before .before .before .before .before .args .run .steps)) (c .before .before .before .advance .ensures))
 
 -- src/lib.rt:187:1
 returns-3 : tie.Need-returns-3
