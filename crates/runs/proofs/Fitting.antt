@@ -12,7 +12,7 @@ use lib.ListN.{length, getD}
 use Rattle.layout.specs.Constructs.{both}
 use Rattle.acts.specs.Acts.{bits-of}
 use Rattle.acts.proofs.Sizes.{both-true}
-use Rattle.steps.specs.Steps.{Whole, whole, Fits}
+use Rattle.steps.specs.Steps.{whole, Fits}
 use Rattle.steps.specs.declared.Head.{Head}
 use Rattle.runs.specs.Runs.{entry-fits, entries-fit, fitting}
 

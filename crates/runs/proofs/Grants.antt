@@ -1,8 +1,8 @@
 -- What is true of grants, for any words.
 -- Assumes nothing.
-use Prim.Native.Nat.{ℕ, zero, suc, _+_, _*_, _-_, _≤_, _<_}
+use Prim.Native.Nat.{ℕ, zero, suc, _+_, _*_, _-_, _≤_}
 use native.Mathlib.Omega.{arith}
-use borrow.Author.Tests.{leb-true, le-leb}
+use borrow.Author.Tests.{le-leb}
 use mathlib.Core.Path.{_≡_, refl, sym, ap, subst, _∙_}
 use mathlib.Core.Bool.{Bool, true, false}
 use mathlib.Core.List.{List}
@@ -10,7 +10,6 @@ use lib.Dec.{leb}
 use lib.ListN.{length}
 use Rattle.layout.specs.Constructs.{pick, both}
 use Rattle.acts.specs.Acts.{bits-of}
-use Rattle.acts.proofs.Sizes.{both-true}
 use Rattle.steps.specs.Steps.{Whole, whole, step-of, steps-of, Fits}
 use Rattle.steps.proofs.Running.{steps-stay, steps-none}
 use Rattle.runs.specs.Runs.{head-of, whole-of, entries-fit, fitting, refusal-of, After, after, run-in, reading-in, answer-in, after-steps, grant-of, number-of, taken-of, opened-run}

@@ -1,8 +1,8 @@
 use Rattle.runs.proofs.Taken.{steps-in, steps-near, same-parts}
 use Rattle.runs.proofs.Fitting.{fitting-fits}
 use Rattle.runs.specs.Runs.{head-of, whole-of, after-steps, grant-of}
-use Rattle.steps.specs.Steps.{Whole, whole, steps-of}
-use mathlib.Core.Path.{_≡_, refl, sym, ap, subst, _∙_}
+use Rattle.steps.specs.Steps.{Whole}
+use mathlib.Core.Path.{sym, ap, subst, _∙_}
 use borrow.Author.Tests.{le-leb, lt-leb}
 use native.Mathlib.Omega.{arith}
 use Prim.Native.Nat.{ℕ, _≤_}

@@ -1,6 +1,5 @@
 use lib.Dec.{ltb}
 use mathlib.Core.Path.{ap}
-use native.Mathlib.Omega.{arith}
 use borrow.Author.Tests.{lt-ltb, le-ltb, le-leb, lt-leb, eq-eqb, ne-eqb}
 use borrow.Author.Needs.{needs}
 use Rattle.runs.proofs.entry_fits.Statement.{statement}
