@@ -1,0 +1,4 @@
+-- What a sound table gives.
+pub mod StoredSets
+pub mod Placed
+pub mod Hypothesis
