@@ -2,3 +2,5 @@
 pub mod StoredSets
 pub mod Placed
 pub mod Hypothesis
+pub mod Reliability
+pub mod Trust
