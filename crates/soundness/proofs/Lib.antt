@@ -4,3 +4,6 @@ pub mod Placed
 pub mod Hypothesis
 pub mod Reliability
 pub mod Trust
+pub mod HeldLocal
+pub mod LaidLocal
+pub mod RulesLocal
