@@ -7,3 +7,4 @@ pub mod Trust
 pub mod HeldLocal
 pub mod LaidLocal
 pub mod RulesLocal
+pub mod PassedLocal
