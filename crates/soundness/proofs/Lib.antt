@@ -8,3 +8,4 @@ pub mod HeldLocal
 pub mod LaidLocal
 pub mod RulesLocal
 pub mod PassedLocal
+pub mod SameSets

@@ -65,7 +65,7 @@ module _ {ws : List ℕ} (s : Sound ws) where
   none-recursive : Acyclic ws
   none-recursive = s .passed .passed .passed .passed .acyclic
 
-  weighed : Weighs (held ws) (λ c i. weight-at ws i)
+  pub weighed : Weighs (held ws) (λ c i. weight-at ws i)
   weighed = weights-exist ws rules-lie none-recursive
 
   pub outweighs : Outweighs (held ws) (λ c i. weight-at ws i)
