@@ -105,29 +105,29 @@ module _ (ws fs : List ℕ) (vs : List ℤ) (p : ℕ) where
   turn-good n i k Counted.Malformed l = tt
   turn-good n i k Counted.Overflow l = tt
 
-  literal-good : (i n : ℕ) → Good (literal-act ws fs p i n)
-  literal-good i n =
+  literal-good : (i n : ℕ) → 1 ≤ n → Good (literal-act ws fs p i n)
+  literal-good i n some =
       picked (leb (p + 8 * n) (bits-of fs)) (pick (literal-holds ws fs p i 0 n) (Act.Take (8 * n) 0 0) Act.Fail) Act.Fail
-      (λ e. picked (literal-holds ws fs p i 0 n) (Act.Take (8 * n) 0 0) Act.Fail (λ h. (leb-true (p + 8 * n) (bits-of fs) e, omega arith, omega arith)) tt) tt
+      (λ e. picked (literal-holds ws fs p i 0 n) (Act.Take (8 * n) 0 0) Act.Fail (λ h. (leb-true (p + 8 * n) (bits-of fs) e, omega arith, omega arith, omega arith)) tt) tt
 
   range-good : (low high : ℕ) → Good (range-act fs p low high)
   range-good low high =
       let v = value (take 8 (drop p (frameBits fs))) in
       picked (leb (p + 8) (bits-of fs)) (pick (both (leb low v) (leb v high)) (Act.Take 8 0 0) Act.Fail) Act.Fail
-      (λ e. picked (both (leb low v) (leb v high)) (Act.Take 8 0 0) Act.Fail (λ h. (leb-true (p + 8) (bits-of fs) e, omega arith, omega arith)) tt) tt
+      (λ e. picked (both (leb low v) (leb v high)) (Act.Take 8 0 0) Act.Fail (λ h. (leb-true (p + 8) (bits-of fs) e, omega arith, omega arith, omega arith)) tt) tt
 
-  set-good : (t : Tested) (width binder n : ℕ) → p + width ≤ bits-of fs → binder ≤ 64 → n < 4294967296 → Good (by-set t width binder n)
-  set-good Tested.Yes width binder n a b c = (a, b, c)
-  set-good Tested.No width binder n a b c = tt
-  set-good Tested.Malformed width binder n a b c = tt
-  set-good Tested.Overflow width binder n a b c = tt
+  set-good : (t : Tested) (width binder n : ℕ) → p + width ≤ bits-of fs → binder ≤ 64 → n < 4294967296 → 1 ≤ width → Good (by-set t width binder n)
+  set-good Tested.Yes width binder n a b c d = (a, b, c, d)
+  set-good Tested.No width binder n a b c d = tt
+  set-good Tested.Malformed width binder n a b c d = tt
+  set-good Tested.Overflow width binder n a b c d = tt
 
-  uint-good : (width start end binder : ℕ) → width ≤ 32 → binder ≤ 64 → Good (uint-act ws fs vs p width start end binder)
-  uint-good width start end binder l m =
+  uint-good : (width start end binder : ℕ) → width ≤ 32 → binder ≤ 64 → 1 ≤ width → Good (uint-act ws fs vs p width start end binder)
+  uint-good width start end binder l m some =
       let v = value (take width (drop p (frameBits fs))) in
       let small : v < 4294967296 = (let a = value-take-less width (drop p (frameBits fs)) in let z : 2 ^ width ≤ 2 ^ 32 = pow-mono {j = 32} l in omega arith) in
       picked (leb (p + width) (bits-of fs)) (by-set (membership vs (pos v) start (terms-of ws start end)) width binder v) Act.Fail
-      (λ e. set-good (membership vs (pos v) start (terms-of ws start end)) width binder v (leb-true (p + width) (bits-of fs) e) m small) tt
+      (λ e. set-good (membership vs (pos v) start (terms-of ws start end)) width binder v (leb-true (p + width) (bits-of fs) e) m small some) tt
 
   construct-good : (i k : ℕ) (c : Construct) → Fine i c → Good (construct-act ws fs vs p i k c)
   construct-good i k Construct.Missing f = tt
@@ -136,9 +136,9 @@ module _ (ws fs : List ℕ) (vs : List ℤ) (p : ℕ) where
   construct-good i k (Construct.Repetition size passes) f = turn-good (ahead-at fs p) i k (counted ws vs passes) f
   construct-good i k (Construct.Switch size) f = case-good (i + 1) (i + size) f
   construct-good i k (Construct.Use rule) f = enter-good (rule-word ws rule 0)
-  construct-good i k (Construct.Literal n) f = literal-good i n
+  construct-good i k (Construct.Literal n) f = literal-good i n (f .1)
   construct-good i k (Construct.Range low high) f = range-good low high
-  construct-good i k (Construct.Uint width start end binder) f = uint-good width start end binder (f .0) (f .1)
+  construct-good i k (Construct.Uint width start end binder) f = uint-good width start end binder (f .0) (f .1) (f .2)
   construct-good i k Construct.Eod f = picked (eqb p (bits-of fs)) Act.Leave Act.Fail (λ e. tt) tt
 
   pub doable : (i k : ℕ) → Good (actOf ws fs vs p i k)

@@ -57,13 +57,13 @@ uint-good i a b c d =
     let x = both-true (both (leb 1 a) (leb a 32)) (both (listed b c) (leb d 64)) e in
     let y = both-true (leb 1 a) (leb a 32) (x .0) in
     let z = both-true (listed b c) (leb d 64) (x .1) in
-    record { fine = (leb-true a 32 (y .1), leb-true d 64 (z .1)); small = omega arith })
+    record { fine = (leb-true a 32 (y .1), leb-true d 64 (z .1), leb-true 1 a (y .0)); small = omega arith })
 
 leaf-good : (i kind a b c d : ℕ) → Good i (leafOf kind a b c d)
 leaf-good i kind a b c d =
     picked i (eqb kind 5) (pick (ltb a 64) (Construct.Use a) Construct.Missing) _ (λ x. or-missing i (ltb a 64) (Construct.Use a) (λ e. record { fine = ltb-true a 64 e; small = omega arith }))
     (picked i (eqb kind 6) (literalOf a) _
-    (λ x. or-missing i (both (leb 1 a) (leb a 32)) (Construct.Literal a) (λ e. record { fine = leb-true a 32 (both-true (leb 1 a) (leb a 32) e .1); small = omega arith }))
+    (λ x. or-missing i (both (leb 1 a) (leb a 32)) (Construct.Literal a) (λ e. let y = both-true (leb 1 a) (leb a 32) e in record { fine = (leb-true a 32 (y .1), leb-true 1 a (y .0)); small = omega arith }))
     (picked i (eqb kind 7) (rangeOf a b) _ (λ x. or-missing i (both (ltb a 128) (ltb b 128)) (Construct.Range a b) (λ e. record { fine = tt; small = omega arith }))
     (picked i (eqb kind 8) (uintOf a b c d) _ (λ x. uint-good i a b c d) (or-missing i (eqb kind 9) Construct.Eod (λ e. record { fine = tt; small = omega arith })))))
 

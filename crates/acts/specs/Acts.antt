@@ -146,9 +146,9 @@ Fine i (Construct.Concatenation size) = i + size ≤ 256
 Fine i (Construct.Repetition size passes) = i < 255
 Fine i (Construct.Switch size) = i + size ≤ 256
 Fine i (Construct.Use rule) = rule < 64
-Fine i (Construct.Literal n) = n ≤ 32
+Fine i (Construct.Literal n) = (n ≤ 32) × (1 ≤ n)
 Fine i (Construct.Range low high) = Unit {0}
-Fine i (Construct.Uint width start end binder) = (width ≤ 32) × (binder ≤ 64)
+Fine i (Construct.Uint width start end binder) = (width ≤ 32) × (binder ≤ 64) × (1 ≤ width)
 Fine i Construct.Eod = Unit {0}
 
 abbrev pub construct-act : List ℕ → List ℕ → List ℤ → ℕ → ℕ → ℕ → Construct → Act
@@ -175,4 +175,4 @@ Doable fs p (Act.Enter b) = b < 256
 Doable fs p (Act.Members start end n) = (end ≤ 256) × (n ≤ 256)
 Doable fs p (Act.Again b) = b < 256
 Doable fs p Act.Leave = Unit {0}
-Doable fs p (Act.Take width binder n) = (p + width ≤ bits-of fs) × (binder ≤ 64) × (n < 4294967296)
+Doable fs p (Act.Take width binder n) = (p + width ≤ bits-of fs) × (binder ≤ 64) × (n < 4294967296) × (1 ≤ width)

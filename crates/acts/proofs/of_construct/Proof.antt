@@ -96,7 +96,7 @@ enum-known-construct-6 c = search needs
 
 -- src/lib.rt:368:42
 literal-requires : tie.Need-literal-requires
-literal-requires c κs = (omega arith, omega arith, omega arith, subst (Fine (c .before .before .before .before .before .args .i)) (c .before .construct6 .given .1) (c .before .before .before .before .before .pre .4))
+literal-requires c κs = (omega arith, omega arith, omega arith, subst (Fine (c .before .before .before .before .before .args .i)) (c .before .construct6 .given .1) (c .before .before .before .before .before .pre .4) .0)
 
 -- src/lib.rt:369:28
 enum-known-construct-7 : tie.Need-enum-known-construct-7

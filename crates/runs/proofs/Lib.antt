@@ -1,0 +1,6 @@
+-- Laws of what 24 asks, and of grants.
+pub mod Fitting
+pub mod Ways
+pub mod Taken
+pub mod Kept
+pub mod Grants
