@@ -1,0 +1,97 @@
+-- Words that pass, with their sets and weight written in, are a sound table of the same grammar.
+-- Assumes nothing.
+use Prim.Native.Nat.{ℕ, _+_, _*_, _≤_, _<_}
+use mathlib.Core.Path.{_≡_, refl, sym, subst, ap, _∙_}
+use mathlib.Core.Logic.{_⊎_, inl, inr}
+use mathlib.Core.List.{List}
+use native.Mathlib.Omega.{arith}
+use lib.ListN.{length, getD, set, length-set}
+use lib.Seq.{getD-set-same, getD-set-other}
+use Rattle.basis.specs.Bits.{Bits}
+use Rattle.lookahead.specs.Sets.{Is}
+use Rattle.lookahead_slices.specs.Family.{part}
+use Rattle.lookahead_slices.specs.Narrow.{StandsAt}
+use Rattle.theory.specs.Lookahead.{Follow, Predicted}
+use Rattle.theory.specs.Weight.{Weighs, weigh}
+use Rattle.layout.specs.Places.{word, table-words, sets-at, construct-count, weight-of}
+use Rattle.layout.specs.Held.{held, opening, use-node}
+use Rattle.acts.specs.Stored.{prediction-at, follow-at}
+use Rattle.structure.proofs.Facts.{Laid, facts}
+use Rattle.scoping.proofs.RuledLaw.{ruled}
+use Rattle.weights.proofs.Heights.{weight-at}
+use Rattle.weights.proofs.Theorems.{weights-exist}
+use Rattle.sets.specs.Sets.{FollowSets, PredictionSets}
+use Rattle.sets.proofs.HeldLaws.{node-opening}
+use Rattle.table.specs.Judged.{Weighing, Passed7, Judged}
+use Rattle.table.specs.Sound.{Stands, Sound}
+use Rattle.table.specs.declared.Judgement.{Judgement}
+use Rattle.soundness.specs.OneTable.{Alike, Ended}
+use Rattle.soundness.proofs.RulesLocal.{ended-of}
+use Rattle.soundness.proofs.PassedLocal.{sound-local}
+use Rattle.completion.specs.Completed.{SetsWritten}
+
+-- "grammar, as a use of its start rule": a weight is at least 1
+use-weighs : (ws : List ℕ) (w : Unit {0} → ℕ → ℕ) → 1 ≤ weigh w tt (use-node ws 0)
+unfolding weigh
+use-weighs ws w = omega arith
+
+weighs-some : (ws : List ℕ) (w : Unit {0} → ℕ → ℕ) → Weighs (held ws) w → 1 ≤ w tt opening
+weighs-some ws w k = let e : w tt opening ≡ weigh w tt (use-node ws 0) = k tt opening ∙ ap (weigh w tt) (node-opening ws opening refl) in omega (arith, e, use-weighs ws w)
+
+module _ (ws middle last follow prediction : List ℕ) (weight : ℕ) (long : length ws ≡ table-words) (j : Judged ws (Judgement.Passes weight)) (fs : FollowSets ws follow) (ps : PredictionSets ws prediction)
+    (w : SetsWritten ws middle follow prediction (construct-count ws)) (e : last ≡ set middle 5 weight) where
+  passed7 : Passed7 ws
+  passed7 = j .0 .passed .passed .passed
+
+  laid-words : Laid ws
+  laid-words = facts ws (passed7 .laid-out)
+
+  some-weight : 1 ≤ weight
+  some-weight =
+      let f : Unit {0} → ℕ → ℕ = λ c i. weight-at ws i in
+      let k : Weighs (held ws) f = weights-exist ws (ruled ws (passed7 .laid-out)) (passed7 .acyclic) in
+      let q : f tt opening ≡ weight = j .1 f k in
+      omega (arith, weighs-some ws f k, q)
+
+  last-long : length last ≡ table-words
+  last-long = ap length e ∙ length-set middle 5 weight ∙ w .same-length ∙ long
+
+  untouched : (k : ℕ) → (k ≡ 5 → ⊥) → getD last k 0 ≡ getD middle k 0
+  untouched k n = ap (λ (x : List ℕ). getD x k 0) e ∙ getD-set-other middle 5 k weight 0 n
+
+  pub alike : Alike ws last
+  alike = record { long = omega (arith, long); long′ = omega (arith, last-long); same = λ k h n. sym (untouched k n ∙ w .others k (inl h)) }
+
+  stored-weight : weight-of last ≡ weight
+  stored-weight = ap (λ (x : List ℕ). getD x 5 0) e ∙ getD-set-same middle 5 weight 0 (omega (arith, w .same-length, long))
+
+  count-kept : construct-count last ≡ construct-count ws
+  count-kept = sym (alike .same 2 (omega arith) (λ z. omega arith))
+
+  ended : Ended last
+  ended =
+      let before : Ended ws = ended-of laid-words in
+      record {
+        long = omega (arith, last-long);
+        some-weight = omega (arith, stored-weight, some-weight);
+        weight = omega (arith, stored-weight, j .2);
+        zeros = λ k h l. untouched k (λ z. omega arith) ∙ w .others k (inr (omega (arith, count-kept))) ∙ before .zeros k (omega (arith, count-kept)) l;
+      }
+
+  moved : (at : ℕ) (set : List ℕ) → 6 ≤ at → StandsAt middle at set → StandsAt last at set
+  moved at set h s k l = untouched (at + k) (λ z. omega arith) ∙ s k l
+
+  -- a set that stands in the written words is that of the grammar
+  stand : (at : ℕ) (A : Bits → Type 0) (set : List ℕ) → 6 ≤ at → Is set A → StandsAt middle at set → Stands last at A
+  stand at A set h i s = record { set = set; is = i; there = moved at set h s }
+
+  pub completed : Sound last × Alike ws last
+  completed = (
+    sound-local alike ended (j .0) (λ f k. j .1 f k ∙ sym stored-weight)
+        (λ i h.
+        let small : i < 257 = omega (arith, laid-words .counts .constructs) in (
+          stand (prediction-at i) (Predicted (held ws) i) (part i prediction) (omega arith) (ps i small) (w .prediction-stands i h),
+          stand (follow-at i) (Follow (held ws) i) (part i follow) (omega arith) (fs i small) (w .follow-stands i h),
+        )),
+    alike,
+  )
