@@ -144,3 +144,93 @@ pub fn k10(table: &mut [u32; 16384]) {
     term(table, 6, 14, 0);
     term(table, 7, 7, 0);
 }
+
+// `frame = ("A"?)*;`
+pub fn k8(table: &mut [u32; 16384]) {
+    header(table, 3, 0, 0, 8);
+    construct(table, 0, 3, 3);
+    operands(table, 0, 2, 0, 0, 0);
+    construct(table, 1, 3, 2);
+    operands(table, 1, 1, 0, 0, 0);
+    construct(table, 2, 6, 1);
+    operands(table, 2, 1, 0, 0, 0);
+    bytes(table, 2, 65);
+}
+
+// `a = "x" & b; b = a;`
+pub fn k11(table: &mut [u32; 16384]) {
+    header(table, 4, 0, 0, 1);
+    put(table, 1, 2);
+    put(table, 68, 3);
+    construct(table, 0, 2, 3);
+    construct(table, 1, 6, 1);
+    operands(table, 1, 1, 0, 0, 0);
+    bytes(table, 1, 120);
+    construct(table, 2, 5, 1);
+    operands(table, 2, 1, 0, 0, 0);
+    construct(table, 3, 5, 1);
+}
+
+// `frame = uint(8, 4294967295 * 4294967295);`
+pub fn large(table: &mut [u32; 16384]) {
+    header(table, 1, 0, 3, 2);
+    construct(table, 0, 8, 1);
+    operands(table, 0, 8, 0, 3, 0);
+    term(table, 0, 1, 4294967295);
+    term(table, 1, 1, 4294967295);
+    term(table, 2, 37, 0);
+}
+
+// `frame = uint(4, ~){1~} & "A"?;`: the repetition cannot tell whether to go on.
+pub fn unclear(table: &mut [u32; 16384]) {
+    header(table, 5, 0, 3, 8);
+    construct(table, 0, 2, 5);
+    construct(table, 1, 3, 2);
+    operands(table, 1, 4, 0, 2, 0);
+    construct(table, 2, 8, 1);
+    operands(table, 2, 4, 2, 3, 0);
+    construct(table, 3, 3, 2);
+    operands(table, 3, 1, 0, 0, 0);
+    construct(table, 4, 6, 1);
+    operands(table, 4, 1, 0, 0, 0);
+    bytes(table, 4, 65);
+    term(table, 0, 1, 1);
+    term(table, 1, 9, 0);
+    term(table, 2, 7, 0);
+}
+
+// Rule r is two uses of rule r + 1.
+fn twice(table: &mut [u32; 16384], r: u8) {
+    if r < 80 {
+        let i = 3 * r;
+        put(table, 64 + 4 * (r as usize), i as u32);
+        construct(table, i, 2, 3);
+        construct(table, i + 1, 5, 1);
+        operands(table, i + 1, r as u32 + 1, 0, 0, 0);
+        construct(table, i + 2, 5, 1);
+        operands(table, i + 2, r as u32 + 1, 0, 0, 0);
+    }
+}
+
+fn four_times(table: &mut [u32; 16384], r: u8) {
+    if r < 80 {
+        twice(table, r);
+        twice(table, r + 1);
+        twice(table, r + 2);
+        twice(table, r + 3);
+    }
+}
+
+// 17 rules, each but the last two uses of the next; the last is `"A"`.
+pub fn heavy(table: &mut [u32; 16384]) {
+    header(table, 49, 0, 0, 1);
+    put(table, 1, 17);
+    four_times(table, 0);
+    four_times(table, 4);
+    four_times(table, 8);
+    four_times(table, 12);
+    put(table, 128, 48);
+    construct(table, 48, 6, 1);
+    operands(table, 48, 1, 0, 0, 0);
+    bytes(table, 48, 65);
+}

@@ -38,7 +38,7 @@ use-weighs ws w = omega arith
 weighs-some : (ws : List ℕ) (w : Unit {0} → ℕ → ℕ) → Weighs (held ws) w → 1 ≤ w tt opening
 weighs-some ws w k = let e : w tt opening ≡ weigh w tt (use-node ws 0) = k tt opening ∙ ap (weigh w tt) (node-opening ws opening refl) in omega (arith, e, use-weighs ws w)
 
-module _ (ws middle last follow prediction : List ℕ) (weight : ℕ) (long : length ws ≡ table-words) (j : Judged ws (Judgement.Passes weight)) (fs : FollowSets ws follow) (ps : PredictionSets ws prediction)
+module _ (ws middle last follow prediction : List ℕ) (weight : ℕ) (j : Judged ws (Judgement.Passes weight)) (fs : FollowSets ws follow) (ps : PredictionSets ws prediction)
     (w : SetsWritten ws middle follow prediction (construct-count ws)) (e : last ≡ set middle 5 weight) where
   passed7 : Passed7 ws
   passed7 = j .0 .passed .passed .passed
@@ -53,17 +53,17 @@ module _ (ws middle last follow prediction : List ℕ) (weight : ℕ) (long : le
       let q : f tt opening ≡ weight = j .1 f k in
       omega (arith, weighs-some ws f k, q)
 
-  last-long : length last ≡ table-words
-  last-long = ap length e ∙ length-set middle 5 weight ∙ w .same-length ∙ long
+  last-long : length last ≡ length ws
+  last-long = ap length e ∙ length-set middle 5 weight ∙ w .same-length
 
   untouched : (k : ℕ) → (k ≡ 5 → ⊥) → getD last k 0 ≡ getD middle k 0
   untouched k n = ap (λ (x : List ℕ). getD x k 0) e ∙ getD-set-other middle 5 k weight 0 n
 
   pub alike : Alike ws last
-  alike = record { long = omega (arith, long); long′ = omega (arith, last-long); same = λ k h n. sym (untouched k n ∙ w .others k (inl h)) }
+  alike = record { long = omega (arith, laid-words .long); long′ = omega (arith, last-long, laid-words .long); same = λ k h n. sym (untouched k n ∙ w .others k (inl h)) }
 
   stored-weight : weight-of last ≡ weight
-  stored-weight = ap (λ (x : List ℕ). getD x 5 0) e ∙ getD-set-same middle 5 weight 0 (omega (arith, w .same-length, long))
+  stored-weight = ap (λ (x : List ℕ). getD x 5 0) e ∙ getD-set-same middle 5 weight 0 (omega (arith, w .same-length, laid-words .long))
 
   count-kept : construct-count last ≡ construct-count ws
   count-kept = sym (alike .same 2 (omega arith) (λ z. omega arith))
@@ -72,7 +72,7 @@ module _ (ws middle last follow prediction : List ℕ) (weight : ℕ) (long : le
   ended =
       let before : Ended ws = ended-of laid-words in
       record {
-        long = omega (arith, last-long);
+        long = omega (arith, last-long, laid-words .long);
         some-weight = omega (arith, stored-weight, some-weight);
         weight = omega (arith, stored-weight, j .2);
         zeros = λ k h l. untouched k (λ z. omega arith) ∙ w .others k (inr (omega (arith, count-kept))) ∙ before .zeros k (omega (arith, count-kept)) l;

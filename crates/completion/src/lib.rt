@@ -12,7 +12,7 @@ use table::Judgement;
 
 // The two sets of the first `count` constructs.
 fn write_sets(table: &mut [u32], follow: &[u64], prediction: &[u64], count: usize)
-    requires { ⌜ (length (now table) ≡ table-words) × (length (now follow) ≡ 2056) × (length (now prediction) ≡ 2056) × (count ≤ 256) ⌝ }
+    requires { ⌜ (table-words ≤ length (now table)) × (length (now follow) ≡ 2056) × (length (now prediction) ≡ 2056) × (count ≤ 256) ⌝ }
     ensures { λ r. ⌜ SetsWritten (now (table .entry)) (now (table .exit)) (now (follow .entry)) (now (prediction .entry)) count ⌝ }
 {
     let mut i = 0;
@@ -24,15 +24,14 @@ fn write_sets(table: &mut [u32], follow: &[u64], prediction: &[u64], count: usiz
 }
 
 fn write_weight(table: &mut [u32], weight: usize)
-    requires { ⌜ (length (now table) ≡ table-words) × (weight ≤ 65535) ⌝ }
+    requires { ⌜ (table-words ≤ length (now table)) × (weight ≤ 65535) ⌝ }
     ensures { λ r. ⌜ now (table .exit) ≡ set (now (table .entry)) 5 weight ⌝ }
 {
     table[5] = weight as u32;
 }
 
-// Judges words and completes those that pass. The weight's word and the sets' words may hold anything that is laid out.
+// Judges any words and completes those that pass. The weight's word and the sets' words may hold anything that is laid out.
 pub fn complete(table: &mut [u32]) -> Judgement
-    requires { ⌜ length (now table) ≡ table-words ⌝ }
     ensures { λ r. ⌜ Judged (now (table .entry)) r ⌝ }
     ensures { λ r. ⌜ Completed (now (table .entry)) (now (table .exit)) r ⌝ }
 {

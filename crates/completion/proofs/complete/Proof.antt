@@ -52,10 +52,10 @@ slice-aggregate-write-sets-2 : tie.Need-slice-aggregate-write-sets-2
 slice-aggregate-write-sets-2 c = search needs
 
 write-sets-requires : tie.Need-write-sets-requires
-write-sets-requires c κs = let s = c .before .before .before .before .before .before .before .before .before .before .before .before .before .before .before .before .before in let ws = s .args .table .now in let j = c .before .before .before .before .before .before .before .before .before .before .before .judge-into in let q = subst (Judged ws) (c .before .before .before .before .before .before .weight .given .1) (j .ensures .0) in (s .pre, j .kept .1 .1 .0, j .kept .1 .1 .1 .0, omega (arith, c .before .before .before .word .ensures .0, facts ws (q .0 .passed .passed .passed .laid-out) .counts .constructs))
+write-sets-requires c κs = let s = c .before .before .before .before .before .before .before .before .before .before .before .before .before .before .before .before .before in let ws = s .args .table .now in let j = c .before .before .before .before .before .before .before .before .before .before .before .judge-into in let q = subst (Judged ws) (c .before .before .before .before .before .before .weight .given .1) (j .ensures .0) in (facts ws (q .0 .passed .passed .passed .laid-out) .long, j .kept .1 .1 .0, j .kept .1 .1 .1 .0, omega (arith, c .before .before .before .word .ensures .0, facts ws (q .0 .passed .passed .passed .laid-out) .counts .constructs))
 
 write-weight-requires : tie.Need-write-weight-requires
-write-weight-requires c κs = let s = c .before .before .before .before .before .before .before .before .before .before .before .before .before .before .before .before .before .before .before .before .before in let ws = s .args .table .now in let j = c .before .before .before .before .before .before .before .before .before .before .before .before .before .before .before .judge-into in let q = subst (Judged ws) (c .before .before .before .before .before .before .before .before .before .before .weight .given .1) (j .ensures .0) in (c .before .before .before .write-sets .kept .0 ∙ s .pre, q .2)
+write-weight-requires c κs = let s = c .before .before .before .before .before .before .before .before .before .before .before .before .before .before .before .before .before .before .before .before .before in let ws = s .args .table .now in let j = c .before .before .before .before .before .before .before .before .before .before .before .before .before .before .before .judge-into in let q = subst (Judged ws) (c .before .before .before .before .before .before .before .before .before .before .weight .given .1) (j .ensures .0) in (omega (arith, c .before .before .before .write-sets .kept .0, facts ws (q .0 .passed .passed .passed .laid-out) .long), q .2)
 
 same-length : tie.Need-same-length
 same-length c = search needs
@@ -97,7 +97,7 @@ same-length-7 : tie.Need-same-length-7
 same-length-7 c = search needs
 
 returns-7 : tie.Need-returns-7
-returns-7 c = let s = c .before .before .before .before .before .before .before .before .before .before .before .before .before .before .before .before .before .before .before .before .before .before .before .before in let ws = s .args .table .now in let j = c .before .before .before .before .before .before .before .before .before .before .before .before .before .before .before .before .before .before .judge-into in let t = c .before .before .before .before .before .before .before .before .before .before .before .before .before .weight .given .1 in let q = subst (Judged ws) t (j .ensures .0) in let k = subst (Computed ws (j .last .1 .1 .0) (j .last .1 .1 .1 .0)) t (j .ensures .1) in let p = c .before .before .before .before .before .before .write-sets in (q, completed ws (p .last .0) (c .before .before .write-weight .last .0) (j .last .1 .1 .0) (j .last .1 .1 .1 .0) _ (s .pre) q (k .0) (k .1) (subst (SetsWritten ws (p .last .0) (j .last .1 .1 .0) (j .last .1 .1 .1 .0)) (c .before .before .before .before .before .before .before .before .before .before .word .ensures .0) (p .ensures)) (c .before .before .write-weight .ensures))
+returns-7 c = let s = c .before .before .before .before .before .before .before .before .before .before .before .before .before .before .before .before .before .before .before .before .before .before .before .before in let ws = s .args .table .now in let j = c .before .before .before .before .before .before .before .before .before .before .before .before .before .before .before .before .before .before .judge-into in let t = c .before .before .before .before .before .before .before .before .before .before .before .before .before .weight .given .1 in let q = subst (Judged ws) t (j .ensures .0) in let k = subst (Computed ws (j .last .1 .1 .0) (j .last .1 .1 .1 .0)) t (j .ensures .1) in let p = c .before .before .before .before .before .before .write-sets in (q, completed ws (p .last .0) (c .before .before .write-weight .last .0) (j .last .1 .1 .0) (j .last .1 .1 .1 .0) _ q (k .0) (k .1) (subst (SetsWritten ws (p .last .0) (j .last .1 .1 .0) (j .last .1 .1 .1 .0)) (c .before .before .before .before .before .before .before .before .before .before .word .ensures .0) (p .ensures)) (c .before .before .write-weight .ensures))
 
 pub complete-spec : {M : Type 1} → statement M
 complete-spec =
