@@ -2,4 +2,3 @@
 pub mod Found
 pub mod Gapped
 pub mod Digits
-pub mod Reaches

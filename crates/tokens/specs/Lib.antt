@@ -1,4 +1,3 @@
 pub mod Numbers
-pub mod Literals
 pub mod Names
 pub mod Tokens

@@ -9,9 +9,9 @@ use Rattle.text.specs.Bytes.{is-letter, is-digit, is-separator}
 use Rattle.text.specs.Spans.{span-end}
 use Rattle.text.specs.declared.Class.{Class}
 use Rattle.tokens.specs.Numbers.{number-end-of}
-use Rattle.tokens.specs.Literals.{is-quote, literal-at, is-right}
+use Rattle.literals.specs.Literals.{is-quote, literal-at, is-right}
 use Rattle.tokens.specs.declared.Kind.{Kind}
-use Rattle.tokens.specs.declared.Reach.{Reach}
+use Rattle.literals.specs.declared.Extent.{Extent}
 use Rattle.tokens.specs.declared.Token.{Token}
 
 -- ---- "space, tab, CR and LF only separate tokens, and `#` runs a comment to the line's end"

@@ -1,6 +1,5 @@
 // Tokens of a grammar's rules. Nothing is stored: a token is found at a place.
 pub mod gaps;
-pub mod literals;
 pub mod names;
 pub mod numbers;
 pub mod tokens;
@@ -45,28 +44,4 @@ pub struct Token {
     pub start: usize,
     pub end: usize,
     pub kind: Kind,
-}
-
-// How far a literal is read.
-pub enum Part {
-    // the opening quote
-    Start,
-    // a backslash
-    Escape,
-    // `\[`
-    Bracket,
-    // `\[` and digits of this value
-    Digits(u8),
-    // a whole character
-    Character(u8),
-    // the closing quote
-    Closed,
-    Wrong,
-}
-
-// Where reading a literal ends, in which part, after how many characters.
-pub struct Reach {
-    pub part: Part,
-    pub count: usize,
-    pub end: usize,
 }

@@ -2,9 +2,10 @@
 use crate::Kind;
 use crate::Token;
 use crate::gaps::gap;
-use crate::literals::literal_token;
-use crate::literals::quote;
 use crate::numbers::number_end;
+use literals::quote;
+use literals::reach;
+use literals::right;
 use text::Class;
 use text::bytes::both;
 use text::bytes::digit;
@@ -15,7 +16,7 @@ use text::spans::span;
 ghost use mathlib.Core.Path.{_≡_};
 ghost use Prim.Native.Nat.{_<_};
 ghost use lib.ListN.{length};
-ghost use Rattle.tokens.specs.Tokens.{is-pair, pair-of, sign-of, name-token, number-token, sign-token, token-begun, token-of};
+ghost use Rattle.tokens.specs.Tokens.{is-pair, pair-of, sign-of, name-token, number-token, literal-token as literal-token-of, sign-token, token-begun, token-of};
 
 fn pair(b: u8, c: u8) -> bool
     ensures { λ r. ⌜ r ≡ is-pair b c ⌝ }
@@ -87,6 +88,26 @@ fn number(text: &[u8], at: usize) -> Token
         start: at,
         end: number_end(text, at),
         kind: Kind::Number,
+    }
+}
+
+fn literal_token(text: &[u8], at: usize) -> Token
+    requires { ⌜ at < length (now text) ⌝ }
+    ensures { λ r. ⌜ r ≡ literal-token-of (now (text .entry)) at ⌝ }
+{
+    let r = reach(text, at);
+    let end = r.end;
+    if right(r) {
+        return Token {
+            start: at,
+            end,
+            kind: Kind::Literal,
+        };
+    }
+    Token {
+        start: at,
+        end,
+        kind: Kind::Fault,
     }
 }
 

@@ -3,7 +3,7 @@ use mathlib.Core.Path.{_≡_, refl, sym, ap, ap₂, _∙_}
 use mathlib.Core.Bool.{true, false}
 use lib.ListN.{getD}
 use Rattle.text.specs.Bytes.{is-letter, is-digit}
-use Rattle.tokens.specs.Literals.{is-quote}
+use Rattle.literals.specs.Literals.{is-quote}
 use Rattle.tokens.specs.Tokens.{token-begun}
 use Rattle.tokens.proofs.tokens.begun.Statement.{statement}
 use Rattle.tokens.proofs.tokens.begun.Tie as tie
