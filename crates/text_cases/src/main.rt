@@ -61,38 +61,61 @@ fn name(rules: &[u8], start: usize, end: usize) {
     }
 }
 
+// A sign's byte, with 128 more where `=` follows; other kinds below 32.
+fn code(kind: Kind) -> u8 {
+    match kind {
+        Kind::Name => 0,
+        Kind::Number => 1,
+        Kind::Literal => 2,
+        Kind::Fault => 3,
+        Kind::End => 4,
+        Kind::Unequal => 161,
+        Kind::AtMost => 188,
+        Kind::AtLeast => 190,
+        Kind::Equal => 61,
+        Kind::Semicolon => 59,
+        Kind::Bar => 124,
+        Kind::Ampersand => 38,
+        Kind::OpenParen => 40,
+        Kind::CloseParen => 41,
+        Kind::OpenBracket => 91,
+        Kind::CloseBracket => 93,
+        Kind::OpenBrace => 123,
+        Kind::CloseBrace => 125,
+        Kind::Question => 63,
+        Kind::Star => 42,
+        Kind::Plus => 43,
+        Kind::Minus => 45,
+        Kind::Tilde => 126,
+        Kind::Bang => 33,
+        Kind::Comma => 44,
+        Kind::Colon => 58,
+        Kind::Less => 60,
+        Kind::Greater => 62,
+    }
+}
+
+fn sign(code: u8) {
+    if code < 128 {
+        let one = [code];
+        text(&one);
+    } else {
+        let one = [code - 128];
+        text(&one);
+        text(b"=");
+    }
+}
+
 fn described(rules: &[u8], token: Token) {
     let start = token.start;
     let kind = token.kind;
-    match kind {
-        Kind::Name => name(rules, start, token.end),
-        Kind::Number => number(rules, start),
-        Kind::Literal => literal(rules, start),
-        Kind::Equal => text(b"="),
-        Kind::Semicolon => text(b";"),
-        Kind::Bar => text(b"|"),
-        Kind::Ampersand => text(b"&"),
-        Kind::OpenParen => text(b"("),
-        Kind::CloseParen => text(b")"),
-        Kind::OpenBracket => text(b"["),
-        Kind::CloseBracket => text(b"]"),
-        Kind::OpenBrace => text(b"{"),
-        Kind::CloseBrace => text(b"}"),
-        Kind::Question => text(b"?"),
-        Kind::Star => text(b"*"),
-        Kind::Plus => text(b"+"),
-        Kind::Minus => text(b"-"),
-        Kind::Tilde => text(b"~"),
-        Kind::Bang => text(b"!"),
-        Kind::Comma => text(b","),
-        Kind::Colon => text(b":"),
-        Kind::Less => text(b"<"),
-        Kind::Greater => text(b">"),
-        Kind::Unequal => text(b"!="),
-        Kind::AtMost => text(b"<="),
-        Kind::AtLeast => text(b">="),
-        Kind::Fault => text(b"fault"),
-        Kind::End => text(b"end"),
+    match code(kind) {
+        0 => name(rules, start, token.end),
+        1 => number(rules, start),
+        2 => literal(rules, start),
+        3 => text(b"fault"),
+        4 => text(b"end"),
+        other => sign(other),
     }
 }
 
@@ -134,32 +157,41 @@ fn headers_a() {
         b"two blanks, the second is the name",
         b"dogma_v1 utf-8\n-  =b\n\n",
     );
+}
+
+fn headers_b() {
     headed(b"the value holds =", b"dogma_v1 utf-8\n- a=b=c\n\n");
     headed(b"the value is one blank", b"dogma_v1 utf-8\n- a= \n\n");
     headed(b"no name", b"dogma_v1 utf-8\n- =b\n\n");
     headed(b"no blank after -", b"dogma_v1 utf-8\n-a=b\n\n");
     headed(b"no value", b"dogma_v1 utf-8\n- a=\n\n");
-    headed(b"no =", b"dogma_v1 utf-8\n- a\n\n");
-    headed(b"a blank after utf-8", b"dogma_v1 utf-8 \n\n");
 }
 
-fn headers_b() {
+fn headers_c() {
+    headed(b"no =", b"dogma_v1 utf-8\n- a\n\n");
+    headed(b"a blank after utf-8", b"dogma_v1 utf-8 \n\n");
     headed(b"a blank before dogma_v1", b" dogma_v1 utf-8\n\n");
     headed(b"a byte order mark", b"\xef\xbb\xbfdogma_v1 utf-8\n\n");
     headed(b"another case of dogma_v1", b"Dogma_v1 utf-8\n\n");
+}
+
+fn headers_d() {
     headed(b"no blank in the first line", b"dogma_v1utf-8\n\n");
     headed(b"another encoding", b"dogma_v1 utf-16\n\n");
     headed(b"a CR inside a line", b"dogma_v1 utf-8\n- a=b\rc\n\n");
     headed(b"two CRs before LF", b"dogma_v1 utf-8\r\r\n\n");
     headed(b"a line of blanks", b"dogma_v1 utf-8\n  \n\n");
+}
+
+fn headers_e() {
     headed(b"a comment", b"dogma_v1 utf-8\n# a=b\n\n");
     headed(b"7f in a value", b"dogma_v1 utf-8\n- a=\x7f\n\n");
     headed(b"a byte over 7e in a name", b"dogma_v1 utf-8\n- \xc3=b\n\n");
     headed(b"no LF", b"dogma_v1 utf-8");
+    headed(b"the text ends in the header", b"dogma_v1 utf-8\n");
 }
 
-fn headers_c() {
-    headed(b"the text ends in the header", b"dogma_v1 utf-8\n");
+fn headers_f() {
     headed(
         b"the text ends after a header line",
         b"dogma_v1 utf-8\n- a=b\n",
@@ -168,28 +200,37 @@ fn headers_c() {
     headed(b"a last lone CR", b"dogma_v1 utf-8\n\r");
     headed(b"nothing", b"");
     headed(b"an empty line first", b"\ndogma_v1 utf-8\n\n");
+}
+
+fn headers_g() {
     headed(b"nothing after the header", b"dogma_v1 utf-8\n\n");
 }
 
-fn token_list_a() {
+fn tokens_a() {
     shown(b"frame = uint(8, var(len, 1~8)) & uint(8, ~){len};");
     shown(b"n < = 1");
     shown(b"n ! = 1");
     shown(b"1 !=2");
     shown(b"<=>=!==<>!");
+}
+
+fn tokens_b() {
     shown(b"= ; | & ( ) [ ] { } ? * + - ~ ! , : < > != <= >=");
     shown(b"@");
     shown(b"/");
     shown(b".");
     shown(b"_a");
-    shown(b"\\");
-    listed(b"NUL", b"\x00");
 }
 
-fn token_list_b() {
+fn tokens_c() {
+    shown(b"\\");
+    listed(b"NUL", b"\x00");
     listed(b"7f", b"\x7f");
     listed(b"80", b"\x80");
     listed(b"form feed", b"\x0c");
+}
+
+fn tokens_d() {
     listed(
         b"a comment with any byte and a lone CR, ended by LF",
         b"a # = \x00 \x80 \r b\nc",
@@ -198,32 +239,41 @@ fn token_list_b() {
     listed(b"separators", b" \t\r\na\rb ");
     listed(b"nothing", b"");
     listed(b"nothing but a comment", b"  # only a comment");
+}
+
+fn tokens_e() {
     shown(b"0x)");
     shown(b"0b12");
     shown(b"12ab");
     shown(b"0X1f 0O17 0B101 0xAbC 007 0x0001");
+    shown(b"0o8 0b 00x1");
 }
 
-fn token_list_c() {
-    shown(b"0o8 0b 00x1");
+fn tokens_f() {
     shown(b"4294967295 4294967296");
     shown(b"4611686018427387904 4611686018427387905 99999999999999999999999999");
     shown(b"'a' \"b\" 'it\"s' \"it's\"");
     shown(b"'' \"\" x");
     shown(b"'12345678901234567890123456789012' '123456789012345678901234567890123' x");
+}
+
+fn tokens_g() {
     shown(b"'abc");
     listed(b"LF in a literal", b"'a\nb'");
     listed(b"a control byte in a literal", b"'a\x01b'");
     listed(b"7f in a literal", b"'a\x7f'");
     listed(b"not ASCII in a literal", b"'\xc3\xa9'");
-    shown(b"'\\n' x");
 }
 
-fn token_list_d() {
+fn tokens_h() {
+    shown(b"'\\n' x");
     shown(b"'\\[]' x");
     shown(b"'\\[80]' x");
     shown(b"'\\[7f]\\[0]\\[00041]\\[4A]\\[4a]'");
     shown(b"'\\\\\\'\\\"'");
+}
+
+fn tokens_i() {
     shown(b"'\\[41'");
     shown(b"'a\\'");
     shown(b"a2345678901234567890123456789012 a23456789012345678901234567890123 b");
@@ -234,8 +284,17 @@ fn main() {
     headers_a();
     headers_b();
     headers_c();
-    token_list_a();
-    token_list_b();
-    token_list_c();
-    token_list_d();
+    headers_d();
+    headers_e();
+    headers_f();
+    headers_g();
+    tokens_a();
+    tokens_b();
+    tokens_c();
+    tokens_d();
+    tokens_e();
+    tokens_f();
+    tokens_g();
+    tokens_h();
+    tokens_i();
 }
