@@ -51,6 +51,30 @@ module _ (xs : List ℕ) (quote : ℕ) (p : Part) (n i : ℕ) where
   unfolding literal-reach
   reach-out h = rw (drop-of-length-le xs h)
 
+-- ---- a literal ends within the bytes
+
+pub reach-grows : (quote : ℕ) (p : Part) (n i : ℕ) (bs : List ℕ) → i ≤ literal-reach quote p n i bs .end
+unfolding literal-reach
+reach-grows quote p n i [] = omega arith
+reach-grows quote p n i (b ∷ bs) =
+    ⊎-elim (λ e. rw (reach-off quote p b bs n i e) (omega arith))
+    (λ e.
+    rw (reach-on quote p b bs n i e)
+    (let h : i + 1 ≤ literal-reach quote (part-after p quote b) (counted n (part-after p quote b)) (i + 1) bs .end = reach-grows quote (part-after p quote b) (counted n (part-after p quote b)) (i + 1) bs
+    in omega arith))
+    (which (stops (part-after p quote b)))
+
+pub reach-fits : (quote : ℕ) (p : Part) (n i : ℕ) (bs : List ℕ) → literal-reach quote p n i bs .end ≤ i + length bs
+unfolding literal-reach
+reach-fits quote p n i [] = omega arith
+reach-fits quote p n i (b ∷ bs) =
+    ⊎-elim (λ e. rw (reach-off quote p b bs n i e) (omega arith))
+    (λ e.
+    rw (reach-on quote p b bs n i e)
+    (let h : literal-reach quote (part-after p quote b) (counted n (part-after p quote b)) (i + 1) bs .end ≤ i + 1 + length bs = reach-fits quote (part-after p quote b) (counted n (part-after p quote b)) (i + 1) bs
+    in omega arith))
+    (which (stops (part-after p quote b)))
+
 -- ---- the number of characters
 
 one-more : (n : ℕ) (p : Part) (cs : List ℕ) → counted n p + length cs ≡ n + length (with-character p cs)

@@ -1,19 +1,20 @@
 -- Laws of runs and words, as their loops go.
 -- Assumes nothing.
 use Prim.Native.Nat.{ℕ, suc, _+_, _-_, max, _≤_, _<_}
-use mathlib.Core.Path.{_≡_, refl, sym, ap, _∙_}
+use mathlib.Core.Path.{_≡_, refl, sym, ap, ap₂, _∙_}
 use mathlib.Core.Bool.{Bool, true, false, cond}
 use mathlib.Core.Logic.{⊎-elim}
 use mathlib.Core.List.{List, [], _∷_}
 use native.Mathlib.Omega.{arith}
 use native.Mathlib.Numerals.{add-one}
+use borrow.Author.Tests.{eq-eqb, eqb-true}
 use lib.Dec.{eqb}
 use lib.ListN.{length, getD, drop, drop-of-length-le, length-drop}
 use lib.Seq.{drop-cons}
 use Rattle.text.specs.Bytes.{in-class, lower-case}
-use Rattle.text.specs.Spans.{span-end, starts}
+use Rattle.text.specs.Spans.{span-end, starts, is-word}
 use Rattle.text.specs.declared.Class.{Class}
-use Rattle.text.proofs.Tests.{choice, which}
+use Rattle.text.proofs.Tests.{both-first, both-second, choice, which}
 
 -- the bytes from place i on: the byte there, and those after it
 pub next : (xs : List ℕ) (i : ℕ) → i < length xs → drop i xs ≡ getD xs i 0 ∷ drop (i + 1) xs
@@ -90,3 +91,28 @@ starts-length folded (w ∷ ws) (b ∷ bs) h =
     (λ e. let l : length ws ≤ length bs = starts-length folded ws bs (sym (starts-on folded w b ws bs e) ∙ h) in omega arith)
     (λ e. let f : false ≡ true = sym (starts-off folded w b ws bs e) ∙ h in let z : _≡_ {A = ℕ} 0 1 = cc in absurd (omega arith))
     (which (eqb (cond folded (lower-case b) b) w))
+
+-- ---- a word that is spelled exactly is the same bytes
+
+pub starts-equal : (ws bs : List ℕ) → length ws ≡ length bs → starts false ws bs ≡ true → ws ≡ bs
+unfolding starts
+starts-equal [] [] l h = refl
+starts-equal [] (b ∷ bs) l h = absurd (omega arith)
+starts-equal (w ∷ ws) [] l h = absurd (omega arith)
+starts-equal (w ∷ ws) (b ∷ bs) l h =
+    ⊎-elim (λ e. ap₂ _∷_ (sym (eqb-true b w e)) (starts-equal ws bs (omega arith) (sym (starts-on false w b ws bs e) ∙ h)))
+    (λ e. let f : false ≡ true = sym (starts-off false w b ws bs e) ∙ h in let z : _≡_ {A = ℕ} 0 1 = cc in absurd (omega arith))
+    (which (eqb b w))
+
+starts-self : (ws : List ℕ) → starts false ws ws ≡ true
+unfolding starts
+starts-self [] = refl
+starts-self (w ∷ ws) = starts-on false w w ws ws (eq-eqb w w refl) ∙ starts-self ws
+
+pub word-equal : (ws bs : List ℕ) → is-word false ws bs ≡ true → ws ≡ bs
+word-equal ws bs h =
+    starts-equal ws bs (eqb-true (length ws) (length bs) (both-first (eqb (length ws) (length bs)) (starts false ws bs) h))
+    (both-second (eqb (length ws) (length bs)) (starts false ws bs) h)
+
+pub word-self : (ws : List ℕ) → is-word false ws ws ≡ true
+word-self ws = rw (eq-eqb (length ws) (length ws) refl) (starts-self ws)

@@ -25,8 +25,8 @@ stays v r d h e = le-div-iff-mul-le {k = r} {x = v} {y = 4611686018427387905 - d
 -- the cap does not matter to the cap
 pub cap-once : (v r d : ℕ) → 2 ≤ r → capped (capped v * r + d) ≡ capped (v * r + d)
 cap-once v r d h =
-    ⊎-elim (λ t. let l : v ≤ 4611686018427387905 = leb-true v 4611686018427387905 t in let e : capped v ≡ v = omega arith in rw e)
-    (λ t.
+    ⊎-elim (λ (t : leb v 4611686018427387905 ≡ true). let l : v ≤ 4611686018427387905 = leb-true v 4611686018427387905 t in let e : capped v ≡ v = omega arith in rw e)
+    (λ (t : leb v 4611686018427387905 ≡ false).
     let l : 4611686018427387905 ≤ v = omega (arith, leb-false v 4611686018427387905 t)
     in let e : capped v ≡ 4611686018427387905 = omega arith
     in let m : 4611686018427387905 * r ≤ v * r = mul-le-mul-right r l
