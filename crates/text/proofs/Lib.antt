@@ -2,3 +2,4 @@
 pub mod Tests
 pub mod Runs
 pub mod Lines
+pub mod HeaderLaws
