@@ -21,20 +21,20 @@ pub start-between : (quote b : ℕ) → eqb b quote ≡ false → between quote 
 start-between quote b e = rw e
 
 module _ (quote : ℕ) (p : Part) (b : ℕ) (bs : List ℕ) where
-  reach-on : (n i : ℕ) → stops (part-after p quote b) ≡ false
+  pub reach-on : (n i : ℕ) → stops (part-after p quote b) ≡ false
       → literal-reach quote p n i (b ∷ bs) ≡ literal-reach quote (part-after p quote b) (counted n (part-after p quote b)) (i + 1) bs
   unfolding literal-reach
   reach-on n i e = rw (e, literal-reach)
 
-  reach-off : (n i : ℕ) → stops (part-after p quote b) ≡ true → literal-reach quote p n i (b ∷ bs) ≡ reached (part-after p quote b) n (i + 1)
+  pub reach-off : (n i : ℕ) → stops (part-after p quote b) ≡ true → literal-reach quote p n i (b ∷ bs) ≡ reached (part-after p quote b) n (i + 1)
   unfolding literal-reach
   reach-off n i e = rw (e, literal-reach)
 
-  characters-on : stops (part-after p quote b) ≡ false → characters quote p (b ∷ bs) ≡ with-character (part-after p quote b) (characters quote (part-after p quote b) bs)
+  pub characters-on : stops (part-after p quote b) ≡ false → characters quote p (b ∷ bs) ≡ with-character (part-after p quote b) (characters quote (part-after p quote b) bs)
   unfolding characters
   characters-on e = rw (e, characters)
 
-  characters-off : stops (part-after p quote b) ≡ true → characters quote p (b ∷ bs) ≡ []
+  pub characters-off : stops (part-after p quote b) ≡ true → characters quote p (b ∷ bs) ≡ []
   unfolding characters
   characters-off e = rw (e, characters)
 

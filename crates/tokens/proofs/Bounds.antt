@@ -3,7 +3,7 @@
 use Prim.Native.Nat.{ℕ, suc, _+_, _-_, max, _≤_, _<_}
 use mathlib.Core.Path.{_≡_, refl, sym, ap, subst, _∙_}
 use mathlib.Core.Logic.{⊎-elim}
-use mathlib.Core.Bool.{Bool, true, false, cond, _&&_, _||_}
+use mathlib.Core.Bool.{Bool, true, false, _&&_, _||_}
 use mathlib.Core.List.{List}
 use native.Mathlib.Omega.{arith}
 use borrow.Author.Tests.{lt-ltb, le-ltb, ltb-true, ltb-false, leb-true, leb-false, eqb-true, eqb-false}
@@ -13,10 +13,11 @@ use Rattle.text.specs.Bytes.{is-letter, is-digit, lower-case, in-radix}
 use Rattle.text.specs.Spans.{span-end}
 use Rattle.text.specs.declared.Class.{Class}
 use Rattle.text.proofs.Runs.{span-turn, span-grows, span-within}
-use Rattle.text.proofs.Tests.{both-first, both-second, within-low, within-high, which}
-use Rattle.literals.specs.Literals.{is-quote, literal-at, is-right}
+use Rattle.text.proofs.Tests.{both-first, both-second, within-low, within-high, which, picked}
+use Rattle.literals.specs.Literals.{is-quote, literal-at, is-right, characters-at}
 use Rattle.literals.specs.declared.Part.{Part}
 use Rattle.literals.proofs.Reaches.{reach-grows, reach-fits}
+use Rattle.literals.proofs.Sizes.{right-sized}
 use Rattle.tokens.specs.Numbers.{named-radix, radix-of, radix-at, digits-at, number-end-of}
 use Rattle.tokens.specs.Tokens.{gap-end, is-pair, pair-of, sign-of, token, name-token, number-token, literal-token, sign-token, token-begun, token-from, token-of}
 use Rattle.tokens.specs.declared.Kind.{Kind}
@@ -28,74 +29,71 @@ use Rattle.tokens.proofs.Gapped.{gap-grows, gap-fits}
 pub byte-inside : (xs : List ℕ) (i : ℕ) → (getD xs i 0 ≡ 0 → ⊥) → i < length xs
 byte-inside xs i h = ⊎-elim (λ e. ltb-true i (length xs) e) (λ e. absurd (h (List·getD-eq-default xs 0 (ltb-false i (length xs) e)))) (which (ltb i (length xs)))
 
--- ---- kinds: any but that of the end
+-- ---- kinds: what holds of a token from i up to e; one that begins is not the end
 
-abbrev pub Kept : Kind → Type 0
-Kept Kind.Name = Unit {0}
-Kept Kind.Number = Unit {0}
-Kept Kind.Literal = Unit {0}
-Kept Kind.Equal = Unit {0}
-Kept Kind.Semicolon = Unit {0}
-Kept Kind.Bar = Unit {0}
-Kept Kind.Ampersand = Unit {0}
-Kept Kind.OpenParen = Unit {0}
-Kept Kind.CloseParen = Unit {0}
-Kept Kind.OpenBracket = Unit {0}
-Kept Kind.CloseBracket = Unit {0}
-Kept Kind.OpenBrace = Unit {0}
-Kept Kind.CloseBrace = Unit {0}
-Kept Kind.Question = Unit {0}
-Kept Kind.Star = Unit {0}
-Kept Kind.Plus = Unit {0}
-Kept Kind.Minus = Unit {0}
-Kept Kind.Tilde = Unit {0}
-Kept Kind.Bang = Unit {0}
-Kept Kind.Comma = Unit {0}
-Kept Kind.Colon = Unit {0}
-Kept Kind.Less = Unit {0}
-Kept Kind.Greater = Unit {0}
-Kept Kind.Unequal = Unit {0}
-Kept Kind.AtMost = Unit {0}
-Kept Kind.AtLeast = Unit {0}
-Kept Kind.Fault = Unit {0}
-Kept Kind.End = ⊥
+abbrev pub Fine : List ℕ → ℕ → ℕ → Kind → Type 0
+Fine xs i e Kind.Name = e ≤ i + 32
+Fine xs i e Kind.Number = Unit {0}
+Fine xs i e Kind.Literal = (1 ≤ length (characters-at xs i)) × (length (characters-at xs i) ≤ 32)
+Fine xs i e Kind.Equal = Unit {0}
+Fine xs i e Kind.Semicolon = Unit {0}
+Fine xs i e Kind.Bar = Unit {0}
+Fine xs i e Kind.Ampersand = Unit {0}
+Fine xs i e Kind.OpenParen = Unit {0}
+Fine xs i e Kind.CloseParen = Unit {0}
+Fine xs i e Kind.OpenBracket = Unit {0}
+Fine xs i e Kind.CloseBracket = Unit {0}
+Fine xs i e Kind.OpenBrace = Unit {0}
+Fine xs i e Kind.CloseBrace = Unit {0}
+Fine xs i e Kind.Question = Unit {0}
+Fine xs i e Kind.Star = Unit {0}
+Fine xs i e Kind.Plus = Unit {0}
+Fine xs i e Kind.Minus = Unit {0}
+Fine xs i e Kind.Tilde = Unit {0}
+Fine xs i e Kind.Bang = Unit {0}
+Fine xs i e Kind.Comma = Unit {0}
+Fine xs i e Kind.Colon = Unit {0}
+Fine xs i e Kind.Less = Unit {0}
+Fine xs i e Kind.Greater = Unit {0}
+Fine xs i e Kind.Unequal = Unit {0}
+Fine xs i e Kind.AtMost = Unit {0}
+Fine xs i e Kind.AtLeast = Unit {0}
+Fine xs i e Kind.Fault = Unit {0}
+Fine xs i e Kind.End = ⊥
 
-picked : {A : Type 0} (P : A → Type 0) (b : Bool) {x y : A} → P x → P y → P (cond b x y)
-picked P true p q = p
-picked P false p q = q
+module _ (xs : List ℕ) (i e : ℕ) where
+  pair-fine : (b : ℕ) → Fine xs i e (pair-of b)
+  pair-fine b = picked (Fine xs i e) (eqb b 33) (λ z. tt) (λ z. picked (Fine xs i e) (eqb b 60) (λ z. tt) (λ z. tt))
 
-pair-kept : (b : ℕ) → Kept (pair-of b)
-pair-kept b = picked Kept (eqb b 33) tt (picked Kept (eqb b 60) tt tt)
-
-sign-kept : (b : ℕ) → Kept (sign-of b)
-sign-kept b =
-    picked Kept (eqb b 61) tt
-    (picked Kept (eqb b 59) tt
-    (picked Kept (eqb b 124) tt
-    (picked Kept (eqb b 38) tt
-    (picked Kept (eqb b 40) tt
-    (picked Kept (eqb b 41) tt
-    (picked Kept (eqb b 91) tt
-    (picked Kept (eqb b 93) tt
-    (picked Kept (eqb b 123) tt
-    (picked Kept (eqb b 125) tt
-    (picked Kept (eqb b 63) tt
-    (picked Kept (eqb b 42) tt
-    (picked Kept (eqb b 43) tt
-    (picked Kept (eqb b 45) tt
-    (picked Kept (eqb b 126) tt
-    (picked Kept (eqb b 33) tt
-    (picked Kept (eqb b 44) tt
-    (picked Kept (eqb b 58) tt
-    (picked Kept (eqb b 60) tt
-    (picked Kept (eqb b 62) tt tt)))))))))))))))))))
+  sign-fine : (b : ℕ) → Fine xs i e (sign-of b)
+  sign-fine b =
+      picked (Fine xs i e) (eqb b 61) (λ z. tt)
+      (λ z. picked (Fine xs i e) (eqb b 59) (λ z. tt)
+      (λ z. picked (Fine xs i e) (eqb b 124) (λ z. tt)
+      (λ z. picked (Fine xs i e) (eqb b 38) (λ z. tt)
+      (λ z. picked (Fine xs i e) (eqb b 40) (λ z. tt)
+      (λ z. picked (Fine xs i e) (eqb b 41) (λ z. tt)
+      (λ z. picked (Fine xs i e) (eqb b 91) (λ z. tt)
+      (λ z. picked (Fine xs i e) (eqb b 93) (λ z. tt)
+      (λ z. picked (Fine xs i e) (eqb b 123) (λ z. tt)
+      (λ z. picked (Fine xs i e) (eqb b 125) (λ z. tt)
+      (λ z. picked (Fine xs i e) (eqb b 63) (λ z. tt)
+      (λ z. picked (Fine xs i e) (eqb b 42) (λ z. tt)
+      (λ z. picked (Fine xs i e) (eqb b 43) (λ z. tt)
+      (λ z. picked (Fine xs i e) (eqb b 45) (λ z. tt)
+      (λ z. picked (Fine xs i e) (eqb b 126) (λ z. tt)
+      (λ z. picked (Fine xs i e) (eqb b 33) (λ z. tt)
+      (λ z. picked (Fine xs i e) (eqb b 44) (λ z. tt)
+      (λ z. picked (Fine xs i e) (eqb b 58) (λ z. tt)
+      (λ z. picked (Fine xs i e) (eqb b 60) (λ z. tt)
+      (λ z. picked (Fine xs i e) (eqb b 62) (λ z. tt) (λ z. tt))))))))))))))))))))
 
 -- ---- numbers
 
 named-small : (b : ℕ) → named-radix b ≤ 16
 named-small b =
-    picked (λ r. r ≤ 16) (eqb (lower-case b) 120) (omega arith)
-    (picked (λ r. r ≤ 16) (eqb (lower-case b) 111) (omega arith) (picked (λ r. r ≤ 16) (eqb (lower-case b) 98) (omega arith) (omega arith)))
+    picked (λ r. r ≤ 16) (eqb (lower-case b) 120) (λ z. omega arith) (λ z.
+    picked (λ r. r ≤ 16) (eqb (lower-case b) 111) (λ z. omega arith) (λ z. picked (λ r. r ≤ 16) (eqb (lower-case b) 98) (λ z. omega arith) (λ z. omega arith)))
 
 in-ten : (b : ℕ) → is-digit b ≡ true → in-radix 10 b ≡ true
 in-ten b e =
@@ -161,7 +159,7 @@ pub record Begun (xs : List ℕ) (i : ℕ) (t : Token) : Type 0 where
   pub here : t .start ≡ i
   pub moves : i < t .end
   pub inside : t .end ≤ length xs
-  pub kept : Kept (t .kind)
+  pub fine : Fine xs i (t .end) (t .kind)
 
 module _ (xs : List ℕ) (i : ℕ) (l : i < length xs) where
   name-begun : is-letter (getD xs i 0) ≡ true → Begun xs i (name-token xs i)
@@ -172,12 +170,12 @@ module _ (xs : List ℕ) (i : ℕ) (l : i < length xs) where
         here = refl;
         moves = omega (arith, s, span-grows Class.Name (i + 1) (drop (i + 1) xs));
         inside = omega (arith, span-within Class.Name xs i);
-        kept = picked Kept (leb (span-end Class.Name i (drop i xs) - i) 32) tt tt;
+        fine = picked (Fine xs i (span-end Class.Name i (drop i xs))) (leb (span-end Class.Name i (drop i xs) - i) 32) (λ z. let h : span-end Class.Name i (drop i xs) - i ≤ 32 = leb-true (span-end Class.Name i (drop i xs) - i) 32 z in omega arith) (λ z. tt);
       }
 
   number-begun : is-digit (getD xs i 0) ≡ true → Begun xs i (number-token xs i)
   unfolding number-token
-  number-begun e = record { here = refl; moves = number-moves xs i l e .0; inside = number-moves xs i l e .1; kept = tt }
+  number-begun e = record { here = refl; moves = number-moves xs i l e .0; inside = number-moves xs i l e .1; fine = tt }
 
   literal-begun : Begun xs i (literal-token xs i)
   unfolding literal-token
@@ -186,7 +184,7 @@ module _ (xs : List ℕ) (i : ℕ) (l : i < length xs) where
         here = refl;
         moves = omega (arith, reach-grows (getD xs i 0) Part.Start 0 (i + 1) (drop (i + 1) xs));
         inside = omega (arith, reach-fits (getD xs i 0) Part.Start 0 (i + 1) (drop (i + 1) xs), length-drop (i + 1) xs);
-        kept = picked Kept (is-right (literal-at xs i)) tt tt;
+        fine = picked (Fine xs i (literal-at xs i .end)) (is-right (literal-at xs i)) (λ z. right-sized xs i z) (λ z. tt);
       }
 
   sign-begun : Begun xs i (sign-token xs i)
@@ -196,8 +194,8 @@ module _ (xs : List ℕ) (i : ℕ) (l : i < length xs) where
       (λ (e : is-pair (getD xs i 0) (getD xs (i + 1) 0) ≡ true).
       let c : getD xs (i + 1) 0 ≡ 61 = eqb-true (getD xs (i + 1) 0) 61 (both-first (eqb (getD xs (i + 1) 0) 61) (eqb (getD xs i 0) 33 || (eqb (getD xs i 0) 60 || eqb (getD xs i 0) 62)) e)
       in let far : i + 1 < length xs = byte-inside xs (i + 1) (λ z. let w : 61 ≡ 0 = sym c ∙ z in omega arith)
-      in rw (e, sign-token) (record { here = refl; moves = omega arith; inside = omega arith; kept = pair-kept (getD xs i 0) }))
-      (λ (e : is-pair (getD xs i 0) (getD xs (i + 1) 0) ≡ false). rw (e, sign-token) (record { here = refl; moves = omega arith; inside = omega arith; kept = sign-kept (getD xs i 0) }))
+      in rw (e, sign-token) (record { here = refl; moves = omega arith; inside = omega arith; fine = pair-fine xs i (i + 2) (getD xs i 0) }))
+      (λ (e : is-pair (getD xs i 0) (getD xs (i + 1) 0) ≡ false). rw (e, sign-token) (record { here = refl; moves = omega arith; inside = omega arith; fine = sign-fine xs i (i + 1) (getD xs i 0) }))
       (which (is-pair (getD xs i 0) (getD xs (i + 1) 0)))
 
   pub begun : Begun xs i (token-begun xs i)
@@ -219,6 +217,8 @@ pub record Placed (xs : List ℕ) (at : ℕ) (t : Token) : Type 0 where
   pub inside : t .end ≤ length xs
   pub moves : (t .kind ≡ Kind.End → ⊥) → t .start < t .end
   pub ends : t .kind ≡ Kind.End → t .start ≡ length xs
+  pub name : t .kind ≡ Kind.Name → t .end ≤ t .start + 32
+  pub literal : t .kind ≡ Kind.Literal → (1 ≤ length (characters-at xs (t .start))) × (length (characters-at xs (t .start)) ≤ 32)
 
 some-placed : (xs : List ℕ) (at i : ℕ) (t : Token) → at ≤ i → Begun xs i t → Placed xs at t
 some-placed xs at i t h b =
@@ -227,7 +227,10 @@ some-placed xs at i t h b =
       ordered = omega (arith, b .here, b .moves);
       inside = b .inside;
       moves = λ z. omega (arith, b .here, b .moves);
-      ends = λ z. absurd (subst Kept z (b .kept));
+      ends = λ z. absurd (subst (Fine xs i (t .end)) z (b .fine));
+      name = λ z. let h : t .end ≤ i + 32 = subst (Fine xs i (t .end)) z (b .fine) in omega (arith, b .here);
+      literal = λ z.
+          subst (λ (k : ℕ). (1 ≤ length (characters-at xs k)) × (length (characters-at xs k) ≤ 32)) (sym (b .here)) (subst (Fine xs i (t .end)) z (b .fine));
     }
 
 pub placed : (xs : List ℕ) (at : ℕ) → at ≤ length xs → Placed xs at (token-of xs at)
@@ -243,5 +246,5 @@ placed xs at h =
     in rw (from-some xs (gap-end false at (drop at xs)) l) (some-placed xs at (gap-end false at (drop at xs)) (token-begun xs (gap-end false at (drop at xs))) g (begun xs (gap-end false at (drop at xs)) l)))
     (λ e.
     let l : length xs ≤ gap-end false at (drop at xs) = ltb-false (gap-end false at (drop at xs)) (length xs) e
-    in rw (from-none xs (gap-end false at (drop at xs)) l) (record { after = g; ordered = omega arith; inside = omega arith; moves = λ z. absurd (z refl); ends = λ z. omega arith }))
+    in rw (from-none xs (gap-end false at (drop at xs)) l) (record { after = g; ordered = omega arith; inside = omega arith; moves = λ z. absurd (z refl); ends = λ z. omega arith; name = λ z. omega arith; literal = λ z. let y : _≡_ {A = ℕ} 0 1 = cc in absurd (omega arith) }))
     (which (ltb (gap-end false at (drop at xs)) (length xs)))
