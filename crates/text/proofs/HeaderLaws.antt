@@ -19,14 +19,14 @@ use Rattle.text.proofs.Runs.{span-on, span-off, span-grows, span-fits}
 use Rattle.text.proofs.Tests.{both-first, both-second, which}
 
 -- both tests hold
-both-true : {a b : Bool} → a ≡ true → b ≡ true → (a && b) ≡ true
+pub both-true : {a b : Bool} → a ≡ true → b ≡ true → (a && b) ≡ true
 both-true e f = rw (e, f)
 
 not-false : (b : Bool) → not b ≡ false → b ≡ true
 not-false true e = refl
 not-false false e = sym e
 
-never : {A : Type 0} → false ≡ true → A
+pub never : {A : Type 0} → false ≡ true → A
 never e = let z : _≡_ {A = ℕ} 0 1 = cc in absurd (omega arith)
 
 -- ---- each byte of a class
@@ -69,7 +69,7 @@ blanks-other (b ∷ bs) e =
 
 -- ---- a run and what stops it
 
-run-every : (class : Class) (i : ℕ) (bs : List ℕ) → every class (take (span-end class i bs - i) bs) ≡ true
+pub run-every : (class : Class) (i : ℕ) (bs : List ℕ) → every class (take (span-end class i bs - i) bs) ≡ true
 unfolding every span-end
 run-every class i [] = let z : i - i ≡ 0 = omega arith in rw z
 run-every class i (b ∷ bs) =
@@ -94,7 +94,7 @@ run-stops class i (b ∷ bs) h =
     (which (in-class class b))
 
 -- the other way: a run of bytes of a class, and one that is not
-run-over : (class : Class) (i : ℕ) (xs : List ℕ) (y : ℕ) (ys : List ℕ) → every class xs ≡ true → in-class class y ≡ false → span-end class i (xs ++ (y ∷ ys)) ≡ i + length xs
+pub run-over : (class : Class) (i : ℕ) (xs : List ℕ) (y : ℕ) (ys : List ℕ) → every class xs ≡ true → in-class class y ≡ false → span-end class i (xs ++ (y ∷ ys)) ≡ i + length xs
 unfolding every
 run-over class i [] y ys e f = span-off class i y ys f ∙ omega arith
 run-over class i (x ∷ xs) y ys e f =

@@ -3,3 +3,4 @@ pub mod Tests
 pub mod Runs
 pub mod Lines
 pub mod HeaderLaws
+pub mod FirstLaws
