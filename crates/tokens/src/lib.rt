@@ -45,3 +45,13 @@ pub struct Token {
     pub end: usize,
     pub kind: Kind,
 }
+
+// What a name is to the form of rules.
+pub enum Word {
+    Plain,
+    Uint,
+    Var,
+    Eod,
+    // any other reserved word
+    Reserved,
+}

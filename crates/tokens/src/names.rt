@@ -1,10 +1,11 @@
 // Names: reserved words, and whether two are one.
+use crate::Word;
 use text::spans::spells;
 ghost use mathlib.Core.Path.{_≡_};
 ghost use mathlib.Core.Bool.{cond};
 ghost use Prim.Native.Nat.{_≤_};
 ghost use lib.ListN.{length, drop};
-ghost use Rattle.tokens.specs.Names.{reserved-words, word-number, reserved-of, name-of, is-same};
+ghost use Rattle.tokens.specs.Names.{reserved-words, word-number, reserved-of, word-of, name-of, is-same};
 
 fn choose(test: bool, a: usize, b: usize) -> usize
     ensures { λ r. ⌜ r ≡ cond test a b ⌝ }
@@ -66,4 +67,24 @@ pub fn same_name(text: &[u8], a: usize, p: usize, b: usize, q: usize) -> bool
     ensures { λ r. ⌜ r ≡ is-same (name-of (now (text .entry)) a p) (name-of (now (text .entry)) b q) ⌝ }
 {
     spells(false, &text[a..p], &text[b..q])
+}
+
+fn word(number: usize) -> Word
+    ensures { λ r. ⌜ r ≡ word-of number ⌝ }
+{
+    match number {
+        0 => Word::Plain,
+        9 => Word::Var,
+        10 => Word::Eod,
+        12 => Word::Uint,
+        _ => Word::Reserved,
+    }
+}
+
+// What the name from `start` up to `end` is.
+pub fn word_at(text: &[u8], start: usize, end: usize) -> Word
+    requires { ⌜ (start ≤ end) × (end ≤ length (now text)) ⌝ }
+    ensures { λ r. ⌜ r ≡ word-of (reserved-of (name-of (now (text .entry)) start end)) ⌝ }
+{
+    word(reserved(&text[start..end]))
 }
