@@ -110,9 +110,12 @@ module _ (xs : List ℕ) (at : ℕ) where
     unfolding header-lines-of
     header-turn e f = rw (line-split, ne-eqb _ _ e, f, header-lines-of, line-length)
 
+  pub lines-out : length xs ≤ line-end at (drop at xs) → at ≤ length xs → lines (drop at xs) ≡ []
+  lines-out h l = lines-none at (drop at xs) (omega (arith, length-drop at xs))
+
   pub header-unended : length xs ≤ line-end at (drop at xs) → at ≤ length xs → header-lines-of at (lines (drop at xs)) ≡ Heading.Wrong at
   unfolding header-lines-of
-  header-unended h l = rw (lines-none at (drop at xs) (omega (arith, length-drop at xs)), header-lines-of)
+  header-unended h l = rw (lines-out h l, header-lines-of)
 
 -- ---- the first line
 

@@ -3,4 +3,5 @@ pub mod Examples
 pub mod Found
 pub mod Gapped
 pub mod Bounds
+pub mod Worded
 pub mod Digits

@@ -1,64 +1,42 @@
 // Names: reserved words, and whether two are one.
 use crate::Word;
+use text::Class;
+use text::spans::span;
 use text::spans::spells;
 ghost use mathlib.Core.Path.{_≡_};
-ghost use mathlib.Core.Bool.{cond};
 ghost use Prim.Native.Nat.{_≤_};
-ghost use lib.ListN.{length, drop};
-ghost use Rattle.tokens.specs.Names.{reserved-words, word-number, reserved-of, word-of, name-of, is-same};
+ghost use lib.ListN.{length};
+ghost use Rattle.text.specs.Header.{lines};
+ghost use Rattle.tokens.specs.Names.{word-number, reserved-of, word-of, name-of, is-same};
 
-fn choose(test: bool, a: usize, b: usize) -> usize
-    ensures { λ r. ⌜ r ≡ cond test a b ⌝ }
+// The number of a name in a list of words that each end with LF, from 1; 0 where it is none of them.
+fn number_in(words: &[u8], name: &[u8]) -> usize
+    ensures { λ r. ⌜ r ≡ word-number 1 (lines (now (words .entry))) (now (name .entry)) ⌝ }
 {
-    if test {
-        return a;
+    let mut at = 0;
+    let mut k = 1;
+    while at < words.len() {
+        let end = span(Class::Except(10), words, at);
+        if words.len() <= end {
+            return 0;
+        }
+        if spells(false, &words[at..end], name) {
+            return k;
+        }
+        at = end + 1;
+        k += 1;
     }
-    b
-}
-
-// The last seven reserved words, by their numbers.
-fn last_word(name: &[u8]) -> usize
-    ensures { λ r. ⌜ r ≡ word-number 15 (drop 14 reserved-words) (now (name .entry)) ⌝ }
-{
-    let k = 0;
-    let k = choose(spells(false, b"lsb", name), 21, k);
-    let k = choose(spells(false, b"msb", name), 20, k);
-    let k = choose(spells(false, b"unicode_categories", name), 19, k);
-    let k = choose(spells(false, b"ordering", name), 18, k);
-    let k = choose(spells(false, b"nzero", name), 17, k);
-    let k = choose(spells(false, b"nan", name), 16, k);
-    let k = choose(spells(false, b"inf", name), 15, k);
-    k
-}
-
-// The reserved words from the eighth on.
-fn middle_word(name: &[u8]) -> usize
-    ensures { λ r. ⌜ r ≡ word-number 8 (drop 7 reserved-words) (now (name .entry)) ⌝ }
-{
-    let k = last_word(name);
-    let k = choose(spells(false, b"float", name), 14, k);
-    let k = choose(spells(false, b"sint", name), 13, k);
-    let k = choose(spells(false, b"uint", name), 12, k);
-    let k = choose(spells(false, b"unicode", name), 11, k);
-    let k = choose(spells(false, b"eod", name), 10, k);
-    let k = choose(spells(false, b"var", name), 9, k);
-    let k = choose(spells(false, b"offset", name), 8, k);
-    k
+    0
 }
 
 // The number of a reserved word, from 1; 0 of any other name.
 pub fn reserved(name: &[u8]) -> usize
     ensures { λ r. ⌜ r ≡ reserved-of (now (name .entry)) ⌝ }
 {
-    let k = middle_word(name);
-    let k = choose(spells(false, b"peek", name), 7, k);
-    let k = choose(spells(false, b"bom_ordered", name), 6, k);
-    let k = choose(spells(false, b"byte_order", name), 5, k);
-    let k = choose(spells(false, b"ordered", name), 4, k);
-    let k = choose(spells(false, b"reversed", name), 3, k);
-    let k = choose(spells(false, b"aligned", name), 2, k);
-    let k = choose(spells(false, b"sized", name), 1, k);
-    k
+    number_in(
+        b"sized\naligned\nreversed\nordered\nbyte_order\nbom_ordered\npeek\noffset\nvar\neod\nunicode\nuint\nsint\nfloat\ninf\nnan\nnzero\nordering\nunicode_categories\nmsb\nlsb\n",
+        name,
+    )
 }
 
 // Whether the names from a up to p and from b up to q are one.
