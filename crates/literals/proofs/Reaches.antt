@@ -1,0 +1,141 @@
+-- Laws of literals, as their loops go.
+-- Assumes nothing.
+use Prim.Native.Nat.{ℕ, suc, _+_, _-_, _≤_, _<_}
+use mathlib.Core.Path.{_≡_, refl, sym, ap, _∙_}
+use mathlib.Core.Logic.{⊎-elim}
+use mathlib.Core.Bool.{Bool, true, false}
+use mathlib.Core.List.{List, [], _∷_}
+use native.Mathlib.Omega.{arith}
+use borrow.Author.Tests.{eqb-true, eqb-false}
+use lib.Dec.{eqb}
+use lib.ListN.{length, getD, drop, drop-of-length-le}
+use Rattle.text.proofs.Runs.{next}
+use Rattle.text.proofs.Tests.{which}
+use Rattle.literals.specs.Literals.{between, part-after, stops, counted, reached, literal-reach, with-character, characters, is-found, value-of, left-after}
+use Rattle.literals.specs.declared.Part.{Part}
+use Rattle.literals.specs.declared.Part.the-variants.{Start, Escape, Bracket, Digits, Character, Closed, Wrong}
+use Rattle.literals.specs.declared.Extent.{Extent}
+
+-- a first byte that is no quote is a character's
+pub start-between : (quote b : ℕ) → eqb b quote ≡ false → between quote b ≡ part-after Start quote b
+start-between quote b e = rw e
+
+module _ (quote : ℕ) (p : Part) (b : ℕ) (bs : List ℕ) where
+  pub reach-on : (n i : ℕ) → stops (part-after p quote b) ≡ false
+      → literal-reach quote p n i (b ∷ bs) ≡ literal-reach quote (part-after p quote b) (counted n (part-after p quote b)) (i + 1) bs
+  unfolding literal-reach
+  reach-on n i e = rw (e, literal-reach)
+
+  pub reach-off : (n i : ℕ) → stops (part-after p quote b) ≡ true → literal-reach quote p n i (b ∷ bs) ≡ reached (part-after p quote b) n (i + 1)
+  unfolding literal-reach
+  reach-off n i e = rw (e, literal-reach)
+
+  pub characters-on : stops (part-after p quote b) ≡ false → characters quote p (b ∷ bs) ≡ with-character (part-after p quote b) (characters quote (part-after p quote b) bs)
+  unfolding characters
+  characters-on e = rw (e, characters)
+
+  pub characters-off : stops (part-after p quote b) ≡ true → characters quote p (b ∷ bs) ≡ []
+  unfolding characters
+  characters-off e = rw (e, characters)
+
+module _ (xs : List ℕ) (quote : ℕ) (p : Part) (n i : ℕ) where
+  pub reach-turn : i < length xs → stops (part-after p quote (getD xs i 0)) ≡ false
+      → literal-reach quote p n i (drop i xs) ≡ literal-reach quote (part-after p quote (getD xs i 0)) (counted n (part-after p quote (getD xs i 0))) (i + 1) (drop (i + 1) xs)
+  reach-turn h e = rw (next xs i h) (reach-on quote p (getD xs i 0) (drop (i + 1) xs) n i e)
+
+  pub reach-stop : i < length xs → stops (part-after p quote (getD xs i 0)) ≡ true
+      → literal-reach quote p n i (drop i xs) ≡ reached (part-after p quote (getD xs i 0)) n (i + 1)
+  reach-stop h e = rw (next xs i h) (reach-off quote p (getD xs i 0) (drop (i + 1) xs) n i e)
+
+  pub reach-out : length xs ≤ i → literal-reach quote p n i (drop i xs) ≡ reached p n i
+  unfolding literal-reach
+  reach-out h = rw (drop-of-length-le xs h)
+
+-- ---- a literal ends within the bytes
+
+pub reach-grows : (quote : ℕ) (p : Part) (n i : ℕ) (bs : List ℕ) → i ≤ literal-reach quote p n i bs .end
+unfolding literal-reach
+reach-grows quote p n i [] = omega arith
+reach-grows quote p n i (b ∷ bs) =
+    ⊎-elim (λ e. rw (reach-off quote p b bs n i e) (omega arith))
+    (λ e.
+    rw (reach-on quote p b bs n i e)
+    (let h : i + 1 ≤ literal-reach quote (part-after p quote b) (counted n (part-after p quote b)) (i + 1) bs .end = reach-grows quote (part-after p quote b) (counted n (part-after p quote b)) (i + 1) bs
+    in omega arith))
+    (which (stops (part-after p quote b)))
+
+pub reach-fits : (quote : ℕ) (p : Part) (n i : ℕ) (bs : List ℕ) → literal-reach quote p n i bs .end ≤ i + length bs
+unfolding literal-reach
+reach-fits quote p n i [] = omega arith
+reach-fits quote p n i (b ∷ bs) =
+    ⊎-elim (λ e. rw (reach-off quote p b bs n i e) (omega arith))
+    (λ e.
+    rw (reach-on quote p b bs n i e)
+    (let h : literal-reach quote (part-after p quote b) (counted n (part-after p quote b)) (i + 1) bs .end ≤ i + 1 + length bs = reach-fits quote (part-after p quote b) (counted n (part-after p quote b)) (i + 1) bs
+    in omega arith))
+    (which (stops (part-after p quote b)))
+
+-- ---- the number of characters
+
+one-more : (n : ℕ) (p : Part) (cs : List ℕ) → counted n p + length cs ≡ n + length (with-character p cs)
+one-more n Start cs = refl
+one-more n Escape cs = refl
+one-more n Bracket cs = refl
+one-more n (Digits v) cs = refl
+one-more n (Character c) cs = omega arith
+one-more n Closed cs = refl
+one-more n Wrong cs = refl
+
+pub reach-count : (quote : ℕ) (p : Part) (n i : ℕ) (bs : List ℕ) → literal-reach quote p n i bs .count ≡ n + length (characters quote p bs)
+unfolding literal-reach characters
+reach-count quote p n i [] = omega arith
+reach-count quote p n i (b ∷ bs) =
+    ⊎-elim (λ e. rw (reach-off quote p b bs n i e, characters-off quote p b bs e) (omega arith))
+    (λ e.
+    rw (reach-on quote p b bs n i e, characters-on quote p b bs e)
+    (reach-count quote (part-after p quote b) (counted n (part-after p quote b)) (i + 1) bs ∙ one-more n (part-after p quote b) (characters quote (part-after p quote b) bs)))
+    (which (stops (part-after p quote b)))
+
+-- ---- the character of a number
+
+never : {A : Type 0} → false ≡ true → A
+never e = let z : _≡_ {A = ℕ} 0 1 = cc in absurd (omega arith)
+
+found-value : (p : Part) (left : ℕ) (cs : List ℕ) → is-found p left ≡ true → getD (with-character p cs) left 0 ≡ value-of p
+found-value Start left cs e = never e
+found-value Escape left cs e = never e
+found-value Bracket left cs e = never e
+found-value (Digits n) left cs e = never e
+found-value (Character c) left cs e = rw (eqb-true left 0 e)
+found-value Closed left cs e = never e
+found-value Wrong left cs e = never e
+
+missed-value : (p : Part) (left : ℕ) (cs : List ℕ) → is-found p left ≡ false → getD (with-character p cs) left 0 ≡ getD cs (left-after p left) 0
+missed-value Start left cs e = refl
+missed-value Escape left cs e = refl
+missed-value Bracket left cs e = refl
+missed-value (Digits n) left cs e = refl
+missed-value (Character c) left cs e = let l : left ≡ suc (left - 1) = omega (arith, eqb-false left 0 e) in ap (λ (k : ℕ). getD (c ∷ cs) k 0) l
+missed-value Closed left cs e = refl
+missed-value Wrong left cs e = refl
+
+module _ (xs : List ℕ) (quote : ℕ) (p : Part) (left i : ℕ) where
+  pub character-found : i < length xs → stops (part-after p quote (getD xs i 0)) ≡ false → is-found (part-after p quote (getD xs i 0)) left ≡ true
+      → getD (characters quote p (drop i xs)) left 0 ≡ value-of (part-after p quote (getD xs i 0))
+  character-found h e f =
+      rw (next xs i h, characters-on quote p (getD xs i 0) (drop (i + 1) xs) e)
+      (found-value (part-after p quote (getD xs i 0)) left (characters quote (part-after p quote (getD xs i 0)) (drop (i + 1) xs)) f)
+
+  pub character-turn : i < length xs → stops (part-after p quote (getD xs i 0)) ≡ false → is-found (part-after p quote (getD xs i 0)) left ≡ false
+      → getD (characters quote p (drop i xs)) left 0
+      ≡ getD (characters quote (part-after p quote (getD xs i 0)) (drop (i + 1) xs)) (left-after (part-after p quote (getD xs i 0)) left) 0
+  character-turn h e f =
+      rw (next xs i h, characters-on quote p (getD xs i 0) (drop (i + 1) xs) e)
+      (missed-value (part-after p quote (getD xs i 0)) left (characters quote (part-after p quote (getD xs i 0)) (drop (i + 1) xs)) f)
+
+  pub character-stop : i < length xs → stops (part-after p quote (getD xs i 0)) ≡ true → getD (characters quote p (drop i xs)) left 0 ≡ 0
+  character-stop h e = rw (next xs i h, characters-off quote p (getD xs i 0) (drop (i + 1) xs) e)
+
+  pub character-out : length xs ≤ i → getD (characters quote p (drop i xs)) left 0 ≡ 0
+  unfolding characters
+  character-out h = rw (drop-of-length-le xs h)

@@ -1,0 +1,4 @@
+pub mod Bytes
+pub mod Spans
+pub mod Header
+pub mod Split
