@@ -9,3 +9,4 @@ pub mod LaidLocal
 pub mod RulesLocal
 pub mod PassedLocal
 pub mod SameSets
+pub mod ConstructCodes
