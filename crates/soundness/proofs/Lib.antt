@@ -10,3 +10,6 @@ pub mod RulesLocal
 pub mod PassedLocal
 pub mod SameSets
 pub mod ConstructCodes
+pub mod TermCodes
+pub mod KnownTerms
+pub mod TermLists
