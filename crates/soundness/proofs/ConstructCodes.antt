@@ -38,6 +38,16 @@ code (Construct.Range low high) = 7 ∷ 1 ∷ low ∷ high ∷ []
 code (Construct.Uint width start end binder) = 8 ∷ 1 ∷ width ∷ start ∷ end ∷ binder ∷ []
 code Construct.Eod = 9 ∷ 1 ∷ []
 
+-- what holds of 0 to 5
+pub one-of-six : (P : ℕ → Type 0) → P 0 → P 1 → P 2 → P 3 → P 4 → P 5 → (k : ℕ) → k < 6 → P k
+one-of-six P a b c d e f zero h = a
+one-of-six P a b c d e f (suc zero) h = b
+one-of-six P a b c d e f (suc (suc zero)) h = c
+one-of-six P a b c d e f (suc (suc (suc zero))) h = d
+one-of-six P a b c d e f (suc (suc (suc (suc zero)))) h = e
+one-of-six P a b c d e f (suc (suc (suc (suc (suc zero))))) h = f
+one-of-six P a b c d e f (suc (suc (suc (suc (suc (suc k)))))) h = absurd (omega arith)
+
 -- ---- the words that a construct is read from
 
 abbrev Starts : List ℕ → List ℕ → Type 0
@@ -97,15 +107,6 @@ module _ (ws : List ℕ) (i : ℕ) where
   read-says =
       picked (λ x. Starts (code x) six) (ltb i 256)
       (λ t. says i (construct-word ws i 0) (construct-word ws i 1) (construct-word ws i 2) (construct-word ws i 3) (construct-word ws i 4) (construct-word ws i 5)) (λ t. tt)
-
-  one-of-six : (P : ℕ → Type 0) → P 0 → P 1 → P 2 → P 3 → P 4 → P 5 → (k : ℕ) → k < 6 → P k
-  one-of-six P a b c d e f zero h = a
-  one-of-six P a b c d e f (suc zero) h = b
-  one-of-six P a b c d e f (suc (suc zero)) h = c
-  one-of-six P a b c d e f (suc (suc (suc zero))) h = d
-  one-of-six P a b c d e f (suc (suc (suc (suc zero)))) h = e
-  one-of-six P a b c d e f (suc (suc (suc (suc (suc zero))))) h = f
-  one-of-six P a b c d e f (suc (suc (suc (suc (suc (suc k)))))) h = absurd (omega arith)
 
   -- what was read is read from the first words, and the others are 0
   read-or-zero : (cs : List ℕ) → Starts cs six → ((k : ℕ) → length cs ≤ k → k < 6 → construct-word ws i k ≡ 0) → (k : ℕ) → k < 6 → construct-word ws i k ≡ getD cs k 0

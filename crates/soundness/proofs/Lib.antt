@@ -13,3 +13,5 @@ pub mod ConstructCodes
 pub mod TermCodes
 pub mod KnownTerms
 pub mod TermLists
+pub mod LiteralCodes
+pub mod OneGrammar
