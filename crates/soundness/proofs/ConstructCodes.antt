@@ -1,23 +1,20 @@
 -- A construct's words, of well laid out words, are those of what they say.
 -- Assumes nothing.
 use Prim.Native.Nat.{ℕ, zero, suc, _+_, _*_, _≤_, _<_}
-use mathlib.Core.Path.{_≡_, refl, sym, ap, _∙_}
-use mathlib.Core.Bool.{Bool, true, false}
+use mathlib.Core.Path.{_≡_, refl, sym, _∙_}
+use mathlib.Core.Bool.{true, false}
 use mathlib.Core.List.{List, [], _∷_}
 use native.Mathlib.Omega.{arith}
 use native.Mathlib.Decide.{decLt}
 use borrow.Author.Tests.{leb-true, eqb-true, eqb-false}
 use lib.Dec.{leb, ltb, eqb}
 use lib.ListN.{length, getD, List·getD-eq-default}
-use Rattle.terms.specs.declared.Kind.{Kind}
 use Rattle.layout.specs.Places.{word, constructs-at, rule-count, construct-word}
 use Rattle.layout.specs.Constructs.{both, branches, listed, repetitionOf, innerOf, leafOf, constructOf, constructAt}
 use Rattle.layout.specs.declared.Construct.{Construct}
 use Rattle.layout.specs.declared.Passes.{Passes}
-use Rattle.form.specs.Checks.{all-zero}
-use Rattle.form.specs.Parts.{parts-laid}
 use Rattle.form.specs.Lists.{counts-formed}
-use Rattle.form.specs.Laid.{operands-zero, second-part, construct-end, passes-laid, kind-laid}
+use Rattle.form.specs.Laid.{operands-zero, kind-laid}
 use Rattle.form.proofs.Walks.{both-first, both-second}
 use Rattle.form.proofs.Decoded.{picked}
 use Rattle.structure.proofs.Facts.{each, lt-of-ne}

@@ -3,29 +3,29 @@
 use Prim.Native.Nat.{ℕ, zero, suc, _+_, _*_, _-_, _/_, _%_, _^_, _≤_, _<_}
 use mathlib.Core.Path.{_≡_, refl, sym, ap, _∙_}
 use mathlib.Core.Logic.{inl, inr}
-use mathlib.Core.Bool.{Bool, true, false}
+use mathlib.Core.Bool.{true, false}
 use mathlib.Core.List.{List, [], _∷_}
 use mathlib.Core.Option.{some}
 use native.Mathlib.Omega.{arith}
 use borrow.Author.Tests.{ltb-true}
 use lib.Dec.{ltb, eqb}
 use lib.IntN.{pos}
-use lib.ListN.{length, getD, take, drop, replicate, length-take, length-drop}
+use lib.ListN.{length, drop, replicate, length-take, length-drop}
 use lib.Seq.{ext-getD, getD-take, getD-drop}
 use Rattle.basis.specs.Bits.{value}
-use Rattle.basis.specs.Counts.{Counts, zero-or-more}
+use Rattle.basis.specs.Counts.{zero-or-more}
 use Rattle.terms.specs.Words.{termAt, terms}
 use Rattle.evaluation.specs.Meaning.{membership, condition}
 use Rattle.evaluation.specs.Counts.{counts, formOf}
 use Rattle.evaluation.specs.Variables.{hasVariable}
-use Rattle.theory.specs.Grammar.{Grammar, alternative, concatenation, repetition, switch, use-of, field}
+use Rattle.theory.specs.Grammar.{alternative, concatenation, repetition, switch, use-of, field}
 use Rattle.theory.proofs.Turns.{decide}
-use Rattle.layout.specs.Places.{word, rule-word, variable-word, construct-word, terms-at, literals-at}
-use Rattle.layout.specs.Constructs.{pick, constructOf, constructAt}
-use Rattle.layout.specs.Held.{Values, HeldNode, term-words, size-of, parts, isYes, passes-allowed, passes-static, passes-fixed, first-case, literal-byte, literal-bytes, literal-node, bound, uint-node, use-node, node-of, opening, held, allowed, isExact}
+use Rattle.layout.specs.Places.{rule-word, variable-word, construct-word, terms-at}
+use Rattle.layout.specs.Constructs.{pick, constructAt}
+use Rattle.layout.specs.Held.{Values, term-words, size-of, parts, isYes, passes-allowed, passes-static, passes-fixed, first-case, literal-byte, literal-bytes, literal-node, bound, use-node, node-of, opening, held, allowed, isExact}
 use Rattle.layout.specs.declared.Construct.{Construct}
 use Rattle.layout.specs.declared.Passes.{Passes}
-use Rattle.form.proofs.Decoded.{picked, Fine, fine}
+use Rattle.form.proofs.Decoded.{Fine, fine}
 use Rattle.soundness.specs.OneTable.{Alike}
 
 module _ {ws ws′ : List ℕ} (a : Alike ws ws′) where
@@ -134,7 +134,7 @@ module _ {ws ws′ : List ℕ} (a : Alike ws ws′) where
   node-same i (Construct.Repetition size p) f = λ t. repetition (λ c v. allowed-same p v t) (static-same p t) (fixed-same p t) (i + 1)
   node-same i (Construct.Switch size) f =
       let first : (v : Values) → first-case ws v (parts size ws (i + 1) (i + size)) ≡ first-case ws′ v (parts size ws′ (i + 1) (i + size)) =
-          λ v. case-same v (parts size ws (i + 1) (i + size)) (small-parts size (i + 1) (i + size) (f .1)) ∙ ap (first-case ws′ v) (parts-same size (i + 1) (i + size)) in
+      λ v. case-same v (parts size ws (i + 1) (i + size)) (small-parts size (i + 1) (i + size) (f .1)) ∙ ap (first-case ws′ v) (parts-same size (i + 1) (i + size)) in
       λ t. switch (λ c v. first v t) (parts-same size (i + 1) (i + size) t)
   node-same i (Construct.Use rule) f = use-same rule (f .1)
   node-same i (Construct.Literal n) f = ap literal-node (literals-same i 0 n (f .0) (omega (arith, f .2)))
@@ -150,5 +150,5 @@ module _ {ws ws′ : List ℕ} (a : Alike ws ws′) where
   unfolding held
   held-local =
       let nodes : (i : ℕ) → pick (eqb i opening) (use-node ws 0) (node-of ws i (constructAt ws i)) ≡ pick (eqb i opening) (use-node ws′ 0) (node-of ws′ i (constructAt ws′ i)) =
-          λ i t. pick (eqb i opening) (use-same 0 (omega arith) t) ((node-same i (constructAt ws i) (fine ws i) ∙ ap (node-of ws′ i) (constructs-same i)) t) in
+      λ i t. pick (eqb i opening) (use-same 0 (omega arith) t) ((node-same i (constructAt ws i) (fine ws i) ∙ ap (node-of ws′ i) (constructs-same i)) t) in
       λ t. record { node = λ i. nodes i t; start = opening; context = tt; values = replicate 64 (pos 0) }

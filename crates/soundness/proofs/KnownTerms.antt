@@ -1,14 +1,12 @@
 -- A term of a list that comes to an answer is one of those named: no word of it is without meaning.
 -- Assumes nothing.
 use Prim.Native.Nat.{ℕ, zero, suc, _+_, _-_, _≤_, _<_}
-use mathlib.Core.Path.{_≡_, refl, sym, subst, ap, _∙_}
+use mathlib.Core.Path.{_≡_, refl, subst}
 use mathlib.Core.Logic.{_⊎_, inl, inr}
-use mathlib.Core.Bool.{Bool, true, false}
 use mathlib.Core.List.{List}
 use native.Mathlib.Omega.{arith}
 use native.Mathlib.Decide.{decLt, ℕ-discrete}
 use borrow.Author.Tests.{lt-ltb}
-use lib.Dec.{ltb}
 use lib.IntN.{ℤ, pos}
 use Rattle.terms.specs.Words.{termAt, terms}
 use Rattle.terms.specs.Steps.{operateOf, afterOf, operated, stepOf}
@@ -19,7 +17,7 @@ use Rattle.terms.specs.declared.Operation.{Operation}
 use Rattle.terms.specs.declared.Term.{Term}
 use Rattle.terms.specs.declared.Trial.{Trial}
 use Rattle.evaluation.specs.Meaning.{next, run}
-use Rattle.evaluation.specs.Counts.{formOf, calculationsEnd, ofTrial, talliedBy, tallied}
+use Rattle.evaluation.specs.Counts.{formOf, calculationsEnd, ofTrial, tallied}
 use Rattle.evaluation.specs.declared.Form.{Form}
 use Rattle.evaluation.specs.declared.Ended.{Ended}
 use Rattle.evaluation.proofs.Runs.{goes}

@@ -6,6 +6,7 @@ pub mod Reliability
 pub mod Trust
 pub mod HeldLocal
 pub mod LaidLocal
+pub mod EndedWords
 pub mod RulesLocal
 pub mod PassedLocal
 pub mod SameSets

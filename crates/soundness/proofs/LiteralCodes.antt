@@ -1,6 +1,6 @@
 -- The words of a literal, of well laid out words, are those of its bytes.
 -- Assumes nothing.
-use Prim.Native.Nat.{ℕ, zero, suc, _+_, _*_, _-_, _/_, _%_, _^_, _≤_, _<_}
+use Prim.Native.Nat.{ℕ, zero, suc, _+_, _*_, _/_, _%_, _^_, _≤_, _<_}
 use mathlib.Core.Path.{_≡_, refl, sym, ap, _∙_}
 use mathlib.Core.Bool.{true}
 use mathlib.Core.List.{List}
@@ -11,7 +11,7 @@ use lib.Dec.{ltb}
 use lib.ListN.{getD}
 use lib.Pow.{pow-add, shr-shr}
 use Rattle.layout.specs.Places.{word, literals-at, construct-count}
-use Rattle.layout.specs.Constructs.{pick, constructAt}
+use Rattle.layout.specs.Constructs.{constructAt}
 use Rattle.layout.specs.Held.{literal-byte, literal-bytes}
 use Rattle.layout.specs.declared.Construct.{Construct}
 use Rattle.form.specs.Laid.{literal-length, byte-laid}

@@ -9,11 +9,9 @@ use native.Mathlib.Omega.{arith}
 use native.Mathlib.Decide.{decLt, ℕ-discrete}
 use borrow.Author.Tests.{eqb-true}
 use lib.Dec.{eqb}
-use lib.ListN.{length, getD}
-use Rattle.terms.specs.Words.{termAt}
+use lib.ListN.{getD}
 use Rattle.layout.specs.Places.{word, table-words, rules-at, variables-at, constructs-at, terms-at, literals-at, sets-at, rule-count, construct-count, variable-count, term-count, rule-word, variable-word, construct-word}
-use Rattle.layout.specs.Constructs.{both, constructAt}
-use Rattle.layout.specs.Held.{term-words}
+use Rattle.layout.specs.Constructs.{both}
 use Rattle.layout.specs.declared.Construct.{Construct}
 use Rattle.form.specs.Checks.{all-zero}
 use Rattle.form.proofs.Walks.{both-first, both-second}
@@ -21,7 +19,7 @@ use Rattle.structure.proofs.Facts.{Laid, each, lt-of-ne}
 use Rattle.structure.proofs.RuleLaws.{rule-fact}
 use Rattle.structure.proofs.Binding.{variable-of, bound-in}
 use Rattle.table.specs.Sound.{Sound}
-use Rattle.soundness.specs.OneTable.{Alike, SameGrammar}
+use Rattle.soundness.specs.OneTable.{Alike, SameGrammar, OneTable}
 use Rattle.soundness.proofs.Hypothesis.{laid-of-sound}
 use Rattle.soundness.proofs.SameSets.{alike-equal}
 use Rattle.soundness.proofs.ConstructCodes.{code, one-of-six, coded}
@@ -106,7 +104,7 @@ module _ {ws ws′ : List ℕ} (s : Sound ws) (s′ : Sound ws′) (fits : (k : 
   variable-word-same : (x : ℕ) → x < variable-count ws → (k : ℕ) → k < 6 → k < 4 → variable-word ws x k ≡ variable-word ws′ x k
   variable-word-same x h =
       let unused : (k : ℕ) → 2 ≤ k → k < 4 → variable-word ws x k ≡ variable-word ws′ x k =
-          λ k low high. variable-unused l x k h low high ∙ sym (variable-unused l′ x k (omega (arith, g .variables)) low high) in
+      λ k low high. variable-unused l x k h low high ∙ sym (variable-unused l′ x k (omega (arith, g .variables)) low high) in
       one-of-six (λ k. k < 4 → variable-word ws x k ≡ variable-word ws′ x k) (λ b. g .variable x h .0) (λ b. g .variable x h .1)
       (λ b. unused 2 (omega arith) b) (λ b. unused 3 (omega arith) b) (λ b. absurd (omega arith)) (λ b. absurd (omega arith))
 
@@ -169,6 +167,5 @@ module _ {ws ws′ : List ℕ} (s : Sound ws) (s′ : Sound ws′) (fits : (k : 
   pub same-alike : Alike ws ws′
   same-alike = record { long = omega (arith, l .long); long′ = omega (arith, l′ .long); same = below-sets }
 
-pub one-table : (ws ws′ : List ℕ) → length ws ≡ table-words → length ws′ ≡ table-words → ((k : ℕ) → word ws k < 2 ^ 32) → ((k : ℕ) → word ws′ k < 2 ^ 32)
-    → Sound ws → Sound ws′ → SameGrammar ws ws′ → ws ≡ ws′
+pub one-table : OneTable
 one-table ws ws′ n n′ fits fits′ s s′ g = alike-equal (same-alike s s′ fits fits′ g) s s′ n n′

@@ -1,31 +1,29 @@
 -- Every term of a sound table stands in a list, so its words are those of the term.
 -- Assumes nothing.
-use Prim.Native.Nat.{ℕ, zero, suc, _+_, _*_, _-_, _/_, _≤_, _<_}
-use mathlib.Core.Path.{_≡_, refl, sym, subst, ap, _∙_}
+use Prim.Native.Nat.{ℕ, zero, suc, _+_, _*_, _/_, _≤_, _<_}
+use mathlib.Core.Path.{_≡_, refl, subst, ap, _∙_}
 use mathlib.Core.Logic.{_⊎_, inl, inr}
 use mathlib.Core.Bool.{Bool, true, false}
 use mathlib.Core.List.{List}
 use native.Mathlib.Omega.{arith}
 use native.Mathlib.Decide.{decLt}
-use borrow.Author.Tests.{ltb-true, ltb-false, eqb-true, lt-ltb}
+use borrow.Author.Tests.{eqb-true, lt-ltb}
 use lib.Dec.{ltb, eqb}
 use lib.ListN.{length, getD, drop, length-take, length-drop}
 use lib.Seq.{getD-take, getD-drop}
 use Rattle.terms.specs.Words.{termOf, termAt}
-use Rattle.terms.specs.declared.Term.{Term}
 use Rattle.theory.proofs.Turns.{decide}
 use Rattle.layout.specs.Places.{word, terms-at, construct-count, term-count, construct-word}
-use Rattle.layout.specs.Constructs.{pick, both, constructAt}
+use Rattle.layout.specs.Constructs.{constructAt}
 use Rattle.layout.specs.Held.{term-words}
 use Rattle.layout.specs.declared.Construct.{Construct}
 use Rattle.layout.specs.declared.Passes.{Passes}
 use Rattle.form.specs.Checks.{either}
-use Rattle.form.specs.Lists.{own-start, own-end, begins, after, after-condition, lists-begin, after-lists, lists-from, has-low, term-laid}
+use Rattle.form.specs.Lists.{own-start, own-end, begins, after, after-condition, lists-begin, after-lists, lists-from, has-low}
 use Rattle.form.proofs.Walks.{both-first, both-second}
 use Rattle.weights.proofs.Heights.{weight-at}
 use Rattle.weights.proofs.Rooms.{rooms}
 use Rattle.measures.specs.Measures.{widest}
-use Rattle.structure.proofs.Facts.{Laid}
 use Rattle.agreement.proofs.Reliable.{Reliable, condition-answers, counts-answer, set-answers}
 use Rattle.table.specs.Sound.{Sound}
 use Rattle.soundness.proofs.Hypothesis.{laid-of-sound}

@@ -1,6 +1,6 @@
 -- "each admitted grammar has one table": when do two lists of words hold the same grammar?
 -- Assumes nothing.
-use Prim.Native.Nat.{ℕ, _+_, _*_, _≤_, _<_}
+use Prim.Native.Nat.{ℕ, _+_, _*_, _^_, _≤_, _<_}
 use mathlib.Core.Path.{_≡_}
 use mathlib.Core.List.{List}
 use lib.ListN.{length}
@@ -9,6 +9,7 @@ use Rattle.layout.specs.Places.{word, table-words, sets-at, rule-count, constru
 use Rattle.layout.specs.Constructs.{constructAt}
 use Rattle.layout.specs.Held.{term-words, literal-bytes}
 use Rattle.layout.specs.declared.Construct.{Construct}
+use Rattle.table.specs.Sound.{Sound}
 
 -- The words agree in all that a grammar is read from: below the sets, but for the weight (word 5).
 pub record Alike (ws ws′ : List ℕ) : Type 0 where
@@ -39,3 +40,9 @@ pub record SameGrammar (ws ws′ : List ℕ) : Type 0 where
   pub condition : (i : ℕ) → i < construct-count ws → (construct-word ws i 6 ≡ construct-word ws′ i 6) × (construct-word ws i 7 ≡ construct-word ws′ i 7)
   pub term : (k : ℕ) → k < term-count ws → termAt (term-words ws) k ≡ termAt (term-words ws′) k
   pub literal : (i n : ℕ) → i < construct-count ws → constructAt ws i ≡ Construct.Literal n → literal-bytes ws i 0 n ≡ literal-bytes ws′ i 0 n
+
+-- "each admitted grammar has one table, sound and with unused words 0": of 16,384 u32 words
+abbrev pub OneTable : Type 0
+OneTable =
+    (ws ws′ : List ℕ) → length ws ≡ table-words → length ws′ ≡ table-words → ((k : ℕ) → word ws k < 2 ^ 32) → ((k : ℕ) → word ws′ k < 2 ^ 32)
+    → Sound ws → Sound ws′ → SameGrammar ws ws′ → ws ≡ ws′
