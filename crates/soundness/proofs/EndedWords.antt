@@ -4,6 +4,7 @@ use Prim.Native.Nat.{ℕ, zero, suc, _+_, _*_, _-_}
 use mathlib.Core.Path.{_≡_, refl, _∙_}
 use mathlib.Core.Bool.{Bool, true}
 use mathlib.Core.List.{List}
+use native.Mathlib.Omega.{arith}
 use borrow.Author.Tests.{eqb-true, le-leb, eq-eqb}
 use lib.Dec.{eqb}
 use Rattle.layout.specs.Places.{word, table-words, rules-at, variables-at, constructs-at, terms-at, literals-at, sets-at, rule-count, construct-count, variable-count, term-count, weight-of}
@@ -25,12 +26,12 @@ ended-of {ws} l =
     record {
       long = l .long;
       some-weight = l .counts .some-weight;
-      weight = l .counts .weight;
+      weight = omega (arith, l .counts .weight);
       zeros = λ k low high. eqb-true (word ws k) 0 (each (λ u. eqb (word ws u) 0) table-words (sets-at + 32 * construct-count ws) k zeros low high);
     }
 
 pub weight-limited : {ws : List ℕ} → Ended ws → limited 1 (weight-of ws) 65535 ≡ true
-weight-limited {ws} e = rw (le-leb 1 (weight-of ws) (e .some-weight), le-leb (weight-of ws) 65535 (e .weight)) refl
+weight-limited {ws} e = rw (le-leb 1 (weight-of ws) (e .some-weight), le-leb (weight-of ws) 65535 (omega (arith, e .weight))) refl
 
 all-true : (start end : ℕ) → from-to start end (λ k. true) ≡ true
 unfolding every
