@@ -9,6 +9,7 @@ pub mod LaidLocal
 pub mod EndedWords
 pub mod RulesLocal
 pub mod PassedLocal
+pub mod LongTables
 pub mod SameSets
 pub mod ConstructCodes
 pub mod TermCodes
