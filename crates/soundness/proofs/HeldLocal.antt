@@ -3,29 +3,29 @@
 use Prim.Native.Nat.{ℕ, zero, suc, _+_, _*_, _-_, _/_, _%_, _^_, _≤_, _<_}
 use mathlib.Core.Path.{_≡_, refl, sym, ap, _∙_}
 use mathlib.Core.Logic.{inl, inr}
-use mathlib.Core.Bool.{Bool, true, false}
+use mathlib.Core.Bool.{true, false}
 use mathlib.Core.List.{List, [], _∷_}
 use mathlib.Core.Option.{some}
 use native.Mathlib.Omega.{arith}
 use borrow.Author.Tests.{ltb-true}
 use lib.Dec.{ltb, eqb}
 use lib.IntN.{pos}
-use lib.ListN.{length, getD, take, drop, replicate, length-take, length-drop}
+use lib.ListN.{length, drop, replicate, length-take, length-drop}
 use lib.Seq.{ext-getD, getD-take, getD-drop}
 use Rattle.basis.specs.Bits.{value}
-use Rattle.basis.specs.Counts.{Counts, zero-or-more}
+use Rattle.basis.specs.Counts.{zero-or-more}
 use Rattle.terms.specs.Words.{termAt, terms}
 use Rattle.evaluation.specs.Meaning.{membership, condition}
 use Rattle.evaluation.specs.Counts.{counts, formOf}
 use Rattle.evaluation.specs.Variables.{hasVariable}
-use Rattle.theory.specs.Grammar.{Grammar, alternative, concatenation, repetition, switch, use-of, field}
+use Rattle.theory.specs.Grammar.{alternative, concatenation, repetition, switch, use-of, field}
 use Rattle.theory.proofs.Turns.{decide}
-use Rattle.layout.specs.Places.{word, rule-word, variable-word, construct-word, terms-at, literals-at}
-use Rattle.layout.specs.Constructs.{pick, constructOf, constructAt}
-use Rattle.layout.specs.Held.{Values, HeldNode, term-words, size-of, parts, isYes, passes-allowed, passes-static, passes-fixed, first-case, literal-byte, literal-bytes, literal-node, bound, uint-node, use-node, node-of, opening, held, allowed, isExact}
+use Rattle.layout.specs.Places.{rule-word, variable-word, construct-word, terms-at}
+use Rattle.layout.specs.Constructs.{pick, constructAt}
+use Rattle.layout.specs.Held.{Values, term-words, size-of, parts, isYes, passes-allowed, passes-static, passes-fixed, first-case, literal-byte, literal-bytes, literal-node, bound, use-node, node-of, opening, held, allowed, isExact}
 use Rattle.layout.specs.declared.Construct.{Construct}
 use Rattle.layout.specs.declared.Passes.{Passes}
-use Rattle.form.proofs.Decoded.{picked, Fine, fine}
+use Rattle.form.proofs.Decoded.{Fine, fine}
 use Rattle.soundness.specs.OneTable.{Alike}
 
 module _ {ws ws′ : List ℕ} (a : Alike ws ws′) where

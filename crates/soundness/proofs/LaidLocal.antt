@@ -1,39 +1,29 @@
 -- Whether constructs are well laid out is read from the words below the sets, and not from the weight.
 -- Assumes nothing.
 use Prim.Native.Nat.{ℕ, zero, suc, _+_, _*_, _-_, _/_, _%_, _^_, _≤_, _<_}
-use mathlib.Core.Path.{_≡_, refl, sym, ap, _∙_}
-use mathlib.Core.Logic.{inl, inr}
+use mathlib.Core.Path.{_≡_, refl, ap, _∙_}
 use mathlib.Core.Bool.{Bool, true, false}
 use mathlib.Core.List.{List}
 use native.Mathlib.Omega.{arith}
 use native.Mathlib.Decide.{decLt}
-use borrow.Author.Tests.{ltb-true, eqb-true, le-leb}
 use lib.Dec.{leb, ltb, eqb}
-use lib.ListN.{length}
-use Rattle.terms.specs.Words.{termAt, terms}
+use Rattle.terms.specs.Words.{terms}
 use Rattle.terms.specs.declared.Kind.{Kind}
-use Rattle.terms.specs.declared.Operation.{Operation}
-use Rattle.terms.specs.declared.Term.{Term}
 use Rattle.sizes.specs.Sizes.{sizes, countSizes}
-use Rattle.theory.proofs.Turns.{decide}
-use Rattle.layout.specs.Places.{word, table-words, rules-at, variables-at, constructs-at, terms-at, literals-at, sets-at, rule-count, construct-count, variable-count, term-count, weight-of, rule-word, variable-word, construct-word}
+use Rattle.layout.specs.Places.{word, constructs-at, literals-at, sets-at}
 use Rattle.layout.specs.Constructs.{pick, both, constructAt}
-use Rattle.layout.specs.Held.{term-words, size-of}
+use Rattle.layout.specs.Held.{size-of}
 use Rattle.layout.specs.declared.Construct.{Construct}
 use Rattle.layout.specs.declared.Passes.{Passes}
-use Rattle.form.specs.Checks.{either, limited, every, from-to, all-zero, size-at, walk}
-use Rattle.form.specs.Parts.{conditioned, unconditioned, part-laid, parts-laid}
-use Rattle.form.specs.Lists.{own-start, own-end, begins, after, after-condition, lists-begin, after-lists, lists-from, lists-laid, formed, zero-values, list-formed, counts-formed, condition-formed, has-low, term-laid}
-use Rattle.form.specs.Rules.{body, rule-end, rule-laid, rules-laid, binder-of, named-back, variable-laid, binds, member-laid, next-variable, binders-from, is-concatenation, members-at, binders-laid, visible, operation-named, term-named, list-named, construct-named, uses-laid, names-laid}
-use Rattle.form.specs.Laid.{counts-limited, headed, operands-zero, second-part, construct-end, chain-laid, passes-laid, repetition-laid, switch-laid, kind-laid, literal-length, literal-byte, byte-laid, construct-laid, rest-zero, placed, laid}
-use Rattle.form.proofs.Walks.{both-first, both-second}
+use Rattle.form.specs.Checks.{either, every, from-to, all-zero, size-at, walk}
+use Rattle.form.specs.Parts.{unconditioned, part-laid, parts-laid}
+use Rattle.form.specs.Lists.{formed, zero-values, list-formed, condition-formed}
+use Rattle.form.specs.Rules.{named-back}
+use Rattle.form.specs.Laid.{operands-zero, chain-laid, passes-laid, kind-laid, literal-length, byte-laid, construct-laid, laid}
 use Rattle.form.proofs.Decoded.{Fine, fine}
-use Rattle.structure.proofs.Facts.{Laid, facts}
-use Rattle.structure.proofs.RuleLaws.{next-begins, last-ends, rule-fact, rule-within}
-use Rattle.structure.proofs.NodeFacts.{body-exists}
 use Rattle.sets.proofs.HeldLaws.{missing}
 use Rattle.soundness.specs.OneTable.{Alike}
-use Rattle.soundness.proofs.HeldLocal.{construct-words, rule-words, variable-words, constructs-same, terms-same}
+use Rattle.soundness.proofs.HeldLocal.{construct-words, variable-words, constructs-same, terms-same}
 
 -- ---- tests of many numbers
 

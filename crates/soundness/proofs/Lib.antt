@@ -6,6 +6,14 @@ pub mod Reliability
 pub mod Trust
 pub mod HeldLocal
 pub mod LaidLocal
+pub mod EndedWords
 pub mod RulesLocal
 pub mod PassedLocal
+pub mod LongTables
 pub mod SameSets
+pub mod ConstructCodes
+pub mod TermCodes
+pub mod KnownTerms
+pub mod TermLists
+pub mod LiteralCodes
+pub mod OneGrammar

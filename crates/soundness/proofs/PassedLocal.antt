@@ -1,13 +1,11 @@
 -- What the judgement passes is read from the words below the sets, and not from the weight: words that were judged may be given their weight
 -- and their sets.
 -- Assumes nothing.
-use Prim.Native.Nat.{ℕ, zero, suc, _+_, _*_, _-_, _≤_, _<_}
+use Prim.Native.Nat.{ℕ, zero, suc, _+_, _≤_, _<_}
 use mathlib.Core.Path.{_≡_, refl, sym, subst, ap, _∙_}
-use mathlib.Core.Bool.{Bool, true, false}
-use mathlib.Core.List.{List, [], _∷_}
+use mathlib.Core.List.{List, _∷_}
 use native.Mathlib.Omega.{arith}
 use lib.Dec.{ltb}
-use lib.IntN.{ℤ}
 use Rattle.terms.specs.Words.{terms}
 use Rattle.terms.specs.declared.Kind.{Kind}
 use Rattle.sizes.specs.Sizes.{sizes, countSizes}
@@ -15,20 +13,18 @@ use Rattle.sizes.specs.declared.Sized.{Sized}
 use Rattle.theory.specs.Grammar.{Grammar}
 use Rattle.theory.specs.Lookahead.{Follow, Predicted, Conflict, EmptyBody}
 use Rattle.theory.specs.Weight.{Weighs}
-use Rattle.layout.specs.Places.{variable-word, construct-word, construct-count, rule-count, weight-of}
+use Rattle.layout.specs.Places.{construct-count, rule-count, weight-of}
 use Rattle.layout.specs.Constructs.{pick, constructAt}
 use Rattle.layout.specs.Held.{Values, held, opening}
 use Rattle.layout.specs.declared.Construct.{Construct}
 use Rattle.layout.specs.declared.Passes.{Passes}
 use Rattle.form.specs.Checks.{either}
-use Rattle.form.specs.Laid.{laid}
 use Rattle.structure.proofs.Facts.{Laid, facts}
 use Rattle.rules.specs.Reaching.{Uses, Reaches, Acyclic}
 use Rattle.measures.specs.Measures.{largest, widest-from, widest, condition-size, counts-size, own-size, exceeds, oversized}
-use Rattle.conflicts.specs.Conflicts.{Conflicting}
 use Rattle.acts.specs.Stored.{prediction-at, follow-at}
-use Rattle.table.specs.Judged.{Weighing, Passed7, Passed8, Passed9, Passed10}
-use Rattle.table.specs.Sound.{Stands, SetsStand, Sound}
+use Rattle.table.specs.Judged.{Weighing, Passed10}
+use Rattle.table.specs.Sound.{Stands, Sound}
 use Rattle.soundness.specs.OneTable.{Alike, Ended}
 use Rattle.soundness.proofs.HeldLocal.{construct-words, rule-words, variable-words, constructs-same, terms-same, held-local}
 use Rattle.soundness.proofs.LaidLocal.{header-same}

@@ -1,7 +1,7 @@
 -- A sound table is reliable: no run from an opening on it breaks (crate `agreement`).
 -- Assumes nothing.
-use Prim.Native.Nat.{ℕ, zero, suc, _+_, _-_, _^_, _≤_, _<_, min}
-use mathlib.Core.Path.{_≡_, refl, sym, subst, ap, _∙_}
+use Prim.Native.Nat.{ℕ, zero, suc, _+_, _≤_, _<_}
+use mathlib.Core.Path.{_≡_, refl, ap, _∙_}
 use mathlib.Core.Bool.{Bool, true, false}
 use mathlib.Core.List.{List}
 use native.Mathlib.Omega.{arith}
@@ -9,12 +9,12 @@ use borrow.Author.Tests.{lt-ltb}
 use lib.IntN.{pos}
 use lib.ListN.{getD}
 use Rattle.terms.specs.declared.Kind.{Kind}
-use Rattle.sizes.specs.Sizes.{sizes, countSizes}
+use Rattle.sizes.specs.Sizes.{sizes}
 use Rattle.sizes.specs.declared.Sized.{Sized}
 use Rattle.theory.specs.Weight.{Weighs, Outweighs, Houses}
 use Rattle.layout.specs.Places.{construct-word, variable-word, construct-count, weight-of}
 use Rattle.layout.specs.Constructs.{constructAt}
-use Rattle.layout.specs.Held.{term-words, terms-of, held, opening}
+use Rattle.layout.specs.Held.{terms-of, held, opening}
 use Rattle.layout.specs.declared.Construct.{Construct}
 use Rattle.layout.specs.declared.Passes.{Passes}
 use Rattle.form.specs.Checks.{either}

@@ -6,30 +6,30 @@ use mathlib.Core.Logic.{inl, inr}
 use mathlib.Core.Bool.{Bool, true, false}
 use mathlib.Core.List.{List}
 use native.Mathlib.Omega.{arith}
-use borrow.Author.Tests.{ltb-true, eqb-true, le-leb, eq-eqb}
+use borrow.Author.Tests.{ltb-true, eqb-true, le-leb}
 use lib.Dec.{leb, ltb, eqb}
 use lib.ListN.{length}
 use Rattle.terms.specs.Words.{termAt}
 use Rattle.terms.specs.declared.Operation.{Operation}
 use Rattle.terms.specs.declared.Term.{Term}
 use Rattle.theory.proofs.Turns.{decide}
-use Rattle.layout.specs.Places.{word, table-words, rules-at, variables-at, constructs-at, terms-at, literals-at, sets-at, mark-of, rule-count, construct-count, variable-count, term-count, weight-of, rule-word, variable-word, construct-word}
+use Rattle.layout.specs.Places.{word, table-words, rules-at, variables-at, constructs-at, terms-at, literals-at, sets-at, rule-count, construct-count, variable-count, weight-of, rule-word}
 use Rattle.layout.specs.Constructs.{pick, both, constructAt}
 use Rattle.layout.specs.Held.{term-words}
 use Rattle.layout.specs.declared.Construct.{Construct}
-use Rattle.form.specs.Checks.{either, limited, every, from-to, all-zero, size-at}
+use Rattle.form.specs.Checks.{either, limited, from-to, all-zero, size-at}
 use Rattle.form.specs.Parts.{unconditioned}
 use Rattle.form.specs.Lists.{own-start, own-end, begins, after, lists-begin, after-lists, lists-from, lists-laid, has-low, term-laid}
-use Rattle.form.specs.Rules.{body, rule-end, rule-laid, rules-laid, binder-of, variable-laid, binds, member-laid, next-variable, binders-from, is-concatenation, members-at, binders-laid, visible, operation-named, term-named, list-named, construct-named, uses-laid, names-laid}
-use Rattle.form.specs.Laid.{counts-limited, headed, construct-laid, rest-zero, placed, laid}
-use Rattle.form.proofs.Walks.{both-second}
+use Rattle.form.specs.Rules.{body, rule-end, rule-laid, binder-of, variable-laid, binds, member-laid, next-variable, binders-from, is-concatenation, binders-laid, visible, operation-named, term-named, list-named, construct-named, uses-laid}
+use Rattle.form.specs.Laid.{headed, construct-laid, placed, laid}
 use Rattle.form.proofs.Decoded.{Fine, fine}
-use Rattle.structure.proofs.Facts.{Laid, facts, each}
+use Rattle.structure.proofs.Facts.{Laid, facts}
 use Rattle.structure.proofs.RuleLaws.{next-begins, last-ends, rule-fact, rule-within}
 use Rattle.structure.proofs.NodeFacts.{body-exists}
 use Rattle.soundness.specs.OneTable.{Alike, Ended}
 use Rattle.soundness.proofs.HeldLocal.{construct-words, rule-words, variable-words, constructs-same, terms-same}
-use Rattle.soundness.proofs.LaidLocal.{from-to-same, header-same, zeros-same, size-same, walk-same, guarded, unconditioned-same, construct-laid-same}
+use Rattle.soundness.proofs.EndedWords.{ended-of, weight-limited, all-past}
+use Rattle.soundness.proofs.LaidLocal.{from-to-same, header-same, zeros-same, size-same, walk-same, unconditioned-same, construct-laid-same}
 
 -- no rule's variables end past their number
 variables-end : {ws : List ℕ} (l : Laid ws) (n r : ℕ) → r + 1 + n ≡ rule-count ws → rule-end ws r 1 ≤ variable-count ws
@@ -51,38 +51,6 @@ binder-small i (Construct.Literal n) x f e = absurd (omega arith)
 binder-small i (Construct.Range low high) x f e = absurd (omega arith)
 binder-small i (Construct.Uint width start end binder) x f e = (f .0, omega (arith, f .5))
 binder-small i Construct.Eod x f e = absurd (omega arith)
-
--- ---- the weight and the words past the sets
-
-pub ended-of : {ws : List ℕ} → Laid ws → Ended ws
-ended-of {ws} l =
-    let R : Bool = both (all-zero ws (rules-at + 4 * rule-count ws) variables-at) (all-zero ws (variables-at + 4 * variable-count ws) constructs-at) in
-    let C : Bool = both (all-zero ws (constructs-at + 8 * construct-count ws) terms-at) (all-zero ws (terms-at + 3 * term-count ws) literals-at) in
-    let Y : Bool = all-zero ws (literals-at + 8 * construct-count ws) sets-at in
-    let S : Bool = all-zero ws (sets-at + 32 * construct-count ws) table-words in
-    let zeros : S ≡ true = both-second Y S (both-second C (both Y S) (both-second R (both C (both Y S)) (l .rest))) in
-    record {
-      long = l .long;
-      some-weight = l .counts .some-weight;
-      weight = l .counts .weight;
-      zeros = λ k low high. eqb-true (word ws k) 0 (each (λ u. eqb (word ws u) 0) table-words (sets-at + 32 * construct-count ws) k zeros low high);
-    }
-
-weight-limited : {ws : List ℕ} → Ended ws → limited 1 (weight-of ws) 65535 ≡ true
-weight-limited {ws} e = rw (le-leb 1 (weight-of ws) (e .some-weight), le-leb (weight-of ws) 65535 (e .weight)) refl
-
-all-true : (start end : ℕ) → from-to start end (λ k. true) ≡ true
-unfolding every
-all-true start end = always (end - start) start
-  where
-    always : (n i : ℕ) → every n i (λ k. true) ≡ true
-    always zero i = refl
-    always (suc n) i = always n (i + 1)
-
-all-past : {ws : List ℕ} → Ended ws → all-zero ws (sets-at + 32 * construct-count ws) table-words ≡ true
-all-past {ws} e =
-    from-to-same (λ k. eqb (word ws k) 0) (λ k. true) (sets-at + 32 * construct-count ws) table-words (λ k low high. eq-eqb (word ws k) 0 (e .zeros k low high))
-    ∙ all-true (sets-at + 32 * construct-count ws) table-words
 
 module _ {ws ws′ : List ℕ} (a : Alike ws ws′) where
   -- ---- lists of terms

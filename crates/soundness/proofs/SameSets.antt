@@ -1,7 +1,7 @@
 -- Sound tables that agree below the sets, but for the weight, are equal.
 -- Assumes nothing.
 use Prim.Native.Nat.{ℕ, _+_, _*_, _-_, _/_, _%_, _≤_, _<_}
-use mathlib.Core.Path.{_≡_, refl, sym, subst, ap, _∙_}
+use mathlib.Core.Path.{_≡_, sym, _∙_}
 use mathlib.Core.List.{List}
 use native.Mathlib.Omega.{arith}
 use native.Mathlib.Decide.{decLt, ℕ-discrete}
@@ -11,16 +11,15 @@ use Rattle.basis.specs.Bits.{Bits}
 use Rattle.theory.specs.Lookahead.{Follow, Predicted}
 use Rattle.theory.specs.Weight.{Weighs}
 use Rattle.layout.specs.Places.{word, table-words, sets-at, construct-count, weight-of}
-use Rattle.layout.specs.Held.{held, opening}
+use Rattle.layout.specs.Held.{held}
 use Rattle.acts.specs.Stored.{prediction-at, follow-at}
 use Rattle.weights.proofs.Heights.{weight-at}
 use Rattle.table.specs.Sound.{Stands, Sound}
 use Rattle.table.proofs.Standing.{one-form}
-use Rattle.soundness.specs.OneTable.{Alike, Ended}
+use Rattle.soundness.specs.OneTable.{Alike}
 use Rattle.soundness.proofs.Hypothesis.{laid-of-sound}
 use Rattle.soundness.proofs.Reliability.{weighed, weight-stored}
-use Rattle.soundness.proofs.HeldLocal.{held-local}
-use Rattle.soundness.proofs.RulesLocal.{ended-of}
+use Rattle.soundness.proofs.EndedWords.{ended-of}
 use Rattle.soundness.proofs.PassedLocal.{count-same, of-held}
 
 -- a set has one form, so its words are the same wherever it stands

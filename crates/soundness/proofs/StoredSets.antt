@@ -1,7 +1,7 @@
 -- A set that stands in a table's words is looked up exactly.
 -- Assumes nothing.
 use Prim.Native.Nat.{ℕ, _≤_}
-use mathlib.Core.Path.{_≡_, refl}
+use mathlib.Core.Path.{_≡_}
 use mathlib.Core.Logic.{_↔_}
 use mathlib.Core.Bool.{true}
 use mathlib.Core.List.{List}
@@ -10,7 +10,7 @@ use lib.ListN.{length}
 use Rattle.basis.specs.Bits.{Bits}
 use Rattle.basis.specs.Lookahead.{number}
 use Rattle.lookahead.specs.Sets.{bit}
-use Rattle.lookahead_slices.specs.Narrow.{memberAt, HasAt}
+use Rattle.lookahead_slices.specs.Narrow.{memberAt}
 use Rattle.lookahead_slices.proofs.NarrowLaws.{has-stands}
 use Rattle.acts.specs.Stored.{stored}
 use Rattle.table.specs.Sound.{Stands}

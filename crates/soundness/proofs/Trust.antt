@@ -2,6 +2,7 @@
 -- Assumes nothing.
 use Prim.Native.Nat.{ℕ}
 use mathlib.Core.List.{List}
+use native.Mathlib.Omega.{arith}
 use Rattle.structure.proofs.StaticLaw.{static}
 use Rattle.structure.proofs.NodeFacts.{width-positive}
 use Rattle.weights.proofs.Heights.{weight-at}
@@ -22,6 +23,6 @@ trusted ws s =
       weight-stored = weight-stored s;
       rooms = rooms ws;
       houses = housed s;
-      room-most = room-most s;
+      room-most = omega (arith, room-most s);
       one-capture-a-bit = λ i e. width-positive ws i e;
     }

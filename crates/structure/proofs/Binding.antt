@@ -34,9 +34,10 @@ pub record Bound (ws : List ℕ) (js : List ℕ) (x : ℕ) : Type 0 where
   pub listed : variable-word ws x 0 ∈ js
   pub binder : binder-of (constructAt ws (variable-word ws x 0)) ≡ x + 1
   pub width : variable-word ws x 1 ≡ construct-word ws (variable-word ws x 0) 2
+  pub unused : all-zero ws (variables-at + 4 * x + 2) (variables-at + 4 * x + 4) ≡ true
 
 later : {ws : List ℕ} {j : ℕ} {js : List ℕ} {x : ℕ} → Bound ws js x → Bound ws (j ∷ js) x
-later b = record { listed = List·Memᴰ·tail (b .listed); binder = b .binder; width = b .width }
+later b = record { listed = List·Memᴰ·tail (b .listed); binder = b .binder; width = b .width; unused = b .unused }
 
 here : (ws : List ℕ) (j : ℕ) (js : List ℕ) (x : ℕ) → variable-laid ws x j ≡ true → Bound ws (j ∷ js) x
 here ws j js x v =
@@ -50,6 +51,7 @@ here ws j js x v =
       listed = List·Memᴰ·head place;
       binder = ap (λ (k : ℕ). binder-of (constructAt ws k)) place ∙ eqb-true (binder-of (constructAt ws j)) (x + 1) (both-first B P front);
       width = eqb-true (variable-word ws x 1) (construct-word ws j 2) (both-first W Z (both-second (both B P) (both W Z) v)) ∙ sym (ap (λ (k : ℕ). construct-word ws k 2) place);
+      unused = both-second W Z (both-second (both B P) (both W Z) v);
     }
 
 module _ (ws : List ℕ) (end last : ℕ) where

@@ -10,13 +10,13 @@ use borrow.Author.Tests.{leb-true, eqb-true, eqb-false, ltb-true, ltb-false}
 use lib.Dec.{leb, ltb, eqb}
 use lib.ListN.{length}
 use Rattle.theory.proofs.Turns.{decide}
-use Rattle.layout.specs.Places.{table-words, rule-count, construct-count, term-count, rule-word}
+use Rattle.layout.specs.Places.{table-words, rules-at, mark-of, weight-of, rule-count, construct-count, term-count, rule-word}
 use Rattle.layout.specs.Constructs.{both, constructAt}
-use Rattle.form.specs.Checks.{every, from-to, size-at}
+use Rattle.form.specs.Checks.{limited, every, from-to, all-zero, size-at}
 use Rattle.form.specs.Parts.{unconditioned}
 use Rattle.form.specs.Lists.{lists-laid, condition-formed, term-laid}
 use Rattle.form.specs.Rules.{body, rule-end, rule-laid, rules-laid, binders-laid, uses-laid, names-laid}
-use Rattle.form.specs.Laid.{headed, kind-laid, literal-length, byte-laid, construct-laid, rest-zero, placed, laid}
+use Rattle.form.specs.Laid.{counts-limited, headed, kind-laid, literal-length, byte-laid, construct-laid, rest-zero, placed, laid}
 use Rattle.form.proofs.Every.{every-turn, every-stop}
 use Rattle.form.proofs.Walks.{both-first, both-second}
 use Rattle.form.proofs.Limits.{Limits, limits}
@@ -48,16 +48,20 @@ pub record RuleLaid (ws : List ℕ) (r : ℕ) : Type 0 where
   pub some-construct : body ws r < rule-end ws r 0
   pub ends : body ws r + size-at ws (body ws r) ≡ rule-end ws r 0
   pub variables : rule-word ws r 1 + rule-word ws r 2 ≡ rule-end ws r 1
+  pub unused : rule-word ws r 3 ≡ 0
   pub no-case : unconditioned ws (body ws r) ≡ true
 
 pub record Laid (ws : List ℕ) : Type 0 where
   pub long : table-words ≤ length ws
+  pub mark : mark-of ws ≡ 1399811687
   pub counts : Limits ws
+  pub header-rest : all-zero ws 6 rules-at ≡ true
   pub rest : rest-zero ws ≡ true
   pub start-body : body ws 0 ≡ 0
   pub start-variables : rule-word ws 0 1 ≡ 0
   pub rule : (r : ℕ) → r < rule-count ws → rule-laid ws r ≡ true
   pub kind : (i : ℕ) → i < construct-count ws → kind-laid ws i (constructAt ws i) ≡ true
+  pub bytes : (i : ℕ) → i < construct-count ws → from-to 0 32 (byte-laid ws i (literal-length (constructAt ws i))) ≡ true
   pub condition : (i : ℕ) → i < construct-count ws → condition-formed ws i ≡ true
   pub lists : lists-laid ws ≡ true
   pub term : (t : ℕ) → t < term-count ws → term-laid ws t ≡ true
@@ -65,7 +69,7 @@ pub record Laid (ws : List ℕ) : Type 0 where
   pub uses : (r : ℕ) → r < rule-count ws → uses-laid ws r ≡ true
 
 pub facts : (ws : List ℕ) → laid ws ≡ true → Laid ws
-unfolding laid placed
+unfolding laid headed placed
 facts ws h =
     let L : Bool = leb table-words (length ws)
     in let Z : Bool = both (rest-zero ws) (rules-laid ws)
@@ -84,15 +88,25 @@ facts ws h =
     in let B : Bool = eqb (body ws 0) 0
     in let X : Bool = eqb (rule-word ws 0 1) 0
     in let R : Bool = from-to 0 (rule-count ws) (rule-laid ws)
+    in let M : Bool = eqb (mark-of ws) 1399811687
+    in let W : Bool = limited 1 (weight-of ws) 65535
+    in let H : Bool = all-zero ws 6 rules-at
+    in let header : both (both M (counts-limited ws)) (both W H) ≡ true = both-first (headed ws) (both P (names-laid ws)) after-length
     in let starts : both B X ≡ true = both-first (both B X) R rules
     in record {
       long = leb-true table-words (length ws) (both-first L (both (headed ws) (both P (names-laid ws))) h);
+      mark = eqb-true (mark-of ws) 1399811687 (both-first M (counts-limited ws) (both-first (both M (counts-limited ws)) (both W H) header));
+      header-rest = both-second W H (both-second (both M (counts-limited ws)) (both W H) header);
       counts = limits ws (both-first (headed ws) (both P (names-laid ws)) after-length);
       rest = both-first (rest-zero ws) (rules-laid ws) zeros-rules;
       start-body = eqb-true (body ws 0) 0 (both-first B X starts);
       start-variables = eqb-true (rule-word ws 0 1) 0 (both-second B X starts);
       rule = λ r l. each (rule-laid ws) (rule-count ws) 0 r (both-second (both B X) R rules) (omega arith) l;
       kind = λ i l. both-first (kind-laid ws i (constructAt ws i)) (both (from-to 0 32 (byte-laid ws i (literal-length (constructAt ws i)))) (condition-formed ws i)) (each (construct-laid ws) (construct-count ws) 0 i constructs (omega arith) l);
+      bytes =
+          λ i l.
+          both-first (from-to 0 32 (byte-laid ws i (literal-length (constructAt ws i)))) (condition-formed ws i)
+          (both-second (kind-laid ws i (constructAt ws i)) (both (from-to 0 32 (byte-laid ws i (literal-length (constructAt ws i)))) (condition-formed ws i)) (each (construct-laid ws) (construct-count ws) 0 i constructs (omega arith) l));
       condition =
           λ i l.
           both-second (from-to 0 32 (byte-laid ws i (literal-length (constructAt ws i)))) (condition-formed ws i)

@@ -30,6 +30,7 @@ rule-facts ws r h =
       some-construct = ltb-true (body ws r) (rule-end ws r 0) (both-first B E constructs);
       ends = eqb-true (body ws r + size-at ws (body ws r)) (rule-end ws r 0) (both-second B E constructs);
       variables = eqb-true (rule-word ws r 1 + rule-word ws r 2) (rule-end ws r 1) (both-first X (both Z U) others);
+      unused = eqb-true (rule-word ws r 3) 0 (both-first Z U (both-second X (both Z U) others));
       no-case = both-second Z U (both-second X (both Z U) others);
     }
 
