@@ -26,7 +26,7 @@ use Rattle.table.specs.Judged.{Weighing, Passed7, Judged}
 use Rattle.table.specs.Sound.{Stands, Sound}
 use Rattle.table.specs.declared.Judgement.{Judgement}
 use Rattle.soundness.specs.OneTable.{Alike, Ended}
-use Rattle.soundness.proofs.RulesLocal.{ended-of}
+use Rattle.soundness.proofs.EndedWords.{ended-of}
 use Rattle.soundness.proofs.PassedLocal.{sound-local}
 use Rattle.completion.specs.Completed.{SetsWritten}
 
