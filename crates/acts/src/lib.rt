@@ -13,6 +13,7 @@ use evaluation::Counted;
 use evaluation::Tested;
 use layout::Construct;
 use layout::Passes;
+use wholes::power;
 
 // What a step is to do.
 pub enum Act {
@@ -42,14 +43,6 @@ pub enum Act {
         binder: usize,
         value: u64,
     },
-}
-
-// A power of two.
-fn power(k: u64) -> u64
-    requires { ⌜ k < 32 ⌝ }
-    ensures { λ r. ⌜ r ≡ 2 ^ k ⌝ }
-{
-    1u64 << k
 }
 
 // Whether the string with number n is in the set whose words begin at `base`.

@@ -5,6 +5,7 @@ ghost use lib.ListN.{length, take, drop};
 ghost use Rattle.basis.specs.Bits.{value, frameBits};
 ghost use Rattle.basis.specs.Lookahead.{lookahead, number};
 ghost use Rattle.basis.proofs.Frames.{bytes-value};
+use wholes::power;
 
 fn wide(x: u8) -> u64
     ensures { λ r. ⌜ (r ≡ x) × (r < 256) ⌝ }
@@ -26,13 +27,6 @@ fn bytes(frame: &[u8], q: usize, n: usize) -> u64
     sum
 }
 
-fn power(k: usize) -> u64
-    requires { ⌜ k ≤ 40 ⌝ }
-    ensures { λ r. ⌜ r ≡ 2 ^ k ⌝ }
-{
-    1u64 << k
-}
-
 // w bits from bit p on, at most 32, as a number.
 pub fn bits(frame: &[u8], p: usize, w: usize) -> u64
     requires { ⌜ (p + w ≤ 8 * length (now frame)) × (w ≤ 32) × (length (now frame) ≤ 256) ⌝ }
@@ -43,7 +37,7 @@ pub fn bits(frame: &[u8], p: usize, w: usize) -> u64
     let n = (r + w + 7) / 8;
     let y = bytes(frame, q, n);
     let below = 8 * n - r;
-    (y % power(below)) / power(below - w)
+    (y % power(below as u64)) / power((below - w) as u64)
 }
 
 // The number of what comes next at bit p (document 01's window).
@@ -53,7 +47,7 @@ pub fn ahead(frame: &[u8], p: usize) -> u64
 {
     let left = 8 * frame.len() - p;
     if left < 8 {
-        return power(left) + bits(frame, p, left);
+        return power(left as u64) + bits(frame, p, left);
     }
     256 + bits(frame, p, 8)
 }

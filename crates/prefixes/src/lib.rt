@@ -14,6 +14,7 @@ use terms::stack::pair;
 use terms::stack::top;
 use terms::step::operate;
 use wholes::at_most;
+use wholes::power;
 use wholes::signed;
 ghost use mathlib.Core.Path.{_≡_};
 ghost use Prim.Native.Nat.{_-_, _^_, _≤_, _<_};
@@ -328,20 +329,13 @@ fn hidden(width: u32) -> u32
     if 8 < width { width - 8 } else { 0 }
 }
 
-fn power(exponent: u32) -> u64
-    requires { ⌜ exponent ≤ 62 ⌝ }
-    ensures { λ r. ⌜ r ≡ 2 ^ exponent ⌝ }
-{
-    1 << exponent
-}
-
 fn leads(words: &[u32], start: usize, end: usize, width: u32, number: u64) -> bool
     requires { ⌜ width ≤ 62 ⌝ }
     ensures { λ r. ⌜ Tells width start (terms (now (words .entry)) start end) number r ⌝ }
 {
     let shift = hidden(width);
-    let block = power(shift);
-    let strings = power(width - shift);
+    let block = power(shift as u64);
+    let strings = power((width - shift) as u64);
     if number < strings {
         return false;
     }
@@ -409,8 +403,8 @@ fn windows_together(
     ensures { λ r. ⌜ TellsAll width start (terms (now (words .entry)) start end) first count r ⌝ }
 {
     let shift = hidden(width);
-    let block = power(shift);
-    let strings = power(width - shift);
+    let block = power(shift as u64);
+    let strings = power((width - shift) as u64);
     if first < strings {
         return Block::Mixed;
     }

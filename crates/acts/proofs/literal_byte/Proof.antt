@@ -7,7 +7,6 @@ use Rattle.acts.proofs.literal_byte.Statement.{statement}
 use Rattle.acts.proofs.literal_byte.Tie as tie
 use Rattle.acts.proofs.literal_byte.Reads as reads
 use Rattle.acts.proofs.literal_byte.Lts as lts
-use Rattle.acts.proofs.power.Reads as power-reads
 use Rattle.layout.proofs.word.Reads as word-reads
 
 -- src/lib.rt:240:40

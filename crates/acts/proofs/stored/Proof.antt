@@ -10,7 +10,6 @@ use Rattle.acts.proofs.stored.Statement.{statement}
 use Rattle.acts.proofs.stored.Tie as tie
 use Rattle.acts.proofs.stored.Reads as reads
 use Rattle.acts.proofs.stored.Lts as lts
-use Rattle.acts.proofs.power.Reads as power-reads
 use Rattle.layout.proofs.word.Reads as word-reads
 
 -- src/lib.rt:47:33

@@ -10,7 +10,6 @@ use Rattle.frame.proofs.ahead.Tie as tie
 use Rattle.frame.proofs.ahead.Reads as reads
 use Rattle.frame.proofs.ahead.Lts as lts
 use Rattle.frame.proofs.bits.Reads as bits-reads
-use Rattle.frame.proofs.power.Reads as power-reads
 
 -- src/lib.rt:54:16
 mul-left : tie.Need-mul-left

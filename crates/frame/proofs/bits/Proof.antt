@@ -11,7 +11,6 @@ use Rattle.frame.proofs.bits.Tie as tie
 use Rattle.frame.proofs.bits.Reads as reads
 use Rattle.frame.proofs.bits.Lts as lts
 use Rattle.frame.proofs.bytes.Reads as bytes-reads
-use Rattle.frame.proofs.power.Reads as power-reads
 
 -- src/lib.rt:43:14
 add-n : tie.Need-add-n

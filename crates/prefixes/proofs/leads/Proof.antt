@@ -10,11 +10,17 @@ use Rattle.prefixes.proofs.leads.Tie as tie
 hidden-requires : tie.Need-hidden-requires
 hidden-requires c κs = search needs
 
+cast-power : tie.Need-cast-power
+cast-power c = search needs
+
 power-requires : tie.Need-power-requires
 power-requires c κs = search needs
 
 sub-power : tie.Need-sub-power
 sub-power c = search needs
+
+cast-power-2 : tie.Need-cast-power-2
+cast-power-2 c = search needs
 
 power-requires-2 : tie.Need-power-requires-2
 power-requires-2 c κs = search needs
@@ -61,8 +67,10 @@ leads-spec =
     tie.close
     (tie.spec
     hidden-requires
+    cast-power
     power-requires
     sub-power
+    cast-power-2
     power-requires-2
     returns
     returns-2
