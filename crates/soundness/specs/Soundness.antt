@@ -1,0 +1,34 @@
+-- What the theory asks of the grammar that a table's words hold, in the theory's own words. A sound table has all of it (proofs/, `trusted`).
+-- Assumes nothing.
+use Prim.Native.Nat.{ℕ, _≤_}
+use mathlib.Core.Path.{_≡_}
+use mathlib.Core.Bool.{Bool}
+use mathlib.Core.List.{List}
+use Rattle.basis.specs.Bits.{Bits}
+use Rattle.theory.specs.Grammar.{field}
+use Rattle.theory.specs.Hypotheses.{Static, Hypotheses}
+use Rattle.theory.specs.Weight.{Outweighs, Houses}
+use Rattle.theory.specs.Scope.{Lexical}
+use Rattle.layout.specs.Places.{weight-of}
+use Rattle.layout.specs.Held.{Values, held, opening}
+use Rattle.scoping.specs.Scope.{value-of, fresh, scope-of}
+use Rattle.acts.specs.Stored.{tests-of}
+
+pub record Trusted (ws : List ℕ) : Type 0 where
+  -- FIRST goes by no values, and misses nothing: "a set with a variable counting as `~`", "counts with a variable allowing all"
+  pub static : Static (held ws)
+  -- 6, 7, 9, 10, and "Opening a run tries 23": no conflict, no empty body, and a step's lookups answer exactly by the grammar's sets
+  pub hypotheses : Hypotheses (held ws) (tests-of ws)
+  -- 6 and 7: "Variables are local to a rule ...; uses stand in later members."
+  pub lexical : Lexical value-of (scope-of ws) fresh (held ws)
+  -- "Weight: ..." and 11: there are weights, and the table's is that "as a use of its start rule"
+  pub weight : Unit {0} → ℕ → ℕ
+  pub outweighs : Outweighs (held ws) weight
+  pub weight-stored : weight tt opening ≡ weight-of ws
+  -- 24, "the list is longer than 256": no run from an opening has more entries pending
+  pub rooms : Unit {0} → ℕ → ℕ
+  pub houses : Houses (held ws) rooms
+  pub room-most : rooms tt opening ≤ 256
+  -- 22, "two u32 words for each frame bit": a field takes at least one bit, so no bit has two captures
+  pub one-capture-a-bit : (i : ℕ) {w : ℕ} {admits : Unit {0} → Values → Bits → Bool} {static : Bits → Bool} {binds : Unit {0} → Values → Bits → Values}
+      → held ws .node i ≡ field w admits static binds → 1 ≤ w
