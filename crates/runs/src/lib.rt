@@ -185,13 +185,7 @@ fn put_together(
 }
 
 // A grant over exactly these words.
-fn advance_words(
-    table: &[u32],
-    frame: &[u8],
-    reading: &mut [u32],
-    run: Run,
-    steps: u64,
-) -> Granted
+fn advance_words(table: &[u32], frame: &[u8], reading: &mut [u32], run: Run, steps: u64) -> Granted
     ensures { λ r. ⌜ after (r .run) (now (reading .exit)) (r .answer) ≡ grant-of (now (table .entry)) (now (frame .entry)) (now (reading .entry)) run steps ⌝ }
 {
     if 256 < frame.len() {

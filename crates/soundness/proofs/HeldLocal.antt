@@ -134,7 +134,7 @@ module _ {ws ws′ : List ℕ} (a : Alike ws ws′) where
   node-same i (Construct.Repetition size p) f = λ t. repetition (λ c v. allowed-same p v t) (static-same p t) (fixed-same p t) (i + 1)
   node-same i (Construct.Switch size) f =
       let first : (v : Values) → first-case ws v (parts size ws (i + 1) (i + size)) ≡ first-case ws′ v (parts size ws′ (i + 1) (i + size)) =
-          λ v. case-same v (parts size ws (i + 1) (i + size)) (small-parts size (i + 1) (i + size) (f .1)) ∙ ap (first-case ws′ v) (parts-same size (i + 1) (i + size)) in
+      λ v. case-same v (parts size ws (i + 1) (i + size)) (small-parts size (i + 1) (i + size) (f .1)) ∙ ap (first-case ws′ v) (parts-same size (i + 1) (i + size)) in
       λ t. switch (λ c v. first v t) (parts-same size (i + 1) (i + size) t)
   node-same i (Construct.Use rule) f = use-same rule (f .1)
   node-same i (Construct.Literal n) f = ap literal-node (literals-same i 0 n (f .0) (omega (arith, f .2)))
@@ -150,5 +150,5 @@ module _ {ws ws′ : List ℕ} (a : Alike ws ws′) where
   unfolding held
   held-local =
       let nodes : (i : ℕ) → pick (eqb i opening) (use-node ws 0) (node-of ws i (constructAt ws i)) ≡ pick (eqb i opening) (use-node ws′ 0) (node-of ws′ i (constructAt ws′ i)) =
-          λ i t. pick (eqb i opening) (use-same 0 (omega arith) t) ((node-same i (constructAt ws i) (fine ws i) ∙ ap (node-of ws′ i) (constructs-same i)) t) in
+      λ i t. pick (eqb i opening) (use-same 0 (omega arith) t) ((node-same i (constructAt ws i) (fine ws i) ∙ ap (node-of ws′ i) (constructs-same i)) t) in
       λ t. record { node = λ i. nodes i t; start = opening; context = tt; values = replicate 64 (pos 0) }

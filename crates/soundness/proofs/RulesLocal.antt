@@ -237,27 +237,27 @@ module _ {ws ws′ : List ℕ} (a : Alike ws ws′) where
       let past : all-zero ws (sets-at + 32 * construct-count ws) table-words ≡ all-zero ws′ (sets-at + 32 * construct-count ws′) table-words = all-past e ∙ sym (all-past ended) in
       let count = header-same a in
       let zeros : (start width k : ℕ) (b : k < 5) (end : ℕ) → 6 ≤ start → end ≤ sets-at → all-zero ws (start + width * word ws k) end ≡ all-zero ws′ (start + width * word ws′ k) end =
-          λ start width k b end low high t. zeros-same a (start + width * count k b t) end (omega arith) high t in
+      λ start width k b end low high t. zeros-same a (start + width * count k b t) end (omega arith) high t in
       let rules = counted l 1 (omega arith) (rule-laid ws) (rule-laid ws′) (rule-same l) in
       let names =
-          counted l 1 (omega arith) (λ r. both (binders-laid ws r) (uses-laid ws r)) (λ r. both (binders-laid ws′ r) (uses-laid ws′ r))
-          (λ r b t. both (binders-same l r b t) (uses-same l r b t)) in
+      counted l 1 (omega arith) (λ r. both (binders-laid ws r) (uses-laid ws r)) (λ r. both (binders-laid ws′ r) (uses-laid ws′ r))
+      (λ r b t. both (binders-same l r b t) (uses-same l r b t)) in
       let constructs = counted l 2 (omega arith) (construct-laid ws) (construct-laid ws′) (λ i b. construct-laid-same a i (omega (arith, l .counts .constructs))) in
       let terms = counted l 4 (omega arith) (term-laid ws) (term-laid ws′) (λ k b. term-same k (omega (arith, l .counts .terms))) in
       let lists : lists-laid ws ≡ lists-laid ws′ = lists-same (construct-count ws) 0 0 (omega (arith, l .counts .constructs)) ∙ ap (λ (n : ℕ). lists-from n ws′ 0 0) (count 2 (omega arith)) in
       let whole : laid ws ≡ laid ws′ =
-          λ t.
-          both (long t)
-          (both
-          (both (both (eqb (count 0 (omega arith) t) 1399811687) (both (both (limited 1 (count 1 (omega arith) t) 64) (limited 1 (count 2 (omega arith) t) 256)) (both (leb (count 3 (omega arith) t) 64) (leb (count 4 (omega arith) t) 1024))))
-          (both (weight t) (zeros-same a 6 rules-at (omega arith) (omega arith) t)))
-          (both
-          (both
-          (both
-          (both (both (zeros rules-at 4 1 (omega arith) variables-at (omega arith) (omega arith) t) (zeros variables-at 4 3 (omega arith) constructs-at (omega arith) (omega arith) t))
-          (both (both (zeros constructs-at 8 2 (omega arith) terms-at (omega arith) (omega arith) t) (zeros terms-at 3 4 (omega arith) literals-at (omega arith) (omega arith) t))
-          (both (zeros literals-at 8 2 (omega arith) sets-at (omega arith) (omega arith) t) (past t))))
-          (both (both (eqb (rule-words a 0 0 (omega arith) (omega arith) t) 0) (eqb (rule-words a 0 1 (omega arith) (omega arith) t) 0)) (rules t)))
-          (both (constructs t) (both (lists t) (terms t))))
-          (names t))) in
+      λ t.
+      both (long t)
+      (both
+      (both (both (eqb (count 0 (omega arith) t) 1399811687) (both (both (limited 1 (count 1 (omega arith) t) 64) (limited 1 (count 2 (omega arith) t) 256)) (both (leb (count 3 (omega arith) t) 64) (leb (count 4 (omega arith) t) 1024))))
+      (both (weight t) (zeros-same a 6 rules-at (omega arith) (omega arith) t)))
+      (both
+      (both
+      (both
+      (both (both (zeros rules-at 4 1 (omega arith) variables-at (omega arith) (omega arith) t) (zeros variables-at 4 3 (omega arith) constructs-at (omega arith) (omega arith) t))
+      (both (both (zeros constructs-at 8 2 (omega arith) terms-at (omega arith) (omega arith) t) (zeros terms-at 3 4 (omega arith) literals-at (omega arith) (omega arith) t))
+      (both (zeros literals-at 8 2 (omega arith) sets-at (omega arith) (omega arith) t) (past t))))
+      (both (both (eqb (rule-words a 0 0 (omega arith) (omega arith) t) 0) (eqb (rule-words a 0 1 (omega arith) (omega arith) t) 0)) (rules t)))
+      (both (constructs t) (both (lists t) (terms t))))
+      (names t))) in
       sym whole ∙ h
