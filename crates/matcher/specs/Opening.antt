@@ -1,8 +1,10 @@
 -- "Opening a run tries 23, 21, 22; a refused open gives a closed run".
 -- Assumes nothing.
 use Prim.Native.Nat.{ℕ, _*_, _≤_, _<_}
+use mathlib.Core.Bool.{Bool}
 use mathlib.Core.List.{List}
 use lib.ListN.{length}
+use Rattle.layout.specs.Constructs.{pick}
 use Rattle.acts.specs.Acts.{bits-of}
 use Rattle.table.specs.Sound.{SoundTable}
 use Rattle.runs.specs.Runs.{opened-run, closed-run}
@@ -15,6 +17,10 @@ number-of Answer.Unsound = 23
 number-of Answer.LongFrame = 21
 number-of Answer.SmallReading = 22
 number-of Answer.Opened = 0
+
+-- "tries 23, 21, 22": the first that is given
+abbrev pub first-refusal : Bool → Bool → Bool → Answer
+first-refusal unsound long small = pick unsound Answer.Unsound (pick long Answer.LongFrame (pick small Answer.SmallReading Answer.Opened))
 
 -- "a refused open gives a closed run (empty list, no steps, verdict closed, which no grant changes)"
 abbrev pub run-given : Answer → Run

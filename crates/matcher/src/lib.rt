@@ -1,6 +1,6 @@
 // A run is opened; steps are granted by `runs`. Any words are answered or refused.
 ghost use mathlib.Core.Path.{_≡_};
-ghost use Rattle.matcher.specs.Opening.{run-given, Answered};
+ghost use Rattle.matcher.specs.Opening.{first-refusal, run-given, Answered};
 use runs::Run;
 
 // What an opening is answered.
@@ -20,20 +20,31 @@ pub struct Opening {
     pub answer: Answer,
 }
 
-// Which of 23, 21 and 22 is given, tried in this order.
+// 23, 21 and 22 are tried in this order.
+fn first_refusal(unsound: bool, long: bool, small: bool) -> Answer
+    ensures { λ r. ⌜ r ≡ first-refusal unsound long small ⌝ }
+{
+    if unsound {
+        return Answer::Unsound;
+    }
+    if long {
+        return Answer::LongFrame;
+    }
+    if small {
+        return Answer::SmallReading;
+    }
+    Answer::Opened
+}
+
 fn tried(table: &[u32], frame: &[u8], reading: &[u32]) -> Answer
     ensures { λ r. ⌜ Answered (now (table .entry)) (now (frame .entry)) (now (reading .entry)) r ⌝ }
 {
-    if table::sound::sound(table) {
-        if 256 < frame.len() {
-            return Answer::LongFrame;
-        }
-        if reading.len() < 16 * frame.len() {
-            return Answer::SmallReading;
-        }
-        return Answer::Opened;
-    }
-    Answer::Unsound
+    let unsound = !table::sound::sound(table);
+    let bytes = frame.len();
+    let long = 256 < bytes;
+    // two words for each bit; 16 * bytes may not fit
+    let small = reading.len() / 16 < bytes;
+    first_refusal(unsound, long, small)
 }
 
 fn given(answer: Answer) -> Run

@@ -1,36 +1,39 @@
+use Prim.Native.Nat.{ℕ, _/_, _≤_, _<_}
 use native.Mathlib.Omega.{arith}
-use mathlib.Core.Path.{sym, _∙_}
-use mathlib.Core.Bool.{false≢true}
+use borrow.Author.Tests.{ltb-true, ltb-false}
+use mathlib.Core.Path.{sym, subst}
+use mathlib.Core.List.{List}
+use lib.Dec.{ltb}
+use lib.ListN.{length}
+use Rattle.matcher.specs.Opening.{Answered}
+use Rattle.matcher.proofs.Answers.{answered}
 use borrow.Author.Needs.{needs}
 use Rattle.matcher.proofs.tried.Statement.{statement}
 use Rattle.matcher.proofs.tried.Tie as tie
 use Rattle.matcher.proofs.tried.Reads as reads
 use Rattle.matcher.proofs.tried.Lts as lts
+use Rattle.matcher.proofs.first_refusal.Reads as first-refusal-reads
 use Rattle.table.proofs.sound.sound.Reads as sound-reads
 
--- src/lib.rt:27:8
+-- src/lib.rt:42:9
 sound-requires : tie.Need-sound-requires
 sound-requires c κs = search needs
 
--- src/lib.rt:29:13
+-- src/lib.rt:47:5
+first-refusal-requires : tie.Need-first-refusal-requires
+first-refusal-requires c κs = search needs
+
+-- src/lib.rt:39:1
 returns : tie.Need-returns
-returns c = (c .before .before .sound .ensures .0 (c .before .if1 .taken), c .if2 .taken)
-
--- src/lib.rt:31:28
-mul-if3 : tie.Need-mul-if3
-mul-if3 c = search needs
-
--- src/lib.rt:32:13
-returns-2 : tie.Need-returns-2
-returns-2 c = (c .before .before .before .sound .ensures .0 (c .before .before .if1 .taken), c .before .if2 .left, omega (arith, c .if3 .taken))
-
--- src/lib.rt:34:9
-returns-3 : tie.Need-returns-3
-returns-3 c = (c .before .before .before .sound .ensures .0 (c .before .before .if1 .taken), c .before .if2 .left, omega (arith, c .if3 .left))
-
--- src/lib.rt:24:1
-returns-4 : tie.Need-returns-4
-returns-4 c = λ s. false≢true (sym (c .if1 .left) ∙ c .before .sound .ensures .1 s)
+returns c =
+    let ws : List ℕ = c .before .before .before .before .before .args .table .now in
+    let fs : List ℕ = c .before .before .before .before .before .args .frame .now in
+    let rs : List ℕ = c .before .before .before .before .before .args .reading .now in
+    let n : ℕ = length rs / 16 in
+    subst (Answered ws fs rs) (sym (c .first-refusal .ensures))
+    (answered ws fs rs (c .before .sound .result) (ltb 256 (length fs)) (ltb n (length fs)) (c .before .sound .ensures)
+    (ltb-true 256 (length fs)) (ltb-false 256 (length fs))
+    (λ e. (let l : n < length fs = ltb-true n (length fs) e in omega arith)) (λ e. (let l : length fs ≤ n = ltb-false n (length fs) e in omega arith)))
 
 pub tried-spec : {M : Type 1} → statement M
-tried-spec = tie.close (tie.spec sound-requires returns mul-if3 returns-2 returns-3 returns-4)
+tried-spec = tie.close (tie.spec sound-requires first-refusal-requires returns)
