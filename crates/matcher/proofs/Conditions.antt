@@ -1,24 +1,26 @@
 -- The mission's conditions, proved of every run that was opened.
 -- Assumes nothing.
-use Prim.Native.Nat.{ℕ, zero, suc, _+_, _-_, _≤_, _<_, min}
+use Prim.Native.Nat.{ℕ, zero, suc, _+_, _*_, _-_, _≤_, _<_, min}
 use native.Mathlib.Omega.{arith}
 use mathlib.Core.Path.{_≡_, refl, sym, ap, ap₂, subst, _∙_}
 use mathlib.Core.Logic.{_⊎_, _↔_, inl, inr}
 use mathlib.Core.List.{List, [], _∷_}
-use mathlib.Core.Option.{Option, none, some}
+use mathlib.Core.Option.{none, some}
+use lib.ListN.{drop}
 use Rattle.basis.specs.Bits.{frameBits}
 use Rattle.theory.specs.Theorems.{Derivable}
 use Rattle.layout.specs.Places.{table-of}
 use Rattle.steps.specs.Steps.{Whole, whole, steps-of}
 use Rattle.agreement.specs.Runs.{reading-of, head-of as head-in}
-use Rattle.runs.specs.Runs.{whole-of, opened-run, refusal-of, After, run-in, reading-in, answer-in, after-steps, grant-of, number-of}
+use Rattle.agreement.proofs.Readings.{steps-record}
+use Rattle.runs.specs.Runs.{whole-of, opened-run, After, run-in, reading-in, answer-in, after-steps, grant-of, number-of}
 use Rattle.runs.specs.declared.Run.{Run}
 use Rattle.runs.specs.declared.Answer.{Answer}
 use Rattle.runs.proofs.Taken.{steps-add}
 use Rattle.runs.proofs.Grants.{Unchanged, made, refusal-told, refused as refused-law, granted as granted-law}
 use Rattle.matcher.specs.Opening.{Opened}
-use Rattle.matcher.specs.Conditions.{Grant, own, other, given, granted, Kept, kept, run-kept, reading-kept, handed, call, left, next, after-grants, TurnedAway, OthersRefused, Counts, EachCounts, grammar, start, here, Decided, Unbroken, Condition2, Granted, Condition3}
-use Rattle.matcher.proofs.Moments.{at, fits-at, own-admitted, Course, course, match-at, no-match-at, fields-at, one-derivation}
+use Rattle.matcher.specs.Conditions.{Grant, own, other, given, granted, Kept, run-kept, reading-kept, TurnedAway, Counts, call, next, after-grants, OthersRefused, EachCounts, grammar-of, start, Decided, here, Unbroken, Exact, Granted, Claim, NeverBroken, Condition2, Condition3}
+use Rattle.matcher.proofs.Moments.{at, fits-at, own-admitted, course, match-at, no-match-at, fields-at, one-derivation}
 
 -- the answer counts the steps
 answer-made : (before : ℕ) (w : Whole) → answer-in (after-steps before w) ≡ Answer.Taken (head-in w .steps - before)
@@ -53,7 +55,7 @@ module _ (ws fs rs : List ℕ) (o : Opened ws fs rs) where
   Along m k = whole-of (reading-kept k) (run-kept k) ≡ at ws fs rs o m
 
   -- one grant
-  own-grant : (m n : ℕ) (k : Kept) → Along m k → Along (m + n) (next ws fs k (own n)) × Counts ws fs needs m k (own n) (call ws fs k (own n))
+  own-grant : (m n : ℕ) (k : Kept) → Along m k → Along (m + n) (next ws fs k (own n)) × Counts needs m k (own n) (call ws fs k (own n))
   own-grant m n k e =
       let t : List ℕ = table-of ws in
       let run : Run = run-kept k in
@@ -66,7 +68,7 @@ module _ (ws fs rs : List ℕ) (o : Opened ws fs rs) where
         ap answer-in g ∙ (answer-made (run .steps) w ∙ ap Answer.Taken (let z : head-in w .steps - run .steps ≡ min n (needs - m) = omega arith in z)),
       )
 
-  one-grant : (g : Grant) (m : ℕ) (k : Kept) → Along m k → TurnedAway ws fs g (call ws fs k g) → Along (m + given g) (next ws fs k g) × Counts ws fs needs m k g (call ws fs k g)
+  one-grant : (g : Grant) (m : ℕ) (k : Kept) → Along m k → TurnedAway g (call ws fs k g) → Along (m + given g) (next ws fs k g) × Counts needs m k g (call ws fs k g)
   one-grant (own n) m k e a = own-grant m n k e
   one-grant (other table frame none n) m k e a =
       let u = turned-away (table-of table) frame (reading-kept k) (run-kept k) n a in (
@@ -88,11 +90,11 @@ module _ (ws fs rs : List ℕ) (o : Opened ws fs rs) where
       let y = grants gs (m + given g) (next ws fs k g) (x .0) (a .1) in
       (y .0 ∙ ap (at ws fs rs o) (let z : m + given g + granted gs ≡ m + (given g + granted gs) = omega arith in z), (x .1, y .1))
 
-  from-start : (gs : List Grant) → OthersRefused ws fs gs (start ws fs rs) → Along (0 + granted gs) (here ws fs rs gs) × EachCounts ws fs needs 0 gs (start ws fs rs)
+  from-start : (gs : List Grant) → OthersRefused ws fs gs (start rs) → Along (0 + granted gs) (here ws fs rs gs) × EachCounts ws fs needs 0 gs (start rs)
   unfolding steps-of
-  from-start gs a = grants gs 0 (start ws fs rs) refl a
+  from-start gs a = grants gs 0 (start rs) refl a
 
-  module _ (gs : List Grant) (a : OthersRefused ws fs gs (start ws fs rs)) where
+  module _ (gs : List Grant) (a : OthersRefused ws fs gs (start rs)) where
     abbrev run : Run
     run = run-kept (here ws fs rs gs)
 
@@ -105,8 +107,8 @@ module _ (ws fs rs : List ℕ) (o : Opened ws fs rs) where
     few : run .verdict ≤ 2
     few = omega (arith, same-verdict, fits-at ws fs rs o (granted gs) .verdict)
 
-    pub never-broken : Unbroken ws fs rs gs
-    never-broken =
+    unbroken : Unbroken ws fs rs gs
+    unbroken =
         record {
           not-broken = λ e. omega (arith, few, e);
           not-refused = λ n. refusal-told (table-of ws) fs (reading-kept (here ws fs rs gs)) run n ∙ own-admitted ws fs rs o (granted gs) run (reading-kept (here ws fs rs gs)) state;
@@ -115,14 +117,14 @@ module _ (ws fs rs : List ℕ) (o : Opened ws fs rs) where
     undecided-iff : (run .verdict ≡ 0) ↔ (granted gs < needs)
     undecided-iff = subst (λ (d : ℕ). (d ≡ 0) ↔ (granted gs < needs)) (sym same-verdict) (course ws fs rs o .undecided-iff (granted gs))
 
-    decided : Decided ws fs rs run → head-in (at ws fs rs o (granted gs)) .verdict ≡ 0 → ⊥
+    decided : Decided run → head-in (at ws fs rs o (granted gs)) .verdict ≡ 0 → ⊥
     decided d e = undecided-not (run .verdict) d (same-verdict ∙ e)
 
-    pub condition-2 : Condition2 ws fs rs gs
-    condition-2 =
+    exact : Exact ws fs rs gs
+    exact =
         record {
-          match-iff = λ d. subst (λ (x : ℕ). (x ≡ 1) ↔ Derivable (grammar ws fs) (frameBits fs)) (sym same-verdict) (match-at ws fs rs o (granted gs) (decided d));
-          no-match-iff = λ d. subst (λ (x : ℕ). (x ≡ 2) ↔ (Derivable (grammar ws fs) (frameBits fs) → ⊥)) (sym same-verdict) (no-match-at ws fs rs o (granted gs) (decided d));
+          match-iff = λ d. subst (λ (x : ℕ). (x ≡ 1) ↔ Derivable (grammar-of ws) (frameBits fs)) (sym same-verdict) (match-at ws fs rs o (granted gs) (decided d));
+          no-match-iff = λ d. subst (λ (x : ℕ). (x ≡ 2) ↔ (Derivable (grammar-of ws) (frameBits fs) → ⊥)) (sym same-verdict) (no-match-at ws fs rs o (granted gs) (decided d));
           fields = λ e t v d. (
               let x = fields-at ws fs rs o (granted gs) (decided (inl e)) t v d in
               (ap (λ (w : Whole). head-in w .captures) state ∙ x .0, ap reading-of state ∙ x .1)
@@ -137,16 +139,26 @@ module _ (ws fs rs : List ℕ) (o : Opened ws fs rs) where
           undecided-iff = undecided-iff;
           decided-iff = (λ d. (let h : granted gs < needs → ⊥ = λ l. undecided-not (run .verdict) d (undecided-iff .1 l) in not-below (granted gs) needs h), λ l. decided-by (run .verdict) few (λ e. (let m : granted gs < needs = undecided-iff .0 e in omega arith)));
           answers = from-start gs a .1;
+          beyond = subst (λ (w : Whole). drop (2 * head-in w .captures) (reading-of w) ≡ drop (2 * head-in w .captures) rs) (sym state) (steps-record (table-of ws) fs (granted gs) (whole-of rs opened-run) .past);
         }
       where
         not-below : (m n : ℕ) → (m < n → ⊥) → n ≤ m
         not-below m n h = omega (arith, h)
 
-  pub condition-3 : Condition3 ws fs rs
-  condition-3 =
+  claim : Claim ws fs rs
+  claim =
       record {
         needed = needs;
         within-bound = course ws fs rs o .within-bound;
         granting = granting;
         once = one-derivation ws fs rs o;
       }
+
+pub never-broken : NeverBroken
+never-broken = unbroken
+
+pub condition-2 : Condition2
+condition-2 = exact
+
+pub condition-3 : Condition3
+condition-3 = claim

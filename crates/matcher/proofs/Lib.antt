@@ -2,3 +2,4 @@
 pub mod Answers
 pub mod Moments
 pub mod Conditions
+pub mod Others

@@ -3,13 +3,12 @@
 use Prim.Native.Nat.{ℕ, zero, suc, _+_, _*_, _-_, _≤_, _<_, min}
 use native.Mathlib.Omega.{arith}
 use borrow.Author.Tests.{le-leb, lt-ltb, eq-eqb}
-use mathlib.Core.Path.{_≡_, refl, sym, ap, subst, _∙_}
+use mathlib.Core.Path.{_≡_, refl, sym, subst, _∙_}
 use mathlib.Core.Logic.{_↔_, inl, inr}
 use mathlib.Core.Bool.{Bool, true, false}
 use mathlib.Core.List.{List, _++_}
-use lib.Dec.{leb, eqb}
-use lib.IntN.{ℤ}
-use lib.ListN.{length, getD, set, replicate, drop, length-set, length-replicate}
+use lib.Dec.{eqb}
+use lib.ListN.{length, getD, replicate, drop, length-set, length-replicate}
 use Rattle.basis.specs.Bits.{frameBits}
 use Rattle.theory.specs.Grammar.{Grammar}
 use Rattle.theory.specs.Derivation.{Tree, captures, Derivation}
@@ -18,7 +17,7 @@ use Rattle.theory.specs.Scope.{localised}
 use Rattle.theory.specs.Theorems.{Derivable}
 use Rattle.theory.proofs.Theorems.{exact-local}
 use Rattle.layout.specs.Places.{table-words, table-of, construct-count, weight-of}
-use Rattle.layout.specs.Constructs.{pick, both}
+use Rattle.layout.specs.Constructs.{pick}
 use Rattle.layout.specs.Held.{Values, opening, held}
 use Rattle.scoping.specs.Scope.{value-of, scope-of, fresh}
 use Rattle.weights.proofs.Heights.{weight-at}
@@ -36,7 +35,7 @@ use Rattle.agreement.proofs.Fitting.{Fitting, fitting}
 use Rattle.agreement.proofs.Conclusions.{decides, match-iff-local, mismatch-iff-local, match-end-local}
 use Rattle.soundness.proofs.Reliability.{reliable, weight-stored}
 use Rattle.soundness.proofs.Trust.{trusted}
-use Rattle.runs.specs.Runs.{head-of, whole-of, opened-run, entry-fits, entries-fit, refusal-of}
+use Rattle.runs.specs.Runs.{head-of, whole-of, opened-run, entries-fit, refusal-of}
 use Rattle.runs.specs.declared.Run.{Run}
 use Rattle.runs.proofs.Fitting.{Rest, rest-fitting}
 use Rattle.runs.proofs.Taken.{steps-add}
