@@ -2,7 +2,7 @@
 -- Assumes nothing.
 use Prim.Native.Nat.{ℕ, _+_, _*_}
 use mathlib.Core.List.{List}
-use lib.ListN.{getD}
+use lib.ListN.{getD, take}
 
 -- a word; past the end of a list there is nothing, read as 0
 abbrev pub word : List ℕ → ℕ → ℕ
@@ -11,6 +11,10 @@ word ws k = getD ws k 0
 -- "exactly 16,384 words"
 abbrev pub table-words : ℕ
 table-words = 16384
+
+-- "Words past 16,384 are neither read nor changed."
+abbrev pub table-of : List ℕ → List ℕ
+table-of ws = take table-words ws
 
 abbrev pub rules-at : ℕ
 rules-at = 64

@@ -24,13 +24,13 @@ abbrev pub Unchanged : Run → List ℕ → After → Type 0
 Unchanged run rs x = (run-in x ≡ run) × (reading-in x ≡ rs) × (taken-of (answer-in x) ≡ 0)
 
 -- the run and the reading are what steps made, and the answer counts the steps
-made : (before : ℕ) (w : Whole) → whole-of (reading-in (after-steps before w)) (run-in (after-steps before w)) ≡ w
+pub made : (before : ℕ) (w : Whole) → whole-of (reading-in (after-steps before w)) (run-in (after-steps before w)) ≡ w
 made before (whole cs ps vs rs h) = refl
 
-steps-made : (before : ℕ) (w : Whole) → run-in (after-steps before w) .steps ≡ steps-in w
+pub steps-made : (before : ℕ) (w : Whole) → run-in (after-steps before w) .steps ≡ steps-in w
 steps-made before (whole cs ps vs rs h) = refl
 
-counted : (before : ℕ) (w : Whole) → taken-of (answer-in (after-steps before w)) ≡ steps-in w - before
+pub counted : (before : ℕ) (w : Whole) → taken-of (answer-in (after-steps before w)) ≡ steps-in w - before
 counted before (whole cs ps vs rs h) = refl
 
 -- counted from an earlier moment

@@ -3,6 +3,7 @@ ghost use mathlib.Core.Path.{_≡_};
 ghost use Prim.Native.Nat.{ℕ, _+_, _*_, _-_, _≤_, _<_};
 ghost use lib.Dec.{leb};
 ghost use lib.ListN.{length, getD};
+ghost use Rattle.layout.specs.Places.{table-of};
 ghost use Rattle.acts.specs.Acts.{bits-of};
 ghost use Rattle.runs.specs.Runs.{entry-fits, entries-fit, fitting, run-of, after, grant-of, opened-run, closed-run};
 use steps::Head;
@@ -183,8 +184,8 @@ fn put_together(
     }
 }
 
-// A grant: steps until it is used up or the run is decided, closed or broken.
-pub fn advance(table: &[u32], frame: &[u8], reading: &mut [u32], run: Run, steps: u64) -> Granted
+// A grant over exactly these words.
+fn advance_words(table: &[u32], frame: &[u8], reading: &mut [u32], run: Run, steps: u64) -> Granted
     ensures { λ r. ⌜ after (r .run) (now (reading .exit)) (r .answer) ≡ grant-of (now (table .entry)) (now (frame .entry)) (now (reading .entry)) run steps ⌝ }
 {
     if 256 < frame.len() {
@@ -226,16 +227,26 @@ pub fn advance(table: &[u32], frame: &[u8], reading: &mut [u32], run: Run, steps
     }
 }
 
+// A grant: steps until it is used up or the run is decided, closed or broken. Words past 16,384 are not read.
+pub fn advance(table: &[u32], frame: &[u8], reading: &mut [u32], run: Run, steps: u64) -> Granted
+    ensures { λ r. ⌜ after (r .run) (now (reading .exit)) (r .answer) ≡ grant-of (table-of (now (table .entry))) (now (frame .entry)) (now (reading .entry)) run steps ⌝ }
+{
+    if table.len() < 16384 {
+        return advance_words(table, frame, reading, run, steps);
+    }
+    advance_words(&table[0..16384], frame, reading, run, steps)
+}
+
 // One step.
 pub fn step(table: &[u32], frame: &[u8], reading: &mut [u32], run: Run) -> Granted
-    ensures { λ r. ⌜ after (r .run) (now (reading .exit)) (r .answer) ≡ grant-of (now (table .entry)) (now (frame .entry)) (now (reading .entry)) run 1 ⌝ }
+    ensures { λ r. ⌜ after (r .run) (now (reading .exit)) (r .answer) ≡ grant-of (table-of (now (table .entry))) (now (frame .entry)) (now (reading .entry)) run 1 ⌝ }
 {
     advance(table, frame, reading, run, 1)
 }
 
 // A grant to the one run that the kiosk keeps, which is changed in place.
 pub fn grant(table: &[u32], frame: &[u8], reading: &mut [u32], run: &mut Run, steps: u64) -> Answer
-    ensures { λ r. ⌜ after (now (run .exit)) (now (reading .exit)) r ≡ grant-of (now (table .entry)) (now (frame .entry)) (now (reading .entry)) (now (run .entry)) steps ⌝ }
+    ensures { λ r. ⌜ after (now (run .exit)) (now (reading .exit)) r ≡ grant-of (table-of (now (table .entry))) (now (frame .entry)) (now (reading .entry)) (now (run .entry)) steps ⌝ }
 {
     let done = advance(table, frame, reading, *run, steps);
     *run = done.run;

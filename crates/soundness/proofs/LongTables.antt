@@ -8,10 +8,10 @@ use lib.ListN.{length, length-take}
 use lib.Seq.{getD-take}
 use Rattle.basis.specs.Bits.{Bits}
 use Rattle.theory.specs.Lookahead.{Follow, Predicted}
-use Rattle.layout.specs.Places.{word, table-words, construct-count, weight-of}
+use Rattle.layout.specs.Places.{table-of, word, table-words, construct-count, weight-of}
 use Rattle.layout.specs.Held.{held}
 use Rattle.acts.specs.Stored.{prediction-at, follow-at}
-use Rattle.table.specs.Sound.{Stands, Sound, table-of, SoundTable}
+use Rattle.table.specs.Sound.{Stands, Sound, SoundTable}
 use Rattle.soundness.specs.Soundness.{Trusted}
 use Rattle.soundness.specs.OneTable.{Alike, Ended}
 use Rattle.soundness.proofs.Hypothesis.{laid-of-sound}

@@ -3,12 +3,12 @@
 use Prim.Native.Nat.{ℕ, _≤_, _<_}
 use mathlib.Core.Path.{_≡_}
 use mathlib.Core.List.{List}
-use lib.ListN.{length, take}
+use lib.ListN.{length}
 use Rattle.basis.specs.Bits.{Bits}
 use Rattle.lookahead.specs.Sets.{Is}
 use Rattle.lookahead_slices.specs.Narrow.{StandsAt}
 use Rattle.theory.specs.Lookahead.{Follow, Predicted}
-use Rattle.layout.specs.Places.{table-words, construct-count, weight-of}
+use Rattle.layout.specs.Places.{table-words, table-of, construct-count, weight-of}
 use Rattle.layout.specs.Held.{held}
 use Rattle.acts.specs.Stored.{prediction-at, follow-at}
 use Rattle.table.specs.Judged.{Passed10, Weighing}
@@ -29,10 +29,6 @@ pub record Sound (ws : List ℕ) : Type 0 where
   pub passed : Passed10 ws
   pub weight : Weighing ws (λ n. n ≡ weight-of ws)
   pub sets : (i : ℕ) → i < construct-count ws → SetsStand ws i
-
--- "Words past 16,384 are neither read nor changed."
-abbrev pub table-of : List ℕ → List ℕ
-table-of ws = take table-words ws
 
 abbrev pub SoundTable : List ℕ → Type 0
 SoundTable ws = (table-words ≤ length ws) × Sound (table-of ws)

@@ -44,6 +44,7 @@ use denote.Triple.Clauses.{ensured, lasts}
 use denote.Triple.Table.{entered, cited}
 use denote.Triple.Walked.{says, Stays, stay-ref, stay-none, stay-none-slice, gave-slice, walkOf, goes-ref, goes-none, goes-none-slice, goes-gave-slice, Walks, ends-at, walked, walk-meets}
 use denote.Exit.{yes}
+use Rattle.layout.specs.Places.{table-of}
 use Rattle.runs.specs.Runs.{after, grant-of}
 use Rattle.runs.specs.declared.Run.{Run}
 use Rattle.runs.specs.declared.Granted.{Granted}
@@ -122,7 +123,7 @@ module _ {M : Type 1} (𝓤 : URA M) (H : Heap 𝓤) (A : Atoms 𝓤) (W : Given
 
   -- what is made of the run, the reading's last words and the answer
   abbrev Done : Granted → List ℕ → Type 0
-  Done r zs = after (r .run) zs (r .answer) ≡ grant-of (t .now) (f .now) (x .now) h n
+  Done r zs = after (r .run) zs (r .answer) ≡ grant-of (table-of (t .now)) (f .now) (x .now) h n
 
   exits : (r : Granted) (w : Val) (zs : List ℕ) → Is G.the-row r (w ∷ []) → Done r zs → length zs ≡ length (x .now)
       → ent 𝓤 (⋆ 𝓤 H A (‵ (fobs γ (T.the-row .coded .code (r .run))) ∷ ‵ (fbor κ₃ (Body (mem T.the-row) b o γ)) ∷ ‵ (flft κ₃ q₃) ∷ (‵ (flft κ₀ q₀) ⊛ ‵ (flft κ₁ q₁) ⊛ ‵ (flft κ₂ q₂) ⊛ ‵ ftrue) ∷ ‵ (finally u32 (x .name) zs) ∷ ‵ Of ∷ ‵ Ot ∷ []))

@@ -1,0 +1,5 @@
+-- Laws of an opening, and the mission's conditions.
+pub mod Answers
+pub mod Moments
+pub mod Conditions
+pub mod Others
