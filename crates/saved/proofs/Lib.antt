@@ -1,0 +1,3 @@
+-- Laws of a saved run's bytes.
+pub mod Bytes
+pub mod Patterns
