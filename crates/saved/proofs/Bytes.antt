@@ -5,7 +5,7 @@ use native.Mathlib.Omega.{arith}
 use native.Mathlib.Nat.{pow-suc, pow-le-pow-right}
 use mathlib.Core.Path.{_≡_, refl, sym, ap, ap₂, subst, _∙_}
 use mathlib.Core.List.{List, [], _∷_, _++_, append-nil}
-use lib.ListN.{length, getD, set, drop, drop-of-length-le}
+use lib.ListN.{length, getD, set, drop, length-append, drop-of-length-le}
 use lib.Seq.{sets, drop-cons, drop-drop, sets-eq}
 use Rattle.saved.specs.Saved.{bytes, number, listed, numbers}
 
@@ -73,6 +73,9 @@ module _ {A : Type 0} where
   sets-append [] ys out at = ap (λ (n : ℕ). sets out n ys) (let z : at ≡ at + 0 = omega arith in z)
   sets-append (x ∷ xs) ys out at = sets-append xs ys (set out at x) (suc at) ∙ ap (λ (n : ℕ). sets (sets (set out at x) (suc at) xs) n ys) (let z : suc at + length xs ≡ at + suc (length xs) = omega arith in z)
 
+  pub sets-next : (xs ys out w : List A) (at n : ℕ) → w ≡ sets out at xs → at + length xs ≡ n → sets out at (xs ++ ys) ≡ sets w n ys
+  sets-next xs ys out w at n e m = sets-append xs ys out at ∙ ap₂ (λ (x : List A) (k : ℕ). sets x k ys) (sym e) m
+
   -- what is stored over a whole list takes its place
   pub sets-whole : (xs out : List A) → length out ≡ length xs → sets out 0 xs ≡ xs
   sets-whole xs out e =
@@ -97,6 +100,11 @@ module _ {A : Type 0} where
   pub list-end : (f : A → ℕ) (w : ℕ) (xs : List A) (out : List ℕ) (at i : ℕ) → length xs ≤ i → sets out at (listed f w (drop i xs)) ≡ out
   unfolding listed
   list-end f w xs out at i l = ap (λ (ys : List A). sets out at (listed f w ys)) (drop-of-length-le xs l)
+
+  pub listed-length : (f : A → ℕ) (w : ℕ) (xs : List A) → length (listed f w xs) ≡ w * length xs
+  unfolding listed
+  listed-length f w [] = omega arith
+  listed-length f w (x ∷ xs) = length-append (bytes w (f x)) (listed f w xs) ∙ ap₂ _+_ (bytes-length w (f x)) (listed-length f w xs) ∙ (let z : w + w * length xs ≡ w * suc (length xs) = omega arith in z)
 
   -- an element is read into its place
   pub numbers-turn : (f : ℕ → A) (w : ℕ) (bs : List ℕ) (out : List A) (at i n : ℕ) → i < n

@@ -1,3 +1,4 @@
 -- Laws of a saved run's bytes.
 pub mod Bytes
 pub mod Patterns
+pub mod Saving

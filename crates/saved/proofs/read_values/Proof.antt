@@ -1,8 +1,12 @@
-use Prim.Native.Nat.{_+_, _*_, _-_, _≤_}
+use lib.IntN.{ℤ, pos}
+use mir.Syntax.{w64}
+use mir.Val.{toZ, ofZ}
+use Rattle.saved.proofs.Patterns.{read-back}
+use Prim.Native.Nat.{ℕ, _+_, _*_, _-_, _≤_}
 use native.Mathlib.Omega.{arith}
 use mathlib.Core.Path.{_≡_, refl, sym, ap, _∙_}
 use borrow.Author.Needs.{needs}
-use lib.ListN.{length, drop, length-set, length-replicate}
+use lib.ListN.{length, drop, set, replicate, length-set, length-replicate}
 use lib.Seq.{sets}
 use Rattle.saved.specs.Saved.{numbers, plain, whole}
 use Rattle.saved.proofs.Bytes.{numbers-start, numbers-turn, numbers-end}
@@ -21,7 +25,7 @@ abbrev μ-loop : tie.MeasureT-loop
 
 -- src/lib.rt:109:5
 loop-holds : tie.Need-loop-holds Inv-loop μ-loop
-loop-holds c = ?
+loop-holds c = (omega arith, refl, numbers-start whole 8 (c .before .args .bytes .now) (replicate 64 (pos 0)) (c .before .args .at) 64 (length-replicate 64 (pos 0)))
 
 -- src/lib.rt:110:45
 mul-read : tie.Need-mul-read Inv-loop μ-loop
@@ -57,11 +61,11 @@ loop-less c = search needs
 
 -- src/lib.rt:109:5
 loop-again : tie.Need-loop-again Inv-loop μ-loop
-loop-again c = ?
+loop-again c = (omega arith, length-set (c .before .before .before .loop .values) (c .before .before .before .loop .i) (toZ w64 (ofZ w64 (c .signed .result))) ∙ c .before .before .before .loop .inv .1, c .before .before .before .loop .inv .2 ∙ numbers-turn whole 8 (c .before .before .before .before .before .args .bytes .now) (c .before .before .before .loop .values) (c .before .before .before .before .before .args .at) (c .before .before .before .loop .i) 64 (c .before .before .loop-test .taken) ∙ ap (λ (x : ℤ). sets (set (c .before .before .before .loop .values) (c .before .before .before .loop .i) x) (c .before .before .before .loop .i + 1) (numbers whole 8 (64 - (c .before .before .before .loop .i + 1)) (drop (c .before .before .before .before .before .args .at + 8 * (c .before .before .before .loop .i + 1)) (c .before .before .before .before .before .args .bytes .now)))) (sym (read-back (c .signed .result) _ (c .signed .ok) (c .signed .ensures ∙ ap whole (c .before .read .ensures .0)))))
 
 -- src/lib.rt:103:1
 returns : tie.Need-returns Inv-loop μ-loop
-returns c = ?
+returns c = sym (c .before .loop .inv .2 ∙ numbers-end whole 8 (drop (c .before .before .before .args .at + 8 * c .before .loop .i) (c .before .before .before .args .bytes .now)) (c .before .loop .values) (c .before .loop .i) (64 - c .before .loop .i) (omega arith))
 
 pub read-values-spec : {M : Type 1} → statement M
 read-values-spec =

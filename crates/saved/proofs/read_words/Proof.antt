@@ -1,8 +1,8 @@
-use Prim.Native.Nat.{_+_, _*_, _-_, _≤_}
+use Prim.Native.Nat.{ℕ, _+_, _*_, _-_, _≤_}
 use native.Mathlib.Omega.{arith}
 use mathlib.Core.Path.{_≡_, refl, sym, ap, _∙_}
 use borrow.Author.Needs.{needs}
-use lib.ListN.{length, drop, length-set, length-replicate}
+use lib.ListN.{length, drop, set, replicate, length-set, length-replicate}
 use lib.Seq.{sets}
 use Rattle.saved.specs.Saved.{numbers, plain, whole}
 use Rattle.saved.proofs.Bytes.{numbers-start, numbers-turn, numbers-end}
@@ -20,7 +20,7 @@ abbrev μ-loop : tie.MeasureT-loop
 
 -- src/lib.rt:53:5
 loop-holds : tie.Need-loop-holds Inv-loop μ-loop
-loop-holds c = ?
+loop-holds c = (omega arith, refl, numbers-start plain 4 (c .before .args .bytes .now) (replicate 256 0) (c .before .args .at) 256 (length-replicate {A = ℕ} 256 0))
 
 -- src/lib.rt:54:42
 mul-read-word : tie.Need-mul-read-word Inv-loop μ-loop
@@ -52,11 +52,11 @@ loop-less c = search needs
 
 -- src/lib.rt:53:5
 loop-again : tie.Need-loop-again Inv-loop μ-loop
-loop-again c = ?
+loop-again c = (omega arith, length-set (c .before .before .loop .words) (c .before .before .loop .i) (c .read-word .result) ∙ c .before .before .loop .inv .1, c .before .before .loop .inv .2 ∙ numbers-turn plain 4 (c .before .before .before .before .args .bytes .now) (c .before .before .loop .words) (c .before .before .before .before .args .at) (c .before .before .loop .i) 256 (c .before .loop-test .taken) ∙ ap (λ (x : ℕ). sets (set (c .before .before .loop .words) (c .before .before .loop .i) x) (c .before .before .loop .i + 1) (numbers plain 4 (256 - (c .before .before .loop .i + 1)) (drop (c .before .before .before .before .args .at + 4 * (c .before .before .loop .i + 1)) (c .before .before .before .before .args .bytes .now)))) (sym (c .read-word .ensures)))
 
 -- src/lib.rt:47:1
 returns : tie.Need-returns Inv-loop μ-loop
-returns c = ?
+returns c = sym (c .before .loop .inv .2 ∙ numbers-end plain 4 (drop (c .before .before .before .args .at + 4 * c .before .loop .i) (c .before .before .before .args .bytes .now)) (c .before .loop .words) (c .before .loop .i) (256 - c .before .loop .i) (omega arith))
 
 pub read-words-spec : {M : Type 1} → statement M
 read-words-spec =

@@ -1,10 +1,13 @@
-use Prim.Native.Nat.{_+_, _*_, _-_, _≤_}
+use lib.IntN.{pos}
+use mathlib.Core.List.{List}
+use Prim.Native.Nat.{ℕ, _+_, _*_, _-_, _≤_}
 use native.Mathlib.Omega.{arith}
 use mathlib.Core.Path.{_≡_, refl, sym, ap, _∙_}
 use borrow.Author.Needs.{needs}
-use lib.ListN.{length, drop}
+use lib.ListN.{length, getD, drop}
+use Rattle.wholes.proofs.Laws.{read₁}
 use lib.Seq.{sets}
-use Rattle.saved.specs.Saved.{listed, plain, pattern}
+use Rattle.saved.specs.Saved.{bytes, listed, plain, pattern}
 use Rattle.saved.proofs.Bytes.{list-start, list-turn, list-end}
 use Rattle.saved.proofs.write_values.Statement.{statement}
 use Rattle.saved.proofs.write_values.Tie as tie
@@ -21,7 +24,7 @@ abbrev μ-loop : tie.MeasureT-loop
 
 -- src/lib.rt:122:5
 loop-holds : tie.Need-loop-holds Inv-loop μ-loop
-loop-holds c = ?
+loop-holds c = (omega arith, refl, list-start pattern 8 (c .before .args .values .now) (c .before .args .out .now) (c .before .args .at))
 
 -- src/lib.rt:123:21
 mul-value : tie.Need-mul-value Inv-loop μ-loop
@@ -57,15 +60,15 @@ loop-less c = search needs
 
 -- src/lib.rt:122:5
 loop-again : tie.Need-loop-again Inv-loop μ-loop
-loop-again c = ?
+loop-again c = (omega arith, c .before .before .write .kept .0 ∙ c .before .before .before .before .before .before .before .loop .inv .1, c .before .before .before .before .before .before .before .loop .inv .2 ∙ list-turn pattern 8 (c .before .before .before .before .before .before .before .before .before .args .values .now) (pos 0) (c .before .before .before .before .before .before .before .loop .out) (c .before .before .before .before .before .before .before .before .before .args .at) (c .before .before .before .before .before .before .before .loop .i) (c .before .before .before .before .before .before .loop-test .taken) ∙ ap (λ (x : List ℕ). sets x (c .before .before .before .before .before .before .before .before .before .args .at + 8 * (c .before .before .before .before .before .before .before .loop .i + 1)) (listed pattern 8 (drop (c .before .before .before .before .before .before .before .loop .i + 1) (c .before .before .before .before .before .before .before .before .before .args .values .now)))) (sym (c .before .before .write .ensures ∙ ap (λ (n : ℕ). sets (c .before .before .before .before .before .before .before .loop .out) (c .before .before .before .before .before .before .before .before .before .args .at + 8 * c .before .before .before .before .before .before .before .loop .i) (bytes 8 n)) (read₁ pattern (getD (c .before .before .before .before .before .before .before .before .before .args .values .now) (c .before .before .before .before .before .before .before .loop .i) (pos 0)) (c .before .before .before .before .before .value .given) (c .before .before .before .unsigned .ensures)))))
 
 -- src/lib.rt:117:1
 same-length : tie.Need-same-length Inv-loop μ-loop
-same-length c = ?
+same-length c = c .before .loop .inv .1
 
 -- src/lib.rt:117:1
 returns : tie.Need-returns Inv-loop μ-loop
-returns c = ?
+returns c = sym (c .before .loop .inv .2 ∙ list-end pattern 8 (c .before .before .before .args .values .now) (c .before .loop .out) (c .before .before .before .args .at + 8 * c .before .loop .i) (c .before .loop .i) (c .loop-test .left))
 
 pub write-values-spec : {M : Type 1} → statement M
 write-values-spec =

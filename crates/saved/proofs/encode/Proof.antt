@@ -1,0 +1,94 @@
+use Prim.Native.Nat.{ℕ}
+use native.Mathlib.Omega.{arith}
+use borrow.Author.Tests.{eq-eqb, ne-eqb}
+use mathlib.Core.Path.{sym, _∙_}
+use lib.ListN.{length, length-map}
+use Rattle.saved.proofs.Saving.{stored-is, stored-not, all-written}
+use borrow.Author.Needs.{needs}
+use Rattle.saved.proofs.encode.Statement.{statement}
+use Rattle.saved.proofs.encode.Tie as tie
+use Rattle.saved.proofs.encode.Reads as reads
+use Rattle.saved.proofs.encode.Lts as lts
+use Rattle.saved.proofs.write.Reads as write-reads
+use Rattle.saved.proofs.write_values.Reads as write-values-reads
+use Rattle.saved.proofs.write_words.Reads as write-words-reads
+
+-- src/lib.rt:161:9
+returns : tie.Need-returns
+returns c = (sym (stored-not (c .before .before .args .run) (c .before .before .args .out .now) (c .if1 .taken)), sym (ne-eqb (length (c .before .before .args .out .now)) 2596 (c .if1 .taken)))
+
+-- src/lib.rt:171:5
+write-requires : tie.Need-write-requires
+write-requires c κs = search needs
+
+-- src/lib.rt:172:5
+write-requires-2 : tie.Need-write-requires-2
+write-requires-2 c κs = search needs
+
+-- src/lib.rt:173:5
+write-requires-3 : tie.Need-write-requires-3
+write-requires-3 c κs = search needs
+
+-- src/lib.rt:174:5
+write-requires-4 : tie.Need-write-requires-4
+write-requires-4 c κs = search needs
+
+-- src/lib.rt:175:27
+slice-aggregate-write-values : tie.Need-slice-aggregate-write-values
+slice-aggregate-write-values c = search needs
+
+-- src/lib.rt:175:5
+write-values-requires : tie.Need-write-values-requires
+write-values-requires c κs = ?
+
+-- src/lib.rt:176:24
+cast-write : tie.Need-cast-write
+cast-write c = search needs
+
+-- src/lib.rt:176:5
+write-requires-5 : tie.Need-write-requires-5
+write-requires-5 c κs = search needs
+
+-- src/lib.rt:177:27
+slice-aggregate-write-words : tie.Need-slice-aggregate-write-words
+slice-aggregate-write-words c = ?
+
+-- src/lib.rt:177:5
+write-words-requires : tie.Need-write-words-requires
+write-words-requires c κs = ?
+
+-- src/lib.rt:178:28
+slice-aggregate-write-words-2 : tie.Need-slice-aggregate-write-words-2
+slice-aggregate-write-words-2 c = ?
+
+-- src/lib.rt:178:5
+write-words-requires-2 : tie.Need-write-words-requires-2
+write-words-requires-2 c κs = ?
+
+-- src/lib.rt:157:1
+same-length : tie.Need-same-length
+same-length c = search needs
+
+-- src/lib.rt:157:1
+returns-2 : tie.Need-returns-2
+returns-2 c = ?
+
+pub encode-spec : {M : Type 1} → statement M
+encode-spec =
+    tie.close
+    (tie.spec
+    returns
+    write-requires
+    write-requires-2
+    write-requires-3
+    write-requires-4
+    slice-aggregate-write-values
+    write-values-requires
+    cast-write
+    write-requires-5
+    slice-aggregate-write-words
+    write-words-requires
+    slice-aggregate-write-words-2
+    write-words-requires-2
+    same-length
+    returns-2)
