@@ -51,13 +51,13 @@ numbers f w (suc n) bs = f (number w bs) ∷ numbers f w n (drop w bs)
 unfoldable pub encoded : Run → List ℕ
 encoded run =
     bytes 8 (run .position)
-    ++ bytes 8 (run .count)
-    ++ bytes 8 (run .captures)
-    ++ bytes 8 (run .steps)
-    ++ listed pattern 8 (run .values)
-    ++ bytes 4 (run .verdict)
-    ++ listed plain 4 (run .constructs)
-    ++ listed plain 4 (run .passes)
+    ++ (bytes 8 (run .count)
+    ++ (bytes 8 (run .captures)
+    ++ (bytes 8 (run .steps)
+    ++ (listed pattern 8 (run .values)
+    ++ (bytes 4 (run .verdict)
+    ++ (listed plain 4 (run .constructs)
+    ++ listed plain 4 (run .passes)))))))
 
 -- and the run that 2,596 bytes are
 unfoldable pub decoded : List ℕ → Run
