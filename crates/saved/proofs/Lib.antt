@@ -2,3 +2,5 @@
 pub mod Bytes
 pub mod Patterns
 pub mod Saving
+pub mod Parts
+pub mod Trips

@@ -2,7 +2,7 @@
 -- Assumes nothing.
 use Prim.Native.Nat.{ℕ, zero, suc, _+_, _*_, _-_, _^_, _≤_, _<_}
 use native.Mathlib.Omega.{arith}
-use borrow.Author.Tests.{lt-ltb, le-ltb}
+use borrow.Author.Tests.{lt-ltb, le-ltb, ltb-true, ltb-false}
 use mathlib.Core.Path.{_≡_, refl, sym, ap, _∙_}
 use mathlib.Core.Bool.{Bool, true, false, not}
 use lib.Dec.{ltb}
@@ -59,3 +59,10 @@ pattern-whole n h = by (ltb n (2 ^ 63)) refl
 pub pattern-small : (z : ℤ) → mag z < 2 ^ 63 → pattern z < 2 ^ 64
 pattern-small (pos n) h = omega arith
 pattern-small (negsuc n) h = omega arith
+
+pub whole-small : (n : ℕ) → n < 2 ^ 64 → mag (whole n) < 2 ^ 63
+whole-small n h = by (ltb n (2 ^ 63)) refl
+  where
+    by : (t : Bool) → ltb n (2 ^ 63) ≡ t → mag (pick t (pos n) (negsuc (2 ^ 64 - suc n))) < 2 ^ 63
+    by true e = ltb-true n (2 ^ 63) e
+    by false e = let z : 2 ^ 63 ≤ n = ltb-false n (2 ^ 63) e in omega arith
