@@ -1,6 +1,6 @@
 -- Numbers and lists of numbers to bytes and back, for any width.
 -- Assumes nothing.
-use Prim.Native.Nat.{ℕ, zero, suc, _+_, _*_, _-_, _^_, _/_, _%_, _≤_, _<_}
+use Prim.Native.Nat.{ℕ, zero, suc, _+_, _*_, _^_, _/_, _%_, _≤_, _<_}
 use native.Mathlib.Omega.{arith}
 use native.Mathlib.Nat.{pow-suc}
 use mathlib.Core.Path.{_≡_, refl, sym, ap, ap₂, subst, _∙_}
@@ -8,7 +8,7 @@ use mathlib.Core.List.{List, [], _∷_, _++_, append-assoc}
 use lib.ListN.{length, getD, drop, length-drop}
 use lib.Seq.{drop-drop, drop-at, getD-drop}
 use Rattle.saved.specs.Saved.{bytes, number, listed, numbers}
-use Rattle.saved.proofs.Bytes.{bytes-length, listed-length}
+use Rattle.saved.proofs.Bytes.{bytes-length}
 
 -- what a list of bytes is; past its end it reads 0
 abbrev pub Small : List ℕ → Type 0

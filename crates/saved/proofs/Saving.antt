@@ -1,12 +1,9 @@
 -- A run's parts put together, and a run part by part.
 -- Assumes nothing.
 use Prim.Native.Nat.{ℕ, _+_, _*_}
-use native.Mathlib.Omega.{arith}
 use borrow.Author.Tests.{eq-eqb, ne-eqb}
-use mathlib.Core.Path.{_≡_, refl, sym, ap, _∙_}
-use mathlib.Core.Bool.{Bool, true, false}
+use mathlib.Core.Path.{_≡_, sym, ap, _∙_}
 use mathlib.Core.List.{List, _++_}
-use lib.Dec.{eqb}
 use lib.IntN.{ℤ}
 use lib.ListN.{length, drop, length-append}
 use lib.Seq.{sets}
@@ -64,11 +61,11 @@ all-written run out a b d e f g h i l s pa pb pd pe pf pg ph pi =
     let rb : List ℕ = bytes 8 (run .captures) ++ rd in
     let ra : List ℕ = bytes 8 (run .count) ++ rb in
     let all : sets out 0 (encoded run) ≡ sets h 1572 rh =
-        sets-next (bytes 8 (run .position)) ra out a 0 8 pa (ap (0 +_) (bytes-length 8 (run .position)))
-        ∙ sets-next (bytes 8 (run .count)) rb a b 8 16 pb (ap (8 +_) (bytes-length 8 (run .count)))
-        ∙ sets-next (bytes 8 (run .captures)) rd b d 16 24 pd (ap (16 +_) (bytes-length 8 (run .captures)))
-        ∙ sets-next (bytes 8 (run .steps)) re d e 24 32 pe (ap (24 +_) (bytes-length 8 (run .steps)))
-        ∙ sets-next (listed pattern 8 (run .values)) rf e f 32 544 pf (ap (32 +_) (listed-length pattern 8 (run .values) ∙ ap (8 *_) (s .values)))
-        ∙ sets-next (bytes 4 (run .verdict)) rg f g 544 548 pg (ap (544 +_) (bytes-length 4 (run .verdict)))
-        ∙ sets-next (listed plain 4 (run .constructs)) rh g h 548 1572 ph (ap (548 +_) (listed-length plain 4 (run .constructs) ∙ ap (4 *_) (s .constructs)))
+    sets-next (bytes 8 (run .position)) ra out a 0 8 pa (ap (0 +_) (bytes-length 8 (run .position)))
+    ∙ sets-next (bytes 8 (run .count)) rb a b 8 16 pb (ap (8 +_) (bytes-length 8 (run .count)))
+    ∙ sets-next (bytes 8 (run .captures)) rd b d 16 24 pd (ap (16 +_) (bytes-length 8 (run .captures)))
+    ∙ sets-next (bytes 8 (run .steps)) re d e 24 32 pe (ap (24 +_) (bytes-length 8 (run .steps)))
+    ∙ sets-next (listed pattern 8 (run .values)) rf e f 32 544 pf (ap (32 +_) (listed-length pattern 8 (run .values) ∙ ap (8 *_) (s .values)))
+    ∙ sets-next (bytes 4 (run .verdict)) rg f g 544 548 pg (ap (544 +_) (bytes-length 4 (run .verdict)))
+    ∙ sets-next (listed plain 4 (run .constructs)) rh g h 548 1572 ph (ap (548 +_) (listed-length plain 4 (run .constructs) ∙ ap (4 *_) (s .constructs)))
     in pi ∙ sym all ∙ sets-whole (encoded run) out (l ∙ sym (encoded-length run s))

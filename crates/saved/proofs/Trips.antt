@@ -1,9 +1,9 @@
 -- A run is what its bytes are, and bytes are what their run is.
 -- Assumes nothing.
-use Prim.Native.Nat.{ℕ, zero, suc, _+_, _*_, _-_, _^_, _≤_, _<_}
+use Prim.Native.Nat.{ℕ, _+_, _*_, _-_, _^_, _≤_, _<_}
 use native.Mathlib.Omega.{arith}
 use mathlib.Core.Path.{_≡_, refl, sym, ap, _∙_}
-use mathlib.Core.List.{List, [], _∷_, _++_, append-nil}
+use mathlib.Core.List.{List, [], _++_, append-nil}
 use lib.IntN.{ℤ, pos}
 use lib.ListN.{length, getD, drop, length-drop, drop-of-length-le}
 use lib.Seq.{drop-drop, drop-at}
@@ -56,14 +56,14 @@ decoded-encoded run h =
     let steps : number 8 (drop 24 bs) ≡ run .steps = ap (number 8) d ∙ number-bytes 8 (run .steps) re (h .steps) in
     let verdict : number 4 (drop 544 bs) ≡ run .verdict = ap (number 4) f ∙ number-bytes 4 (run .verdict) rg (h .verdict) in
     let values : numbers whole 8 64 (drop 32 bs) ≡ run .values =
-        ap (numbers whole 8 64) e ∙ ap (λ (n : ℕ). numbers whole 8 n re) (sym (s .values))
-        ∙ numbers-listed pattern whole 8 (run .values) (pos 0) rf (λ i. (whole-pattern (getD (run .values) i (pos 0)) (h .values i), pattern-small (getD (run .values) i (pos 0)) (h .values i))) in
+    ap (numbers whole 8 64) e ∙ ap (λ (n : ℕ). numbers whole 8 n re) (sym (s .values))
+    ∙ numbers-listed pattern whole 8 (run .values) (pos 0) rf (λ i. (whole-pattern (getD (run .values) i (pos 0)) (h .values i), pattern-small (getD (run .values) i (pos 0)) (h .values i))) in
     let constructs : numbers plain 4 256 (drop 548 bs) ≡ run .constructs =
-        ap (numbers plain 4 256) g ∙ ap (λ (n : ℕ). numbers plain 4 n rg) (sym (s .constructs))
-        ∙ numbers-listed plain plain 4 (run .constructs) 0 rh (λ i. (refl, h .constructs i)) in
+    ap (numbers plain 4 256) g ∙ ap (λ (n : ℕ). numbers plain 4 n rg) (sym (s .constructs))
+    ∙ numbers-listed plain plain 4 (run .constructs) 0 rh (λ i. (refl, h .constructs i)) in
     let passes : numbers plain 4 256 (drop 1572 bs) ≡ run .passes =
-        ap (numbers plain 4 256) (k ∙ sym (append-nil rh)) ∙ ap (λ (n : ℕ). numbers plain 4 n (rh ++ [])) (sym (s .passes))
-        ∙ numbers-listed plain plain 4 (run .passes) 0 [] (λ i. (refl, h .passes i)) in
+    ap (numbers plain 4 256) (k ∙ sym (append-nil rh)) ∙ ap (λ (n : ℕ). numbers plain 4 n (rh ++ [])) (sym (s .passes))
+    ∙ numbers-listed plain plain 4 (run .passes) 0 [] (λ i. (refl, h .passes i)) in
     λ t. record { position = position t; count = count t; captures = captures t; steps = steps t; verdict = verdict t; constructs = constructs t; passes = passes t; values = values t }
 
 module _ (bs : List ℕ) (l : length bs ≡ 2596) (h : Small bs) where

@@ -1,6 +1,6 @@
 // A saved run as bytes: 2,596 of them, numbers with the lowest byte first (docs/TABLE.md, "The saved run").
 ghost use mathlib.Core.Path.{_≡_};
-ghost use Prim.Native.Nat.{ℕ, _+_, _*_, _^_, _≤_, _<_};
+ghost use Prim.Native.Nat.{_+_, _*_, _^_, _≤_, _<_};
 ghost use lib.Dec.{eqb};
 ghost use lib.IntN.{negsuc};
 ghost use lib.ListN.{length, drop};

@@ -1,8 +1,8 @@
 use Prim.Native.Nat.{_^_, _<_}
 use lib.Signed.{mag}
 use Rattle.saved.proofs.Patterns.{below, read-back}
-use mathlib.Core.Path.{sym, ap, subst}
-use lib.IntN.{ℤ, negsuc}
+use mathlib.Core.Path.{sym, subst}
+use lib.IntN.{ℤ}
 use mir.Syntax.{w64}
 use mir.Val.{SFits}
 use borrow.Author.Needs.{needs}

@@ -1,6 +1,6 @@
 use Prim.Native.Nat.{_+_, _-_, _^_, _≤_, _<_}
 use native.Mathlib.Omega.{arith}
-use mathlib.Core.Path.{_≡_, refl, ap}
+use mathlib.Core.Path.{_≡_}
 use lib.ListN.{drop}
 use Rattle.saved.specs.Saved.{number}
 use Rattle.saved.proofs.Bytes.{read-turn, read-small, read-none, read-all}

@@ -2,13 +2,13 @@ use lib.IntN.{ℤ, pos}
 use mir.Syntax.{w64}
 use mir.Val.{toZ, ofZ}
 use Rattle.saved.proofs.Patterns.{read-back}
-use Prim.Native.Nat.{ℕ, _+_, _*_, _-_, _≤_}
+use Prim.Native.Nat.{_+_, _*_, _-_, _≤_}
 use native.Mathlib.Omega.{arith}
 use mathlib.Core.Path.{_≡_, refl, sym, ap, _∙_}
 use borrow.Author.Needs.{needs}
 use lib.ListN.{length, drop, set, replicate, length-set, length-replicate}
 use lib.Seq.{sets}
-use Rattle.saved.specs.Saved.{numbers, plain, whole}
+use Rattle.saved.specs.Saved.{numbers, whole}
 use Rattle.saved.proofs.Bytes.{numbers-start, numbers-turn, numbers-end}
 use Rattle.saved.proofs.read_values.Statement.{statement}
 use Rattle.saved.proofs.read_values.Tie as tie

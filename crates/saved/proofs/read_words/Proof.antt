@@ -4,7 +4,7 @@ use mathlib.Core.Path.{_≡_, refl, sym, ap, _∙_}
 use borrow.Author.Needs.{needs}
 use lib.ListN.{length, drop, set, replicate, length-set, length-replicate}
 use lib.Seq.{sets}
-use Rattle.saved.specs.Saved.{numbers, plain, whole}
+use Rattle.saved.specs.Saved.{numbers, plain}
 use Rattle.saved.proofs.Bytes.{numbers-start, numbers-turn, numbers-end}
 use Rattle.saved.proofs.read_words.Statement.{statement}
 use Rattle.saved.proofs.read_words.Tie as tie

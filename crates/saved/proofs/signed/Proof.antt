@@ -1,9 +1,8 @@
 use Rattle.saved.proofs.Patterns.{whole-low, whole-high, read-back}
-use Prim.Native.Nat.{ℕ, _-_, _^_, suc}
-use mathlib.Core.Path.{_≡_, ap}
+use Prim.Native.Nat.{_-_, _^_, suc}
+use mathlib.Core.Path.{_≡_, ap, sym, _∙_}
 use native.Mathlib.Omega.{arith}
 use lib.IntN.{negsuc}
-use mathlib.Core.Path.{sym, _∙_}
 use borrow.Author.Needs.{needs}
 use Rattle.saved.proofs.signed.Statement.{statement}
 use Rattle.saved.proofs.signed.Tie as tie

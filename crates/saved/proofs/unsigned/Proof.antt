@@ -1,6 +1,6 @@
 use Rattle.saved.proofs.Patterns.{pattern-negative, pattern-positive, negative-some}
 use Rattle.wholes.proofs.Laws.{read₁}
-use Prim.Native.Nat.{ℕ, _-_, _^_, _<_}
+use Prim.Native.Nat.{_-_, _^_}
 use mathlib.Core.Path.{_≡_, sym, _∙_}
 use mathlib.Core.Bool.{true, false, not}
 use native.Mathlib.Omega.{arith}

@@ -7,7 +7,7 @@ use borrow.Author.Needs.{needs}
 use lib.ListN.{length, getD, drop}
 use Rattle.wholes.proofs.Laws.{read₁}
 use lib.Seq.{sets}
-use Rattle.saved.specs.Saved.{bytes, listed, plain, pattern}
+use Rattle.saved.specs.Saved.{bytes, listed, pattern}
 use Rattle.saved.proofs.Bytes.{list-start, list-turn, list-end}
 use Rattle.saved.proofs.write_values.Statement.{statement}
 use Rattle.saved.proofs.write_values.Tie as tie

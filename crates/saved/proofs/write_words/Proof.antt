@@ -5,7 +5,7 @@ use mathlib.Core.Path.{_≡_, refl, sym, ap, _∙_}
 use borrow.Author.Needs.{needs}
 use lib.ListN.{length, drop}
 use lib.Seq.{sets}
-use Rattle.saved.specs.Saved.{bytes, listed, plain, pattern}
+use Rattle.saved.specs.Saved.{listed, plain}
 use Rattle.saved.proofs.Bytes.{list-start, list-turn, list-end}
 use Rattle.saved.proofs.write_words.Statement.{statement}
 use Rattle.saved.proofs.write_words.Tie as tie
