@@ -4,3 +4,4 @@ pub mod Patterns
 pub mod Saving
 pub mod Parts
 pub mod Trips
+pub mod Examples
