@@ -1,5 +1,6 @@
 // A saved run as bytes: 2,596 of them, numbers with the lowest byte first (docs/TABLE.md, "The saved run").
 ghost use mathlib.Core.Path.{_≡_};
+ghost use mathlib.Core.Bool.{true};
 ghost use Prim.Native.Nat.{_+_, _*_, _^_, _≤_, _<_};
 ghost use lib.Dec.{eqb};
 ghost use lib.IntN.{negsuc};
@@ -153,9 +154,9 @@ pub fn decode(bytes: &[u8]) -> Run
     }
 }
 
-// The run's bytes are written, and true is answered; nothing is written where there is not room for exactly 2,596.
+// The run's bytes are written, which `decode` reads as that run, and true is answered; nothing is written where there is not room for exactly 2,596.
 pub fn encode(run: Run, out: &mut [u8]) -> bool
-    ensures { λ r. ⌜ (now (out .exit) ≡ stored run (now (out .entry))) × (r ≡ eqb (length (now (out .entry))) saved-bytes) ⌝ }
+    ensures { λ r. ⌜ (now (out .exit) ≡ stored run (now (out .entry))) × (r ≡ eqb (length (now (out .entry))) saved-bytes) × (r ≡ true → restored (now (out .exit)) ≡ run) ⌝ }
 {
     if out.len() != 2596 {
         return false;
