@@ -6,7 +6,7 @@ ghost use lib.Dec.{eqb};
 ghost use lib.IntN.{negsuc};
 ghost use lib.ListN.{length, drop};
 ghost use lib.Seq.{sets};
-ghost use Rattle.saved.specs.Saved.{saved-bytes, bytes, number, pattern, whole, plain, listed, numbers, restored, stored};
+ghost use Rattle.saved.specs.Saved.{saved-bytes, bytes, number, pattern, whole, plain, listed, numbers, encoded, restored, stored};
 use runs::Run;
 
 // The number that `width` bytes are.
@@ -129,7 +129,7 @@ fn write_values(out: &mut [u8], at: usize, values: &[i64])
 
 // The run that the bytes are; a closed run where there are not 2,596 of them.
 pub fn decode(bytes: &[u8]) -> Run
-    ensures { λ r. ⌜ r ≡ restored (now (bytes .entry)) ⌝ }
+    ensures { λ r. ⌜ (r ≡ restored (now (bytes .entry))) × (length (now (bytes .entry)) ≡ saved-bytes → encoded r ≡ now (bytes .entry)) ⌝ }
 {
     if bytes.len() != 2596 {
         return runs::closed();

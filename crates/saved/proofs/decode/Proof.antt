@@ -1,4 +1,6 @@
-use mathlib.Core.Path.{sym, _∙_}
+use mathlib.Core.Path.{sym, ap, _∙_}
+use Rattle.saved.specs.Saved.{encoded}
+use Rattle.saved.proofs.Trips.{encoded-decoded}
 use Rattle.saved.proofs.Saving.{restored-is, restored-not, all-read}
 use borrow.Author.Needs.{needs}
 use Rattle.saved.proofs.decode.Statement.{statement}
@@ -17,7 +19,7 @@ closed-requires c κs = search needs
 
 -- src/lib.rt:134:9
 returns : tie.Need-returns
-returns c = c .closed .ensures ∙ sym (restored-not (c .before .before .before .args .bytes .now) (c .before .if1 .taken))
+returns c = (c .closed .ensures ∙ sym (restored-not (c .before .before .before .args .bytes .now) (c .before .if1 .taken)), λ e. absurd (c .before .if1 .taken e))
 
 -- src/lib.rt:136:9
 read-requires : tie.Need-read-requires
@@ -53,7 +55,10 @@ read-words-requires-2 c κs = search needs
 
 -- src/lib.rt:130:1
 returns-2 : tie.Need-returns-2
-returns-2 c = all-read (c .before .before .before .before .before .before .before .before .before .before .args .bytes .now) _ _ _ _ _ _ _ _ (c .before .before .before .before .before .before .before .read .ensures .0) (c .before .before .before .before .before .before .read2 .ensures .0) (c .before .before .before .before .before .read3 .ensures .0) (c .before .before .before .before .read4 .ensures .0) (c .before .before .before .read-values .ensures) (c .before .before .read-word .ensures) (c .before .read-words .ensures) (c .read-words2 .ensures) ∙ sym (restored-is (c .before .before .before .before .before .before .before .before .before .before .args .bytes .now) (c .before .before .before .before .before .before .before .before .if1 .left))
+returns-2 c =
+    let full = c .before .before .before .before .before .before .before .before .if1 .left in
+    let r = all-read (c .before .before .before .before .before .before .before .before .before .before .args .bytes .now) _ _ _ _ _ _ _ _ (c .before .before .before .before .before .before .before .read .ensures .0) (c .before .before .before .before .before .before .read2 .ensures .0) (c .before .before .before .before .before .read3 .ensures .0) (c .before .before .before .before .read4 .ensures .0) (c .before .before .before .read-values .ensures) (c .before .before .read-word .ensures) (c .before .read-words .ensures) (c .read-words2 .ensures) in
+    (r ∙ sym (restored-is (c .before .before .before .before .before .before .before .before .before .before .args .bytes .now) full), λ e. ap encoded r ∙ encoded-decoded (c .before .before .before .before .before .before .before .before .before .before .args .bytes .now) full (λ i. c .before .before .before .before .before .before .before .before .before .shared-slice-known .given i .fits))
 
 pub decode-spec : {M : Type 1} → statement M
 decode-spec =
