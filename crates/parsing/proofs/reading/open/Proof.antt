@@ -1,0 +1,27 @@
+use Rattle.parsing.proofs.Steps.{inside-of, look-told, look-end, want-reads, want-faults, want-falls, fail-falls, paren-reads, paren-deep, sign-reads, moved-turn, single-first, single-later}
+use borrow.Author.Needs.{needs}
+use Rattle.parsing.proofs.reading.open.Statement.{statement}
+use Rattle.parsing.proofs.reading.open.Tie as tie
+use Rattle.parsing.proofs.reading.open.Reads as reads
+use Rattle.parsing.proofs.reading.open.Lts as lts
+use Rattle.parsing.proofs.reading.failed.Reads as failed-reads
+use Rattle.parsing.proofs.reading.want.Reads as want-reads
+
+-- src/reading.rt:92:9
+want-requires : tie.Need-want-requires
+want-requires c κs = search needs
+
+-- src/reading.rt:92:9
+returns : tie.Need-returns
+returns c = paren-reads ((c .before .if1) .taken) ((c .want) .ensures .0)
+
+-- src/reading.rt:94:5
+failed-requires : tie.Need-failed-requires
+failed-requires c κs = search needs
+
+-- src/reading.rt:88:1
+returns-2 : tie.Need-returns-2
+returns-2 c = paren-deep ((c .before .if1) .left) ((c .failed) .ensures)
+
+pub open-spec : {M : Type 1} → statement M
+open-spec = tie.close (tie.spec want-requires returns failed-requires returns-2)

@@ -1,0 +1,18 @@
+use Rattle.parsing.proofs.Steps.{inside-of, look-told, look-end, want-reads, want-faults, want-falls, fail-falls, paren-reads, paren-deep, sign-reads, moved-turn, single-first, single-later}
+use borrow.Author.Needs.{needs}
+use Rattle.parsing.proofs.words.add_sign.Statement.{statement}
+use Rattle.parsing.proofs.words.add_sign.Tie as tie
+use Rattle.parsing.proofs.words.add_sign.Reads as reads
+use Rattle.parsing.proofs.words.add_sign.Lts as lts
+use Rattle.parsing.proofs.words.add_term.Reads as add-term-reads
+
+-- src/words.rt:74:5
+add-term-requires : tie.Need-add-term-requires
+add-term-requires c κs = search needs
+
+-- src/words.rt:65:1
+returns : tie.Need-returns
+returns c = λ xs. sign-reads ((c .add-term) .ensures .0) ((c .add-term) .ensures .1)
+
+pub add-sign-spec : {M : Type 1} → statement M
+add-sign-spec = tie.close (tie.spec add-term-requires returns)

@@ -1,0 +1,5 @@
+pub mod Terminals
+pub mod Store
+pub mod Symbols
+pub mod Form
+pub mod Cursors
