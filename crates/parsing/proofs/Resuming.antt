@@ -112,3 +112,11 @@ left-failed xs start end value = refl
 pub left-some : (xs : List ℕ) (s : Sight) → eqb (s .code) 0 ≡ false → 0 < left-at xs s
 unfolding left-at
 left-some xs s e = ⊎-elim (λ (z : eqb (s .code) 5 ≡ true). rw (e, z, left-at) (omega arith)) (λ (z : eqb (s .code) 5 ≡ false). rw (e, z, left-at) (omega arith)) (which (eqb (s .code) 5))
+
+pub left-dead : (xs : List ℕ) (s : Sight) → eqb (s .code) 0 ≡ true → left-at xs s ≡ 0
+unfolding left-at
+left-dead xs s e = rw (e, left-at)
+
+-- after a failure nothing matters
+pub dead-same : (xs : List ℕ) (s : Sight) (st st′ : State) (ks ks′ : List Symbol) → eqb (s .code) 0 ≡ true → resume-at xs s st ks ≡ resume-at xs s st′ ks′
+dead-same xs s st st′ ks ks′ e = resume-dead xs s st ks e ∙ sym (resume-dead xs s st′ ks′ e)

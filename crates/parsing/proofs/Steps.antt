@@ -21,7 +21,7 @@ use Rattle.parsing.specs.Cursors.{sight-at, state-at, counts-of, next, f
 use Rattle.parsing.specs.declared.Sight.{Sight}
 use Rattle.parsing.specs.declared.Cursor.{Cursor}
 use Rattle.parsing.proofs.Sights.{Stands, ended, moving, stands, kind-live}
-use Rattle.parsing.proofs.Resuming.{skips, faults, takes, left-falls, left-failed, left-some, live-zero}
+use Rattle.parsing.proofs.Resuming.{skips, faults, takes, left-falls, left-failed, left-some}
 
 -- ---- looking
 
@@ -61,6 +61,17 @@ take-then {xs} {ps} {qs} {c} {m} {r} {ns} {ts} {ns′} {ts′} l e f a =
     let b : Reads xs qs (next xs c) ns ts r ns′ ts′ = subst (λ (k : Cursor). Reads xs qs k ns ts r ns′ ts′) e a
     in record {
       reads = λ rs ks. takes xs (sight-at c) (state-at c ns ts rs) (state-at c ns ts rs) (ps ++ ks) (qs ++ ks) l (f rs ks) ∙ b .reads rs ks;
+      falls = omega (arith, left-falls xs (sight-at c) l, b .falls);
+    }
+
+-- the same where the part counts something: d is c with what it counts
+pub take-more : {xs : List ℕ} {ps qs : List Symbol} {c d m r : Cursor} {ns ts ns₁ ts₁ ns′ ts′ : List ℕ} → live (c .code) ≡ true → m ≡ next xs d → sight-at d ≡ sight-at c → ((rs : List ℕ) (ks : List Symbol) → feed (sight-at c) (state-at c ns ts rs) (ps ++ ks) ≡ go (state-at d ns₁ ts₁ rs) (qs ++ ks)) → Reads xs qs m ns₁ ts₁ r ns′ ts′ → Reads xs ps c ns ts r ns′ ts′
+take-more {xs} {ps} {qs} {c} {d} {m} {r} {ns} {ts} {ns₁} {ts₁} {ns′} {ts′} l e z f a =
+    let w : d .end ≡ c .end = ap (λ (s : Sight). s .end) z
+    in let n : m ≡ counts-of (sight-of xs (c .end)) d = e ∙ ap (λ (at : ℕ). counts-of (sight-of xs at) d) w
+    in let b : Reads xs qs (counts-of (sight-of xs (c .end)) d) ns₁ ts₁ r ns′ ts′ = subst (λ (k : Cursor). Reads xs qs k ns₁ ts₁ r ns′ ts′) n a
+    in record {
+      reads = λ rs ks. takes xs (sight-at c) (state-at c ns ts rs) (state-at d ns₁ ts₁ rs) (ps ++ ks) (qs ++ ks) l (f rs ks) ∙ b .reads rs ks;
       falls = omega (arith, left-falls xs (sight-at c) l, b .falls);
     }
 
@@ -110,13 +121,13 @@ module _ (xs : List ℕ) (c r : Cursor) (k : ℕ) where
   unfolding feed
   want-faults h n ns ts = fault-only n (λ rs ks. rw (ne-eqb (c .code) k h, feed))
 
-  pub want-falls : r ≡ next xs c → live (c .code) ≡ true → left xs r < left xs c
-  want-falls n l = subst (λ (q : Cursor). left xs q < left xs c) (sym n) (left-falls xs (sight-at c) l)
+  pub want-falls : live k ≡ true → c .code ≡ k → r ≡ next xs c → left xs r < left xs c
+  want-falls l e n = subst (λ (q : Cursor). left xs q < left xs c) (sym n) (left-falls xs (sight-at c) (rw e l))
 
-  pub fail-falls : r ≡ fail c → live (c .code) ≡ true → left xs r < left xs c
+  pub fail-falls : r ≡ fail c → eqb (c .code) 0 ≡ false → left xs r < left xs c
   fail-falls n l =
       subst (λ (q : Cursor). left xs q < left xs c) (sym n)
-      (omega (arith, left-failed xs (c .start) (c .end) (c .value), left-some xs (sight-at c) (live-zero (c .code) l)))
+      (omega (arith, left-failed xs (c .start) (c .end) (c .value), left-some xs (sight-at c) l))
 
 pub paren-reads : {xs : List ℕ} {c r : Cursor} {d : ℕ} → d < 16 → ReadsOn xs (want 40 ∷ []) c r → ReadsOn xs (paren d ∷ []) c r
 unfolding feed

@@ -87,3 +87,7 @@ ReadsTerms xs parts c ts r ts′ = (ns : List ℕ) → Reads xs parts c ns ts r 
 -- the same of parts that have neither
 abbrev pub ReadsOn : List ℕ → List Symbol → Cursor → Cursor → Type 0
 ReadsOn xs parts c r = (ns ts : List ℕ) → Reads xs parts c ns ts r ns ts
+
+-- the same of parts that have nodes only
+abbrev pub ReadsNodes : List ℕ → List Symbol → Cursor → List ℕ → Cursor → List ℕ → Type 0
+ReadsNodes xs parts c ns r ns′ = (ts : List ℕ) → Reads xs parts c ns ts r ns′ ts

@@ -7,7 +7,7 @@ use mathlib.Core.List.{List, [], _∷_}
 use lib.Dec.{ltb, eqb}
 use Rattle.parsing.specs.Terminals.{is, is-name, begins}
 use Rattle.parsing.specs.Store.{State, nodes-of, terms-of, add, single, insert, leaf, condition-on, bind, close-rule}
-use Rattle.parsing.specs.Symbols.{Symbol, want, sign, paren, primary, operand, factors, summands, calculation, item, item-tail, bound, exception, excluded, alternative, alternatives, value-set, counts, counts-tail, test, comparison, condition, joined, chain, factor, concatenation, expression, marked, counts-end, members, branches, character-tail, last-character, width, field-set, bound-name, field-end, colon, case-end, cases, switch-end, rules, rule-end}
+use Rattle.parsing.specs.Symbols.{Symbol, want, sign, paren, primary, operand, factors, summands, calculation, item, item-tail, bound, exception, excluded, alternative, alternatives, value-set, counts, counts-tail, test, comparison, condition, joined, chain, atom, factor, concatenation, expression, marked, counts-end, members, branches, character-tail, last-character, width, field-set, bound-name, field-end, colon, case-end, cases, switch-end, rules, rule-end}
 use Rattle.parsing.specs.declared.Sight.{Sight}
 
 pub data Fed : Type 0 where
@@ -59,30 +59,16 @@ comparison-tag code =
     cond (eqb code 61) 14 (cond (eqb code 161) 15 (cond (eqb code 60) 16 (cond (eqb code 188) 17 (cond (eqb code 62) 18 (cond (eqb code 190) 19 0)))))
 
 -- an item of an expression, without its repetition mark
-unfoldable pub factor-begins : ℕ → Sight → State → List Symbol → Fed
-factor-begins d s st ks =
-    elim (is 3 s) [
-      | true ↦ go (leaf 6 (s .start) 0 0 0 0 0 st) ks
-      | false ↦ elim (is 9 s) [
-        | true ↦ go st (character-tail (s .start) ∷ ks)
-        | false ↦ elim (is 6 s) [
-          | true ↦ go st (paren d ∷ width (d + 1) (s .start) ∷ ks)
-          | false ↦ elim (is 7 s) [
-            | true ↦ go (leaf 9 (s .start) 0 0 0 0 0 st) ks
-            | false ↦ elim (is-name s) [
-              | true ↦ go (leaf 5 (s .start) 0 0 0 0 0 st) ks
-              | false ↦ elim (is 40 s) [
-                | true ↦ within-depth d (go st (expression (d + 1) ∷ want 41 ∷ ks))
-                | false ↦ elim (is 91 s) [
-                  | true ↦ within-depth d (go st (condition (d + 1) ∷ colon (d + 1) (terms-of st) ∷ cases (d + 1) (s .start) (nodes-of st) ∷ ks))
-                  | false ↦ fault
-                ]
-              ]
-            ]
-          ]
-        ]
-      ]
-    ]
+unfoldable pub atom-begins : ℕ → Sight → State → List Symbol → Fed
+atom-begins d s st ks =
+    cond (is 3 s) (go (leaf 6 (s .start) 0 0 0 0 0 st) ks)
+    (cond (is 9 s) (go st (character-tail (s .start) ∷ ks))
+    (cond (is 6 s) (go st (paren d ∷ width (d + 1) (s .start) ∷ ks))
+    (cond (is 7 s) (go (leaf 9 (s .start) 0 0 0 0 0 st) ks)
+    (cond (is-name s) (go (leaf 5 (s .start) 0 0 0 0 0 st) ks)
+    (cond (is 40 s) (within-depth d (go st (expression (d + 1) ∷ want 41 ∷ ks)))
+    (cond (is 91 s) (within-depth d (go st (condition (d + 1) ∷ colon (d + 1) (terms-of st) ∷ cases (d + 1) (s .start) (nodes-of st) ∷ ks)))
+    fault))))))
 
 -- how a repetition is written: `?`, `*`, `+`; 0 of any other terminal
 abbrev pub mark-of : ℕ → ℕ
@@ -90,7 +76,7 @@ mark-of code = cond (eqb code 63) 1 (cond (eqb code 42) 2 (cond (eqb code 43) 3 
 
 -- a chain of parts is one construct; a single part is none
 abbrev pub chained : ℕ → Bool → ℕ → ℕ → State → State
-chained kind many p i st = elim many [ true ↦ insert kind p i 0 0 0 0 0 st | false ↦ st ]
+chained kind many p i st = cond many (insert kind p i 0 0 0 0 0 st) st
 
 -- ---- a terminal is handed to the parts that wait
 
@@ -132,10 +118,11 @@ feed s st (joined d ∷ ks) =
     ]
 feed s st (chain k tag d ∷ ks) = elim (is k s) [ true ↦ go st (test d ∷ sign tag (s .start) 0 ∷ chain k tag d ∷ ks) | false ↦ feed s st ks ]
 -- expressions: "loosest first: alternative `|`, concatenation `&`, repetition"
-feed s st (factor d ∷ ks) = factor-begins d s st (marked (s .start) (nodes-of st) ∷ ks)
-feed s st (concatenation d ∷ ks) = factor-begins d s st (marked (s .start) (nodes-of st) ∷ members d (s .start) (nodes-of st) false ∷ ks)
+feed s st (atom d ∷ ks) = atom-begins d s st ks
+feed s st (factor d ∷ ks) = atom-begins d s st (marked (s .start) (nodes-of st) ∷ ks)
+feed s st (concatenation d ∷ ks) = atom-begins d s st (marked (s .start) (nodes-of st) ∷ members d (s .start) (nodes-of st) false ∷ ks)
 feed s st (expression d ∷ ks) =
-    factor-begins d s st (marked (s .start) (nodes-of st) ∷ members d (s .start) (nodes-of st) false ∷ branches d (s .start) (nodes-of st) false ∷ ks)
+    atom-begins d s st (marked (s .start) (nodes-of st) ∷ members d (s .start) (nodes-of st) false ∷ branches d (s .start) (nodes-of st) false ∷ ks)
 feed s st (marked p i ∷ ks) =
     elim (is 123 s) [
       | true ↦ go st (counts ∷ counts-end p i (s .start) (terms-of st) ∷ ks)

@@ -37,7 +37,8 @@ pub data Symbol : Type 0 where
   condition : ℕ → Symbol
   joined : ℕ → Symbol
   chain : (code tag d : ℕ) → Symbol
-  -- expressions
+  -- expressions; an atom is a factor without its repetition mark
+  atom : ℕ → Symbol
   factor : ℕ → Symbol
   concatenation : ℕ → Symbol
   expression : ℕ → Symbol

@@ -4,9 +4,10 @@ use crate::terminals::look;
 use text::bytes::both;
 use text::bytes::either;
 ghost use mathlib.Core.Path.{_≡_};
-ghost use mathlib.Core.Bool.{true};
+ghost use mathlib.Core.Bool.{true, false};
 ghost use mathlib.Core.List.{[], _∷_};
 ghost use Prim.Native.Nat.{_<_};
+ghost use lib.Dec.{eqb};
 ghost use Rattle.parsing.specs.Cursors.{first-of, next, fail, left as leftOf, ReadsOn};
 ghost use Rattle.parsing.specs.Terminals.{name-like, begin-like, live};
 ghost use Rattle.parsing.specs.Symbols.{want as wantOf, paren};
@@ -76,7 +77,7 @@ pub fn begins(code: usize) -> bool
 // The terminal of a code.
 pub fn want(text: &[u8], c: Cursor, code: usize) -> Cursor
     requires { ⌜ live code ≡ true ⌝ }
-    ensures { λ r. ⌜ ReadsOn (now (text .entry)) (wantOf code ∷ []) c r × (live (c .code) ≡ true → leftOf (now (text .entry)) r < leftOf (now (text .entry)) c) ⌝ }
+    ensures { λ r. ⌜ ReadsOn (now (text .entry)) (wantOf code ∷ []) c r × (eqb (c .code) 0 ≡ false → leftOf (now (text .entry)) r < leftOf (now (text .entry)) c) ⌝ }
 {
     if c.code == code {
         return passed(text, c);

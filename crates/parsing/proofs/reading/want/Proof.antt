@@ -13,7 +13,7 @@ passed-requires c κs = search needs
 
 -- src/reading.rt:82:9
 returns : tie.Need-returns
-returns c = (want-reads ((c .before .before .before .before) .args .text .now) ((c .before .before .before .before) .args .c) ((c .passed) .result) ((c .before .before .before .before) .args .code) ((c .before .before .before .before) .pre) ((c .before .if1) .taken) ((c .passed) .ensures), want-falls ((c .before .before .before .before) .args .text .now) ((c .before .before .before .before) .args .c) ((c .passed) .result) ((c .before .before .before .before) .args .code) ((c .passed) .ensures))
+returns c = (want-reads ((c .before .before .before .before) .args .text .now) ((c .before .before .before .before) .args .c) ((c .passed) .result) ((c .before .before .before .before) .args .code) ((c .before .before .before .before) .pre) ((c .before .if1) .taken) ((c .passed) .ensures), λ _. want-falls ((c .before .before .before .before) .args .text .now) ((c .before .before .before .before) .args .c) ((c .passed) .result) ((c .before .before .before .before) .args .code) ((c .before .before .before .before) .pre) ((c .before .if1) .taken) ((c .passed) .ensures))
 
 -- src/reading.rt:84:5
 failed-requires : tie.Need-failed-requires

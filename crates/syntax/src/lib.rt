@@ -1,0 +1,3 @@
+// The syntax of a text: rules, expressions, and what they are made of.
+pub mod expressions;
+pub mod fields;
