@@ -76,10 +76,11 @@ condition-on i from end (state ns ts rs n t b r) = state (put-condition ns i fro
 abbrev pub bind : State → State
 bind (state ns ts rs n t b r) = state ns ts rs n t (counted 64 b) r
 
--- A rule, five words: place of its name, its first node, and the nodes, terms and binders there are at its end.
+-- A rule, five words: place of its name, its first node, and the nodes, terms and binders there are at its end. The first rule past the limit
+-- is kept too, since refusal 5 is at its place.
 unfoldable pub put-rule : List ℕ → ℕ → (place first nodes terms binders : ℕ) → List ℕ
 put-rule rs r place first nodes terms binders =
-    cond (ltb r 64) (set (set (set (set (set rs (5 * r) place) (5 * r + 1) first) (5 * r + 2) nodes) (5 * r + 3) terms) (5 * r + 4) binders) rs
+    cond (ltb r 65) (set (set (set (set (set rs (5 * r) place) (5 * r + 1) first) (5 * r + 2) nodes) (5 * r + 3) terms) (5 * r + 4) binders) rs
 
 abbrev pub close-rule : ℕ → ℕ → State → State
 close-rule place first (state ns ts rs n t b r) = state ns ts (put-rule rs r place first n t b) n t b (counted 64 r)

@@ -224,7 +224,7 @@ pub fn bind(c: Cursor) -> Cursor
 }
 
 fn put_rule(
-    rules: &mut [usize; 320],
+    rules: &mut [usize; 325],
     r: usize,
     place: usize,
     first: usize,
@@ -234,7 +234,7 @@ fn put_rule(
 )
     ensures { λ _. ⌜ now (rules .exit) ≡ put-ruleOf (now (rules .entry)) r place first nodes terms binders ⌝ }
 {
-    if 64 <= r {
+    if 65 <= r {
         return;
     }
     let k = 5 * r;
@@ -245,7 +245,7 @@ fn put_rule(
     rules[k + 4] = binders;
 }
 
-pub fn close_rule(c: Cursor, place: usize, first: usize, rules: &mut [usize; 320]) -> Cursor
+pub fn close_rule(c: Cursor, place: usize, first: usize, rules: &mut [usize; 325]) -> Cursor
     ensures { λ r. ⌜ (r ≡ rule-more c) × (now (rules .exit) ≡ put-ruleOf (now (rules .entry)) (c .rules) place first (c .nodes) (c .terms) (c .binders)) ⌝ }
 {
     put_rule(rules, c.rules, place, first, c.nodes, c.terms, c.binders);

@@ -9,7 +9,7 @@ use Rattle.parsing.proofs.words.put_rule.Lts as lts
 -- src/words.rt:238:9
 returns : tie.Need-returns
 unfolding put-rule
-returns c = rw (le-ltb ((c .before) .args .r) 64 ((c .if1) .taken))
+returns c = rw (le-ltb ((c .before) .args .r) 65 ((c .if1) .taken))
 
 -- src/words.rt:240:13
 mul-k : tie.Need-mul-k
@@ -74,7 +74,7 @@ element-write-rules-5 c = search needs
 -- src/words.rt:226:1
 returns-2 : tie.Need-returns-2
 unfolding put-rule
-returns-2 c = rw (lt-ltb ((c .before) .args .r) 64 ((c .if1) .left))
+returns-2 c = rw (lt-ltb ((c .before) .args .r) 65 ((c .if1) .left))
 
 pub put-rule-spec : {M : Type 1} → statement M
 put-rule-spec =

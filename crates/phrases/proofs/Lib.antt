@@ -1,0 +1,1 @@
+-- What a right text is made of.
