@@ -1,0 +1,1 @@
+-- The words of a right text within the limits are rules.

@@ -1,0 +1,2 @@
+pub mod TermShapes
+pub mod NodeShapes

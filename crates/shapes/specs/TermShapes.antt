@@ -1,0 +1,84 @@
+-- Lists of terms as they are read: each is a set, counts or a condition. A variable's use has the place of its name for its number, until names
+-- are resolved.
+-- Assumes nothing.
+use Prim.Native.Nat.{ℕ, zero, suc, _+_, _*_, _-_, _<_}
+use mathlib.Core.Path.{_≡_}
+use mathlib.Core.Bool.{Bool, cond, _||_}
+use mathlib.Core.List.{List, [], _∷_}
+use lib.Dec.{eqb}
+use lib.ListN.{getD}
+use Rattle.terms.specs.Words.{termOf}
+use Rattle.terms.specs.declared.Term.{Term}
+use Rattle.trees.specs.Trees.{Calculation, literal, use-of, plus, minus, times, opposite, ValueSet, everything, only, between, from, upTo, either, without, Condition, compare, both, any, Repeats, exact, on-from, up-to, spanning}
+use Rattle.trees.specs.Postfix.{setTerms, conditionTerms, repeatTerms}
+use Rattle.trees.specs.Rooms.{Room, SetRoom, ConditionRoom}
+
+-- a term of the four words: tag, value, place, origin
+abbrev pub is-use : ℕ → Bool
+is-use tag = eqb tag 2 || eqb tag 34
+
+-- term k of those read
+abbrev pub read-term : List ℕ → ℕ → Term
+read-term ts k = termOf (getD ts (4 * k) 0) (cond (is-use (getD ts (4 * k) 0)) (getD ts (4 * k + 2) 0) (getD ts (4 * k + 1) 0)) 0
+
+-- n terms from term k on
+unfoldable pub read-terms : List ℕ → ℕ → ℕ → List Term
+read-terms ts k zero = []
+read-terms ts k (suc n) = read-term ts k ∷ read-terms ts (k + 1) n
+
+-- ---- variables under other numbers
+
+unfoldable pub renamed : (ℕ → ℕ) → Calculation → Calculation
+renamed g (literal n) = literal n
+renamed g (use-of k) = use-of (g k)
+renamed g (plus a b) = plus (renamed g a) (renamed g b)
+renamed g (minus a b) = minus (renamed g a) (renamed g b)
+renamed g (times a b) = times (renamed g a) (renamed g b)
+renamed g (opposite a) = opposite (renamed g a)
+
+unfoldable pub renamed-set : (ℕ → ℕ) → ValueSet → ValueSet
+renamed-set g everything = everything
+renamed-set g (only a) = only (renamed g a)
+renamed-set g (between a b) = between (renamed g a) (renamed g b)
+renamed-set g (from a) = from (renamed g a)
+renamed-set g (upTo b) = upTo (renamed g b)
+renamed-set g (either x y) = either (renamed-set g x) (renamed-set g y)
+renamed-set g (without x y) = without (renamed-set g x) (renamed-set g y)
+
+unfoldable pub renamed-condition : (ℕ → ℕ) → Condition → Condition
+renamed-condition g (compare k a b) = compare k (renamed g a) (renamed g b)
+renamed-condition g (both x y) = both (renamed-condition g x) (renamed-condition g y)
+renamed-condition g (any x y) = any (renamed-condition g x) (renamed-condition g y)
+
+unfoldable pub renamed-repeats : (ℕ → ℕ) → Repeats → Repeats
+renamed-repeats g (exact n) = exact (renamed g n)
+renamed-repeats g (on-from a) = on-from (renamed g a)
+renamed-repeats g (up-to b) = up-to (renamed g b)
+renamed-repeats g (spanning a b) = spanning (renamed g a) (renamed g b)
+
+-- each calculation of counts has room
+abbrev pub RepeatsRoom : ℕ → Repeats → Type 0
+RepeatsRoom vars (exact n) = Room vars n 0
+RepeatsRoom vars (on-from a) = Room vars a 0
+RepeatsRoom vars (up-to b) = Room vars b 0
+RepeatsRoom vars (spanning a b) = Room vars a 0 × Room vars b 0
+
+-- ---- what the terms from f up to e are
+
+pub record SetShape (ts : List ℕ) (f e : ℕ) : Type 0 where
+  pub some : f < e
+  pub tree : ValueSet
+  pub is : read-terms ts f (e - f) ≡ setTerms tree
+  pub room : (g : ℕ → ℕ) → ((k : ℕ) → g k < 64) → SetRoom 64 (renamed-set g tree) 0
+
+pub record ConditionShape (ts : List ℕ) (f e : ℕ) : Type 0 where
+  pub some : f < e
+  pub tree : Condition
+  pub is : read-terms ts f (e - f) ≡ conditionTerms tree
+  pub room : (g : ℕ → ℕ) → ((k : ℕ) → g k < 64) → ConditionRoom 64 (renamed-condition g tree) 0
+
+pub record CountsShape (ts : List ℕ) (f e : ℕ) : Type 0 where
+  pub some : f < e
+  pub tree : Repeats
+  pub is : read-terms ts f (e - f) ≡ repeatTerms tree
+  pub room : (g : ℕ → ℕ) → ((k : ℕ) → g k < 64) → RepeatsRoom 64 (renamed-repeats g tree)
