@@ -61,7 +61,7 @@ abbrev pub RepeatsRoom : ℕ → Repeats → Type 0
 RepeatsRoom vars (exact n) = Room vars n 0
 RepeatsRoom vars (on-from a) = Room vars a 0
 RepeatsRoom vars (up-to b) = Room vars b 0
-RepeatsRoom vars (spanning a b) = Room vars a 0 × Room vars b 0
+RepeatsRoom vars (spanning a b) = Room vars a 0 × Room vars b 1
 
 -- ---- what the terms from f up to e are
 
