@@ -60,12 +60,15 @@ skips xs s st st′ ks ks′ e =
     (which (eqb (s .code) 0))
 
 -- a terminal that cannot stand there
-pub faults : (xs : List ℕ) (s : Sight) (end value : ℕ) (st st′ : State) (ks ks′ : List Symbol) → feed s st ks ≡ fault → resume-at xs s st ks ≡ resume-at xs (sight 0 (s .start) end value) st′ ks′
-faults xs s end value st st′ ks ks′ e =
+pub stops : (xs : List ℕ) (s : Sight) (st : State) (ks : List Symbol) → feed s st ks ≡ fault → resume-at xs s st ks ≡ refused (s .start)
+stops xs s st ks e =
     ⊎-elim (λ z. resume-dead xs s st ks z)
     (λ z. resume-live xs s st ks z ∙ run-fed (sights-after xs s) s st ks ∙ ap (fed (sights-after xs s) s) e)
     (which (eqb (s .code) 0))
-    ∙ sym (resume-dead xs (sight 0 (s .start) end value) st′ ks′ refl)
+
+-- the same, with a cursor that has failed
+pub faults : (xs : List ℕ) (s : Sight) (end value : ℕ) (st st′ : State) (ks ks′ : List Symbol) → feed s st ks ≡ fault → resume-at xs s st ks ≡ resume-at xs (sight 0 (s .start) end value) st′ ks′
+faults xs s end value st st′ ks ks′ e = stops xs s st ks e ∙ sym (resume-dead xs (sight 0 (s .start) end value) st′ ks′ refl)
 
 -- the terminals after one, from the next on
 after-live : (xs : List ℕ) (s : Sight) → live (s .code) ≡ true → sights-after xs s ≡ sights-from xs (s .end)
@@ -87,6 +90,14 @@ takes xs s st st′ ks ks′ l e =
     ∙ ap (fed (sights-after xs s) s) e
     ∙ ap (λ (rest : List Sight). run rest st′ ks′) (after-live xs s l ∙ sights-on xs (s .end))
     ∙ sym (resume-live xs (sight-of xs (s .end)) st′ ks′ (next-live xs (s .end)))
+
+-- the whole text
+pub starts : (xs : List ℕ) (at : ℕ) (st : State) (ks : List Symbol) → resume-at xs (sight-of xs at) st ks ≡ run (sights-from xs at) st ks
+starts xs at st ks = resume-live xs (sight-of xs at) st ks (next-live xs at) ∙ ap (λ (rest : List Sight). run rest st ks) (sym (sights-on xs at))
+
+-- a terminal that ends it
+pub ends : (xs : List ℕ) (s : Sight) (st st′ : State) (ks : List Symbol) → eqb (s .code) 0 ≡ false → feed s st ks ≡ done st′ → resume-at xs s st ks ≡ right st′
+ends xs s st st′ ks z e = resume-live xs s st ks z ∙ run-fed (sights-after xs s) s st ks ∙ ap (fed (sights-after xs s) s) e
 
 -- ---- what is left falls
 
