@@ -1,0 +1,4 @@
+pub mod Counting
+pub mod Words
+pub mod Limits
+pub mod Names
