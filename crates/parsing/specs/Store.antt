@@ -11,11 +11,26 @@ use lib.ListN.{getD, set}
 pub data State : Type 0 where
   state : (ns ts rs : List ℕ) (n t b r : ℕ) → State
 
+abbrev pub node-words : State → List ℕ
+node-words (state ns ts rs n t b r) = ns
+
+abbrev pub term-words : State → List ℕ
+term-words (state ns ts rs n t b r) = ts
+
+abbrev pub rule-words : State → List ℕ
+rule-words (state ns ts rs n t b r) = rs
+
 abbrev pub nodes-of : State → ℕ
 nodes-of (state ns ts rs n t b r) = n
 
 abbrev pub terms-of : State → ℕ
 terms-of (state ns ts rs n t b r) = t
+
+abbrev pub binders-of : State → ℕ
+binders-of (state ns ts rs n t b r) = b
+
+abbrev pub rules-of : State → ℕ
+rules-of (state ns ts rs n t b r) = r
 
 -- one more, up to one past a limit
 abbrev pub counted : ℕ → ℕ → ℕ

@@ -1,1 +1,3 @@
 -- What a right text is made of.
+pub mod Parts
+pub mod Derived

@@ -1,0 +1,5 @@
+// The words of a table from what is read.
+pub mod areas;
+pub mod constructs;
+pub mod numbers;
+pub mod put;
