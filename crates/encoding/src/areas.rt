@@ -63,6 +63,18 @@ fn put_rules(nodes: &[usize], rules: &[usize], r: usize, table: &mut [u32])
     }
 }
 
+// The variable that node i binds, if it binds one, as variable x. Answers the number of the next.
+fn put_variable(text: &[u8], nodes: &[usize], i: usize, x: usize, table: &mut [u32]) -> usize
+    requires { ⌜ (length (now nodes) ≡ 2560) × (i < 256) × (x ≡ binders-beforeOf (now nodes) i) ⌝ }
+    ensures { λ r. ⌜ (now (table .exit) ≡ written (now (table .entry)) (320 + 4 * x) (variable-words (now (text .entry)) (now (nodes .entry)) i)) × (r ≡ binders-beforeOf (now (nodes .entry)) (i + 1)) ⌝ }
+{
+    if binder(nodes, i) {
+        put_four(table, 320 + 4 * x, i, width(text, nodes, i), 0, 0);
+        return x + 1;
+    }
+    x
+}
+
 fn put_variables(text: &[u8], nodes: &[usize], n: usize, table: &mut [u32])
     requires { ⌜ (length (now nodes) ≡ 2560) × (n ≤ 256) ⌝ }
     ensures { λ _. ⌜ now (table .exit) ≡ written (now (table .entry)) 320 (flat n 0 (variable-words (now (text .entry)) (now (nodes .entry)))) ⌝ }
@@ -70,10 +82,7 @@ fn put_variables(text: &[u8], nodes: &[usize], n: usize, table: &mut [u32])
     let mut x = 0;
     let mut i = 0;
     while i < n {
-        if binder(nodes, i) {
-            put_four(table, 320 + 4 * x, i, width(text, nodes, i), 0, 0);
-            x += 1;
-        }
+        x = put_variable(text, nodes, i, x, table);
         i += 1;
     }
 }

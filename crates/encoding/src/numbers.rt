@@ -40,7 +40,7 @@ pub fn rule_number(text: &[u8], rules: &[usize], count: usize, p: usize) -> usiz
 // The first node of the rule that node i is in.
 pub fn first_at(rules: &[usize], count: usize, i: usize) -> usize
     requires { ⌜ length (now rules) ≡ 325 ⌝ }
-    ensures { λ r. ⌜ r ≡ first-atOf (now (rules .entry)) count i ⌝ }
+    ensures { λ r. ⌜ (r ≡ first-atOf (now (rules .entry)) count i) × (r ≤ i) ⌝ }
 {
     let mut k = count;
     while 0 < k {
