@@ -1,2 +1,3 @@
 pub mod TermShapes
 pub mod NodeShapes
+pub mod Stored
