@@ -1,89 +1,149 @@
 // Refusal 8: the least place of a width, a number or a calculation outside its limits.
+use crate::Found;
 use encoding::numbers::condition_length;
 use encoding::numbers::own_length;
 use encoding::numbers::width;
 use naming::words::min;
 use naming::words::node_word;
 use naming::words::not;
-use naming::words::place_if;
 use naming::words::term_word;
 use sizes::Sized;
 use text::bytes::both;
 use text::bytes::either;
+ghost use mathlib.Core.Path.{_≡_};
+ghost use Prim.Native.Nat.{ℕ, _+_, _-_, _≤_, _<_};
+ghost use lib.ListN.{length};
+ghost use Rattle.layout.specs.Constructs.{constructAt};
+ghost use Rattle.measures.specs.Measures.{widest as widestOf, condition-size, own-size};
+ghost use Rattle.naming.specs.Words.{node-word};
+ghost use Rattle.encoding.specs.Numbers.{condition-start, own-start};
+ghost use Rattle.admission.specs.Extents.{lesser as lesserOf, found-if, least-found, width-found, number-found, origin-after, list-found, node-found, refusal-8};
 
-fn width_place(text: &[u8], nodes: &[usize], i: usize) -> usize {
+fn lesser(a: Found, b: Found) -> Found
+    ensures { λ r. ⌜ r ≡ lesserOf a b ⌝ }
+{
+    match a {
+        Found::Nothing => b,
+        Found::At(p) => match b {
+            Found::Nothing => Found::At(p),
+            Found::At(q) => Found::At(min(p, q)),
+        },
+    }
+}
+
+fn found_if(fault: bool, p: usize) -> Found
+    ensures { λ r. ⌜ r ≡ found-if fault p ⌝ }
+{
+    if fault {
+        return Found::At(p);
+    }
+    Found::Nothing
+}
+
+fn width_found(text: &[u8], nodes: &[usize], i: usize) -> Found
+    requires { ⌜ length (now nodes) ≡ 2560 ⌝ }
+    ensures { λ r. ⌜ r ≡ width-found (now (text .entry)) (now (nodes .entry)) i ⌝ }
+{
     let w = width(text, nodes, i);
-    place_if(
+    found_if(
         both(node_word(nodes, i, 0) == 8, not(both(1 <= w, w <= 32))),
         node_word(nodes, i, 3),
     )
 }
 
-fn number_place(terms: &[usize], t: usize) -> usize {
-    let tag = term_word(terms, t, 0);
-    place_if(
-        both(
-            either(tag == 1, tag == 33),
-            4294967295 < term_word(terms, t, 1),
-        ),
-        term_word(terms, t, 2),
+fn number_found(terms: &[usize], k: usize) -> Found
+    requires { ⌜ length (now terms) ≡ 4096 ⌝ }
+    ensures { λ r. ⌜ r ≡ number-found (now (terms .entry)) k ⌝ }
+{
+    let tag = term_word(terms, k, 0);
+    found_if(
+        both(either(tag == 1, tag == 33), 4294967295 < term_word(terms, k, 1)),
+        term_word(terms, k, 2),
     )
 }
 
+fn term_after(terms: &[usize], f: usize, at: usize, start: usize) -> usize
+    requires { ⌜ length (now terms) ≡ 4096 ⌝ }
+    ensures { λ r. ⌜ r ≡ origin-after (now (terms .entry)) f at start ⌝ }
+{
+    let t = encoding::numbers::less(at, start);
+    if f < 1024 {
+        if t < 1024 {
+            return term_word(terms, f + t, 3);
+        }
+    }
+    0
+}
+
 // The first byte of the calculation at which a list of sizes is too large; the list is read from term f on, and is the table's from `start`.
-fn list_place(terms: &[usize], sized: Sized, f: usize, start: usize) -> usize {
+fn list_found(terms: &[usize], f: usize, start: usize, sized: Sized) -> Found
+    requires { ⌜ length (now terms) ≡ 4096 ⌝ }
+    ensures { λ r. ⌜ r ≡ list-found (now (terms .entry)) f start sized ⌝ }
+{
     match sized {
-        Sized::Passes => 18446744073709551615,
-        Sized::Malformed => 18446744073709551615,
-        Sized::Exceeds(at) => term_word(terms, f + (at - start), 3),
+        Sized::Passes => Found::Nothing,
+        Sized::Malformed => Found::Nothing,
+        Sized::Exceeds(at) => Found::At(term_after(terms, f, at, start)),
     }
 }
 
-fn lists_place(
+// Node i, whose lists are the table's from term q on.
+fn node_found(
+    text: &[u8],
     nodes: &[usize],
     terms: &[usize],
     table: &[u32],
     widest: &[i64; 64],
     i: usize,
     q: usize,
-) -> usize {
-    let tested = measures::condition_sizes(table, widest, i);
-    let own = measures::own_sizes(table, widest, i);
-    min(
-        list_place(terms, tested, node_word(nodes, i, 8), q),
-        list_place(
-            terms,
-            own,
-            node_word(nodes, i, 5),
-            q + condition_length(nodes, i),
-        ),
-    )
+) -> Found
+    requires { ⌜ (length (now nodes) ≡ 2560) × (length (now terms) ≡ 4096) × (16384 ≤ length (now table)) × (now widest ≡ widestOf (now table)) × (i < 256) × (q ≡ condition-start (now nodes) i) × (condition-start (now nodes) (i + 1) ≤ 1024) ⌝ }
+    ensures { λ r. ⌜ r ≡ node-found (now (text .entry)) (now (nodes .entry)) (now (terms .entry)) (now (table .entry)) i ⌝ }
+{
+    let tested = list_found(
+        terms,
+        node_word(nodes, i, 8),
+        q,
+        measures::condition_sizes(table, widest, i),
+    );
+    let own = list_found(
+        terms,
+        node_word(nodes, i, 5),
+        q + condition_length(nodes, i),
+        measures::own_sizes(table, widest, i),
+    );
+    lesser(width_found(text, nodes, i), lesser(tested, own))
 }
 
-fn numbers_place(terms: &[usize], t: usize) -> usize {
-    let mut least = 18446744073709551615;
+fn numbers_found(terms: &[usize], t: usize) -> Found
+    requires { ⌜ length (now terms) ≡ 4096 ⌝ }
+    ensures { λ r. ⌜ r ≡ least-found t 0 (number-found (now (terms .entry))) ⌝ }
+{
+    let mut least = Found::Nothing;
     let mut k = 0;
     while k < t {
-        least = min(least, number_place(terms, k));
+        least = lesser(least, number_found(terms, k));
         k += 1;
     }
     least
 }
 
-fn nodes_place(
+fn nodes_found(
     text: &[u8],
     nodes: &[usize],
     terms: &[usize],
     n: usize,
     table: &[u32],
     widest: &[i64; 64],
-) -> usize {
-    let mut least = 18446744073709551615;
+) -> Found
+    requires { ⌜ (length (now nodes) ≡ 2560) × (length (now terms) ≡ 4096) × (16384 ≤ length (now table)) × (now widest ≡ widestOf (now table)) × (n ≤ 256) × (condition-start (now nodes) n ≤ 1024) ⌝ }
+    ensures { λ r. ⌜ r ≡ least-found n 0 (node-found (now (text .entry)) (now (nodes .entry)) (now (terms .entry)) (now (table .entry))) ⌝ }
+{
+    let mut least = Found::Nothing;
     let mut q = 0;
     let mut i = 0;
     while i < n {
-        least = min(least, width_place(text, nodes, i));
-        least = min(least, lists_place(nodes, terms, table, widest, i, q));
+        least = lesser(least, node_found(text, nodes, terms, table, widest, i, q));
         q += condition_length(nodes, i) + own_length(nodes, i);
         i += 1;
     }
@@ -97,10 +157,14 @@ pub fn first_oversized(
     n: usize,
     t: usize,
     table: &[u32],
-) -> usize {
+) -> Found
+    requires { ⌜ (length (now nodes) ≡ 2560) × (length (now terms) ≡ 4096) × (16384 ≤ length (now table)) × (n ≤ 256) × (condition-start (now nodes) n ≤ 1024) ⌝ }
+    ensures { λ r. ⌜ r ≡ refusal-8 (now (text .entry)) (now (nodes .entry)) (now (terms .entry)) (now (table .entry)) n t ⌝ }
+{
     let widest = measures::widest(table).sizes;
-    min(
-        numbers_place(terms, t),
-        nodes_place(text, nodes, terms, n, table, &widest),
+    let numbers = numbers_found(terms, t);
+    lesser(
+        numbers,
+        nodes_found(text, nodes, terms, n, table, &widest),
     )
 }

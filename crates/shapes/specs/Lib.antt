@@ -1,3 +1,4 @@
 pub mod TermShapes
 pub mod NodeShapes
 pub mod Stored
+pub mod Placed
