@@ -57,7 +57,10 @@ fn number_found(terms: &[usize], k: usize) -> Found
 {
     let tag = term_word(terms, k, 0);
     found_if(
-        both(either(tag == 1, tag == 33), 4294967295 < term_word(terms, k, 1)),
+        both(
+            either(tag == 1, tag == 33),
+            4294967295 < term_word(terms, k, 1),
+        ),
         term_word(terms, k, 2),
     )
 }
@@ -163,8 +166,5 @@ pub fn first_oversized(
 {
     let widest = measures::widest(table).sizes;
     let numbers = numbers_found(terms, t);
-    lesser(
-        numbers,
-        nodes_found(text, nodes, terms, n, table, &widest),
-    )
+    lesser(numbers, nodes_found(text, nodes, terms, n, table, &widest))
 }

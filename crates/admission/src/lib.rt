@@ -1,9 +1,18 @@
 // Admission of a grammar's text: refusals 1 to 11 in order, or the table of its grammar.
 use conflicts::Clash;
+use naming::words::node_word;
+use naming::words::rule_word;
 use parsing::Cursor;
 use rules::Recursion;
 use table::Judgement;
 use text::Heading;
+ghost use mathlib.Core.Path.{_≡_};
+ghost use Prim.Native.Nat.{ℕ, _+_, _≤_, _<_};
+ghost use lib.ListN.{length};
+ghost use Rattle.table.specs.Judged.{Passed8};
+ghost use Rattle.parsing.specs.Cursors.{state-at};
+ghost use Rattle.admission.specs.Admitted.{Named, AnsweredRules, Answers};
+ghost use Rattle.admission.specs.Late.{Late, Within};
 
 pub mod copying;
 pub mod extents;
@@ -26,35 +35,68 @@ pub enum Admission {
     },
 }
 
-fn refused(number: usize, place: usize) -> Admission {
-    Admission::Refused { number, place }
+// A place, where there is one.
+pub enum Found {
+    At(usize),
+    Nothing,
 }
 
-// 9 to 11: the words are laid out, and pass 5 to 8.
-fn judged(nodes: &[usize], rules: &[usize], base: usize, words: &mut [u32]) -> Admission {
+fn refused(number: usize, base: usize, p: usize) -> Admission
+    requires { ⌜ (base ≤ 8192) × (p ≤ 8192) ⌝ }
+    ensures { λ r. ⌜ r ≡ Admission.Refused number (base + p) ⌝ }
+{
+    Admission::Refused {
+        number,
+        place: base + p,
+    }
+}
+
+// 9 to 11, of words that pass 5 to 8. The first three answers of the judgement do not come.
+fn judged(nodes: &[usize], rules: &[usize], base: usize, words: &mut [u32]) -> Admission
+    requires { ⌜ Passed8 (now words) × (length (now nodes) ≡ 2560) × (length (now rules) ≡ 325) × (base ≤ 8192) × Within (now nodes) (now rules) ⌝ }
+    ensures { λ r. ⌜ Late (now (nodes .entry)) (now (rules .entry)) base (now (words .entry)) (now (words .exit)) r ⌝ }
+{
     match completion::complete(words) {
-        Judgement::Unlaid => refused(6, 0),
-        Judgement::Recursive { rule } => refused(
-            7,
-            base + naming::words::rule_word(rules, rule, 0),
-        ),
-        Judgement::Oversized { construct } => refused(
-            8,
-            base + naming::words::node_word(nodes, construct, 2),
-        ),
-        Judgement::EmptyBody { construct: _ } => refused(9, base + marks::first_mark(words, nodes)),
+        Judgement::Unlaid => refused(0, 0, 0),
+        Judgement::Recursive { rule: _ } => refused(0, 0, 0),
+        Judgement::Oversized { construct: _ } => refused(0, 0, 0),
+        Judgement::EmptyBody { construct: _ } => refused(9, base, marks::first_mark(words, nodes)),
         Judgement::Conflict { construct, clash } => Admission::Conflict {
-            place: base + naming::words::node_word(nodes, construct, 2),
+            place: base + node_word(nodes, construct, 2),
             construct,
             clash,
         },
-        Judgement::Overweight => refused(11, base + naming::words::rule_word(rules, 0, 0)),
+        Judgement::Overweight => refused(11, base, rule_word(rules, 0, 0)),
         Judgement::Passes { weight } => Admission::Admitted { weight },
     }
 }
 
-// 7 to 11
-fn encoded(
+// 8 to 11, of words in which no rule reaches itself.
+fn admit_words(
+    text: &[u8],
+    nodes: &[usize],
+    terms: &[usize],
+    rules: &[usize],
+    c: Cursor,
+    base: usize,
+    words: &mut [u32],
+    table: &mut [u32],
+) -> Admission {
+    match extents::first_oversized(text, nodes, terms, c.nodes, c.terms, words) {
+        Found::At(p) => refused(8, base, p),
+        Found::Nothing => {
+            let answer = judged(nodes, rules, base, words);
+            let Admission::Admitted { weight } = answer else {
+                return answer;
+            };
+            copying::copy(words, table);
+            Admission::Admitted { weight }
+        }
+    }
+}
+
+// 7 to 11, of what is read.
+fn admit_read(
     text: &[u8],
     nodes: &[usize],
     terms: &[usize],
@@ -62,71 +104,56 @@ fn encoded(
     c: Cursor,
     base: usize,
     table: &mut [u32],
-) -> Admission {
+) -> Admission
+    requires { ⌜ Named (now text) (state-at c (now nodes) (now terms) (now rules)) × (length (now text) ≤ 8192) × (base ≤ 8192) × (16384 ≤ length (now table)) ⌝ }
+    ensures { λ r. ⌜ AnsweredRules (now (text .entry)) base (now (table .entry)) (now (table .exit)) r ⌝ }
+{
     let mut words = [0u32; 16384];
     encoding::areas::encode(text, nodes, terms, rules, c.nodes, c.rules, &mut words);
     match rules::recursive_rule(&words) {
-        Recursion::None => {}
-        Recursion::Rule(rule) => {
-            return refused(7, base + naming::words::rule_word(rules, rule, 0));
-        }
-    }
-    let place = extents::first_oversized(text, nodes, terms, c.nodes, c.terms, &words);
-    if place < 18446744073709551615 {
-        return refused(8, base + place);
-    }
-    let answer = judged(nodes, rules, base, &mut words);
-    match answer {
-        Admission::Admitted { weight } => {
-            copying::copy(&words, table);
-            Admission::Admitted { weight }
-        }
-        Admission::Refused { number, place } => Admission::Refused { number, place },
-        Admission::Conflict {
-            place,
-            construct,
-            clash,
-        } => Admission::Conflict {
-            place,
-            construct,
-            clash,
-        },
+        Recursion::Rule(rule) => refused(7, base, rule_word(rules, rule, 0)),
+        Recursion::None => admit_words(text, nodes, terms, rules, c, base, &mut words, table),
     }
 }
 
 // 4 to 11, of the text that follows the empty line; `base` is its place in the whole text.
-fn admit_rules(text: &[u8], base: usize, table: &mut [u32]) -> Admission {
+fn admit_rules(text: &[u8], base: usize, table: &mut [u32]) -> Admission
+    requires { ⌜ (length (now text) ≤ 8192) × (base ≤ 8192) × (16384 ≤ length (now table)) ⌝ }
+    ensures { λ r. ⌜ AnsweredRules (now (text .entry)) base (now (table .entry)) (now (table .exit)) r ⌝ }
+{
     let mut nodes = [0usize; 2560];
     let mut terms = [0usize; 4096];
     let mut rules = [0usize; 325];
     let c = syntax::rules::read(text, &mut nodes, &mut terms, &mut rules);
     if c.code == 0 {
-        return refused(4, base + c.start);
+        return refused(4, base, c.start);
     }
     let past = naming::limits::first_past(&rules, c.rules);
     if past < 18446744073709551615 {
-        return refused(5, base + past);
+        return refused(5, base, past);
     }
     let wrong = naming::places::first_fault(text, &nodes, &terms, &rules, c.rules);
     if wrong < 18446744073709551615 {
-        return refused(6, base + wrong);
+        return refused(6, base, wrong);
     }
-    encoded(text, &nodes, &terms, &rules, c, base, table)
+    admit_read(text, &nodes, &terms, &rules, c, base, table)
 }
 
-// Any bytes as text, any words as table.
-pub fn admit(text: &[u8], table: &mut [u32]) -> Admission {
+// Any bytes as text, any words as table. Refused, no word of the table changes.
+pub fn admit(text: &[u8], table: &mut [u32]) -> Admission
+    ensures { λ r. ⌜ Answers (now (text .entry)) (now (table .entry)) (now (table .exit)) r ⌝ }
+{
     if table.len() < 16384 {
-        return refused(1, 0);
+        return refused(1, 0, 0);
     }
     if text.len() == 0 {
-        return refused(2, 0);
+        return refused(2, 0, 0);
     }
     if 8192 < text.len() {
-        return refused(2, 0);
+        return refused(2, 0, 0);
     }
     match text::header::header(text) {
-        Heading::Wrong(place) => refused(3, place),
+        Heading::Wrong(place) => refused(3, 0, place),
         Heading::Rules(base) => admit_rules(&text[base..], base, table),
     }
 }

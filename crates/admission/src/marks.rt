@@ -2,8 +2,19 @@
 use naming::words::min;
 use naming::words::node_word;
 use naming::words::place_if;
+ghost use mathlib.Core.Path.{_≡_};
+ghost use mathlib.Core.Bool.{true};
+ghost use Prim.Native.Nat.{_≤_, _<_};
+ghost use lib.ListN.{length};
+ghost use Rattle.layout.specs.Places.{construct-count};
+ghost use Rattle.form.specs.Laid.{laid as laidOf};
+ghost use Rattle.sets.specs.Sets.{FirstSets};
+ghost use Rattle.admission.specs.Late.{Marks};
 
-fn least_mark(table: &[u32], first: &[u64], nodes: &[usize]) -> usize {
+fn least_mark(table: &[u32], first: &[u64], nodes: &[usize]) -> usize
+    requires { ⌜ (laidOf (now table) ≡ true) × (length (now first) ≡ 2056) × FirstSets (now table) (now first) × (length (now nodes) ≡ 2560) ⌝ }
+    ensures { λ r. ⌜ Marks (now (nodes .entry)) (now (table .entry)) (construct-count (now (table .entry))) r ⌝ }
+{
     let count = layout::word(table, 2);
     let mut least = 18446744073709551615;
     let mut i = 0;
@@ -15,7 +26,10 @@ fn least_mark(table: &[u32], first: &[u64], nodes: &[usize]) -> usize {
     least
 }
 
-pub fn first_mark(table: &[u32], nodes: &[usize]) -> usize {
+pub fn first_mark(table: &[u32], nodes: &[usize]) -> usize
+    requires { ⌜ (laidOf (now table) ≡ true) × (length (now nodes) ≡ 2560) ⌝ }
+    ensures { λ r. ⌜ Marks (now (nodes .entry)) (now (table .entry)) (construct-count (now (table .entry))) r ⌝ }
+{
     let mut first = [0u64; 2056];
     sets::first::first(table, &mut first);
     least_mark(table, &first, nodes)

@@ -1,0 +1,48 @@
+-- What the judgement of encoded words answers, 9 to 11. Only the crate's own helpers promise this.
+-- Assumes nothing.
+use Prim.Native.Nat.{ℕ, _+_, _≤_, _<_}
+use mathlib.Core.Path.{_≡_}
+use mathlib.Core.List.{List}
+use lib.ListN.{length}
+use Rattle.theory.specs.Lookahead.{EmptyBody}
+use Rattle.layout.specs.Places.{construct-count}
+use Rattle.layout.specs.Held.{held}
+use Rattle.conflicts.specs.Conflicts.{Conflicting, Answered}
+use Rattle.conflicts.specs.declared.Clash.{Clash}
+use Rattle.table.specs.Judged.{Passed9, Passed10, Least, Weighing}
+use Rattle.table.specs.Sound.{Sound}
+use Rattle.soundness.specs.OneTable.{Alike}
+use Rattle.naming.specs.Words.{node-word, place-of, named-at}
+use Rattle.admission.specs.declared.Admission.{Admission}
+
+-- p is the least mark of the constructs with a body that may be empty, where there is one
+pub record Marks (ns ws : List ℕ) (n p : ℕ) : Type 0 where
+  pub below : (i : ℕ) → i < n → EmptyBody (held ws) i → p ≤ node-word ns i 4
+  pub found : (i : ℕ) → i < n → EmptyBody (held ws) i → (j : ℕ) × (j < n) × EmptyBody (held ws) j × (p ≡ node-word ns j 4)
+
+pub data LateRefused (ns rs : List ℕ) (base : ℕ) (ws : List ℕ) : (number place : ℕ) → Type 0 where
+  empty-body : {p i place : ℕ} → i < construct-count ws → EmptyBody (held ws) i → Marks ns ws (construct-count ws) p → place ≡ base + p → LateRefused ns rs base ws 9 place
+  overweight : {place : ℕ} → Passed10 ws → Weighing ws (λ n. 65535 < n) → place ≡ base + named-at rs 0 → LateRefused ns rs base ws 11 place
+
+pub record LateClash (ns : List ℕ) (base : ℕ) (ws : List ℕ) (place construct : ℕ) (clash : Clash) : Type 0 where
+  pub passed : Passed9 ws
+  pub first : Least ws (Conflicting ws) construct
+  pub answered : Answered ws construct clash
+  pub at : place ≡ base + place-of ns construct
+
+pub record LatePass (weight : ℕ) (old new : List ℕ) : Type 0 where
+  pub judged : Passed10 old
+  pub weighs : Weighing old (λ n. n ≡ weight)
+  pub limited : weight ≤ 65535
+  pub sound : Sound new
+  pub same : Alike old new
+
+abbrev pub Late : (ns rs : List ℕ) → (base : ℕ) → (old new : List ℕ) → Admission → Type 0
+Late ns rs base old new (Admission.Admitted weight) = LatePass weight old new
+Late ns rs base old new (Admission.Refused number place) = LateRefused ns rs base old number place
+Late ns rs base old new (Admission.Conflict place construct clash) = LateClash ns base old place construct clash
+
+-- places that are stored are within the largest text
+pub record Within (ns rs : List ℕ) : Type 0 where
+  pub nodes : (i : ℕ) → (node-word ns i 2 ≤ 8192) × (node-word ns i 4 ≤ 8192)
+  pub rules : (k : ℕ) → named-at rs k ≤ 8192
