@@ -1,0 +1,70 @@
+-- What the C program's calls promise: the crates' promises below, by document 01's numbers and words.
+-- Assumes nothing.
+use Prim.Native.Nat.{ℕ, _<_, _≤_}
+use mathlib.Core.Path.{_≡_}
+use mathlib.Core.Bool.{true, false}
+use mathlib.Core.List.{List, [], _∷_}
+use lib.Dec.{ltb, eqb}
+use lib.ListN.{length, set}
+use lib.Seq.{sets}
+use Rattle.conflicts.specs.declared.Clash.{Clash}
+use Rattle.layout.specs.Constructs.{pick}
+use Rattle.layout.specs.Places.{table-of}
+use Rattle.admission.specs.Admitted as admitted
+use Rattle.admission.specs.declared.Admission.{Admission}
+use Rattle.matcher.specs.Opening as opening
+use Rattle.matcher.specs.declared.Answer.{Answer}
+use Rattle.runs.specs.Runs as runs
+use Rattle.saved.specs.Saved.{saved-bytes, encoded, decoded}
+
+-- ---- admission
+
+-- what is told of an answer, five numbers: the weight or the place; the window of a clash, its construct, and the two branches that share the
+-- window (0, 0 where a repetition's going on and stopping do)
+abbrev pub told-clash : ℕ → ℕ → Clash → List ℕ
+told-clash place construct Clash.None = place ∷ 0 ∷ construct ∷ 0 ∷ 0 ∷ []
+told-clash place construct (Clash.Branches window first second) = place ∷ window ∷ construct ∷ first ∷ second ∷ []
+told-clash place construct (Clash.Passes window) = place ∷ window ∷ construct ∷ 0 ∷ 0 ∷ []
+
+abbrev pub told : Admission → List ℕ
+told (Admission.Admitted weight) = weight ∷ 0 ∷ 0 ∷ 0 ∷ 0 ∷ []
+told (Admission.Refused number place) = place ∷ 0 ∷ 0 ∷ 0 ∷ 0 ∷ []
+told (Admission.Conflict place construct clash) = told-clash place construct clash
+
+-- admission answers with its number; what fits of the five is written
+pub record Admits (text old new answer answer′ : List ℕ) (number : ℕ) : Type 0 where
+  pub admission : Admission
+  pub answers : admitted.Answers text old new admission
+  pub number-is : number ≡ admitted.number-of admission
+  pub told-is : answer′ ≡ sets answer 0 (told admission)
+
+-- ---- opening: 23, 21, 22; then 24 where the room for the run is not that of a saved run. The run is written where there is room for it
+
+abbrev pub number-with-room : ℕ → ℕ → ℕ
+number-with-room number room = pick (eqb number 0) (pick (eqb room saved-bytes) 0 24) number
+
+pub record Opens (table frame reading run run′ : List ℕ) (number : ℕ) : Type 0 where
+  pub answer : Answer
+  pub answered : opening.Answered table frame reading answer
+  pub number-is : number ≡ number-with-room (opening.number-of answer) (length run)
+  pub run-is : run′ ≡ pick (eqb (length run) saved-bytes) (encoded (opening.run-given answer)) run
+
+-- ---- granting: 21, then 24, also where the slice is not a saved run's; then nothing changes. The count of the steps taken is written where it fits
+
+abbrev pub granted : (table frame reading run : List ℕ) → ℕ → runs.After
+granted table frame reading run steps = runs.grant-of (table-of table) frame reading (decoded run) steps
+
+abbrev pub GrantsRun : (table frame reading reading′ run run′ taken taken′ : List ℕ) → (steps number : ℕ) → Type 0
+GrantsRun table frame reading reading′ run run′ taken taken′ steps number =
+    (number ≡ runs.number-of (runs.answer-in (granted table frame reading run steps)))
+    × (reading′ ≡ runs.reading-in (granted table frame reading run steps))
+    × (run′ ≡ encoded (runs.run-in (granted table frame reading run steps)))
+    × (taken′ ≡ set taken 0 (runs.taken-of (runs.answer-in (granted table frame reading run steps))))
+
+abbrev pub GrantsNone : (frame reading reading′ run run′ taken taken′ : List ℕ) → (number : ℕ) → Type 0
+GrantsNone frame reading reading′ run run′ taken taken′ number =
+    (number ≡ pick (ltb 256 (length frame)) 21 24) × (reading′ ≡ reading) × (run′ ≡ run) × (taken′ ≡ set taken 0 0)
+
+pub record Grants (table frame reading reading′ run run′ taken taken′ : List ℕ) (steps number : ℕ) : Type 0 where
+  pub saved : length run ≡ saved-bytes → GrantsRun table frame reading reading′ run run′ taken taken′ steps number
+  pub other : (length run ≡ saved-bytes → ⊥) → GrantsNone frame reading reading′ run run′ taken taken′ number

@@ -1,0 +1,212 @@
+// The calls of a C program: numbers and slices, each a pointer with a length. Nothing is trusted: any bytes and words, of any lengths, are
+// answered or refused by document 01's numbers. include/songrafter.h says the same in C.
+use admission::Admission;
+use conflicts::Clash;
+use matcher::Answer;
+ghost use mathlib.Core.Path.{_≡_};
+ghost use mathlib.Core.List.{[], _∷_};
+ghost use lib.ListN.{length, getD, set};
+ghost use lib.Seq.{sets};
+ghost use lib.IntN.{pos};
+ghost use Rattle.admission.specs.Admitted.{number-of};
+ghost use Rattle.matcher.specs.Opening.{number-of as opening-number};
+ghost use Rattle.runs.specs.Runs.{number-of as grant-number, taken-of};
+ghost use Rattle.saved.specs.Saved.{restored};
+ghost use Rattle.songrafter.specs.Calls.{told-clash, told, Admits, number-with-room, Opens, Grants};
+
+// A number of an answer, where it fits.
+fn put(answer: &mut [u64], k: usize, n: usize)
+    ensures { λ r. ⌜ now (answer .exit) ≡ set (now (answer .entry)) k n ⌝ }
+{
+    if k < answer.len() {
+        answer[k] = n as u64;
+    }
+}
+
+fn put_five(answer: &mut [u64], a: usize, b: usize, c: usize, d: usize, e: usize)
+    ensures { λ r. ⌜ now (answer .exit) ≡ sets (now (answer .entry)) 0 (a ∷ b ∷ c ∷ d ∷ e ∷ []) ⌝ }
+{
+    put(answer, 0, a);
+    put(answer, 1, b);
+    put(answer, 2, c);
+    put(answer, 3, d);
+    put(answer, 4, e);
+}
+
+fn tell_clash(answer: &mut [u64], place: usize, construct: usize, clash: Clash)
+    ensures { λ r. ⌜ now (answer .exit) ≡ sets (now (answer .entry)) 0 (told-clash place construct clash) ⌝ }
+{
+    match clash {
+        Clash::None => put_five(answer, place, 0, construct, 0, 0),
+        Clash::Branches {
+            window,
+            first,
+            second,
+        } => put_five(answer, place, window, construct, first, second),
+        Clash::Passes { window } => put_five(answer, place, window, construct, 0, 0),
+    }
+}
+
+// Tells an answer, and gives its number.
+fn tell(answer: &mut [u64], admission: Admission) -> usize
+    ensures { λ r. ⌜ (r ≡ number-of admission) × (now (answer .exit) ≡ sets (now (answer .entry)) 0 (told admission)) ⌝ }
+{
+    match admission {
+        Admission::Admitted { weight } => {
+            put_five(answer, weight, 0, 0, 0, 0);
+            0
+        }
+        Admission::Refused { number, place } => {
+            put_five(answer, place, 0, 0, 0, 0);
+            number
+        }
+        Admission::Conflict {
+            place,
+            construct,
+            clash,
+        } => {
+            tell_clash(answer, place, construct, clash);
+            10
+        }
+    }
+}
+
+#[no_mangle]
+pub extern "C" fn songrafter_admit(text: &[u8], table: &mut [u32], answer: &mut [u64]) -> usize
+    ensures { λ r. ⌜ Admits (now (text .entry)) (now (table .entry)) (now (table .exit)) (now (answer .entry)) (now (answer .exit)) r ⌝ }
+{
+    let admission = admission::admit(text, table);
+    tell(answer, admission)
+}
+
+fn opening_number(answer: Answer) -> usize
+    ensures { λ r. ⌜ r ≡ opening-number answer ⌝ }
+{
+    match answer {
+        Answer::Unsound => 23,
+        Answer::LongFrame => 21,
+        Answer::SmallReading => 22,
+        Answer::Opened => 0,
+    }
+}
+
+fn with_room(number: usize, room: usize) -> usize
+    ensures { λ r. ⌜ r ≡ number-with-room number room ⌝ }
+{
+    if number == 0 {
+        if room == 2596 {
+            return 0;
+        }
+        return 24;
+    }
+    number
+}
+
+#[no_mangle]
+pub extern "C" fn songrafter_open(
+    table: &[u32],
+    frame: &[u8],
+    reading: &[u32],
+    run: &mut [u8],
+) -> usize
+    ensures { λ r. ⌜ Opens (now (table .entry)) (now (frame .entry)) (now (reading .entry)) (now (run .entry)) (now (run .exit)) r ⌝ }
+{
+    let opening = matcher::open(table, frame, reading);
+    let answer = opening.answer;
+    let opened = opening.run;
+    let room = run.len();
+    saved::encode(opened, run);
+    with_room(opening_number(answer), room)
+}
+
+fn grant_number(answer: runs::Answer) -> usize
+    ensures { λ r. ⌜ r ≡ grant-number answer ⌝ }
+{
+    match answer {
+        runs::Answer::LongFrame => 21,
+        runs::Answer::Unfit => 24,
+        runs::Answer::Taken(_) => 0,
+    }
+}
+
+fn steps_taken(answer: runs::Answer) -> u64
+    ensures { λ r. ⌜ r ≡ taken-of answer ⌝ }
+{
+    match answer {
+        runs::Answer::LongFrame => 0,
+        runs::Answer::Unfit => 0,
+        runs::Answer::Taken(n) => n,
+    }
+}
+
+fn put_count(taken: &mut [u64], n: u64)
+    ensures { λ r. ⌜ now (taken .exit) ≡ set (now (taken .entry)) 0 n ⌝ }
+{
+    if 0 < taken.len() {
+        taken[0] = n;
+    }
+}
+
+// A slice that is no saved run.
+fn no_run(frame: &[u8], taken: &mut [u64]) -> usize {
+    put_count(taken, 0);
+    if 256 < frame.len() {
+        return 21;
+    }
+    24
+}
+
+#[no_mangle]
+pub extern "C" fn songrafter_grant(
+    table: &[u32],
+    frame: &[u8],
+    reading: &mut [u32],
+    run: &mut [u8],
+    steps: u64,
+    taken: &mut [u64],
+) -> usize
+    ensures { λ r. ⌜ Grants (now (table .entry)) (now (frame .entry)) (now (reading .entry)) (now (reading .exit)) (now (run .entry)) (now (run .exit)) (now (taken .entry)) (now (taken .exit)) steps r ⌝ }
+{
+    if run.len() != 2596 {
+        return no_run(frame, taken);
+    }
+    let done = runs::advance(table, frame, reading, saved::decode(run), steps);
+    let after = done.run;
+    let answer = done.answer;
+    saved::encode(after, run);
+    put_count(taken, steps_taken(answer));
+    grant_number(answer)
+}
+
+// Of a saved run, or of a closed one where the slice is none: verdict, steps taken, fields recorded, position, value of a variable.
+#[no_mangle]
+pub extern "C" fn songrafter_verdict(run: &[u8]) -> u32
+    ensures { λ r. ⌜ r ≡ restored (now (run .entry)) .verdict ⌝ }
+{
+    saved::decode(run).verdict
+}
+
+#[no_mangle]
+pub extern "C" fn songrafter_steps(run: &[u8]) -> u64
+    ensures { λ r. ⌜ r ≡ restored (now (run .entry)) .steps ⌝ }
+{
+    saved::decode(run).steps
+}
+
+#[no_mangle]
+pub extern "C" fn songrafter_fields(run: &[u8]) -> u64
+    ensures { λ r. ⌜ r ≡ restored (now (run .entry)) .captures ⌝ }
+{
+    saved::decode(run).captures
+}
+
+#[no_mangle]
+pub extern "C" fn songrafter_value(run: &[u8], k: usize) -> i64
+    ensures { λ r. ⌜ r ≡ getD (restored (now (run .entry)) .values) k (pos 0) ⌝ }
+{
+    let values = saved::decode(run).values;
+    if k < 64 {
+        return values[k];
+    }
+    0
+}
