@@ -6,6 +6,7 @@ pub mod Sentences
 pub mod TermLaws
 pub mod ShapeLaws
 pub mod StoreLaws
+pub mod Changes
 pub mod Moving
 pub mod Growth
 pub mod Claims
@@ -15,4 +16,5 @@ pub mod Chains
 pub mod Switches
 pub mod RuleLaws
 pub mod NodeLaws
+pub mod StoredLaws
 pub mod Shaped

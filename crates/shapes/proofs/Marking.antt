@@ -93,7 +93,7 @@ unfolding read-terms
 one-read ts s m = read-split ts m 1 s
 
 -- term k's tag changed
-abbrev marked-at : List ℕ → ℕ → List ℕ
+abbrev pub marked-at : List ℕ → ℕ → List ℕ
 marked-at ts k = set ts (4 * k) (marked-tag (getD ts (4 * k) 0))
 
 marked-below : (ts : List ℕ) (k j : ℕ) → j < 4 * k → getD (marked-at ts k) j 0 ≡ getD ts j 0

@@ -11,7 +11,7 @@ use Rattle.parsing.specs.Symbols.{Symbol, rules}
 use Rattle.parsing.specs.Store.{State, state}
 use Rattle.phrases.specs.Phrases.{Production, terminal, signed, opened as opens, number, variable, negated, plain, no-factor, times, no-summand, plus, minus, sum, open-item, value-item, to-bound, alone, some-bound, no-bound, no-exception, except, except-set, except-item, set-alternative, no-alternative, or-alternative, set, counts-to, counts-from, counts-exact, counts-range, test-group, test-compare, compare, tests, one-test, all-of, any-of, no-link, link, literal-atom, character-atom, field-atom, eod-atom, use-atom, group-atom, switch-atom, an-item, one-member, one-branch, no-mark, a-mark, counted-mark, counted as counted-end, and-member, last-member, or-branch, last-branch, to-character, one-character, range, field-width, binding, not-binding, binder, field, a-case, case-done, no-default, default, further-case, switched, no-rule, a-rule as a-rule-made, ruled, Phrases, nothing, then}
 use Rattle.shapes.specs.NodeShapes.{Rules}
-use Rattle.shapes.proofs.Growth.{Grows, production-grows, phrases-grow, Fine, fine-between}
+use Rattle.shapes.proofs.Growth.{Grows, production-grows, phrases-grow, blank, Fine, fine-between}
 use Rattle.shapes.proofs.Claims.{TermFacts, still, opened, Claim, Reads, end, next}
 use Rattle.shapes.proofs.Atoms.{literal-made, use-made, eod-made, character-made, range-made, character-claim, to-character-claim, group-claim, field-atom-claim, width-claim, binding-claim, not-binding-claim, binder-claim}
 use Rattle.shapes.proofs.Chains.{gives-same, mark-made, counts-claim, item-claim, chain-begins, chain-goes, chain-ends}
@@ -103,15 +103,11 @@ module _ {xs : List ℕ} (facts : TermFacts xs) where
       let h : Fine c = fine-between f (phrases-grow (then p u nothing)) (phrases-grow v) g
       in next (produced p (then p u nothing) f h (reads u (fine-between f (production-grows p) (phrases-grow u) h) h)) h (reads v h g)
 
--- before anything is read
-abbrev start : State
-start = state (replicate 2560 0) (replicate 4096 0) (replicate 325 0) 0 0 0 0
-
 zeros : (n : ℕ) → length (replicate {A = ℕ} n 0) ≡ n
 zeros n = length-replicate {A = ℕ} n 0
 
-start-fine : Fine start
-start-fine =
+blank-fine : Fine blank
+blank-fine =
     record {
       nodes = omega arith;
       terms = omega arith;
@@ -122,14 +118,14 @@ start-fine =
       rule-length = zeros 325;
     }
 
-pub shape-of : (xs : List ℕ) → TermFacts xs → (ns ts rs : List ℕ) (n t b r : ℕ) → Phrases xs (rules false ∷ []) (state (replicate 2560 0) (replicate 4096 0) (replicate 325 0) 0 0 0 0) (state ns ts rs n t b r) → n ≤ 256 → t ≤ 1024 → b ≤ 64 → r ≤ 64 → Rules xs ns ts rs r n t b 0 0 0 0 × (1 ≤ r)
-shape-of xs facts ns ts rs n t b r p h i j k = from (reads facts p start-fine fine)
+pub shape-of : (xs : List ℕ) → TermFacts xs → (ns ts rs : List ℕ) (n t b r : ℕ) → Phrases xs (rules false ∷ []) blank (state ns ts rs n t b r) → n ≤ 256 → t ≤ 1024 → b ≤ 64 → r ≤ 64 → Rules xs ns ts rs r n t b 0 0 0 0 × (1 ≤ r)
+shape-of xs facts ns ts rs n t b r p h i j k = from (reads facts p blank-fine fine)
   where
-    grows : Grows start (state ns ts rs n t b r)
+    grows : Grows blank (state ns ts rs n t b r)
     grows = phrases-grow p
 
     fine : Fine (state ns ts rs n t b r)
     fine = record { nodes = h; terms = i; binders = j; rules = k; node-length = grows .node-length ∙ zeros 2560; term-length = grows .term-length ∙ zeros 4096; rule-length = grows .rule-length ∙ zeros 325 }
 
-    from : Reads xs (rules false ∷ []) start (state ns ts rs n t b r) → Rules xs ns ts rs r n t b 0 0 0 0 × (1 ≤ r)
+    from : Reads xs (rules false ∷ []) blank (state ns ts rs n t b r) → Rules xs ns ts rs r n t b 0 0 0 0 × (1 ≤ r)
     from (next x f end) = (x .rules, x .some refl)

@@ -1,24 +1,26 @@
 -- A right text within the limits has rules made of trees.
 -- Assumes nothing.
-use Prim.Native.Nat.{ℕ, _*_, _≤_, _<_}
+use Prim.Native.Nat.{ℕ, _≤_}
 use mathlib.Core.Path.{_≡_, _∙_}
 use mathlib.Core.Bool.{false}
 use mathlib.Core.List.{List, [], _∷_}
-use lib.ListN.{length, getD, length-replicate, replicate}
+use lib.ListN.{length, length-replicate}
 use Rattle.parsing.specs.Terminals.{sights-from}
-use Rattle.parsing.specs.Store.{State, state, term-words, terms-of}
-use Rattle.parsing.specs.Symbols.{value-set, condition, counts, rules}
+use Rattle.parsing.specs.Store.{State, state, term-words}
+use Rattle.parsing.specs.Symbols.{rules}
 use Rattle.parsing.specs.Form.{right, run}
 use Rattle.phrases.specs.Phrases.{Phrases}
 use Rattle.phrases.proofs.Derived.{derived}
 use Rattle.shapes.specs.NodeShapes.{Rules}
+use Rattle.shapes.specs.Stored.{Stored}
 use Rattle.shapes.proofs.Adding as adding
-use Rattle.shapes.proofs.Moving.{TermsSame}
 use Rattle.shapes.proofs.TermLaws.{set-read, condition-read, counts-read, Before}
 use Rattle.shapes.proofs.ShapeLaws.{set-same, condition-same, counts-same}
 use Rattle.shapes.proofs.Growth.{Grows, phrases-grow}
+pub use Rattle.shapes.proofs.Growth.{blank}
 use Rattle.shapes.proofs.Claims.{TermsOnly, TermFacts}
 use Rattle.shapes.proofs.NodeLaws.{shape-of}
+use Rattle.shapes.proofs.StoredLaws as words
 
 only : {a b : State} → length (term-words a) ≡ 4096 → adding.TermsOnly a b → Before a b → TermsOnly a b
 only l t k =
@@ -42,16 +44,13 @@ facts xs =
       counts-read = λ a b p l m. let r = counts-read p l m in (r .0, only l (r .1) (r .2));
     }
 
--- what is read from zeros
-abbrev pub blank : State
-blank = state (replicate 2560 0) (replicate 4096 0) (replicate 325 0) 0 0 0 0
-
 pub record Shaped (xs ns ts rs : List ℕ) (n t b r : ℕ) : Type 0 where
   pub rules : Rules xs ns ts rs r n t b 0 0 0 0
   pub some : 1 ≤ r
   pub node-length : length ns ≡ 2560
   pub term-length : length ts ≡ 4096
   pub rule-length : length rs ≡ 325
+  pub stored : Stored xs ns ts
 
 pub shaped : (xs ns ts rs : List ℕ) (n t b r : ℕ) → run (sights-from xs 0) blank (rules false ∷ []) ≡ right (state ns ts rs n t b r) → n ≤ 256 → t ≤ 1024 → b ≤ 64 → r ≤ 64 → Shaped xs ns ts rs n t b r
 shaped xs ns ts rs n t b r e h i j k =
@@ -64,4 +63,5 @@ shaped xs ns ts rs n t b r e h i j k =
       node-length = g .node-length ∙ length-replicate {A = ℕ} 2560 0;
       term-length = g .term-length ∙ length-replicate {A = ℕ} 4096 0;
       rule-length = g .rule-length ∙ length-replicate {A = ℕ} 325 0;
+      stored = words.stored xs ns ts rs n t b r p;
     }
