@@ -1,0 +1,94 @@
+/* Songrafter: frame grammars, read and matched a bounded number of steps at a time.
+ *
+ * Every call answers any bytes and any words, of any lengths, or refuses them by a number; nothing that it is
+ * handed has to be checked first. What each call promises is proved (docs/CONFORMANCE.md), for memory that is
+ * handed to it as said here:
+ *
+ * - A pointer with a length is an array of that many elements. No pointer is null, also where the length is 0.
+ * - Arrays that a call writes to overlap no other array of that call.
+ * - All memory is the caller's. Nothing is kept between calls: no allocation, no global state, no lock. So calls
+ *   may run on several threads at once, as long as no array that one writes to is used by another.
+ * - The stack that each call takes is in README.md ("Figures").
+ */
+#ifndef SONGRAFTER_H
+#define SONGRAFTER_H
+
+#include <stddef.h>
+#include <stdint.h>
+
+#ifdef __cplusplus
+extern "C" {
+#endif
+
+/* Sizes of what the caller lends. */
+#define SONGRAFTER_TEXT_BYTES 8192u     /* the longest grammar */
+#define SONGRAFTER_TABLE_WORDS 16384u   /* a table, in uint32_t */
+#define SONGRAFTER_ANSWER_WORDS 5u      /* an answer of songrafter_admit, in uint64_t */
+#define SONGRAFTER_FRAME_BYTES 256u     /* the longest frame */
+#define SONGRAFTER_READING_WORDS 4096u  /* room that is enough for every frame, in uint32_t: two words for each bit */
+#define SONGRAFTER_RUN_BYTES 2596u      /* a saved run */
+#define SONGRAFTER_VARIABLES 64u        /* values of a run */
+
+/* Numbers of refusal. 0 is no refusal. */
+enum {
+    SONGRAFTER_OK = 0,
+    SONGRAFTER_TABLE_SHORT = 1,    /* table shorter than 16,384 words */
+    SONGRAFTER_TEXT_SIZE = 2,      /* grammar empty or over 8,192 bytes */
+    SONGRAFTER_HEADER = 3,         /* header wrong */
+    SONGRAFTER_FORM = 4,           /* rules not of the form */
+    SONGRAFTER_LIMIT = 5,          /* over 64 rules, 256 constructs, 64 variables or 1,024 numbers, uses and signs */
+    SONGRAFTER_NAME = 6,           /* name unknown, double, reserved, misplaced or of the wrong kind */
+    SONGRAFTER_CYCLE = 7,          /* a rule reaches itself */
+    SONGRAFTER_NUMBER = 8,         /* a number or width outside its limits, or a calculation that may pass 2^62 */
+    SONGRAFTER_EMPTY_BODY = 9,     /* a repeated body may take no bit */
+    SONGRAFTER_CLASH = 10,         /* two ways go on with the same window */
+    SONGRAFTER_WEIGHT = 11,        /* weight over 65,535 */
+    SONGRAFTER_FRAME_LONG = 21,    /* frame over 256 bytes */
+    SONGRAFTER_READING_SMALL = 22, /* reading under two words for each frame bit */
+    SONGRAFTER_TABLE_UNSOUND = 23, /* table not sound */
+    SONGRAFTER_RUN_UNFIT = 24      /* saved run doesn't fit, or is not 2,596 bytes */
+};
+
+/* Verdicts of a run. Any other number in a saved run is refused with 24. */
+enum {
+    SONGRAFTER_UNDECIDED = 0,
+    SONGRAFTER_MATCH = 1,
+    SONGRAFTER_NO_MATCH = 2,
+    SONGRAFTER_CLOSED = 3,
+    SONGRAFTER_BROKEN = 4
+};
+
+/* Reads a grammar. Answers 0 and writes its table into the first 16,384 words, or a number from 1 to 11 and
+ * changes no word of the table. Of `answer`, what fits of five numbers is written:
+ *   [0] the weight (0), or the place: bytes from the text's first (1 to 11);
+ *   [1] for 10 the least common window (a 1 followed by its bits), else 0;
+ *   [2] for 10 the construct, and [3], [4] the two branches that share the window, by number in text order;
+ *       0 and 0 where a repetition's going on and stopping do; else 0. */
+size_t songrafter_admit(const uint8_t *text, size_t text_len, uint32_t *table, size_t table_len,
+                        uint64_t *answer, size_t answer_len);
+
+/* Opens a run. Answers 0, or 23, 21, 22, tried in this order, or 24 where `run` is not 2,596 bytes. The run is
+ * written into `run`, a closed one where the opening is refused; where `run` has another length nothing is. */
+size_t songrafter_open(const uint32_t *table, size_t table_len, const uint8_t *frame, size_t frame_len,
+                       const uint32_t *reading, size_t reading_len, uint8_t *run, size_t run_len);
+
+/* Grants steps to a run. Answers 0, or 21 or 24, and then nothing changes. The run, its reading (two words for
+ * each field: construct, first bit) and, where `taken_len` is not 0, the count of the steps taken in taken[0] are
+ * written. A run that is decided, closed or broken takes none. Keep table, frame and run as they are between two
+ * grants; other ones are answered all the same, and at worst the run ends as broken. */
+size_t songrafter_grant(const uint32_t *table, size_t table_len, const uint8_t *frame, size_t frame_len,
+                        uint32_t *reading, size_t reading_len, uint8_t *run, size_t run_len, uint64_t steps,
+                        uint64_t *taken, size_t taken_len);
+
+/* Of a saved run: its verdict, the steps that it has taken, the fields recorded in its reading, and the value of
+ * variable k (0 from 64 on). A slice that is not 2,596 bytes is read as a closed run. */
+uint32_t songrafter_verdict(const uint8_t *run, size_t run_len);
+uint64_t songrafter_steps(const uint8_t *run, size_t run_len);
+uint64_t songrafter_fields(const uint8_t *run, size_t run_len);
+int64_t songrafter_value(const uint8_t *run, size_t run_len, size_t k);
+
+#ifdef __cplusplus
+}
+#endif
+
+#endif
