@@ -18,3 +18,5 @@ pub mod RuleLaws
 pub mod NodeLaws
 pub mod StoredLaws
 pub mod Shaped
+pub mod Columns
+pub mod Places

@@ -72,7 +72,7 @@ moved-at (suc n) ns k j q a b e h =
 abbrev pub ten : (kind size place a b c d e : ℕ) → List ℕ
 ten kind size place a b c d e = kind ∷ size ∷ place ∷ a ∷ b ∷ c ∷ d ∷ e ∷ 0 ∷ 0 ∷ []
 
-words-sets : (ns : List ℕ) (k kind size place a b c d e : ℕ) → put-words ns k kind size place a b c d e ≡ sets ns k (ten kind size place a b c d e)
+pub words-sets : (ns : List ℕ) (k kind size place a b c d e : ℕ) → put-words ns k kind size place a b c d e ≡ sets ns k (ten kind size place a b c d e)
 unfolding put-words
 words-sets ns k kind size place a b c d e =
     let z : k + 9 ≡ suc (suc (suc (suc (suc (suc (suc (suc (suc k)))))))) = omega arith in simp (towards-suc, z)
