@@ -1,1 +1,3 @@
 -- The words that are encoded from a right text are laid out.
+pub mod LeastLaws
+pub mod LimitLaws

@@ -1,0 +1,64 @@
+use Prim.Native.Nat.{_+_, _*_}
+use mathlib.Core.Path.{_≡_, refl, sym, _∙_}
+use mathlib.Core.List.{[], _∷_}
+use mathlib.Core.Bool.{true, false}
+use borrow.Author.Tests.{eq-eqb, ne-eqb}
+use borrow.Author.Needs.{needs}
+use lib.Dec.{eqb}
+use Rattle.naming.specs.Words.{kind-of}
+use Rattle.encoding.proofs.Writing.{written-next}
+use Rattle.encoding.proofs.constructs.literal.Statement.{statement}
+use Rattle.encoding.proofs.constructs.literal.Tie as tie
+
+mul-k : tie.Need-mul-k
+mul-k c = search needs
+
+add-k : tie.Need-add-k
+add-k c = search needs
+
+node-word-requires : tie.Need-node-word-requires
+node-word-requires c κs = search needs
+
+node-word-requires-2 : tie.Need-node-word-requires-2
+node-word-requires-2 c κs = search needs
+
+bytes-requires : tie.Need-bytes-requires
+bytes-requires c κs = search needs
+
+same-length : tie.Need-same-length
+same-length c = search needs
+
+returns : tie.Need-returns
+returns c = let k : eqb (kind-of (c .before .before .before .before .before .before .before .before .before .before .args .nodes .now) (c .before .before .before .before .before .before .before .before .before .before .args .i)) 6 ≡ true = eq-eqb _ _ (sym (c .before .before .before .before .before .before .node-word .ensures) ∙ c .before .before .before .before .before .if1 .taken) in simp (k, c .before .before .bytes .ensures, c .before .before .before .before .node-word2 .ensures)
+
+put-four-requires : tie.Need-put-four-requires
+put-four-requires c κs = search needs
+
+add-put-four : tie.Need-add-put-four
+add-put-four c = search needs
+
+put-four-requires-2 : tie.Need-put-four-requires-2
+put-four-requires-2 c κs = search needs
+
+same-length-2 : tie.Need-same-length-2
+same-length-2 c = search needs
+
+returns-2 : tie.Need-returns-2
+returns-2 c = let k1 : eqb (kind-of (c .before .before .before .before .before .before .before .before .before .before .before .before .before .args .nodes .now) (c .before .before .before .before .before .before .before .before .before .before .before .before .before .args .i)) 6 ≡ false = ne-eqb _ _ (λ e. c .before .before .before .before .before .before .before .before .if1 .left (c .before .before .before .before .before .before .before .before .before .node-word .ensures ∙ e)) in simp k1 (written-next (c .before .before .before .before .before .before .before .before .before .before .before .before .before .args .table .now) (c .before .before .before .before .before .before .put-four .last .0) (c .before .before .put-four2 .last .0) (5696 + 8 * c .before .before .before .before .before .before .before .before .before .before .before .before .before .args .i) (5696 + 8 * c .before .before .before .before .before .before .before .before .before .before .before .before .before .args .i + 4) (0 ∷ 0 ∷ 0 ∷ 0 ∷ []) (0 ∷ 0 ∷ 0 ∷ 0 ∷ []) (c .before .before .before .before .before .before .put-four .ensures) refl (c .before .before .put-four2 .ensures))
+
+pub literal-spec : {M : Type 1} → statement M
+literal-spec =
+    tie.close
+    (tie.spec
+    mul-k
+    add-k
+    node-word-requires
+    node-word-requires-2
+    bytes-requires
+    same-length
+    returns
+    put-four-requires
+    add-put-four
+    put-four-requires-2
+    same-length-2
+    returns-2)
