@@ -54,6 +54,13 @@ pub record Words (xs ns ts rs : List ℕ) (n r : ℕ) (ws : List ℕ) : Type 0 w
 
 -- ---- node by node
 
+-- a node other than a counted repetition or a uint has no list of its own
+abbrev pub QuietAt : List ℕ → ℕ → Type 0
+QuietAt ns i = (kind-of ns i ≡ 8 → ⊥) → ((kind-of ns i ≡ 3) × (node-word ns i 3 ≡ 4) → ⊥) → own-length ns i ≡ 0
+
+abbrev pub Quiet : List ℕ → ℕ → Type 0
+Quiet ns n = (i : ℕ) → i < n → QuietAt ns i
+
 -- a tree begins at node i
 pub record TreeAt (xs ns ts : List ℕ) (n t i : ℕ) : Type 0 where
   pub end : ℕ
