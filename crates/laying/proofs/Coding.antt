@@ -1,22 +1,20 @@
 -- The first six words of a construct, by the kind of its node.
 -- Assumes nothing.
-use Prim.Native.Nat.{ℕ, _+_, _*_, _-_, _%_, _≤_, _<_}
-use mathlib.Core.Path.{_≡_, refl, sym, ap, _∙_}
-use mathlib.Core.Logic.{⊎-elim}
-use mathlib.Core.Bool.{Bool, true, false, cond}
+use Prim.Native.Nat.{ℕ, _+_, _≤_, _<_}
+use mathlib.Core.Path.{_≡_, refl, ap, _∙_}
+use mathlib.Core.Bool.{true, cond}
 use mathlib.Core.List.{List, [], _∷_}
 use native.Mathlib.Omega.{arith}
 use borrow.Author.Tests.{lt-ltb}
 use lib.Dec.{ltb}
 use lib.ListN.{length, getD}
-use Rattle.text.proofs.Tests.{which, picked}
+use Rattle.text.proofs.Tests.{picked}
 use Rattle.literals.specs.Literals.{characters-at}
 use Rattle.literals.proofs.Sizes.{character-small}
 use Rattle.layout.specs.Places.{construct-word}
-use Rattle.shapes.specs.NodeShapes.{Headed, NameAt, LiteralAt, CharacterAt, Marked, Counted, Field}
 use Rattle.naming.specs.Words.{node-word, kind-of, place-of, is-binder}
 use Rattle.encoding.specs.Lists.{narrow}
-use Rattle.encoding.specs.Numbers.{rule-of, binds-one, binders-before, width-of, own-length, lists-length, condition-start, own-start}
+use Rattle.encoding.specs.Numbers.{rule-of, binds-one, binders-before, width-of, own-length, lists-length, own-start}
 use Rattle.encoding.specs.Encoded.{operands, construct-words}
 use Rattle.laying.specs.Context.{Readable, Words, Quiet}
 use Rattle.laying.proofs.Sums.{total-last, sum-below}

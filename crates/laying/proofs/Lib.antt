@@ -16,3 +16,7 @@ pub mod RuleFacts
 pub mod Uses
 pub mod Coding
 pub mod Known
+pub mod ConditionWords
+pub mod PartsLaid
+pub mod KindsLaid
+pub mod RulesLaid

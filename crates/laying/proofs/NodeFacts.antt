@@ -1,18 +1,24 @@
 -- Every node is the root of a tree, with a condition or without.
 -- Assumes nothing.
-use Prim.Native.Nat.{ℕ, _+_, _≤_, _<_}
+use Prim.Native.Nat.{ℕ, _+_, _-_, _≤_, _<_}
 use mathlib.Core.Path.{_≡_, refl}
-use mathlib.Core.Logic.{_⊎_, ⊎-elim}
+use mathlib.Core.Logic.{⊎-elim}
 use mathlib.Core.List.{List}
 use native.Mathlib.Omega.{arith}
-use Rattle.shapes.specs.NodeShapes.{Unconditioned, Conditioned, Shape, tree, forest, cases, further, Holds, literal-tree, range-tree, use-tree, eod-tree, uint-tree, marked-tree, counted-tree, chain-tree, switch-tree, no-trees, more-trees, a-case, no-further, a-default, more-cases, Rules, no-rules, a-rule}
+use Rattle.shapes.specs.NodeShapes.{Headed, Unconditioned, Shape, tree, forest, cases, further, Holds, literal-tree, range-tree, use-tree, eod-tree, uint-tree, marked-tree, counted-tree, chain-tree, switch-tree, no-trees, more-trees, a-case, no-further, a-default, more-cases, Rules, no-rules, a-rule}
+use Rattle.naming.specs.Words.{node-word}
 use Rattle.laying.specs.Context.{Readable, TreeAt, ConditionAt, without, with-one, Nodes}
 use Rattle.laying.proofs.Sums.{side}
 
--- a tree's nodes and terms go on, and it has a node
+-- nodes and terms go on
 pub record Ordered (i e f g : ℕ) : Type 0 where
   pub nodes : i ≤ e
   pub terms : f ≤ g
+
+-- the first node of a tree
+pub record Root (ns : List ℕ) (i e : ℕ) : Type 0 where
+  pub kind : ℕ
+  pub head : Headed ns i e kind
 
 -- ---- what holds of the nodes from i up to e
 
@@ -47,19 +53,25 @@ module _ {xs ns ts : List ℕ} where
   ordered (a-default u x) = record { nodes = omega (arith, ordered x .nodes); terms = omega (arith, ordered x .terms) }
   ordered (more-cases x) = record { nodes = omega (arith, ordered x .nodes); terms = omega (arith, ordered x .terms) }
 
-  -- a tree has a node
-  pub tree-below : {i e f g β : ℕ} → Holds xs ns ts tree i e f g β → i < e
-  tree-below (literal-tree h z b l) = h .below
-  tree-below (range-tree h z b l m) = h .below
-  tree-below (use-tree h z b l) = h .below
-  tree-below (eod-tree h z b) = h .below
-  tree-below (uint-tree h z f b) = h .below
-  tree-below (marked-tree h z m u x) = h .below
-  tree-below (counted-tree h z c u x) = h .below
-  tree-below (chain-tree h k z t x) = h .below
-  tree-below (switch-tree h z x) = h .below
+  headed : {i e f g β : ℕ} → Holds xs ns ts tree i e f g β → Root ns i e
+  headed (literal-tree h z b l) = record { kind = 6; head = h }
+  headed (range-tree h z b l m) = record { kind = 7; head = h }
+  headed (use-tree h z b l) = record { kind = 5; head = h }
+  headed (eod-tree h z b) = record { kind = 9; head = h }
+  headed (uint-tree h z f b) = record { kind = 8; head = h }
+  headed (marked-tree h z m u x) = record { kind = 3; head = h }
+  headed (counted-tree h z c u x) = record { kind = 3; head = h }
+  headed (chain-tree {kind = kind} h k z t x) = record { kind = kind; head = h }
+  headed (switch-tree h z x) = record { kind = 4; head = h }
 
-  -- and so have trees that follow one another
+  -- a tree has a node, which says how many it has
+  pub tree-below : {i e f g β : ℕ} → Holds xs ns ts tree i e f g β → i < e
+  tree-below x = headed x .head .below
+
+  pub tree-size : {i e f g β : ℕ} → Holds xs ns ts tree i e f g β → node-word ns i 1 ≡ e - i
+  tree-size x = headed x .head .size-is
+
+  -- trees that follow one another have nodes
   pub forest-below : {m i e f g β : ℕ} → Holds xs ns ts (forest m) i e f g β → 0 < m → i < e
   forest-below (no-trees b) h = absurd (omega arith)
   forest-below (more-trees u x y b) h = omega (arith, tree-below x, ordered y .nodes)
@@ -70,19 +82,19 @@ module _ {xs ns ts : List ℕ} where
 -- ---- trees
 
 module _ (xs ns ts : List ℕ) (n t : ℕ) where
-  abbrev Root : ℕ → Type 0
-  Root i = TreeAt xs ns ts n t i
+  abbrev Rooted : ℕ → Type 0
+  Rooted i = TreeAt xs ns ts n t i
 
-  root : {i e f g β : ℕ} → Holds xs ns ts tree i e f g β → e ≤ n → g ≤ t → Root i
+  root : {i e f g β : ℕ} → Holds xs ns ts tree i e f g β → e ≤ n → g ≤ t → Rooted i
   root {i} {e} {f} {g} {β} x h k = record { end = e; first = f; last = g; count = β; within = h; terms-within = k; holds = x }
 
-  leaf : {i e f g β : ℕ} → Holds xs ns ts tree i e f g β → e ≡ i + 1 → e ≤ n → g ≤ t → Along Root i e
-  leaf {i} {e} x z h k = along-first Root i e e z (root x h k) (along-none Root e e (omega arith))
+  leaf : {i e f g β : ℕ} → Holds xs ns ts tree i e f g β → e ≡ i + 1 → e ≤ n → g ≤ t → Along Rooted i e
+  leaf {i} {e} x z h k = along-first Rooted i e e z (root x h k) (along-none Rooted e e (omega arith))
 
-  inner : {i j e f g β : ℕ} → Holds xs ns ts tree i e f g β → j ≡ i + 1 → e ≤ n → g ≤ t → Along Root j e → Along Root i e
-  inner {i} {j} {e} x z h k y = along-first Root i j e z (root x h k) y
+  inner : {i j e f g β : ℕ} → Holds xs ns ts tree i e f g β → j ≡ i + 1 → e ≤ n → g ≤ t → Along Rooted j e → Along Rooted i e
+  inner {i} {j} {e} x z h k y = along-first Rooted i j e z (root x h k) y
 
-  rooted : {s : Shape} {i e f g β : ℕ} → Holds xs ns ts s i e f g β → e ≤ n → g ≤ t → Along Root i e
+  rooted : {s : Shape} {i e f g β : ℕ} → Holds xs ns ts s i e f g β → e ≤ n → g ≤ t → Along Rooted i e
   rooted (literal-tree x z b l) h k = leaf (literal-tree x z b l) z h k
   rooted (range-tree x z b l m) h k = leaf (range-tree x z b l m) z h k
   rooted (use-tree x z b l) h k = leaf (use-tree x z b l) z h k
@@ -92,10 +104,10 @@ module _ (xs ns ts : List ℕ) (n t : ℕ) where
   rooted (counted-tree x z c u y) h k = inner (counted-tree x z c u y) z h k (rooted y h (omega (arith, c .shape .some)))
   rooted (chain-tree x w z l y) h k = inner (chain-tree x w z l y) z h k (rooted y h k)
   rooted (switch-tree x z y) h k = inner (switch-tree x z y) z h k (rooted y h k)
-  rooted (no-trees {i = i} b) h k = along-none Root i i (omega arith)
-  rooted (more-trees {i = i} {m = m} {e = e} u x y b) h k = along-both Root i m e (rooted x (omega (arith, ordered y .nodes)) (omega (arith, ordered y .terms))) (rooted y h k)
-  rooted (a-case {i = i} {m = m} {e = e} c x y b) h k = along-both Root i m e (rooted x (omega (arith, ordered y .nodes)) (omega (arith, ordered y .terms))) (rooted y h k)
-  rooted (no-further {i = i} b) h k = along-none Root i i (omega arith)
+  rooted (no-trees {i = i} b) h k = along-none Rooted i i (omega arith)
+  rooted (more-trees {i = i} {m = m} {e = e} u x y b) h k = along-both Rooted i m e (rooted x (omega (arith, ordered y .nodes)) (omega (arith, ordered y .terms))) (rooted y h k)
+  rooted (a-case {i = i} {m = m} {e = e} c x y b) h k = along-both Rooted i m e (rooted x (omega (arith, ordered y .nodes)) (omega (arith, ordered y .terms))) (rooted y h k)
+  rooted (no-further {i = i} b) h k = along-none Rooted i i (omega arith)
   rooted (a-default u x) h k = rooted x h k
   rooted (more-cases x) h k = rooted x h k
 
@@ -151,5 +163,8 @@ module _ {xs ns ts rs : List ℕ} {r n t b : ℕ} where
   conditions-of (no-rules {i = i} a b c d) = along-none (λ j. ConditionAt ns ts t j) i n (omega arith)
   conditions-of (a-rule {i = i} {m = m} p q l v u x y) = along-both (λ j. ConditionAt ns ts t j) i m n (free xs ns ts t u x (settled xs ns ts t x (rules-ordered y .terms))) (conditions-of y)
 
+pub nodes-of-rules : {xs ns ts rs : List ℕ} {n t b r : ℕ} → Rules xs ns ts rs r n t b 0 0 0 0 → Nodes xs ns ts n t
+nodes-of-rules x = record { trees = λ i h. trees-of x i (omega arith) h; conditions = λ i h. conditions-of x i (omega arith) h }
+
 pub nodes : {xs ns ts rs : List ℕ} {n t b r : ℕ} → Readable xs ns ts rs n t b r → Nodes xs ns ts n t
-nodes k = record { trees = λ i h. trees-of (k .rules) i (omega arith) h; conditions = λ i h. conditions-of (k .rules) i (omega arith) h }
+nodes k = nodes-of-rules (k .rules)

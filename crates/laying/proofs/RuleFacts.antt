@@ -1,8 +1,8 @@
 -- Rule by rule: its nodes are one tree, those of the next follow, and each node is in a rule.
 -- Assumes nothing.
 use Prim.Native.Nat.{ℕ, _+_, _≤_, _<_}
-use mathlib.Core.Path.{_≡_, refl, sym, ap, _∙_}
-use mathlib.Core.Logic.{_⊎_, ⊎-elim}
+use mathlib.Core.Path.{_≡_, sym, ap, _∙_}
+use mathlib.Core.Logic.{⊎-elim}
 use mathlib.Core.List.{List}
 use native.Mathlib.Omega.{arith}
 use Rattle.shapes.specs.NodeShapes.{Unconditioned, tree, Holds, Rules, no-rules, a-rule}

@@ -16,7 +16,7 @@ use Rattle.tokens.specs.Tokens.{token-of}
 use Rattle.tokens.specs.declared.Kind.{Kind}
 use Rattle.tokens.specs.declared.Token.{Token}
 use Rattle.tokens.proofs.Bounds.{placed}
-use Rattle.parsing.specs.Terminals.{code-of, opens-at, name-code, literal-code, seen, sight-of, live}
+use Rattle.parsing.specs.Terminals.{code-of, opens-at, name-code, seen, sight-of, live}
 use Rattle.parsing.specs.declared.Sight.{Sight}
 use Rattle.parsing.proofs.Sights.{seen-as, Stands, ended, moving, stands}
 use Rattle.parsing.proofs.Loops.{name-live}

@@ -47,6 +47,10 @@ module _ (f : ℕ → ℕ) where
   unfolding sum
   total-step i j e z h = let a : e - i ≡ suc (e - (i + 1)) = omega arith in rw (z, a)
 
+  pub sum-zero : sum 0 0 f ≡ 0
+  unfolding sum
+  sum-zero = refl
+
   -- from 0 on, the last apart
   pub total-last : (i : ℕ) → sum (i + 1) 0 f ≡ sum i 0 f + f i
   total-last i =

@@ -2,17 +2,16 @@
 -- Assumes nothing.
 use Prim.Native.Nat.{ℕ, zero, suc, _+_, _-_, min, _≤_, _<_}
 use mathlib.Core.Path.{_≡_, refl, sym, ap, subst, _∙_}
-use mathlib.Core.Logic.{_⊎_, ⊎-elim}
-use mathlib.Core.Bool.{Bool, true, false, cond, not, _||_}
+use mathlib.Core.Logic.{⊎-elim}
+use mathlib.Core.Bool.{Bool, true, false, not, _||_}
 use mathlib.Core.List.{List}
 use native.Mathlib.Omega.{arith}
-use borrow.Author.Tests.{not-true, not-false}
-use lib.ListN.{length}
+use borrow.Author.Tests.{not-false}
 use Rattle.text.proofs.Tests.{which}
 use Rattle.shapes.specs.NodeShapes.{NameAt}
 use Rattle.naming.specs.Counting.{nowhere, place-if, least-of, least-between, any-of}
-use Rattle.naming.specs.Words.{node-word, kind-of, place-of, is-binder, bound-at, named-at, first-node, last-node}
-use Rattle.naming.specs.Names.{same-name, is-reserved, rule-named, bound-between, use-fault, binder-fault, rule-fault, name-place, list-place, node-place, nodes-place, rule-place, refusal-6}
+use Rattle.naming.specs.Words.{node-word, kind-of, place-of, named-at, first-node, last-node}
+use Rattle.naming.specs.Names.{same-name, is-reserved, rule-named, bound-between, use-fault, rule-fault, name-place, list-place, node-place, nodes-place, rule-place}
 use Rattle.encoding.specs.Lists.{first-of}
 use Rattle.encoding.specs.Numbers.{rule-of}
 use Rattle.laying.specs.Context.{Readable}
@@ -105,11 +104,11 @@ module _ {xs ns ts rs : List ℕ} {n t b r : ℕ} (known : Readable xs ns ts rs 
   use-below i h k at =
       let o : Owner rs r i = owner known i h in
       let w : use-fault xs ns rs r (first-node rs (o .rule)) (last-node rs (o .rule)) (place-of ns i) ≡ false =
-          use-right (first-node rs (o .rule)) (last-node rs (o .rule)) i k at (name-right (o .rule) i (o .below) (o .from) (o .to)) in
+      use-right (first-node rs (o .rule)) (last-node rs (o .rule)) i k at (name-right (o .rule) i (o .below) (o .from) (o .to)) in
       let z : r - 0 ≡ r = omega arith in
       let named : any-of r 0 (λ j. same-name xs (named-at rs j) (place-of ns i)) ≡ true =
-          ap (λ (m : ℕ). any-of m 0 (λ j. same-name xs (named-at rs j) (place-of ns i))) (sym z)
-          ∙ not-false (rule-named xs rs r (place-of ns i))
-          (either-first (not (rule-named xs rs r (place-of ns i))) (bound-between xs ns (first-node rs (o .rule)) (last-node rs (o .rule)) (place-of ns i))
-          (either-second (is-reserved xs (place-of ns i)) (not (rule-named xs rs r (place-of ns i)) || bound-between xs ns (first-node rs (o .rule)) (last-node rs (o .rule)) (place-of ns i)) w)) in
+      ap (λ (m : ℕ). any-of m 0 (λ j. same-name xs (named-at rs j) (place-of ns i))) (sym z)
+      ∙ not-false (rule-named xs rs r (place-of ns i))
+      (either-first (not (rule-named xs rs r (place-of ns i))) (bound-between xs ns (first-node rs (o .rule)) (last-node rs (o .rule)) (place-of ns i))
+      (either-second (is-reserved xs (place-of ns i)) (not (rule-named xs rs r (place-of ns i)) || bound-between xs ns (first-node rs (o .rule)) (last-node rs (o .rule)) (place-of ns i)) w)) in
       omega (arith, first-below r 0 (λ j. same-name xs (named-at rs j) (place-of ns i)) named)

@@ -229,3 +229,31 @@ pub placed : (xs ns ts rs : List ℕ) (n t b r : ℕ) → run (sights-from xs 0)
 placed xs ns ts rs n t b r e =
     let g : Bounded (length xs) (state ns ts rs n t b r) = read-all xs (state ns ts rs n t b r) (suc (length xs)) 0 (omega arith) blank (rules false ∷ []) blank-bounded (tt and empty) e in
     record { nodes = λ j h. (g .nodes j, g .seconds j); terms = λ j h. (g .terms j, g .origins j); rules = λ j h. g .rules j }
+
+-- a refusal stands in the text too
+module _ (xs : List ℕ) (p : ℕ) where
+  abbrev Stops : List Sight → Type 0
+  Stops ss = (st : State) (ks : List Symbol) → run ss st ks ≡ refused p → p ≤ length xs
+
+  stop-more : (s : Sight) (ss : List Sight) → s .start ≤ length xs → Stops ss → Stops (s ∷ ss)
+  unfolding run
+  stop-more s ss v h st ks e = by (feed s st ks) e
+    where
+      by : (r : Fed) → elim r [ go st′ ks′ ↦ run ss st′ ks′ | done st′ ↦ right st′ | fault ↦ refused (s .start) ] ≡ refused p → p ≤ length xs
+      by (go st′ ks′) z = h st′ ks′ z
+      by (done st′) z = let y : _≡_ {A = ℕ} 0 1 = cc in absurd (omega arith)
+      by fault z = let y : s .start ≡ p = cc in omega (arith, y)
+
+  stop-none : Stops []
+  unfolding run
+  stop-none st ks e = let y : 0 ≡ p = cc in omega (arith, y)
+
+  stop-all : (n at : ℕ) → at ≤ length xs → Stops (sights n xs at)
+  unfolding sights
+  stop-all zero at h = stop-none
+  stop-all (suc n) at h =
+      let i = seen-inside xs at h in
+      stop-more (sight-of xs at) _ (i .0) (choice Stops (eqb (sight-of xs at .code) 5) stop-none (stop-all n (sight-of xs at .end) (i .1)))
+
+pub refused-inside : (xs : List ℕ) (st : State) (ks : List Symbol) (p : ℕ) → run (sights-from xs 0) st ks ≡ refused p → p ≤ length xs
+refused-inside xs st ks p e = stop-all xs p (suc (length xs)) 0 (omega arith) st ks e

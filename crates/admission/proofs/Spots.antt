@@ -1,0 +1,80 @@
+-- Places of refusals stand in the text: each is at most 8,192, or no place.
+-- Assumes nothing.
+use Prim.Native.Nat.{ℕ, zero, suc, _+_, _*_, _-_, _≤_, _<_, min}
+use mathlib.Core.Path.{_≡_, refl, sym, ap, subst, _∙_}
+use mathlib.Core.Logic.{_⊎_, inl, inr, ⊎-elim}
+use mathlib.Core.Bool.{Bool, true, false, cond, not, _&&_, _||_}
+use mathlib.Core.List.{List}
+use native.Mathlib.Omega.{arith}
+use lib.Dec.{eqb}
+use lib.ListN.{length, getD, List·getD-eq-default}
+use Rattle.parsing.specs.Store.{State, state, node-words, term-words, rule-words, rules-of}
+use Rattle.shapes.specs.Placed.{Placed}
+use Rattle.naming.specs.Counting.{nowhere, place-if, least-of}
+use Rattle.naming.specs.Words.{node-word, term-word, kind-of, place-of, bound-at, is-binder, is-use, named-at, first-node, last-node}
+use Rattle.naming.specs.Limits.{limit-place, passed-in}
+use Rattle.naming.specs.Names.{rule-fault, use-fault, binder-fault, variable-fault, name-place, term-place, list-place, node-place, nodes-place, rule-place}
+use Rattle.laying.proofs.Sums.{side}
+use Rattle.admission.specs.Admitted.{fault-5, fault-6}
+use Rattle.admission.specs.Late.{Within}
+
+abbrev pub Spot : ℕ → Type 0
+Spot p = (p ≤ 8192) ⊎ (p ≡ nowhere)
+
+both-spots : (a b : ℕ) → Spot a → Spot b → Spot (min a b)
+both-spots a b (inl h) q = inl (omega arith)
+both-spots a b (inr h) (inl k) = inl (omega arith)
+both-spots a b (inr h) (inr k) = inr (omega (arith, h, k))
+
+spot-if : (fault : Bool) (p : ℕ) → p ≤ 8192 → Spot (place-if fault p)
+spot-if true p h = inl h
+spot-if false p h = inr refl
+
+spot-cond : (t : Bool) (p q : ℕ) → Spot p → Spot q → Spot (cond t p q)
+spot-cond true p q a b = a
+spot-cond false p q a b = b
+
+least-spot : (n i : ℕ) (f : ℕ → ℕ) → ((j : ℕ) → Spot (f j)) → Spot (least-of n i f)
+unfolding least-of
+least-spot zero i f h = inr refl
+least-spot (suc n) i f h = both-spots (f i) (least-of n (i + 1) f) (h i) (least-spot n (i + 1) f h)
+
+-- a term's place, of any number
+pub term-within : (ns ts rs : List ℕ) (most : ℕ) → length ts ≡ 4096 → most ≤ 8192 → Placed most ns ts rs → (w : ℕ) → (w ≡ 2) ⊎ (w ≡ 3) → (t : ℕ) → term-word ts t w ≤ 8192
+term-within ns ts rs most e h p w z t =
+    ⊎-elim (λ (l : t < 1024). ⊎-elim (λ (q : w ≡ 2). rw q (omega (arith, p .terms t l .0))) (λ (q : w ≡ 3). rw q (omega (arith, p .terms t l .1))) z)
+    (λ (l : 1024 ≤ t). let q : getD ts (4 * t + w) 0 ≡ 0 = List·getD-eq-default ts 0 (omega (arith, e)) in omega (arith, q))
+    (side t 1024)
+
+module _ (xs ns ts rs : List ℕ) (r : ℕ) (w : Within ns rs) (terms : (t : ℕ) → term-word ts t 2 ≤ 8192) where
+  limit-spot : (k : ℕ) → Spot (limit-place rs k)
+  limit-spot k = spot-if (passed-in rs k) (named-at rs k) (w .rules k)
+
+  pub limits-spot : Spot (Rattle.naming.specs.Limits.refusal-5 rs r)
+  limits-spot = least-spot (r - 0) 0 (limit-place rs) limit-spot
+
+  name-spot : (a e i : ℕ) → Spot (name-place xs ns rs r a e i)
+  name-spot a e i =
+      spot-cond (eqb (kind-of ns i) 5) _ _ (spot-if (use-fault xs ns rs r a e (place-of ns i)) (place-of ns i) (w .nodes i .0))
+      (spot-cond (is-binder ns i) _ _ (spot-if (binder-fault xs ns a i (bound-at ns i)) (bound-at ns i) (w .nodes i .1)) (inr refl))
+
+  list-spot : (a i f g : ℕ) → Spot (list-place xs ns ts a i f g)
+  list-spot a i f g =
+      least-spot (g - f) f (term-place xs ns ts a i) (λ t. spot-if (is-use (term-word ts t 0) && variable-fault xs ns a i (term-word ts t 2)) (term-word ts t 2) (terms t))
+
+  node-spot : (a e i : ℕ) → Spot (node-place xs ns ts rs r a e i)
+  node-spot a e i =
+      both-spots (name-place xs ns rs r a e i) _ (name-spot a e i)
+      (both-spots (list-place xs ns ts a i (node-word ns i 8) (node-word ns i 9)) (list-place xs ns ts a i (node-word ns i 5) (node-word ns i 6)) (list-spot a i (node-word ns i 8) (node-word ns i 9)) (list-spot a i (node-word ns i 5) (node-word ns i 6)))
+
+  rule-spot : (k : ℕ) → Spot (rule-place xs ns ts rs r k)
+  rule-spot k =
+      both-spots (place-if (rule-fault xs rs k) (named-at rs k)) (nodes-place xs ns ts rs r (first-node rs k) (last-node rs k)) (spot-if (rule-fault xs rs k) (named-at rs k) (w .rules k))
+      (least-spot (last-node rs k - first-node rs k) (first-node rs k) (node-place xs ns ts rs r (first-node rs k) (last-node rs k)) (node-spot (first-node rs k) (last-node rs k)))
+
+  pub names-spot : Spot (Rattle.naming.specs.Names.refusal-6 xs ns ts rs r)
+  names-spot = least-spot (r - 0) 0 (rule-place xs ns ts rs r) rule-spot
+
+pub some-spot : (p : ℕ) → Spot p → p < nowhere → p ≤ 8192
+some-spot p (inl h) l = h
+some-spot p (inr h) l = absurd (omega arith)
