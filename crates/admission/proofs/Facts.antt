@@ -2,11 +2,11 @@
 -- Assumes nothing.
 use Prim.Native.Nat.{ℕ, _+_, _*_, _≤_, _<_}
 use mathlib.Core.Path.{_≡_, refl, sym, ap, subst, _∙_}
-use mathlib.Core.Logic.{⊎-elim}
+use mathlib.Core.Logic.{_⊎_, ⊎-elim}
 use mathlib.Core.Bool.{false}
 use mathlib.Core.List.{List, [], _∷_}
 use native.Mathlib.Omega.{arith}
-use lib.ListN.{length, getD, List·getD-eq-default, replicate}
+use lib.ListN.{length, getD, List·getD-eq-default, length-replicate}
 use Rattle.parsing.specs.Terminals.{sights-from}
 use Rattle.parsing.specs.Store.{State, state, node-words, term-words, rule-words, nodes-of, terms-of, binders-of, rules-of}
 use Rattle.parsing.specs.Symbols.{rules}
@@ -15,7 +15,9 @@ use Rattle.syntax.specs.Rules.{form-of}
 use Rattle.shapes.specs.Placed.{Placed}
 use Rattle.shapes.proofs.Shaped.{blank, Shaped, shaped}
 use Rattle.shapes.proofs.Places.{placed}
-use Rattle.naming.specs.Words.{node-word, named-at}
+use Rattle.phrases.proofs.Derived.{derived}
+use Rattle.shapes.proofs.Growth.{Grows, phrases-grow}
+use Rattle.naming.specs.Words.{node-word, term-word, named-at}
 use Rattle.encoding.specs.Numbers.{condition-start}
 use Rattle.laying.proofs.LimitLaws.{limits}
 use Rattle.laying.proofs.Sums.{side}
@@ -24,18 +26,36 @@ use Rattle.laying.proofs.Totals.{terms-of-rules}
 use Rattle.admission.specs.Admitted.{form, Right, Limited}
 use Rattle.admission.specs.Late.{Within}
 
+-- what is read has the lengths of the arrays, and every place lies in the text, whatever its limits
+pub record Basics (xs : List ℕ) (st : State) : Type 0 where
+  pub node-length : length (node-words st) ≡ 2560
+  pub term-length : length (term-words st) ≡ 4096
+  pub rule-length : length (rule-words st) ≡ 325
+  pub places : Placed (length xs) (node-words st) (term-words st) (rule-words st)
+
 pub record Facts (xs : List ℕ) (st : State) : Type 0 where
   pub nodes-limit : nodes-of st ≤ 256
   pub terms-limit : terms-of st ≤ 1024
   pub binders-limit : binders-of st ≤ 64
   pub rules-limit : rules-of st ≤ 64
   pub shape : Shaped xs (node-words st) (term-words st) (rule-words st) (nodes-of st) (terms-of st) (binders-of st) (rules-of st)
-  pub places : Placed (length xs) (node-words st) (term-words st) (rule-words st)
+  pub basics : Basics xs st
   pub total : condition-start (node-words st) (nodes-of st) ≤ 1024
 
 ran : (xs : List ℕ) (st : State) → Right xs st → run (sights-from xs 0) blank (rules false ∷ []) ≡ right st
 unfolding form-of
 ran xs st p = p .formed
+
+pub basics : (xs : List ℕ) (st : State) → Right xs st → Basics xs st
+basics xs (state ns ts rs n t b r) p =
+    let e : run (sights-from xs 0) blank (rules false ∷ []) ≡ right (state ns ts rs n t b r) = ran xs (state ns ts rs n t b r) p
+    in let g : Grows blank (state ns ts rs n t b r) = phrases-grow (derived xs blank (state ns ts rs n t b r) e)
+    in record {
+      node-length = g .node-length ∙ length-replicate {A = ℕ} 2560 0;
+      term-length = g .term-length ∙ length-replicate {A = ℕ} 4096 0;
+      rule-length = g .rule-length ∙ length-replicate {A = ℕ} 325 0;
+      places = placed xs ns ts rs n t b r e;
+    }
 
 pub facts : (xs : List ℕ) (st : State) → Limited xs st → length xs ≤ 8192 → Facts xs st
 facts xs (state ns ts rs n t b r) p h =
@@ -49,26 +69,30 @@ facts xs (state ns ts rs n t b r) p h =
       binders-limit = l .2;
       rules-limit = l .3;
       shape = s;
-      places = placed xs ns ts rs n t b r e;
+      basics = basics xs (state ns ts rs n t b r) (p .passed);
       total = omega (arith, z, l .1);
     }
 
 -- ---- places, of any number
 
-within-of : (most : ℕ) (ns ts rs : List ℕ) → length ns ≡ 2560 → length rs ≡ 325 → most ≤ 8192 → Placed most ns ts rs → Within ns rs
-within-of most ns ts rs a b h p = record { nodes = λ i. (node i 2 (λ l. p .nodes i l .0), node i 4 (λ l. p .nodes i l .1)); rules = λ k. rule k }
-  where
-    node : (i w : ℕ) → (i < 256 → node-word ns i w ≤ most) → node-word ns i w ≤ 8192
-    node i w f =
-        ⊎-elim (λ (l : i < 256). omega (arith, f l))
-        (λ (l : 256 ≤ i). let z : getD ns (10 * i + w) 0 ≡ 0 = List·getD-eq-default ns 0 (omega (arith, a)) in omega (arith, z))
-        (side i 256)
+module _ (xs : List ℕ) (st : State) (b : Basics xs st) (h : length xs ≤ 8192) where
+  node : (i w : ℕ) → (i < 256 → node-word (node-words st) i w ≤ length xs) → node-word (node-words st) i w ≤ 8192
+  node i w f =
+      ⊎-elim (λ (l : i < 256). omega (arith, f l))
+      (λ (l : 256 ≤ i). let z : getD (node-words st) (10 * i + w) 0 ≡ 0 = List·getD-eq-default (node-words st) 0 (omega (arith, b .node-length)) in omega (arith, z))
+      (side i 256)
 
-    rule : (k : ℕ) → named-at rs k ≤ 8192
-    rule k =
-        ⊎-elim (λ (l : k < 65). omega (arith, p .rules k l))
-        (λ (l : 65 ≤ k). let z : getD rs (5 * k + 0) 0 ≡ 0 = List·getD-eq-default rs 0 (omega (arith, b)) in omega (arith, z))
-        (side k 65)
+  rule : (k : ℕ) → named-at (rule-words st) k ≤ 8192
+  rule k =
+      ⊎-elim (λ (l : k < 65). omega (arith, b .places .rules k l))
+      (λ (l : 65 ≤ k). let z : getD (rule-words st) (5 * k + 0) 0 ≡ 0 = List·getD-eq-default (rule-words st) 0 (omega (arith, b .rule-length)) in omega (arith, z))
+      (side k 65)
 
-pub within : (xs : List ℕ) (st : State) → Facts xs st → length xs ≤ 8192 → Within (node-words st) (rule-words st)
-within xs (state ns ts rs n t b r) f h = within-of (length xs) ns ts rs (f .shape .node-length) (f .shape .rule-length) h (f .places)
+  pub within : Within (node-words st) (rule-words st)
+  within = record { nodes = λ i. (node i 2 (λ l. b .places .nodes i l .0), node i 4 (λ l. b .places .nodes i l .1)); rules = rule }
+
+  pub term-within : (t w : ℕ) → (w ≡ 2) ⊎ (w ≡ 3) → term-word (term-words st) t w ≤ 8192
+  term-within t w z =
+      ⊎-elim (λ (l : t < 1024). ⊎-elim (λ (q : w ≡ 2). rw q (omega (arith, b .places .terms t l .0))) (λ (q : w ≡ 3). rw q (omega (arith, b .places .terms t l .1))) z)
+      (λ (l : 1024 ≤ t). let q : getD (term-words st) (4 * t + w) 0 ≡ 0 = List·getD-eq-default (term-words st) 0 (omega (arith, b .term-length)) in omega (arith, q))
+      (side t 1024)

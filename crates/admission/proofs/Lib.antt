@@ -1,3 +1,6 @@
 -- Laws that the proofs of the functions cite.
 pub mod Facts
 pub mod Spots
+pub mod Extending
+pub mod Leasts
+pub mod Marking

@@ -9,12 +9,10 @@ use native.Mathlib.Omega.{arith}
 use lib.Dec.{eqb}
 use lib.ListN.{length, getD, List·getD-eq-default}
 use Rattle.parsing.specs.Store.{State, state, node-words, term-words, rule-words, rules-of}
-use Rattle.shapes.specs.Placed.{Placed}
 use Rattle.naming.specs.Counting.{nowhere, place-if, least-of}
 use Rattle.naming.specs.Words.{node-word, term-word, kind-of, place-of, bound-at, is-binder, is-use, named-at, first-node, last-node}
 use Rattle.naming.specs.Limits.{limit-place, passed-in}
 use Rattle.naming.specs.Names.{rule-fault, use-fault, binder-fault, variable-fault, name-place, term-place, list-place, node-place, nodes-place, rule-place}
-use Rattle.laying.proofs.Sums.{side}
 use Rattle.admission.specs.Admitted.{fault-5, fault-6}
 use Rattle.admission.specs.Late.{Within}
 
@@ -38,13 +36,6 @@ least-spot : (n i : ℕ) (f : ℕ → ℕ) → ((j : ℕ) → Spot (f j)) → Sp
 unfolding least-of
 least-spot zero i f h = inr refl
 least-spot (suc n) i f h = both-spots (f i) (least-of n (i + 1) f) (h i) (least-spot n (i + 1) f h)
-
--- a term's place, of any number
-pub term-within : (ns ts rs : List ℕ) (most : ℕ) → length ts ≡ 4096 → most ≤ 8192 → Placed most ns ts rs → (w : ℕ) → (w ≡ 2) ⊎ (w ≡ 3) → (t : ℕ) → term-word ts t w ≤ 8192
-term-within ns ts rs most e h p w z t =
-    ⊎-elim (λ (l : t < 1024). ⊎-elim (λ (q : w ≡ 2). rw q (omega (arith, p .terms t l .0))) (λ (q : w ≡ 3). rw q (omega (arith, p .terms t l .1))) z)
-    (λ (l : 1024 ≤ t). let q : getD ts (4 * t + w) 0 ≡ 0 = List·getD-eq-default ts 0 (omega (arith, e)) in omega (arith, q))
-    (side t 1024)
 
 module _ (xs ns ts rs : List ℕ) (r : ℕ) (w : Within ns rs) (terms : (t : ℕ) → term-word ts t 2 ≤ 8192) where
   limit-spot : (k : ℕ) → Spot (limit-place rs k)

@@ -12,6 +12,10 @@ use Rattle.encoding.specs.Encoded.{header-words, rule-words, variable-wo
 use Rattle.encoding.proofs.Writing.{written-next}
 use Rattle.encoding.proofs.Sizes.{operands-length}
 
+-- the operands of a kind
+pub operands-written : (xs ns rs : List ℕ) (r i k kind : ℕ) (ws w : List ℕ) → kind ≡ kind-of ns i → w ≡ written ws k (operands xs ns rs r i kind) → w ≡ written ws k (operands xs ns rs r i (kind-of ns i))
+operands-written xs ns rs r i k kind ws w e f = f ∙ ap (λ (n : ℕ). written ws k (operands xs ns rs r i n)) e
+
 -- a construct: what it is, its operands, its condition
 pub construct-written : (xs ns rs : List ℕ) (r i k : ℕ) (ws w v u : List ℕ)
     → w ≡ written ws k (kind-of ns i ∷ node-word ns i 1 ∷ [])

@@ -18,7 +18,6 @@ use Rattle.naming.specs.Words.{node-word, kind-of}
 use Rattle.laying.specs.Context.{Readable, Words, TreeAt, Quiet}
 use Rattle.laying.specs.Meant.{meant}
 use Rattle.laying.proofs.NodeFacts.{ordered, tree-below, tree-size, nodes}
-
 use Rattle.laying.proofs.ConditionWords.{is-unconditioned, is-conditioned}
 use Rattle.laying.proofs.Known.{known}
 

@@ -21,7 +21,7 @@ use Rattle.parsing.specs.declared.Sight.{Sight}
 use Rattle.parsing.proofs.Sights.{seen-as, Stands, ended, moving, stands}
 use Rattle.parsing.proofs.Loops.{name-live}
 use Rattle.phrases.specs.Phrases.{Seen}
-use Rattle.shapes.specs.NodeShapes.{NameAt, CharacterAt, LiteralAt}
+use Rattle.shapes.specs.NodeShapes.{NameAt, NumberAt, CharacterAt, LiteralAt}
 
 never : {A : Type 0} → false ≡ true → A
 never e = let z : _≡_ {A = ℕ} 0 1 = cc in absurd (omega arith)
@@ -40,13 +40,19 @@ place-inside : (xs : List ℕ) (at : ℕ) → live (sight-of xs at .code) ≡ tr
 unfolding sight-of
 place-inside xs at l = standing xs at (token-of xs at) (stands xs at) l
 
-pub name-inside : {xs : List ℕ} {p : ℕ} → NameAt xs p → p < length xs
-name-inside {xs} {p} k =
-    let s : k .sight ≡ sight-of xs (k .seen .at) = k .seen .seen in
-    let l : live (k .sight .code) ≡ true = name-live (k .sight .code) (k .name) in
-    let h : sight-of xs (k .seen .at) .start < length xs = place-inside xs (k .seen .at) (subst (λ (v : Sight). live (v .code) ≡ true) s l) in
-    let z : p ≡ sight-of xs (k .seen .at) .start = k .place ∙ ap (λ (v : Sight). v .start) s in
+-- a sight that is no end stands in the text
+sight-inside : {xs : List ℕ} {p : ℕ} (s : Sight) → Seen xs s → live (s .code) ≡ true → p ≡ s .start → p < length xs
+sight-inside {xs} {p} s k l z =
+    let e : s ≡ sight-of xs (k .at) = k .seen in
+    let h : sight-of xs (k .at) .start < length xs = place-inside xs (k .at) (subst (λ (v : Sight). live (v .code) ≡ true) e l) in
+    let y : p ≡ sight-of xs (k .at) .start = z ∙ ap (λ (v : Sight). v .start) e in
     omega arith
+
+pub name-inside : {xs : List ℕ} {p : ℕ} → NameAt xs p → p < length xs
+name-inside k = sight-inside (k .sight) (k .seen) (name-live (k .sight .code) (k .name)) (k .place)
+
+pub number-inside : {xs : List ℕ} {p : ℕ} → NumberAt xs p → p < length xs
+number-inside k = sight-inside (k .sight) (k .seen) (rw (eqb-true (k .sight .code) 2 (k .number)) refl) (k .place)
 
 -- ---- literals
 

@@ -8,7 +8,6 @@ use native.Mathlib.Omega.{arith}
 use Rattle.shapes.specs.Stored.{OwnList, of-field, of-counts, no-list, TermWords, a-number, a-use, a-sign, Stored}
 use Rattle.naming.specs.Words.{term-word, kind-of, node-word}
 use Rattle.encoding.specs.Numbers.{own-length}
-
 use Rattle.laying.specs.Context.{Quiet}
 use Rattle.laying.proofs.TermsLaid.{Signs}
 

@@ -24,7 +24,6 @@ use Rattle.laying.specs.Context.{Words, Nodes, ConditionAt, without, wit
 use Rattle.laying.proofs.Areas.{find}
 use Rattle.laying.proofs.Passing.{both-pass, all-pass}
 
-
 -- numbers are words of 32 bits, and a sign has no value
 abbrev pub Numbers : List ℕ → ℕ → Type 0
 Numbers ts t = (k : ℕ) → k < t → (term-word ts k 0 ≡ 1) ⊎ (term-word ts k 0 ≡ 33) → term-word ts k 1 < 4294967296

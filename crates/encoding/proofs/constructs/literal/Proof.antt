@@ -1,11 +1,8 @@
 use Prim.Native.Nat.{_+_, _*_}
-use mathlib.Core.Path.{_≡_, refl, sym, _∙_}
+use mathlib.Core.Path.{refl}
 use mathlib.Core.List.{[], _∷_}
-use mathlib.Core.Bool.{true, false}
 use borrow.Author.Tests.{eq-eqb, ne-eqb}
 use borrow.Author.Needs.{needs}
-use lib.Dec.{eqb}
-use Rattle.naming.specs.Words.{kind-of}
 use Rattle.encoding.proofs.Writing.{written-next}
 use Rattle.encoding.proofs.constructs.literal.Statement.{statement}
 use Rattle.encoding.proofs.constructs.literal.Tie as tie
@@ -29,7 +26,7 @@ same-length : tie.Need-same-length
 same-length c = search needs
 
 returns : tie.Need-returns
-returns c = let k : eqb (kind-of (c .before .before .before .before .before .before .before .before .before .before .args .nodes .now) (c .before .before .before .before .before .before .before .before .before .before .args .i)) 6 ≡ true = eq-eqb _ _ (sym (c .before .before .before .before .before .before .node-word .ensures) ∙ c .before .before .before .before .before .if1 .taken) in simp (k, c .before .before .bytes .ensures, c .before .before .before .before .node-word2 .ensures)
+returns c = simp (← c .before .before .before .before .before .before .node-word .ensures, eq-eqb _ _ (c .before .before .before .before .before .if1 .taken), c .before .before .bytes .ensures, c .before .before .before .before .node-word2 .ensures)
 
 put-four-requires : tie.Need-put-four-requires
 put-four-requires c κs = search needs
@@ -44,7 +41,7 @@ same-length-2 : tie.Need-same-length-2
 same-length-2 c = search needs
 
 returns-2 : tie.Need-returns-2
-returns-2 c = let k1 : eqb (kind-of (c .before .before .before .before .before .before .before .before .before .before .before .before .before .args .nodes .now) (c .before .before .before .before .before .before .before .before .before .before .before .before .before .args .i)) 6 ≡ false = ne-eqb _ _ (λ e. c .before .before .before .before .before .before .before .before .if1 .left (c .before .before .before .before .before .before .before .before .before .node-word .ensures ∙ e)) in simp k1 (written-next (c .before .before .before .before .before .before .before .before .before .before .before .before .before .args .table .now) (c .before .before .before .before .before .before .put-four .last .0) (c .before .before .put-four2 .last .0) (5696 + 8 * c .before .before .before .before .before .before .before .before .before .before .before .before .before .args .i) (5696 + 8 * c .before .before .before .before .before .before .before .before .before .before .before .before .before .args .i + 4) (0 ∷ 0 ∷ 0 ∷ 0 ∷ []) (0 ∷ 0 ∷ 0 ∷ 0 ∷ []) (c .before .before .before .before .before .before .put-four .ensures) refl (c .before .before .put-four2 .ensures))
+returns-2 c = simp (← c .before .before .before .before .before .before .before .before .before .node-word .ensures, ne-eqb _ _ (c .before .before .before .before .before .before .before .before .if1 .left)) (written-next (c .before .before .before .before .before .before .before .before .before .before .before .before .before .args .table .now) (c .before .before .before .before .before .before .put-four .last .0) (c .before .before .put-four2 .last .0) (5696 + 8 * c .before .before .before .before .before .before .before .before .before .before .before .before .before .args .i) (5696 + 8 * c .before .before .before .before .before .before .before .before .before .before .before .before .before .args .i + 4) (0 ∷ 0 ∷ 0 ∷ 0 ∷ []) (0 ∷ 0 ∷ 0 ∷ 0 ∷ []) (c .before .before .before .before .before .before .put-four .ensures) refl (c .before .before .put-four2 .ensures))
 
 pub literal-spec : {M : Type 1} → statement M
 literal-spec =

@@ -1,11 +1,9 @@
-use mathlib.Core.Path.{_≡_, sym, _∙_}
-use mathlib.Core.Bool.{true, false}
+use mathlib.Core.Path.{sym, _∙_}
 use native.Mathlib.Omega.{arith}
 use borrow.Author.Tests.{eq-eqb, ne-eqb}
 use borrow.Author.Needs.{needs}
-use lib.Dec.{eqb}
-use Rattle.naming.specs.Words.{kind-of}
 use Rattle.encoding.specs.Numbers.{lists-length}
+use Rattle.encoding.proofs.Joining.{operands-written}
 use Rattle.encoding.proofs.Sums.{sum-next}
 use Rattle.encoding.proofs.constructs.operands.Statement.{statement}
 use Rattle.encoding.proofs.constructs.operands.Tie as tie
@@ -35,7 +33,7 @@ same-length : tie.Need-same-length
 same-length c = search needs
 
 returns : tie.Need-returns
-returns c = let k : eqb (kind-of (c .before .before .before .before .before .before .before .before .before .before .before .before .before .before .before .args .nodes .now) (c .before .before .before .before .before .before .before .before .before .before .before .before .before .before .before .args .i)) 3 ≡ true = eq-eqb _ _ (sym (c .before .before .before .before .before .before .before .before .before .before .node-word .ensures) ∙ c .before .before .before .before .before .before .before .if1 .taken) in simp (k, c .before .before .put-four .ensures, c .before .before .before .end-word .ensures, c .before .before .before .before .start-word .ensures, c .before .before .before .before .before .node-word3 .ensures, c .before .before .before .before .before .before .before .before .own-length .ensures, c .before .before .before .before .before .before .before .before .before .before .before .before .before .before .before .pre .3)
+returns c = simp (← c .before .before .before .before .before .before .before .before .before .before .node-word .ensures, eq-eqb _ _ (c .before .before .before .before .before .before .before .if1 .taken), c .before .before .put-four .ensures, c .before .before .before .end-word .ensures, c .before .before .before .before .start-word .ensures, c .before .before .before .before .before .node-word3 .ensures, c .before .before .before .before .before .before .before .before .own-length .ensures, c .before .before .before .before .before .before .before .before .before .before .before .before .before .before .before .pre .3)
 
 rule-number-requires : tie.Need-rule-number-requires
 rule-number-requires c κs = search needs
@@ -47,7 +45,7 @@ same-length-2 : tie.Need-same-length-2
 same-length-2 c = search needs
 
 returns-2 : tie.Need-returns-2
-returns-2 c = let k1 : eqb (kind-of (c .before .before .before .before .before .before .before .before .before .before .before .before .before .before .args .nodes .now) (c .before .before .before .before .before .before .before .before .before .before .before .before .before .before .args .i)) 3 ≡ false = ne-eqb _ _ (λ e. c .before .before .before .before .before .before .if1 .left (c .before .before .before .before .before .before .before .before .before .node-word .ensures ∙ e)) in let k : eqb (kind-of (c .before .before .before .before .before .before .before .before .before .before .before .before .before .before .args .nodes .now) (c .before .before .before .before .before .before .before .before .before .before .before .before .before .before .args .i)) 5 ≡ true = eq-eqb _ _ (sym (c .before .before .before .before .before .before .before .before .before .node-word .ensures) ∙ c .before .before .before .before .before .if2 .taken) in simp (k1, k, c .before .before .put-four2 .ensures, c .before .before .before .rule-number .ensures, c .before .before .before .before .before .before .before .before .node-word2 .ensures)
+returns-2 c = simp (← c .before .before .before .before .before .before .before .before .before .node-word .ensures, ne-eqb _ _ (c .before .before .before .before .before .before .if1 .left), eq-eqb _ _ (c .before .before .before .before .before .if2 .taken), c .before .before .put-four2 .ensures, c .before .before .before .rule-number .ensures, c .before .before .before .before .before .before .before .before .node-word2 .ensures)
 
 characters-requires : tie.Need-characters-requires
 characters-requires c κs = search needs
@@ -59,7 +57,7 @@ same-length-3 : tie.Need-same-length-3
 same-length-3 c = search needs
 
 returns-3 : tie.Need-returns-3
-returns-3 c = let k1 : eqb (kind-of (c .before .before .before .before .before .before .before .before .before .before .before .before .before .before .before .args .nodes .now) (c .before .before .before .before .before .before .before .before .before .before .before .before .before .before .before .args .i)) 3 ≡ false = ne-eqb _ _ (λ e. c .before .before .before .before .before .before .before .if1 .left (c .before .before .before .before .before .before .before .before .before .before .node-word .ensures ∙ e)) in let k2 : eqb (kind-of (c .before .before .before .before .before .before .before .before .before .before .before .before .before .before .before .args .nodes .now) (c .before .before .before .before .before .before .before .before .before .before .before .before .before .before .before .args .i)) 5 ≡ false = ne-eqb _ _ (λ e. c .before .before .before .before .before .before .if2 .left (c .before .before .before .before .before .before .before .before .before .before .node-word .ensures ∙ e)) in let k : eqb (kind-of (c .before .before .before .before .before .before .before .before .before .before .before .before .before .before .before .args .nodes .now) (c .before .before .before .before .before .before .before .before .before .before .before .before .before .before .before .args .i)) 6 ≡ true = eq-eqb _ _ (sym (c .before .before .before .before .before .before .before .before .before .before .node-word .ensures) ∙ c .before .before .before .before .before .if3 .taken) in simp (k1, k2, k, c .before .before .put-four3 .ensures, c .before .before .before .characters .ensures, c .before .before .before .before .before .before .before .before .before .node-word2 .ensures)
+returns-3 c = simp (← c .before .before .before .before .before .before .before .before .before .before .node-word .ensures, ne-eqb _ _ (c .before .before .before .before .before .before .before .if1 .left), ne-eqb _ _ (c .before .before .before .before .before .before .if2 .left), eq-eqb _ _ (c .before .before .before .before .before .if3 .taken), c .before .before .put-four3 .ensures, c .before .before .before .characters .ensures, c .before .before .before .before .before .before .before .before .before .node-word2 .ensures)
 
 character-requires : tie.Need-character-requires
 character-requires c κs = search needs
@@ -77,7 +75,7 @@ same-length-4 : tie.Need-same-length-4
 same-length-4 c = search needs
 
 returns-4 : tie.Need-returns-4
-returns-4 c = let k1 : eqb (kind-of (c .before .before .before .before .before .before .before .before .before .before .before .before .before .before .before .before .before .before .args .nodes .now) (c .before .before .before .before .before .before .before .before .before .before .before .before .before .before .before .before .before .before .args .i)) 3 ≡ false = ne-eqb _ _ (λ e. c .before .before .before .before .before .before .before .before .before .before .if1 .left (c .before .before .before .before .before .before .before .before .before .before .before .before .before .node-word .ensures ∙ e)) in let k2 : eqb (kind-of (c .before .before .before .before .before .before .before .before .before .before .before .before .before .before .before .before .before .before .args .nodes .now) (c .before .before .before .before .before .before .before .before .before .before .before .before .before .before .before .before .before .before .args .i)) 5 ≡ false = ne-eqb _ _ (λ e. c .before .before .before .before .before .before .before .before .before .if2 .left (c .before .before .before .before .before .before .before .before .before .before .before .before .before .node-word .ensures ∙ e)) in let k3 : eqb (kind-of (c .before .before .before .before .before .before .before .before .before .before .before .before .before .before .before .before .before .before .args .nodes .now) (c .before .before .before .before .before .before .before .before .before .before .before .before .before .before .before .before .before .before .args .i)) 6 ≡ false = ne-eqb _ _ (λ e. c .before .before .before .before .before .before .before .before .if3 .left (c .before .before .before .before .before .before .before .before .before .before .before .before .before .node-word .ensures ∙ e)) in let k : eqb (kind-of (c .before .before .before .before .before .before .before .before .before .before .before .before .before .before .before .before .before .before .args .nodes .now) (c .before .before .before .before .before .before .before .before .before .before .before .before .before .before .before .before .before .before .args .i)) 7 ≡ true = eq-eqb _ _ (sym (c .before .before .before .before .before .before .before .before .before .before .before .before .before .node-word .ensures) ∙ c .before .before .before .before .before .before .before .if4 .taken) in simp (k1, k2, k3, k, c .before .before .put-four4 .ensures, c .before .before .before .character2 .ensures .0, c .before .before .before .before .node-word4 .ensures, c .before .before .before .before .before .character .ensures .0, c .before .before .before .before .before .before .before .before .before .before .before .before .node-word2 .ensures)
+returns-4 c = simp (← c .before .before .before .before .before .before .before .before .before .before .before .before .before .node-word .ensures, ne-eqb _ _ (c .before .before .before .before .before .before .before .before .before .before .if1 .left), ne-eqb _ _ (c .before .before .before .before .before .before .before .before .before .if2 .left), ne-eqb _ _ (c .before .before .before .before .before .before .before .before .if3 .left), eq-eqb _ _ (c .before .before .before .before .before .before .before .if4 .taken), c .before .before .put-four4 .ensures, c .before .before .before .character2 .ensures .0, c .before .before .before .before .node-word4 .ensures, c .before .before .before .before .before .character .ensures .0, c .before .before .before .before .before .before .before .before .before .before .before .before .node-word2 .ensures)
 
 width-requires : tie.Need-width-requires
 width-requires c κs = search needs
@@ -98,7 +96,7 @@ same-length-5 : tie.Need-same-length-5
 same-length-5 c = search needs
 
 returns-5 : tie.Need-returns-5
-returns-5 c = let k1 : eqb (kind-of (c .before .before .before .before .before .before .before .before .before .before .before .before .before .before .before .before .before .before .before .before .args .nodes .now) (c .before .before .before .before .before .before .before .before .before .before .before .before .before .before .before .before .before .before .before .before .args .i)) 3 ≡ false = ne-eqb _ _ (λ e. c .before .before .before .before .before .before .before .before .before .before .before .before .if1 .left (c .before .before .before .before .before .before .before .before .before .before .before .before .before .before .before .node-word .ensures ∙ e)) in let k2 : eqb (kind-of (c .before .before .before .before .before .before .before .before .before .before .before .before .before .before .before .before .before .before .before .before .args .nodes .now) (c .before .before .before .before .before .before .before .before .before .before .before .before .before .before .before .before .before .before .before .before .args .i)) 5 ≡ false = ne-eqb _ _ (λ e. c .before .before .before .before .before .before .before .before .before .before .before .if2 .left (c .before .before .before .before .before .before .before .before .before .before .before .before .before .before .before .node-word .ensures ∙ e)) in let k3 : eqb (kind-of (c .before .before .before .before .before .before .before .before .before .before .before .before .before .before .before .before .before .before .before .before .args .nodes .now) (c .before .before .before .before .before .before .before .before .before .before .before .before .before .before .before .before .before .before .before .before .args .i)) 6 ≡ false = ne-eqb _ _ (λ e. c .before .before .before .before .before .before .before .before .before .before .if3 .left (c .before .before .before .before .before .before .before .before .before .before .before .before .before .before .before .node-word .ensures ∙ e)) in let k4 : eqb (kind-of (c .before .before .before .before .before .before .before .before .before .before .before .before .before .before .before .before .before .before .before .before .args .nodes .now) (c .before .before .before .before .before .before .before .before .before .before .before .before .before .before .before .before .before .before .before .before .args .i)) 7 ≡ false = ne-eqb _ _ (λ e. c .before .before .before .before .before .before .before .before .before .if4 .left (c .before .before .before .before .before .before .before .before .before .before .before .before .before .before .before .node-word .ensures ∙ e)) in let k : eqb (kind-of (c .before .before .before .before .before .before .before .before .before .before .before .before .before .before .before .before .before .before .before .before .args .nodes .now) (c .before .before .before .before .before .before .before .before .before .before .before .before .before .before .before .before .before .before .before .before .args .i)) 8 ≡ true = eq-eqb _ _ (sym (c .before .before .before .before .before .before .before .before .before .before .before .before .before .before .before .node-word .ensures) ∙ c .before .before .before .before .before .before .before .before .if5 .taken) in simp (k1, k2, k3, k4, k, c .before .before .put-four5 .ensures, c .before .before .before .binder-word .ensures, c .before .before .before .before .end-word2 .ensures, c .before .before .before .before .before .start-word2 .ensures, c .before .before .before .before .before .before .width .ensures, c .before .before .before .before .before .before .before .before .before .before .before .before .before .own-length .ensures, c .before .before .before .before .before .before .before .before .before .before .before .before .before .before .before .before .before .before .before .before .pre .3)
+returns-5 c = operands-written (c .before .before .before .before .before .before .before .before .before .before .before .before .before .before .before .before .before .before .before .before .args .text .now) (c .before .before .before .before .before .before .before .before .before .before .before .before .before .before .before .before .before .before .before .before .args .nodes .now) (c .before .before .before .before .before .before .before .before .before .before .before .before .before .before .before .before .before .before .before .before .args .rules .now) (c .before .before .before .before .before .before .before .before .before .before .before .before .before .before .before .before .before .before .before .before .args .count) (c .before .before .before .before .before .before .before .before .before .before .before .before .before .before .before .before .before .before .before .before .args .i) (c .before .before .before .before .before .before .before .before .before .before .before .before .before .before .before .before .before .before .before .before .args .k) 8 (c .before .before .before .before .before .before .before .before .before .before .before .before .before .before .before .before .before .before .before .before .args .table .now) (c .before .before .put-four5 .last .0) (sym (c .before .before .before .before .before .before .before .before .if5 .taken) ∙ c .before .before .before .before .before .before .before .before .before .before .before .before .before .before .before .node-word .ensures) (simp (c .before .before .put-four5 .ensures, c .before .before .before .binder-word .ensures, c .before .before .before .before .end-word2 .ensures, c .before .before .before .before .before .start-word2 .ensures, c .before .before .before .before .before .before .width .ensures, c .before .before .before .before .before .before .before .before .before .before .before .before .before .own-length .ensures, c .before .before .before .before .before .before .before .before .before .before .before .before .before .before .before .before .before .before .before .before .pre .3))
 
 put-four-requires-6 : tie.Need-put-four-requires-6
 put-four-requires-6 c κs = search needs
@@ -107,7 +105,7 @@ same-length-6 : tie.Need-same-length-6
 same-length-6 c = search needs
 
 returns-6 : tie.Need-returns-6
-returns-6 c = let k1 : eqb (kind-of (c .before .before .before .before .before .before .before .before .before .before .before .before .before .before .before .before .args .nodes .now) (c .before .before .before .before .before .before .before .before .before .before .before .before .before .before .before .before .args .i)) 3 ≡ false = ne-eqb _ _ (λ e. c .before .before .before .before .before .before .before .before .if1 .left (c .before .before .before .before .before .before .before .before .before .before .before .node-word .ensures ∙ e)) in let k2 : eqb (kind-of (c .before .before .before .before .before .before .before .before .before .before .before .before .before .before .before .before .args .nodes .now) (c .before .before .before .before .before .before .before .before .before .before .before .before .before .before .before .before .args .i)) 5 ≡ false = ne-eqb _ _ (λ e. c .before .before .before .before .before .before .before .if2 .left (c .before .before .before .before .before .before .before .before .before .before .before .node-word .ensures ∙ e)) in let k3 : eqb (kind-of (c .before .before .before .before .before .before .before .before .before .before .before .before .before .before .before .before .args .nodes .now) (c .before .before .before .before .before .before .before .before .before .before .before .before .before .before .before .before .args .i)) 6 ≡ false = ne-eqb _ _ (λ e. c .before .before .before .before .before .before .if3 .left (c .before .before .before .before .before .before .before .before .before .before .before .node-word .ensures ∙ e)) in let k4 : eqb (kind-of (c .before .before .before .before .before .before .before .before .before .before .before .before .before .before .before .before .args .nodes .now) (c .before .before .before .before .before .before .before .before .before .before .before .before .before .before .before .before .args .i)) 7 ≡ false = ne-eqb _ _ (λ e. c .before .before .before .before .before .if4 .left (c .before .before .before .before .before .before .before .before .before .before .before .node-word .ensures ∙ e)) in let k5 : eqb (kind-of (c .before .before .before .before .before .before .before .before .before .before .before .before .before .before .before .before .args .nodes .now) (c .before .before .before .before .before .before .before .before .before .before .before .before .before .before .before .before .args .i)) 8 ≡ false = ne-eqb _ _ (λ e. c .before .before .before .before .if5 .left (c .before .before .before .before .before .before .before .before .before .before .before .node-word .ensures ∙ e)) in simp (k1, k2, k3, k4, k5, c .before .before .put-four6 .ensures)
+returns-6 c = simp (← c .before .before .before .before .before .before .before .before .before .before .before .node-word .ensures, ne-eqb _ _ (c .before .before .before .before .before .before .before .before .if1 .left), ne-eqb _ _ (c .before .before .before .before .before .before .before .if2 .left), ne-eqb _ _ (c .before .before .before .before .before .before .if3 .left), ne-eqb _ _ (c .before .before .before .before .before .if4 .left), ne-eqb _ _ (c .before .before .before .before .if5 .left), c .before .before .put-four6 .ensures)
 
 pub operands-spec : {M : Type 1} → statement M
 operands-spec =

@@ -1,7 +1,5 @@
-use mathlib.Core.Path.{_≡_, sym, ap, _∙_}
-use mathlib.Core.Bool.{true, false}
 use borrow.Author.Needs.{needs}
-use Rattle.naming.specs.Words.{term-word, is-use}
+use Rattle.naming.specs.Words.{term-word}
 use Rattle.encoding.proofs.constructs.term.Statement.{statement}
 use Rattle.encoding.proofs.constructs.term.Tie as tie
 
@@ -24,7 +22,7 @@ same-length : tie.Need-same-length
 same-length c = search needs
 
 returns : tie.Need-returns
-returns c = let u : is-use (term-word (c .before .before .before .before .before .before .before .before .before .before .before .before .before .args .terms .now) (c .before .before .before .before .before .before .before .before .before .before .before .before .before .args .t) 0) ≡ true = ap is-use (sym (c .before .before .before .before .before .before .before .before .term-word .ensures)) ∙ sym (c .before .before .before .before .before .before .before .variable .ensures) ∙ c .before .before .before .before .before .before .if1 .taken in simp (u, c .before .before .put-three .ensures, c .before .before .before .variable-number .ensures, c .before .before .before .before .term-word2 .ensures, c .before .before .before .before .before .before .before .before .term-word .ensures)
+returns c = simp (← c .before .before .before .before .before .before .before .before .term-word .ensures, ← c .before .before .before .before .before .before .before .variable .ensures, c .before .before .before .before .before .before .if1 .taken, c .before .before .put-three .ensures, c .before .before .before .variable-number .ensures, c .before .before .before .before .term-word2 .ensures)
 
 term-word-requires-3 : tie.Need-term-word-requires-3
 term-word-requires-3 c κs = search needs
@@ -36,7 +34,7 @@ same-length-2 : tie.Need-same-length-2
 same-length-2 c = search needs
 
 returns-2 : tie.Need-returns-2
-returns-2 c = let u : is-use (term-word (c .before .before .before .before .before .before .before .before .before .before .before .before .args .terms .now) (c .before .before .before .before .before .before .before .before .before .before .before .before .args .t) 0) ≡ false = ap is-use (sym (c .before .before .before .before .before .before .before .term-word .ensures)) ∙ sym (c .before .before .before .before .before .before .variable .ensures) ∙ c .before .before .before .before .before .if1 .left in simp (u, c .before .before .put-three2 .ensures, c .before .before .before .before .term-word3 .ensures, c .before .before .before .before .before .before .before .term-word .ensures)
+returns-2 c = simp (← c .before .before .before .before .before .before .before .term-word .ensures, ← c .before .before .before .before .before .before .variable .ensures, c .before .before .before .before .before .if1 .left, c .before .before .put-three2 .ensures, c .before .before .before .before .term-word3 .ensures)
 
 pub term-spec : {M : Type 1} → statement M
 term-spec =

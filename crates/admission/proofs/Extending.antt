@@ -1,0 +1,161 @@
+-- Refusal 8: where nothing is found nothing is outside its limits, and what is found stands in the text.
+-- Assumes nothing.
+use Prim.Native.Nat.{ℕ, zero, suc, _+_, _-_, _≤_, _<_, min}
+use mathlib.Core.Path.{_≡_, refl, sym, ap, subst, _∙_}
+use mathlib.Core.Logic.{_⊎_, inl, inr, ⊎-elim}
+use mathlib.Core.Bool.{Bool, true, false, cond, not, _&&_, _||_}
+use mathlib.Core.List.{List}
+use native.Mathlib.Omega.{arith}
+use borrow.Author.Tests.{eq-eqb, eqb-true, leb-true, ltb-false}
+use lib.Dec.{leb, ltb, eqb}
+use lib.ListN.{length}
+use Rattle.text.proofs.Tests.{which}
+use Rattle.sizes.specs.declared.Sized.{Sized}
+use Rattle.layout.specs.Constructs.{constructAt}
+use Rattle.measures.specs.Measures.{condition-size, own-size, exceeds, oversized}
+use Rattle.shapes.specs.NodeShapes.{tree, Holds, literal-tree, range-tree, use-tree, eod-tree, uint-tree, marked-tree, counted-tree, chain-tree, switch-tree}
+use Rattle.naming.specs.Words.{node-word, term-word, kind-of}
+use Rattle.encoding.specs.Numbers.{width-of, condition-start, own-start}
+use Rattle.laying.specs.Context.{Nodes}
+use Rattle.laying.proofs.Sums.{side}
+use Rattle.laying.proofs.Standing.{number-inside}
+use Rattle.admission.specs.Extents.{lesser, found-if, least-found, width-found, number-found, origin-after, list-found, node-found, refusal-8}
+use Rattle.admission.specs.declared.Found.{Found}
+
+never : {A : Type 0} → true ≡ false → A
+never e = let z : _≡_ {A = ℕ} 0 1 = cc in absurd (omega arith)
+
+-- ---- nothing is found
+
+found-never : {A : Type 0} (p : ℕ) → Found.At p ≡ Found.Nothing → A
+found-never p e = let z : _≡_ {A = ℕ} 0 1 = cc in absurd (omega arith)
+
+lesser-none : (a b : Found) → lesser a b ≡ Found.Nothing → (a ≡ Found.Nothing) × (b ≡ Found.Nothing)
+lesser-none Found.Nothing b e = (refl, e)
+lesser-none (Found.At p) Found.Nothing e = found-never p e
+lesser-none (Found.At p) (Found.At q) e = found-never (min p q) e
+
+if-none : (fault : Bool) (p : ℕ) → found-if fault p ≡ Found.Nothing → fault ≡ false
+if-none true p e = found-never p e
+if-none false p e = refl
+
+least-none : (n i : ℕ) (f : ℕ → Found) → least-found n i f ≡ Found.Nothing → (j : ℕ) → i ≤ j → j < i + n → f j ≡ Found.Nothing
+unfolding least-found
+least-none zero i f e j h l = absurd (omega arith)
+least-none (suc n) i f e j h l =
+    let z = lesser-none (f i) (least-found n (i + 1) f) e in
+    ⊎-elim (λ (q : j < i + 1). let y : j ≡ i = omega arith in rw y (z .0)) (λ (q : i + 1 ≤ j). least-none n (i + 1) f (z .1) j q (omega arith)) (side j (i + 1))
+
+list-none : (ts : List ℕ) (f start : ℕ) (s : Sized) → list-found ts f start s ≡ Found.Nothing → exceeds s ≡ false
+list-none ts f start Sized.Passes e = refl
+list-none ts f start Sized.Malformed e = refl
+list-none ts f start (Sized.Exceeds at) e = found-never (origin-after ts f at start) e
+
+and-off : (a b : Bool) → (a && b) ≡ false → a ≡ true → b ≡ false
+and-off true b e z = e
+and-off false b e z = never (sym z)
+
+not-off : (a : Bool) → not a ≡ false → a ≡ true
+not-off true e = refl
+not-off false e = never e
+
+both-on : (a b : Bool) → (a && b) ≡ true → (a ≡ true) × (b ≡ true)
+both-on true b e = (refl, e)
+both-on false b e = never (sym e)
+
+or-on : (a b : Bool) → (a ≡ true) ⊎ (b ≡ true) → (a || b) ≡ true
+or-on true b z = refl
+or-on false b (inl z) = never (sym z)
+or-on false b (inr z) = z
+
+either-off : (a b : Bool) → a ≡ false → b ≡ false → Rattle.form.specs.Checks.either a b ≡ true → ⊥
+either-off true b p q e = never p
+either-off false b p q e = never (sym e ∙ q)
+
+module _ (xs ns ts ws : List ℕ) (n t : ℕ) (e : refusal-8 xs ns ts ws n t ≡ Found.Nothing) where
+  parts : (least-found t 0 (number-found ts) ≡ Found.Nothing) × (least-found n 0 (node-found xs ns ts ws) ≡ Found.Nothing)
+  parts = lesser-none (least-found t 0 (number-found ts)) (least-found n 0 (node-found xs ns ts ws)) e
+
+  pub numbers-right : (k : ℕ) → k < t → (term-word ts k 0 ≡ 1) ⊎ (term-word ts k 0 ≡ 33) → term-word ts k 1 < 4294967296
+  numbers-right k h z =
+      let f : number-found ts k ≡ Found.Nothing = least-none t 0 (number-found ts) (parts .0) k (omega arith) (omega arith) in
+      let g : ((eqb (term-word ts k 0) 1 || eqb (term-word ts k 0) 33) && ltb 4294967295 (term-word ts k 1)) ≡ false = if-none _ (term-word ts k 2) f in
+      let y : (eqb (term-word ts k 0) 1 || eqb (term-word ts k 0) 33) ≡ true = or-on _ _ (⊎-elim (λ q. inl (eq-eqb (term-word ts k 0) 1 q)) (λ q. inr (eq-eqb (term-word ts k 0) 33 q)) z) in
+      let w : ltb 4294967295 (term-word ts k 1) ≡ false = and-off _ _ g y in
+      omega (arith, ltb-false 4294967295 (term-word ts k 1) w)
+
+  node-none : (i : ℕ) → i < n → node-found xs ns ts ws i ≡ Found.Nothing
+  node-none i h = least-none n 0 (node-found xs ns ts ws) (parts .1) i (omega arith) (omega arith)
+
+  pub widths-right : (i : ℕ) → i < n → kind-of ns i ≡ 8 → (1 ≤ width-of xs ns i) × (width-of xs ns i ≤ 32)
+  widths-right i h z =
+      let f : width-found xs ns i ≡ Found.Nothing = lesser-none (width-found xs ns i) _ (node-none i h) .0 in
+      let g : (eqb (kind-of ns i) 8 && not (leb 1 (width-of xs ns i) && leb (width-of xs ns i) 32)) ≡ false = if-none _ (node-word ns i 3) f in
+      let w : (leb 1 (width-of xs ns i) && leb (width-of xs ns i) 32) ≡ true = not-off _ (and-off _ _ g (eq-eqb (kind-of ns i) 8 z)) in
+      let v = both-on _ _ w in
+      (leb-true 1 (width-of xs ns i) (v .0), leb-true (width-of xs ns i) 32 (v .1))
+
+  pub sizes-right : (i : ℕ) → i < n → oversized ws i ≡ true → ⊥
+  sizes-right i h z =
+      let f = lesser-none (width-found xs ns i) _ (node-none i h) in
+      let g = lesser-none (list-found ts (node-word ns i 8) (condition-start ns i) (condition-size ws i)) (list-found ts (node-word ns i 5) (own-start ns i) (own-size ws (constructAt ws i))) (f .1) in
+      either-off (exceeds (condition-size ws i)) (exceeds (own-size ws (constructAt ws i))) (list-none ts (node-word ns i 8) (condition-start ns i) (condition-size ws i) (g .0)) (list-none ts (node-word ns i 5) (own-start ns i) (own-size ws (constructAt ws i)) (g .1)) z
+
+-- ---- what is found
+
+abbrev pub Inside : Found → Type 0
+Inside Found.Nothing = Unit {0}
+Inside (Found.At p) = p ≤ 8192
+
+lesser-inside : (a b : Found) → Inside a → Inside b → Inside (lesser a b)
+lesser-inside Found.Nothing b h k = k
+lesser-inside (Found.At p) Found.Nothing h k = h
+lesser-inside (Found.At p) (Found.At q) h k = omega arith
+
+least-inside : (n i : ℕ) (f : ℕ → Found) → ((j : ℕ) → i ≤ j → j < i + n → Inside (f j)) → Inside (least-found n i f)
+unfolding least-found
+least-inside zero i f h = tt
+least-inside (suc n) i f h = lesser-inside (f i) (least-found n (i + 1) f) (h i (omega arith) (omega arith)) (least-inside n (i + 1) f (λ j a b. h j (omega arith) (omega arith)))
+
+if-inside : (fault : Bool) (p : ℕ) → (fault ≡ true → p ≤ 8192) → Inside (found-if fault p)
+if-inside true p h = h refl
+if-inside false p h = tt
+
+list-inside : (ts : List ℕ) (f start : ℕ) (s : Sized) → ((k : ℕ) → term-word ts k 3 ≤ 8192) → Inside (list-found ts f start s)
+list-inside ts f start Sized.Passes h = tt
+list-inside ts f start Sized.Malformed h = tt
+list-inside ts f start (Sized.Exceeds at) h = h (f + (at - start))
+
+-- a uint's width stands in the text
+width-inside : {xs ns ts : List ℕ} {i e f g β : ℕ} → Holds xs ns ts tree i e f g β → kind-of ns i ≡ 8 → node-word ns i 3 < length xs
+width-inside (literal-tree x a b c) z = absurd (omega (arith, x .kind-is, z))
+width-inside (range-tree x a b c d) z = absurd (omega (arith, x .kind-is, z))
+width-inside (use-tree x a b c) z = absurd (omega (arith, x .kind-is, z))
+width-inside (eod-tree x a b) z = absurd (omega (arith, x .kind-is, z))
+width-inside (uint-tree x a c b) z = number-inside (c .width)
+width-inside (marked-tree x a b c d) z = absurd (omega (arith, x .kind-is, z))
+width-inside (counted-tree x a b c d) z = absurd (omega (arith, x .kind-is, z))
+width-inside (chain-tree x w a b c) z = absurd (⊎-elim (λ k. omega (arith, x .kind-is, z, k)) (λ k. omega (arith, x .kind-is, z, k)) w)
+width-inside (switch-tree x a b) z = absurd (omega (arith, x .kind-is, z))
+
+module _ (xs ns ts ws : List ℕ) (n t : ℕ) (nodes : Nodes xs ns ts n t) (h : length xs ≤ 8192) (terms : (k w : ℕ) → (w ≡ 2) ⊎ (w ≡ 3) → term-word ts k w ≤ 8192) where
+  -- a width that is wrong
+  abbrev wrong : ℕ → Bool
+  wrong i = not (leb 1 (width-of xs ns i) && leb (width-of xs ns i) 32)
+
+  node-inside : (i : ℕ) → i < n → Inside (node-found xs ns ts ws i)
+  node-inside i l =
+      lesser-inside (width-found xs ns i) _
+      (if-inside (eqb (kind-of ns i) 8 && wrong i) (node-word ns i 3)
+      (λ (z : (eqb (kind-of ns i) 8 && wrong i) ≡ true).
+      let k : kind-of ns i ≡ 8 = eqb-true (kind-of ns i) 8 (both-on (eqb (kind-of ns i) 8) (wrong i) z .0) in
+      let y : node-word ns i 3 < length xs = width-inside (nodes .trees i l .holds) k in
+      omega arith))
+      (lesser-inside (list-found ts (node-word ns i 8) (condition-start ns i) (condition-size ws i)) (list-found ts (node-word ns i 5) (own-start ns i) (own-size ws (constructAt ws i)))
+      (list-inside ts (node-word ns i 8) (condition-start ns i) (condition-size ws i) (λ k. terms k 3 (inr refl))) (list-inside ts (node-word ns i 5) (own-start ns i) (own-size ws (constructAt ws i)) (λ k. terms k 3 (inr refl))))
+
+  pub found-inside : Inside (refusal-8 xs ns ts ws n t)
+  found-inside =
+      lesser-inside (least-found t 0 (number-found ts)) (least-found n 0 (node-found xs ns ts ws))
+      (least-inside t 0 (number-found ts) (λ j a b. if-inside ((eqb (term-word ts j 0) 1 || eqb (term-word ts j 0) 33) && ltb 4294967295 (term-word ts j 1)) (term-word ts j 2) (λ z. terms j 2 (inl refl))))
+      (least-inside n 0 (node-found xs ns ts ws) (λ j a b. node-inside j (omega arith)))

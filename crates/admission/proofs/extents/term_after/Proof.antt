@@ -1,0 +1,30 @@
+-- `admission::extents::term_after` meets its contract. Assumes nothing.
+use Prim.Native.Nat.{_+_, _*_, _-_, _≤_}
+use mathlib.Core.Path.{sym}
+use native.Mathlib.Omega.{arith}
+use lib.ListN.{length, List·getD-eq-default}
+use borrow.Author.Needs.{needs}
+use Rattle.admission.proofs.extents.term_after.Statement.{statement}
+use Rattle.admission.proofs.extents.term_after.Tie as tie
+
+less-requires : tie.Need-less-requires
+less-requires c κs = search needs
+
+add-term-word : tie.Need-add-term-word
+add-term-word c = search needs
+
+term-word-requires : tie.Need-term-word-requires
+term-word-requires c κs = search needs
+
+returns : tie.Need-returns
+returns c = simp (c .term-word .ensures, c .before .before .before .less .ensures)
+
+returns-2 : tie.Need-returns-2
+returns-2 c = let z : length (c .before .before .before .before .args .terms .now) ≤ 4 * (c .before .before .before .before .args .f + (c .before .before .before .before .args .at - c .before .before .before .before .args .start)) + 3 = omega arith in sym (List·getD-eq-default (c .before .before .before .before .args .terms .now) 0 z)
+
+returns-3 : tie.Need-returns-3
+returns-3 c = let z : length (c .before .before .before .args .terms .now) ≤ 4 * (c .before .before .before .args .f + (c .before .before .before .args .at - c .before .before .before .args .start)) + 3 = omega arith in sym (List·getD-eq-default (c .before .before .before .args .terms .now) 0 z)
+
+pub term-after-spec : {M : Type 1} → statement M
+term-after-spec =
+    tie.close (tie.spec less-requires add-term-word term-word-requires returns returns-2 returns-3)
