@@ -4,3 +4,4 @@ pub mod Spots
 pub mod Extending
 pub mod Leasts
 pub mod Marking
+pub mod Judging

@@ -11,7 +11,7 @@ ghost use Prim.Native.Nat.{ℕ, _+_, _≤_, _<_};
 ghost use lib.ListN.{length};
 ghost use Rattle.table.specs.Judged.{Passed8};
 ghost use Rattle.parsing.specs.Cursors.{state-at};
-ghost use Rattle.admission.specs.Admitted.{Named, AnsweredRules, Answers};
+ghost use Rattle.admission.specs.Admitted.{words-of, Named, Straight, AnsweredRules, Answers};
 ghost use Rattle.admission.specs.Late.{Late, Within};
 
 pub mod copying;
@@ -81,7 +81,10 @@ fn admit_words(
     base: usize,
     words: &mut [u32],
     table: &mut [u32],
-) -> Admission {
+) -> Admission
+    requires { ⌜ Straight (now text) (state-at c (now nodes) (now terms) (now rules)) × (now words ≡ words-of (now text) (state-at c (now nodes) (now terms) (now rules))) × (length (now text) ≤ 8192) × (base ≤ 8192) × (16384 ≤ length (now table)) ⌝ }
+    ensures { λ r. ⌜ AnsweredRules (now (text .entry)) base (now (table .entry)) (now (table .exit)) r ⌝ }
+{
     match extents::first_oversized(text, nodes, terms, c.nodes, c.terms, words) {
         Found::At(p) => refused(8, base, p),
         Found::Nothing => {
