@@ -5,3 +5,4 @@ pub mod Extending
 pub mod Leasts
 pub mod Marking
 pub mod Judging
+pub mod Answering

@@ -2,13 +2,16 @@
 -- Assumes nothing.
 use Prim.Native.Nat.{ℕ, _+_, _≤_, _<_}
 use mathlib.Core.Path.{_≡_}
+use mathlib.Core.Bool.{true}
 use mathlib.Core.List.{List}
-use lib.ListN.{length}
+use lib.ListN.{length, take, drop}
 use Rattle.theory.specs.Lookahead.{EmptyBody}
 use Rattle.layout.specs.Places.{construct-count}
 use Rattle.layout.specs.Held.{held}
 use Rattle.conflicts.specs.Conflicts.{Conflicting, Answered}
 use Rattle.conflicts.specs.declared.Clash.{Clash}
+use Rattle.form.specs.Laid.{laid}
+use Rattle.table.specs.declared.Judgement.{Judgement}
 use Rattle.table.specs.Judged.{Passed9, Passed10, Least, Weighing}
 use Rattle.table.specs.Sound.{Sound}
 use Rattle.soundness.specs.OneTable.{Alike}
@@ -42,7 +45,43 @@ Late ns rs base old new (Admission.Admitted weight) = LatePass weight old new
 Late ns rs base old new (Admission.Refused number place) = LateRefused ns rs base old number place
 Late ns rs base old new (Admission.Conflict place construct clash) = LateClash ns base old place construct clash
 
+-- an admitted grammar's table is the first 16,384 words, and nothing else changes
+abbrev pub HandedOver : Admission → (words old new : List ℕ) → Type 0
+HandedOver (Admission.Admitted weight) words old new = (take 16384 new ≡ words) × (drop 16384 new ≡ drop 16384 old) × (length new ≡ length old)
+HandedOver (Admission.Refused number place) words old new = new ≡ old
+HandedOver (Admission.Conflict place construct clash) words old new = new ≡ old
+
 -- places that are stored are within the largest text
 pub record Within (ns rs : List ℕ) : Type 0 where
   pub nodes : (i : ℕ) → (node-word ns i 2 ≤ 8192) × (node-word ns i 4 ≤ 8192)
   pub rules : (k : ℕ) → named-at rs k ≤ 8192
+
+-- ---- by the judgement
+
+-- the words are looked at again only where a body may be empty
+abbrev pub LaidFor : List ℕ → Judgement → Type 0
+LaidFor ws Judgement.Unlaid = Unit {0}
+LaidFor ws (Judgement.Recursive rule) = Unit {0}
+LaidFor ws (Judgement.Oversized construct) = Unit {0}
+LaidFor ws (Judgement.EmptyBody construct) = laid ws ≡ true
+LaidFor ws (Judgement.Conflict construct clash) = Unit {0}
+LaidFor ws Judgement.Overweight = Unit {0}
+LaidFor ws (Judgement.Passes weight) = Unit {0}
+
+abbrev pub MarkFor : List ℕ → List ℕ → ℕ → Judgement → Type 0
+MarkFor ns ws mark Judgement.Unlaid = mark ≡ 0
+MarkFor ns ws mark (Judgement.Recursive rule) = mark ≡ 0
+MarkFor ns ws mark (Judgement.Oversized construct) = mark ≡ 0
+MarkFor ns ws mark (Judgement.EmptyBody construct) = Marks ns ws (construct-count ws) mark
+MarkFor ns ws mark (Judgement.Conflict construct clash) = mark ≡ 0
+MarkFor ns ws mark Judgement.Overweight = mark ≡ 0
+MarkFor ns ws mark (Judgement.Passes weight) = mark ≡ 0
+
+abbrev pub answer-for : List ℕ → List ℕ → ℕ → ℕ → Judgement → Admission
+answer-for ns rs base mark Judgement.Unlaid = Admission.Refused 0 0
+answer-for ns rs base mark (Judgement.Recursive rule) = Admission.Refused 0 0
+answer-for ns rs base mark (Judgement.Oversized construct) = Admission.Refused 0 0
+answer-for ns rs base mark (Judgement.EmptyBody construct) = Admission.Refused 9 (base + mark)
+answer-for ns rs base mark (Judgement.Conflict construct clash) = Admission.Conflict (base + place-of ns construct) construct clash
+answer-for ns rs base mark Judgement.Overweight = Admission.Refused 11 (base + named-at rs 0)
+answer-for ns rs base mark (Judgement.Passes weight) = Admission.Admitted weight

@@ -11,8 +11,9 @@ ghost use Prim.Native.Nat.{ℕ, _+_, _≤_, _<_};
 ghost use lib.ListN.{length};
 ghost use Rattle.table.specs.Judged.{Passed8};
 ghost use Rattle.parsing.specs.Cursors.{state-at};
+ghost use Rattle.naming.specs.Words.{node-word, place-of};
 ghost use Rattle.admission.specs.Admitted.{words-of, Named, Straight, AnsweredRules, Answers};
-ghost use Rattle.admission.specs.Late.{Late, Within};
+ghost use Rattle.admission.specs.Late.{LaidFor, MarkFor, answer-for, Late, HandedOver, Within};
 
 pub mod copying;
 pub mod extents;
@@ -41,34 +42,95 @@ pub enum Found {
     Nothing,
 }
 
+fn placed(base: usize, p: usize) -> usize
+    requires { ⌜ (base ≤ 8192) × (p ≤ 8192) ⌝ }
+    ensures { λ r. ⌜ r ≡ base + p ⌝ }
+{
+    base + p
+}
+
 fn refused(number: usize, base: usize, p: usize) -> Admission
     requires { ⌜ (base ≤ 8192) × (p ≤ 8192) ⌝ }
     ensures { λ r. ⌜ r ≡ Admission.Refused number (base + p) ⌝ }
 {
     Admission::Refused {
         number,
-        place: base + p,
+        place: placed(base, p),
     }
 }
 
-// 9 to 11, of words that pass 5 to 8. The first three answers of the judgement do not come.
+fn conflict(nodes: &[usize], base: usize, construct: usize, clash: Clash) -> Admission
+    requires { ⌜ (length (now nodes) ≡ 2560) × (base ≤ 8192) × ((i : ℕ) → (node-word (now nodes) i 2 ≤ 8192) × (node-word (now nodes) i 4 ≤ 8192)) ⌝ }
+    ensures { λ r. ⌜ r ≡ Admission.Conflict (base + place-of (now (nodes .entry)) construct) construct clash ⌝ }
+{
+    Admission::Conflict {
+        place: placed(base, node_word(nodes, construct, 2)),
+        construct,
+        clash,
+    }
+}
+
+// Where a body may be empty, the least mark of such a repetition.
+fn mark_for(judgement: Judgement, words: &[u32], nodes: &[usize]) -> usize
+    requires { ⌜ LaidFor (now words) judgement × (length (now nodes) ≡ 2560) ⌝ }
+    ensures { λ r. ⌜ MarkFor (now (nodes .entry)) (now (words .entry)) r judgement ⌝ }
+{
+    match judgement {
+        Judgement::Unlaid => 0,
+        Judgement::Recursive { rule: _ } => 0,
+        Judgement::Oversized { construct: _ } => 0,
+        Judgement::EmptyBody { construct: _ } => marks::first_mark(words, nodes),
+        Judgement::Conflict {
+            construct: _,
+            clash: _,
+        } => 0,
+        Judgement::Overweight => 0,
+        Judgement::Passes { weight: _ } => 0,
+    }
+}
+
+// The answer to a judgement of words that pass 5 to 8: its first three answers do not come.
+fn answer_for(
+    judgement: Judgement,
+    nodes: &[usize],
+    rules: &[usize],
+    base: usize,
+    mark: usize,
+) -> Admission
+    requires { ⌜ (length (now nodes) ≡ 2560) × (length (now rules) ≡ 325) × (base ≤ 8192) × (mark ≤ 8192) × Within (now nodes) (now rules) ⌝ }
+    ensures { λ r. ⌜ r ≡ answer-for (now (nodes .entry)) (now (rules .entry)) base mark judgement ⌝ }
+{
+    match judgement {
+        Judgement::Unlaid => refused(0, 0, 0),
+        Judgement::Recursive { rule: _ } => refused(0, 0, 0),
+        Judgement::Oversized { construct: _ } => refused(0, 0, 0),
+        Judgement::EmptyBody { construct: _ } => refused(9, base, mark),
+        Judgement::Conflict { construct, clash } => conflict(nodes, base, construct, clash),
+        Judgement::Overweight => refused(11, base, rule_word(rules, 0, 0)),
+        Judgement::Passes { weight } => Admission::Admitted { weight },
+    }
+}
+
+// 9 to 11, of words that pass 5 to 8.
 fn judged(nodes: &[usize], rules: &[usize], base: usize, words: &mut [u32]) -> Admission
     requires { ⌜ Passed8 (now words) × (length (now nodes) ≡ 2560) × (length (now rules) ≡ 325) × (base ≤ 8192) × Within (now nodes) (now rules) ⌝ }
     ensures { λ r. ⌜ Late (now (nodes .entry)) (now (rules .entry)) base (now (words .entry)) (now (words .exit)) r ⌝ }
 {
-    match completion::complete(words) {
-        Judgement::Unlaid => refused(0, 0, 0),
-        Judgement::Recursive { rule: _ } => refused(0, 0, 0),
-        Judgement::Oversized { construct: _ } => refused(0, 0, 0),
-        Judgement::EmptyBody { construct: _ } => refused(9, base, marks::first_mark(words, nodes)),
-        Judgement::Conflict { construct, clash } => Admission::Conflict {
-            place: base + node_word(nodes, construct, 2),
-            construct,
-            clash,
-        },
-        Judgement::Overweight => refused(11, base, rule_word(rules, 0, 0)),
-        Judgement::Passes { weight } => Admission::Admitted { weight },
-    }
+    let judgement = completion::complete(words);
+    let mark = mark_for(judgement, words, nodes);
+    answer_for(judgement, nodes, rules, base, mark)
+}
+
+// An admitted grammar's table goes to the caller.
+fn handed_over(answer: Admission, words: &[u32], table: &mut [u32]) -> Admission
+    requires { ⌜ (length (now words) ≡ 16384) × (16384 ≤ length (now table)) ⌝ }
+    ensures { λ r. ⌜ (r ≡ answer) × HandedOver answer (now (words .entry)) (now (table .entry)) (now (table .exit)) ⌝ }
+{
+    let Admission::Admitted { weight } = answer else {
+        return answer;
+    };
+    copying::copy(words, table);
+    Admission::Admitted { weight }
 }
 
 // 8 to 11, of words in which no rule reaches itself.
@@ -89,11 +151,7 @@ fn admit_words(
         Found::At(p) => refused(8, base, p),
         Found::Nothing => {
             let answer = judged(nodes, rules, base, words);
-            let Admission::Admitted { weight } = answer else {
-                return answer;
-            };
-            copying::copy(words, table);
-            Admission::Admitted { weight }
+            handed_over(answer, words, table)
         }
     }
 }
