@@ -6,3 +6,4 @@ pub mod Leasts
 pub mod Marking
 pub mod Judging
 pub mod Answering
+pub mod Stages

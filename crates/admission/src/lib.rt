@@ -126,11 +126,22 @@ fn handed_over(answer: Admission, words: &[u32], table: &mut [u32]) -> Admission
     requires { ⌜ (length (now words) ≡ 16384) × (16384 ≤ length (now table)) ⌝ }
     ensures { λ r. ⌜ (r ≡ answer) × HandedOver answer (now (words .entry)) (now (table .entry)) (now (table .exit)) ⌝ }
 {
-    let Admission::Admitted { weight } = answer else {
-        return answer;
-    };
-    copying::copy(words, table);
-    Admission::Admitted { weight }
+    match answer {
+        Admission::Admitted { weight } => {
+            copying::copy(words, table);
+            Admission::Admitted { weight }
+        }
+        Admission::Refused { number, place } => Admission::Refused { number, place },
+        Admission::Conflict {
+            place,
+            construct,
+            clash,
+        } => Admission::Conflict {
+            place,
+            construct,
+            clash,
+        },
+    }
 }
 
 // 8 to 11, of words in which no rule reaches itself.

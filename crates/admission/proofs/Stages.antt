@@ -1,0 +1,82 @@
+-- What each stage hands to the functions that it calls.
+-- Assumes nothing.
+use Prim.Native.Nat.{ℕ, _+_, _≤_, _<_}
+use mathlib.Core.Path.{_≡_, refl, sym, ap, subst, _∙_}
+use mathlib.Core.Logic.{_⊎_, inl, inr}
+use mathlib.Core.Bool.{Bool}
+use mathlib.Core.List.{List}
+use native.Mathlib.Omega.{arith}
+use lib.ListN.{length, length-replicate, replicate}
+use Rattle.rules.specs.Reaching.{Found, Reaches, Acyclic}
+use Rattle.rules.specs.declared.Recursion.{Recursion}
+use Rattle.table.specs.Judged.{Passed8}
+use Rattle.parsing.specs.Store.{State, state, node-words, term-words, rule-words, nodes-of, terms-of, rules-of}
+use Rattle.parsing.specs.Form.{right, refused}
+use Rattle.syntax.specs.Rules.{form-of}
+use Rattle.shapes.proofs.Places.{refused-inside}
+use Rattle.naming.specs.Counting.{nowhere}
+use Rattle.naming.specs.Words.{named-at}
+use Rattle.encoding.specs.Numbers.{condition-start}
+use Rattle.encoding.specs.Encoded.{encoded}
+use Rattle.laying.proofs.Areas.{written-length}
+use Rattle.laying.proofs.NodeFacts.{nodes-of-rules}
+use Rattle.admission.specs.Admitted.{form, words-of, fault-5, fault-6, fault-8, Right, Limited, Named, Straight, Bounded, RulesRefused, by-form, by-limit, by-name, by-cycle, by-size}
+use Rattle.admission.specs.Late.{Within}
+use Rattle.admission.specs.declared.Found as places
+use Rattle.admission.proofs.Facts.{Basics, basics, Facts, facts, within, term-within}
+use Rattle.admission.proofs.Spots.{limits-spot, names-spot, some-spot}
+use Rattle.admission.proofs.Extending.{Inside, found-inside}
+use Rattle.admission.proofs.Judging.{passed-8}
+
+pub encoded-length : (xs ns ts rs : List ℕ) (n r : ℕ) → length (encoded xs ns ts rs n r) ≡ 16384
+unfolding encoded
+encoded-length xs ns ts rs n r = simp written-length (length-replicate {A = ℕ} 16384 0)
+
+module _ (xs : List ℕ) (st : State) (h : length xs ≤ 8192) where
+  -- 4: the place of a refusal
+  pub form-place : (p : ℕ) → form xs ≡ refused p → p ≤ 8192
+  unfolding form-of
+  form-place p e = omega (arith, refused-inside xs _ _ p e)
+
+  -- 5 and 6: of a fault
+  module _ (b : Basics xs st) where
+    terms-placed : (t : ℕ) → Rattle.naming.specs.Words.term-word (term-words st) t 2 ≤ 8192
+    terms-placed t = term-within xs st b h t 2 (inl refl)
+
+    pub place-5 : fault-5 st < nowhere → fault-5 st ≤ 8192
+    place-5 l = some-spot (fault-5 st) (limits-spot xs (node-words st) (term-words st) (rule-words st) (rules-of st) (within xs st b h) terms-placed) l
+
+    pub place-6 : fault-6 xs st < nowhere → fault-6 xs st ≤ 8192
+    place-6 l = some-spot (fault-6 xs st) (names-spot xs (node-words st) (term-words st) (rule-words st) (rules-of st) (within xs st b h) terms-placed) l
+
+  -- 7: encoding
+  abbrev pub Encodable : Type 0
+  Encodable = (length (node-words st) ≡ 2560) × (length (term-words st) ≡ 4096) × (length (rule-words st) ≡ 325) × (nodes-of st ≤ 256) × (rules-of st ≤ 64) × (condition-start (node-words st) (nodes-of st) ≤ 1024)
+
+  pub encodable : Named xs st → Encodable
+  encodable p = let f = facts xs st (p .passed) h in (f .basics .node-length, f .basics .term-length, f .basics .rule-length, f .nodes-limit, f .rules-limit, f .total)
+
+  pub rule-placed : Named xs st → (k : ℕ) → named-at (rule-words st) k ≤ 8192
+  rule-placed p = within xs st (basics xs st (p .passed .passed)) h .rules
+
+  pub long-words : length (words-of xs st) ≡ 16384
+  long-words = encoded-length xs (node-words st) (term-words st) (rule-words st) (nodes-of st) (rules-of st)
+
+  -- 8
+  pub place-8 : Straight xs st → (p : ℕ) → fault-8 xs st ≡ places.Found.At p → p ≤ 8192
+  place-8 s p e =
+      let f = facts xs st (s .passed .passed) h in
+      subst Inside e
+      (found-inside xs (node-words st) (term-words st) (words-of xs st) (nodes-of st) (terms-of st) (nodes-of-rules (f .shape .rules)) h (term-within xs st (f .basics) h))
+
+  -- 9
+  pub bounded : Straight xs st → fault-8 xs st ≡ places.Found.Nothing → Bounded xs st
+  bounded s e = record { passed = s; none = e }
+
+  abbrev pub Judgeable : List ℕ → Type 0
+  Judgeable ws = Passed8 ws × (length (node-words st) ≡ 2560) × (length (rule-words st) ≡ 325) × Within (node-words st) (rule-words st)
+
+  pub judgeable : (ws : List ℕ) → ws ≡ words-of xs st → Bounded xs st → Judgeable ws
+  judgeable ws w p =
+      let b = basics xs st (p .passed .passed .passed .passed) in
+      (subst Passed8 (sym w) (passed-8 xs st p h), b .node-length, b .rule-length, within xs st b h)
