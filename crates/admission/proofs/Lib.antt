@@ -7,3 +7,4 @@ pub mod Marking
 pub mod Judging
 pub mod Answering
 pub mod Stages
+pub mod HeaderPlaces

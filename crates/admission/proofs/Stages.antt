@@ -3,16 +3,20 @@
 use Prim.Native.Nat.{ℕ, _+_, _≤_, _<_}
 use mathlib.Core.Path.{_≡_, refl, sym, ap, subst, _∙_}
 use mathlib.Core.Logic.{_⊎_, inl, inr}
-use mathlib.Core.Bool.{Bool}
+use mathlib.Core.Bool.{true, false}
 use mathlib.Core.List.{List}
 use native.Mathlib.Omega.{arith}
+use borrow.Author.Tests.{eq-eqb, ne-eqb}
+use lib.Dec.{eqb}
 use lib.ListN.{length, length-replicate, replicate}
 use Rattle.rules.specs.Reaching.{Found, Reaches, Acyclic}
 use Rattle.rules.specs.declared.Recursion.{Recursion}
 use Rattle.table.specs.Judged.{Passed8}
 use Rattle.parsing.specs.Store.{State, state, node-words, term-words, rule-words, nodes-of, terms-of, rules-of}
 use Rattle.parsing.specs.Form.{right, refused}
-use Rattle.syntax.specs.Rules.{form-of}
+use Rattle.parsing.specs.Cursors.{state-at}
+use Rattle.parsing.specs.declared.Cursor.{Cursor}
+use Rattle.syntax.specs.Rules.{form-of, outcome-of}
 use Rattle.shapes.proofs.Places.{refused-inside}
 use Rattle.naming.specs.Counting.{nowhere}
 use Rattle.naming.specs.Words.{named-at}
@@ -33,7 +37,13 @@ unfolding encoded
 encoded-length xs ns ts rs n r = simp written-length (length-replicate {A = ℕ} 16384 0)
 
 module _ (xs : List ℕ) (st : State) (h : length xs ≤ 8192) where
-  -- 4: the place of a refusal
+  -- 4: the form, and the place of a refusal
+  pub formed : (c : Cursor) (ns ts rs : List ℕ) → form xs ≡ outcome-of c ns ts rs → (c .code ≡ 0 → ⊥) → Right xs (state-at c ns ts rs)
+  formed c ns ts rs e z = record { formed = e ∙ let q : eqb (c .code) 0 ≡ false = ne-eqb (c .code) 0 z in rw (q, outcome-of) refl }
+
+  pub not-formed : (c : Cursor) (ns ts rs : List ℕ) → form xs ≡ outcome-of c ns ts rs → c .code ≡ 0 → form xs ≡ refused (c .start)
+  not-formed c ns ts rs e z = e ∙ let q : eqb (c .code) 0 ≡ true = eq-eqb (c .code) 0 z in rw (q, outcome-of) refl
+
   pub form-place : (p : ℕ) → form xs ≡ refused p → p ≤ 8192
   unfolding form-of
   form-place p e = omega (arith, refused-inside xs _ _ p e)
@@ -49,6 +59,18 @@ module _ (xs : List ℕ) (st : State) (h : length xs ≤ 8192) where
     pub place-6 : fault-6 xs st < nowhere → fault-6 xs st ≤ 8192
     place-6 l = some-spot (fault-6 xs st) (names-spot xs (node-words st) (term-words st) (rule-words st) (rules-of st) (within xs st b h) terms-placed) l
 
+    pub by-5 : (base : ℕ) → Right xs st → fault-5 st < nowhere → RulesRefused xs base 5 (base + fault-5 st)
+    by-5 base p l = by-limit p (λ z. omega (arith, z, l)) refl
+
+    pub by-6 : (base : ℕ) → Limited xs st → fault-6 xs st < nowhere → RulesRefused xs base 6 (base + fault-6 xs st)
+    by-6 base p l = by-name p (λ z. omega (arith, z, l)) refl
+
+  pub limited : Right xs st → (past : ℕ) → past ≡ fault-5 st → nowhere ≤ past → past ≤ nowhere → Limited xs st
+  limited p past e l m = record { passed = p; none = omega (arith, e, l, m) }
+
+  pub named : Limited xs st → (wrong : ℕ) → wrong ≡ fault-6 xs st → nowhere ≤ wrong → wrong ≤ nowhere → Named xs st
+  named p wrong e l m = record { passed = p; none = omega (arith, e, l, m) }
+
   -- 7: encoding
   abbrev pub Encodable : Type 0
   Encodable = (length (node-words st) ≡ 2560) × (length (term-words st) ≡ 4096) × (length (rule-words st) ≡ 325) × (nodes-of st ≤ 256) × (rules-of st ≤ 64) × (condition-start (node-words st) (nodes-of st) ≤ 1024)
@@ -61,6 +83,12 @@ module _ (xs : List ℕ) (st : State) (h : length xs ≤ 8192) where
 
   pub long-words : length (words-of xs st) ≡ 16384
   long-words = encoded-length xs (node-words st) (term-words st) (rule-words st) (nodes-of st) (rules-of st)
+
+  pub cyclic : (base : ℕ) (ws : List ℕ) → ws ≡ words-of xs st → (x : Recursion) (k : ℕ) → x ≡ Recursion.Rule k → Found ws x → Named xs st → RulesRefused xs base 7 (base + named-at (rule-words st) k)
+  cyclic base ws w x k e f p = let q : Found (words-of xs st) (Recursion.Rule k) = subst (λ (v : List ℕ). Found v (Recursion.Rule k)) w (subst (Found ws) e f) in by-cycle p (q .0) (q .1) refl
+
+  pub straight : (ws : List ℕ) → ws ≡ words-of xs st → (x : Recursion) → x ≡ Recursion.None → Found ws x → Named xs st → Straight xs st
+  straight ws w x e f p = record { passed = p; none = subst (λ (v : List ℕ). Found v Recursion.None) w (subst (Found ws) e f) }
 
   -- 8
   pub place-8 : Straight xs st → (p : ℕ) → fault-8 xs st ≡ places.Found.At p → p ≤ 8192

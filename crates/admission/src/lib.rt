@@ -8,11 +8,11 @@ use table::Judgement;
 use text::Heading;
 ghost use mathlib.Core.Path.{_≡_};
 ghost use Prim.Native.Nat.{ℕ, _+_, _≤_, _<_};
-ghost use lib.ListN.{length};
+ghost use lib.ListN.{length, drop};
 ghost use Rattle.table.specs.Judged.{Passed8};
 ghost use Rattle.parsing.specs.Cursors.{state-at};
-ghost use Rattle.naming.specs.Words.{node-word, place-of};
-ghost use Rattle.admission.specs.Admitted.{words-of, Named, Straight, AnsweredRules, Answers};
+ghost use Rattle.naming.specs.Words.{node-word, place-of, named-at};
+ghost use Rattle.admission.specs.Admitted.{words-of, Right, Named, Straight, AnsweredRules, Answers};
 ghost use Rattle.admission.specs.Late.{LaidFor, MarkFor, answer-for, Late, HandedOver, Within};
 
 pub mod copying;
@@ -57,6 +57,14 @@ fn refused(number: usize, base: usize, p: usize) -> Admission
         number,
         place: placed(base, p),
     }
+}
+
+// At a rule's name.
+fn refused_at(number: usize, base: usize, rules: &[usize], rule: usize) -> Admission
+    requires { ⌜ (length (now rules) ≡ 325) × (base ≤ 8192) × ((k : ℕ) → named-at (now rules) k ≤ 8192) ⌝ }
+    ensures { λ r. ⌜ r ≡ Admission.Refused number (base + named-at (now (rules .entry)) rule) ⌝ }
+{
+    refused(number, base, rule_word(rules, rule, 0))
 }
 
 fn conflict(nodes: &[usize], base: usize, construct: usize, clash: Clash) -> Admission
@@ -106,7 +114,7 @@ fn answer_for(
         Judgement::Oversized { construct: _ } => refused(0, 0, 0),
         Judgement::EmptyBody { construct: _ } => refused(9, base, mark),
         Judgement::Conflict { construct, clash } => conflict(nodes, base, construct, clash),
-        Judgement::Overweight => refused(11, base, rule_word(rules, 0, 0)),
+        Judgement::Overweight => refused_at(11, base, rules, 0),
         Judgement::Passes { weight } => Admission::Admitted { weight },
     }
 }
@@ -183,9 +191,33 @@ fn admit_read(
     let mut words = [0u32; 16384];
     encoding::areas::encode(text, nodes, terms, rules, c.nodes, c.rules, &mut words);
     match rules::recursive_rule(&words) {
-        Recursion::Rule(rule) => refused(7, base, rule_word(rules, rule, 0)),
+        Recursion::Rule(rule) => refused_at(7, base, rules, rule),
         Recursion::None => admit_words(text, nodes, terms, rules, c, base, &mut words, table),
     }
+}
+
+// 5 to 11, of what is read.
+fn admit_checked(
+    text: &[u8],
+    nodes: &[usize],
+    terms: &[usize],
+    rules: &[usize],
+    c: Cursor,
+    base: usize,
+    table: &mut [u32],
+) -> Admission
+    requires { ⌜ Right (now text) (state-at c (now nodes) (now terms) (now rules)) × (length (now text) ≤ 8192) × (base ≤ 8192) × (16384 ≤ length (now table)) ⌝ }
+    ensures { λ r. ⌜ AnsweredRules (now (text .entry)) base (now (table .entry)) (now (table .exit)) r ⌝ }
+{
+    let past = naming::limits::first_past(rules, c.rules);
+    if past < 18446744073709551615 {
+        return refused(5, base, past);
+    }
+    let wrong = naming::places::first_fault(text, nodes, terms, rules, c.rules);
+    if wrong < 18446744073709551615 {
+        return refused(6, base, wrong);
+    }
+    admit_read(text, nodes, terms, rules, c, base, table)
 }
 
 // 4 to 11, of the text that follows the empty line; `base` is its place in the whole text.
@@ -200,15 +232,15 @@ fn admit_rules(text: &[u8], base: usize, table: &mut [u32]) -> Admission
     if c.code == 0 {
         return refused(4, base, c.start);
     }
-    let past = naming::limits::first_past(&rules, c.rules);
-    if past < 18446744073709551615 {
-        return refused(5, base, past);
-    }
-    let wrong = naming::places::first_fault(text, &nodes, &terms, &rules, c.rules);
-    if wrong < 18446744073709551615 {
-        return refused(6, base, wrong);
-    }
-    admit_read(text, &nodes, &terms, &rules, c, base, table)
+    admit_checked(text, &nodes, &terms, &rules, c, base, table)
+}
+
+// The rules begin at `base`.
+fn admit_from(text: &[u8], base: usize, table: &mut [u32]) -> Admission
+    requires { ⌜ (base ≤ length (now text)) × (length (now text) ≤ 8192) × (16384 ≤ length (now table)) ⌝ }
+    ensures { λ r. ⌜ AnsweredRules (drop base (now (text .entry))) base (now (table .entry)) (now (table .exit)) r ⌝ }
+{
+    admit_rules(&text[base..], base, table)
 }
 
 // Any bytes as text, any words as table. Refused, no word of the table changes.
@@ -226,6 +258,6 @@ pub fn admit(text: &[u8], table: &mut [u32]) -> Admission
     }
     match text::header::header(text) {
         Heading::Wrong(place) => refused(3, 0, place),
-        Heading::Rules(base) => admit_rules(&text[base..], base, table),
+        Heading::Rules(base) => admit_from(text, base, table),
     }
 }
