@@ -76,11 +76,12 @@ module _ {xs ns ts rs : List ℕ} {n r : ℕ} {ws : List ℕ} (W : Words xs ns t
       in let w : word ws (5696 + 8 * i + k / 4) ≡ narrow (packed bytes (4 * (k / 4))) = W .literal-at i (k / 4) h q ∙ ap narrow e
       in rw w (byte-packed bytes small (4 * (k / 4)) (k % 4) (omega arith) ∙ ap (λ (p : ℕ). getD bytes p 0) z)
 
+  -- byte k of a literal is its character k
+  pub byte-is : (i k : ℕ) → i < n → k < 32 → kind-of ns i ≡ 6 → literal-byte ws i k ≡ getD (characters-at xs (place-of ns i)) k 0
+  byte-is i k h l e = byte-of i k h l (characters-at xs (place-of ns i)) (characters-small i h e .1) (literal-at-six xs ns i (k / 4) e (omega arith))
+
   literal-laid : (i k : ℕ) → i < n → k < 32 → kind-of ns i ≡ 6 → byte-laid ws i (literal-length (constructAt ws i)) k ≡ true
-  literal-laid i k h l e =
-      let c : List ℕ = characters-at xs (place-of ns i)
-      in let s : (k : ℕ) → getD c k 0 < 128 = characters-small i h e .1
-      in rw (K i h, length-six xs ns rs r i e) (byte-tested c s (literal-byte ws i k) k (byte-of i k h l c s (literal-at-six xs ns i (k / 4) e (omega arith))))
+  literal-laid i k h l e = rw (K i h, length-six xs ns rs r i e) (byte-tested (characters-at xs (place-of ns i)) (characters-small i h e .1) (literal-byte ws i k) k (byte-is i k h l e))
 
   other-laid : (i k : ℕ) → i < n → k < 32 → eqb (kind-of ns i) 6 ≡ false → byte-laid ws i (literal-length (constructAt ws i)) k ≡ true
   other-laid i k h l e =

@@ -51,13 +51,13 @@ literal-at (chain-tree x w a b c) z = absurd (⊎-elim (λ k. omega (arith, x .k
 literal-at (switch-tree x a b) z = absurd (omega (arith, x .kind-is, z))
 
 module _ {xs ns ts rs : List ℕ} {n t b r : ℕ} (text : Readable xs ns ts rs n t b r) (stored : Stored xs ns ts) (places : Placed (length xs) ns ts rs) where
-  few-binders : binders-before ns n ≤ 64
+  pub few-binders : binders-before ns n ≤ 64
   few-binders = omega (arith, binders-total text, text .binders-limit)
 
-  quiet : Quiet ns n
+  pub quiet : Quiet ns n
   quiet = quiet-of stored (text .nodes-limit)
 
-  few-terms : condition-start ns n ≤ 1024
+  pub few-terms : condition-start ns n ≤ 1024
   few-terms = omega (arith, terms-total text quiet, text .terms-limit)
 
   pub words-by-place : Words xs ns ts rs n r (encoded xs ns ts rs n r)
@@ -66,14 +66,17 @@ module _ {xs ns ts rs : List ℕ} {n t b r : ℕ} (text : Readable xs ns ts rs n
   pub constructs-known : Known xs ns rs n r (encoded xs ns ts rs n r)
   constructs-known = known text words-by-place quiet
 
-  term-placed : (k : ℕ) → k < t → is-use (term-word ts k 0) ≡ true → term-word ts k 2 < nowhere
+  pub term-placed : (k : ℕ) → k < t → is-use (term-word ts k 0) ≡ true → term-word ts k 2 < nowhere
   term-placed k h u = omega (arith, places .terms k (omega (arith, text .terms-limit)) .0, text .short)
 
   formed : Formed ns n (encoded xs ns ts rs n r)
   formed = lists-formed words-by-place (nodes text) text few-binders few-terms term-placed
 
+  pub literal-small : (i : ℕ) → i < n → kind-of ns i ≡ 6 → (length (characters-at xs (place-of ns i)) ≤ 32) × ((k : ℕ) → getD (characters-at xs (place-of ns i)) k 0 < 128)
+  literal-small i h z = (literal-at (nodes text .trees i h .holds) z .1, λ k. character-small xs (place-of ns i) k)
+
   bytes : BytesLaid n (encoded xs ns ts rs n r)
-  bytes = bytes-laid words-by-place constructs-known (λ i h z. (literal-at (nodes text .trees i h .holds) z .1, λ k. character-small xs (place-of ns i) k))
+  bytes = bytes-laid words-by-place constructs-known literal-small
 
   named-back : NamedBack ns n (encoded xs ns ts rs n r)
   named-back = named-back-in words-by-place constructs-known (nodes text) text few-binders

@@ -18,8 +18,7 @@ use Rattle.terms.specs.declared.Operation.{Operation}
 use Rattle.terms.specs.declared.Term.{Term}
 use Rattle.trees.specs.Trees.{Calculation, literal, use-of, plus, minus, times, opposite, ValueSet, everything, only, between, from, upTo, either, without, Condition, compare, both, any, Repeats, exact, on-from, up-to, spanning}
 use Rattle.trees.specs.Postfix.{lastSign, before, calculationTerms, setTerms, conditionTerms, repeatTerms}
-use Rattle.shapes.specs.TermShapes.{is-use}
-use Rattle.shapes.proofs.ShapeLaws.{rename-operation, rename-term}
+use Rattle.shapes.specs.TermShapes.{is-use, rename-operation, rename-term}
 use Rattle.form.proofs.Decoded.{picked}
 use Rattle.encoding.specs.Lists.{narrow}
 use Rattle.laying.proofs.Tests.{or-cases, or-first, or-second}

@@ -13,8 +13,7 @@ use Rattle.terms.specs.Words.{termOf, termAt, termsFrom, terms}
 use Rattle.terms.specs.declared.Term.{Term}
 use Rattle.layout.specs.Places.{word}
 use Rattle.layout.specs.Held
-use Rattle.shapes.specs.TermShapes.{read-term, read-terms}
-use Rattle.shapes.proofs.ShapeLaws.{rename-term}
+use Rattle.shapes.specs.TermShapes.{read-term, read-terms, rename-term}
 use Rattle.naming.specs.Words.{term-word, is-use}
 use Rattle.encoding.specs.Lists.{narrow}
 use Rattle.encoding.specs.Numbers.{variable-of}
@@ -73,13 +72,21 @@ terms-renamed T ts g (suc n) s f h =
     (λ m l. ap (termAt T) (let w : s + 1 + m ≡ s + suc m = omega arith in w) ∙ h (suc m) (omega arith) ∙ ap (λ (q : ℕ). rename-term g (read-term ts q)) (let w : f + suc m ≡ f + 1 + m = omega arith in w)))
 
 module _ {xs ns ts ws : List ℕ} {a i s f n : ℕ} (l : Listed xs ns ts ws a i s f n) where
+  -- under any numbers that are the variables' own below 64
+  module _ (g : ℕ → ℕ) (same : (p : ℕ) → variable-of xs ns a i p < 64 → variable-of xs ns a i p ≡ g p) where
+    pub term-named : (m : ℕ) → m < n → KnownTerm (read-term ts (f + m)) → termAt (Held.term-words ws) (s + m) ≡ rename-term g (read-term ts (f + m))
+    term-named m h k =
+        table-term ws (l .many) (s + m) (omega (arith, l .fits))
+        ∙ rw (l .at m 0 h (omega arith), l .at m 1 h (omega arith), l .at m 2 h (omega arith), ← read-by-words ts (f + m))
+        (term-back g (is-use (term-word ts (f + m) 0)) (term-word ts (f + m) 0) (term-word ts (f + m) 1) (term-word ts (f + m) 2) (variable-of xs ns a i (term-word ts (f + m) 2)) refl (rw (read-by-words ts (f + m)) k) (l .numbers m h) (λ e. (same (term-word ts (f + m) 2) (l .small m h e), omega (arith, l .small m h e))))
+
+    pub terms-named : AllKnown (read-terms ts f n) → terms (Held.term-words ws) s (s + n) ≡ map (rename-term g) (read-terms ts f n)
+    terms-named k =
+        let z : s + n - s ≡ n = omega arith
+        in rw z (terms-renamed (Held.term-words ws) ts g n s f (λ m h. term-named m h (known-at ts n f m k h)))
+
   pub term-listed : (m : ℕ) → m < n → KnownTerm (read-term ts (f + m)) → termAt (Held.term-words ws) (s + m) ≡ rename-term (cut-variable xs ns a i) (read-term ts (f + m))
-  term-listed m h k =
-      table-term ws (l .many) (s + m) (omega (arith, l .fits))
-      ∙ rw (l .at m 0 h (omega arith), l .at m 1 h (omega arith), l .at m 2 h (omega arith), ← read-by-words ts (f + m))
-      (term-back (cut-variable xs ns a i) (is-use (term-word ts (f + m) 0)) (term-word ts (f + m) 0) (term-word ts (f + m) 1) (term-word ts (f + m) 2) (variable-of xs ns a i (term-word ts (f + m) 2)) refl (rw (read-by-words ts (f + m)) k) (l .numbers m h) (λ e. (omega (arith, l .small m h e), omega (arith, l .small m h e))))
+  term-listed = term-named (cut-variable xs ns a i) (λ p h. omega arith)
 
   pub terms-listed : AllKnown (read-terms ts f n) → terms (Held.term-words ws) s (s + n) ≡ map (rename-term (cut-variable xs ns a i)) (read-terms ts f n)
-  terms-listed k =
-      let z : s + n - s ≡ n = omega arith
-      in rw z (terms-renamed (Held.term-words ws) ts (cut-variable xs ns a i) n s f (λ m h. term-listed m h (known-at ts n f m k h)))
+  terms-listed = terms-named (cut-variable xs ns a i) (λ p h. omega arith)

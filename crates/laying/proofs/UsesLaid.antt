@@ -15,8 +15,7 @@ use Rattle.layout.specs.Places.{construct-word}
 use Rattle.form.specs.Lists
 use Rattle.form.specs.Rules.{visible, operation-named, term-named, list-named, construct-named, uses-laid}
 use Rattle.form.proofs.Decoded.{picked}
-use Rattle.shapes.specs.TermShapes.{SetShape, ConditionShape, CountsShape, read-terms}
-use Rattle.shapes.proofs.ShapeLaws.{rename-operation, rename-term}
+use Rattle.shapes.specs.TermShapes.{SetShape, ConditionShape, CountsShape, read-terms, rename-operation, rename-term}
 use Rattle.naming.specs.Counting.{nowhere}
 use Rattle.naming.specs.Words.{node-word, term-word, is-use, first-node, last-node}
 use Rattle.encoding.specs.Numbers.{first-at, binders-before, binder-of, variable-of, condition-length, own-length, condition-start, own-start}

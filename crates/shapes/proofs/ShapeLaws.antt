@@ -9,7 +9,7 @@ use Rattle.terms.specs.declared.Operation.{Operation}
 use Rattle.terms.specs.declared.Term.{Term}
 use Rattle.trees.specs.Trees.{Calculation, literal, use-of, plus, minus, times, opposite, ValueSet, everything, only, between, from, upTo, either, without, Condition, compare, both, any, Repeats, exact, on-from, up-to, spanning}
 use Rattle.trees.specs.Postfix.{lastSign, before, calculationTerms, setTerms, conditionTerms, repeatTerms}
-use Rattle.shapes.specs.TermShapes.{read-terms, renamed, renamed-set, renamed-condition, renamed-repeats, SetShape, ConditionShape, CountsShape}
+use Rattle.shapes.specs.TermShapes.{read-terms, rename-operation, rename-term, renamed, renamed-set, renamed-condition, renamed-repeats, SetShape, ConditionShape, CountsShape}
 use Rattle.shapes.proofs.Adding.{read-same}
 
 -- ---- the same words
@@ -32,28 +32,6 @@ module _ {ts us : List ℕ} {f e : ℕ} where
   counts-same s h = record { some = s .some; tree = s .tree; is = same-read ts us f e (s .some) h ∙ s .is; room = s .room }
 
 -- ---- other numbers for variables
-
-abbrev pub rename-operation : (ℕ → ℕ) → Operation → Operation
-rename-operation g (Operation.Number n) = Operation.Number n
-rename-operation g (Operation.Variable k) = Operation.Variable (g k)
-rename-operation g Operation.Add = Operation.Add
-rename-operation g Operation.Subtract = Operation.Subtract
-rename-operation g Operation.Multiply = Operation.Multiply
-rename-operation g Operation.Negate = Operation.Negate
-rename-operation g Operation.Unknown = Operation.Unknown
-
-abbrev pub rename-term : (ℕ → ℕ) → Term → Term
-rename-term g (Term.Part o) = Term.Part (rename-operation g o)
-rename-term g (Term.Single o) = Term.Single (rename-operation g o)
-rename-term g Term.All = Term.All
-rename-term g Term.Range = Term.Range
-rename-term g Term.From = Term.From
-rename-term g Term.UpTo = Term.UpTo
-rename-term g Term.Or = Term.Or
-rename-term g Term.Except = Term.Except
-rename-term g Term.And = Term.And
-rename-term g (Term.Compare k) = Term.Compare k
-rename-term g Term.Bad = Term.Bad
 
 module _ (g : ℕ → ℕ) where
   abbrev rename : List Term → List Term

@@ -8,6 +8,7 @@ use mathlib.Core.List.{List, [], _∷_}
 use lib.Dec.{eqb}
 use lib.ListN.{getD}
 use Rattle.terms.specs.Words.{termOf}
+use Rattle.terms.specs.declared.Operation.{Operation}
 use Rattle.terms.specs.declared.Term.{Term}
 use Rattle.trees.specs.Trees.{Calculation, literal, use-of, plus, minus, times, opposite, ValueSet, everything, only, between, from, upTo, either, without, Condition, compare, both, any, Repeats, exact, on-from, up-to, spanning}
 use Rattle.trees.specs.Postfix.{setTerms, conditionTerms, repeatTerms}
@@ -27,6 +28,28 @@ read-terms ts k zero = []
 read-terms ts k (suc n) = read-term ts k ∷ read-terms ts (k + 1) n
 
 -- ---- variables under other numbers
+
+abbrev pub rename-operation : (ℕ → ℕ) → Operation → Operation
+rename-operation g (Operation.Number n) = Operation.Number n
+rename-operation g (Operation.Variable k) = Operation.Variable (g k)
+rename-operation g Operation.Add = Operation.Add
+rename-operation g Operation.Subtract = Operation.Subtract
+rename-operation g Operation.Multiply = Operation.Multiply
+rename-operation g Operation.Negate = Operation.Negate
+rename-operation g Operation.Unknown = Operation.Unknown
+
+abbrev pub rename-term : (ℕ → ℕ) → Term → Term
+rename-term g (Term.Part o) = Term.Part (rename-operation g o)
+rename-term g (Term.Single o) = Term.Single (rename-operation g o)
+rename-term g Term.All = Term.All
+rename-term g Term.Range = Term.Range
+rename-term g Term.From = Term.From
+rename-term g Term.UpTo = Term.UpTo
+rename-term g Term.Or = Term.Or
+rename-term g Term.Except = Term.Except
+rename-term g Term.And = Term.And
+rename-term g (Term.Compare k) = Term.Compare k
+rename-term g Term.Bad = Term.Bad
 
 unfoldable pub renamed : (ℕ → ℕ) → Calculation → Calculation
 renamed g (literal n) = literal n
