@@ -61,9 +61,13 @@ GrantsRun table frame reading reading′ run run′ taken taken′ steps number 
     × (run′ ≡ encoded (runs.run-in (granted table frame reading run steps)))
     × (taken′ ≡ set taken 0 (runs.taken-of (runs.answer-in (granted table frame reading run steps))))
 
+-- a slice that is no saved run
+abbrev pub no-run-number : List ℕ → ℕ
+no-run-number frame = pick (ltb 256 (length frame)) 21 24
+
 abbrev pub GrantsNone : (frame reading reading′ run run′ taken taken′ : List ℕ) → (number : ℕ) → Type 0
 GrantsNone frame reading reading′ run run′ taken taken′ number =
-    (number ≡ pick (ltb 256 (length frame)) 21 24) × (reading′ ≡ reading) × (run′ ≡ run) × (taken′ ≡ set taken 0 0)
+    (number ≡ no-run-number frame) × (reading′ ≡ reading) × (run′ ≡ run) × (taken′ ≡ set taken 0 0)
 
 pub record Grants (table frame reading reading′ run run′ taken taken′ : List ℕ) (steps number : ℕ) : Type 0 where
   pub saved : length run ≡ saved-bytes → GrantsRun table frame reading reading′ run run′ taken taken′ steps number

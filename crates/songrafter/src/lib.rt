@@ -12,7 +12,7 @@ ghost use Rattle.admission.specs.Admitted.{number-of};
 ghost use Rattle.matcher.specs.Opening.{number-of as opening-number};
 ghost use Rattle.runs.specs.Runs.{number-of as grant-number, taken-of};
 ghost use Rattle.saved.specs.Saved.{restored};
-ghost use Rattle.songrafter.specs.Calls.{told-clash, told, Admits, number-with-room, Opens, Grants};
+ghost use Rattle.songrafter.specs.Calls.{told-clash, told, Admits, number-with-room, Opens, no-run-number, Grants};
 
 // A number of an answer, where it fits.
 fn put(answer: &mut [u64], k: usize, n: usize)
@@ -148,7 +148,9 @@ fn put_count(taken: &mut [u64], n: u64)
 }
 
 // A slice that is no saved run.
-fn no_run(frame: &[u8], taken: &mut [u64]) -> usize {
+fn no_run(frame: &[u8], taken: &mut [u64]) -> usize
+    ensures { λ r. ⌜ (r ≡ no-run-number (now (frame .entry))) × (now (taken .exit) ≡ set (now (taken .entry)) 0 0) ⌝ }
+{
     put_count(taken, 0);
     if 256 < frame.len() {
         return 21;
@@ -174,7 +176,8 @@ pub extern "C" fn songrafter_grant(
     let after = done.run;
     let answer = done.answer;
     saved::encode(after, run);
-    put_count(taken, steps_taken(answer));
+    let count = steps_taken(answer);
+    put_count(taken, count);
     grant_number(answer)
 }
 

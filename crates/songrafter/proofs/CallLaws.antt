@@ -1,0 +1,46 @@
+-- The calls' promises from those of the crates below.
+-- Assumes nothing.
+use Prim.Native.Nat.{ℕ, _≤_}
+use native.Mathlib.Omega.{arith}
+use mathlib.Core.Path.{_≡_, ap, _∙_}
+use mathlib.Core.Bool.{Bool, true, false}
+use mathlib.Core.List.{List, [], _∷_}
+use lib.Dec.{eqb}
+use lib.IntN.{pos}
+use lib.ListN.{length, getD, set, drop, length-replicate, List·getD-eq-default}
+use lib.Seq.{sets}
+use Rattle.layout.specs.Constructs.{pick}
+use Rattle.layout.specs.Places.{table-of}
+use Rattle.runs.specs.Runs.{After, after, grant-of, closed-run, run-in, reading-in, answer-in, number-of, taken-of}
+use Rattle.runs.specs.declared.Run.{Run}
+use Rattle.runs.specs.declared.Answer.{Answer}
+use Rattle.saved.specs.Saved.{whole, encoded, decoded, restored, stored}
+use Rattle.saved.proofs.Bytes.{numbers-length}
+use Rattle.saved.proofs.Saving.{restored-is, stored-is}
+use Rattle.songrafter.specs.Calls.{granted, Grants}
+
+-- five stores, one after the other
+pub five-stores : (l l₀ l₁ l₂ l₃ l₄ : List ℕ) (a b c d e : ℕ) → l₀ ≡ set l 0 a → l₁ ≡ set l₀ 1 b → l₂ ≡ set l₁ 2 c → l₃ ≡ set l₂ 3 d → l₄ ≡ set l₃ 4 e → l₄ ≡ sets l 0 (a ∷ b ∷ c ∷ d ∷ e ∷ [])
+five-stores l l₀ l₁ l₂ l₃ l₄ a b c d e p₀ p₁ p₂ p₃ p₄ =
+    p₄ ∙ ap (λ (x : List ℕ). set x 4 e) (p₃ ∙ ap (λ (x : List ℕ). set x 3 d) (p₂ ∙ ap (λ (x : List ℕ). set x 2 c) (p₁ ∙ ap (λ (x : List ℕ). set x 1 b) p₀)))
+
+-- a grant on a saved run: decoded, advanced, encoded, and the count of the steps taken put down
+pub grants-run : (table frame reading reading′ run run′ taken taken′ : List ℕ) (steps number count : ℕ) (r d : Run) (a : Answer)
+    → length run ≡ 2596 → r ≡ restored run → after d reading′ a ≡ grant-of (table-of table) frame reading r steps → run′ ≡ stored d run
+    → count ≡ taken-of a → taken′ ≡ set taken 0 count → number ≡ number-of a
+    → Grants table frame reading reading′ run run′ taken taken′ steps number
+grants-run table frame reading reading′ run run′ taken taken′ steps number count r d a full read grant wrote counted put answered =
+    let g : after d reading′ a ≡ granted table frame reading run steps = grant ∙ ap (λ (x : Run). grant-of (table-of table) frame reading x steps) (read ∙ restored-is run full) in
+    record {
+      saved = λ h. (answered ∙ ap (λ (x : After). number-of (answer-in x)) g, ap reading-in g, (wrote ∙ stored-is d run full) ∙ ap (λ (x : After). encoded (run-in x)) g, put ∙ ap (set taken 0) (counted ∙ ap (λ (x : After). taken-of (answer-in x)) g));
+      other = λ h. absurd (h full);
+    }
+
+-- a run has 64 values, whatever the bytes
+values-of : (bs : List ℕ) (b : Bool) → length (pick b (decoded bs) closed-run .values) ≡ 64
+unfolding decoded
+values-of bs true = numbers-length whole 8 64 (drop 32 bs)
+values-of bs false = length-replicate 64 (pos 0)
+
+pub values-end : (bs : List ℕ) (k : ℕ) → 64 ≤ k → getD (restored bs .values) k (pos 0) ≡ pos 0
+values-end bs k h = List·getD-eq-default (restored bs .values) (pos 0) (omega (arith, values-of bs (eqb (length bs) 2596)))

@@ -1,0 +1,30 @@
+use mathlib.Core.Path.{sym}
+use lib.Seq.{set-out}
+use borrow.Author.Needs.{needs}
+use Rattle.songrafter.proofs.put.Statement.{statement}
+use Rattle.songrafter.proofs.put.Tie as tie
+use Rattle.songrafter.proofs.put.Reads as reads
+use Rattle.songrafter.proofs.put.Lts as lts
+
+-- src/lib.rt:22:9
+mul-answer : tie.Need-mul-answer
+mul-answer c = search needs
+
+-- src/lib.rt:22:9
+slice-write-answer : tie.Need-slice-write-answer
+slice-write-answer c = search needs
+
+-- src/lib.rt:18:1
+same-length : tie.Need-same-length
+same-length c = search needs
+
+-- src/lib.rt:18:1
+returns : tie.Need-returns
+returns c = search needs
+
+-- src/lib.rt:18:1
+returns-2 : tie.Need-returns-2
+returns-2 c = sym (set-out (c .before .args .answer .now) (c .before .args .k) (c .before .args .n) (c .if1 .left))
+
+pub put-spec : {M : Type 1} → statement M
+put-spec = tie.close (tie.spec mul-answer slice-write-answer same-length returns returns-2)

@@ -1,0 +1,117 @@
+// How long the calls take, beside the reference. Times and ratios are printed and never fail the test.
+use crate::calls::{self, RUN_BYTES, TABLE_WORDS};
+use crate::guarded::Guarded;
+use crate::vectors::grammars;
+use reference::grammar::admit;
+use reference::matcher;
+use reference::random::Random;
+use std::hint::black_box;
+use std::path::Path;
+use std::time::Instant;
+
+// Grammars whose frames are 128 to 256 bytes long.
+const LONG: [(&str, &str); 3] = [
+    ("bytes after a length", "dogma_v1 utf-8\n\nframe = uint(8, var(len, ~)) & uint(8, ~){len};"),
+    ("records by tag", "dogma_v1 utf-8\n\nframe = record* & \"END\"; record = number | name; number = uint(8, 1) & uint(16, ~); name = uint(8, 2) & uint(8, var(n, 1~9)) & 'a'~'z'{n};"),
+    ("nibbles by choice", "dogma_v1 utf-8\n\nframe = (low | high)*; low = uint(4, 0~7) & uint(4, ~); high = uint(4, 8~15) & uint(4, 0~9);"),
+];
+
+pub fn report(folder: &Path) {
+    admission(folder);
+    for (name, text) in LONG {
+        matching(name, text.as_bytes());
+    }
+    largest();
+}
+
+fn seconds(mut turn: impl FnMut()) -> f64 {
+    let start = Instant::now();
+    turn();
+    start.elapsed().as_secs_f64()
+}
+
+// What is worked out is not left out.
+fn keep<T>(value: T) {
+    black_box(value);
+}
+
+fn admission(folder: &Path) {
+    let texts: Vec<Vec<u8>> = grammars(&folder.join("base")).iter().map(|path| std::fs::read(path).expect("a text")).collect();
+    let lent: Vec<Guarded<u8>> = texts.iter().map(|text| Guarded::new(text)).collect();
+    let mut table = Guarded::new(&[0; TABLE_WORDS]);
+    let library = seconds(|| lent.iter().for_each(|text| keep(calls::admit(text, &mut table))));
+    let reference = seconds(|| texts.iter().for_each(|text| keep(admit(text))));
+    let slowest = lent.iter().map(|text| seconds(|| keep(calls::admit(text, &mut table)))).fold(0.0, f64::max);
+    println!(
+        "library: admission {:.1} microseconds a text, slowest {:.2} ms (reference {:.1}, ratio {:.2})",
+        library * 1e6 / texts.len() as f64, slowest * 1e3, reference * 1e6 / texts.len() as f64, library / reference
+    );
+}
+
+// 10,000 frames by the library, in one grant each, and by the recursive matcher.
+fn matching(name: &str, text: &[u8]) {
+    let grammar = admit(text).expect("an admitted grammar");
+    let mut table = Guarded::new(&[0; TABLE_WORDS]);
+    assert_eq!(calls::admit(&Guarded::new(text), &mut table).number, 0);
+    let mut random = Random::new(1);
+    let frames: Vec<Vec<u8>> = (0..10_000).map(|_| frame(name, &mut random)).collect();
+    let mut reading = Guarded::new(&[0; 4096]);
+    let mut run = Guarded::new(&[0; RUN_BYTES]);
+    let lent: Vec<Guarded<u8>> = frames.iter().take(500).map(|frame| Guarded::new(frame)).collect();
+    let mut opened = run.values().to_vec();
+    let opening = seconds(|| lent.iter().for_each(|frame| keep(calls::open(&table, frame, &reading, &mut run))));
+    opened.copy_from_slice(run.values());
+    let mut steps = 0;
+    let library = seconds(|| {
+        for frame in &lent {
+            run.values_mut().copy_from_slice(&opened);
+            let (_, taken) = calls::grant(&table, frame, &mut reading, &mut run, u64::MAX);
+            steps += taken;
+        }
+    });
+    let mut expected = 0;
+    let reference = seconds(|| frames.iter().take(500).for_each(|frame| expected += black_box(matcher::run(&grammar, frame, u64::MAX)).steps));
+    assert_eq!(steps, expected, "steps of {name}");
+    println!(
+        "library: {name}: {:.1} ns a step, opening {:.0} microseconds (recursive matcher {:.1} ns a step, ratio {:.2})",
+        library * 1e9 / steps as f64, opening * 1e6 / lent.len() as f64, reference * 1e9 / steps as f64, library / reference
+    );
+}
+
+fn frame(name: &str, random: &mut Random) -> Vec<u8> {
+    let length = 128 + random.index(112);
+    match name {
+        "bytes after a length" => std::iter::once(length as u8).chain((0..length).map(|_| random.next() as u8)).collect(),
+        "nibbles by choice" => (0..length).map(|_| [random.below(128) as u8, (8 + random.below(8) as u8) << 4 | random.below(10) as u8][random.index(2)]).collect(),
+        _ => {
+            let mut bytes = Vec::new();
+            while bytes.len() < length {
+                if random.once_in(2) {
+                    bytes.extend([1, random.next() as u8, random.next() as u8]);
+                } else {
+                    let n = 1 + random.below(9) as u8;
+                    bytes.extend([2, n]);
+                    bytes.extend((0..n).map(|_| b'a' + random.below(26) as u8));
+                }
+            }
+            bytes.extend(b"END");
+            bytes
+        }
+    }
+}
+
+// The largest texts: most constructs, most terms, deepest.
+fn largest() {
+    let constructs = format!("dogma_v1 utf-8\n\na = {};", (0..255).map(|i| format!("uint(8,{i})")).collect::<Vec<_>>().join("|"));
+    let terms = format!("dogma_v1 utf-8\n\na = uint(32, {});", (0..512).map(|i| format!("{}", i * 3)).collect::<Vec<_>>().join("|"));
+    let deep = format!("dogma_v1 utf-8\n\na = {}\"x\"{};", "(".repeat(16), "?)".repeat(16));
+    let names = format!("dogma_v1 utf-8\n\na = uint(8, var(n, ~)) & {};", (0..250).map(|_| "uint(8, n)").collect::<Vec<_>>().join("&"));
+    let long = format!("dogma_v1 utf-8\n\n{}", "# comment\n".repeat(800));
+    for (name, text) in [("255 branches", constructs), ("512 items", terms), ("16 deep", deep), ("250 uses", names), ("8,000 bytes of comments", long)] {
+        let lent = Guarded::new(&text.as_bytes()[..text.len().min(8192)]);
+        let mut table = Guarded::new(&[0; TABLE_WORDS]);
+        let mut number = 0;
+        let time = seconds(|| number = calls::admit(&lent, &mut table).number);
+        println!("library: {name}, {} bytes: answered {number} in {:.2} ms", lent.length, time * 1e3);
+    }
+}

@@ -1,0 +1,26 @@
+// Compares the compiled library with the reference implementation: `library vectors FOLDER`, `library compare SEED TEXTS` (random and damaged
+// texts, frames and grants), `library forged SEED RUNS` (forged tables and runs), `library bench FOLDER`. Every array that the library is lent ends
+// where a page begins that nobody may touch, so that a read or write past it ends the program.
+mod bench;
+mod calls;
+mod compare;
+mod forged;
+mod guarded;
+mod vectors;
+
+use std::path::Path;
+
+fn main() {
+    let arguments: Vec<String> = std::env::args().skip(1).collect();
+    match arguments.iter().map(String::as_str).collect::<Vec<_>>()[..] {
+        ["vectors", folder] => println!("library: {} texts as the vectors say", vectors::check(Path::new(folder))),
+        ["compare", seed, texts] => compare::report(number(seed), number(texts)),
+        ["forged", seed, runs] => forged::report(number(seed), number(runs)),
+        ["bench", folder] => bench::report(Path::new(folder)),
+        _ => panic!("use: library vectors FOLDER | compare SEED TEXTS | forged SEED RUNS | bench FOLDER"),
+    }
+}
+
+fn number(text: &str) -> u64 {
+    text.parse().expect("a number")
+}
