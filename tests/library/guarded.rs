@@ -18,6 +18,9 @@ pub struct Guarded<T> {
     pub length: usize,
 }
 
+// It is owned memory like a vector's.
+unsafe impl<T: Send> Send for Guarded<T> {}
+
 impl<T: Copy> Guarded<T> {
     pub fn new(values: &[T]) -> Guarded<T> {
         let bytes = std::mem::size_of_val(values);

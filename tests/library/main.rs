@@ -1,11 +1,12 @@
 // Compares the compiled library with the reference implementation: `library vectors FOLDER`, `library compare SEED TEXTS` (random and damaged
-// texts, frames and grants), `library forged SEED RUNS` (forged tables and runs), `library bench FOLDER`. Every array that the library is lent ends
+// texts, frames and grants), `library forged SEED RUNS` (forged tables and runs), `library bench FOLDER`, `library stack`. Every array that the library is lent ends
 // where a page begins that nobody may touch, so that a read or write past it ends the program.
 mod bench;
 mod calls;
 mod compare;
 mod forged;
 mod guarded;
+mod stack;
 mod vectors;
 
 use std::path::Path;
@@ -17,7 +18,9 @@ fn main() {
         ["compare", seed, texts] => compare::report(number(seed), number(texts)),
         ["forged", seed, runs] => forged::report(number(seed), number(runs)),
         ["bench", folder] => bench::report(Path::new(folder)),
-        _ => panic!("use: library vectors FOLDER | compare SEED TEXTS | forged SEED RUNS | bench FOLDER"),
+        ["stack"] => stack::report(),
+        ["probe", call, kb] => stack::probe(call, number(kb) as usize),
+        _ => panic!("use: library vectors FOLDER | compare SEED TEXTS | forged SEED RUNS | bench FOLDER | stack"),
     }
 }
 
