@@ -72,10 +72,11 @@ size_t songrafter_admit(const uint8_t *text, size_t text_len, uint32_t *table, s
 size_t songrafter_open(const uint32_t *table, size_t table_len, const uint8_t *frame, size_t frame_len,
                        const uint32_t *reading, size_t reading_len, uint8_t *run, size_t run_len);
 
-/* Grants steps to a run. Answers 0, or 21 or 24, and then nothing changes. The run, its reading (two words for
- * each field: construct, first bit) and, where `taken_len` is not 0, the count of the steps taken in taken[0] are
- * written. A run that is decided, closed or broken takes none. Keep table, frame and run as they are between two
- * grants; other ones are answered all the same, and at worst the run ends as broken. */
+/* Grants steps to a run. Answers 0, or 21 or 24, and then neither the run nor its reading changes. The run, its
+ * reading (two words for each field: construct, first bit) and, where `taken_len` is not 0, the count of the steps
+ * taken in taken[0], 0 where the grant is refused, are written. A run that is decided, closed or broken takes none.
+ * Keep table, frame and run as they are between two grants; other ones are answered all the same, and at worst the
+ * run ends as broken. */
 size_t songrafter_grant(const uint32_t *table, size_t table_len, const uint8_t *frame, size_t frame_len,
                         uint32_t *reading, size_t reading_len, uint8_t *run, size_t run_len, uint64_t steps,
                         uint64_t *taken, size_t taken_len);

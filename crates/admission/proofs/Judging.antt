@@ -25,7 +25,7 @@ use Rattle.admission.specs.declared.Admission.{Admission}
 use Rattle.admission.proofs.Facts.{Facts, facts}
 use Rattle.admission.proofs.Extending.{numbers-right, widths-right, sizes-right}
 
-readable : (xs ns ts rs : List ℕ) (n t b r : ℕ) → Bounded xs (state ns ts rs n t b r) → Facts xs (state ns ts rs n t b r) → length xs ≤ 8192 → Readable xs ns ts rs n t b r
+pub readable : (xs ns ts rs : List ℕ) (n t b r : ℕ) → Bounded xs (state ns ts rs n t b r) → Facts xs (state ns ts rs n t b r) → length xs ≤ 8192 → Readable xs ns ts rs n t b r
 readable xs ns ts rs n t b r p f h =
     record {
       rules = f .shape .rules;

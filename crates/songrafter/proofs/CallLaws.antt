@@ -11,9 +11,10 @@ use lib.ListN.{length, getD, set, drop, length-replicate, List·getD-eq-default}
 use lib.Seq.{sets}
 use Rattle.layout.specs.Constructs.{pick}
 use Rattle.layout.specs.Places.{table-of}
-use Rattle.runs.specs.Runs.{After, after, grant-of, closed-run, run-in, reading-in, answer-in, number-of, taken-of}
+use Rattle.runs.specs.Runs.{After, after, grant-of, closed-run, run-in, reading-in, answer-in, number-of, taken-of, refusal-of}
 use Rattle.runs.specs.declared.Run.{Run}
 use Rattle.runs.specs.declared.Answer.{Answer}
+use Rattle.runs.proofs.Grants.{Unchanged, refusal-told, refused}
 use Rattle.saved.specs.Saved.{whole, encoded, decoded, restored, stored}
 use Rattle.saved.proofs.Bytes.{numbers-length}
 use Rattle.saved.proofs.Saving.{restored-is, stored-is}
@@ -26,14 +27,17 @@ five-stores l l₀ l₁ l₂ l₃ l₄ a b c d e p₀ p₁ p₂ p₃ p₄ =
 
 -- a grant on a saved run: decoded, advanced, encoded, and the count of the steps taken put down
 pub grants-run : (table frame reading reading′ run run′ taken taken′ : List ℕ) (steps number count : ℕ) (r d : Run) (a : Answer)
-    → length run ≡ 2596 → r ≡ restored run → after d reading′ a ≡ grant-of (table-of table) frame reading r steps → run′ ≡ stored d run
+    → length run ≡ 2596 → r ≡ restored run → encoded r ≡ run → after d reading′ a ≡ grant-of (table-of table) frame reading r steps → run′ ≡ stored d run
     → count ≡ taken-of a → taken′ ≡ set taken 0 count → number ≡ number-of a
     → Grants table frame reading reading′ run run′ taken taken′ steps number
-grants-run table frame reading reading′ run run′ taken taken′ steps number count r d a full read grant wrote counted put answered =
+grants-run table frame reading reading′ run run′ taken taken′ steps number count r d a full read whole-read grant wrote counted put answered =
+    let told : number ≡ refusal-of (table-of table) frame reading r = answered ∙ (ap (λ (x : After). number-of (answer-in x)) grant ∙ refusal-told (table-of table) frame reading r steps) in
+    let same : (refusal-of (table-of table) frame reading r ≡ 0 → ⊥) → Unchanged r reading (grant-of (table-of table) frame reading r steps) = refused (table-of table) frame reading r steps in
     let g : after d reading′ a ≡ granted table frame reading run steps = grant ∙ ap (λ (x : Run). grant-of (table-of table) frame reading x steps) (read ∙ restored-is run full) in
     record {
       saved = λ h. (answered ∙ ap (λ (x : After). number-of (answer-in x)) g, ap reading-in g, (wrote ∙ stored-is d run full) ∙ ap (λ (x : After). encoded (run-in x)) g, put ∙ ap (set taken 0) (counted ∙ ap (λ (x : After). taken-of (answer-in x)) g));
       other = λ h. absurd (h full);
+      refused = λ h. let u = same (λ z. h (told ∙ z)) in (ap reading-in grant ∙ u .1, wrote ∙ (stored-is d run full ∙ (ap encoded (ap run-in grant ∙ u .0) ∙ whole-read)));
     }
 
 -- a run has 64 values, whatever the bytes

@@ -1,1 +1,2 @@
+-- Laws of the calls.
 pub mod CallLaws

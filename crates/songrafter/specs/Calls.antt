@@ -49,7 +49,8 @@ pub record Opens (table frame reading run run′ : List ℕ) (number : ℕ) : Ty
   pub number-is : number ≡ number-with-room (opening.number-of answer) (length run)
   pub run-is : run′ ≡ pick (eqb (length run) saved-bytes) (encoded (opening.run-given answer)) run
 
--- ---- granting: 21, then 24, also where the slice is not a saved run's; then nothing changes. The count of the steps taken is written where it fits
+-- ---- granting: 21, then 24, also where the slice is not a saved run's; then neither run nor reading changes, byte by byte. The count of the
+-- steps taken is written where it fits
 
 abbrev pub granted : (table frame reading run : List ℕ) → ℕ → runs.After
 granted table frame reading run steps = runs.grant-of (table-of table) frame reading (decoded run) steps
@@ -72,3 +73,4 @@ GrantsNone frame reading reading′ run run′ taken taken′ number =
 pub record Grants (table frame reading reading′ run run′ taken taken′ : List ℕ) (steps number : ℕ) : Type 0 where
   pub saved : length run ≡ saved-bytes → GrantsRun table frame reading reading′ run run′ taken taken′ steps number
   pub other : (length run ≡ saved-bytes → ⊥) → GrantsNone frame reading reading′ run run′ taken taken′ number
+  pub refused : (number ≡ 0 → ⊥) → (reading′ ≡ reading) × (run′ ≡ run)

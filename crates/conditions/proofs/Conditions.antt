@@ -1,0 +1,37 @@
+-- Conditions 2 and 3, from `matcher`'s of the table: its grammar is the text's, and its weight is the admitted one.
+-- Assumes nothing.
+use Prim.Native.Nat.{ℕ, _+_, _*_, _≤_}
+use mathlib.Core.Path.{_≡_, subst}
+use mathlib.Core.List.{List}
+use Rattle.theory.specs.Grammar.{Grammar}
+use Rattle.layout.specs.Places.{table-of, weight-of}
+use Rattle.layout.specs.Held.{Values}
+use Rattle.acts.specs.Acts.{bits-of}
+use Rattle.matcher.specs.Opening.{Opened}
+use Rattle.matcher.specs.Conditions.{Grant, OthersRefused, start, grammar-of}
+use Rattle.matcher.proofs.Conditions.{condition-2 as table-condition-2, condition-3 as table-condition-3}
+use Rattle.conditions.specs.Conditions.{Exact, Claim, Condition2, Condition3}
+use Rattle.conditions.proofs.Tables.{text-table, same-grammar}
+
+module _ (ws fs rs : List ℕ) (o : Opened ws fs rs) where
+  exact : (gs : List Grant) → OthersRefused ws fs gs (start rs) → Exact (grammar-of ws) ws fs rs gs
+  exact gs a = let e = table-condition-2 ws fs rs o gs a in record { match-iff = e .match-iff; no-match-iff = e .no-match-iff; fields = e .fields }
+
+  claim : (weight : ℕ) → weight-of (table-of ws) ≡ weight → Claim (grammar-of ws) weight ws fs rs
+  claim weight e =
+      let c = table-condition-3 ws fs rs o in
+      record {
+        once = c .once;
+        needed = c .needed;
+        within-bound = subst (λ (k : ℕ). c .needed ≤ k * (bits-of fs + 1)) e (c .within-bound);
+        granting = c .granting;
+      }
+
+pub condition-2 : Condition2
+condition-2 text old table weight a x fs rs o gs r =
+    subst (λ (g : Grammar (Unit {0}) Values). Exact g table fs rs gs) (same-grammar text old table weight a x) (exact table fs rs o gs r)
+
+pub condition-3 : Condition3
+condition-3 text old table weight a x fs rs o =
+    subst (λ (g : Grammar (Unit {0}) Values). Claim g weight table fs rs) (same-grammar text old table weight a x)
+    (claim table fs rs o weight (text-table text old table weight a .weight-stored))

@@ -1,0 +1,116 @@
+-- The table of an admitted text: it holds the grammar that the text means, and its weight.
+-- Assumes nothing.
+use Prim.Native.Nat.{ℕ, _≤_}
+use mathlib.Core.Path.{_≡_, refl, sym, ap, ap₂, subst, _∙_}
+use mathlib.Core.List.{List}
+use native.Mathlib.Omega.{arith}
+use lib.ListN.{length, drop, length-drop}
+use Rattle.theory.specs.Grammar.{Node, alternative, concatenation, repetition, switch, use-of, field, eod, Grammar}
+use Rattle.theory.specs.Scope.{Scope, local-node, localised}
+use Rattle.theory.specs.Weight.{Weighs}
+use Rattle.layout.specs.Places.{table-of, weight-of}
+use Rattle.layout.specs.Held.{Values, held, opening}
+use Rattle.scoping.specs.Scope.{scope-of, fresh}
+use Rattle.weights.proofs.Heights.{weight-at}
+use Rattle.soundness.proofs.HeldLocal.{held-local}
+use Rattle.soundness.proofs.Reliability.{weighed}
+use Rattle.text.specs.Header.{header-of}
+use Rattle.text.specs.declared.Heading.{Heading}
+use Rattle.parsing.specs.Store.{State, state}
+use Rattle.parsing.specs.Form.{Outcome, right, refused}
+use Rattle.admission.specs.Admitted.{form, words-of, Bounded, Headed, RulesPass, Answers, refused-early, by-rules}
+use Rattle.admission.specs.declared.Admission.{Admission}
+use Rattle.admission.proofs.Facts.{facts}
+use Rattle.admission.proofs.Judging.{readable}
+use Rattle.meaning.proofs.Holding.{holds-text}
+use Rattle.matcher.specs.Conditions.{grammar-of}
+use Rattle.conditions.specs.Texts.{Reading, meant, each-use, text-grammar, Admissible}
+use Rattle.conditions.specs.Conditions.{TextTable, Tables}
+
+-- ---- a text has one reading
+
+abbrev base-in : Heading → ℕ
+base-in (Heading.Rules base) = base
+base-in (Heading.Wrong place) = 0
+
+abbrev state-in : State → Outcome → State
+state-in d (right st) = st
+state-in d (refused p) = d
+
+pub one-state : (o : Outcome) (st st′ : State) → o ≡ right st → o ≡ right st′ → st ≡ st′
+one-state o st st′ e e′ = ap (state-in st) (sym e ∙ e′)
+
+pub one-base : (h : Heading) (b b′ : ℕ) → h ≡ Heading.Rules b → h ≡ Heading.Rules b′ → b ≡ b′
+one-base h b b′ e e′ = ap base-in (sym e ∙ e′)
+
+-- ---- of a scope, `localised` reads only which uses open a rule
+
+module _ (ws : List ℕ) where
+  node-localised : (i : ℕ) (n : Node (Unit {0}) Values) → local-node (scope-of ws) fresh i n ≡ local-node each-use fresh i n
+  unfolding local-node
+  node-localised i (alternative is) = refl
+  node-localised i (concatenation is) = refl
+  node-localised i (repetition counts static fixed b) = refl
+  node-localised i (switch chosen is) = refl
+  node-localised i (use-of enters opens closes b) = refl
+  node-localised i (field w admits static binds) = refl
+  node-localised i eod = refl
+
+  localised-so : (g : Grammar (Unit {0}) Values) → localised (scope-of ws) fresh g ≡ localised each-use fresh g
+  localised-so g = λ t. record { node = λ i. node-localised i (g .node i) t; start = g .start; context = g .context; values = g .values }
+
+-- ---- the words of an admitted text
+
+pub words-hold : (xs : List ℕ) (st : State) → Bounded xs st → length xs ≤ 8192 → held (words-of xs st) ≡ meant xs st
+words-hold xs (state ns ts rs n t b r) p h =
+    let f = facts xs (state ns ts rs n t b r) (p .passed .passed .passed) h in
+    holds-text (readable xs ns ts rs n t b r p f h) (f .shape .stored) (f .basics .places)
+
+module _ (text old new : List ℕ) (weight base : ℕ) (h : Headed text old base) (p : RulesPass (drop base text) weight old new) where
+  abbrev xs : List ℕ
+  xs = drop base text
+
+  fitting : length xs ≤ 8192
+  fitting = omega (arith, length-drop base text, h .short)
+
+  table-holds : held (table-of new) ≡ meant xs (p .st)
+  table-holds = sym (held-local (p .table .same)) ∙ words-hold xs (p .st) (p .passes .passed) fitting
+
+  weights : (w : Unit {0} → ℕ → ℕ) → Weighs (meant xs (p .st)) w → w tt opening ≡ weight
+  weights w e = p .passes .weighs w (subst (λ (g : Grammar (Unit {0}) Values). Weighs g w) (sym (words-hold xs (p .st) (p .passes .passed) fitting)) e)
+
+  weigh-table : Weighs (held (table-of new)) (λ c i. weight-at (table-of new) i)
+  weigh-table = weighed (p .table .sound)
+
+  weigh-text : Weighs (meant xs (p .st)) (λ c i. weight-at (table-of new) i)
+  weigh-text = subst (λ (g : Grammar (Unit {0}) Values). Weighs g (λ c i. weight-at (table-of new) i)) table-holds weigh-table
+
+  table-is : TextTable text new weight
+  table-is =
+      record {
+        admissible =
+            record {
+              some = h .some;
+              short = h .short;
+              reading = record { base = base; st = p .st; header = h .header; formed = p .passes .passed .passed .passed .passed .passed .formed };
+              passes = p .passes;
+            };
+        sound = ((let z : 16384 ≤ length new = omega (arith, p .table .length-kept, h .table-fits) in z), p .table .sound);
+        holds = table-holds;
+        weight-stored = sym (p .table .sound .weight (λ c i. weight-at (table-of new) i) weigh-table) ∙ weights (λ c i. weight-at (table-of new) i) weigh-text;
+        weights = weights;
+        weighable = (λ c i. weight-at (table-of new) i, weigh-text);
+      }
+
+pub text-table : Tables
+text-table text old new weight (refused-early number place e r k) = let z : _≡_ {A = ℕ} 0 1 = cc in absurd (omega arith)
+text-table text old new weight (by-rules base h p) = table-is text old new weight base h p
+
+-- the grammar that the matcher follows is the text's
+pub same-grammar : (text old new : List ℕ) (weight : ℕ) → Answers text old new (Admission.Admitted weight) → (x : Reading text) → grammar-of new ≡ text-grammar x
+same-grammar text old new weight a x =
+    let t : TextTable text new weight = text-table text old new weight a in
+    let y : Reading text = t .admissible .reading in
+    let b : y .base ≡ x .base = one-base (header-of text) (y .base) (x .base) (y .header) (x .header) in
+    let s : y .st ≡ x .st = one-state (form (drop (x .base) text)) (y .st) (x .st) (subst (λ (k : ℕ). form (drop k text) ≡ right (y .st)) b (y .formed)) (x .formed) in
+    localised-so (table-of new) (held (table-of new)) ∙ ap (localised each-use fresh) (t .holds ∙ ap₂ (λ (k : ℕ) (st : State). meant (drop k text) st) b s)

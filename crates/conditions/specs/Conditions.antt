@@ -1,0 +1,99 @@
+-- The mission's three conditions, of what the calls promise: `Answers` (`admission::admit`), `Answered` and `run-given` (`matcher::open`),
+-- `grant-of` (`runs::advance`, `runs::grant`). `proofs/Conditions.antt` proves each.
+-- Assumes nothing.
+use Prim.Native.Nat.{ℕ, _+_, _*_, _≤_}
+use mathlib.Core.Path.{_≡_}
+use mathlib.Core.Logic.{_⊎_, _↔_}
+use mathlib.Core.List.{List, _++_}
+use lib.ListN.{length, drop}
+use Rattle.basis.specs.Bits.{frameBits}
+use Rattle.theory.specs.Grammar.{Grammar}
+use Rattle.theory.specs.Derivation.{Tree, captures, Derivation}
+use Rattle.theory.specs.Theorems.{Derivable}
+use Rattle.theory.specs.Weight.{Weighs}
+use Rattle.layout.specs.Places.{table-words, table-of, weight-of}
+use Rattle.layout.specs.Held.{Values, held, opening}
+use Rattle.acts.specs.Acts.{bits-of}
+use Rattle.steps.specs.Steps.{matched, unmatched}
+use Rattle.agreement.specs.Runs.{words-of}
+use Rattle.table.specs.Sound.{SoundTable}
+use Rattle.admission.specs.Admitted.{number-of, Answers}
+use Rattle.admission.specs.declared.Admission.{Admission}
+use Rattle.runs.specs.Runs.{run-in, reading-in, answer-in, grant-of, closed-run, number-of as grant-number, taken-of}
+use Rattle.runs.specs.declared.Run.{Run}
+use Rattle.matcher.specs.Opening.{Answered, Opened, run-given, number-of as opening-number}
+use Rattle.matcher.specs.declared.Answer.{Answer}
+use Rattle.matcher.specs.Conditions.{Grant, run-kept, reading-kept, OthersRefused, start, Decided, here, Granted}
+use Rattle.conditions.specs.Texts.{Reading, meant, text-grammar, Admissible}
+
+-- ---- 1. "each is answered or refused by a number of document 01, buffers are left as stated, no caller is trusted"
+
+-- a text, with any words as table: 0, or 1 to 11; "A refused grammar changes no word of the table", "Words past 16,384 are neither read nor changed"
+pub record TextAnswered (old new : List ℕ) (answer : Admission) : Type 0 where
+  pub number : number-of answer ≤ 11
+  pub refused : (number-of answer ≡ 0 → ⊥) → new ≡ old
+  pub length-kept : length new ≡ length old
+  pub beyond : drop table-words new ≡ drop table-words old
+
+-- an opening on any table, frame and reading (none of them is changed): 0, 21, 22 or 23, and "a refused open gives a closed run"
+pub record RunOpened (answer : Answer) : Type 0 where
+  pub number : (opening-number answer ≡ 0) ⊎ (opening-number answer ≡ 21) ⊎ (opening-number answer ≡ 22) ⊎ (opening-number answer ≡ 23)
+  pub refused : (opening-number answer ≡ 0 → ⊥) → run-given answer ≡ closed-run
+
+-- a grant to any run, with any table, frame and reading: 0, 21 or 24; refused, "no step is taken and nothing changes"
+pub record RunGranted (ws fs rs : List ℕ) (run : Run) (n : ℕ) : Type 0 where
+  pub number : (grant-number (answer-in (grant-of ws fs rs run n)) ≡ 0) ⊎ (grant-number (answer-in (grant-of ws fs rs run n)) ≡ 21) ⊎ (grant-number (answer-in (grant-of ws fs rs run n)) ≡ 24)
+  pub refused : (grant-number (answer-in (grant-of ws fs rs run n)) ≡ 0 → ⊥)
+      → (run-in (grant-of ws fs rs run n) ≡ run) × (reading-in (grant-of ws fs rs run n) ≡ rs) × (taken-of (answer-in (grant-of ws fs rs run n)) ≡ 0)
+  pub length-kept : length (reading-in (grant-of ws fs rs run n)) ≡ length rs
+  -- "words beyond never change": past the fields recorded
+  pub beyond : drop (2 * run-in (grant-of ws fs rs run n) .captures) (reading-in (grant-of ws fs rs run n)) ≡ drop (2 * run-in (grant-of ws fs rs run n) .captures) rs
+
+pub record Condition1 : Type 0 where
+  pub admitting : (text old new : List ℕ) (answer : Admission) → Answers text old new answer → TextAnswered old new answer
+  pub opening-runs : (ws fs rs : List ℕ) (answer : Answer) → Answered ws fs rs answer → RunOpened answer
+  pub granting : (ws fs rs : List ℕ) (run : Run) (n : ℕ) → RunGranted ws fs rs run n
+
+-- ---- the table of an admitted text
+
+-- "each admitted grammar has one table, sound": it holds the grammar that the text means, and its weight
+pub record TextTable (text new : List ℕ) (weight : ℕ) : Type 0 where
+  pub admissible : Admissible text weight
+  pub sound : SoundTable new
+  pub holds : held (table-of new) ≡ meant (drop (admissible .reading .base) text) (admissible .reading .st)
+  pub weight-stored : weight-of (table-of new) ≡ weight
+  pub weights : (w : Unit {0} → ℕ → ℕ) → Weighs (meant (drop (admissible .reading .base) text) (admissible .reading .st)) w → w tt opening ≡ weight
+  pub weighable : (w : Unit {0} → ℕ → ℕ) × Weighs (meant (drop (admissible .reading .base) text) (admissible .reading .st)) w
+
+abbrev pub Tables : Type 0
+Tables = (text old new : List ℕ) (weight : ℕ) → Answers text old new (Admission.Admitted weight) → TextTable text new weight
+
+-- ---- 2. "a decided run says match exactly when some derivation covers the whole frame, and its reading lists that derivation's fields"
+
+module _ (g : Grammar (Unit {0}) Values) (ws fs rs : List ℕ) (gs : List Grant) where
+  pub record Exact : Type 0 where
+    pub match-iff : Decided (run-kept (here ws fs rs gs)) → (run-kept (here ws fs rs gs) .verdict ≡ matched) ↔ Derivable g (frameBits fs)
+    pub no-match-iff : Decided (run-kept (here ws fs rs gs)) → (run-kept (here ws fs rs gs) .verdict ≡ unmatched) ↔ (Derivable g (frameBits fs) → ⊥)
+    -- the fields' words, and the words beyond as they were
+    pub fields : run-kept (here ws fs rs gs) .verdict ≡ matched → (t : Tree) (v : Values) → Derivation g (frameBits fs) t v
+        → (run-kept (here ws fs rs gs) .captures ≡ length (captures t 0)) × (reading-kept (here ws fs rs gs) ≡ words-of (captures t 0) ++ drop (2 * length (captures t 0)) rs)
+
+-- of every text that is admitted, every frame and reading on which its table opens a run, and every list of grants
+abbrev pub Condition2 : Type 0
+Condition2 =
+    (text old table : List ℕ) (weight : ℕ) → Answers text old table (Admission.Admitted weight) → (x : Reading text)
+    → (fs rs : List ℕ) → Opened table fs rs → (gs : List Grant) → OthersRefused table fs gs (start rs) → Exact (text-grammar x) table fs rs gs
+
+-- ---- 3. "At most one derivation; decided within weight × (bits + 1) steps; and for every list of grants, one claim"
+
+pub record Claim (g : Grammar (Unit {0}) Values) (weight : ℕ) (ws fs rs : List ℕ) : Type 0 where
+  pub once : (t t′ : Tree) (v v′ : Values) → Derivation g (frameBits fs) t v → Derivation g (frameBits fs) t′ v′ → t ≡ t′
+  pub needed : ℕ
+  pub within-bound : needed ≤ weight * (bits-of fs + 1)
+  -- run, reading and count are what document 01's steps make of them (`matcher`, `Granted`)
+  pub granting : (gs : List Grant) → OthersRefused ws fs gs (start rs) → Granted ws fs rs gs needed
+
+abbrev pub Condition3 : Type 0
+Condition3 =
+    (text old table : List ℕ) (weight : ℕ) → Answers text old table (Admission.Admitted weight) → (x : Reading text)
+    → (fs rs : List ℕ) → Opened table fs rs → Claim (text-grammar x) weight table fs rs

@@ -1,0 +1,130 @@
+-- Document 01's table "Numbers of refusal", rows 1 to 11: when each is given, and its place. "1 to 11 are tried in order".
+-- Assumes nothing.
+use Prim.Native.Nat.{ℕ, _+_, _≤_, _<_}
+use mathlib.Core.Path.{_≡_}
+use mathlib.Core.Logic.{_⊎_, _↔_}
+use mathlib.Core.List.{List}
+use lib.ListN.{length, drop}
+use Rattle.basis.specs.Bits.{Bits}
+use Rattle.theory.specs.Grammar.{Grammar}
+use Rattle.theory.specs.Lookahead.{Conflict, EmptyBody}
+use Rattle.theory.specs.Weight.{Weighs}
+use Rattle.layout.specs.Places.{table-words}
+use Rattle.layout.specs.Held.{Values, opening}
+use Rattle.rules.specs.Reaching.{Reaches}
+use Rattle.text.specs.Header.{header-of}
+use Rattle.text.specs.declared.Heading.{Heading}
+use Rattle.parsing.specs.Store.{State, node-words, rule-words, nodes-of}
+use Rattle.parsing.specs.Form.{refused}
+use Rattle.naming.specs.Counting.{nowhere}
+use Rattle.naming.specs.Words.{node-word, place-of, named-at}
+use Rattle.admission.specs.Admitted.{number-of, form, words-of, fault-5, fault-6, fault-8}
+use Rattle.admission.specs.declared.Admission.{Admission}
+use Rattle.admission.specs.declared.Found.{Found}
+use Rattle.conditions.specs.Texts.{Reading, meant}
+
+pub data Row : Type 0 where
+  short-table : Row
+  wrong-size : Row
+  wrong-header : Row
+  wrong-form : Row
+  past-limit : Row
+  wrong-name : Row
+  recursive : Row
+  too-large : Row
+  empty-body : Row
+  clashing : Row
+  too-heavy : Row
+
+abbrev pub number : Row → ℕ
+number short-table = 1
+number wrong-size = 2
+number wrong-header = 3
+number wrong-form = 4
+number past-limit = 5
+number wrong-name = 6
+number recursive = 7
+number too-large = 8
+number empty-body = 9
+number clashing = 10
+number too-heavy = 11
+
+-- ---- 5 to 11, of what is read of the rules `xs`, which begin at `base`
+
+abbrev pub HasConflict : Grammar (Unit {0}) Values → ℕ → Type 0
+HasConflict g i = (x : Bits) × Conflict g i x
+
+-- "the repetition mark": the least among the constructs with such a body
+pub record LeastMark (g : Grammar (Unit {0}) Values) (st : State) (p : ℕ) : Type 0 where
+  pub construct : ℕ
+  pub there : construct < nodes-of st
+  pub empty : EmptyBody g construct
+  pub mark : p ≡ node-word (node-words st) construct 4
+  pub least : (i : ℕ) → i < nodes-of st → EmptyBody g i → p ≤ node-word (node-words st) i 4
+
+module _ (base : ℕ) (xs : List ℕ) (st : State) (p : ℕ) where
+  -- "a number of the Limits line passed", at "the rule in which it first is"
+  abbrev pub PastLimit : Type 0
+  PastLimit = (fault-5 st ≡ nowhere → ⊥) × (p ≡ base + fault-5 st)
+
+  -- "name unknown, double, reserved, misplaced or of the wrong kind", at "the name"
+  abbrev pub WrongName : Type 0
+  WrongName = (fault-6 xs st ≡ nowhere → ⊥) × (p ≡ base + fault-6 xs st)
+
+  -- "rule reaches itself", at the "first such rule"
+  abbrev pub Recursive : Type 0
+  Recursive = (rule : ℕ) × Reaches (words-of xs st) rule rule × ((q : ℕ) → q < rule → Reaches (words-of xs st) q q → ⊥) × (p ≡ base + named-at (rule-words st) rule)
+
+  -- "number or width outside its limits, or a calculation, or part of one, whose size may pass 2^62", at the "number or calculation"
+  abbrev pub TooLarge : Type 0
+  TooLarge = (q : ℕ) × (fault-8 xs st ≡ Found.At q) × (p ≡ base + q)
+
+  -- "repeated body has the empty first window"
+  abbrev pub EmptyBodies : Type 0
+  EmptyBodies = (q : ℕ) × LeastMark (meant xs st) st q × (p ≡ base + q)
+
+  -- "clash", at "the construct"
+  abbrev pub Clashes : Type 0
+  Clashes = (i : ℕ) × HasConflict (meant xs st) i × ((j : ℕ) → j < i → HasConflict (meant xs st) j → ⊥) × (p ≡ base + place-of (node-words st) i)
+
+  -- "weight over 65,535", at the "start rule"
+  abbrev pub TooHeavy : Type 0
+  TooHeavy = (w : Unit {0} → ℕ → ℕ) × Weighs (meant xs st) w × (65535 < w tt opening) × (p ≡ base + named-at (rule-words st) 0)
+
+-- it holds of what is read of the text
+abbrev pub Read : List ℕ → (ℕ → List ℕ → State → ℕ → Type 0) → ℕ → Type 0
+Read text P p = (x : Reading text) × P (x .base) (drop (x .base) text) (x .st) p
+
+-- ---- the table: the row fits at this place, whatever the others do
+
+abbrev pub Fits : (text table : List ℕ) → Row → (place : ℕ) → Type 0
+Fits text table short-table p = (length table < table-words) × (p ≡ 0)
+Fits text table wrong-size p = ((length text ≡ 0) ⊎ (8192 < length text)) × (p ≡ 0)
+Fits text table wrong-header p = header-of text ≡ Heading.Wrong p
+Fits text table wrong-form p = (base : ℕ) × (q : ℕ) × (header-of text ≡ Heading.Rules base) × (form (drop base text) ≡ refused q) × (p ≡ base + q)
+Fits text table past-limit p = Read text PastLimit p
+Fits text table wrong-name p = Read text WrongName p
+Fits text table recursive p = Read text Recursive p
+Fits text table too-large p = Read text TooLarge p
+Fits text table empty-body p = Read text EmptyBodies p
+Fits text table clashing p = Read text Clashes p
+Fits text table too-heavy p = Read text TooHeavy p
+
+-- no row below number n fits
+abbrev pub NoneBelow : (text table : List ℕ) → ℕ → Type 0
+NoneBelow text table n = (k : Row) (q : ℕ) → number k < n → Fits text table k q → ⊥
+
+-- the first row that fits
+abbrev pub First : (text table : List ℕ) → Row → (place : ℕ) → Type 0
+First text table k p = Fits text table k p × NoneBelow text table (number k)
+
+-- the place that an answer carries
+abbrev pub place-in : Admission → ℕ
+place-in (Admission.Admitted weight) = 0
+place-in (Admission.Refused n place) = place
+place-in (Admission.Conflict place construct clash) = place
+
+-- "Given exactly when": an answer has the number and place of the first row that fits, and 0 exactly where none does
+pub record Exactly (text table : List ℕ) (answer : Admission) : Type 0 where
+  pub admitted-iff : (number-of answer ≡ 0) ↔ NoneBelow text table 12
+  pub refused-iff : (k : Row) (p : ℕ) → ((number-of answer ≡ number k) × (place-in answer ≡ p)) ↔ First text table k p

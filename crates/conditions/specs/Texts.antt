@@ -1,0 +1,44 @@
+-- What is read of a text, the grammar that it means, and when document 01's rules admit it.
+-- Assumes nothing.
+use Prim.Native.Nat.{ℕ, _≤_}
+use mathlib.Core.Path.{_≡_}
+use mathlib.Core.Bool.{true}
+use mathlib.Core.List.{List, []}
+use lib.ListN.{length, drop}
+use Rattle.theory.specs.Grammar.{Grammar}
+use Rattle.theory.specs.Scope.{Scope, localised}
+use Rattle.layout.specs.Held.{Values}
+use Rattle.scoping.specs.Scope.{fresh}
+use Rattle.text.specs.Header.{header-of}
+use Rattle.text.specs.declared.Heading.{Heading}
+use Rattle.parsing.specs.Store.{State, node-words, term-words, rule-words, nodes-of, rules-of}
+use Rattle.parsing.specs.Form.{right}
+use Rattle.admission.specs.Admitted.{form, Passes}
+use Rattle.meaning.specs.Meaning.{grammar-of}
+
+-- A text with a right header and rules of the right form: where its rules begin, and the nodes, terms and rules that are read of them. Both are
+-- values of functions of the text, so a text has at most one (`one-reading`).
+pub record Reading (text : List ℕ) : Type 0 where
+  pub base : ℕ
+  pub st : State
+  pub header : header-of text ≡ Heading.Rules base
+  pub formed : form (drop base text) ≡ right st
+
+-- the grammar that they mean (crate `meaning`)
+abbrev pub meant : List ℕ → State → Grammar (Unit {0}) Values
+meant xs st = grammar-of xs (node-words st) (term-words st) (rule-words st) (nodes-of st) (rules-of st)
+
+-- "Variables are local to a rule": every use of a rule opens it anew. Of a scope, `localised` reads nothing else.
+abbrev pub each-use : Scope
+each-use = record { sees = λ i. []; binds = λ i. []; opens-rule = λ i. true; enters-with = λ i. [] }
+
+-- the text's grammar: its rules as read, with variables local to a rule
+abbrev pub text-grammar : {text : List ℕ} → Reading text → Grammar (Unit {0}) Values
+text-grammar {text} x = localised each-use fresh (meant (drop (x .base) text) (x .st))
+
+-- document 01's rules admit the text, with this weight: 1 to 8,192 bytes, header and form right, and the rules pass 5 to 11
+pub record Admissible (text : List ℕ) (weight : ℕ) : Type 0 where
+  pub some : 1 ≤ length text
+  pub short : length text ≤ 8192
+  pub reading : Reading text
+  pub passes : Passes (drop (reading .base) text) (reading .st) weight
