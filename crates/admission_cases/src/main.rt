@@ -1,9 +1,10 @@
 // Admits texts from standard input, each after a line with its length in bytes, and prints what the bench program prints of a grammar, with
-// the window of a clash.
+// the window of a clash. What is no such text ends it.
 use admission::Admission;
 use conflicts::Clash;
 use libc::STDIN_FILENO;
 use libc::STDOUT_FILENO;
+use text::Class;
 
 fn text(bytes: &[u8]) {
     io::write_all(STDOUT_FILENO, bytes);
@@ -45,31 +46,64 @@ fn show(answer: Admission) {
     text(b"\n");
 }
 
-fn read_all(buffer: &mut [u8]) -> usize {
-    let mut n = 0;
-    while n < buffer.len() {
-        let got = libc::read(STDIN_FILENO, &mut buffer[n..]);
-        if got <= 0 {
-            return n;
-        }
-        n += got as usize;
+fn admit(text: &[u8], table: &mut [u32; 16384]) {
+    show(admission::admit(text, &mut table[..]));
+}
+
+// The text that is the bytes from `start` to `end`, where they are there.
+fn one(bytes: &[u8], start: usize, end: usize, table: &mut [u32; 16384]) {
+    if end < start {
+        return;
     }
-    n
+    if bytes.len() < end {
+        return;
+    }
+    admit(&bytes[start..end], table);
+}
+
+// `len` further, but no further than the end.
+fn further(bytes: &[u8], at: usize, len: usize) -> usize {
+    if at < bytes.len() {
+        if len <= bytes.len() - at {
+            return at + len;
+        }
+    }
+    bytes.len()
+}
+
+// The length that stands at `at`; 0 where there is none.
+fn length_at(bytes: &[u8], at: usize) -> usize {
+    if at < bytes.len() {
+        return tokens::numbers::number_at(bytes, at) as usize;
+    }
+    0
+}
+
+// Past the LF after `at`, which is before the end.
+fn line_after(bytes: &[u8], at: usize) -> usize {
+    let end = text::spans::span(Class::Except(10), bytes, at);
+    if end < bytes.len() {
+        return end + 1;
+    }
+    bytes.len()
+}
+
+fn all(bytes: &[u8], table: &mut [u32; 16384]) {
+    let mut at = 0;
+    for _ in 0..400000usize {
+        if bytes.len() <= at {
+            break;
+        }
+        let len = length_at(bytes, at);
+        let start = line_after(bytes, at);
+        at = further(bytes, start, len);
+        one(bytes, start, at, table);
+    }
 }
 
 fn main() {
     let mut buffer = [0u8; 400000];
-    let n = read_all(&mut buffer);
     let mut table = [0u32; 16384];
-    let mut at = 0;
-    while at < n {
-        let mut len = 0;
-        while buffer[at] != 10 {
-            len = len * 10 + ((buffer[at] - 48) as usize);
-            at += 1;
-        }
-        at += 1;
-        show(admission::admit(&buffer[at..at + len], &mut table));
-        at += len;
-    }
+    let n = io::read_full(STDIN_FILENO, &mut buffer);
+    all(&buffer[..n], &mut table);
 }
