@@ -1,16 +1,25 @@
 -- Conditions 2 and 3, from `matcher`'s of the table: its grammar is the text's, and its weight is the admitted one.
 -- Assumes nothing.
 use Prim.Native.Nat.{ℕ, _+_, _*_, _≤_}
-use mathlib.Core.Path.{_≡_, subst}
+use mathlib.Core.Path.{_≡_, refl, subst}
+use mathlib.Core.Logic.{_↔_}
 use mathlib.Core.List.{List}
+use native.Mathlib.Omega.{arith}
+use lib.ListN.{length}
 use Rattle.theory.specs.Grammar.{Grammar}
 use Rattle.layout.specs.Places.{table-of, weight-of}
 use Rattle.layout.specs.Held.{Values}
 use Rattle.acts.specs.Acts.{bits-of}
-use Rattle.matcher.specs.Opening.{Opened}
+use Rattle.admission.specs.Admitted.{Answers}
+use Rattle.admission.specs.declared.Admission.{Admission}
+use Rattle.table.specs.Sound.{SoundTable}
+use Rattle.matcher.specs.Opening.{Answered, Opened}
+use Rattle.matcher.specs.declared.Answer.{Answer}
 use Rattle.matcher.specs.Conditions.{Grant, OthersRefused, start, grammar-of}
-use Rattle.matcher.proofs.Conditions.{condition-2 as table-condition-2, condition-3 as table-condition-3}
+use Rattle.matcher.proofs.Conditions.{condition-2 as table-condition-2, condition-3 as table-condition-3, never-broken}
+use Rattle.conditions.specs.Texts.{Reading, text-grammar}
 use Rattle.conditions.specs.Conditions.{Exact, Claim, Condition2, Condition3}
+use Rattle.conditions.proofs.Exactly.{exactly}
 use Rattle.conditions.proofs.Tables.{text-table, same-grammar}
 
 module _ (ws fs rs : List ℕ) (o : Opened ws fs rs) where
@@ -25,11 +34,23 @@ module _ (ws fs rs : List ℕ) (o : Opened ws fs rs) where
         needed = c .needed;
         within-bound = subst (λ (k : ℕ). c .needed ≤ k * (bits-of fs + 1)) e (c .within-bound);
         granting = c .granting;
+        unbroken = never-broken ws fs rs o;
       }
 
-pub condition-2 : Condition2
-condition-2 text old table weight a x fs rs o gs r =
+matching : (text old table : List ℕ) (weight : ℕ) → Answers text old table (Admission.Admitted weight) → (x : Reading text)
+    → (fs rs : List ℕ) → Opened table fs rs → (gs : List Grant) → OthersRefused table fs gs (start rs) → Exact (text-grammar x) table fs rs gs
+matching text old table weight a x fs rs o gs r =
     subst (λ (g : Grammar (Unit {0}) Values). Exact g table fs rs gs) (same-grammar text old table weight a x) (exact table fs rs o gs r)
+
+-- one answer, of a sound table
+opens : (ws fs rs : List ℕ) (answer : Answer) → SoundTable ws → Answered ws fs rs answer → (answer ≡ Answer.Opened) ↔ ((length fs ≤ 256) × (2 * bits-of fs ≤ length rs))
+opens ws fs rs Answer.Unsound s a = absurd (a s)
+opens ws fs rs Answer.LongFrame s a = (λ e. (let z : _≡_ {A = ℕ} 0 1 = cc in absurd (omega arith)), λ h. absurd (omega (arith, a .1, h .0)))
+opens ws fs rs Answer.SmallReading s a = (λ e. (let z : _≡_ {A = ℕ} 0 1 = cc in absurd (omega arith)), λ h. absurd (omega (arith, a .2, h .1)))
+opens ws fs rs Answer.Opened s a = (λ e. (a .1, a .2), λ h. refl)
+
+pub condition-2 : Condition2
+condition-2 = record { admitting = exactly; opened = λ text old table weight a fs rs answer. opens table fs rs answer (text-table text old table weight a .sound); matching = matching }
 
 pub condition-3 : Condition3
 condition-3 text old table weight a x fs rs o =

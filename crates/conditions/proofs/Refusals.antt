@@ -48,10 +48,10 @@ numbered empty-body = refl
 numbered clashing = refl
 numbered too-heavy = refl
 
-same-row : (j k : Row) → number j ≡ number k → j ≡ k
+pub same-row : (j k : Row) → number j ≡ number k → j ≡ k
 same-row j k e = sym (numbered j) ∙ (ap row-of e ∙ numbered k)
 
-in-range : (k : Row) → (1 ≤ number k) × (number k < 12)
+pub in-range : (k : Row) → (1 ≤ number k) × (number k < 12)
 in-range short-table = (omega arith, omega arith)
 in-range wrong-size = (omega arith, omega arith)
 in-range wrong-header = (omega arith, omega arith)
@@ -66,7 +66,7 @@ in-range too-heavy = (omega arith, omega arith)
 
 -- ---- a row fits at one place
 
-least-same : (P : ℕ → Type 0) (i j : ℕ) → P i → P j → ((k : ℕ) → k < i → P k → ⊥) → ((k : ℕ) → k < j → P k → ⊥) → i ≡ j
+pub least-same : (P : ℕ → Type 0) (i j : ℕ) → P i → P j → ((k : ℕ) → k < i → P k → ⊥) → ((k : ℕ) → k < j → P k → ⊥) → i ≡ j
 least-same P i j a b f g =
     elim (decLt i j) [ yes l ↦ absurd (g i l a) | no l ↦ elim (decLt j i) [ yes m ↦ absurd (f j m b) | no m ↦ (let z : i ≡ j = omega arith in z) ] ]
 
@@ -120,7 +120,7 @@ one-place text table too-heavy p q e f = both-read text TooHeavy p q (λ b xs st
 -- ---- there is one first row
 
 module _ (text table : List ℕ) where
-  one-first : (j k : Row) (p q : ℕ) → First text table j p → First text table k q → (number j ≡ number k) × (p ≡ q)
+  pub one-first : (j k : Row) (p q : ℕ) → First text table j p → First text table k q → (number j ≡ number k) × (p ≡ q)
   one-first j k p q (e, none) (e′, none′) =
       elim (decLt (number j) (number k)) [
         | yes l ↦ absurd (none′ j p l e)
@@ -140,7 +140,7 @@ module _ (text table : List ℕ) where
         | no m ↦ not q (subst (λ (r : Row). Fits text table r q) (same-row j k (let z : number j ≡ number k = omega arith in z)) e)
       ]
 
-  below-1 : NoneBelow text table 1
+  pub below-1 : NoneBelow text table 1
   below-1 k q l e = omega (arith, in-range k .0)
 
 -- ---- stage by stage, what passes leaves the row out
@@ -159,20 +159,20 @@ some-size n a b (inl e) = omega arith
 some-size n a b (inr l) = omega arith
 
 module _ (text table : List ℕ) where
-  below-2 : table-words ≤ length table → NoneBelow text table 2
+  pub below-2 : table-words ≤ length table → NoneBelow text table 2
   below-2 l = below-next text table short-table (below-1 text table) (λ q e. omega (arith, e .0))
 
-  below-3 : table-words ≤ length table → 1 ≤ length text → length text ≤ 8192 → NoneBelow text table 3
+  pub below-3 : table-words ≤ length table → 1 ≤ length text → length text ≤ 8192 → NoneBelow text table 3
   below-3 l a b = below-next text table wrong-size (below-2 l) (λ q e. some-size (length text) a b (e .0))
 
   module _ (base : ℕ) (h : Headed text table base) where
-    abbrev xs : List ℕ
+    abbrev pub xs : List ℕ
     xs = drop base text
 
-    fitting : length xs ≤ 8192
+    pub fitting : length xs ≤ 8192
     fitting = omega (arith, length-drop base text, h .short)
 
-    below-4 : NoneBelow text table 4
+    pub below-4 : NoneBelow text table 4
     below-4 = below-next text table wrong-header (below-3 (h .table-fits) (h .some) (h .short)) (λ q e. wrong-not-right (header-of text) base q (h .header) e)
 
     module _ (st : State) where
@@ -180,52 +180,52 @@ module _ (text table : List ℕ) where
       read : (P : ℕ → List ℕ → State → ℕ → Type 0) → Right xs st → (q : ℕ) → Read text P q → P base xs st q
       read P r q = of-read text P q base st (h .header) (r .formed)
 
-      reading : Right xs st → Reading text
+      abbrev pub reading : Right xs st → Reading text
       reading r = record { base = base; st = st; header = h .header; formed = r .formed }
 
-      below-5 : Right xs st → NoneBelow text table 5
+      pub below-5 : Right xs st → NoneBelow text table 5
       below-5 r = below-next text table wrong-form below-4 (λ q e. not-refused q e)
         where
           not-refused : (q : ℕ) → Fits text table wrong-form q → ⊥
           not-refused q (b, m, k, e, z) =
               refused-not-right (form xs) st m (r .formed) (subst (λ (n : ℕ). form (drop n text) ≡ refused m) (one-base (header-of text) b base k (h .header)) e)
 
-      below-6 : Limited xs st → NoneBelow text table 6
+      pub below-6 : Limited xs st → NoneBelow text table 6
       below-6 p = below-next text table past-limit (below-5 (p .passed)) (λ q e. read PastLimit (p .passed) q e .0 (p .none))
 
-      below-7 : Named xs st → NoneBelow text table 7
+      pub below-7 : Named xs st → NoneBelow text table 7
       below-7 p = below-next text table wrong-name (below-6 (p .passed)) (λ q e. read WrongName (p .passed .passed) q e .0 (p .none))
 
-      below-8 : Straight xs st → NoneBelow text table 8
+      pub below-8 : Straight xs st → NoneBelow text table 8
       below-8 p = below-next text table recursive (below-7 (p .passed)) (λ q e. (let x = read Recursive (p .passed .passed .passed) q e in p .none (x .0) (x .1)))
 
-      below-9 : Bounded xs st → NoneBelow text table 9
+      pub below-9 : Bounded xs st → NoneBelow text table 9
       below-9 p =
           below-next text table too-large (below-8 (p .passed))
           (λ q e. (let x = read TooLarge (p .passed .passed .passed .passed) q e in found-not-nothing (fault-8 xs st) (x .0) (p .none) (x .1)))
 
       module _ (p : Bounded xs st) where
-        abbrev formed : Right xs st
+        abbrev pub formed : Right xs st
         formed = p .passed .passed .passed .passed
 
         -- the words hold the text's grammar
-        to-text : (P : Grammar (Unit {0}) Values → Type 0) → P (held (words-of xs st)) → P (meant xs st)
+        pub to-text : (P : Grammar (Unit {0}) Values → Type 0) → P (held (words-of xs st)) → P (meant xs st)
         to-text P = subst P (words-hold xs st p fitting)
 
-        to-words : (P : Grammar (Unit {0}) Values → Type 0) → P (meant xs st) → P (held (words-of xs st))
+        pub to-words : (P : Grammar (Unit {0}) Values → Type 0) → P (meant xs st) → P (held (words-of xs st))
         to-words P = subst P (sym (words-hold xs st p fitting))
 
-        below-10 : Passed9 (words-of xs st) → NoneBelow text table 10
+        pub below-10 : Passed9 (words-of xs st) → NoneBelow text table 10
         below-10 j =
             below-next text table empty-body (below-9 p)
             (λ q e. (let x = read EmptyBodies formed q e in j .no-empty-body (x .1 .construct) (to-words (λ g. EmptyBody g (x .1 .construct)) (x .1 .empty))))
 
-        below-11 : Passed10 (words-of xs st) → NoneBelow text table 11
+        pub below-11 : Passed10 (words-of xs st) → NoneBelow text table 11
         below-11 j =
             below-next text table clashing (below-10 (j .passed))
             (λ q e. (let x = read Clashes formed q e in j .no-conflict (x .0) (to-words (λ g. HasConflict g (x .0)) (x .1))))
 
-        below-12 : (weight : ℕ) → Passes xs st weight → NoneBelow text table 12
+        pub below-12 : (weight : ℕ) → Passes xs st weight → NoneBelow text table 12
         below-12 weight j =
             below-next text table too-heavy (below-11 (j .judged))
             (λ q e. (let x = read TooHeavy formed q e in let z : x .0 tt opening ≡ weight = j .weighs (x .0) (to-words (λ g. Weighs g (x .0)) (x .1)) in omega (arith, x .2, j .limited)))

@@ -23,7 +23,8 @@ use Rattle.runs.specs.Runs.{run-in, reading-in, answer-in, grant-of, closed-run
 use Rattle.runs.specs.declared.Run.{Run}
 use Rattle.matcher.specs.Opening.{Answered, Opened, run-given, number-of as opening-number}
 use Rattle.matcher.specs.declared.Answer.{Answer}
-use Rattle.matcher.specs.Conditions.{Grant, run-kept, reading-kept, OthersRefused, start, Decided, here, Granted}
+use Rattle.matcher.specs.Conditions.{Grant, run-kept, reading-kept, OthersRefused, start, Decided, here, Unbroken, Granted}
+use Rattle.conditions.specs.Refusals.{Exactly}
 use Rattle.conditions.specs.Texts.{Reading, meant, text-grammar, Admissible}
 
 -- ---- 1. "each is answered or refused by a number of document 01, buffers are left as stated, no caller is trusted"
@@ -68,7 +69,12 @@ pub record TextTable (text new : List ℕ) (weight : ℕ) : Type 0 where
 abbrev pub Tables : Type 0
 Tables = (text old new : List ℕ) (weight : ℕ) → Answers text old new (Admission.Admitted weight) → TextTable text new weight
 
--- ---- 2. "a decided run says match exactly when some derivation covers the whole frame, and its reading lists that derivation's fields"
+-- an answer and the words that it leaves are the text's and the table's: no two are promised
+abbrev pub OneAnswer : Type 0
+OneAnswer =
+    (text old new new′ : List ℕ) (answer answer′ : Admission) → Answers text old new answer → Answers text old new′ answer′ → (answer ≡ answer′) × (new ≡ new′)
+
+-- ---- 2. "A grammar is admitted exactly when document 01's rules admit it; a decided run says match exactly when some derivation covers the whole frame, and its reading lists that derivation's fields"
 
 module _ (g : Grammar (Unit {0}) Values) (ws fs rs : List ℕ) (gs : List Grant) where
   pub record Exact : Type 0 where
@@ -78,11 +84,15 @@ module _ (g : Grammar (Unit {0}) Values) (ws fs rs : List ℕ) (gs : List Grant)
     pub fields : run-kept (here ws fs rs gs) .verdict ≡ matched → (t : Tree) (v : Values) → Derivation g (frameBits fs) t v
         → (run-kept (here ws fs rs gs) .captures ≡ length (captures t 0)) × (reading-kept (here ws fs rs gs) ≡ words-of (captures t 0) ++ drop (2 * length (captures t 0)) rs)
 
--- of every text that is admitted, every frame and reading on which its table opens a run, and every list of grants
-abbrev pub Condition2 : Type 0
-Condition2 =
-    (text old table : List ℕ) (weight : ℕ) → Answers text old table (Admission.Admitted weight) → (x : Reading text)
-    → (fs rs : List ℕ) → Opened table fs rs → (gs : List Grant) → OthersRefused table fs gs (start rs) → Exact (text-grammar x) table fs rs gs
+pub record Condition2 : Type 0 where
+  -- by the first row of document 01's table of numbers that fits, 0 where none does
+  pub admitting : (text old new : List ℕ) (answer : Admission) → Answers text old new answer → Exactly text old answer
+  -- a run is opened on its table exactly where the frame is not over 256 bytes and the reading has room
+  pub opened : (text old table : List ℕ) (weight : ℕ) → Answers text old table (Admission.Admitted weight) → (fs rs : List ℕ) (answer : Answer) → Answered table fs rs answer
+      → (answer ≡ Answer.Opened) ↔ ((length fs ≤ 256) × (2 * bits-of fs ≤ length rs))
+  -- of every text that is admitted, every frame and reading on which its table opens a run, and every list of grants
+  pub matching : (text old table : List ℕ) (weight : ℕ) → Answers text old table (Admission.Admitted weight) → (x : Reading text)
+      → (fs rs : List ℕ) → Opened table fs rs → (gs : List Grant) → OthersRefused table fs gs (start rs) → Exact (text-grammar x) table fs rs gs
 
 -- ---- 3. "At most one derivation; decided within weight × (bits + 1) steps; and for every list of grants, one claim"
 
@@ -92,6 +102,8 @@ pub record Claim (g : Grammar (Unit {0}) Values) (weight : ℕ) (ws fs rs : List
   pub within-bound : needed ≤ weight * (bits-of fs + 1)
   -- run, reading and count are what document 01's steps make of them (`matcher`, `Granted`)
   pub granting : (gs : List Grant) → OthersRefused ws fs gs (start rs) → Granted ws fs rs gs needed
+  -- never broken, and a grant of its own table, frame and reading is never refused
+  pub unbroken : (gs : List Grant) → OthersRefused ws fs gs (start rs) → Unbroken ws fs rs gs
 
 abbrev pub Condition3 : Type 0
 Condition3 =

@@ -3,25 +3,18 @@ use borrow.Author.Tests.{lt-ltb, le-ltb}
 use borrow.Author.Needs.{needs}
 use Rattle.hexadecimal.proofs.classify.Statement.{statement}
 use Rattle.hexadecimal.proofs.classify.Tie as tie
-use Rattle.hexadecimal.proofs.classify.Reads as reads
-use Rattle.hexadecimal.proofs.classify.Lts as lts
-use Rattle.hexadecimal.proofs.whole.Reads as whole-reads
 
--- src/lib.rt:46:9
 returns : tie.Need-returns
 unfolding line-of
 returns c = simp (lt-ltb _ _ (c .if1 .taken))
 
--- src/lib.rt:48:8
 whole-requires : tie.Need-whole-requires
 whole-requires c κs = search needs
 
--- src/lib.rt:49:9
 returns-2 : tie.Need-returns-2
 unfolding line-of
 returns-2 c = simp (le-ltb _ _ (c .before .before .if1 .left), ← c .before .whole .ensures, c .if2 .taken)
 
--- src/lib.rt:42:1
 returns-3 : tie.Need-returns-3
 unfolding line-of
 returns-3 c = simp (le-ltb _ _ (c .before .before .if1 .left), ← c .before .whole .ensures, c .if2 .left)

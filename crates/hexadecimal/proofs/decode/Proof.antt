@@ -8,9 +8,6 @@ use Rattle.hexadecimal.specs.Lines.{bytes-of}
 use Rattle.hexadecimal.proofs.Decoding.{bytes-turn, bytes-end}
 use Rattle.hexadecimal.proofs.decode.Statement.{statement}
 use Rattle.hexadecimal.proofs.decode.Tie as tie
-use Rattle.hexadecimal.proofs.decode.Reads as reads
-use Rattle.hexadecimal.proofs.decode.Lts as lts
-use Rattle.hexadecimal.proofs.byte.Reads as byte-reads
 
 abbrev Inv-loop : tie.InvT-loop
 Inv-loop line bytes₀ n k₀ bytes k = (length bytes ≡ length bytes₀) × (sets bytes₀ 0 (bytes-of line) ≡ sets bytes k (bytes-of (drop (2 * k) line)))
@@ -18,55 +15,42 @@ Inv-loop line bytes₀ n k₀ bytes k = (length bytes ≡ length bytes₀) × (s
 abbrev μ-loop : tie.MeasureT-loop
 μ-loop line bytes₀ n k₀ bytes k = n - k
 
--- src/lib.rt:75:5
 loop-holds : tie.Need-loop-holds Inv-loop μ-loop
 loop-holds c = (refl, refl)
 
--- src/lib.rt:76:30
 mul-byte : tie.Need-mul-byte Inv-loop μ-loop
 mul-byte c = omega arith
 
--- src/lib.rt:76:25
 shared-slice-read-byte : tie.Need-shared-slice-read-byte Inv-loop μ-loop
 shared-slice-read-byte c = omega arith
 
--- src/lib.rt:76:43
 mul-byte-2 : tie.Need-mul-byte-2 Inv-loop μ-loop
 mul-byte-2 c = omega arith
 
--- src/lib.rt:76:43
 add-byte : tie.Need-add-byte Inv-loop μ-loop
 add-byte c = omega arith
 
--- src/lib.rt:76:38
 shared-slice-read-byte-2 : tie.Need-shared-slice-read-byte-2 Inv-loop μ-loop
 shared-slice-read-byte-2 c = omega arith
 
--- src/lib.rt:76:20
 byte-requires : tie.Need-byte-requires Inv-loop μ-loop
 byte-requires c κs = search needs
 
--- src/lib.rt:76:9
 slice-write-bytes : tie.Need-slice-write-bytes Inv-loop μ-loop
 slice-write-bytes c = omega arith
 
--- src/lib.rt:77:9
 add-k : tie.Need-add-k Inv-loop μ-loop
 add-k c = omega arith
 
--- src/lib.rt:75:5
 loop-less : tie.Need-loop-less Inv-loop μ-loop
 loop-less c = omega arith
 
--- src/lib.rt:75:5
 loop-again : tie.Need-loop-again Inv-loop μ-loop
 loop-again c = (length-set (c .before .before .before .before .loop .bytes) (c .before .before .before .before .loop .k) (c .byte .result) ∙ c .before .before .before .before .loop .inv .0, c .before .before .before .before .loop .inv .1 ∙ bytes-turn (c .before .before .before .before .before .before .before .args .line .now) (c .before .before .before .before .loop .k) (c .before .before .before .before .loop .bytes) (c .before .before .before .loop-test .taken) ∙ ap (λ (x : ℕ). sets (set (c .before .before .before .before .loop .bytes) (c .before .before .before .before .loop .k) x) ((c .before .before .before .before .loop .k) + 1) (bytes-of (drop (2 * ((c .before .before .before .before .loop .k) + 1)) (c .before .before .before .before .before .before .before .args .line .now)))) (sym (c .byte .ensures)))
 
--- src/lib.rt:69:1
 same-length : tie.Need-same-length Inv-loop μ-loop
 same-length c = c .before .loop .inv .0
 
--- src/lib.rt:69:1
 returns : tie.Need-returns Inv-loop μ-loop
 returns c = sym (c .before .loop .inv .1 ∙ bytes-end (c .before .before .before .before .args .line .now) (c .before .loop .k) (c .before .loop .bytes) (c .loop-test .left))
 

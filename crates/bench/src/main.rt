@@ -1,0 +1,250 @@
+// The bench program: reads kiosk.dogma, then frames from standard input, each a line of hexadecimal, and prints the answers (document 01).
+use admission::Admission;
+use hexadecimal::Line;
+use libc::STDIN_FILENO;
+use libc::STDOUT_FILENO;
+use matcher::Answer;
+use runs::Run;
+
+// The characters held after a piece of the input.
+enum Step {
+    More(usize),
+    Ended,
+}
+
+fn text(bytes: &[u8]) {
+    io::write_all(STDOUT_FILENO, bytes);
+}
+
+fn number(before: &[u8], n: u64) {
+    text(before);
+    io::print_decimal(STDOUT_FILENO, n);
+}
+
+fn refused(n: u64) {
+    number(b"refused ", n);
+    text(b"\n");
+}
+
+fn show_grammar(answer: Admission) {
+    match answer {
+        Admission::Admitted { weight } => number(b"grammar 0 weight ", weight as u64),
+        Admission::Refused { number: n, place } => {
+            number(b"grammar ", n as u64);
+            number(b" at ", place as u64);
+        }
+        Admission::Conflict {
+            place,
+            construct: _,
+            clash: _,
+        } => number(b"grammar 10 at ", place as u64),
+    }
+    text(b"\n");
+}
+
+// weight × (bits + 1); no weight is over 65,535, and no frame over 256 bytes.
+fn bound(weight: usize, bytes: usize) -> u64 {
+    if weight <= 65535 {
+        if bytes <= 256 {
+            return (weight * (8 * bytes + 1)) as u64;
+        }
+    }
+    0
+}
+
+fn show_verdict(v: u32) {
+    match v {
+        1 => text(b"match "),
+        2 => text(b"no match "),
+        _ => text(b"undecided "),
+    }
+}
+
+fn show_run(weight: usize, bytes: usize, run: Run) {
+    show_verdict(run.verdict);
+    number(b"", run.steps);
+    number(b" of ", bound(weight, bytes));
+    text(b"\n");
+}
+
+fn grant(table: &[u32], frame: &[u8], reading: &mut [u32], run: Run, weight: usize) {
+    let granted = runs::advance(table, frame, reading, run, 18446744073709551615);
+    show_run(weight, frame.len(), granted.run);
+}
+
+// An opening's number of refusal; 0 for none.
+fn refusal(answer: Answer) -> u64 {
+    match answer {
+        Answer::Unsound => 23,
+        Answer::LongFrame => 21,
+        Answer::SmallReading => 22,
+        Answer::Opened => 0,
+    }
+}
+
+fn play(table: &[u32], frame: &[u8], reading: &mut [u32], weight: usize) {
+    let opening = matcher::open(table, frame, reading);
+    let answer = opening.answer;
+    let n = refusal(answer);
+    if 0 < n {
+        refused(n);
+        return;
+    }
+    let run = opening.run;
+    grant(table, frame, reading, run, weight);
+}
+
+// The frame that the first `n` bytes are.
+fn framed(table: &[u32; 16384], weight: usize, bytes: &[u8], n: usize) {
+    if bytes.len() < n {
+        return;
+    }
+    let mut reading = [0u32; 4096];
+    play(&table[..], &bytes[0..n], &mut reading, weight);
+}
+
+fn decoded(table: &[u32; 16384], weight: usize, line: &[u8], n: usize) {
+    if 512 < line.len() {
+        return;
+    }
+    let mut bytes = [0u8; 256];
+    hexadecimal::decode(line, &mut bytes);
+    framed(table, weight, &bytes, n);
+}
+
+fn answered(table: &[u32; 16384], weight: usize, line: &[u8]) {
+    let kind = hexadecimal::classify(line);
+    match kind {
+        Line::TooLong => refused(hexadecimal::number(kind)),
+        Line::NoFrame => refused(hexadecimal::number(kind)),
+        Line::Frame(n) => decoded(table, weight, line, n),
+    }
+}
+
+// A line that LF ends.
+fn ended(table: &[u32; 16384], weight: usize, line: &[u8], held: usize) {
+    if line.len() < held {
+        return;
+    }
+    answered(table, weight, hexadecimal::content(&line[0..held]));
+}
+
+// A last line without LF is one if it has a byte.
+fn last(table: &[u32; 16384], weight: usize, line: &[u8], held: usize) {
+    if line.len() < held {
+        return;
+    }
+    if 0 < held {
+        answered(table, weight, &line[0..held]);
+    }
+}
+
+fn line_ended(table: &[u32; 16384], weight: usize, line: &[u8; 514], held: usize) {
+    ended(table, weight, &line[..], held);
+}
+
+// Of a longer line 514 characters are kept: too long also without a CR.
+fn keep(line: &mut [u8; 514], held: usize, byte: u8) -> usize {
+    if held < 514 {
+        line[held] = byte;
+        return held + 1;
+    }
+    held
+}
+
+fn take(table: &[u32; 16384], weight: usize, line: &mut [u8; 514], held: usize, byte: u8) -> usize {
+    if byte == 10 {
+        line_ended(table, weight, line, held);
+        return 0;
+    }
+    keep(line, held, byte)
+}
+
+fn take_all(
+    table: &[u32; 16384],
+    weight: usize,
+    line: &mut [u8; 514],
+    before: usize,
+    piece: &[u8],
+) -> usize {
+    let mut held = before;
+    let mut i = 0;
+    while i < piece.len() {
+        held = take(table, weight, line, held, piece[i]);
+        i += 1;
+    }
+    held
+}
+
+fn piece(table: &[u32; 16384], weight: usize, line: &mut [u8; 514], held: usize) -> Step {
+    let mut buffer = io::buffer();
+    let got = libc::read(STDIN_FILENO, &mut buffer);
+    if got <= 0 {
+        return Step::Ended;
+    }
+    let n = io::count(got, &buffer);
+    Step::More(take_all(table, weight, line, held, &buffer[..n]))
+}
+
+// Nothing says that the input ends, so the turns are counted from a number that no input uses up.
+fn lines(table: &[u32; 16384], weight: usize, line: &mut [u8; 514]) -> usize {
+    let mut held = 0;
+    let mut turns = u64::MAX;
+    while 0 < turns {
+        turns -= 1;
+        let Step::More(next) = piece(table, weight, line, held) else {
+            return held;
+        };
+        held = next;
+    }
+    held
+}
+
+fn last_of(table: &[u32; 16384], weight: usize, line: &[u8; 514], held: usize) {
+    last(table, weight, &line[..], held);
+}
+
+fn frames(table: &[u32; 16384], weight: usize) {
+    let mut line = [0u8; 514];
+    let held = lines(table, weight, &mut line);
+    last_of(table, weight, &line, held);
+}
+
+// Of a longer text so many bytes are enough to refuse it.
+fn admit(fd: i32, table: &mut [u32; 16384]) -> Admission {
+    let mut bytes = [0u8; 8193];
+    let n = io::read_full(fd, &mut bytes);
+    admission::admit(&bytes[..n], &mut table[..])
+}
+
+fn admit_file(table: &mut [u32; 16384]) -> Admission {
+    let fd = os::open_read(b"kiosk.dogma");
+    if fd < 0 {
+        return admission::admit(b"", &mut table[..]);
+    }
+    let answer = admit(fd, table);
+    libc::close(fd);
+    answer
+}
+
+fn start(answer: Admission, table: &[u32; 16384]) {
+    match answer {
+        Admission::Admitted { weight } => frames(table, weight),
+        Admission::Refused {
+            number: _,
+            place: _,
+        } => {}
+        Admission::Conflict {
+            place: _,
+            construct: _,
+            clash: _,
+        } => {}
+    }
+}
+
+fn main() {
+    let mut table = [0u32; 16384];
+    let answer = admit_file(&mut table);
+    show_grammar(answer);
+    start(answer, &table);
+}

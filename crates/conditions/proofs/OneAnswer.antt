@@ -1,0 +1,190 @@
+-- Two answers to one text and table are the same, and leave the same words.
+-- Assumes nothing.
+use Prim.Native.Nat.{ℕ, _≤_, _<_}
+use mathlib.Core.Path.{_≡_, refl, sym, ap, ap₂, subst, _∙_}
+use mathlib.Core.Logic.{_⊎_, inl, inr}
+use mathlib.Core.List.{List, [], _++_}
+use native.Mathlib.Omega.{arith}
+use lib.ListN.{length, take, drop, length-take, take-append-drop}
+use Rattle.theory.specs.Grammar.{alternative, concatenation, repetition, switch, use-of, field, eod}
+use Rattle.theory.specs.Lookahead.{Predicted}
+use Rattle.layout.specs.Places.{table-words, table-of}
+use Rattle.layout.specs.Held.{HeldNode, held}
+use Rattle.conflicts.specs.Conflicts.{Conflicting, LeastWindow, FirstTwo, Answered}
+use Rattle.conflicts.specs.Clashes.{FirstHolders}
+use Rattle.conflicts.specs.declared.Clash.{Clash}
+use Rattle.table.specs.Judged.{Least}
+use Rattle.sets.specs.Rules.{Family}
+use Rattle.weights.proofs.Heights.{weight-at}
+use Rattle.soundness.specs.OneTable.{Alike}
+use Rattle.soundness.proofs.SameSets.{alike-equal}
+use Rattle.parsing.specs.Store.{State}
+use Rattle.text.specs.Header.{header-of}
+use Rattle.admission.specs.Admitted.{number-of, form, words-of, Passes, Tabled, RulesPass, Headed, Clashes, AnsweredRules, Answers, refused-early, by-rules}
+use Rattle.admission.specs.declared.Admission.{Admission}
+use Rattle.conditions.specs.Refusals.{place-in}
+use Rattle.conditions.specs.Conditions.{OneAnswer}
+use Rattle.conditions.proofs.Tables.{one-base, one-state}
+use Rattle.conditions.proofs.Refusals.{least-same}
+use Rattle.conditions.proofs.Exactly.{weights-of, told, exactly}
+use Rattle.conditions.proofs.Buffers.{refused-number, condition-1}
+
+-- ---- the same number, and the same place where it is a refusal
+
+module _ (text old new new′ : List ℕ) (r r′ : Admission) (a : Answers text old new r) (a′ : Answers text old new′ r′) where
+  same-number : (number-of r ≡ number-of r′) × ((number-of r ≡ 0 → ⊥) → place-in r ≡ place-in r′)
+  same-number =
+      elim (told text old new r a) [
+        | inl x ↦ (x .0 ∙ sym (exactly text old new′ r′ a′ .admitted-iff .1 (x .1)), λ n. absurd (n (x .0)))
+        | inr x ↦
+            let e = exactly text old new′ r′ a′ .refused-iff (x .0) (place-in r) .1 (x .2) in
+            (sym (x .1) ∙ sym (e .0), λ n. sym (e .1))
+      ]
+
+-- ---- one clash
+
+abbrev branches-in : HeldNode → List ℕ
+branches-in (alternative is) = is
+branches-in (concatenation is) = []
+branches-in (repetition counts static fixed b) = []
+branches-in (switch chosen is) = []
+branches-in (use-of enters opens closes b) = []
+branches-in (field w admits static binds) = []
+branches-in eod = []
+
+-- the first two are one pair
+first-same : (a b c d : ℕ) → a < b → c < d → (a ≡ c) ⊎ (d ≤ a) → (c ≡ a) ⊎ (b ≤ c) → a ≡ c
+first-same a b c d l m (inl e) y = e
+first-same a b c d l m (inr e) (inl f) = sym f
+first-same a b c d l m (inr e) (inr f) = absurd (omega arith)
+
+second-low : (a b d : ℕ) → a < b → (b ≡ a) ⊎ (d ≤ b) → d ≤ b
+second-low a b d l (inl e) = absurd (omega arith)
+second-low a b d l (inr e) = e
+
+module _ (F : Family) (is : List ℕ) (n a b c d : ℕ) (x : FirstHolders F is n a b) (y : FirstHolders F is n c d) where
+  one-first-holder : a ≡ c
+  one-first-holder = first-same a b c d (x .in-order) (y .in-order) (y .others a (x .first-listed) (x .first-has)) (x .others c (y .first-listed) (y .first-has))
+
+  one-second-holder : b ≡ d
+  one-second-holder =
+      let e : a ≡ c = one-first-holder in
+      let p : d ≤ b = second-low a b d (x .in-order) (subst (λ (k : ℕ). (b ≡ k) ⊎ (d ≤ b)) (sym e) (y .others b (x .second-listed) (x .second-has))) in
+      let q : b ≤ d = second-low c d b (y .in-order) (subst (λ (k : ℕ). (d ≡ k) ⊎ (b ≤ d)) e (x .others d (y .second-listed) (y .second-has))) in
+      omega arith
+
+module _ (ws : List ℕ) (i : ℕ) where
+  one-window : (n m : ℕ) → LeastWindow ws i n → LeastWindow ws i m → n ≡ m
+  one-window n m (x, e, k) (y, f, l) = omega (arith, e, f, k .least y (l .common), l .least x (k .common))
+
+  two-branches : (n m a b c d : ℕ) → n ≡ m → FirstTwo ws i n a b → FirstTwo ws i m c d → Clash.Branches n a b ≡ Clash.Branches m c d
+  two-branches n m a b c d e x y =
+      let l : x .branches ≡ y .branches = ap branches-in (sym (x .node) ∙ y .node) in
+      let h : FirstHolders (Predicted (held ws)) (y .branches) m a b = subst (λ (k : ℕ). FirstHolders (Predicted (held ws)) (y .branches) k a b) e (subst (λ (is : List ℕ). FirstHolders (Predicted (held ws)) is n a b) l (x .holders)) in
+      λ t. Clash.Branches (e t) (one-first-holder (Predicted (held ws)) (y .branches) m a b c d h (y .holders) t) (one-second-holder (Predicted (held ws)) (y .branches) m a b c d h (y .holders) t)
+
+  one-clash : Conflicting ws i → (c d : Clash) → Answered ws i c → Answered ws i d → c ≡ d
+  one-clash k Clash.None d x y = absurd (x k)
+  one-clash k (Clash.Branches n a b) Clash.None x y = absurd (y k)
+  one-clash k (Clash.Branches n a b) (Clash.Branches m c d) x y = two-branches n m a b c d (one-window n m (x .0) (y .0)) (x .1) (y .1)
+  one-clash k (Clash.Branches n a b) (Clash.Passes m) x y = absurd (y .1 (x .1 .branches) (x .1 .node))
+  one-clash k (Clash.Passes n) Clash.None x y = absurd (y k)
+  one-clash k (Clash.Passes n) (Clash.Branches m c d) x y = absurd (x .1 (y .1 .branches) (y .1 .node))
+  one-clash k (Clash.Passes n) (Clash.Passes m) x y = ap Clash.Passes (one-window n m (x .0) (y .0))
+
+-- ---- one weight and one table
+
+module _ (ws old new new′ : List ℕ) (fits : table-words ≤ length old) (x : Tabled ws old new) (y : Tabled ws old new′) where
+  alike : Alike (table-of new) (table-of new′)
+  alike = record { long = x .same .long′; long′ = y .same .long′; same = λ k l e. sym (x .same .same k l e) ∙ y .same .same k l e }
+
+  whole : (zs : List ℕ) → length zs ≡ length old → length (table-of zs) ≡ table-words
+  whole zs e = length-take table-words zs ∙ (let z : _ ≡ table-words = omega (arith, e, fits) in z)
+
+  tables-same : table-of new ≡ table-of new′
+  tables-same = alike-equal alike (x .sound) (y .sound) (whole new (x .length-kept)) (whole new′ (y .length-kept))
+
+  one-table : new ≡ new′
+  one-table = sym (take-append-drop table-words new) ∙ (ap₂ _++_ tables-same (x .beyond ∙ sym (y .beyond)) ∙ take-append-drop table-words new′)
+
+one-weight : (xs : List ℕ) (st : State) (w v : ℕ) → Passes xs st w → Passes xs st v → w ≡ v
+one-weight xs st w v x y =
+    let ws : List ℕ = words-of xs st in sym (x .weighs (λ c i. weight-at ws i) (weights-of ws (x .judged))) ∙ y .weighs (λ c i. weight-at ws i) (weights-of ws (x .judged))
+
+-- ---- one answer
+
+-- what is read by rules
+pub record ByRules (text old : List ℕ) (A : ℕ → Type 0) : Type 0 where
+  pub base : ℕ
+  pub headed : Headed text old base
+  pub answered : A base
+
+module _ (text old new : List ℕ) where
+  of-admitted : (w : ℕ) → Answers text old new (Admission.Admitted w) → ByRules text old (λ base. RulesPass (drop base text) w old new)
+  of-admitted w (refused-early n place e r k) = let z : _≡_ {A = ℕ} 0 1 = cc in absurd (omega arith)
+  of-admitted w (by-rules base h p) = record { base = base; headed = h; answered = p }
+
+  of-conflict : (place i : ℕ) (c : Clash) → Answers text old new (Admission.Conflict place i c) → ByRules text old (λ base. Clashes (drop base text) base place i c)
+  of-conflict place i c (refused-early n q e r k) = let z : _≡_ {A = ℕ} 0 1 = cc in absurd (omega arith)
+  of-conflict place i c (by-rules base h p) = record { base = base; headed = h; answered = p .0 }
+
+  -- a refused text's table is as it was
+  kept : (r : Admission) → Answers text old new r → (number-of r ≡ 0 → ⊥) → new ≡ old
+  kept r a n = condition-1 .admitting text old new r a .refused n
+
+-- two that are read by rules are so from the same place on
+together : (text old : List ℕ) (A B : ℕ → Type 0) (C : Type 0) → ByRules text old A → ByRules text old B → ((base : ℕ) → Headed text old base → A base → B base → C) → C
+together text old A B C x y f =
+    f (x .base) (x .headed) (x .answered) (subst B (one-base (header-of text) (y .base) (x .base) (y .headed .header) (x .headed .header)) (y .answered))
+
+module _ (text old new new′ : List ℕ) where
+  both-admitted : (w v : ℕ) → Answers text old new (Admission.Admitted w) → Answers text old new′ (Admission.Admitted v) → (Admission.Admitted w ≡ Admission.Admitted v) × (new ≡ new′)
+  both-admitted w v a b =
+      together text old (λ base. RulesPass (drop base text) w old new) (λ base. RulesPass (drop base text) v old new′) ((Admission.Admitted w ≡ Admission.Admitted v) × (new ≡ new′))
+      (of-admitted text old new w a) (of-admitted text old new′ v b) same
+    where
+      same : (base : ℕ) → Headed text old base → RulesPass (drop base text) w old new → RulesPass (drop base text) v old new′ → (Admission.Admitted w ≡ Admission.Admitted v) × (new ≡ new′)
+      same base h x y =
+          let xs : List ℕ = drop base text in
+          let e : y .st ≡ x .st = one-state (form xs) (y .st) (x .st) (y .passes .passed .passed .passed .passed .passed .formed) (x .passes .passed .passed .passed .passed .passed .formed) in (
+            ap Admission.Admitted (one-weight xs (x .st) w v (x .passes) (subst (λ (st : State). Passes xs st v) e (y .passes))),
+            one-table (words-of xs (x .st)) old new new′ (h .table-fits) (x .table) (subst (λ (st : State). Tabled (words-of xs st) old new′) e (y .table)),
+          )
+
+  both-clash : (p q i j : ℕ) (c d : Clash) → p ≡ q → Answers text old new (Admission.Conflict p i c) → Answers text old new′ (Admission.Conflict q j d) → Admission.Conflict p i c ≡ Admission.Conflict q j d
+  both-clash p q i j c d z a b =
+      together text old (λ base. Clashes (drop base text) base p i c) (λ base. Clashes (drop base text) base q j d) (Admission.Conflict p i c ≡ Admission.Conflict q j d)
+      (of-conflict text old new p i c a) (of-conflict text old new′ q j d b) same
+    where
+      same : (base : ℕ) → Headed text old base → Clashes (drop base text) base p i c → Clashes (drop base text) base q j d → Admission.Conflict p i c ≡ Admission.Conflict q j d
+      same base h x y =
+          let xs : List ℕ = drop base text in
+          let ws : List ℕ = words-of xs (x .st) in
+          let e : y .st ≡ x .st = one-state (form xs) (y .st) (x .st) (y .passed .passed .passed .passed .passed .formed) (x .passed .passed .passed .passed .passed .formed) in
+          let l : Least ws (Conflicting ws) j = subst (λ (st : State). Least (words-of xs st) (Conflicting (words-of xs st)) j) e (y .first) in
+          let m : Answered ws j d = subst (λ (st : State). Answered (words-of xs st) j d) e (y .answered) in
+          let s : i ≡ j = least-same (Conflicting ws) i j (x .first .holds) (l .holds) (x .first .before) (l .before) in
+          let k : c ≡ d = one-clash ws j (l .holds) c d (subst (λ (n : ℕ). Answered ws n c) s (x .answered)) m in
+          λ t. Admission.Conflict (z t) (s t) (k t)
+
+pub one-answer : OneAnswer
+one-answer text old new new′ r r′ a a′ = by r r′ a a′ (same-number text old new new′ r r′ a a′)
+  where
+    by : (r r′ : Admission) → Answers text old new r → Answers text old new′ r′ → (number-of r ≡ number-of r′) × ((number-of r ≡ 0 → ⊥) → place-in r ≡ place-in r′) → (r ≡ r′) × (new ≡ new′)
+    by (Admission.Admitted w) (Admission.Admitted v) a b e = both-admitted text old new new′ w v a b
+    by (Admission.Admitted w) (Admission.Refused n q) a b e = absurd (omega (arith, e .0, refused-number text old new′ n q b .0))
+    by (Admission.Admitted w) (Admission.Conflict q j d) a b e = absurd (omega (arith, e .0))
+    by (Admission.Refused m p) (Admission.Admitted v) a b e = absurd (omega (arith, e .0, refused-number text old new m p a .0))
+    by (Admission.Refused m p) (Admission.Refused n q) a b e =
+        let x : 1 ≤ m = refused-number text old new m p a .0 in
+        let y : 1 ≤ n = refused-number text old new′ n q b .0 in (
+          ap₂ Admission.Refused (e .0) (e .1 (λ z. omega (arith, x, z))),
+          kept text old new (Admission.Refused m p) a (λ z. omega (arith, x, z)) ∙ sym (kept text old new′ (Admission.Refused n q) b (λ z. omega (arith, y, z))),
+        )
+    by (Admission.Refused m p) (Admission.Conflict q j d) a b e = absurd (refused-number text old new m p a .2 (e .0))
+    by (Admission.Conflict p i c) (Admission.Admitted v) a b e = absurd (omega (arith, e .0))
+    by (Admission.Conflict p i c) (Admission.Refused n q) a b e = absurd (refused-number text old new′ n q b .2 (sym (e .0)))
+    by (Admission.Conflict p i c) (Admission.Conflict q j d) a b e = (
+      both-clash text old new new′ p q i j c d (e .1 (λ z. omega (arith, z))) a b,
+      kept text old new (Admission.Conflict p i c) a (λ z. omega (arith, z)) ∙ sym (kept text old new′ (Admission.Conflict q j d) b (λ z. omega (arith, z))),
+    )

@@ -1,0 +1,88 @@
+// A clash: what shares which bits, and what to change.
+use crate::lines;
+use crate::quoting::Part;
+use crate::quoting::quote;
+use crate::windows;
+use crate::writing::say;
+use conflicts::Clash;
+use locating::Located;
+use locating::locate;
+
+fn part_at(grammar: &[u8], at: usize, part: Part) {
+    say(b"    ");
+    lines::place(grammar, at);
+    say(b":  ");
+    quote(grammar, at, part);
+    say(b"\n");
+}
+
+fn branch(grammar: &[u8], construct: usize) {
+    match locate(grammar, construct) {
+        Located::Construct {
+            place,
+            kind: _,
+            count: _,
+        } => part_at(grammar, place, Part::Branch),
+        Located::Nothing => {}
+    }
+}
+
+fn change_branches() {
+    say(
+        b"What to change: let the two branches differ in their first 8 bits. What both begin with can stand once in\n",
+    );
+    say(
+        b"front of the alternative, as in \"A\" & (\"B\" | \"C\") for \"AB\" | \"AC\". Or bind a field that comes before by\n",
+    );
+    say(b"var(..), and choose by a switch, as in [kind = 1: \"AB\"; kind = 2: \"AC\";].\n");
+}
+
+fn branches(grammar: &[u8], window: usize, first: usize, second: usize) {
+    say(
+        b"The next bits of a frame must say which branch of an alternative is taken. Here two branches admit the same:\n",
+    );
+    branch(grammar, first);
+    branch(grammar, second);
+    say(b"Both can come where the next is ");
+    windows::window(window);
+    change_branches();
+}
+
+fn change_passes() {
+    say(
+        b"What to change: let what follows the repetition begin with bits that no pass begins with (an end mark). Or\n",
+    );
+    say(
+        b"give the number of passes: {4}, or {n} with n bound by a field that comes before, as in\n",
+    );
+    say(b"uint(8, var(n, ~)) & \"A\"{n}.\n");
+}
+
+fn passes(grammar: &[u8], at: usize, window: usize) {
+    say(
+        b"After each pass of a repetition the next bits must say whether another pass comes. Going on and stopping\n",
+    );
+    say(b"admit the same here:\n");
+    part_at(grammar, at, Part::Member);
+    say(b"Another pass, and what follows the repetition, can both come where the next is ");
+    windows::window(window);
+    change_passes();
+}
+
+fn explained(grammar: &[u8], at: usize, clash: Clash) {
+    match clash {
+        Clash::None => {}
+        Clash::Branches {
+            window,
+            first,
+            second,
+        } => branches(grammar, window, first, second),
+        Clash::Passes { window } => passes(grammar, at, window),
+    }
+}
+
+pub fn conflict(grammar: &[u8], at: usize, clash: Clash) {
+    say(b"refused, number 10: a clash\n");
+    lines::shown(grammar, at);
+    explained(grammar, at, clash);
+}

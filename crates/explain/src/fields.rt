@@ -1,0 +1,85 @@
+// An admitted grammar: its numbers, and its fields in order.
+use crate::lines;
+use crate::quoting::Part;
+use crate::quoting::quote;
+use crate::writing::number;
+use crate::writing::say;
+use locating::Located;
+use locating::locate;
+
+fn field_at(grammar: &[u8], construct: usize, at: usize) {
+    number(b"    construct ", construct);
+    say(b", ");
+    lines::place(grammar, at);
+    say(b":  ");
+    quote(grammar, at, Part::Field);
+    say(b"\n");
+}
+
+// A literal, a range or a uint.
+fn is_field(kind: usize) -> bool {
+    match kind {
+        6 | 7 | 8 => true,
+        _ => false,
+    }
+}
+
+fn field_of(grammar: &[u8], construct: usize, kind: usize, at: usize) {
+    if is_field(kind) {
+        field_at(grammar, construct, at);
+    }
+}
+
+fn field(grammar: &[u8], construct: usize) {
+    match locate(grammar, construct) {
+        Located::Construct {
+            place,
+            kind,
+            count: _,
+        } => field_of(grammar, construct, kind, place),
+        Located::Nothing => {}
+    }
+}
+
+fn fields(grammar: &[u8], count: usize) {
+    let mut i = 0;
+    while i < count {
+        field(grammar, i);
+        i += 1;
+    }
+}
+
+fn constructs(grammar: &[u8]) -> usize {
+    match locate(grammar, 0) {
+        Located::Construct {
+            place: _,
+            kind: _,
+            count,
+        } => count,
+        Located::Nothing => 0,
+    }
+}
+
+// The steps that a frame of 256 bytes can take: one step in each place of 2,048 bits and the end, for each unit of weight.
+fn steps(weight: usize) -> usize {
+    if weight <= 65535 {
+        return weight * 2049;
+    }
+    0
+}
+
+fn bound(weight: usize) {
+    number(b"A frame of 256 bytes takes at most ", steps(weight));
+    number(b" steps (", weight);
+    say(b" x 2049).\n");
+}
+
+pub fn admitted(grammar: &[u8], weight: usize) {
+    let count = constructs(grammar);
+    number(b"admitted, weight ", weight);
+    number(b", constructs ", count);
+    say(b"\n");
+    bound(weight);
+    say(b"The fields in order:\n");
+    fields(grammar, count);
+}

@@ -1,0 +1,2 @@
+-- What `locate` promises.
+pub mod Located
