@@ -1,7 +1,7 @@
 -- Condition 1: numbers of answers, and what is left of the buffers.
 -- Assumes nothing.
 use Prim.Native.Nat.{ℕ, _*_, _≤_}
-use mathlib.Core.Path.{_≡_, refl, sym, ap, subst, _∙_}
+use mathlib.Core.Path.{_≡_, refl, sym, ap, subst}
 use mathlib.Core.Logic.{_⊎_, inl, inr}
 use mathlib.Core.Bool.{Bool, true, false}
 use mathlib.Core.List.{List}
@@ -17,7 +17,6 @@ use Rattle.admission.specs.declared.Admission.{Admission}
 use Rattle.runs.specs.Runs.{head-of, whole-of, fitting, After, after, run-in, reading-in, answer-in, after-steps, grant-of, number-of as grant-number, taken-of}
 use Rattle.runs.specs.declared.Run.{Run}
 use Rattle.runs.specs.declared.Answer.{Answer as GrantAnswer}
-use Rattle.matcher.specs.Opening.{Answered}
 use Rattle.matcher.specs.declared.Answer.{Answer}
 use Rattle.conditions.specs.Conditions.{TextAnswered, RunOpened, RunGranted, Condition1}
 
@@ -105,7 +104,7 @@ module _ (ws fs rs : List ℕ) (run : Run) (n : ℕ) where
   beyond : (w : Whole) → Recorded (whole-of rs run) w → Beyond (after-steps (run .steps) w)
   beyond (whole cs ps vs zs h) r = r .past
 
-  run-granted : RunGranted ws fs rs run n
+  run-granted : RunGranted rs run (grant-of ws fs rs run n)
   run-granted =
       record {
         number = in-each Numbered (inr (inl refl)) (inr (inr refl)) (λ w r. numbered w);

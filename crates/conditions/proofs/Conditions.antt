@@ -15,7 +15,7 @@ use Rattle.admission.specs.declared.Admission.{Admission}
 use Rattle.table.specs.Sound.{SoundTable}
 use Rattle.matcher.specs.Opening.{Answered, Opened}
 use Rattle.matcher.specs.declared.Answer.{Answer}
-use Rattle.matcher.specs.Conditions.{Grant, OthersRefused, start, grammar-of}
+use Rattle.matcher.specs.Conditions.{Grant, OthersRefused, start, here, grammar-of}
 use Rattle.matcher.proofs.Conditions.{condition-2 as table-condition-2, condition-3 as table-condition-3, never-broken}
 use Rattle.conditions.specs.Texts.{Reading, text-grammar}
 use Rattle.conditions.specs.Conditions.{Exact, Claim, Condition2, Condition3}
@@ -23,7 +23,7 @@ use Rattle.conditions.proofs.Exactly.{exactly}
 use Rattle.conditions.proofs.Tables.{text-table, same-grammar}
 
 module _ (ws fs rs : List ℕ) (o : Opened ws fs rs) where
-  exact : (gs : List Grant) → OthersRefused ws fs gs (start rs) → Exact (grammar-of ws) ws fs rs gs
+  exact : (gs : List Grant) → OthersRefused ws fs gs (start rs) → Exact (grammar-of ws) fs rs (here ws fs rs gs)
   exact gs a = let e = table-condition-2 ws fs rs o gs a in record { match-iff = e .match-iff; no-match-iff = e .no-match-iff; fields = e .fields }
 
   claim : (weight : ℕ) → weight-of (table-of ws) ≡ weight → Claim (grammar-of ws) weight ws fs rs
@@ -38,9 +38,9 @@ module _ (ws fs rs : List ℕ) (o : Opened ws fs rs) where
       }
 
 matching : (text old table : List ℕ) (weight : ℕ) → Answers text old table (Admission.Admitted weight) → (x : Reading text)
-    → (fs rs : List ℕ) → Opened table fs rs → (gs : List Grant) → OthersRefused table fs gs (start rs) → Exact (text-grammar x) table fs rs gs
+    → (fs rs : List ℕ) → Opened table fs rs → (gs : List Grant) → OthersRefused table fs gs (start rs) → Exact (text-grammar x) fs rs (here table fs rs gs)
 matching text old table weight a x fs rs o gs r =
-    subst (λ (g : Grammar (Unit {0}) Values). Exact g table fs rs gs) (same-grammar text old table weight a x) (exact table fs rs o gs r)
+    subst (λ (g : Grammar (Unit {0}) Values). Exact g fs rs (here table fs rs gs)) (same-grammar text old table weight a x) (exact table fs rs o gs r)
 
 -- one answer, of a sound table
 opens : (ws fs rs : List ℕ) (answer : Answer) → SoundTable ws → Answered ws fs rs answer → (answer ≡ Answer.Opened) ↔ ((length fs ≤ 256) × (2 * bits-of fs ≤ length rs))

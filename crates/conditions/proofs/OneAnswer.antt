@@ -1,11 +1,11 @@
 -- Two answers to one text and table are the same, and leave the same words.
 -- Assumes nothing.
 use Prim.Native.Nat.{ℕ, _≤_, _<_}
-use mathlib.Core.Path.{_≡_, refl, sym, ap, ap₂, subst, _∙_}
+use mathlib.Core.Path.{_≡_, sym, ap, ap₂, subst, _∙_}
 use mathlib.Core.Logic.{_⊎_, inl, inr}
 use mathlib.Core.List.{List, [], _++_}
 use native.Mathlib.Omega.{arith}
-use lib.ListN.{length, take, drop, length-take, take-append-drop}
+use lib.ListN.{length, drop, length-take, take-append-drop}
 use Rattle.theory.specs.Grammar.{alternative, concatenation, repetition, switch, use-of, field, eod}
 use Rattle.theory.specs.Lookahead.{Predicted}
 use Rattle.layout.specs.Places.{table-words, table-of}
@@ -20,7 +20,7 @@ use Rattle.soundness.specs.OneTable.{Alike}
 use Rattle.soundness.proofs.SameSets.{alike-equal}
 use Rattle.parsing.specs.Store.{State}
 use Rattle.text.specs.Header.{header-of}
-use Rattle.admission.specs.Admitted.{number-of, form, words-of, Passes, Tabled, RulesPass, Headed, Clashes, AnsweredRules, Answers, refused-early, by-rules}
+use Rattle.admission.specs.Admitted.{number-of, form, words-of, Passes, Tabled, RulesPass, Headed, Clashes, Answers, refused-early, by-rules}
 use Rattle.admission.specs.declared.Admission.{Admission}
 use Rattle.conditions.specs.Refusals.{place-in}
 use Rattle.conditions.specs.Conditions.{OneAnswer}

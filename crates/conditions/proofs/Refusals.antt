@@ -1,68 +1,53 @@
 -- A text is answered by the first row of document 01's table that fits it.
 -- Assumes nothing.
-use Prim.Native.Nat.{ℕ, zero, suc, _+_, _≤_, _<_}
-use mathlib.Core.Path.{_≡_, refl, sym, ap, ap₂, subst, _∙_}
-use mathlib.Core.Logic.{_⊎_, _↔_, inl, inr, ⊎-elim}
+use Prim.Native.Nat.{ℕ, _+_, _≤_, _<_}
+use mathlib.Core.Path.{_≡_, refl, sym, ap, subst, _∙_}
+use mathlib.Core.Logic.{_⊎_, inl, inr}
 use mathlib.Core.List.{List, [], _∷_}
 use native.Mathlib.Omega.{arith}
 use native.Mathlib.Decide.{decLt}
 use lib.ListN.{length, drop, getD, length-drop}
 use Rattle.theory.specs.Grammar.{Grammar}
-use Rattle.theory.specs.Lookahead.{Conflict, EmptyBody}
+use Rattle.theory.specs.Lookahead.{EmptyBody}
 use Rattle.theory.specs.Weight.{Weighs}
 use Rattle.layout.specs.Places.{table-words}
 use Rattle.layout.specs.Held.{Values, held, opening}
 use Rattle.rules.specs.Reaching.{Reaches}
-use Rattle.scoping.proofs.RuledLaw.{ruled}
-use Rattle.weights.proofs.Heights.{weight-at}
-use Rattle.weights.proofs.Theorems.{weights-exist}
 use Rattle.table.specs.Judged.{Passed9, Passed10}
 use Rattle.text.specs.Header.{header-of}
 use Rattle.text.specs.declared.Heading.{Heading}
 use Rattle.parsing.specs.Store.{State, node-words, rule-words}
 use Rattle.naming.specs.Words.{place-of, named-at}
 use Rattle.parsing.specs.Form.{Outcome, right, refused}
-use Rattle.admission.specs.Admitted.{number-of, form, words-of, fault-8, Right, Limited, Named, Straight, Bounded, Passes, Headed, RulesRefused, AnsweredRules, Answers, refused-early, by-rules}
-use Rattle.admission.specs.Admitted.{LeastMark as TableMark, Refusal}
-use Rattle.admission.specs.declared.Admission.{Admission}
+use Rattle.admission.specs.Admitted.{form, words-of, fault-8, Right, Limited, Named, Straight, Bounded, Passes, Headed}
 use Rattle.admission.specs.declared.Found.{Found}
 use Rattle.conditions.specs.Texts.{Reading, meant}
-use Rattle.conditions.specs.Refusals.{Row, short-table, wrong-size, wrong-header, wrong-form, past-limit, wrong-name, recursive, too-large, empty-body, clashing, too-heavy, number, HasConflict, LeastMark, PastLimit, WrongName, Recursive, TooLarge, EmptyBodies, Clashes, TooHeavy, Read, Fits, NoneBelow, First, place-in, Exactly}
-use Rattle.conditions.proofs.Tables.{one-base, one-state, words-hold}
+use Rattle.conditions.specs.Refusals.{Row, short-table, wrong-size, wrong-header, wrong-form, past-limit, wrong-name, recursive, too-large, empty-body, clashing, too-heavy, number, HasConflict, LeastMark, PastLimit, WrongName, Recursive, TooLarge, EmptyBodies, Clashes, TooHeavy, Read, Fits, NoneBelow, First}
+use Rattle.conditions.proofs.Tables.{one-base, one-reading, words-hold}
 
 -- ---- numbers name rows
 
 abbrev row-of : ℕ → Row
 row-of n = getD (short-table ∷ short-table ∷ wrong-size ∷ wrong-header ∷ wrong-form ∷ past-limit ∷ wrong-name ∷ recursive ∷ too-large ∷ empty-body ∷ clashing ∷ too-heavy ∷ []) n short-table
 
-numbered : (k : Row) → row-of (number k) ≡ k
-numbered short-table = refl
-numbered wrong-size = refl
-numbered wrong-header = refl
-numbered wrong-form = refl
-numbered past-limit = refl
-numbered wrong-name = refl
-numbered recursive = refl
-numbered too-large = refl
-numbered empty-body = refl
-numbered clashing = refl
-numbered too-heavy = refl
+numbered : (k : Row) → (row-of (number k) ≡ k) × (1 ≤ number k) × (number k < 12)
+numbered short-table = (refl, omega arith, omega arith)
+numbered wrong-size = (refl, omega arith, omega arith)
+numbered wrong-header = (refl, omega arith, omega arith)
+numbered wrong-form = (refl, omega arith, omega arith)
+numbered past-limit = (refl, omega arith, omega arith)
+numbered wrong-name = (refl, omega arith, omega arith)
+numbered recursive = (refl, omega arith, omega arith)
+numbered too-large = (refl, omega arith, omega arith)
+numbered empty-body = (refl, omega arith, omega arith)
+numbered clashing = (refl, omega arith, omega arith)
+numbered too-heavy = (refl, omega arith, omega arith)
 
 pub same-row : (j k : Row) → number j ≡ number k → j ≡ k
-same-row j k e = sym (numbered j) ∙ (ap row-of e ∙ numbered k)
+same-row j k e = sym (numbered j .0) ∙ (ap row-of e ∙ numbered k .0)
 
 pub in-range : (k : Row) → (1 ≤ number k) × (number k < 12)
-in-range short-table = (omega arith, omega arith)
-in-range wrong-size = (omega arith, omega arith)
-in-range wrong-header = (omega arith, omega arith)
-in-range wrong-form = (omega arith, omega arith)
-in-range past-limit = (omega arith, omega arith)
-in-range wrong-name = (omega arith, omega arith)
-in-range recursive = (omega arith, omega arith)
-in-range too-large = (omega arith, omega arith)
-in-range empty-body = (omega arith, omega arith)
-in-range clashing = (omega arith, omega arith)
-in-range too-heavy = (omega arith, omega arith)
+in-range k = (numbered k .1, numbered k .2)
 
 -- ---- a row fits at one place
 
@@ -75,9 +60,9 @@ module _ (text : List ℕ) where
   of-read : (P : ℕ → List ℕ → State → ℕ → Type 0) (p base : ℕ) (st : State) → header-of text ≡ Heading.Rules base → form (drop base text) ≡ right st
       → Read text P p → P base (drop base text) st p
   of-read P p base st h f (x, e) =
-      let b : x .base ≡ base = one-base (header-of text) (x .base) base (x .header) h in
-      let s : x .st ≡ st = one-state (form (drop base text)) (x .st) st (subst (λ (k : ℕ). form (drop k text) ≡ right (x .st)) b (x .formed)) f in
-      subst (λ (k : ℕ). P k (drop k text) st p) b (subst (λ (s : State). P (x .base) (drop (x .base) text) s p) s e)
+      let y : Reading text = record { base = base; st = st; header = h; formed = f } in
+      let s = one-reading x y in
+      subst (λ (k : ℕ). P k (drop k text) st p) (s .0) (subst (λ (z : State). P (x .base) (drop (x .base) text) z p) (s .1) e)
 
   -- so of two
   both-read : (P : ℕ → List ℕ → State → ℕ → Type 0) (p q : ℕ) → ((base : ℕ) (xs : List ℕ) (st : State) → P base xs st p → P base xs st q → p ≡ q) → Read text P p → Read text P q → p ≡ q

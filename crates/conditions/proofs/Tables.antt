@@ -6,9 +6,9 @@ use mathlib.Core.List.{List}
 use native.Mathlib.Omega.{arith}
 use lib.ListN.{length, drop, length-drop}
 use Rattle.theory.specs.Grammar.{Node, alternative, concatenation, repetition, switch, use-of, field, eod, Grammar}
-use Rattle.theory.specs.Scope.{Scope, local-node, localised}
+use Rattle.theory.specs.Scope.{local-node, localised}
 use Rattle.theory.specs.Weight.{Weighs}
-use Rattle.layout.specs.Places.{table-of, weight-of}
+use Rattle.layout.specs.Places.{table-of}
 use Rattle.layout.specs.Held.{Values, held, opening}
 use Rattle.scoping.specs.Scope.{scope-of, fresh}
 use Rattle.weights.proofs.Heights.{weight-at}
@@ -24,7 +24,7 @@ use Rattle.admission.proofs.Facts.{facts}
 use Rattle.admission.proofs.Judging.{readable}
 use Rattle.meaning.proofs.Holding.{holds-text}
 use Rattle.matcher.specs.Conditions.{grammar-of}
-use Rattle.conditions.specs.Texts.{Reading, meant, each-use, text-grammar, Admissible}
+use Rattle.conditions.specs.Texts.{Reading, meant, each-use, text-grammar}
 use Rattle.conditions.specs.Conditions.{TextTable, Tables}
 
 -- ---- a text has one reading
@@ -42,6 +42,11 @@ one-state o st st′ e e′ = ap (state-in st) (sym e ∙ e′)
 
 pub one-base : (h : Heading) (b b′ : ℕ) → h ≡ Heading.Rules b → h ≡ Heading.Rules b′ → b ≡ b′
 one-base h b b′ e e′ = ap base-in (sym e ∙ e′)
+
+pub one-reading : {text : List ℕ} (x y : Reading text) → (x .base ≡ y .base) × (x .st ≡ y .st)
+one-reading {text} x y =
+    let b : x .base ≡ y .base = one-base (header-of text) (x .base) (y .base) (x .header) (y .header) in
+    (b, one-state (form (drop (y .base) text)) (x .st) (y .st) (subst (λ (k : ℕ). form (drop k text) ≡ right (x .st)) b (x .formed)) (y .formed))
 
 -- ---- of a scope, `localised` reads only which uses open a rule
 
@@ -110,7 +115,5 @@ text-table text old new weight (by-rules base h p) = table-is text old new weigh
 pub same-grammar : (text old new : List ℕ) (weight : ℕ) → Answers text old new (Admission.Admitted weight) → (x : Reading text) → grammar-of new ≡ text-grammar x
 same-grammar text old new weight a x =
     let t : TextTable text new weight = text-table text old new weight a in
-    let y : Reading text = t .admissible .reading in
-    let b : y .base ≡ x .base = one-base (header-of text) (y .base) (x .base) (y .header) (x .header) in
-    let s : y .st ≡ x .st = one-state (form (drop (x .base) text)) (y .st) (x .st) (subst (λ (k : ℕ). form (drop k text) ≡ right (y .st)) b (y .formed)) (x .formed) in
-    localised-so (table-of new) (held (table-of new)) ∙ ap (localised each-use fresh) (t .holds ∙ ap₂ (λ (k : ℕ) (st : State). meant (drop k text) st) b s)
+    let s = one-reading (t .admissible .reading) x in
+    localised-so (table-of new) (held (table-of new)) ∙ ap (localised each-use fresh) (t .holds ∙ ap₂ (λ (k : ℕ) (st : State). meant (drop k text) st) (s .0) (s .1))

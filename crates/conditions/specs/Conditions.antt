@@ -1,5 +1,7 @@
 -- The mission's three conditions, of what the calls promise: `Answers` (`admission::admit`), `Answered` and `run-given` (`matcher::open`),
--- `grant-of` (`runs::advance`, `runs::grant`). `proofs/Conditions.antt` proves each.
+-- `grant-of` (`runs::advance`, `runs::grant`). They stand at the end of each part, and are proved: `Condition1` by `condition-1`
+-- (`proofs/Buffers.antt`), `Tables` by `text-table` (`proofs/Tables.antt`), `OneAnswer` by `one-answer` (`proofs/OneAnswer.antt`), `Condition2` and
+-- `Condition3` by `condition-2` and `condition-3` (`proofs/Conditions.antt`).
 -- Assumes nothing.
 use Prim.Native.Nat.{ℕ, _+_, _*_, _≤_}
 use mathlib.Core.Path.{_≡_}
@@ -19,13 +21,13 @@ use Rattle.agreement.specs.Runs.{words-of}
 use Rattle.table.specs.Sound.{SoundTable}
 use Rattle.admission.specs.Admitted.{number-of, Answers}
 use Rattle.admission.specs.declared.Admission.{Admission}
-use Rattle.runs.specs.Runs.{run-in, reading-in, answer-in, grant-of, closed-run, number-of as grant-number, taken-of}
+use Rattle.runs.specs.Runs.{After, run-in, reading-in, answer-in, grant-of, closed-run, number-of as grant-number, taken-of}
 use Rattle.runs.specs.declared.Run.{Run}
 use Rattle.matcher.specs.Opening.{Answered, Opened, run-given, number-of as opening-number}
 use Rattle.matcher.specs.declared.Answer.{Answer}
-use Rattle.matcher.specs.Conditions.{Grant, run-kept, reading-kept, OthersRefused, start, Decided, here, Unbroken, Granted}
+use Rattle.matcher.specs.Conditions.{Grant, Kept, run-kept, reading-kept, OthersRefused, start, Decided, here, Unbroken, Granted}
 use Rattle.conditions.specs.Refusals.{Exactly}
-use Rattle.conditions.specs.Texts.{Reading, meant, text-grammar, Admissible}
+use Rattle.conditions.specs.Texts.{Reading, rules-grammar, text-grammar, Admissible}
 
 -- ---- 1. "each is answered or refused by a number of document 01, buffers are left as stated, no caller is trusted"
 
@@ -41,19 +43,18 @@ pub record RunOpened (answer : Answer) : Type 0 where
   pub number : (opening-number answer ≡ 0) ⊎ (opening-number answer ≡ 21) ⊎ (opening-number answer ≡ 22) ⊎ (opening-number answer ≡ 23)
   pub refused : (opening-number answer ≡ 0 → ⊥) → run-given answer ≡ closed-run
 
--- a grant to any run, with any table, frame and reading: 0, 21 or 24; refused, "no step is taken and nothing changes"
-pub record RunGranted (ws fs rs : List ℕ) (run : Run) (n : ℕ) : Type 0 where
-  pub number : (grant-number (answer-in (grant-of ws fs rs run n)) ≡ 0) ⊎ (grant-number (answer-in (grant-of ws fs rs run n)) ≡ 21) ⊎ (grant-number (answer-in (grant-of ws fs rs run n)) ≡ 24)
-  pub refused : (grant-number (answer-in (grant-of ws fs rs run n)) ≡ 0 → ⊥)
-      → (run-in (grant-of ws fs rs run n) ≡ run) × (reading-in (grant-of ws fs rs run n) ≡ rs) × (taken-of (answer-in (grant-of ws fs rs run n)) ≡ 0)
-  pub length-kept : length (reading-in (grant-of ws fs rs run n)) ≡ length rs
+-- what a grant to any run, with any table, frame and reading, leaves: 0, 21 or 24; refused, "no step is taken and nothing changes"
+pub record RunGranted (rs : List ℕ) (run : Run) (x : After) : Type 0 where
+  pub number : (grant-number (answer-in x) ≡ 0) ⊎ (grant-number (answer-in x) ≡ 21) ⊎ (grant-number (answer-in x) ≡ 24)
+  pub refused : (grant-number (answer-in x) ≡ 0 → ⊥) → (run-in x ≡ run) × (reading-in x ≡ rs) × (taken-of (answer-in x) ≡ 0)
+  pub length-kept : length (reading-in x) ≡ length rs
   -- "words beyond never change": past the fields recorded
-  pub beyond : drop (2 * run-in (grant-of ws fs rs run n) .captures) (reading-in (grant-of ws fs rs run n)) ≡ drop (2 * run-in (grant-of ws fs rs run n) .captures) rs
+  pub beyond : drop (2 * run-in x .captures) (reading-in x) ≡ drop (2 * run-in x .captures) rs
 
 pub record Condition1 : Type 0 where
   pub admitting : (text old new : List ℕ) (answer : Admission) → Answers text old new answer → TextAnswered old new answer
   pub opening-runs : (ws fs rs : List ℕ) (answer : Answer) → Answered ws fs rs answer → RunOpened answer
-  pub granting : (ws fs rs : List ℕ) (run : Run) (n : ℕ) → RunGranted ws fs rs run n
+  pub granting : (ws fs rs : List ℕ) (run : Run) (n : ℕ) → RunGranted rs run (grant-of ws fs rs run n)
 
 -- ---- the table of an admitted text
 
@@ -61,10 +62,10 @@ pub record Condition1 : Type 0 where
 pub record TextTable (text new : List ℕ) (weight : ℕ) : Type 0 where
   pub admissible : Admissible text weight
   pub sound : SoundTable new
-  pub holds : held (table-of new) ≡ meant (drop (admissible .reading .base) text) (admissible .reading .st)
+  pub holds : held (table-of new) ≡ rules-grammar (admissible .reading)
   pub weight-stored : weight-of (table-of new) ≡ weight
-  pub weights : (w : Unit {0} → ℕ → ℕ) → Weighs (meant (drop (admissible .reading .base) text) (admissible .reading .st)) w → w tt opening ≡ weight
-  pub weighable : (w : Unit {0} → ℕ → ℕ) × Weighs (meant (drop (admissible .reading .base) text) (admissible .reading .st)) w
+  pub weights : (w : Unit {0} → ℕ → ℕ) → Weighs (rules-grammar (admissible .reading)) w → w tt opening ≡ weight
+  pub weighable : (w : Unit {0} → ℕ → ℕ) × Weighs (rules-grammar (admissible .reading)) w
 
 abbrev pub Tables : Type 0
 Tables = (text old new : List ℕ) (weight : ℕ) → Answers text old new (Admission.Admitted weight) → TextTable text new weight
@@ -74,15 +75,16 @@ abbrev pub OneAnswer : Type 0
 OneAnswer =
     (text old new new′ : List ℕ) (answer answer′ : Admission) → Answers text old new answer → Answers text old new′ answer′ → (answer ≡ answer′) × (new ≡ new′)
 
--- ---- 2. "A grammar is admitted exactly when document 01's rules admit it; a decided run says match exactly when some derivation covers the whole frame, and its reading lists that derivation's fields"
+-- ---- 2. "A grammar is admitted exactly when document 01's rules admit it; a decided run says match exactly when some derivation covers the
+-- whole frame, and its reading lists that derivation's fields."
 
-module _ (g : Grammar (Unit {0}) Values) (ws fs rs : List ℕ) (gs : List Grant) where
-  pub record Exact : Type 0 where
-    pub match-iff : Decided (run-kept (here ws fs rs gs)) → (run-kept (here ws fs rs gs) .verdict ≡ matched) ↔ Derivable g (frameBits fs)
-    pub no-match-iff : Decided (run-kept (here ws fs rs gs)) → (run-kept (here ws fs rs gs) .verdict ≡ unmatched) ↔ (Derivable g (frameBits fs) → ⊥)
-    -- the fields' words, and the words beyond as they were
-    pub fields : run-kept (here ws fs rs gs) .verdict ≡ matched → (t : Tree) (v : Values) → Derivation g (frameBits fs) t v
-        → (run-kept (here ws fs rs gs) .captures ≡ length (captures t 0)) × (reading-kept (here ws fs rs gs) ≡ words-of (captures t 0) ++ drop (2 * length (captures t 0)) rs)
+-- of the run and the reading `k` after some grants, a reading that was `rs` before
+pub record Exact (g : Grammar (Unit {0}) Values) (fs rs : List ℕ) (k : Kept) : Type 0 where
+  pub match-iff : Decided (run-kept k) → (run-kept k .verdict ≡ matched) ↔ Derivable g (frameBits fs)
+  pub no-match-iff : Decided (run-kept k) → (run-kept k .verdict ≡ unmatched) ↔ (Derivable g (frameBits fs) → ⊥)
+  -- the fields' words, and the words beyond as they were
+  pub fields : run-kept k .verdict ≡ matched → (t : Tree) (v : Values) → Derivation g (frameBits fs) t v
+      → (run-kept k .captures ≡ length (captures t 0)) × (reading-kept k ≡ words-of (captures t 0) ++ drop (2 * length (captures t 0)) rs)
 
 pub record Condition2 : Type 0 where
   -- by the first row of document 01's table of numbers that fits, 0 where none does
@@ -92,7 +94,7 @@ pub record Condition2 : Type 0 where
       → (answer ≡ Answer.Opened) ↔ ((length fs ≤ 256) × (2 * bits-of fs ≤ length rs))
   -- of every text that is admitted, every frame and reading on which its table opens a run, and every list of grants
   pub matching : (text old table : List ℕ) (weight : ℕ) → Answers text old table (Admission.Admitted weight) → (x : Reading text)
-      → (fs rs : List ℕ) → Opened table fs rs → (gs : List Grant) → OthersRefused table fs gs (start rs) → Exact (text-grammar x) table fs rs gs
+      → (fs rs : List ℕ) → Opened table fs rs → (gs : List Grant) → OthersRefused table fs gs (start rs) → Exact (text-grammar x) fs rs (here table fs rs gs)
 
 -- ---- 3. "At most one derivation; decided within weight × (bits + 1) steps; and for every list of grants, one claim"
 

@@ -28,13 +28,16 @@ pub record Reading (text : List ℕ) : Type 0 where
 abbrev pub meant : List ℕ → State → Grammar (Unit {0}) Values
 meant xs st = grammar-of xs (node-words st) (term-words st) (rule-words st) (nodes-of st) (rules-of st)
 
+abbrev pub rules-grammar : {text : List ℕ} → Reading text → Grammar (Unit {0}) Values
+rules-grammar {text} x = meant (drop (x .base) text) (x .st)
+
 -- "Variables are local to a rule": every use of a rule opens it anew. Of a scope, `localised` reads nothing else.
 abbrev pub each-use : Scope
 each-use = record { sees = λ i. []; binds = λ i. []; opens-rule = λ i. true; enters-with = λ i. [] }
 
 -- the text's grammar: its rules as read, with variables local to a rule
 abbrev pub text-grammar : {text : List ℕ} → Reading text → Grammar (Unit {0}) Values
-text-grammar {text} x = localised each-use fresh (meant (drop (x .base) text) (x .st))
+text-grammar x = localised each-use fresh (rules-grammar x)
 
 -- document 01's rules admit the text, with this weight: 1 to 8,192 bytes, header and form right, and the rules pass 5 to 11
 pub record Admissible (text : List ℕ) (weight : ℕ) : Type 0 where
