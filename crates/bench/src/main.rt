@@ -5,11 +5,15 @@ use libc::STDIN_FILENO;
 use libc::STDOUT_FILENO;
 use matcher::Answer;
 use runs::Run;
+ghost use mathlib.Core.Path.{_≡_};
+ghost use Prim.Native.Nat.{_+_, _*_, _≤_};
+ghost use lib.ListN.{length};
+ghost use Rattle.bench.specs.Weights.{Light};
 
 // The characters held after a piece of the input.
-enum Step {
-    More(usize),
-    Ended,
+struct Step {
+    held: usize,
+    ended: bool,
 }
 
 fn text(bytes: &[u8]) {
@@ -42,14 +46,12 @@ fn show_grammar(answer: Admission) {
     text(b"\n");
 }
 
-// weight × (bits + 1); no weight is over 65,535, and no frame over 256 bytes.
-fn bound(weight: usize, bytes: usize) -> u64 {
-    if weight <= 65535 {
-        if bytes <= 256 {
-            return (weight * (8 * bytes + 1)) as u64;
-        }
-    }
-    0
+// weight × (bits + 1)
+fn bound(weight: usize, bytes: usize) -> u64
+    requires { ⌜ (weight ≤ 65535) × (bytes ≤ 256) ⌝ }
+    ensures { λ r. ⌜ r ≡ weight * (8 * bytes + 1) ⌝ }
+{
+    (weight * (8 * bytes + 1)) as u64
 }
 
 fn show_verdict(v: u32) {
@@ -60,14 +62,18 @@ fn show_verdict(v: u32) {
     }
 }
 
-fn show_run(weight: usize, bytes: usize, run: Run) {
+fn show_run(weight: usize, bytes: usize, run: Run)
+    requires { ⌜ (weight ≤ 65535) × (bytes ≤ 256) ⌝ }
+{
     show_verdict(run.verdict);
     number(b"", run.steps);
     number(b" of ", bound(weight, bytes));
     text(b"\n");
 }
 
-fn grant(table: &[u32], frame: &[u8], reading: &mut [u32], run: Run, weight: usize) {
+fn grant(table: &[u32], frame: &[u8], reading: &mut [u32], run: Run, weight: usize)
+    requires { ⌜ (weight ≤ 65535) × (length (now frame) ≤ 256) ⌝ }
+{
     let granted = runs::advance(table, frame, reading, run, 18446744073709551615);
     show_run(weight, frame.len(), granted.run);
 }
@@ -82,7 +88,9 @@ fn refusal(answer: Answer) -> u64 {
     }
 }
 
-fn play(table: &[u32], frame: &[u8], reading: &mut [u32], weight: usize) {
+fn play(table: &[u32], frame: &[u8], reading: &mut [u32], weight: usize)
+    requires { ⌜ (weight ≤ 65535) × (length (now frame) ≤ 256) ⌝ }
+{
     let opening = matcher::open(table, frame, reading);
     let answer = opening.answer;
     let n = refusal(answer);
@@ -95,24 +103,24 @@ fn play(table: &[u32], frame: &[u8], reading: &mut [u32], weight: usize) {
 }
 
 // The frame that the first `n` bytes are.
-fn framed(table: &[u32; 16384], weight: usize, bytes: &[u8], n: usize) {
-    if bytes.len() < n {
-        return;
-    }
+fn framed(table: &[u32; 16384], weight: usize, bytes: &[u8], n: usize)
+    requires { ⌜ (weight ≤ 65535) × (n ≤ length (now bytes)) × (n ≤ 256) ⌝ }
+{
     let mut reading = [0u32; 4096];
     play(&table[..], &bytes[0..n], &mut reading, weight);
 }
 
-fn decoded(table: &[u32; 16384], weight: usize, line: &[u8], n: usize) {
-    if 512 < line.len() {
-        return;
-    }
+fn decoded(table: &[u32; 16384], weight: usize, line: &[u8], n: usize)
+    requires { ⌜ (weight ≤ 65535) × (length (now line) ≤ 512) × (n ≤ 256) ⌝ }
+{
     let mut bytes = [0u8; 256];
     hexadecimal::decode(line, &mut bytes);
     framed(table, weight, &bytes, n);
 }
 
-fn answered(table: &[u32; 16384], weight: usize, line: &[u8]) {
+fn answered(table: &[u32; 16384], weight: usize, line: &[u8])
+    requires { ⌜ weight ≤ 65535 ⌝ }
+{
     let kind = hexadecimal::classify(line);
     match kind {
         Line::TooLong => refused(hexadecimal::number(kind)),
@@ -122,29 +130,32 @@ fn answered(table: &[u32; 16384], weight: usize, line: &[u8]) {
 }
 
 // A line that LF ends.
-fn ended(table: &[u32; 16384], weight: usize, line: &[u8], held: usize) {
-    if line.len() < held {
-        return;
-    }
+fn ended(table: &[u32; 16384], weight: usize, line: &[u8], held: usize)
+    requires { ⌜ (weight ≤ 65535) × (held ≤ length (now line)) ⌝ }
+{
     answered(table, weight, hexadecimal::content(&line[0..held]));
 }
 
 // A last line without LF is one if it has a byte.
-fn last(table: &[u32; 16384], weight: usize, line: &[u8], held: usize) {
-    if line.len() < held {
-        return;
-    }
+fn last(table: &[u32; 16384], weight: usize, line: &[u8], held: usize)
+    requires { ⌜ (weight ≤ 65535) × (held ≤ length (now line)) ⌝ }
+{
     if 0 < held {
         answered(table, weight, &line[0..held]);
     }
 }
 
-fn line_ended(table: &[u32; 16384], weight: usize, line: &[u8; 514], held: usize) {
+fn line_ended(table: &[u32; 16384], weight: usize, line: &[u8; 514], held: usize)
+    requires { ⌜ (weight ≤ 65535) × (held ≤ 514) ⌝ }
+{
     ended(table, weight, &line[..], held);
 }
 
 // Of a longer line 514 characters are kept: too long also without a CR.
-fn keep(line: &mut [u8; 514], held: usize, byte: u8) -> usize {
+fn keep(line: &mut [u8; 514], held: usize, byte: u8) -> usize
+    requires { ⌜ held ≤ 514 ⌝ }
+    ensures { λ r. ⌜ r ≤ 514 ⌝ }
+{
     if held < 514 {
         line[held] = byte;
         return held + 1;
@@ -152,7 +163,10 @@ fn keep(line: &mut [u8; 514], held: usize, byte: u8) -> usize {
     held
 }
 
-fn take(table: &[u32; 16384], weight: usize, line: &mut [u8; 514], held: usize, byte: u8) -> usize {
+fn take(table: &[u32; 16384], weight: usize, line: &mut [u8; 514], held: usize, byte: u8) -> usize
+    requires { ⌜ (weight ≤ 65535) × (held ≤ 514) ⌝ }
+    ensures { λ r. ⌜ r ≤ 514 ⌝ }
+{
     if byte == 10 {
         line_ended(table, weight, line, held);
         return 0;
@@ -166,7 +180,10 @@ fn take_all(
     line: &mut [u8; 514],
     before: usize,
     piece: &[u8],
-) -> usize {
+) -> usize
+    requires { ⌜ (weight ≤ 65535) × (before ≤ 514) ⌝ }
+    ensures { λ r. ⌜ r ≤ 514 ⌝ }
+{
     let mut held = before;
     let mut i = 0;
     while i < piece.len() {
@@ -176,58 +193,82 @@ fn take_all(
     held
 }
 
-fn piece(table: &[u32; 16384], weight: usize, line: &mut [u8; 514], held: usize) -> Step {
+fn piece(table: &[u32; 16384], weight: usize, line: &mut [u8; 514], held: usize) -> Step
+    requires { ⌜ (weight ≤ 65535) × (held ≤ 514) ⌝ }
+    ensures { λ r. ⌜ r .held ≤ 514 ⌝ }
+{
     let mut buffer = io::buffer();
     let got = libc::read(STDIN_FILENO, &mut buffer);
-    if got <= 0 {
-        return Step::Ended;
-    }
     let n = io::count(got, &buffer);
-    Step::More(take_all(table, weight, line, held, &buffer[..n]))
+    let after = take_all(table, weight, line, held, &buffer[..n]);
+    Step {
+        held: after,
+        ended: n == 0,
+    }
 }
 
 // Nothing says that the input ends, so the turns are counted from a number that no input uses up.
-fn lines(table: &[u32; 16384], weight: usize, line: &mut [u8; 514]) -> usize {
+fn lines(table: &[u32; 16384], weight: usize, line: &mut [u8; 514]) -> usize
+    requires { ⌜ weight ≤ 65535 ⌝ }
+    ensures { λ r. ⌜ r ≤ 514 ⌝ }
+{
     let mut held = 0;
     let mut turns = u64::MAX;
     while 0 < turns {
         turns -= 1;
-        let Step::More(next) = piece(table, weight, line, held) else {
+        let step = piece(table, weight, line, held);
+        held = step.held;
+        if step.ended {
             return held;
-        };
-        held = next;
+        }
     }
     held
 }
 
-fn last_of(table: &[u32; 16384], weight: usize, line: &[u8; 514], held: usize) {
+fn last_of(table: &[u32; 16384], weight: usize, line: &[u8; 514], held: usize)
+    requires { ⌜ (weight ≤ 65535) × (held ≤ 514) ⌝ }
+{
     last(table, weight, &line[..], held);
 }
 
-fn frames(table: &[u32; 16384], weight: usize) {
+fn frames(table: &[u32; 16384], weight: usize)
+    requires { ⌜ weight ≤ 65535 ⌝ }
+{
     let mut line = [0u8; 514];
     let held = lines(table, weight, &mut line);
     last_of(table, weight, &line, held);
 }
 
-// Of a longer text so many bytes are enough to refuse it.
-fn admit(fd: i32, table: &mut [u32; 16384]) -> Admission {
-    let mut bytes = [0u8; 8193];
-    let n = io::read_full(fd, &mut bytes);
-    admission::admit(&bytes[..n], &mut table[..])
+fn admit_text(bytes: &[u8], table: &mut [u32; 16384]) -> Admission
+    ensures { λ r. ⌜ Light r ⌝ }
+{
+    admission::admit(bytes, &mut table[..])
 }
 
-fn admit_file(table: &mut [u32; 16384]) -> Admission {
+// Of a longer text so many bytes are enough to refuse it.
+fn admit(fd: i32, table: &mut [u32; 16384]) -> Admission
+    ensures { λ r. ⌜ Light r ⌝ }
+{
+    let mut bytes = [0u8; 8193];
+    let n = io::read_full(fd, &mut bytes);
+    admit_text(&bytes[..n], table)
+}
+
+fn admit_file(table: &mut [u32; 16384]) -> Admission
+    ensures { λ r. ⌜ Light r ⌝ }
+{
     let fd = os::open_read(b"kiosk.dogma");
     if fd < 0 {
-        return admission::admit(b"", &mut table[..]);
+        return admit_text(b"", table);
     }
     let answer = admit(fd, table);
     libc::close(fd);
     answer
 }
 
-fn start(answer: Admission, table: &[u32; 16384]) {
+fn start(answer: Admission, table: &[u32; 16384])
+    requires { ⌜ Light answer ⌝ }
+{
     match answer {
         Admission::Admitted { weight } => frames(table, weight),
         Admission::Refused {

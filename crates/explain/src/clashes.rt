@@ -27,44 +27,60 @@ fn branch(grammar: &[u8], construct: usize) {
     }
 }
 
-fn change_branches() {
+fn change_ends() {
     say(
-        b"What to change: let the two branches differ in their first 8 bits. What both begin with can stand once in\n",
+        b"What to change: let only one of the two match where the frame has nothing left. eod, ?, * and {0~..} do.\n",
+    );
+}
+
+fn change_begins() {
+    say(
+        b"What to change: let the two branches differ in their first 8 bits; where one is a rule's name, look at how that\n",
     );
     say(
-        b"front of the alternative, as in \"A\" & (\"B\" | \"C\") for \"AB\" | \"AC\". Or bind a field that comes before by\n",
+        b"rule begins. What both begin with can stand once in front of the alternative, as in \"A\" & (\"B\" | \"C\") for\n",
     );
-    say(b"var(..), and choose by a switch, as in [kind = 1: \"AB\"; kind = 2: \"AC\";].\n");
+    say(
+        b"\"AB\" | \"AC\". Or bind a field that comes before by var(..), and choose by a switch, as in\n",
+    );
+    say(b"[kind = 1: \"AB\"; kind = 2: \"AC\";].\n");
+}
+
+fn change_branches(window: usize) {
+    if window < 2 {
+        change_ends();
+    } else {
+        change_begins();
+    }
 }
 
 fn branches(grammar: &[u8], window: usize, first: usize, second: usize) {
     say(
-        b"The next bits of a frame must say which branch of an alternative is taken. Here two branches admit the same:\n",
+        b"The next bits of a frame must say which branch of an alternative is taken. Here they cannot:\n",
     );
     branch(grammar, first);
     branch(grammar, second);
-    say(b"Both can come where the next is ");
+    say(b"Both admit");
     windows::window(window);
-    change_branches();
+    change_branches(window);
 }
 
 fn change_passes() {
     say(
-        b"What to change: let what follows the repetition begin with bits that no pass begins with (an end mark). Or\n",
+        b"What to change: let what follows the repetition begin with bits that no pass begins with, such as an end mark.\n",
     );
     say(
-        b"give the number of passes: {4}, or {n} with n bound by a field that comes before, as in\n",
+        b"Or give the number of passes: {4}, or {n} with n bound by a field that comes before, as in\n",
     );
     say(b"uint(8, var(n, ~)) & \"A\"{n}.\n");
 }
 
 fn passes(grammar: &[u8], at: usize, window: usize) {
     say(
-        b"After each pass of a repetition the next bits must say whether another pass comes. Going on and stopping\n",
+        b"Before each pass of a repetition (?, *, + or {..}) the next bits must say whether it comes. Here they cannot:\n",
     );
-    say(b"admit the same here:\n");
     part_at(grammar, at, Part::Member);
-    say(b"Another pass, and what follows the repetition, can both come where the next is ");
+    say(b"Going on and stopping both admit");
     windows::window(window);
     change_passes();
 }

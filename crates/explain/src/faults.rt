@@ -81,8 +81,9 @@ fn begins_item(code: usize) -> bool {
 }
 
 fn misplaced(grammar: &[u8], at: usize, code: usize) {
+    say(b"This cannot stand here:  ");
     token(grammar, at);
-    say(b" cannot stand here.\n");
+    say(b"\n");
     if begins_item(code) {
         item();
         return;

@@ -60,7 +60,7 @@ fn constructs(grammar: &[u8]) -> usize {
     }
 }
 
-// The steps that a frame of 256 bytes can take: one step in each place of 2,048 bits and the end, for each unit of weight.
+// The bound on the steps of a run is the weight times one more than the frame's bits: 2,049 for 256 bytes.
 fn steps(weight: usize) -> usize {
     if weight <= 65535 {
         return weight * 2049;

@@ -8,6 +8,13 @@ use text::Heading;
 use text::spans::span;
 use tokens::names::reserved;
 
+// What a name is where it stands.
+enum Role {
+    Rule,
+    Binder,
+    Use,
+}
+
 pub fn name(grammar: &[u8], at: usize) {
     token(grammar, at);
 }
@@ -21,19 +28,25 @@ fn is_reserved(grammar: &[u8], start: usize, end: usize) -> bool {
     false
 }
 
-// A rule begins at the start, or after a `;` outside of any brackets.
-fn begins(code: usize, depth: usize) -> bool {
-    if depth == 0 {
-        return code == 59;
+// A rule's name follows a `;` outside of any brackets, or is the first token. The name that a field binds follows `var(`.
+fn role_after(depth: usize, before: usize, last: usize) -> Role {
+    if before == 8 {
+        return Role::Binder;
     }
-    false
+    if depth == 0 {
+        if last == 59 {
+            return Role::Rule;
+        }
+    }
+    Role::Use
 }
 
-// Whether a rule's name stands at the place, with the rules from `base` on.
-fn is_rule(grammar: &[u8], base: usize, at: usize) -> bool {
+// What stands at the place, with the rules from `base` on.
+fn role_from(grammar: &[u8], base: usize, at: usize) -> Role {
     let mut here = base;
     let mut depth = 0;
-    let mut fresh = true;
+    let mut before = 59;
+    let mut last = 59;
     let mut tokens: usize = 0;
     while tokens < 8192 {
         let sight = look(grammar, here);
@@ -41,17 +54,18 @@ fn is_rule(grammar: &[u8], base: usize, at: usize) -> bool {
             break;
         }
         depth = deeper(sight.code, depth);
-        fresh = begins(sight.code, depth);
+        before = last;
+        last = sight.code;
         here = sight.end;
         tokens += 1;
     }
-    fresh
+    role_after(depth, before, last)
 }
 
-fn names_rule(grammar: &[u8], at: usize) -> bool {
+fn role_at(grammar: &[u8], at: usize) -> Role {
     match text::header::header(grammar) {
-        Heading::Rules(base) => is_rule(grammar, base, at),
-        Heading::Wrong(_) => false,
+        Heading::Rules(base) => role_from(grammar, base, at),
+        Heading::Wrong(_) => Role::Use,
     }
 }
 
@@ -76,16 +90,32 @@ fn unknown() {
     say(b"outside of parentheses, repetitions and switches.\n");
 }
 
+fn misbound() {
+    say(b" cannot be bound here, or is bound twice in this rule.\n");
+    say(
+        b"What to change: let var(..) stand in the rule's own concatenation, outside of alternatives, parentheses,\n",
+    );
+    say(
+        b"repetitions and switches. A branch that binds a variable can be a rule of its own, as in\n",
+    );
+    say(b"    frame = card | mailer;\n");
+    say(b"    mailer = \"M\" & uint(8, var(n, ~)) & uint(8, ~){n};\n");
+}
+
+fn told(role: Role) {
+    match role {
+        Role::Rule => double(),
+        Role::Binder => misbound(),
+        Role::Use => unknown(),
+    }
+}
+
 fn fault_at(grammar: &[u8], at: usize, end: usize) {
     if is_reserved(grammar, at, end) {
         reserved_word();
         return;
     }
-    if names_rule(grammar, at) {
-        double();
-        return;
-    }
-    unknown();
+    told(role_at(grammar, at));
 }
 
 pub fn fault(grammar: &[u8], at: usize) {

@@ -41,7 +41,6 @@ fn header_end() {
 }
 
 fn header(grammar: &[u8], at: usize) {
-    say(b"The header is wrong.\n");
     if at == 0 {
         first_line();
         return;
@@ -68,7 +67,9 @@ fn limit() {
 
 fn recursive(grammar: &[u8], at: usize) {
     say(b"This rule reaches itself: it uses its own name, or a rule that leads back to it.\n");
-    say(b"What to change: write what is repeated with *, + or {n}, and let no rule lead back to ");
+    say(
+        b"What to change: write what is repeated with *, + or {n}, and let nothing lead back to the rule ",
+    );
     names::name(grammar, at);
     say(b".\n");
 }
@@ -105,6 +106,34 @@ fn table() {
     say(b"What to change: nothing in the grammar. Lend at least 16384 words.\n");
 }
 
+fn early_title(n: usize) {
+    match n {
+        2 => say(b": the grammar is empty or too long\n"),
+        3 => say(b": the header is wrong\n"),
+        4 => say(b": the rules are not well formed\n"),
+        5 => say(b": a limit is passed\n"),
+        _ => say(b": the table is too small\n"),
+    }
+}
+
+fn late_title(n: usize) {
+    match n {
+        6 => say(b": a name is wrong\n"),
+        7 => say(b": a rule reaches itself\n"),
+        8 => say(b": a number is outside its limits\n"),
+        9 => say(b": what is repeated may be empty\n"),
+        _ => say(b": the grammar is too heavy\n"),
+    }
+}
+
+fn title(n: usize) {
+    if n < 6 {
+        early_title(n);
+    } else {
+        late_title(n);
+    }
+}
+
 fn late(grammar: &[u8], n: usize, at: usize) {
     match n {
         7 => recursive(grammar, at),
@@ -127,7 +156,7 @@ fn explained(grammar: &[u8], n: usize, at: usize) {
 
 pub fn refused(grammar: &[u8], n: usize, at: usize) {
     number(b"refused, number ", n);
-    say(b"\n");
+    title(n);
     if n == 2 {
         size(grammar);
         return;

@@ -112,8 +112,7 @@ fn value(window: usize, n: usize) {
 
 fn short(n: usize) {
     if n < 8 {
-        number(b"That is ", n);
-        say(b" bits and not 8, because the frame ends after them.\n");
+        say(b"The pattern has fewer than 8 bits because the frame ends after it.\n");
     }
 }
 
@@ -121,10 +120,10 @@ fn short(n: usize) {
 pub fn window(window: usize) {
     let n = size(window);
     if n == 0 {
-        say(b"the frame's end: no bits come next.\n");
+        say(b" the frame's end: no bits come next.\n");
         return;
     }
-    say(b"the bits ");
+    say(b" the bits ");
     binary(window, n);
     value(window, n);
     short(n);

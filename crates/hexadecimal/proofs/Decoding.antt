@@ -4,10 +4,14 @@ use Prim.Native.Nat.{ℕ, suc, _+_, _*_, _/_, _-_, _≤_, _<_}
 use mathlib.Core.Path.{_≡_, refl, sym, ap, ap₂, _∙_}
 use mathlib.Core.List.{List, [], _∷_}
 use native.Mathlib.Omega.{arith}
+use borrow.Author.Tests.{ltb-false}
+use lib.Dec.{ltb}
 use lib.ListN.{length, getD, set, drop, length-drop}
 use lib.Seq.{sets}
 use Rattle.text.proofs.Runs.{next}
-use Rattle.hexadecimal.specs.Lines.{byte-of, bytes-of}
+use Rattle.text.proofs.Tests.{picked}
+use Rattle.hexadecimal.specs.Lines.{is-frame, line-of, byte-of, bytes-of}
+use Rattle.hexadecimal.specs.declared.Line.{Line}
 
 -- a lone digit makes no byte
 few : (xs : List ℕ) → length xs ≤ 1 → bytes-of xs ≡ []
@@ -34,3 +38,15 @@ module _ (xs : List ℕ) (k : ℕ) where
   bytes-end out h =
       let l : length (drop (2 * k) xs) ≡ length xs - 2 * k = length-drop (2 * k) xs in
       ap (λ (ys : List ℕ). sets out k ys) (few (drop (2 * k) xs) (omega arith))
+
+-- a frame's line is not too long
+abbrev pub Short : List ℕ → Line → Type 0
+Short xs Line.TooLong = Unit
+Short xs Line.NoFrame = Unit
+Short xs (Line.Frame n) = (length xs ≤ 512) × (n ≤ 256)
+
+pub short : (xs : List ℕ) → Short xs (line-of xs)
+unfolding line-of
+short xs =
+    picked (Short xs) (ltb 512 (length xs)) (λ t. tt)
+    (λ t. let l : length xs ≤ 512 = ltb-false 512 (length xs) t in picked (Short xs) (is-frame xs) (λ f. (l, omega arith)) (λ f. tt))

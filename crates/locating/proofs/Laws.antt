@@ -9,7 +9,6 @@ use lib.Dec.{ltb}
 use lib.ListN.{length}
 use Rattle.text.specs.Header.{header-of}
 use Rattle.text.specs.declared.Heading.{Heading}
-use Rattle.admission.specs.Admitted.{form}
 use Rattle.locating.specs.Located.{located-after, located}
 use Rattle.locating.specs.declared.Located.{Located}
 

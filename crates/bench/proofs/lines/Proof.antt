@@ -1,40 +1,35 @@
-use borrow.Author.Needs.{needs}
+use Prim.Native.Nat.{_≤_}
 use native.Mathlib.Omega.{arith}
+use borrow.Author.Needs.{needs}
 use Rattle.bench.proofs.lines.Statement.{statement}
 use Rattle.bench.proofs.lines.Tie as tie
 
 abbrev Inv-loop : tie.InvT-loop
-Inv-loop table weight line₀ held₀ turns₀ line held turns = Unit
+Inv-loop table weight line₀ held₀ turns₀ line held turns = held ≤ 514
 
 abbrev μ-loop : tie.MeasureT-loop
 μ-loop table weight line₀ held₀ turns₀ line held turns = turns
 
 loop-holds : tie.Need-loop-holds Inv-loop μ-loop
-loop-holds c = tt
+loop-holds c = omega arith
 
 sub-turns : tie.Need-sub-turns Inv-loop μ-loop
 sub-turns c = omega arith
 
 piece-requires : tie.Need-piece-requires Inv-loop μ-loop
-piece-requires c κs = tt
-
-enum-known-next : tie.Need-enum-known-next Inv-loop μ-loop
-enum-known-next c = search needs
-
-enum-told : tie.Need-enum-told Inv-loop μ-loop
-enum-told c = search needs
+piece-requires c κs = search needs
 
 returns : tie.Need-returns Inv-loop μ-loop
-returns c = tt
+returns c = omega arith
 
 loop-less : tie.Need-loop-less Inv-loop μ-loop
 loop-less c = omega arith
 
 loop-again : tie.Need-loop-again Inv-loop μ-loop
-loop-again c = tt
+loop-again c = omega arith
 
 returns-2 : tie.Need-returns-2 Inv-loop μ-loop
-returns-2 c = tt
+returns-2 c = omega arith
 
 pub lines-spec : {M : Type 1} → statement M
 lines-spec =
@@ -45,8 +40,6 @@ lines-spec =
     loop-holds
     sub-turns
     piece-requires
-    enum-known-next
-    enum-told
     returns
     loop-less
     loop-again

@@ -6,23 +6,16 @@ use Rattle.locating.specs.declared.Located.{Located}
 use borrow.Author.Needs.{needs}
 use Rattle.locating.proofs.construct.Statement.{statement}
 use Rattle.locating.proofs.construct.Tie as tie
-use Rattle.locating.proofs.construct.Reads as reads
-use Rattle.locating.proofs.construct.Lts as lts
-use Rattle.naming.proofs.words.node_word.Reads as node-word-reads
 
--- src/lib.rt:26:9
 node-word-requires : tie.Need-node-word-requires
 node-word-requires c κs = search needs
 
--- src/lib.rt:27:9
 node-word-requires-2 : tie.Need-node-word-requires-2
 node-word-requires-2 c κs = search needs
 
--- src/lib.rt:29:16
 add-t7 : tie.Need-add-t7
 add-t7 c = omega (arith, c .before .node-word .ensures, c .before .before .before .pre .2 (c .before .before .before .args .i), c .before .before .before .pre .1)
 
--- src/lib.rt:22:1
 returns : tie.Need-returns
 returns c = ap (λ (p : ℕ). Located.Construct (c .before .before .before .args .base + p) (c .node-word2 .result) (c .before .before .before .args .count)) (c .before .node-word .ensures) ∙ ap (λ (k : ℕ). Located.Construct (c .before .before .before .args .base + place-of (c .before .before .before .args .nodes .now) (c .before .before .before .args .i)) k (c .before .before .before .args .count)) (c .node-word2 .ensures)
 

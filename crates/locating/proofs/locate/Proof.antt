@@ -5,36 +5,25 @@ use Rattle.locating.proofs.Laws.{too-long, short}
 use borrow.Author.Needs.{needs}
 use Rattle.locating.proofs.locate.Statement.{statement}
 use Rattle.locating.proofs.locate.Tie as tie
-use Rattle.locating.proofs.locate.Reads as reads
-use Rattle.locating.proofs.locate.Lts as lts
-use Rattle.locating.proofs.locate_from.Reads as locate-from-reads
-use Rattle.text.proofs.header.header.Reads as header-reads
 
--- src/lib.rt:63:9
 returns : tie.Need-returns
 returns c = too-long (c .before .before .args .text .now) (c .before .before .args .i) (c .if1 .taken)
 
--- src/lib.rt:65:11
 header-requires : tie.Need-header-requires
 header-requires c κs = search needs
 
--- src/lib.rt:66:30
 enum-told : tie.Need-enum-told
 enum-told c = search needs
 
--- src/lib.rt:67:24
 enum-known-base : tie.Need-enum-known-base
 enum-known-base c = search needs
 
--- src/lib.rt:67:33
 locate-from-requires : tie.Need-locate-from-requires
 locate-from-requires c κs = (rules-inside (c .before .before .before .before .before .before .args .text .now) (c .before .before .before .header .result) _ (c .before .before .before .header .ensures) (c .before .base .given .1), c .before .before .before .before .if1 .left)
 
--- src/lib.rt:59:1
 returns-2 : tie.Need-returns-2
 returns-2 c = short (c .before .before .before .before .before .args .text .now) (c .before .before .before .before .before .args .i) (c .before .before .header .result) _ Located.Nothing (c .before .before .header .ensures) (c .enum-told .given .1) (c .before .before .before .if1 .left) refl
 
--- src/lib.rt:59:1
 returns-3 : tie.Need-returns-3
 returns-3 c = short (c .before .before .before .before .before .before .before .args .text .now) (c .before .before .before .before .before .before .before .args .i) (c .before .before .before .before .header .result) _ (c .locate-from .result) (c .before .before .before .before .header .ensures) (c .before .before .base .given .1) (c .before .before .before .before .before .if1 .left) (c .locate-from .ensures)
 

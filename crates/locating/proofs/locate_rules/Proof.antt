@@ -8,28 +8,19 @@ use Rattle.locating.specs.Located.{located-in}
 use borrow.Author.Needs.{needs}
 use Rattle.locating.proofs.locate_rules.Statement.{statement}
 use Rattle.locating.proofs.locate_rules.Tie as tie
-use Rattle.locating.proofs.locate_rules.Reads as reads
-use Rattle.locating.proofs.locate_rules.Lts as lts
-use Rattle.locating.proofs.construct.Reads as construct-reads
-use Rattle.syntax.proofs.rules.read.Reads as read-reads
 
--- src/lib.rt:43:9
 read-requires : tie.Need-read-requires
 read-requires c κs = search needs
 
--- src/lib.rt:45:9
 returns : tie.Need-returns
 returns c = sym (ap (located-in (c .before .before .before .before .before .before .before .args .base) (c .before .before .before .before .before .before .before .args .i)) (not-formed (c .before .before .before .before .before .before .before .args .text .now) blank (c .before .before .before .before .before .before .before .pre .0) (c .before .before .read .result) (c .before .before .read .last .1 .0) (c .before .before .read .last .1 .1 .0) (c .before .before .read .last .1 .1 .1 .0) (c .before .before .read .ensures) (c .if1 .taken)))
 
--- src/lib.rt:47:15
 slice-aggregate-construct : tie.Need-slice-aggregate-construct
 slice-aggregate-construct c = sym (basics (c .before .before .before .before .before .before .before .before .args .text .now) (state-at (c .before .before .before .read .result) (c .before .before .before .read .last .1 .0) (c .before .before .before .read .last .1 .1 .0) (c .before .before .before .read .last .1 .1 .1 .0)) (formed (c .before .before .before .before .before .before .before .before .args .text .now) blank (c .before .before .before .before .before .before .before .before .pre .0) (c .before .before .before .read .result) (c .before .before .before .read .last .1 .0) (c .before .before .before .read .last .1 .1 .0) (c .before .before .before .read .last .1 .1 .1 .0) (c .before .before .before .read .ensures) (c .before .if1 .left)) .node-length)
 
--- src/lib.rt:47:5
 construct-requires : tie.Need-construct-requires
 construct-requires c κs = let right : Right (c .before .before .before .before .before .before .before .before .args .text .now) (state-at (c .before .before .before .read .result) (c .before .before .before .read .last .1 .0) (c .before .before .before .read .last .1 .1 .0) (c .before .before .before .read .last .1 .1 .1 .0)) = formed (c .before .before .before .before .before .before .before .before .args .text .now) blank (c .before .before .before .before .before .before .before .before .pre .0) (c .before .before .before .read .result) (c .before .before .before .read .last .1 .0) (c .before .before .before .read .last .1 .1 .0) (c .before .before .before .read .last .1 .1 .1 .0) (c .before .before .before .read .ensures) (c .before .if1 .left) in let b : Basics (c .before .before .before .before .before .before .before .before .args .text .now) (state-at (c .before .before .before .read .result) (c .before .before .before .read .last .1 .0) (c .before .before .before .read .last .1 .1 .0) (c .before .before .before .read .last .1 .1 .1 .0)) = basics (c .before .before .before .before .before .before .before .before .args .text .now) (state-at (c .before .before .before .read .result) (c .before .before .before .read .last .1 .0) (c .before .before .before .read .last .1 .1 .0) (c .before .before .before .read .last .1 .1 .1 .0)) right in (b .node-length, c .before .before .before .before .before .before .before .before .pre .1, λ k. within (c .before .before .before .before .before .before .before .before .args .text .now) (state-at (c .before .before .before .read .result) (c .before .before .before .read .last .1 .0) (c .before .before .before .read .last .1 .1 .0) (c .before .before .before .read .last .1 .1 .1 .0)) b (c .before .before .before .before .before .before .before .before .pre .0) .nodes k .0)
 
--- src/lib.rt:36:1
 returns-2 : tie.Need-returns-2
 returns-2 c = c .construct .ensures ∙ sym (ap (located-in (c .before .before .before .before .before .before .before .before .before .args .base) (c .before .before .before .before .before .before .before .before .before .args .i)) (formed (c .before .before .before .before .before .before .before .before .before .args .text .now) blank (c .before .before .before .before .before .before .before .before .before .pre .0) (c .before .before .before .before .read .result) (c .before .before .before .before .read .last .1 .0) (c .before .before .before .before .read .last .1 .1 .0) (c .before .before .before .before .read .last .1 .1 .1 .0) (c .before .before .before .before .read .ensures) (c .before .before .if1 .left) .formed))
 
