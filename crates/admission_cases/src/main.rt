@@ -1,5 +1,5 @@
 // Admits texts from standard input, each after a line with its length in bytes, and prints what the bench program prints of a grammar, with
-// the window of a clash. What is no such text ends it.
+// the window of a clash. Any input is taken: a line without a number counts as 0, and a length past the end as all that is there.
 use admission::Admission;
 use conflicts::Clash;
 use libc::STDIN_FILENO;

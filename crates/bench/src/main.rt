@@ -8,6 +8,7 @@ use runs::Run;
 ghost use mathlib.Core.Path.{_≡_};
 ghost use Prim.Native.Nat.{_+_, _*_, _≤_};
 ghost use lib.ListN.{length};
+ghost use Rattle.matcher.specs.Opening.{number-of};
 ghost use Rattle.bench.specs.Weights.{Light};
 
 // The characters held after a piece of the input.
@@ -79,7 +80,9 @@ fn grant(table: &[u32], frame: &[u8], reading: &mut [u32], run: Run, weight: usi
 }
 
 // An opening's number of refusal; 0 for none.
-fn refusal(answer: Answer) -> u64 {
+fn refusal(answer: Answer) -> u64
+    ensures { λ r. ⌜ r ≡ number-of answer ⌝ }
+{
     match answer {
         Answer::Unsound => 23,
         Answer::LongFrame => 21,
