@@ -11,8 +11,8 @@ const FRAMES: usize = 6;
 const BEHIND: usize = 3; // words behind a table, which stay
 
 #[derive(Default)]
-struct Tally {
-    refused: [usize; 12],
+pub struct Tally {
+    pub refused: [usize; 12],
     frames: usize,
     steps: u64,
 }
@@ -39,7 +39,7 @@ pub fn same<T: PartialEq + std::fmt::Debug>(what: &str, found: T, expected: T) -
     if found == expected { Ok(()) } else { Err(format!("{what}: found {found:?}, expected {expected:?}")) }
 }
 
-fn check(text: &[u8], random: &mut Random, tally: &mut Tally) -> Result<(), String> {
+pub fn check(text: &[u8], random: &mut Random, tally: &mut Tally) -> Result<(), String> {
     let lent = Guarded::new(text);
     let before: Vec<u32> = (0..TABLE_WORDS + BEHIND).map(|_| random.next() as u32).collect();
     let mut table = Guarded::new(&before);

@@ -1,9 +1,10 @@
-// Compares the compiled library with the reference implementation: `library vectors FOLDER`, `library compare SEED TEXTS` (random and damaged
-// texts, frames and grants), `library forged SEED RUNS` (forged tables and runs), `library bench FOLDER`, `library stack`. Every array that the library is lent ends
-// where a page begins that nobody may touch, so that a read or write past it ends the program.
+// Compares the compiled library with the reference implementation: `library vectors FOLDER`, `library extremes`, `library compare
+// SEED TEXTS` (random and damaged texts, frames and grants), `library forged SEED RUNS` (forged tables and runs), `library bench FOLDER`, `library
+// stack`. Every array that the library is lent ends where a page begins that nobody may touch, so that a read or write past it ends the program.
 mod bench;
 mod calls;
 mod compare;
+mod extremes;
 mod forged;
 mod guarded;
 mod stack;
@@ -16,11 +17,12 @@ fn main() {
     match arguments.iter().map(String::as_str).collect::<Vec<_>>()[..] {
         ["vectors", folder] => println!("library: {} texts as the vectors say", vectors::check(Path::new(folder))),
         ["compare", seed, texts] => compare::report(number(seed), number(texts)),
+        ["extremes"] => extremes::report(),
         ["forged", seed, runs] => forged::report(number(seed), number(runs)),
         ["bench", folder] => bench::report(Path::new(folder)),
         ["stack"] => stack::report(),
         ["probe", call, kb] => stack::probe(call, number(kb) as usize),
-        _ => panic!("use: library vectors FOLDER | compare SEED TEXTS | forged SEED RUNS | bench FOLDER | stack"),
+        _ => panic!("use: library vectors FOLDER | compare SEED TEXTS | extremes | forged SEED RUNS | bench FOLDER | stack"),
     }
 }
 

@@ -1,0 +1,64 @@
+// Texts at the ends of what may arrive: all of one byte, as long as a text may be and one byte longer, nested without end, names and numbers
+// without end; and tables that are too short for any text.
+use crate::calls::{self, TABLE_WORDS};
+use crate::compare::{check, same, Tally};
+use crate::guarded::Guarded;
+use reference::grammar::LONGEST_TEXT;
+use reference::random::Random;
+
+const HEADER: &[u8] = b"dogma_v1 utf-8\n\n";
+
+pub fn report() {
+    let texts = [one_byte(), nested(), endless()].concat();
+    let mut tally = Tally::default();
+    for (seed, text) in texts.iter().enumerate() {
+        if let Err(why) = check(text, &mut Random::new(seed as u64), &mut tally) {
+            panic!("{why}\n{}", String::from_utf8_lossy(text));
+        }
+    }
+    if let Err(why) = short_tables() {
+        panic!("{why}");
+    }
+    println!("library: {} texts at the ends, admitted and refused by number from 0: {:?}", texts.len(), tally.refused);
+}
+
+// A begin and then one part again and again, up to a length.
+fn filled(begin: &[u8], part: &[u8], length: usize) -> Vec<u8> {
+    let rest = length.saturating_sub(begin.len());
+    [begin, &part.repeat(rest / part.len() + 1)[..rest]].concat()
+}
+
+fn one_byte() -> Vec<Vec<u8>> {
+    let begins = [b"".to_vec(), HEADER.to_vec(), [HEADER, b"a='x';"].concat(), [HEADER, b"a='"].concat(), [HEADER, b"a='x'; #"].concat()];
+    let lengths = [LONGEST_TEXT, LONGEST_TEXT + 1];
+    let all = |byte: u8| begins.iter().flat_map(move |begin| lengths.map(|length| filled(begin, &[byte], length)));
+    (0..=255).flat_map(all).collect()
+}
+
+fn nested() -> Vec<Vec<u8>> {
+    let pairs: [(&[u8], &[u8]); 4] = [(b"(", b")"), (b"[1=1:", b";]"), (b"[(1)=1:", b";]"), (b"(('y'|", b"))")];
+    let depths = [15, 16, 17, 18, 300, 1100];
+    let text = |(open, close): (&[u8], &[u8]), n: usize| [HEADER, b"a=", &open.repeat(n), b"'x'", &close.repeat(n), b";"].concat();
+    pairs.iter().flat_map(|&pair| depths.map(|n| text(pair, n))).collect()
+}
+
+fn endless() -> Vec<Vec<u8>> {
+    let begins: [&[u8]; 6] = [b"", b"a=", b"a='x'{", b"a=uint(", b"a=uint(8,", b"a='x'{1+"];
+    let parts: [&[u8]; 6] = [b"n", b"9", b"0", b"0x", b"1+", b"'x'&"];
+    let text = |begin: &[u8], part: &[u8]| filled(&[HEADER, begin].concat(), part, LONGEST_TEXT);
+    begins.iter().flat_map(|begin| parts.map(|part| text(begin, part))).collect()
+}
+
+// 1 comes before all else, and no word is changed.
+fn short_tables() -> Result<(), String> {
+    for text in [&b""[..], b"a", b"dogma_v1 utf-8\n\na='x';"] {
+        for words in [0, 1, TABLE_WORDS - 1] {
+            let before = vec![7; words];
+            let mut table = Guarded::new(&before);
+            let answer = calls::admit(&Guarded::new(text), &mut table);
+            same("number and place", (answer.number, answer.words[0]), (1, 0))?;
+            same("short table", table.values(), &before[..])?;
+        }
+    }
+    Ok(())
+}
