@@ -14,7 +14,7 @@ use Rattle.tokens.specs.Tokens.{token-of}
 use Rattle.tokens.specs.declared.Kind.{Kind}
 use Rattle.tokens.specs.declared.Token.{Token}
 use Rattle.parsing.specs.Terminals.{code-of, sight, seen, sight-of, live}
-use Rattle.parsing.specs.Store.{State, moved, room, put-words, put-node, put-term, marked-tag, put-single}
+use Rattle.parsing.specs.Store.{State, room, put-words, put-node, put-term, marked-tag, put-single}
 use Rattle.parsing.specs.Symbols.{Symbol, want, sign, paren}
 use Rattle.parsing.specs.Form.{Fed, go, fault, feed}
 use Rattle.parsing.specs.Cursors.{sight-at, state-at, counts-of, next, fail, term-more, resume, left, Reads, ReadsTerms, ReadsOn}
@@ -143,15 +143,6 @@ sign-reads {xs} {c} {r} {ts} {ts′} {tag} {p} {o} e z ns =
     subst (λ (q : Cursor). Reads xs (sign tag p o ∷ []) c ns ts q ns ts′) (sym e)
     (subst (λ (l : List ℕ). Reads xs (sign tag p o ∷ []) c ns ts (term-more c) ns l) (sym z)
     (skip-then {qs = []} {m = term-more c} {ns₁ = ns} {ts₁ = put-term ts (c .terms) tag 0 p o} refl (λ rs ks. refl) nothing))
-
--- ---- moving nodes
-
-pub moved-turn : (ns : List ℕ) (j k : ℕ) → j + 10 < k → moved (k - (j + 10)) ns j ≡ moved (k - 1 - (j + 10)) (set ns (k - 1) (getD ns (k - 1 - 10) 0)) j
-unfolding moved
-moved-turn ns j k h = turn (k - 1 - (j + 10)) (omega arith) (omega arith)
-  where
-    turn : (n : ℕ) → k - (j + 10) ≡ suc n → k - 1 ≡ j + n + 10 → moved (k - (j + 10)) ns j ≡ moved n (set ns (k - 1) (getD ns (k - 1 - 10) 0)) j
-    turn n a b = let d : j + n + 10 - 10 ≡ j + n = omega arith in rw (a, b, d)
 
 -- ---- single terms
 

@@ -3,9 +3,9 @@
 -- Assumes nothing.
 use Prim.Native.Nat.{ℕ, zero, suc, _+_, _*_, _-_}
 use mathlib.Core.Bool.{cond}
-use mathlib.Core.List.{List}
+use mathlib.Core.List.{List, [], _∷_, _++_}
 use lib.Dec.{leb, ltb}
-use lib.ListN.{getD, set}
+use lib.ListN.{getD, set, take, drop}
 
 -- the words of nodes, terms and rules, and how many nodes, terms, binders and rules there are
 pub data State : Type 0 where
@@ -59,14 +59,17 @@ unfoldable pub put-words : List ℕ → ℕ → (kind size place a b c d e : ℕ
 put-words ns k kind size place a b c d e =
     set (set (set (set (set (set (set (set (set (set ns k kind) (k + 1) size) (k + 2) place) (k + 3) a) (k + 4) b) (k + 5) c) (k + 6) d) (k + 7) e) (k + 8) 0) (k + 9) 0
 
--- n words from place k on move ten places on, the last first
-unfoldable pub moved : ℕ → List ℕ → ℕ → List ℕ
-moved zero ns k = ns
-moved (suc n) ns k = moved n (set ns (k + n + 10) (getD ns (k + n) 0)) k
+-- the first n words of a list, written over those of another that has as many
+unfoldable pub over : ℕ → List ℕ → List ℕ → List ℕ
+over zero olds news = news
+over (suc n) [] news = news
+over (suc n) (a ∷ olds) [] = []
+over (suc n) (a ∷ olds) (b ∷ news) = a ∷ over n olds news
 
 -- all nodes from node i on move by one; what goes past the 256th is lost
-abbrev pub room : List ℕ → ℕ → List ℕ
-room ns i = moved (2550 - 10 * i) ns (10 * i)
+unfoldable pub room : List ℕ → ℕ → List ℕ
+unfolding over
+room ns i = take (10 * i + 10) ns ++ over (2550 - 10 * i) (drop (10 * i) ns) (drop (10 * i + 10) ns)
 
 -- a node in front of node i, which it holds with all after it
 unfoldable pub put-node : List ℕ → ℕ → (kind size place a b c d e : ℕ) → List ℕ

@@ -3,17 +3,20 @@
 -- Assumes nothing.
 use Prim.Native.Nat.{ℕ, zero, suc, _+_, _*_, _-_, _%_, _≤_, _<_}
 use mathlib.Core.Path.{_≡_, refl, sym, ap, _∙_}
+use mathlib.Core.Logic.{⊎-elim}
 use mathlib.Core.Bool.{Bool, true, false}
 use mathlib.Core.List.{List, [], _∷_}
 use native.Mathlib.Omega.{arith}
 use native.Mathlib.Numerals.{towards-suc}
 use native.Mathlib.Nat.{mod-eq-of-lt, mul-add-mod-self-left}
 use lib.Dec.{ltb, leb}
-use lib.ListN.{length, getD, set, replicate}
+use lib.ListN.{length, getD, set, replicate, List·getD-eq-default}
 use lib.Seq.{sets}
-use Rattle.text.proofs.Tests.{picked}
-use Rattle.parsing.specs.Store.{State, state, nodes-of, counted, marked-tag, put-term, add, put-single, single, moved, room, put-node, insert, leaf, put-condition, condition-on, bind, put-rule, close-rule, node-words, term-words, rule-words}
+use borrow.Author.Tests.{ltb-true, ltb-false}
+use Rattle.text.proofs.Tests.{which, picked}
+use Rattle.parsing.specs.Store.{State, state, nodes-of, counted, marked-tag, put-term, add, put-single, single, room, put-node, insert, leaf, put-condition, condition-on, bind, put-rule, close-rule, node-words, term-words, rule-words}
 use Rattle.parsing.specs.Form.{chained}
+use Rattle.parsing.proofs.Rooms.{length-room, room-below, room-above, room-beyond}
 use Rattle.shapes.proofs.StoreLaws.{ten, words-sets}
 use Rattle.shapes.proofs.Shaped.{blank}
 
@@ -51,19 +54,39 @@ zeros-most (suc n) (suc q) most = zeros-most n q most
 
 -- ---- nodes
 
-moved-column : (n : ℕ) (ns : List ℕ) (i w most : ℕ) → w < 10 → Column 10 w most ns → Column 10 w most (moved n ns (10 * i))
-unfolding moved
-moved-column zero ns i w most h c = c
-moved-column (suc n) ns i w most h c =
-    moved-column n (set ns (10 * i + n + 10) (getD ns (10 * i + n) 0)) i w most h
-    (λ j. set-most ns (10 * i + n + 10) (getD ns (10 * i + n) 0) (10 * j + w) most (c j)
-    (λ e. let z : 10 * i + n ≡ 10 * (j - 1) + w = omega arith in rw z (c (j - 1))))
+-- each word of the room is 0 or an old word of its column
+room-column : (ns : List ℕ) (i w most : ℕ) → w < 10 → Column 10 w most ns → Column 10 w most (room ns i)
+room-column ns i w most h c j =
+    ⊎-elim
+    (λ (e : ltb (10 * j + w) (length ns) ≡ true). inside (ltb-true (10 * j + w) (length ns) e))
+    (λ (e : ltb (10 * j + w) (length ns) ≡ false). (
+    let z : getD (room ns i) (10 * j + w) 0 ≡ 0 = List·getD-eq-default (room ns i) 0 (omega (arith, ltb-false (10 * j + w) (length ns) e, length-room ns i)) in omega arith
+    ))
+    (which (ltb (10 * j + w) (length ns)))
+  where
+    later : 10 * j + w < length ns → i + 1 ≤ j → getD (room ns i) (10 * j + w) 0 ≤ most
+    later l g =
+        ⊎-elim
+        (λ (e : ltb j 256 ≡ true). (
+        let m : j < 256 = ltb-true j 256 e in
+        let z : 10 * j + w - 10 ≡ 10 * (j - 1) + w = omega arith in
+        rw (room-above ns i (10 * j + w) (omega arith) (omega arith) l, z) (c (j - 1))
+        ))
+        (λ (e : ltb j 256 ≡ false). (let m : 256 ≤ j = ltb-false j 256 e in rw (room-beyond ns i (10 * j + w) (omega arith) (omega arith) l) (c j)))
+        (which (ltb j 256))
+
+    inside : 10 * j + w < length ns → getD (room ns i) (10 * j + w) 0 ≤ most
+    inside l =
+        ⊎-elim
+        (λ (e : ltb j (i + 1) ≡ true). (let g : j < i + 1 = ltb-true j (i + 1) e in rw (room-below ns i (10 * j + w) (omega arith) l) (c j)))
+        (λ (e : ltb j (i + 1) ≡ false). later l (ltb-false j (i + 1) e))
+        (which (ltb j (i + 1)))
 
 node-column : (ns : List ℕ) (i kind size place a b c d e w most : ℕ) → w < 10 → getD (ten kind size place a b c d e) w 0 ≤ most → Column 10 w most ns → Column 10 w most (put-node ns i kind size place a b c d e)
 unfolding put-node
 node-column ns i kind size place a b c d e w most h z f =
     picked (Column 10 w most) (ltb i 256)
-    (λ y. rw words-sets (entry-put 10 w most i (ten kind size place a b c d e) (room ns i) (omega arith) h z (moved-column (2550 - 10 * i) ns i w most h f)))
+    (λ y. rw words-sets (entry-put 10 w most i (ten kind size place a b c d e) (room ns i) (omega arith) h z (room-column ns i w most h f)))
     (λ y. f)
 
 condition-column : (ns : List ℕ) (i from end w most : ℕ) → w < 8 → Column 10 w most ns → Column 10 w most (put-condition ns i from end)

@@ -12,7 +12,8 @@ use lib.Dec.{eqb, ltb, leb}
 use lib.ListN.{length, getD, set, length-set}
 use lib.Seq.{getD-set-same, getD-set-other, sets, length-sets}
 use Rattle.text.proofs.Tests.{which, picked}
-use Rattle.parsing.specs.Store.{marked-tag, put-term, put-single, put-words, moved, room, put-node, put-condition, put-rule}
+use Rattle.parsing.specs.Store.{marked-tag, put-term, put-single, put-words, room, put-node, put-condition, put-rule}
+use Rattle.parsing.proofs.Rooms.{length-room, room-below, room-above}
 use Rattle.shapes.specs.NodeShapes.{node-word, rule-word}
 
 -- ---- a run of stores
@@ -32,40 +33,6 @@ sets-at (a ∷ vs) l k zero h i =
 sets-at (a ∷ vs) l k (suc w) h i =
     let e : k + suc w ≡ suc k + w = omega arith in rw e (sets-at vs (set l k a) (suc k) w (simp length-set (omega arith)) (omega arith))
 
--- ---- words that move
-
-pub length-moved : (n : ℕ) (ns : List ℕ) (k : ℕ) → length (moved n ns k) ≡ length ns
-unfolding moved
-length-moved zero ns k = refl
-length-moved (suc n) ns k = length-moved n (set ns (k + n + 10) (getD ns (k + n) 0)) k ∙ length-set ns (k + n + 10) (getD ns (k + n) 0)
-
-moved-below : (n : ℕ) (ns : List ℕ) (k j : ℕ) → j < k + 10 → getD (moved n ns k) j 0 ≡ getD ns j 0
-unfolding moved
-moved-below zero ns k j h = refl
-moved-below (suc n) ns k j h = moved-below n (set ns (k + n + 10) (getD ns (k + n) 0)) k j h ∙ getD-set-other ns (k + n + 10) j (getD ns (k + n) 0) 0 (omega arith)
-
-moved-above : (n : ℕ) (ns : List ℕ) (k j : ℕ) → k + n + 10 ≤ j → getD (moved n ns k) j 0 ≡ getD ns j 0
-unfolding moved
-moved-above zero ns k j h = refl
-moved-above (suc n) ns k j h = moved-above n (set ns (k + n + 10) (getD ns (k + n) 0)) k j (omega arith) ∙ getD-set-other ns (k + n + 10) j (getD ns (k + n) 0) 0 (omega arith)
-
-moved-at : (n : ℕ) (ns : List ℕ) (k j q : ℕ) → k ≤ j → j < k + n → q ≡ j + 10 → k + n + 10 ≤ length ns → getD (moved n ns k) q 0 ≡ getD ns j 0
-unfolding moved
-moved-at zero ns k j q a b e h = absurd (omega arith)
-moved-at (suc n) ns k j q a b e h =
-    ⊎-elim
-    (λ (z : eqb j (k + n) ≡ true).
-    let y : j ≡ k + n = eqb-true j (k + n) z
-    in let x : q ≡ k + n + 10 = omega arith
-    in moved-above n (set ns (k + n + 10) (getD ns (k + n) 0)) k q (omega arith)
-    ∙ rw x (getD-set-same ns (k + n + 10) (getD ns (k + n) 0) 0 (omega arith))
-    ∙ ap (λ (p : ℕ). getD ns p 0) (sym y))
-    (λ (z : eqb j (k + n) ≡ false).
-    let y : j ≡ k + n → ⊥ = eqb-false j (k + n) z
-    in moved-at n (set ns (k + n + 10) (getD ns (k + n) 0)) k j q a (omega arith) e (simp length-set (omega arith))
-    ∙ getD-set-other ns (k + n + 10) j (getD ns (k + n) 0) 0 (omega arith))
-    (which (eqb j (k + n)))
-
 -- ---- nodes
 
 -- the ten words of a node
@@ -84,7 +51,7 @@ pub length-put-node : (ns : List ℕ) (i kind size place a b c d e : ℕ) → le
 unfolding put-node
 length-put-node ns i kind size place a b c d e =
     picked (λ (l : List ℕ). length l ≡ length ns) (ltb i 256)
-    (λ z. length-put-words (room ns i) (10 * i) kind size place a b c d e ∙ length-moved (2550 - 10 * i) ns (10 * i))
+    (λ z. length-put-words (room ns i) (10 * i) kind size place a b c d e ∙ length-room ns i)
     (λ z. refl)
 
 module _ (ns : List ℕ) (i kind size place a b c d e : ℕ) (h : i < 256) (l : length ns ≡ 2560) where
@@ -93,10 +60,10 @@ module _ (ns : List ℕ) (i kind size place a b c d e : ℕ) (h : i < 256) (l : 
   node-sets = rw (lt-ltb i 256 h) (words-sets (room ns i) (10 * i) kind size place a b c d e)
 
   room-length : length (room ns i) ≡ 2560
-  room-length = length-moved (2550 - 10 * i) ns (10 * i) ∙ l
+  room-length = length-room ns i ∙ l
 
   pub node-before : (j : ℕ) → j < 10 * i → getD (put-node ns i kind size place a b c d e) j 0 ≡ getD ns j 0
-  node-before j g = rw node-sets (sets-below (ten kind size place a b c d e) (room ns i) (10 * i) j g ∙ moved-below (2550 - 10 * i) ns (10 * i) j (omega arith))
+  node-before j g = rw node-sets (sets-below (ten kind size place a b c d e) (room ns i) (10 * i) j g ∙ room-below ns i j (omega arith) (omega arith))
 
   pub node-at : (w : ℕ) → w < 10 → node-word (put-node ns i kind size place a b c d e) i w ≡ getD (ten kind size place a b c d e) w 0
   node-at w g = rw node-sets (sets-at (ten kind size place a b c d e) (room ns i) (10 * i) w (omega (arith, room-length)) g)
@@ -105,7 +72,8 @@ module _ (ns : List ℕ) (i kind size place a b c d e : ℕ) (h : i < 256) (l : 
   node-after j q g y z =
       rw node-sets
       (sets-above (ten kind size place a b c d e) (room ns i) (10 * i) q (omega arith)
-      ∙ moved-at (2550 - 10 * i) ns (10 * i) j q g (omega arith) y (omega arith))
+      ∙ room-above ns i q (omega arith) z (omega arith)
+      ∙ ap (λ (k : ℕ). getD ns k 0) (let x : q - 10 ≡ j = omega arith in x))
 
 -- ---- conditions
 

@@ -1,5 +1,6 @@
-use Rattle.parsing.proofs.Steps.{inside-of, look-told, look-end, want-reads, want-faults, want-falls, fail-falls, paren-reads, paren-deep, sign-reads, moved-turn, single-first, single-later}
-use Rattle.parsing.specs.Store.{counted, put-words, put-term, marked-tag, put-single, moved, room, put-node, put-condition, put-rule}
+use Rattle.parsing.proofs.Steps.{inside-of, look-told, look-end, want-reads, want-faults, want-falls, fail-falls, paren-reads, paren-deep, sign-reads, single-first, single-later}
+use Rattle.parsing.specs.Store.{counted, put-words, put-term, marked-tag, put-single, room, put-node, put-condition, put-rule}
+use Rattle.parsing.proofs.Rooms.{moved, moved-turn, moved-room}
 use lib.ListN.{length, set, getD}
 use native.Mathlib.Omega.{arith}
 use Prim.Native.Nat.{ℕ, _+_, _*_, _-_, _≤_, _<_}
@@ -17,7 +18,7 @@ abbrev μ-loop : tie.MeasureT-loop
 
 -- src/words.rt:107:5
 loop-holds : tie.Need-loop-holds Inv-loop μ-loop
-loop-holds c = (omega arith, omega arith, ap (λ (n : ℕ). moved n ((c) .args .nodes .now) (10 * (c) .args .i)) (omega arith))
+loop-holds c = (omega arith, omega arith, ap (λ (n : ℕ). moved n ((c) .args .nodes .now) (10 * (c) .args .i)) (let z : 2560 - (10 * (c) .args .i + 10) ≡ 2550 - 10 * (c) .args .i = omega arith in z) ∙ moved-room ((c) .args .nodes .now) ((c) .args .i) (let z : (c) .args .i < 256 = omega arith in z))
 
 -- src/words.rt:107:11
 mul-loop : tie.Need-mul-loop Inv-loop μ-loop

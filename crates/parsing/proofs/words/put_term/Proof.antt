@@ -1,4 +1,4 @@
-use Rattle.parsing.specs.Store.{counted, put-words, put-term, marked-tag, put-single, moved, room, put-node, put-condition, put-rule}
+use Rattle.parsing.specs.Store.{counted, put-words, put-term, marked-tag, put-single, room, put-node, put-condition, put-rule}
 use borrow.Author.Tests.{eq-eqb, ne-eqb, lt-ltb, le-ltb, le-leb, lt-leb}
 use borrow.Author.Needs.{needs}
 use Rattle.parsing.proofs.words.put_term.Statement.{statement}

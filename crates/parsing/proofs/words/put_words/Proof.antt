@@ -1,4 +1,4 @@
-use Rattle.parsing.specs.Store.{counted, put-words, put-term, marked-tag, put-single, moved, room, put-node, put-condition, put-rule}
+use Rattle.parsing.specs.Store.{counted, put-words, put-term, marked-tag, put-single, room, put-node, put-condition, put-rule}
 use mathlib.Core.Path.{_≡_, refl, sym, ap, _∙_}
 use borrow.Author.Needs.{needs}
 use Rattle.parsing.proofs.words.put_words.Statement.{statement}
