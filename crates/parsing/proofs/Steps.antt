@@ -1,26 +1,23 @@
 -- How readers of parts are put together.
 -- Assumes nothing.
-use Prim.Native.Nat.{ℕ, suc, _+_, _*_, _-_, _≤_, _<_}
+use Prim.Native.Nat.{ℕ, _+_, _*_, _-_, _≤_, _<_}
 use mathlib.Core.Path.{_≡_, refl, sym, ap, subst, _∙_}
-use mathlib.Core.Logic.{⊎-elim}
-use mathlib.Core.Bool.{Bool, true, false}
+use mathlib.Core.Bool.{true, false}
 use mathlib.Core.List.{List, [], _∷_, _++_, append-assoc}
 use native.Mathlib.Omega.{arith}
 use borrow.Author.Tests.{eq-eqb, ne-eqb, lt-ltb, le-ltb, le-leb}
-use lib.Dec.{eqb, ltb}
+use lib.Dec.{eqb}
 use lib.ListN.{length, getD, set}
-use Rattle.text.proofs.Tests.{which}
 use Rattle.tokens.specs.Tokens.{token-of}
-use Rattle.tokens.specs.declared.Kind.{Kind}
 use Rattle.tokens.specs.declared.Token.{Token}
 use Rattle.parsing.specs.Terminals.{code-of, sight, seen, sight-of, live}
-use Rattle.parsing.specs.Store.{State, room, put-words, put-node, put-term, marked-tag, put-single}
+use Rattle.parsing.specs.Store.{room, put-words, put-node, put-term, marked-tag, put-single}
 use Rattle.parsing.specs.Symbols.{Symbol, want, sign, paren}
-use Rattle.parsing.specs.Form.{Fed, go, fault, feed}
+use Rattle.parsing.specs.Form.{go, fault, feed}
 use Rattle.parsing.specs.Cursors.{sight-at, state-at, counts-of, next, fail, term-more, resume, left, Reads, ReadsTerms, ReadsOn}
 use Rattle.parsing.specs.declared.Sight.{Sight}
 use Rattle.parsing.specs.declared.Cursor.{Cursor}
-use Rattle.parsing.proofs.Sights.{Stands, ended, moving, stands, kind-live}
+use Rattle.parsing.proofs.Sights.{Stands, ended, moving, stands}
 use Rattle.parsing.proofs.Resuming.{skips, faults, takes, left-falls, left-failed, left-some}
 
 -- ---- looking

@@ -2,16 +2,14 @@
 -- Assumes nothing.
 use Prim.Native.Nat.{ℕ, zero, suc, _+_, _*_, _-_, _≤_, _<_}
 use mathlib.Core.Path.{_≡_, refl, sym, ap, _∙_}
-use mathlib.Core.Logic.{⊎-elim}
-use mathlib.Core.Bool.{true, false}
 use mathlib.Core.List.{List, [], _∷_}
 use native.Mathlib.Omega.{arith}
 use native.Mathlib.Numerals.{towards-suc}
-use borrow.Author.Tests.{lt-ltb, eqb-true, eqb-false}
-use lib.Dec.{eqb, ltb, leb}
+use borrow.Author.Tests.{lt-ltb}
+use lib.Dec.{ltb, leb}
 use lib.ListN.{length, getD, set, length-set}
 use lib.Seq.{getD-set-same, getD-set-other, sets, length-sets}
-use Rattle.text.proofs.Tests.{which, picked}
+use Rattle.text.proofs.Tests.{picked}
 use Rattle.parsing.specs.Store.{marked-tag, put-term, put-single, put-words, room, put-node, put-condition, put-rule}
 use Rattle.parsing.proofs.Rooms.{length-room, room-below, room-above}
 use Rattle.shapes.specs.NodeShapes.{node-word, rule-word}

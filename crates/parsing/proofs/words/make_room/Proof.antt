@@ -1,10 +1,8 @@
-use Rattle.parsing.proofs.Steps.{inside-of, look-told, look-end, want-reads, want-faults, want-falls, fail-falls, paren-reads, paren-deep, sign-reads, single-first, single-later}
-use Rattle.parsing.specs.Store.{counted, put-words, put-term, marked-tag, put-single, room, put-node, put-condition, put-rule}
+use Rattle.parsing.specs.Store.{room}
 use Rattle.parsing.proofs.Rooms.{moved, moved-turn, moved-room}
-use lib.ListN.{length, set, getD}
 use native.Mathlib.Omega.{arith}
 use Prim.Native.Nat.{ℕ, _+_, _*_, _-_, _≤_, _<_}
-use mathlib.Core.Path.{_≡_, refl, sym, ap, _∙_}
+use mathlib.Core.Path.{_≡_, sym, ap, _∙_}
 use Rattle.parsing.proofs.words.make_room.Statement.{statement}
 use Rattle.parsing.proofs.words.make_room.Tie as tie
 use Rattle.parsing.proofs.words.make_room.Reads as reads
