@@ -1,9 +1,8 @@
 -- Literals, byte by byte, and the number of what comes next.
 -- Assumes nothing.
-use Prim.Native.Nat.{ℕ, zero, suc, _+_, _*_, _-_, _^_, _≤_, _<_}
+use Prim.Native.Nat.{ℕ, suc, _+_, _*_, _-_, _≤_, _<_}
 use native.Mathlib.Omega.{arith}
 use native.Mathlib.Nat.{mod-eq-of-lt}
-use native.Mathlib.Numerals.{add-one}
 use borrow.Author.Tests.{eq-eqb, ne-eqb}
 use mathlib.Core.Path.{_≡_, refl, sym, _∙_, ap, ap₂}
 use mathlib.Core.Bool.{Bool, true, false, _&&_, Bool·beq}
@@ -12,7 +11,8 @@ use lib.ListN.{length, take, drop, length-drop}
 use lib.Seq.{take-add, drop-drop, length-take-le}
 use lib.Dec.{eqb}
 use Rattle.basis.specs.Bits.{Bits, bitsOf, value, frameBits, same}
-use Rattle.basis.specs.Lookahead.{lookahead, number}
+use Rattle.basis.specs.Lookahead.{lookahead}
+use Rattle.basis.proofs.Strings.{same-refl, same-true}
 use Rattle.basis.proofs.Joins.{lookahead-length}
 use Rattle.basis.proofs.Numbers.{number-small}
 use Rattle.basis.proofs.Values.{length-bitsOf, value-bitsOf, bitsOf-value}
@@ -35,24 +35,8 @@ same-append [] (y ∷ b) s t e = absurd (omega arith)
 same-append (x ∷ a) [] s t e = absurd (omega arith)
 same-append (x ∷ a) (y ∷ b) s t e = ap (Bool·beq x y &&_) (same-append a b s t (omega arith)) ∙ sym (and-assoc (Bool·beq x y) (same a b) (same s t))
 
-same-refl : (s : Bits) → same s s ≡ true
-unfolding same
-same-refl [] = refl
-same-refl (true ∷ s) = same-refl s
-same-refl (false ∷ s) = same-refl s
-
 no-way : {A : Type 0} → false ≡ true → A
 no-way e = let z : _≡_ {A = ℕ} 0 1 = cc in absurd (omega arith)
-
-same-true : (s t : Bits) → same s t ≡ true → s ≡ t
-unfolding same
-same-true [] [] e = refl
-same-true [] (y ∷ t) e = no-way e
-same-true (x ∷ s) [] e = no-way e
-same-true (true ∷ s) (true ∷ t) e = ap (true ∷_) (same-true s t e)
-same-true (true ∷ s) (false ∷ t) e = no-way e
-same-true (false ∷ s) (true ∷ t) e = no-way e
-same-true (false ∷ s) (false ∷ t) e = ap (false ∷_) (same-true s t e)
 
 -- eight bits are a byte's where their number is the byte
 same-byte : (s : Bits) (b : ℕ) → length s ≡ 8 → b < 256 → same s (bitsOf 8 b) ≡ eqb (value s) b

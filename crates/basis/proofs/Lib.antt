@@ -4,3 +4,4 @@ pub mod Numbers
 pub mod Joins
 pub mod CountLaws
 pub mod Frames
+pub mod Strings

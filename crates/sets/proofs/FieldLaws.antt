@@ -2,7 +2,7 @@
 -- Assumes nothing.
 use Prim.Native.Nat.{ℕ, zero, suc, _+_, _-_, _*_, _/_, _%_, _^_, _≤_, _<_, min, max}
 use mathlib.Core.Path.{_≡_, refl, sym, ap, _∙_, subst}
-use mathlib.Core.Bool.{Bool, true, false, Bool·beq, _&&_}
+use mathlib.Core.Bool.{Bool, true, false}
 use mathlib.Core.Logic.{inl, inr, _↔_}
 use mathlib.Core.List.{List, [], _∷_}
 use native.Mathlib.Omega.{arith}
@@ -11,11 +11,13 @@ use native.Mathlib.Nat.{mod-eq-of-lt, add-zero}
 use borrow.Author.Tests.{le-leb, leb-true}
 use lib.Dec.{leb}
 use lib.IntN.{pos}
-use lib.ListN.{length, length-take, length-append}
+use lib.ListN.{length, length-take}
 use lib.Seq.{take-at}
 use lib.Pow.{pow-mono}
 use Rattle.basis.specs.Bits.{Bits, bitsOf, value, frameBits, same}
 use Rattle.basis.specs.Lookahead.{lookahead, number}
+use Rattle.basis.proofs.Frames.{frame-length}
+use Rattle.basis.proofs.Strings.{same-refl, same-true}
 use Rattle.basis.proofs.Numbers.{number-value, number-ge, number-lt, number-injective, number-bitsOf}
 use Rattle.basis.proofs.Values.{length-bitsOf, value-bitsOf, value-less, bitsOf-value}
 use Rattle.basis.proofs.Joins.{lookahead-length, lookahead-short}
@@ -115,38 +117,6 @@ module _ (low high : ℕ) (h : high < 128) where
           (omega arith, omega arith, omega arith, tt)
 
 -- ---- literals
-
-same-refl : (s : Bits) → same s s ≡ true
-unfolding same
-same-refl [] = refl
-same-refl (true ∷ s) = same-refl s
-same-refl (false ∷ s) = same-refl s
-
-and-parts : (a b : Bool) → (a && b) ≡ true → (a ≡ true) × (b ≡ true)
-and-parts true b e = (refl, e)
-and-parts false b e = let z : _≡_ {A = ℕ} 0 1 = cc in absurd (omega arith)
-
-beq-true : (a b : Bool) → Bool·beq a b ≡ true → a ≡ b
-beq-true true true e = refl
-beq-true true false e = sym e
-beq-true false true e = e
-beq-true false false e = refl
-
-same-true : (s t : Bits) → same s t ≡ true → s ≡ t
-unfolding same
-same-true [] [] e = refl
-same-true [] (b ∷ t) e = let z : _≡_ {A = ℕ} 0 1 = cc in absurd (omega arith)
-same-true (a ∷ s) [] e = let z : _≡_ {A = ℕ} 0 1 = cc in absurd (omega arith)
-same-true (a ∷ s) (b ∷ t) e =
-    let p = and-parts (Bool·beq a b) (same s t) e in
-    let q : a ≡ b = beq-true a b (p .0) in
-    let r : s ≡ t = same-true s t (p .1) in
-    cc
-
-frame-length : (bytes : List ℕ) → length (frameBits bytes) ≡ 8 * length bytes
-unfolding frameBits
-frame-length [] = refl
-frame-length (b ∷ bs) = length-append (bitsOf 8 b) (frameBits bs) ∙ omega (arith, length-bitsOf 8 b, frame-length bs)
 
 frame-first : (b : ℕ) (bs : List ℕ) → lookahead (frameBits (b ∷ bs)) ≡ bitsOf 8 b
 unfolding frameBits

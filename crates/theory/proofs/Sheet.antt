@@ -2,7 +2,7 @@
 -- Assumes nothing.
 mod Numbers
 mod Nodes
-mod Sets
+pub mod Sets
 mod Follows
 mod Letters
 mod Ones

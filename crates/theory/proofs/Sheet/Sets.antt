@@ -9,8 +9,10 @@ use mathlib.Core.Bool.{Bool, true, false, false≢true}
 use mathlib.Core.List.{List, [], _∷_, _++_, List·Memᴰ, List·Memᴰ·head, List·Memᴰ·tail, List·Memᴰ·not-nil, List·Memᴰ·cases-cons, List·Memᴰ·eq-of-singleton, List·Memᴰ·append-cases, Memᴰ·append-left, Memᴰ·cast, Memᴰ·append-right}
 use lib.ListN.{length}
 use lib.Seq.{take-at}
-use Rattle.basis.specs.Bits.{Bits, bitsOf, append-digits, value, frameBits}
+use Rattle.basis.specs.Bits.{Bits, append-digits, value, frameBits}
 use Rattle.basis.specs.Lookahead.{lookahead, join}
+use Rattle.basis.proofs.Frames.{frame-length}
+use Rattle.basis.proofs.Strings.{same-refl, same-true}
 use Rattle.theory.specs.Grammar.{alternative, Grammar, _∈_}
 use Rattle.theory.specs.Derivation.{construct, passes}
 use Rattle.theory.specs.Lookahead.{First, Follow, Predicted, Continues}
@@ -40,22 +42,6 @@ Exactly S ys = (x : Bits) → S x ↔ List·Memᴰ x ys
 pub only-one : (S : Bits → Type 0) {y : Bits} → S y → (x : Bits) → List·Memᴰ x (y ∷ []) → S x
 only-one S h x m = subst S (sym (List·Memᴰ·eq-of-singleton m)) h
 
-same-true : (s t : Bits) → same s t ≡ true → s ≡ t
-unfolding same
-same-true [] [] e = refl
-same-true [] (b ∷ t) e = absurd (false≢true e)
-same-true (a ∷ s) [] e = absurd (false≢true e)
-same-true (true ∷ s) (true ∷ t) e = ap (true ∷_) (same-true s t e)
-same-true (true ∷ s) (false ∷ t) e = absurd (false≢true e)
-same-true (false ∷ s) (true ∷ t) e = absurd (false≢true e)
-same-true (false ∷ s) (false ∷ t) e = ap (false ∷_) (same-true s t e)
-
-same-self : (s : Bits) → same s s ≡ true
-unfolding same
-same-self [] = refl
-same-self (true ∷ s) = same-self s
-same-self (false ∷ s) = same-self s
-
 one-of-true : (ys : List Bits) (x : Bits) → one-of ys x ≡ true → List·Memᴰ x ys
 unfolding one-of
 one-of-true [] x e = absurd (false≢true e)
@@ -70,7 +56,7 @@ one-of-listed (y ∷ ys) x m =
       | inl t ↦ rw (t, one-of)
       | inr t ↦
           elim (List·Memᴰ·cases-cons m) [
-            | inl e ↦ absurd (not-both (subst (λ (z : Bits). same x z ≡ true) e (same-self x)) t)
+            | inl e ↦ absurd (not-both (subst (λ (z : Bits). same x z ≡ true) e (same-refl x)) t)
             | inr h ↦ rw (t, one-of) (one-of-listed ys x h)
           ]
     ]
@@ -99,17 +85,12 @@ pub decides : {S : Bits → Type 0} (ys : List Bits) → Exactly S ys → (x : B
 decides ys e x = (λ t. (e x) .1 (one-of-true ys x t), λ s. one-of-listed ys x ((e x) .0 s))
 
 -- FIRST of a literal
-length-frameBits : (bytes : List ℕ) → length (frameBits bytes) ≡ 8 * length bytes
-unfolding frameBits bitsOf
-length-frameBits [] = refl
-length-frameBits (b ∷ bytes) = omega (arith, length-frameBits bytes)
-
 pub literal-first : (g : SheetGrammar) (i : ℕ) (bytes : List ℕ) → g .node i ≡ literal bytes → Exactly (First-of g i) (lookahead (frameBits bytes) ∷ [])
 literal-first g i bytes e x = (
   λ f. let (bits, l, s, q) = subst (λ (n : SheetNode). FirstBy g (construct i n) x) e (first-by g f) in List·Memᴰ·head (q ∙ ap lookahead (same-true bits (frameBits bytes) s)),
   λ m.
       subst (λ (n : SheetNode). First g (construct i n) x) (sym e)
-      (First.of-field (frameBits bytes) (length-frameBits bytes) (same-self (frameBits bytes)) (List·Memᴰ·eq-of-singleton m)),
+      (First.of-field (frameBits bytes) (frame-length bytes) (same-refl (frameBits bytes)) (List·Memᴰ·eq-of-singleton m)),
 )
 
 -- strings of one length with one value are one string
