@@ -118,7 +118,7 @@ module _ (text table : List ℕ) where
       ]
 
   -- one row more does not fit
-  below-next : (k : Row) → NoneBelow text table (number k) → ((q : ℕ) → Fits text table k q → ⊥) → NoneBelow text table (number k + 1)
+  pub below-next : (k : Row) → NoneBelow text table (number k) → ((q : ℕ) → Fits text table k q → ⊥) → NoneBelow text table (number k + 1)
   below-next k none not j q l e =
       elim (decLt (number j) (number k)) [
         | yes m ↦ none j q m e
@@ -162,7 +162,7 @@ module _ (text table : List ℕ) where
 
     module _ (st : State) where
       -- what is read of the text is this
-      read : (P : ℕ → List ℕ → State → ℕ → Type 0) → Right xs st → (q : ℕ) → Read text P q → P base xs st q
+      pub read : (P : ℕ → List ℕ → State → ℕ → Type 0) → Right xs st → (q : ℕ) → Read text P q → P base xs st q
       read P r q = of-read text P q base st (h .header) (r .formed)
 
       abbrev pub reading : Right xs st → Reading text

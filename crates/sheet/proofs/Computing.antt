@@ -1,0 +1,78 @@
+-- What is computed of a text whose words are known, in definitions that open all that they are made of: a proof that unfolds one of them computes.
+-- Assumes nothing.
+use Prim.Native.Nat.{ℕ, _-_}
+use Prim.Native.String.{String}
+use mathlib.Core.List.{List}
+use lib.ListN.{drop}
+use Rattle.theory.specs.Grammar.{Grammar}
+use Rattle.wholes.specs.Wholes.{bounded, equals}
+use Rattle.layout.specs.Held.{Values}
+use Rattle.text.specs.Header.{header-of}
+use Rattle.text.specs.declared.Heading.{Heading}
+use Rattle.parsing.specs.Form.{Outcome}
+use Rattle.parsing.specs.Store.{State}
+use Rattle.admission.specs.Admitted.{form, words-of, fault-5, fault-6, fault-8}
+use Rattle.admission.specs.declared.Found.{Found}
+use Rattle.conditions.specs.Texts.{meant}
+use Rattle.sheet.specs.Sheet.{text-of}
+use Rattle.admission.specs.Extents.{least-found}
+use Rattle.basis.specs.Bits.{append-digits, bitsOf, frameBits, same}
+use Rattle.basis.specs.Counts.{atLeast, between, exactly, span}
+use Rattle.encoding.specs.Encoded.{encoded}
+use Rattle.encoding.specs.Lists.{first-of, flat, sum, written}
+use Rattle.encoding.specs.Numbers.{first-at}
+use Rattle.evaluation.specs.Counts.{tallied}
+use Rattle.evaluation.specs.Meaning.{condition, membership, run}
+use Rattle.evaluation.specs.Variables.{hasVariable}
+use Rattle.layout.specs.Constructs.{constructAt, constructOf}
+use Rattle.literals.specs.Literals.{characters, literal-reach}
+use Rattle.meaning.specs.Meaning.{first-true, grammar-of, meant-node, parts-from}
+use Rattle.measures.specs.Measures.{widest-from}
+use Rattle.naming.specs.Counting.{any-of, least-of}
+use Rattle.naming.specs.Names.{is-reserved, same-name}
+use Rattle.parsing.specs.Form.{atom-begins, feed, item-begins, operand-begins, primary-begins, run as parsing-run, test-begins}
+use Rattle.parsing.specs.Store.{over, put-condition, put-node, put-rule, put-single, put-term, put-words, room}
+use Rattle.parsing.specs.Terminals.{literal-code, name-code, seen, sight-of, sights}
+use Rattle.shapes.specs.TermShapes.{read-terms}
+use Rattle.sizes.specs.Sizes.{countSizes, sizes as sizes-sizes}
+use Rattle.syntax.specs.Rules.{form-of}
+use Rattle.terms.specs.Steps.{variableOf}
+use Rattle.terms.specs.Tests.{combined, noted}
+use Rattle.terms.specs.Words.{termAt, termOf, termsFrom}
+use Rattle.text.specs.Header.{content, header-lines-of, is-first-line, is-header-line, lines}
+use Rattle.text.specs.Spans.{span-end, starts}
+use Rattle.tokens.specs.Names.{word-number}
+use Rattle.tokens.specs.Numbers.{digits-at, digits-value, number-end-of, radix-at}
+use Rattle.tokens.specs.Tokens.{gap-end, literal-token, name-token, number-token, sign-token, token-begun, token-of}
+
+unfoldable pub heading : String → Heading
+unfolding text-of content header-lines-of is-first-line is-header-line lines span-end starts
+heading rules = header-of (text-of rules)
+
+unfoldable pub rules-in : String → List ℕ
+unfolding text-of
+rules-in rules = drop 16 (text-of rules)
+
+unfoldable pub read : String → Outcome
+unfolding rules-in characters literal-reach atom-begins feed item-begins operand-begins primary-begins parsing-run test-begins over put-condition put-node put-rule put-single put-term put-words room literal-code name-code seen sight-of sights form-of span-end starts word-number digits-at digits-value number-end-of radix-at gap-end literal-token name-token number-token sign-token token-begun token-of
+read rules = form (rules-in rules)
+
+unfoldable pub limits : State → ℕ
+unfolding least-of
+limits st = fault-5 st
+
+unfoldable pub names : String → State → ℕ
+unfolding rules-in any-of least-of is-reserved same-name span-end starts word-number
+names rules st = fault-6 (rules-in rules) st
+
+unfoldable pub words : String → State → List ℕ
+unfolding rules-in encoded first-of flat sum written first-at constructAt constructOf characters same-name span-end starts digits-at digits-value radix-at
+words rules st = words-of (rules-in rules) st
+
+unfoldable pub sizes-in : String → State → Found
+unfolding rules-in bounded equals least-found atLeast between exactly span encoded first-of flat sum written first-at tallied run constructAt constructOf characters widest-from same-name countSizes sizes-sizes variableOf combined noted termAt termOf termsFrom span-end starts digits-at digits-value radix-at
+sizes-in rules st = fault-8 (rules-in rules) st
+
+unfoldable pub grammar : String → State → Grammar (Unit {0}) Values
+unfolding rules-in bounded equals append-digits bitsOf frameBits same atLeast between exactly span first-of sum first-at condition membership run hasVariable characters first-true grammar-of meant-node parts-from same-name read-terms variableOf combined noted termOf span-end starts digits-at digits-value radix-at
+grammar rules st = meant (rules-in rules) st

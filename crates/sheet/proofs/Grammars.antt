@@ -1,0 +1,109 @@
+-- Grammars of texts, node by node: that they have no conflict and no empty body.
+-- Assumes nothing.
+use Prim.Native.Nat.{ℕ, zero, suc, _≤_, _<_}
+use mathlib.Core.Path.{_≡_, refl, sym, subst}
+use mathlib.Core.Logic.{inl, inr}
+use mathlib.Core.Bool.{Bool, true, false, false≢true}
+use mathlib.Core.List.{List, [], _∷_, List·Memᴰ·not-nil}
+use native.Mathlib.Omega.{arith}
+use native.Mathlib.Decide.{decLt}
+use borrow.Author.Tests.{ltb-true, ltb-false, eqb-true}
+use lib.Dec.{ltb, eqb}
+use lib.ListN.{length}
+use Rattle.text.proofs.Tests.{which}
+use Rattle.basis.specs.Bits.{Bits}
+use Rattle.basis.specs.Lookahead.{lookahead}
+use Rattle.theory.specs.Grammar.{alternative, concatenation, repetition, switch, use-of, field, eod, Grammar, _∈_}
+use Rattle.theory.specs.Derivation.{construct}
+use Rattle.theory.specs.Lookahead.{First, Conflict, EmptyBody}
+use Rattle.theory.proofs.Inversion.{first-by}
+use Rattle.layout.specs.Held.{Values, HeldNode, opening}
+use Rattle.meaning.specs.Meaning.{opened, grammar-of}
+use Rattle.parsing.specs.Store.{State, rule-words, nodes-of}
+use Rattle.conditions.specs.Texts.{meant}
+
+-- ---- a property of each number below n
+
+abbrev pub Upto : (ℕ → Type 0) → ℕ → Type 0
+Upto P zero = Unit {0}
+Upto P (suc n) = Upto P n × P n
+
+pub upto : (P : ℕ → Type 0) (n : ℕ) → Upto P n → (i : ℕ) → i < n → P i
+upto P zero u i l = absurd (omega arith)
+upto P (suc n) u i l = elim (decLt i n) [ yes m ↦ upto P n (u .0) i m | no m ↦ subst P (let z : n ≡ i = omega arith in z) (u .1) ]
+
+-- ---- a property of each node: of the opening use, of each number that is none, and of each that is read
+
+module _ (xs : List ℕ) (st : State) where
+  abbrev pub g : Grammar (Unit {0}) Values
+  g = meant xs st
+
+  no-node : (i : ℕ) → eqb i opening ≡ false → ltb i (nodes-of st) ≡ false → g .node i ≡ alternative []
+  unfolding grammar-of
+  no-node i e l = rw (e, l)
+
+  pub each-node : (P : ℕ → HeldNode → Type 0) → P opening (opened (rule-words st) 0) → ((i : ℕ) → nodes-of st ≤ i → eqb i opening ≡ false → P i (alternative []))
+      → Upto (λ i. P i (g .node i)) (nodes-of st) → (i : ℕ) → P i (g .node i)
+  unfolding grammar-of
+  each-node P o a u i =
+      elim (which (ltb i (nodes-of st))) [
+        | inl t ↦ upto (λ k. P k (g .node k)) (nodes-of st) u i (ltb-true i (nodes-of st) t)
+        | inr t ↦ elim (which (eqb i opening)) [
+          | inl e ↦ subst (λ (k : ℕ). P k (g .node k)) (sym (eqb-true i opening e)) o
+          | inr e ↦ subst (P i) (sym (no-node i e t)) (a i (ltb-false i (nodes-of st) t) e)
+        ]
+      ]
+
+-- ---- no conflict, where nothing is chosen
+
+abbrev pub branches-in : HeldNode → List ℕ
+branches-in (alternative is) = is
+branches-in (concatenation is) = []
+branches-in (repetition counts static fixed b) = []
+branches-in (switch chosen is) = []
+branches-in (use-of enters opens closes b) = []
+branches-in (field w admits static binds) = []
+branches-in eod = []
+
+-- neither branches nor a repetition that is not written `{n}`
+abbrev pub Quiet : HeldNode → Type 0
+Quiet (alternative is) = is ≡ []
+Quiet (concatenation is) = Unit {0}
+Quiet (repetition counts static fixed b) = fixed ≡ true
+Quiet (switch chosen is) = Unit {0}
+Quiet (use-of enters opens closes b) = Unit {0}
+Quiet (field w admits static binds) = Unit {0}
+Quiet eod = Unit {0}
+
+pub quiet : (h : Grammar (Unit {0}) Values) (i : ℕ) (x : Bits) → Quiet (h .node i) → Conflict h i x → ⊥
+quiet h i x q (Conflict.of-branches {a = a} e m n d p p′) = List·Memᴰ·not-nil (subst (λ (l : List ℕ). a ∈ l) (subst Quiet e q) m)
+quiet h i x q (Conflict.of-passes e c s) = false≢true (subst Quiet e q)
+
+pub quiet-as : (xs : List ℕ) (st : State) → Upto (λ i. Quiet (meant xs st .node i)) (nodes-of st) → (i : ℕ) (x : Bits) → Conflict (meant xs st) i x → ⊥
+quiet-as xs st u i x = quiet (meant xs st) i x (each-node xs st (λ k n. Quiet n) tt (λ k h e. refl) u i)
+
+-- ---- no empty body
+
+abbrev pub NotEmpty : Grammar (Unit {0}) Values → HeldNode → Type 0
+NotEmpty h (alternative is) = Unit {0}
+NotEmpty h (concatenation is) = Unit {0}
+NotEmpty h (repetition counts static fixed b) = First h (construct b (h .node b)) [] → ⊥
+NotEmpty h (switch chosen is) = Unit {0}
+NotEmpty h (use-of enters opens closes b) = Unit {0}
+NotEmpty h (field w admits static binds) = Unit {0}
+NotEmpty h eod = Unit {0}
+
+pub not-empty : (h : Grammar (Unit {0}) Values) (i : ℕ) → NotEmpty h (h .node i) → EmptyBody h i → ⊥
+not-empty h i q (EmptyBody.empty-body e f) = subst (NotEmpty h) e q f
+
+pub filled-as : (xs : List ℕ) (st : State) → Upto (λ i. NotEmpty (meant xs st) (meant xs st .node i)) (nodes-of st) → (i : ℕ) → EmptyBody (meant xs st) i → ⊥
+filled-as xs st u i = not-empty (meant xs st) i (each-node xs st (λ k n. NotEmpty (meant xs st) n) tt (λ k h e. tt) u i)
+
+-- a field takes some bits
+some-bits : (bits : Bits) (w : ℕ) → length bits ≡ suc w → [] ≡ lookahead bits → ⊥
+some-bits [] w l e = omega arith
+some-bits (b ∷ bits) w l e = let z : _≡_ {A = ℕ} 0 1 = cc in omega arith
+
+pub field-first : (h : Grammar (Unit {0}) Values) (i w : ℕ) {admits : Unit {0} → Values → Bits → Bool} {static : Bits → Bool} {binds : Unit {0} → Values → Bits → Values}
+    → First h (construct i (field (suc w) admits static binds)) [] → ⊥
+field-first h i w f = let (bits, l, s, z) = first-by h f in some-bits bits w l z
