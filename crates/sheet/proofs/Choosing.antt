@@ -4,7 +4,7 @@ use Prim.Native.Nat.{ℕ, zero, suc, _+_, _*_, _≤_}
 use mathlib.Core.Path.{_≡_, refl, sym, ap, ap₂, subst, _∙_}
 use mathlib.Core.Logic.{_⊎_, _↔_, inl, inr}
 use mathlib.Core.Bool.{Bool, true, false, cond}
-use mathlib.Core.List.{List, [], _∷_, List·Memᴰ, List·Memᴰ·head, List·Memᴰ·tail, List·Memᴰ·not-nil, List·Memᴰ·cases-cons, List·Memᴰ·eq-of-singleton, Memᴰ·cast}
+use mathlib.Core.List.{List, [], _∷_, List·Memᴰ, List·Memᴰ·head, List·Memᴰ·not-nil, List·Memᴰ·eq-of-singleton}
 use mathlib.Core.Option.{Option, none, some}
 use native.Mathlib.Omega.{arith}
 use borrow.Author.Tests.{eqb-true, leb-true}
@@ -22,7 +22,8 @@ use Rattle.theory.specs.Machine.{Tests}
 use Rattle.theory.specs.Sheet.{one-of}
 use Rattle.theory.specs.Weight.{weigh, sum}
 use Rattle.theory.proofs.Inversion.{First-of, FirstBy, first-by, Keeps, follow-least}
-use Rattle.theory.proofs.Sheet.Sets.{Exactly, only-one, decides, apart, apart-true, repeat, passes-one}
+use Rattle.theory.proofs.Sheet.Sets.{Exactly, only-one, decides, apart, apart-true}
+use Rattle.theory.proofs.Sheet.Ones.{one, two, continuing, continues-ones}
 use Rattle.layout.specs.Constructs.{pick, both}
 use Rattle.layout.specs.Held.{Values, HeldNode, opening}
 use Rattle.sheet.specs.Sheet.{K6}
@@ -65,12 +66,6 @@ one-string h i w it admits static binds e l t a x = (there, λ m. subst (λ (n :
 
 abbrev g : Grammar (Unit {0}) Values
 g = grammar K6 state-K6
-
-abbrev one : Bits
-one = bitsOf 4 1
-
-abbrev two : Bits
-two = bitsOf 4 2
 
 first-one : Exactly (First-of g 2) (one ∷ [])
 unfolding grammar bitsOf append-digits every same
@@ -116,38 +111,15 @@ follow-star : Exactly (Follow g 1) (two ∷ [])
 unfolding grammar
 follow-star x = (λ f. follow-least g Claimed (List·Memᴰ·head refl) keeps f, only-one (Follow g 1) two-follows x)
 
--- ---- "one or more passes joined with follow": a 1 and the 2, or two 1s
-
-abbrev continuing : List Bits
-continuing = bitsOf 8 0x12 ∷ bitsOf 8 0x11 ∷ []
-
-ones-two : (k : ℕ) → List·Memᴰ (join (repeat one (suc k)) two) continuing
-unfolding repeat bitsOf
-ones-two zero = List·Memᴰ·head refl
-ones-two (suc k) = List·Memᴰ·tail (List·Memᴰ·head refl)
-
-ones-continue : (k : ℕ) → Continues g 1 2 (join (repeat one (suc k)) two)
-ones-continue k = Continues.continues k ((passes-one g 2 one first-one (suc k) (repeat one (suc k))) .1 (List·Memᴰ·head refl)) two-follows refl
-
-continues-ones : Exactly (Continues g 1 2) continuing
-unfolding repeat bitsOf
-continues-ones x = (there, back)
-  where
-    there : Continues g 1 2 x → List·Memᴰ x continuing
-    there (Continues.continues {x = u} {y = w} k h hs e) =
-        Memᴰ·cast (e ∙ ap₂ join (List·Memᴰ·eq-of-singleton ((passes-one g 2 one first-one (suc k) u) .0 h)) (List·Memᴰ·eq-of-singleton ((follow-star w) .0 hs))) (ones-two k)
-
-    back : List·Memᴰ x continuing → Continues g 1 2 x
-    back m =
-        elim (List·Memᴰ·cases-cons m)
-        [ inl e ↦ subst (Continues g 1 2) (sym e) (ones-continue 0) | inr k ↦ subst (Continues g 1 2) (sym (List·Memᴰ·eq-of-singleton k)) (ones-continue 1) ]
+continues-star : Exactly (Continues g 1 2) continuing
+continues-star = continues-ones g first-one follow-star
 
 -- ---- it passes
 
 -- neither continues nor exits is the other
 star-apart : (x : Bits) → Continues g 1 2 x → Follow g 1 x → ⊥
 unfolding apart bitsOf
-star-apart x c f = apart-true continuing (two ∷ []) refl x ((continues-ones x) .0 c) ((follow-star x) .0 f)
+star-apart x c f = apart-true continuing (two ∷ []) refl x ((continues-star x) .0 c) ((follow-star x) .0 f)
 
 -- the body of a repetition
 abbrev body-in : HeldNode → ℕ
@@ -215,6 +187,6 @@ replaced a ys h i x =
 pub same-tests : (tests : Tests) → Hypotheses g tests → tests ≡ known tests
 unfolding grammar
 same-tests tests h =
-    let c = replaced (tests .continues) continuing (λ x l. same-test (tests .continues 1 x) (one-of continuing x) (h .continues-exact {i = 1} {b = 2} refl x l) (decides continuing continues-ones x)) in
+    let c = replaced (tests .continues) continuing (λ x l. same-test (tests .continues 1 x) (one-of continuing x) (h .continues-exact {i = 1} {b = 2} refl x l) (decides continuing continues-star x)) in
     let e = replaced (tests .exits) (two ∷ []) (λ x l. same-test (tests .exits 1 x) (one-of (two ∷ []) x) (h .exits-exact {i = 1} {b = 2} refl x l) (decides (two ∷ []) follow-star x)) in
     λ t. record { predicts = tests .predicts; continues = λ i x. c i x t; exits = λ i x. e i x t }

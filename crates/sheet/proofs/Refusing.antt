@@ -2,22 +2,19 @@
 -- Assumes nothing.
 use Prim.Native.Nat.{ℕ, _≤_, _<_}
 use mathlib.Core.Path.{_≡_, refl, sym, ap, subst, _∙_}
-use mathlib.Core.List.{List, [], _∷_, List·Memᴰ·head, List·Memᴰ·tail}
+use mathlib.Core.List.{List, [], _∷_, List·Memᴰ·head, List·Memᴰ·tail, List·Memᴰ·eq-of-singleton}
 use mathlib.Core.Option.{some}
 use native.Mathlib.Omega.{arith}
 use native.Mathlib.Decide.{decLt}
-use lib.ListN.{drop}
+use lib.ListN.{length, drop}
 use Rattle.basis.specs.Bits.{Bits, bitsOf, append-digits, frameBits}
 use Rattle.basis.specs.Counts.{zero-or-one}
-use Rattle.basis.specs.Lookahead.{lookahead, join, number}
-use Rattle.basis.proofs.Frames.{frame-length}
-use Rattle.basis.proofs.Strings.{same-refl, same-true}
+use Rattle.basis.specs.Lookahead.{number}
 use Rattle.theory.specs.Grammar.{Grammar, _∈_}
 use Rattle.theory.specs.Derivation.{construct}
 use Rattle.theory.specs.Lookahead.{First, Follow, Predicted, Conflict, EmptyBody}
-use Rattle.theory.proofs.Inversion.{FirstBy, first-by}
-use Rattle.theory.proofs.Sheet.Sets.{of-two}
-use Rattle.layout.specs.Held.{Values, HeldNode, held, literal-node}
+use Rattle.theory.proofs.Sheet.Sets.{of-two, Exactly, literal-first, predicted-full}
+use Rattle.layout.specs.Held.{Values, held, literal-node}
 use Rattle.conflicts.specs.Conflicts.{Conflicting, LeastWindow, Answered}
 use Rattle.conflicts.specs.declared.Clash.{Clash}
 use Rattle.table.specs.Judged.{Least}
@@ -81,30 +78,26 @@ abbrev letter-A : Bits
 letter-A = frameBits (0x41 ∷ [])
 
 -- a branch of two letters, the first an A: its windows are the A
-module _ (i byte : ℕ) (e : g₅ .node i ≡ literal-node (0x41 ∷ byte ∷ [])) (m : i ∈ (1 ∷ 2 ∷ [])) where
-  predicted-A : Predicted g₅ i letter-A
-  unfolding grammar frameBits bitsOf
-  predicted-A =
-      let f : First g₅ (construct i (literal-node (0x41 ∷ byte ∷ []))) letter-A = First.of-field (frameBits (0x41 ∷ byte ∷ [])) (frame-length (0x41 ∷ byte ∷ [])) (same-refl (frameBits (0x41 ∷ byte ∷ []))) refl in
-      Predicted.predicted {y = []} (subst (λ (n : HeldNode). First g₅ (construct i n) letter-A) (sym e) f) (Follow.of-branch {i = 0} refl m (Follow.of-rule {i = 256} refl (Follow.of-start refl))) refl
+predicted-A : (i byte : ℕ) → g₅ .node i ≡ literal-node (0x41 ∷ byte ∷ []) → i ∈ (1 ∷ 2 ∷ []) → Exactly (Predicted g₅ i) (letter-A ∷ [])
+unfolding grammar frameBits bitsOf
+predicted-A i byte e m =
+    predicted-full g₅ i (letter-A ∷ []) (literal-first g₅ i (0x41 ∷ byte ∷ []) e) (λ x h. ap length (List·Memᴰ·eq-of-singleton h)) []
+    (Follow.of-branch {i = 0} refl m (Follow.of-rule {i = 256} refl (Follow.of-start refl)))
 
-  only-A : (x : Bits) → Predicted g₅ i x → x ≡ letter-A
-  unfolding frameBits bitsOf
-  only-A x (Predicted.predicted {x = u} {y = y} f h z) =
-      let (bits, k, s, q) = subst (λ (n : HeldNode). FirstBy g₅ (construct i n) u) e (first-by g₅ f) in
-      z ∙ ap (λ (v : Bits). join v y) (q ∙ ap lookahead (same-true bits (frameBits (0x41 ∷ byte ∷ [])) s))
+predicted-branch : (i : ℕ) → i ∈ (1 ∷ 2 ∷ []) → Exactly (Predicted g₅ i) (letter-A ∷ [])
+unfolding grammar
+predicted-branch i m = of-two (λ j. j ∈ (1 ∷ 2 ∷ []) → Exactly (Predicted g₅ j) (letter-A ∷ [])) 1 2 (predicted-A 1 0x42 refl) (predicted-A 2 0x43 refl) i m m
 
 conflict-A : Conflict g₅ 0 letter-A
 unfolding grammar
 conflict-A =
-    Conflict.of-branches {a = 1} {b = 2} refl (List·Memᴰ·head refl) (List·Memᴰ·tail (List·Memᴰ·head refl)) (λ e. omega arith)
-    (predicted-A 1 0x42 refl (List·Memᴰ·head refl)) (predicted-A 2 0x43 refl (List·Memᴰ·tail (List·Memᴰ·head refl)))
+    let first : 1 ∈ (1 ∷ 2 ∷ []) = List·Memᴰ·head refl in
+    let second : 2 ∈ (1 ∷ 2 ∷ []) = List·Memᴰ·tail (List·Memᴰ·head refl) in
+    Conflict.of-branches {a = 1} {b = 2} refl first second (λ e. omega arith) ((predicted-branch 1 first letter-A) .1 (List·Memᴰ·head refl)) ((predicted-branch 2 second letter-A) .1 (List·Memᴰ·head refl))
 
 clash-A : (x : Bits) → Conflict g₅ 0 x → x ≡ letter-A
 unfolding grammar
-clash-A x (Conflict.of-branches {a = a} e m n d p p′) =
-    of-two (λ j. Predicted g₅ j x → x ≡ letter-A) 1 2 (only-A 1 0x42 refl (List·Memᴰ·head refl) x) (only-A 2 0x43 refl (List·Memᴰ·tail (List·Memᴰ·head refl)) x)
-    a (subst (λ (l : List ℕ). a ∈ l) (sym (ap branches-in e)) m) p
+clash-A x (Conflict.of-branches {a = a} e m n d p p′) = List·Memᴰ·eq-of-singleton ((predicted-branch a (subst (λ (l : List ℕ). a ∈ l) (sym (ap branches-in e)) m) x) .0 p)
 clash-A x (Conflict.of-passes e c s) = let z : _≡_ {A = ℕ} 0 1 = cc in absurd (omega arith)
 
 -- the window that a clash of these words carries

@@ -5,7 +5,7 @@ mod Nodes
 pub mod Sets
 mod Follows
 mod Letters
-mod Ones
+pub mod Ones
 mod Refused
 mod Scopes
 use Prim.Native.Nat.{ℕ, _+_, _*_}

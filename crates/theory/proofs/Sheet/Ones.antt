@@ -7,6 +7,7 @@ use mathlib.Core.List.{List, [], _∷_, List·Memᴰ, List·Memᴰ·head, List·
 use mathlib.Core.Option.{none, some}
 use Rattle.basis.specs.Bits.{Bits, bitsOf, append-digits}
 use Rattle.basis.specs.Lookahead.{join}
+use Rattle.theory.specs.Grammar.{Grammar}
 use Rattle.theory.specs.Derivation.{members}
 use Rattle.theory.specs.Lookahead.{First, Follow, Continues}
 use Rattle.theory.specs.Sheet.{SheetGrammar, starred, grammar-of, ones-tests, ones}
@@ -20,10 +21,10 @@ use Rattle.theory.proofs.Sheet.Follows.{at-end, Claims, claimed, follow
 abbrev g : SheetGrammar
 g = grammar-of ones
 
-abbrev one : Bits
+abbrev pub one : Bits
 one = bitsOf 4 1
 
-abbrev two : Bits
+abbrev pub two : Bits
 two = bitsOf 4 2
 
 first-one : Exactly (First-of g 2) (one ∷ [])
@@ -57,8 +58,8 @@ follow-star x = (
   only-one (Follow g 1) two-follows x,
 )
 
--- "one or more passes joined with follow": a 1 and the 2, or two 1s
-abbrev continuing : List Bits
+-- "one or more passes joined with follow": a 1 and the 2, or two 1s, in any grammar whose construct 1 repeats the 1 and is followed by the 2
+abbrev pub continuing : List Bits
 continuing = bitsOf 8 0x12 ∷ bitsOf 8 0x11 ∷ []
 
 ones-two : (k : ℕ) → List·Memᴰ (join (repeat one (suc k)) two) continuing
@@ -66,22 +67,23 @@ unfolding repeat bitsOf
 ones-two zero = List·Memᴰ·head refl
 ones-two (suc k) = List·Memᴰ·tail (List·Memᴰ·head refl)
 
-ones-continue : (k : ℕ) → Continues g 1 2 (join (repeat one (suc k)) two)
-ones-continue k = Continues.continues k ((passes-one g 2 one first-one (suc k) (repeat one (suc k))) .1 (List·Memᴰ·head refl)) two-follows refl
+module _ {Context Values : Type 0} (h : Grammar Context Values) (first-1 : Exactly (First-of h 2) (one ∷ [])) (follow-1 : Exactly (Follow h 1) (two ∷ [])) where
+  ones-continue : (k : ℕ) → Continues h 1 2 (join (repeat one (suc k)) two)
+  ones-continue k = Continues.continues k ((passes-one h 2 one first-1 (suc k) (repeat one (suc k))) .1 (List·Memᴰ·head refl)) ((follow-1 two) .1 (List·Memᴰ·head refl)) refl
 
-continues-ones : Exactly (Continues g 1 2) continuing
-unfolding repeat bitsOf
-continues-ones x = (there, back)
-  where
-    there : Continues g 1 2 x → List·Memᴰ x continuing
-    there (Continues.continues {x = u} {y = w} k h hs e) =
-        Memᴰ·cast (e ∙ ap₂ join (List·Memᴰ·eq-of-singleton ((passes-one g 2 one first-one (suc k) u) .0 h)) (List·Memᴰ·eq-of-singleton ((follow-star w) .0 hs))) (ones-two k)
+  pub continues-ones : Exactly (Continues h 1 2) continuing
+  unfolding repeat bitsOf
+  continues-ones x = (there, back)
+    where
+      there : Continues h 1 2 x → List·Memᴰ x continuing
+      there (Continues.continues {x = u} {y = w} k f fs e) =
+          Memᴰ·cast (e ∙ ap₂ join (List·Memᴰ·eq-of-singleton ((passes-one h 2 one first-1 (suc k) u) .0 f)) (List·Memᴰ·eq-of-singleton ((follow-1 w) .0 fs))) (ones-two k)
 
-    back : List·Memᴰ x continuing → Continues g 1 2 x
-    back m =
-        elim (List·Memᴰ·cases-cons m)
-        [ inl e ↦ subst (Continues g 1 2) (sym e) (ones-continue 0) | inr k ↦ subst (Continues g 1 2) (sym (List·Memᴰ·eq-of-singleton k)) (ones-continue 1) ]
+      back : List·Memᴰ x continuing → Continues h 1 2 x
+      back m =
+          elim (List·Memᴰ·cases-cons m)
+          [ inl e ↦ subst (Continues h 1 2) (sym e) (ones-continue 0) | inr k ↦ subst (Continues h 1 2) (sym (List·Memᴰ·eq-of-singleton k)) (ones-continue 1) ]
 
 pub star-law : Law g ones-tests 1 (starred 2)
 unfolding ones-tests apart bitsOf
-star-law = starred-law g ones-tests 1 2 (one ∷ []) continuing (two ∷ []) first-one continues-ones follow-star refl refl refl refl
+star-law = starred-law g ones-tests 1 2 (one ∷ []) continuing (two ∷ []) first-one (continues-ones g first-one follow-star) follow-star refl refl refl refl

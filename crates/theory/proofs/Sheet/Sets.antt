@@ -13,10 +13,10 @@ use Rattle.basis.specs.Bits.{Bits, append-digits, value, frameBits}
 use Rattle.basis.specs.Lookahead.{lookahead, join}
 use Rattle.basis.proofs.Frames.{frame-length}
 use Rattle.basis.proofs.Strings.{same-refl, same-true}
-use Rattle.theory.specs.Grammar.{alternative, Grammar, _∈_}
+use Rattle.theory.specs.Grammar.{alternative, field, Grammar, _∈_}
 use Rattle.theory.specs.Derivation.{construct, passes}
 use Rattle.theory.specs.Lookahead.{First, Follow, Predicted, Continues}
-use Rattle.theory.specs.Sheet.{SheetNode, SheetGrammar, literal, uint, only, one-of}
+use Rattle.theory.specs.Sheet.{SheetNode, SheetGrammar, uint, only, one-of}
 use Rattle.basis.specs.Bits.{same}
 use Rattle.theory.proofs.Turns.{decide}
 use Rattle.theory.proofs.Completeness.{not-both}
@@ -85,11 +85,12 @@ pub decides : {S : Bits → Type 0} (ys : List Bits) → Exactly S ys → (x : B
 decides ys e x = (λ t. (e x) .1 (one-of-true ys x t), λ s. one-of-listed ys x ((e x) .0 s))
 
 -- FIRST of a literal
-pub literal-first : (g : SheetGrammar) (i : ℕ) (bytes : List ℕ) → g .node i ≡ literal bytes → Exactly (First-of g i) (lookahead (frameBits bytes) ∷ [])
+pub literal-first : {Context Values : Type 0} (g : Grammar Context Values) (i : ℕ) (bytes : List ℕ) {admits : Context → Values → Bits → Bool} {binds : Context → Values → Bits → Values}
+    → g .node i ≡ field (8 * length bytes) admits (λ bits. same bits (frameBits bytes)) binds → Exactly (First-of g i) (lookahead (frameBits bytes) ∷ [])
 literal-first g i bytes e x = (
-  λ f. let (bits, l, s, q) = subst (λ (n : SheetNode). FirstBy g (construct i n) x) e (first-by g f) in List·Memᴰ·head (q ∙ ap lookahead (same-true bits (frameBits bytes) s)),
+  λ f. let (bits, l, s, q) = subst (λ (n : _). FirstBy g (construct i n) x) e (first-by g f) in List·Memᴰ·head (q ∙ ap lookahead (same-true bits (frameBits bytes) s)),
   λ m.
-      subst (λ (n : SheetNode). First g (construct i n) x) (sym e)
+      subst (λ (n : _). First g (construct i n) x) (sym e)
       (First.of-field (frameBits bytes) (frame-length bytes) (same-refl (frameBits bytes)) (List·Memᴰ·eq-of-singleton m)),
 )
 
