@@ -1,0 +1,34 @@
+use mathlib.Core.Bool.{not}
+use mathlib.Core.Path.{sym, ap, _∙_}
+use lib.IntN.{ℤ, natAbs}
+use lib.Signed.{nonNeg}
+use Rattle.wholes.proofs.Laws.{back, read₁}
+use Rattle.batches.proofs.Items.{clip-below, clip-self, item-below, item-self}
+use Rattle.batches.specs.Effects.{clip, equalTurn, fromTurn, upToTurn, pairTurn, partTurn}
+use borrow.Author.Needs.{needs}
+use Rattle.batches.proofs.effects.item.Statement.{statement}
+use Rattle.batches.proofs.effects.item.Tie as tie
+use Rattle.batches.proofs.effects.item.Reads as reads
+use Rattle.batches.proofs.effects.item.Lts as lts
+use Rattle.batches.proofs.effects.natural.Reads as natural-reads
+use Rattle.wholes.proofs.magnitude.Reads as magnitude-reads
+use Rattle.wholes.proofs.negative.Reads as negative-reads
+
+negative-requires : tie.Need-negative-requires
+negative-requires c κs = search needs
+
+returns : tie.Need-returns
+returns c = item-below (c .before .before .args .a) (c .before .before .args .b) (sym (read₁ (λ (z : ℤ). not (nonNeg z)) (c .before .before .args .b) (c .before .before .fits .b .sfits) (c .before .negative .ensures)) ∙ c .if1 .taken)
+
+natural-requires : tie.Need-natural-requires
+natural-requires c κs = search needs
+
+magnitude-requires : tie.Need-magnitude-requires
+magnitude-requires c κs = search needs
+
+returns-2 : tie.Need-returns-2
+returns-2 c = item-self (c .before .before .before .before .args .a) (c .before .before .before .before .args .b) (c .before .natural .result) (c .magnitude .result) (sym (read₁ (λ (z : ℤ). not (nonNeg z)) (c .before .before .before .before .args .b) (c .before .before .before .before .fits .b .sfits) (c .before .before .before .negative .ensures)) ∙ c .before .before .if1 .left) (read₁ clip (c .before .before .before .before .args .a) (c .before .before .before .before .fits .a .sfits) (c .before .natural .ensures)) (read₁ natAbs (c .before .before .before .before .args .b) (c .before .before .before .before .fits .b .sfits) (c .magnitude .ensures))
+
+pub item-spec : {M : Type 1} → statement M
+item-spec =
+    tie.close (tie.spec negative-requires returns natural-requires magnitude-requires returns-2)
