@@ -16,11 +16,25 @@ use Rattle.evaluation.specs.declared.Ended.{Ended}
 use Rattle.terms.specs.declared.Numbers.{Numbers}
 use Rattle.terms.specs.declared.Outcome.{Outcome}
 use Rattle.terms.specs.declared.Term.{Term}
-use Rattle.prefixes.specs.Ends.{itemEnds, numbersAfter, anyIn, onward, someEnd, isYes, holds, tryAt, tryEnd, candidates}
-use Rattle.prefixes.specs.Between.{Lies, Decides}
+use Rattle.prefixes.specs.Ends.{itemEnds, numbersAfter, anyIn, onward, someEnd, isYes, holds}
 use Rattle.prefixes.specs.declared.Ends.{Ends}
-use Rattle.prefixes.proofs.Orders.{try-in}
+use Rattle.prefixes.proofs.Orders.{tryAt, tryEnd, try-in}
 use Rattle.prefixes.proofs.Steady.{Apart, run-steady}
+
+-- v is between lo and hi, and in the set that f tests
+pub record Lies (f : ℤ → Bool) (lo hi v : ℤ) : Type 0 where
+  pub least : leZ lo v ≡ true
+  pub most : leZ v hi ≡ true
+  pub member : f v ≡ true
+
+-- r says whether some value of the set lies between lo and hi
+pub record Decides (f : ℤ → Bool) (lo hi : ℤ) (r : Bool) : Type 0 where
+  pub found : r ≡ true → (v : ℤ) × Lies f lo hi v
+  pub all : (v : ℤ) → Lies f lo hi v → r ≡ true
+
+-- the candidates: the least value, each end and the value after it
+unfoldable pub candidates : List ℤ → ℕ → List Term → ℤ → ℤ → Bool
+candidates env i xs lo hi = pick (tryAt (holds env i xs) lo hi lo) true (someEnd (tryEnd (holds env i xs) lo hi) env xs Numbers.Zero)
 
 -- ---- orders
 
@@ -88,7 +102,7 @@ reach (negsuc a) (negsuc b) e =
 
 -- ---- what is found is there
 
-try-lies : (f : ℤ → Bool) (lo hi v : ℤ) → tryAt f lo hi v ≡ true → Lies f lo hi v
+pub try-lies : (f : ℤ → Bool) (lo hi v : ℤ) → tryAt f lo hi v ≡ true → Lies f lo hi v
 try-lies f lo hi v e = go (leZ lo v) (leZ v hi) refl refl e
   where
     go : (x y : Bool) → leZ lo v ≡ x → leZ v hi ≡ y → pick x (pick y (f v) false) false ≡ true → Lies f lo hi v
@@ -187,11 +201,3 @@ module _ (env : List ℤ) (i : ℕ) (xs : List Term) (lo hi : ℤ) where
 
   pub decides : Decides (holds env i xs) lo hi (candidates env i xs lo hi)
   decides = record { found = found; all = all }
-
-  pub decides-first : tryAt (holds env i xs) lo hi lo ≡ true → Decides (holds env i xs) lo hi true
-  unfolding candidates
-  decides-first e = subst (λ (b : Bool). Decides (holds env i xs) lo hi b) (ap (λ (t : Bool). pick t true (someEnd (tryEnd (holds env i xs) lo hi) env xs Numbers.Zero)) e) decides
-
-  pub decides-rest : tryAt (holds env i xs) lo hi lo ≡ false → Decides (holds env i xs) lo hi (someEnd (tryEnd (holds env i xs) lo hi) env xs Numbers.Zero)
-  unfolding candidates
-  decides-rest e = subst (λ (b : Bool). Decides (holds env i xs) lo hi b) (ap (λ (t : Bool). pick t true (someEnd (tryEnd (holds env i xs) lo hi) env xs Numbers.Zero)) e) decides

@@ -4,4 +4,6 @@ pub mod Steady
 pub mod Candidates
 pub mod Windows
 pub mod Static
-pub mod Blocks
+pub mod MarkLaws
+pub mod TryLaws
+pub mod ToldLaws

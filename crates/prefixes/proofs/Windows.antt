@@ -18,8 +18,8 @@ use Rattle.terms.specs.Numbers.{pick}
 use Rattle.evaluation.specs.Variables.{hasVariable}
 use Rattle.terms.specs.declared.Term.{Term}
 use Rattle.prefixes.specs.Ends.{holds}
-use Rattle.prefixes.specs.Between.{Lies, Decides}
 use Rattle.prefixes.specs.Prefixes.{admits, Within, Spans, Leads, Tells}
+use Rattle.prefixes.proofs.Candidates.{Lies, Decides}
 
 -- ---- natural numbers between two natural numbers
 

@@ -1,10 +1,8 @@
 -- Where a set changes: at the ends of its items and just after them. Only the private functions of the crate speak of this.
 -- Assumes nothing.
-use Prim.Native.Nat.{ℕ}
 use mathlib.Core.Bool.{Bool, true, false}
 use mathlib.Core.List.{List, [], _∷_}
-use lib.IntN.{ℤ, sucℤ}
-use lib.Signed.{leZ}
+use lib.IntN.{ℤ}
 use Rattle.terms.specs.Numbers.{pick, topOf, pairOf}
 use Rattle.terms.specs.Steps.{operateOf}
 use Rattle.terms.specs.declared.Mode.{Mode}
@@ -14,9 +12,8 @@ use Rattle.terms.specs.declared.Pair.{Pair}
 use Rattle.terms.specs.declared.Term.{Term}
 use Rattle.terms.specs.declared.Top.{Top}
 use Rattle.prefixes.specs.declared.Ends.{Ends}
-use Rattle.prefixes.specs.declared.Probe.{Probe}
-pub use Rattle.prefixes.specs.Members.{isYes}
-unfoldable pub use Rattle.prefixes.specs.Members.{holds}
+pub use Rattle.batches.specs.Members.{isYes}
+unfoldable pub use Rattle.batches.specs.Members.{holds}
 
 -- ---- the ends of one item, and the numbers that wait after a term
 
@@ -88,23 +85,3 @@ onward go Outcome.Overflow = false
 unfoldable pub someEnd : (ℤ → Bool) → List ℤ → List Term → Numbers → Bool
 someEnd p env [] s = false
 someEnd p env (x ∷ xs) s = pick (anyIn p (itemEnds env x s)) true (onward (λ s′. someEnd p env xs s′) (numbersAfter env x s))
-
--- ---- the candidates: the least value, each end and the value after it
-
-abbrev pub tryAt : (ℤ → Bool) → ℤ → ℤ → ℤ → Bool
-tryAt f lo hi v = pick (leZ lo v) (pick (leZ v hi) (f v) false) false
-
-abbrev pub tryEnd : (ℤ → Bool) → ℤ → ℤ → ℤ → Bool
-tryEnd f lo hi x = pick (tryAt f lo hi x) true (tryAt f lo hi (sucℤ x))
-
-unfoldable pub candidates : List ℤ → ℕ → List Term → ℤ → ℤ → Bool
-candidates env i xs lo hi = pick (tryAt (holds env i xs) lo hi lo) true (someEnd (tryEnd (holds env i xs) lo hi) env xs Numbers.Zero)
-
--- ---- the two questions that are asked of an end
-
-abbrev pub between : ℤ → ℤ → ℤ → Bool
-between lo hi x = pick (leZ lo x) (leZ x hi) false
-
-abbrev pub probes : Probe → (ℤ → Bool) → ℤ → ℤ → ℤ → Bool
-probes Probe.Try f lo hi x = tryEnd f lo hi x
-probes Probe.Inside f lo hi x = between lo hi x

@@ -1,4 +1,3 @@
-pub mod Members
 pub mod Ends
-pub mod Between
 pub mod Prefixes
+pub mod Marks

@@ -1,0 +1,35 @@
+use Prim.Native.Nat.{ℕ}
+use lib.ListN.{replicate}
+use Rattle.terms.specs.Words.{terms}
+use mathlib.Core.Path.{refl}
+use Rattle.prefixes.proofs.ToldLaws.{told-window}
+use borrow.Author.Needs.{needs}
+use Rattle.prefixes.proofs.windows_of.Statement.{statement}
+use Rattle.prefixes.proofs.windows_of.Tie as tie
+use Rattle.prefixes.proofs.windows_of.Reads as reads
+use Rattle.prefixes.proofs.windows_of.Lts as lts
+use Rattle.prefixes.proofs.marks.least_values.Reads as least-values-reads
+use Rattle.prefixes.proofs.marks.settle.Reads as settle-reads
+use Rattle.prefixes.proofs.tries.try_ends.Reads as try-ends-reads
+
+least-values-requires : tie.Need-least-values-requires
+least-values-requires c κs = search needs
+
+try-ends-requires : tie.Need-try-ends-requires
+try-ends-requires c κs = search needs
+
+settle-requires : tie.Need-settle-requires
+settle-requires c κs = search needs
+
+returns : tie.Need-returns
+returns c =
+    let a = c .before .before .before .before .before .before .before .before .before .args in
+    let l = c .before .before .before .before .before .before .least-values in
+    let t = c .before .before .before .before .before .try-ends in
+    λ k h.
+    told-window (a .variables .now) (a .start) (terms (a .words .now) (a .start) (a .end)) (a .width) (l .last .1 .1 .1 .1 .1 .0) (l .ensures)
+    (record { values = replicate {A = ℕ} 64 0; waiting = 0; marks = l .last .1 .1 .1 .1 .1 .0 }) (t .result) refl (t .ensures) (c .settle .last .1 .1 .1 .1 .1 .1 .0) (c .settle .ensures) k h
+
+pub windows-of-spec : {M : Type 1} → statement M
+windows-of-spec =
+    tie.close (tie.spec least-values-requires try-ends-requires settle-requires returns)
