@@ -6,17 +6,16 @@ use mathlib.Core.Bool.{Bool, true, false}
 use mathlib.Core.List.{List, [], _∷_}
 use native.Mathlib.Omega.{arith}
 use borrow.Author.Tests.{lt-ltb, ltb-false, eqb-true}
-use lib.Dec.{leb, ltb, eqb, leb·zero}
+use lib.Dec.{ltb, eqb, leb·zero}
 use lib.IntN.{ℤ, pos, negsuc}
 use lib.ListN.{length, getD, replicate, length-replicate, getD-replicate}
 use lib.Signed.{leZ}
 use Rattle.basis.specs.Bits.{digit}
-use Rattle.wholes.proofs.Laws.{differ}
 use Rattle.wholes.specs.Wholes.{equals}
 use Rattle.terms.specs.Numbers.{pick, topOf, pairOf}
 use Rattle.terms.specs.Tests.{joins}
 use Rattle.terms.specs.Tests as Tests
-use Rattle.terms.specs.Steps.{operateOf, afterOf, testTop, testPair, equalTo, within, from, upTo, operated, stepOf}
+use Rattle.terms.specs.Steps.{operateOf, afterOf, equalTo, within, from, upTo, operated, stepOf}
 use Rattle.terms.specs.Words.{termAt, terms}
 use Rattle.terms.specs.declared.Joint.{Joint}
 use Rattle.terms.specs.declared.Kind.{Kind}
@@ -32,7 +31,7 @@ use Rattle.evaluation.specs.declared.Ended.{Ended}
 use Rattle.evaluation.specs.declared.Tested.{Tested}
 use Rattle.evaluation.proofs.Runs.{terms-next, terms-none}
 use Rattle.batches.specs.Members.{isYes, holds}
-use Rattle.batches.specs.Effects.{clip, itemOf, equalTurn, fromTurn, upToTurn, pairTurn, partTurn, singleTurn, turnOf}
+use Rattle.batches.specs.Effects.{itemOf, equalTurn, fromTurn, upToTurn, pairTurn, partTurn, singleTurn, turnOf}
 use Rattle.batches.specs.Truths.{noted, joined, applied}
 use Rattle.batches.specs.Batches.{ends, onward, held, Applied}
 use Rattle.batches.specs.declared.Effect.{Effect}

@@ -1,7 +1,7 @@
 -- The tests that wait for a value, as a number: a 1 followed by a digit for each (as in `terms`), and 0 once there is no room for them.
 -- Assumes nothing.
 use Prim.Native.Nat.{ℕ, _+_, _*_, _/_, _%_, _^_}
-use mathlib.Core.Bool.{Bool, true, false}
+use mathlib.Core.Bool.{Bool, false}
 use lib.Dec.{leb, ltb, eqb}
 use Rattle.basis.specs.Bits.{digit}
 use Rattle.terms.specs.Numbers.{pick}

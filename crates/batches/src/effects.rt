@@ -13,9 +13,8 @@ use terms::step::operate;
 use wholes::magnitude;
 use wholes::negative;
 ghost use mathlib.Core.Path.{_≡_};
-ghost use lib.IntN.{pos};
 ghost use Rattle.terms.specs.Numbers.{topOf, pairOf};
-ghost use Rattle.batches.specs.Effects.{clip, itemOf, fromOf, equalTurn, fromTurn, upToTurn, pairTurn, partTurn, singleTurn, turnOf};
+ghost use Rattle.batches.specs.Effects.{clip, itemOf, equalTurn, fromTurn, upToTurn, pairTurn, partTurn, singleTurn, turnOf};
 
 // The number itself, 0 for one below.
 pub fn natural(a: i64) -> u64

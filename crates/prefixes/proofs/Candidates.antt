@@ -1,7 +1,7 @@
 -- The candidates decide exactly whether some value of a set lies between two numbers.
 -- Assumes nothing.
 use Prim.Native.Nat.{ℕ, zero, suc, _+_, _-_, _≤_}
-use mathlib.Core.Path.{_≡_, refl, sym, ap, subst, _∙_}
+use mathlib.Core.Path.{_≡_, refl, sym, ap, _∙_}
 use mathlib.Core.Bool.{Bool, true, false}
 use mathlib.Core.List.{List, [], _∷_}
 use native.Mathlib.Omega.{arith}
@@ -42,7 +42,7 @@ below-self : (a : ℤ) → leZ a a ≡ true
 below-self (pos n) = le-leb n n (omega arith)
 below-self (negsuc n) = le-leb n n (omega arith)
 
-pub below-pred : (u b : ℤ) → leZ (sucℤ u) b ≡ true → leZ u b ≡ true
+below-pred : (u b : ℤ) → leZ (sucℤ u) b ≡ true → leZ u b ≡ true
 below-pred (pos n) (pos m) e = let h : suc n ≤ m = leb-true (suc n) m e in le-leb n m (omega arith)
 below-pred (pos n) (negsuc m) e = differ (sym e)
 below-pred (negsuc zero) (pos m) e = refl
@@ -50,7 +50,7 @@ below-pred (negsuc zero) (negsuc m) e = differ (sym e)
 below-pred (negsuc (suc n)) (pos m) e = refl
 below-pred (negsuc (suc n)) (negsuc m) e = let h : m ≤ n = leb-true m n e in le-leb m (suc n) (omega arith)
 
-pub below-suc : (a u : ℤ) → leZ a u ≡ true → leZ a (sucℤ u) ≡ true
+below-suc : (a u : ℤ) → leZ a u ≡ true → leZ a (sucℤ u) ≡ true
 below-suc (pos m) (pos n) e = let h : m ≤ n = leb-true m n e in le-leb m (suc n) (omega arith)
 below-suc (pos m) (negsuc n) e = differ (sym e)
 below-suc (negsuc m) (pos n) e = refl
@@ -59,7 +59,7 @@ below-suc (negsuc m) (negsuc (suc n)) e = let h : suc n ≤ m = leb-true (suc n)
 
 -- ---- counting up from a number
 
-unfoldable pub up : ℤ → ℕ → ℤ
+unfoldable up : ℤ → ℕ → ℤ
 up a zero = a
 up a (suc n) = sucℤ (up a n)
 
@@ -68,7 +68,7 @@ unfolding up
 up-first a zero = refl
 up-first a (suc n) = ap sucℤ (up-first a n)
 
-pub up-below : (a : ℤ) (n : ℕ) → leZ a (up a n) ≡ true
+up-below : (a : ℤ) (n : ℕ) → leZ a (up a n) ≡ true
 unfolding up
 up-below a zero = below-self a
 up-below a (suc n) = below-suc a (up a n) (up-below a n)
@@ -88,7 +88,7 @@ unfolding up
 up-zero zero b = ap (up (negsuc zero)) (suc-add zero b) ∙ up-first (negsuc zero) (zero + b) ∙ up-pos zero (zero + b) ∙ (let e : zero + (zero + b) ≡ b = omega arith in ap pos e)
 up-zero (suc a) b = ap (up (negsuc (suc a))) (suc-add (suc a) b) ∙ up-first (negsuc (suc a)) (suc a + b) ∙ up-zero a b
 
-pub reach : (a v : ℤ) → leZ a v ≡ true → (n : ℕ) × (up a n ≡ v)
+reach : (a v : ℤ) → leZ a v ≡ true → (n : ℕ) × (up a n ≡ v)
 reach (pos l) (pos m) e =
     let h : l ≤ m = leb-true l m e in
     let k : l + (m - l) ≡ m = omega arith in

@@ -3,7 +3,7 @@
 use Prim.Native.Nat.{ℕ, zero, suc, _+_, _*_, _-_, _/_, _^_, _≤_, _<_}
 use mathlib.Core.Path.{_≡_, refl, sym, ap, subst, _∙_}
 use mathlib.Core.Bool.{Bool, true, false}
-use mathlib.Core.Logic.{_⊎_, inl, inr, ⊎-elim}
+use mathlib.Core.Logic.{inl, inr}
 use mathlib.Core.List.{List, []}
 use native.Mathlib.Omega.{arith}
 use native.Mathlib.Decide.{decLt}
@@ -13,7 +13,6 @@ use lib.Dec.{ltb}
 use lib.IntN.{ℤ, pos, negsuc, sucℤ}
 use lib.ListN.{getD, replicate, length-replicate, getD-replicate, List·getD-eq-default}
 use lib.Pow.{pow-pos}
-use lib.Signed.{leZ}
 use Rattle.wholes.proofs.Laws.{differ}
 use Rattle.terms.specs.Numbers.{pick}
 use Rattle.terms.specs.declared.Numbers.{Numbers}
@@ -24,7 +23,7 @@ use Rattle.prefixes.specs.Marks.{Hits, Marked, Sound, Sought, Among, Lea
 use Rattle.prefixes.specs.Prefixes.{admits, Within, Spans, ToldBy, Told}
 use Rattle.prefixes.specs.declared.Tried.{Tried}
 use Rattle.prefixes.proofs.Orders.{tryAt, tryEnd}
-use Rattle.prefixes.proofs.Candidates.{Lies, Decides, candidates, try-lies, decides}
+use Rattle.prefixes.proofs.Candidates.{Lies, candidates, try-lies, decides}
 use Rattle.prefixes.proofs.MarkLaws.{few}
 use Rattle.prefixes.proofs.Windows.{block, strings, blocks, next-block}
 

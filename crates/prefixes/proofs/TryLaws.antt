@@ -1,13 +1,13 @@
 -- Laws of values that wait, and of the walk over a set's ends.
 -- Assumes nothing.
 use Prim.Native.Nat.{ℕ, _+_, _^_, _≤_, _<_}
-use mathlib.Core.Path.{_≡_, refl, sym, ap, subst, _∙_}
+use mathlib.Core.Path.{_≡_, refl, sym, subst, _∙_}
 use mathlib.Core.Bool.{Bool, true, false}
 use mathlib.Core.Logic.{_⊎_, inl, inr, ⊎-elim}
 use mathlib.Core.List.{List}
 use native.Mathlib.Omega.{arith}
 use lib.IntN.{ℤ, pos, negsuc}
-use lib.ListN.{length, getD, set, length-set}
+use lib.ListN.{getD, set, length-set}
 use lib.Seq.{getD-set-same, getD-set-other}
 use lib.Signed.{mag}
 use Rattle.batches.specs.Effects.{clip}
@@ -17,7 +17,7 @@ use Rattle.terms.specs.Words.{termAt, terms}
 use Rattle.terms.specs.declared.Numbers.{Numbers}
 use Rattle.terms.specs.declared.Outcome.{Outcome}
 use Rattle.prefixes.specs.Ends.{itemEnds, numbersAfter, anyIn, onward, someEnd}
-use Rattle.prefixes.specs.Marks.{Hits, Marked, Sound, Sought, Among, Ready, Found, Offered, Near, NearEnds, Names, Walked}
+use Rattle.prefixes.specs.Marks.{Hits, Sound, Sought, Among, Ready, Found, Offered, Near, NearEnds, Names, Walked}
 use Rattle.prefixes.specs.declared.Ends.{Ends}
 use Rattle.prefixes.specs.declared.Tried.{Tried}
 use Rattle.prefixes.proofs.Walks.{walks, walked}

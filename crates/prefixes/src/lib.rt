@@ -10,13 +10,12 @@ use crate::marks::settle;
 use crate::tries::try_ends;
 use evaluation::variables::has_variable;
 use wholes::power;
-ghost use mathlib.Core.Path.{_≡_};
 ghost use mathlib.Core.List.{List};
 ghost use Prim.Native.Nat.{ℕ, _≤_, _<_};
 ghost use Rattle.terms.specs.Words.{terms};
 ghost use Rattle.terms.specs.declared.Term.{Term};
 ghost use Rattle.batches.specs.Members.{holds};
-ghost use Rattle.prefixes.specs.Prefixes.{Tells, Told, ToldBy, admits};
+ghost use Rattle.prefixes.specs.Prefixes.{Tells, Told, ToldBy};
 
 // The ends of an item.
 pub enum Ends {

@@ -7,13 +7,6 @@ use Rattle.batches.specs.Effects.{turnOf}
 use Rattle.batches.proofs.Members.{Underway, begins, goes-on, goes-off, goes-out}
 use Rattle.batches.proofs.contains_all.Statement.{statement}
 use Rattle.batches.proofs.contains_all.Tie as tie
-use Rattle.batches.proofs.contains_all.Reads as reads
-use Rattle.batches.proofs.contains_all.Lts as lts
-use Rattle.batches.proofs.effects.turn.Reads as turn-reads
-use Rattle.batches.proofs.ended.Reads as ended-reads
-use Rattle.batches.proofs.nothing.Reads as nothing-reads
-use Rattle.batches.proofs.truths.apply_all.Reads as apply-all-reads
-use Rattle.terms.proofs.decode.term_at.Reads as term-at-reads
 
 abbrev Inv-loop : tie.InvT-loop
 Inv-loop words start end variables values truths₀ numbers₀ at₀ truths numbers at = Underway variables words start end values at numbers truths

@@ -5,9 +5,6 @@ use Rattle.batches.specs.Batches.{ends}
 use borrow.Author.Needs.{needs}
 use Rattle.batches.proofs.ended.Statement.{statement}
 use Rattle.batches.proofs.ended.Tie as tie
-use Rattle.batches.proofs.ended.Reads as reads
-use Rattle.batches.proofs.ended.Lts as lts
-use Rattle.batches.proofs.nothing.Reads as nothing-reads
 
 enum-told : tie.Need-enum-told
 enum-told c = search needs

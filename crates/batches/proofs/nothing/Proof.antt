@@ -4,8 +4,6 @@ use lib.Dec.{eqb}
 use lib.ListN.{getD-replicate}
 use Rattle.batches.proofs.nothing.Statement.{statement}
 use Rattle.batches.proofs.nothing.Tie as tie
-use Rattle.batches.proofs.nothing.Reads as reads
-use Rattle.batches.proofs.nothing.Lts as lts
 
 returns : tie.Need-returns
 returns c = λ j h. sym (ap (λ (x : ℕ). eqb x 3) (getD-replicate {A = ℕ} 64 j 0 0 h))

@@ -5,10 +5,6 @@ use Rattle.prefixes.proofs.ToldLaws.{told-variable, told-set}
 use borrow.Author.Needs.{needs}
 use Rattle.prefixes.proofs.first_windows.Statement.{statement}
 use Rattle.prefixes.proofs.first_windows.Tie as tie
-use Rattle.prefixes.proofs.first_windows.Reads as reads
-use Rattle.prefixes.proofs.first_windows.Lts as lts
-use Rattle.evaluation.proofs.variables.has_variable.Reads as has-variable-reads
-use Rattle.prefixes.proofs.windows_of.Reads as windows-of-reads
 
 returns : tie.Need-returns
 returns c = λ h. absurd (omega (arith, h, c .if1 .taken))

@@ -8,10 +8,6 @@ use Rattle.prefixes.proofs.MarkLaws.{few}
 use borrow.Author.Needs.{needs}
 use Rattle.prefixes.proofs.leads.Statement.{statement}
 use Rattle.prefixes.proofs.leads.Tie as tie
-use Rattle.prefixes.proofs.leads.Reads as reads
-use Rattle.prefixes.proofs.leads.Lts as lts
-use Rattle.prefixes.proofs.marks.hidden.Reads as hidden-reads
-use Rattle.wholes.proofs.power.Reads as power-reads
 
 hidden-requires : tie.Need-hidden-requires
 hidden-requires c κs = search needs

@@ -6,11 +6,6 @@ use Rattle.prefixes.proofs.ToldLaws.{told-window}
 use borrow.Author.Needs.{needs}
 use Rattle.prefixes.proofs.windows_of.Statement.{statement}
 use Rattle.prefixes.proofs.windows_of.Tie as tie
-use Rattle.prefixes.proofs.windows_of.Reads as reads
-use Rattle.prefixes.proofs.windows_of.Lts as lts
-use Rattle.prefixes.proofs.marks.least_values.Reads as least-values-reads
-use Rattle.prefixes.proofs.marks.settle.Reads as settle-reads
-use Rattle.prefixes.proofs.tries.try_ends.Reads as try-ends-reads
 
 least-values-requires : tie.Need-least-values-requires
 least-values-requires c κs = search needs

@@ -1,15 +1,8 @@
-use mathlib.Core.Bool.{not}
-use mathlib.Core.Path.{sym, ap, _∙_}
-use lib.IntN.{ℤ, natAbs}
-use lib.Signed.{nonNeg}
-use Rattle.wholes.proofs.Laws.{back, read₁}
-use Rattle.batches.proofs.Items.{clip-below, clip-self, item-below, item-self}
-use Rattle.batches.specs.Effects.{clip, equalTurn, fromTurn, upToTurn, pairTurn, partTurn}
+use mathlib.Core.Path.{sym, ap}
+use Rattle.batches.specs.Effects.{partTurn}
 use borrow.Author.Needs.{needs}
 use Rattle.batches.proofs.effects.part_turn.Statement.{statement}
 use Rattle.batches.proofs.effects.part_turn.Tie as tie
-use Rattle.batches.proofs.effects.part_turn.Reads as reads
-use Rattle.batches.proofs.effects.part_turn.Lts as lts
 
 enum-known-outcome : tie.Need-enum-known-outcome
 enum-known-outcome c = search needs

@@ -1,14 +1,6 @@
 use borrow.Author.Needs.{needs}
 use Rattle.batches.proofs.effects.turn.Statement.{statement}
 use Rattle.batches.proofs.effects.turn.Tie as tie
-use Rattle.batches.proofs.effects.turn.Reads as reads
-use Rattle.batches.proofs.effects.turn.Lts as lts
-use Rattle.batches.proofs.effects.from_turn.Reads as from-turn-reads
-use Rattle.batches.proofs.effects.pair_turn.Reads as pair-turn-reads
-use Rattle.batches.proofs.effects.part_turn.Reads as part-turn-reads
-use Rattle.batches.proofs.effects.single_turn.Reads as single-turn-reads
-use Rattle.batches.proofs.effects.up_to_turn.Reads as up-to-turn-reads
-use Rattle.terms.proofs.step.operate.Reads as operate-reads
 
 enum-known-term : tie.Need-enum-known-term
 enum-known-term c = search needs

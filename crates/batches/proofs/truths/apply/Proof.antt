@@ -2,10 +2,6 @@ use borrow.Author.Tests.{le-leb, lt-leb}
 use borrow.Author.Needs.{needs}
 use Rattle.batches.proofs.truths.apply.Statement.{statement}
 use Rattle.batches.proofs.truths.apply.Tie as tie
-use Rattle.batches.proofs.truths.apply.Reads as reads
-use Rattle.batches.proofs.truths.apply.Lts as lts
-use Rattle.batches.proofs.truths.join.Reads as join-reads
-use Rattle.batches.proofs.truths.note.Reads as note-reads
 
 enum-told : tie.Need-enum-told
 enum-told c = search needs

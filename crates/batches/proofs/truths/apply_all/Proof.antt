@@ -4,9 +4,6 @@ use Rattle.batches.specs.Batches.{Applied}
 use Rattle.batches.proofs.Rounds.{applied-none, applied-more, applied-all}
 use Rattle.batches.proofs.truths.apply_all.Statement.{statement}
 use Rattle.batches.proofs.truths.apply_all.Tie as tie
-use Rattle.batches.proofs.truths.apply_all.Reads as reads
-use Rattle.batches.proofs.truths.apply_all.Lts as lts
-use Rattle.batches.proofs.truths.apply.Reads as apply-reads
 
 abbrev Inv-loop : tie.InvT-loop
 Inv-loop effect values truths₀ j₀ truths j = Applied effect values truths₀ j truths × (j ≤ 64)

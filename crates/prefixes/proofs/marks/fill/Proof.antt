@@ -1,15 +1,11 @@
-use Prim.Native.Nat.{ℕ, _+_}
+use Prim.Native.Nat.{ℕ, _+_, _-_, _≤_}
 use mathlib.Core.Path.{_≡_, refl, subst}
-use Rattle.prefixes.proofs.MarkLaws.{multiple-fits}
-use Prim.Native.Nat.{_-_, _≤_}
+use Rattle.prefixes.proofs.MarkLaws.{multiple-fits, filled-none, filled-more}
 use borrow.Author.Needs.{needs}
 use native.Mathlib.Omega.{arith}
 use Rattle.prefixes.specs.Marks.{Filled}
-use Rattle.prefixes.proofs.MarkLaws.{filled-none, filled-more}
 use Rattle.prefixes.proofs.marks.fill.Statement.{statement}
 use Rattle.prefixes.proofs.marks.fill.Tie as tie
-use Rattle.prefixes.proofs.marks.fill.Reads as reads
-use Rattle.prefixes.proofs.marks.fill.Lts as lts
 
 abbrev Inv-loop : tie.InvT-loop
 Inv-loop values₀ first block j₀ values j = Filled first block j values × (j ≤ 64)

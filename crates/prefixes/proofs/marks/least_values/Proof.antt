@@ -10,12 +10,6 @@ use Rattle.prefixes.specs.Marks.{Sought, Least}
 use Rattle.prefixes.proofs.MarkLaws.{least-none, least-more}
 use Rattle.prefixes.proofs.marks.least_values.Statement.{statement}
 use Rattle.prefixes.proofs.marks.least_values.Tie as tie
-use Rattle.prefixes.proofs.marks.least_values.Reads as reads
-use Rattle.prefixes.proofs.marks.least_values.Lts as lts
-use Rattle.prefixes.proofs.marks.fill.Reads as fill-reads
-use Rattle.prefixes.proofs.marks.hidden.Reads as hidden-reads
-use Rattle.prefixes.proofs.marks.settle.Reads as settle-reads
-use Rattle.wholes.proofs.power.Reads as power-reads
 
 abbrev Inv-loop : tie.InvT-loop
 Inv-loop words start end variables width marks₀ shift block values₀ i₀ marks values i = Sought (holds variables start (terms words start end)) width (Least width (64 * i)) marks₀ marks × (length values ≡ 64) × (i ≤ 4)

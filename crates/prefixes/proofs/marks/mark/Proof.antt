@@ -8,10 +8,6 @@ use Rattle.prefixes.proofs.MarkLaws.{window-less, sought-one, sought-la
 use borrow.Author.Needs.{needs}
 use Rattle.prefixes.proofs.marks.mark.Statement.{statement}
 use Rattle.prefixes.proofs.marks.mark.Tie as tie
-use Rattle.prefixes.proofs.marks.mark.Reads as reads
-use Rattle.prefixes.proofs.marks.mark.Lts as lts
-use Rattle.prefixes.proofs.marks.hidden.Reads as hidden-reads
-use Rattle.wholes.proofs.power.Reads as power-reads
 
 power-requires : tie.Need-power-requires
 power-requires c κs = search needs

@@ -10,9 +10,6 @@ use Rattle.prefixes.specs.Marks.{Sought, Among}
 use Rattle.prefixes.proofs.MarkLaws.{among-none, among-more}
 use Rattle.prefixes.proofs.marks.mark_all.Statement.{statement}
 use Rattle.prefixes.proofs.marks.mark_all.Tie as tie
-use Rattle.prefixes.proofs.marks.mark_all.Reads as reads
-use Rattle.prefixes.proofs.marks.mark_all.Lts as lts
-use Rattle.prefixes.proofs.marks.mark.Reads as mark-reads
 
 abbrev Inv-loop : tie.InvT-loop
 Inv-loop values truths width marks₀ j₀ marks j = ((f : ℤ → Bool) → ((j : ℕ) → j < 64 → f (pos (getD values j 0)) ≡ eqb (getD truths j 0) 3) → Sought f width (Among values j) marks₀ marks) × (length marks ≡ 256) × (j ≤ 64)

@@ -3,10 +3,6 @@ use Rattle.terms.specs.Words.{terms}
 use borrow.Author.Needs.{needs}
 use Rattle.prefixes.proofs.marks.settle.Statement.{statement}
 use Rattle.prefixes.proofs.marks.settle.Tie as tie
-use Rattle.prefixes.proofs.marks.settle.Reads as reads
-use Rattle.prefixes.proofs.marks.settle.Lts as lts
-use Rattle.batches.proofs.contains_all.Reads as contains-all-reads
-use Rattle.prefixes.proofs.marks.mark_all.Reads as mark-all-reads
 
 contains-all-requires : tie.Need-contains-all-requires
 contains-all-requires c κs = search needs

@@ -4,9 +4,6 @@ use Rattle.prefixes.proofs.TryLaws.{offered-waits, offered-tried}
 use borrow.Author.Needs.{needs}
 use Rattle.prefixes.proofs.tries.offer.Statement.{statement}
 use Rattle.prefixes.proofs.tries.offer.Tie as tie
-use Rattle.prefixes.proofs.tries.offer.Reads as reads
-use Rattle.prefixes.proofs.tries.offer.Lts as lts
-use Rattle.prefixes.proofs.marks.settle.Reads as settle-reads
 
 mul-values : tie.Need-mul-values
 mul-values c = search needs

@@ -11,10 +11,6 @@ use Rattle.prefixes.proofs.TryLaws.{offered-more, clip-fits}
 use borrow.Author.Needs.{needs}
 use Rattle.prefixes.proofs.tries.offer_end.Statement.{statement}
 use Rattle.prefixes.proofs.tries.offer_end.Tie as tie
-use Rattle.prefixes.proofs.tries.offer_end.Reads as reads
-use Rattle.prefixes.proofs.tries.offer_end.Lts as lts
-use Rattle.batches.proofs.effects.natural.Reads as natural-reads
-use Rattle.prefixes.proofs.tries.offer.Reads as offer-reads
 
 natural-requires : tie.Need-natural-requires
 natural-requires c κs = search needs

@@ -9,9 +9,6 @@ use Rattle.prefixes.proofs.TryLaws.{offered-none, offered-more}
 use borrow.Author.Needs.{needs}
 use Rattle.prefixes.proofs.tries.offer_ends.Statement.{statement}
 use Rattle.prefixes.proofs.tries.offer_ends.Tie as tie
-use Rattle.prefixes.proofs.tries.offer_ends.Reads as reads
-use Rattle.prefixes.proofs.tries.offer_ends.Lts as lts
-use Rattle.prefixes.proofs.tries.offer_end.Reads as offer-end-reads
 
 enum-told : tie.Need-enum-told
 enum-told c = search needs

@@ -11,12 +11,6 @@ use Rattle.prefixes.specs.declared.Ends.{Ends}
 use Rattle.prefixes.proofs.TryLaws.{Walking, walk-begins, walk-on, walk-malformed, walk-overflow, walk-out}
 use Rattle.prefixes.proofs.tries.try_ends.Statement.{statement}
 use Rattle.prefixes.proofs.tries.try_ends.Tie as tie
-use Rattle.prefixes.proofs.tries.try_ends.Reads as reads
-use Rattle.prefixes.proofs.tries.try_ends.Lts as lts
-use Rattle.prefixes.proofs.items.item_ends.Reads as item-ends-reads
-use Rattle.prefixes.proofs.items.numbers_after.Reads as numbers-after-reads
-use Rattle.prefixes.proofs.tries.offer_ends.Reads as offer-ends-reads
-use Rattle.terms.proofs.decode.term_at.Reads as term-at-reads
 
 abbrev Inv-loop : tie.InvT-loop
 Inv-loop words start end variables width tried₀ numbers₀ at₀ tried numbers at = Walking (holds variables start (terms words start end)) width variables words start end tried₀ tried at numbers
