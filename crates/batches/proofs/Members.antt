@@ -189,6 +189,10 @@ module _ (env : List ℤ) (v : ℕ) where
       ∙ turn-same _ (λ s′ e. held env v xs s′ (applied e t v))
       (λ s′ e. rest-same xs (λ s″ t″. isYes (verdictOf (run Kind.Set Mode.Values env (pos v) (i + 1) xs s″ t″ .trial))) (λ s″ t″ k. held-run xs (i + 1) s″ t″ k) s′ (applied e t v)) (turnOf env x s)
 
+  pub holds-held : (i : ℕ) (xs : List Term) → holds env i xs (pos v) ≡ held env v xs Numbers.Zero 1
+  unfolding holds membership
+  holds-held i xs = held-run xs i Numbers.Zero 1 (omega arith)
+
 -- ---- the pass over a list's terms, for 64 values
 
 pub record Underway (env : List ℤ) (ws : List ℕ) (start end : ℕ) (values : List ℕ) (at : ℕ) (s : Numbers) (truths : List ℕ) : Type 0 where
@@ -197,10 +201,9 @@ pub record Underway (env : List ℤ) (ws : List ℕ) (start end : ℕ) (values :
 
 module _ (env : List ℤ) (ws : List ℕ) (start end : ℕ) (values : List ℕ) where
   pub begins : Underway env ws start end values start Numbers.Zero (replicate {A = ℕ} 64 1)
-  unfolding holds membership
   begins = record {
     all = length-replicate {A = ℕ} 64 1;
-    same = λ j h. held-run env (getD values j 0) (terms ws start end) start Numbers.Zero 1 (omega arith) ∙ ap (held env (getD values j 0) (terms ws start end) Numbers.Zero) (sym (getD-replicate {A = ℕ} 64 j 1 0 h));
+    same = λ j h. holds-held env (getD values j 0) start (terms ws start end) ∙ ap (held env (getD values j 0) (terms ws start end) Numbers.Zero) (sym (getD-replicate {A = ℕ} 64 j 1 0 h));
   }
 
   module _ (at : ℕ) (s : Numbers) (truths : List ℕ) (u : Underway env ws start end values at s truths) where

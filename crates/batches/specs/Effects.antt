@@ -1,6 +1,6 @@
 -- What a term does to the numbers and tests that wait, whatever natural number is tried.
 -- Assumes nothing.
-use Prim.Native.Nat.{ℕ}
+use Prim.Native.Nat.{ℕ, _+_}
 use mathlib.Core.List.{List}
 use lib.IntN.{ℤ, pos, negsuc}
 use Rattle.terms.specs.Numbers.{topOf, pairOf}
@@ -22,8 +22,8 @@ clip (negsuc n) = 0
 -- ---- items: the natural numbers from a up to b, and from a on
 
 abbrev pub itemOf : ℤ → ℤ → Effect
-itemOf a (pos n) = Effect.Within (clip a) n
-itemOf a (negsuc n) = Effect.Within 1 0
+itemOf a (pos n) = Effect.Within (clip a) (n + 1)
+itemOf a (negsuc n) = Effect.Within 0 0
 
 abbrev pub fromOf : ℤ → Effect
 fromOf a = Effect.From (clip a)

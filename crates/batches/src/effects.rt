@@ -28,9 +28,9 @@ fn item(a: i64, b: i64) -> Effect
     ensures { λ r. ⌜ r ≡ itemOf a b ⌝ }
 {
     if negative(b) {
-        return Effect::Within(1, 0);
+        return Effect::Within(0, 0);
     }
-    Effect::Within(natural(a), magnitude(b))
+    Effect::Within(natural(a), magnitude(b) + 1)
 }
 
 fn equal_turn(numbers: Numbers) -> Turn

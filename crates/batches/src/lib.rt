@@ -16,7 +16,8 @@ ghost use Rattle.terms.specs.Words.{terms};
 ghost use Rattle.batches.specs.Members.{holds};
 ghost use Rattle.batches.specs.Batches.{ends};
 
-// What a term does to the tests that wait: nothing, a test of the value, or two tests become one. Values are natural numbers.
+// What a term does to the tests that wait: nothing, a test of the value, or two tests become one. Values are natural numbers; `Within` has its first
+// value and the first after its last.
 pub enum Effect {
     None,
     Within(u64, u64),

@@ -49,9 +49,9 @@ fn apply(effect: Effect, truths: u64, value: u64) -> u64
 {
     match effect {
         Effect::None => truths,
-        Effect::Within(low, high) => {
+        Effect::Within(low, past) => {
             if low <= value {
-                note(truths, value <= high)
+                note(truths, value < past)
             } else {
                 note(truths, false)
             }

@@ -1,29 +1,27 @@
 -- The values that are tried tell the windows of a set.
 -- Assumes nothing.
-use Prim.Native.Nat.{ℕ, zero, suc, _+_, _*_, _-_, _/_, _^_, _≤_, _<_}
+use Prim.Native.Nat.{ℕ, _+_, _*_, _-_, _/_, _^_, _≤_, _<_}
 use mathlib.Core.Path.{_≡_, refl, sym, ap, subst, _∙_}
 use mathlib.Core.Bool.{Bool, true, false}
-use mathlib.Core.Logic.{inl, inr}
+use mathlib.Core.Logic.{inl, inr, ⊎-elim}
 use mathlib.Core.List.{List, []}
 use native.Mathlib.Omega.{arith}
 use native.Mathlib.Decide.{decLt}
 use native.Mathlib.Nat.{mul-le-mul-right, div-eq-of-lt-le, le-div-iff-mul-le, div-lt-iff-lt-mul}
-use borrow.Author.Tests.{lt-ltb, ltb-true, le-leb, leb-true}
+use borrow.Author.Tests.{lt-ltb, ltb-true}
 use lib.Dec.{ltb}
-use lib.IntN.{ℤ, pos, negsuc, sucℤ}
+use lib.IntN.{ℤ, pos}
 use lib.ListN.{getD, replicate, length-replicate, getD-replicate, List·getD-eq-default}
 use lib.Pow.{pow-pos}
-use Rattle.wholes.proofs.Laws.{differ}
 use Rattle.terms.specs.Numbers.{pick}
 use Rattle.terms.specs.declared.Numbers.{Numbers}
 use Rattle.terms.specs.declared.Term.{Term}
 use Rattle.evaluation.specs.Variables.{hasVariable}
-use Rattle.prefixes.specs.Ends.{someEnd, holds}
-use Rattle.prefixes.specs.Marks.{Hits, Marked, Sound, Sought, Among, Least, Found, Near, Names, Walked}
+use Rattle.batches.specs.Members.{holds}
+use Rattle.prefixes.specs.Marks.{Hits, Marked, Sound, Sought, Among, Least, Found, Offered, Changes}
 use Rattle.prefixes.specs.Prefixes.{admits, Within, Spans, ToldBy, Told}
 use Rattle.prefixes.specs.declared.Tried.{Tried}
-use Rattle.prefixes.proofs.Orders.{tryAt, tryEnd}
-use Rattle.prefixes.proofs.Candidates.{Lies, candidates, try-lies, decides}
+use Rattle.prefixes.proofs.Steady.{First, first-from}
 use Rattle.prefixes.proofs.MarkLaws.{few}
 use Rattle.prefixes.proofs.Windows.{block, strings, blocks, next-block}
 
@@ -57,26 +55,6 @@ module _ (f : ℤ → Bool) (w k : ℕ) (h : k < strings w) where
       let c : v < (k + 1) * block w = div-lt-iff-lt-mul (pow-pos (w - 8)) .0 (omega arith) in
       record { least = a; most = omega arith; member = x .member }
 
-  lies-hits : (v : ℕ) → Lies f (pos lo) (pos hi) (pos v) → Hits f w k v
-  lies-hits v l = in-block v (leb-true lo v (l .least)) (leb-true v hi (l .most)) (l .member)
-
-  -- an end that is tried with success has a value near it
-  at-end : (x : ℤ) → Lies f (pos lo) (pos hi) x → (v : ℕ) × Near x v × Hits f w k v
-  at-end (pos n) l = (n, inl refl, lies-hits n l)
-  at-end (negsuc n) l = differ (sym (l .least))
-
-  after-end : (x : ℤ) → Lies f (pos lo) (pos hi) (sucℤ x) → (v : ℕ) × Near x v × Hits f w k v
-  after-end (pos n) l = let e : n + 1 ≡ suc n = omega arith in (suc n, inr e, lies-hits (suc n) l)
-  after-end (negsuc zero) l = (0, inl refl, lies-hits 0 l)
-  after-end (negsuc (suc n)) l = differ (sym (l .least))
-
-  names : Names f w k (tryEnd f (pos lo) (pos hi))
-  names x e = go (tryAt f (pos lo) (pos hi) x) refl e
-    where
-      go : (b : Bool) → tryAt f (pos lo) (pos hi) x ≡ b → pick b true (tryAt f (pos lo) (pos hi) (sucℤ x)) ≡ true → (v : ℕ) × Near x v × Hits f w k v
-      go true p q = at-end x (try-lies f (pos lo) (pos hi) x p)
-      go false p q = after-end x (try-lies f (pos lo) (pos hi) (sucℤ x) q)
-
 -- before anything is tried no window is marked
 unmarked : (k : ℕ) → Marked (replicate {A = ℕ} 256 0) k → ⊥
 unmarked k z = elim (decLt k 256) [
@@ -84,10 +62,10 @@ unmarked k z = elim (decLt k 256) [
   | no h ↦ let e : getD (replicate {A = ℕ} 256 0) k 0 ≡ 0 = List·getD-eq-default (replicate {A = ℕ} 256 0) 0 {n = k} (omega (arith, length-replicate {A = ℕ} 256 0)) in omega arith
 ]
 
--- ---- all that is tried: the least value of each window, and the ends
+-- ---- all that is tried: the least value of each window, and where the set changes
 
 module _ (env : List ℤ) (i : ℕ) (xs : List Term) (w : ℕ) (least : List ℕ) (s : Sought (holds env i xs) w (Least w 256) (replicate {A = ℕ} 256 0) least)
-    (old new : Tried) (e : old .marks ≡ least) (t : Walked (holds env i xs) w env xs old new) (marks : List ℕ) (u : Sought (holds env i xs) w (Among (new .values) 64) (new .marks) marks) where
+    (old new : Tried) (e : old .marks ≡ least) (t : Offered (holds env i xs) w (λ (v : ℕ). Changes env v xs Numbers.Zero) old new) (marks : List ℕ) (u : Sought (holds env i xs) w (Among (new .values) 64) (new .marks) marks) where
   none : Sound (holds env i xs) w (replicate {A = ℕ} 256 0)
   none k z = absurd (unmarked k z)
 
@@ -99,27 +77,20 @@ module _ (env : List ℤ) (i : ℕ) (xs : List Term) (w : ℕ) (least : List ℕ
   settled k (inr (j, h, z)) = let r : new .waiting < 64 = t .ready .room in u .hit k (getD (new .values) j 0) (j, omega arith, refl) z
 
   module _ (k : ℕ) (h : k < strings w) where
-    -- the least value is in the set
-    at-least : tryAt (holds env i xs) (pos (k * block w)) (pos (k * block w + (block w - 1))) (pos (k * block w)) ≡ true → Marked marks k
-    at-least q =
-        let l = try-lies (holds env i xs) (pos (k * block w)) (pos (k * block w + (block w - 1))) (pos (k * block w)) q in
-        let o : 1 ≤ block w = pow-pos (w - 8) in
-        let z : strings w ≤ 256 = few w in
-        let x : Hits (holds env i xs) w k (k * block w) = in-block (holds env i xs) w k h (k * block w) (omega arith) (omega arith) (l .member) in
-        settled k (t .kept k (inl (subst (λ (m : List ℕ). Marked m k) (sym e) (s .hit k (k * block w) (k, omega arith, refl) x))))
-
-    marked : candidates env i xs (pos (k * block w)) (pos (k * block w + (block w - 1))) ≡ true → Marked marks k
-    unfolding candidates
-    marked q = go (tryAt (holds env i xs) (pos (k * block w)) (pos (k * block w + (block w - 1))) (pos (k * block w))) refl q
+    -- the first value of the set in the window has been tried
+    marked : (v : ℕ) → First env i xs (k * block w) v → v ≤ k * block w + (block w - 1) → Marked marks k
+    marked v x h′ = ⊎-elim (λ q. settled k (t .kept k (inl (subst (λ (m : List ℕ). Marked m k) (sym e) (s .hit k (x .value) (k, below, q) here))))) (λ c. settled k (t .hit k (x .value) c here)) (x .change)
       where
-        go : (b : Bool) → tryAt (holds env i xs) (pos (k * block w)) (pos (k * block w + (block w - 1))) (pos (k * block w)) ≡ b → pick b true (someEnd (tryEnd (holds env i xs) (pos (k * block w)) (pos (k * block w + (block w - 1)))) env xs Numbers.Zero) ≡ true → Marked marks k
-        go true p r = at-least p
-        go false p r = settled k (t .hit k (tryEnd (holds env i xs) (pos (k * block w)) (pos (k * block w + (block w - 1)))) (names (holds env i xs) w k h) r)
+        below : k < 256
+        below = omega (arith, few w)
+
+        here : Hits (holds env i xs) w k (x .value)
+        here = let a : x .value ≤ v = x .most in in-block (holds env i xs) w k h (x .value) (x .least) (omega arith) (x .member)
 
     pub told-window : Spans (holds env i xs) (k * block w) (k * block w + (block w - 1)) (ltb 0 (getD marks k 0))
     told-window = record {
       found = λ q. let v = sound k (ltb-true 0 (getD marks k 0) q) in (v .0, of-block (holds env i xs) w k h (v .0) (v .1));
-      all = λ v l. lt-ltb 0 (getD marks k 0) (marked (decides env i xs (pos (k * block w)) (pos (k * block w + (block w - 1))) .all (pos v) (record { least = le-leb (k * block w) v (l .least); most = le-leb v (k * block w + (block w - 1)) (l .most); member = l .member })));
+      all = λ v l. lt-ltb 0 (getD marks k 0) (marked v (first-from env i xs (k * block w) v (l .least) (l .member)) (l .most));
     }
 
 -- ---- a set whatever the variables are

@@ -1,26 +1,23 @@
 -- Laws of values that wait, and of the walk over a set's ends.
 -- Assumes nothing.
-use Prim.Native.Nat.{ℕ, _+_, _^_, _≤_, _<_}
-use mathlib.Core.Path.{_≡_, refl, sym, subst, _∙_}
-use mathlib.Core.Bool.{Bool, true, false}
+use Prim.Native.Nat.{ℕ, _+_, _≤_, _<_}
+use mathlib.Core.Path.{_≡_, sym, subst, _∙_}
+use mathlib.Core.Bool.{Bool}
 use mathlib.Core.Logic.{_⊎_, inl, inr, ⊎-elim}
 use mathlib.Core.List.{List}
 use native.Mathlib.Omega.{arith}
-use lib.IntN.{ℤ, pos, negsuc}
+use lib.IntN.{ℤ}
 use lib.ListN.{getD, set, length-set}
 use lib.Seq.{getD-set-same, getD-set-other}
-use lib.Signed.{mag}
-use Rattle.batches.specs.Effects.{clip}
-use Rattle.wholes.proofs.Laws.{differ}
-use Rattle.terms.specs.Numbers.{pick}
+use Rattle.batches.specs.Effects.{turnOf}
+use Rattle.batches.specs.declared.Effect.{Effect}
+use Rattle.batches.specs.declared.Turn.{Turn}
+use Rattle.evaluation.proofs.Runs.{terms-next, terms-none}
 use Rattle.terms.specs.Words.{termAt, terms}
 use Rattle.terms.specs.declared.Numbers.{Numbers}
-use Rattle.terms.specs.declared.Outcome.{Outcome}
-use Rattle.prefixes.specs.Ends.{itemEnds, numbersAfter, anyIn, onward, someEnd}
-use Rattle.prefixes.specs.Marks.{Hits, Sound, Sought, Among, Ready, Found, Offered, Near, NearEnds, Names, Walked}
-use Rattle.prefixes.specs.declared.Ends.{Ends}
+use Rattle.terms.specs.declared.Term.{Term}
+use Rattle.prefixes.specs.Marks.{Hits, Sound, Sought, Among, Ready, Found, Offered, ChangesAt, HereOrOn, Changes}
 use Rattle.prefixes.specs.declared.Tried.{Tried}
-use Rattle.prefixes.proofs.Walks.{walks, walked}
 
 -- ---- handing values over
 
@@ -64,59 +61,40 @@ module _ (f : ℤ → Bool) (w : ℕ) where
 
 -- ---- the walk
 
-module _ (f : ℤ → Bool) (w : ℕ) (k : ℕ) (p : ℤ → Bool) (n : Names f w k p) where
-  -- an end that p names has a value near it
-  near : (e : Ends) → anyIn p e ≡ true → (v : ℕ) × NearEnds e v × Hits f w k v
-  near Ends.None h = differ (sym h)
-  near (Ends.One a) h = n a h
-  near (Ends.Two a b) h = go (p a) refl h
-    where
-      go : (t : Bool) → p a ≡ t → pick t true (p b) ≡ true → (v : ℕ) × (Near a v ⊎ Near b v) × Hits f w k v
-      go true q x = let y = n a q in (y .0, inl (y .1), y .2)
-      go false q x = let y = n b x in (y .0, inr (y .1), y .2)
-
-  -- it is here, or further on
-  here-or-on : (e : Ends) (old new : Tried) (rest : Bool) → Offered f w (NearEnds e) old new → pick (anyIn p e) true rest ≡ true → Found f w k new ⊎ (rest ≡ true)
-  here-or-on e old new rest o h = go (anyIn p e) refl h
-    where
-      go : (t : Bool) → anyIn p e ≡ t → pick t true rest ≡ true → Found f w k new ⊎ (rest ≡ true)
-      go true q x = let y = near e q in inl (o .hit k (y .0) (y .1) (y .2))
-      go false q x = inr x
-
 -- the walk has come to a place
 pub record Walking (f : ℤ → Bool) (w : ℕ) (env : List ℤ) (ws : List ℕ) (start end : ℕ) (old : Tried) (now : Tried) (at : ℕ) (s : Numbers) : Type 0 where
   pub ready : Ready now
   pub sound : Sound f w (old .marks) → Sound f w (now .marks)
   pub kept : (k : ℕ) → Found f w k old → Found f w k now
-  pub hit : (k : ℕ) (p : ℤ → Bool) → Names f w k p → someEnd p env (terms ws start end) Numbers.Zero ≡ true → Found f w k now ⊎ (someEnd p env (terms ws at end) s ≡ true)
+  pub hit : (k v : ℕ) → Changes env v (terms ws start end) Numbers.Zero → Hits f w k v → Found f w k now ⊎ Changes env v (terms ws at end) s
 
 module _ (f : ℤ → Bool) (w : ℕ) (env : List ℤ) (ws : List ℕ) (start end : ℕ) (old : Tried) where
+  abbrev All : ℕ → Type 0
+  All v = Changes env v (terms ws start end) Numbers.Zero
+
   pub walk-begins : Ready old → Walking f w env ws start end old old start Numbers.Zero
-  walk-begins r = record { ready = r; sound = λ s. s; kept = λ k z. z; hit = λ k p n h. inr h }
+  walk-begins r = record { ready = r; sound = λ s. s; kept = λ k z. z; hit = λ k v x h. inr x }
 
   module _ (now : Tried) (at : ℕ) (s : Numbers) (m : Walking f w env ws start end old now at s) where
-    pub walk-out : end ≤ at → Walked f w env (terms ws start end) old now
-    walk-out h = record { ready = m .ready; sound = m .sound; kept = m .kept; hit = λ k p n e. ⊎-elim (λ z. z) (λ z. differ (sym z ∙ walked p env ws at end s h)) (m .hit k p n e) }
+    -- nothing is left
+    rest-none : (v : ℕ) → end ≤ at → Changes env v (terms ws at end) s → ⊥
+    unfolding Changes
+    rest-none v h x = subst (λ (xs : List Term). Changes env v xs s) (terms-none ws at end h) x
 
-    module _ (l : at < end) (next : Tried) (o : Offered f w (NearEnds (itemEnds env (termAt ws at) s)) now next) where
-      -- one term further: found, or in the rest, if that is reached
-      further : (r : Outcome) → numbersAfter env (termAt ws at) s ≡ r → (k : ℕ) (p : ℤ → Bool) → Names f w k p → someEnd p env (terms ws start end) Numbers.Zero ≡ true → Found f w k next ⊎ (onward (λ (s′ : Numbers). someEnd p env (terms ws (at + 1) end) s′) r ≡ true)
-      further r q k p n e =
-          ⊎-elim (λ z. inl (o .kept k z))
-          (λ (z : someEnd p env (terms ws at end) s ≡ true). here-or-on f w k p n (itemEnds env (termAt ws at) s) now next (onward (λ (s′ : Numbers). someEnd p env (terms ws (at + 1) end) s′) r) o
-          (sym (walks p env ws at end s l (anyIn p (itemEnds env (termAt ws at) s)) refl r q) ∙ z)) (m .hit k p n e)
+    pub walk-out : end ≤ at → Offered f w All old now
+    walk-out h = record { ready = m .ready; sound = m .sound; kept = m .kept; hit = λ k v x z. ⊎-elim (λ y. y) (λ y. absurd (rest-none v h y)) (m .hit k v x z) }
 
-      pub walk-on : (s′ : Numbers) → numbersAfter env (termAt ws at) s ≡ Outcome.Stack s′ → Walking f w env ws start end old next (at + 1) s′
-      walk-on s′ q = record { ready = o .ready; sound = λ x. o .sound (m .sound x); kept = λ k z. o .kept k (m .kept k z); hit = further (Outcome.Stack s′) q }
+    rest-one : (v : ℕ) → at < end → (r : Turn) → r ≡ turnOf env (termAt ws at) s → Changes env v (terms ws at end) s → HereOrOn (λ s′. Changes env v (terms ws (at + 1) end) s′) v r
+    unfolding Changes
+    rest-one v h r e x = subst (HereOrOn (λ s′. Changes env v (terms ws (at + 1) end) s′) v) (sym e) (subst (λ (xs : List Term). Changes env v xs s) (terms-next ws at end h) x)
 
-      pub walk-malformed : numbersAfter env (termAt ws at) s ≡ Outcome.Malformed → Walked f w env (terms ws start end) old next
-      walk-malformed q = record { ready = o .ready; sound = λ x. o .sound (m .sound x); kept = λ k z. o .kept k (m .kept k z); hit = λ k p n e. ⊎-elim (λ z. z) (λ z. differ (sym z)) (further Outcome.Malformed q k p n e) }
+    pub walk-off : at < end → Turn.Off ≡ turnOf env (termAt ws at) s → Offered f w All old now
+    walk-off h e = record { ready = m .ready; sound = m .sound; kept = m .kept; hit = λ k v x z. ⊎-elim (λ y. y) (λ y. absurd (rest-one v h Turn.Off e y)) (m .hit k v x z) }
 
-      pub walk-overflow : numbersAfter env (termAt ws at) s ≡ Outcome.Overflow → Walked f w env (terms ws start end) old next
-      walk-overflow q = record { ready = o .ready; sound = λ x. o .sound (m .sound x); kept = λ k z. o .kept k (m .kept k z); hit = λ k p n e. ⊎-elim (λ z. z) (λ z. differ (sym z)) (further Outcome.Overflow q k p n e) }
-
--- ---- an end in range has a value after it
-
-pub clip-fits : (z : ℤ) → mag z < 2 ^ 63 → clip z + 1 < 2 ^ 64
-clip-fits (pos n) h = omega arith
-clip-fits (negsuc n) h = omega arith
+    pub walk-on : at < end → (s′ : Numbers) (e : Effect) → Turn.On s′ e ≡ turnOf env (termAt ws at) s → (next : Tried) → Offered f w (ChangesAt e) now next → Walking f w env ws start end old next (at + 1) s′
+    walk-on h s′ e q next o = record { ready = o .ready; sound = λ x. o .sound (m .sound x); kept = λ k z. o .kept k (m .kept k z); hit = hit }
+      where
+        hit : (k v : ℕ) → Changes env v (terms ws start end) Numbers.Zero → Hits f w k v → Found f w k next ⊎ Changes env v (terms ws (at + 1) end) s′
+        hit k v x z =
+            ⊎-elim (λ y. inl (o .kept k y))
+            (λ (y : Changes env v (terms ws at end) s). ⊎-elim (λ c. inl (o .hit k v c z)) (λ c. inr c) (rest-one v h (Turn.On s′ e) q y)) (m .hit k v x z)

@@ -4,14 +4,14 @@ use Prim.Native.Nat.{ℕ, _+_, _*_, _-_, _/_, _^_, _<_}
 use mathlib.Core.Path.{_≡_}
 use mathlib.Core.Bool.{Bool, true}
 use mathlib.Core.Logic.{_⊎_}
-use mathlib.Core.List.{List}
+use mathlib.Core.List.{List, [], _∷_}
 use lib.IntN.{ℤ, pos}
 use lib.ListN.{length, getD}
 use Rattle.terms.specs.declared.Numbers.{Numbers}
 use Rattle.terms.specs.declared.Term.{Term}
-use Rattle.batches.specs.Effects.{clip}
-use Rattle.prefixes.specs.Ends.{someEnd}
-use Rattle.prefixes.specs.declared.Ends.{Ends}
+use Rattle.batches.specs.Effects.{turnOf}
+use Rattle.batches.specs.declared.Effect.{Effect}
+use Rattle.batches.specs.declared.Turn.{Turn}
 use Rattle.prefixes.specs.declared.Tried.{Tried}
 
 -- v is a value of the width in the set that f tests, and its leading bits are k
@@ -65,22 +65,20 @@ pub record Offered (f : ℤ → Bool) (width : ℕ) (P : ℕ → Type 0) (old ne
   pub kept : (k : ℕ) → Found f width k old → Found f width k new
   pub hit : (k v : ℕ) → P v → Hits f width k v → Found f width k new
 
--- an end, and the value after it
-abbrev pub Near : ℤ → ℕ → Type 0
-Near x v = (clip x ≡ v) ⊎ (clip x + 1 ≡ v)
+-- ---- where a set changes: at the first value of an item, and at the first after it
 
-abbrev pub NearEnds : Ends → ℕ → Type 0
-NearEnds Ends.None v = ⊥
-NearEnds (Ends.One a) v = Near a v
-NearEnds (Ends.Two a b) v = Near a v ⊎ Near b v
+abbrev pub ChangesAt : Effect → ℕ → Type 0
+ChangesAt Effect.None v = ⊥
+ChangesAt (Effect.Within a b) v = (a ≡ v) ⊎ (b ≡ v)
+ChangesAt (Effect.From a) v = a ≡ v
+ChangesAt Effect.Or v = ⊥
+ChangesAt Effect.Except v = ⊥
 
--- p names ends with a value near them that has the leading bits k
-abbrev pub Names : (ℤ → Bool) → ℕ → ℕ → (ℤ → Bool) → Type 0
-Names f width k p = (x : ℤ) → p x ≡ true → (v : ℕ) × Near x v × Hits f width k v
+abbrev pub HereOrOn : (Numbers → Type 0) → ℕ → Turn → Type 0
+HereOrOn go v (Turn.On s e) = ChangesAt e v ⊎ go s
+HereOrOn go v Turn.Off = ⊥
 
--- the ends of a list and the values after them have been handed over
-pub record Walked (f : ℤ → Bool) (width : ℕ) (env : List ℤ) (xs : List Term) (old new : Tried) : Type 0 where
-  pub ready : Ready new
-  pub sound : Sound f width (old .marks) → Sound f width (new .marks)
-  pub kept : (k : ℕ) → Found f width k old → Found f width k new
-  pub hit : (k : ℕ) (p : ℤ → Bool) → Names f width k p → someEnd p env xs Numbers.Zero ≡ true → Found f width k new
+-- a term of the list changes the set at v, where numbers s wait before the list
+unfoldable pub Changes : List ℤ → ℕ → List Term → Numbers → Type 0
+Changes env v [] s = ⊥
+Changes env v (x ∷ xs) s = HereOrOn (λ s′. Changes env v xs s′) v (turnOf env x s)

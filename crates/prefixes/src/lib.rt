@@ -1,13 +1,12 @@
-// Which leading bits the values of a set have. A set changes only at the ends of its items and just after them, so that few values are tried:
-// the least of each window, the ends, and the values after them. They are tried 64 at a time.
-mod items;
+// Which leading bits the values of a set have. A set changes only at the first value of an item and at the first after it, so that few values
+// are tried: these, and the least of each window. They are tried 64 at a time.
 mod marks;
 mod tries;
 
 use crate::marks::hidden;
 use crate::marks::least_values;
 use crate::marks::settle;
-use crate::tries::try_ends;
+use crate::tries::try_changes;
 use evaluation::variables::has_variable;
 use wholes::power;
 ghost use mathlib.Core.List.{List};
@@ -16,13 +15,6 @@ ghost use Rattle.terms.specs.Words.{terms};
 ghost use Rattle.terms.specs.declared.Term.{Term};
 ghost use Rattle.batches.specs.Members.{holds};
 ghost use Rattle.prefixes.specs.Prefixes.{Tells, Told, ToldBy};
-
-// The ends of an item.
-pub enum Ends {
-    None,
-    One(i64),
-    Two(i64, i64),
-}
 
 // The values that wait to be tried, the first `waiting` of these, and the windows that are marked so far.
 pub struct Tried {
@@ -38,7 +30,7 @@ fn windows_of(words: &[u32], start: usize, end: usize, variables: &[i64], width:
 {
     let mut least = [0u8; 256];
     least_values(words, start, end, variables, width, &mut least);
-    let last = try_ends(
+    let last = try_changes(
         words,
         start,
         end,

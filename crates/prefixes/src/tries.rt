@@ -1,18 +1,16 @@
-// The ends of a set's items, and the values after them, gathered and tried 64 at a time.
-use crate::Ends;
+// The values at which a set changes, gathered and tried 64 at a time.
 use crate::Tried;
-use crate::items::item_ends;
-use crate::items::numbers_after;
 use crate::marks::settle;
-use batches::effects::natural;
+use batches::Effect;
+use batches::Turn;
+use batches::effects::turn;
 use terms::Numbers;
-use terms::Outcome;
 use terms::decode::term_at;
 ghost use mathlib.Core.Path.{_≡_};
 ghost use Prim.Native.Nat.{ℕ, _≤_};
 ghost use Rattle.terms.specs.Words.{terms};
 ghost use Rattle.batches.specs.Members.{holds};
-ghost use Rattle.prefixes.specs.Marks.{Ready, Offered, Near, NearEnds, Walked};
+ghost use Rattle.prefixes.specs.Marks.{Ready, Offered, ChangesAt, Changes};
 
 // One value more waits. Where that makes 64, they are tried.
 fn offer(
@@ -46,48 +44,33 @@ fn offer(
     }
 }
 
-// An end and the value after it.
-fn offer_end(
+// The values at which an effect changes.
+fn offer_changes(
     words: &[u32],
     start: usize,
     end: usize,
     variables: &[i64],
     width: u32,
     old: Tried,
-    value: i64,
+    effect: Effect,
 ) -> Tried
     requires { ⌜ (width ≤ 62) × Ready old ⌝ }
-    ensures { λ r. ⌜ Offered (holds (now (variables .entry)) start (terms (now (words .entry)) start end)) width (Near value) old r ⌝ }
+    ensures { λ r. ⌜ Offered (holds (now (variables .entry)) start (terms (now (words .entry)) start end)) width (ChangesAt effect) old r ⌝ }
 {
-    let least = natural(value);
-    let next = offer(words, start, end, variables, width, old, least);
-    offer(words, start, end, variables, width, next, least + 1)
-}
-
-fn offer_ends(
-    words: &[u32],
-    start: usize,
-    end: usize,
-    variables: &[i64],
-    width: u32,
-    old: Tried,
-    ends: Ends,
-) -> Tried
-    requires { ⌜ (width ≤ 62) × Ready old ⌝ }
-    ensures { λ r. ⌜ Offered (holds (now (variables .entry)) start (terms (now (words .entry)) start end)) width (NearEnds ends) old r ⌝ }
-{
-    match ends {
-        Ends::None => old,
-        Ends::One(a) => offer_end(words, start, end, variables, width, old, a),
-        Ends::Two(a, b) => {
-            let next = offer_end(words, start, end, variables, width, old, a);
-            offer_end(words, start, end, variables, width, next, b)
+    match effect {
+        Effect::None => old,
+        Effect::Within(low, past) => {
+            let next = offer(words, start, end, variables, width, old, low);
+            offer(words, start, end, variables, width, next, past)
         }
+        Effect::From(low) => offer(words, start, end, variables, width, old, low),
+        Effect::Or => old,
+        Effect::Except => old,
     }
 }
 
-// All ends of a set.
-pub fn try_ends(
+// All values at which a set changes.
+pub fn try_changes(
     words: &[u32],
     start: usize,
     end: usize,
@@ -96,30 +79,18 @@ pub fn try_ends(
     old: Tried,
 ) -> Tried
     requires { ⌜ (width ≤ 62) × Ready old ⌝ }
-    ensures { λ r. ⌜ Walked (holds (now (variables .entry)) start (terms (now (words .entry)) start end)) width (now (variables .entry)) (terms (now (words .entry)) start end) old r ⌝ }
+    ensures { λ r. ⌜ Offered (holds (now (variables .entry)) start (terms (now (words .entry)) start end)) width (λ (v : ℕ). Changes (now (variables .entry)) v (terms (now (words .entry)) start end) Numbers.Zero) old r ⌝ }
 {
     let mut tried = old;
     let mut numbers = Numbers::Zero;
     let mut at = start;
     while at < end {
-        let term = term_at(words, at);
-        tried = offer_ends(
-            words,
-            start,
-            end,
-            variables,
-            width,
-            tried,
-            item_ends(variables, term, numbers),
-        );
-        match numbers_after(variables, term, numbers) {
-            Outcome::Stack(next) => {
+        match turn(variables, term_at(words, at), numbers) {
+            Turn::On(next, effect) => {
+                tried = offer_changes(words, start, end, variables, width, tried, effect);
                 numbers = next;
             }
-            Outcome::Malformed => {
-                return tried;
-            }
-            Outcome::Overflow => {
+            Turn::Off => {
                 return tried;
             }
         }
