@@ -100,18 +100,32 @@ fn frame(name: &str, random: &mut Random) -> Vec<u8> {
     }
 }
 
-// The largest texts: most constructs, most terms, deepest.
+// A text with one uint.
+fn one_uint(width: u32, parts: u64, part: impl Fn(u64) -> String) -> String {
+    format!("dogma_v1 utf-8\n\na = uint({width},{});", (0..parts).map(part).collect::<Vec<_>>().join("|"))
+}
+
+// The largest texts: most constructs, most terms, deepest. A set's ends and the values after them are tried, so the worst sets have many ends that fail.
 fn largest() {
-    let constructs = format!("dogma_v1 utf-8\n\na = {};", (0..255).map(|i| format!("uint(8,{i})")).collect::<Vec<_>>().join("|"));
-    let terms = format!("dogma_v1 utf-8\n\na = uint(32, {});", (0..512).map(|i| format!("{}", i * 3)).collect::<Vec<_>>().join("|"));
-    let deep = format!("dogma_v1 utf-8\n\na = {}\"x\"{};", "(".repeat(16), "?)".repeat(16));
-    let names = format!("dogma_v1 utf-8\n\na = uint(8, var(n, ~)) & {};", (0..250).map(|_| "uint(8, n)").collect::<Vec<_>>().join("&"));
-    let long = format!("dogma_v1 utf-8\n\n{}", "# comment\n".repeat(800));
-    for (name, text) in [("255 branches", constructs), ("512 items", terms), ("16 deep", deep), ("250 uses", names), ("8,000 bytes of comments", long)] {
+    let texts = [
+        ("255 branches", format!("dogma_v1 utf-8\n\na = {};", (0..255).map(|i| format!("uint(8,{i})")).collect::<Vec<_>>().join("|"))),
+        ("512 items of 32 bits", one_uint(32, 512, |i| format!("{}", i * 3))),
+        ("512 items of 16 bits", one_uint(16, 512, |i| format!("{}", i * 127))),
+        ("512 items of 8 bits", one_uint(8, 512, |i| format!("{}", i % 256))),
+        ("256 ranges of 32 bits", one_uint(32, 256, |i| format!("{}~{}", i * 16777216 + 7, i * 16777216 + 9))),
+        ("256 items taken away", one_uint(32, 256, |i| format!("{i}!{i}"))),
+        ("256 items of 8 bits taken away", one_uint(8, 256, |i| format!("{i}!{i}"))),
+        ("170 items up to a number, taken away", one_uint(16, 170, |i| format!("~{i}!~{}", i + 1))),
+        ("128 ranges taken away", one_uint(32, 128, |i| format!("{0}~{1}!{0}~{1}", i * 33554432, i * 33554432 + 99))),
+        ("16 deep", format!("dogma_v1 utf-8\n\na = {}\"x\"{};", "(".repeat(16), "?)".repeat(16))),
+        ("250 uses", format!("dogma_v1 utf-8\n\na = uint(8, var(n, ~)) & {};", (0..250).map(|_| "uint(8, n)").collect::<Vec<_>>().join("&"))),
+        ("8,000 bytes of comments", format!("dogma_v1 utf-8\n\n{}", "# comment\n".repeat(800))),
+    ];
+    for (name, text) in texts {
         let lent = Guarded::new(&text.as_bytes()[..text.len().min(8192)]);
         let mut table = Guarded::new(&[0; TABLE_WORDS]);
         let mut number = 0;
-        let time = seconds(|| number = calls::admit(&lent, &mut table).number);
+        let time = (0..5).map(|_| seconds(|| number = calls::admit(&lent, &mut table).number)).fold(f64::INFINITY, f64::min);
         println!("library: {name}, {} bytes: answered {number} in {:.2} ms", lent.length, time * 1e3);
     }
 }

@@ -1,7 +1,6 @@
-pub mod Orders
-pub mod Walks
-pub mod Steady
-pub mod Candidates
 pub mod Windows
 pub mod Static
-pub mod Blocks
+pub mod MarkLaws
+pub mod TryLaws
+pub mod Steady
+pub mod ToldLaws

@@ -11,7 +11,7 @@ use Rattle.evaluation.specs.Meaning.{membership}
 use Rattle.evaluation.specs.Variables.{hasVariable}
 use Rattle.evaluation.specs.declared.Tested.{Tested}
 use Rattle.evaluation.proofs.Constants.{membership-constant}
-use Rattle.prefixes.specs.Ends.{isYes, holds}
+use Rattle.batches.specs.Members.{isYes, holds}
 use Rattle.prefixes.specs.Prefixes.{admits}
 
 -- a set with a variable counts as `~`

@@ -1,56 +1,18 @@
 -- Which values have a window: those of one block of the values of a width.
 -- Assumes nothing.
 use Prim.Native.Nat.{ℕ, _+_, _*_, _-_, _/_, _^_, _≤_, _<_}
-use mathlib.Core.Path.{_≡_, refl, sym, ap, subst, _∙_}
-use mathlib.Core.Bool.{Bool, true, false}
-use mathlib.Core.List.{List, []}
+use mathlib.Core.Path.{_≡_, sym, ap, subst, _∙_}
+use mathlib.Core.Bool.{Bool, false}
+use mathlib.Core.List.{List}
 use native.Mathlib.Omega.{arith}
 use native.Mathlib.Nat.{add-mul, one-mul, mul-le-mul-right, mul-add-div-right, div-eq-of-lt-le, le-div-iff-mul-le, div-lt-iff-lt-mul}
-use borrow.Author.Tests.{le-leb, leb-true}
-use lib.IntN.{ℤ, pos, negsuc}
-use lib.Pow.{pow-pos, pow-mono, pow-add}
-use lib.Signed.{leZ}
+use lib.Pow.{pow-pos, pow-add}
 use Rattle.basis.specs.Bits.{bitsOf}
 use Rattle.basis.specs.Lookahead.{lookahead, number}
 use Rattle.basis.proofs.Values.{number-lookahead}
 use Rattle.wholes.proofs.Laws.{differ}
-use Rattle.terms.specs.Numbers.{pick}
-use Rattle.evaluation.specs.Variables.{hasVariable}
 use Rattle.terms.specs.declared.Term.{Term}
-use Rattle.prefixes.specs.Ends.{holds}
-use Rattle.prefixes.specs.Between.{Lies, Decides}
 use Rattle.prefixes.specs.Prefixes.{admits, Within, Spans, Leads, Tells}
-
--- ---- natural numbers between two natural numbers
-
-natural-above : (lo : ℕ) (v : ℤ) → leZ (pos lo) v ≡ true → (n : ℕ) × (v ≡ pos n) × (lo ≤ n)
-natural-above lo (pos n) e = (n, refl, leb-true lo n e)
-natural-above lo (negsuc n) e = differ (sym e)
-
-module _ (i : ℕ) (xs : List Term) (lo hi : ℕ) where
-  pub spans-all : lo ≤ hi → hasVariable xs ≡ true → Spans (admits i xs) lo hi true
-  unfolding admits
-  spans-all h e =
-      record {
-        found = λ q. (lo, record { least = omega arith; most = h; member = ap (λ (b : Bool). pick b true (holds [] i xs (pos lo))) e });
-        all = λ v l. refl;
-      }
-
-  pub spans-set : (r : Bool) → hasVariable xs ≡ false → Decides (holds [] i xs) (pos lo) (pos hi) r → Spans (admits i xs) lo hi r
-  unfolding admits
-  spans-set r e d =
-      record {
-        found = λ q. natural (d .found q .0) (d .found q .1);
-        all = λ v l. d .all (pos v) (record { least = le-leb lo v (l .least); most = le-leb v hi (l .most); member = sym (same (pos v)) ∙ l .member });
-      }
-    where
-      same : (v : ℤ) → pick (hasVariable xs) true (holds [] i xs v) ≡ holds [] i xs v
-      same v = ap (λ (b : Bool). pick b true (holds [] i xs v)) e
-
-      natural : (v : ℤ) → Lies (holds [] i xs) (pos lo) (pos hi) v → (n : ℕ) × Within (admits i xs) lo hi n
-      natural v l =
-          let n : (n : ℕ) × (v ≡ pos n) × (lo ≤ n) = natural-above lo v (l .least) in
-          (n .0, record { least = n .2; most = leb-true (n .0) hi (ap (λ (z : ℤ). leZ z (pos hi)) (sym (n .1)) ∙ l .most); member = same (pos (n .0)) ∙ ap (holds [] i xs) (sym (n .1)) ∙ l .member })
 
 -- ---- blocks: the values whose leading bits are alike
 
@@ -71,16 +33,6 @@ module _ (w : ℕ) where
 
   pub next-block : (x : ℕ) → (x + 1) * block ≡ x * block + block
   next-block x = add-mul x 1 block ∙ ap (λ (y : ℕ). x * block + y) (one-mul block)
-
-  -- a block lies among the values of the width
-  pub block-fits : (x b q : ℕ) → b ≡ block → q ≡ strings → x < q → w ≤ 62 → (x * b + b ≤ 2 ^ 62) × (1 ≤ b)
-  block-fits x b q eb eq h k =
-      let l : x + 1 ≤ strings = omega arith in
-      let m : (x + 1) * block ≤ strings * block = mul-le-mul-right block l in
-      let n : 2 ^ w ≤ 2 ^ 62 = pow-mono k in
-      let o : 1 ≤ block = pow-pos (w - 8) in
-      let p : x * b ≡ x * block = ap (λ (y : ℕ). x * y) eb in
-      (omega (arith, next-block x, blocks), omega arith)
 
   module _ (i : ℕ) (xs : List Term) (k : ℕ) where
     none : ((v : ℕ) → v < 2 ^ w → strings + v / block ≡ k → ⊥) → Tells w i xs k false

@@ -1,4 +1,2 @@
-pub mod Members
-pub mod Ends
-pub mod Between
 pub mod Prefixes
+pub mod Marks

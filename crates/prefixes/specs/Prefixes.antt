@@ -1,18 +1,19 @@
 -- The first windows of a field (document 01): "the leading 8 bits (or all, if fewer) of each bit pattern it admits, a set with a variable
 -- counting as `~`". Windows are named by their numbers.
 -- Assumes nothing.
-use Prim.Native.Nat.{ℕ, _+_, _^_, _≤_, _<_}
+use Prim.Native.Nat.{ℕ, _+_, _*_, _-_, _^_, _≤_, _<_}
 use mathlib.Core.Path.{_≡_}
-use mathlib.Core.Bool.{Bool, true, false}
+use mathlib.Core.Bool.{Bool, true}
 use mathlib.Core.List.{List, []}
+use lib.Dec.{ltb}
 use lib.IntN.{ℤ, pos}
+use lib.ListN.{getD}
 use Rattle.basis.specs.Bits.{bitsOf}
 use Rattle.basis.specs.Lookahead.{lookahead, number}
 use Rattle.terms.specs.Numbers.{pick}
 use Rattle.evaluation.specs.Variables.{hasVariable}
 use Rattle.terms.specs.declared.Term.{Term}
-use Rattle.prefixes.specs.Members.{holds}
-use Rattle.prefixes.specs.declared.Block.{Block}
+use Rattle.batches.specs.Members.{holds}
 
 -- the values that a set admits whatever the variables are; the list's first term has number i
 unfoldable pub admits : ℕ → List Term → ℤ → Bool
@@ -39,15 +40,12 @@ pub record Tells (width i : ℕ) (xs : List Term) (k : ℕ) (r : Bool) : Type 0 
   pub found : r ≡ true → (v : ℕ) × Leads width i xs k v
   pub all : (v : ℕ) → Leads width i xs k v → r ≡ true
 
--- ---- many values or windows at once
+-- ---- marks, at the leading bits of windows
 
-abbrev pub WholeNaturals : (ℤ → Bool) → ℕ → ℕ → Block → Type 0
-WholeNaturals f lo hi Block.All = (v : ℕ) → lo ≤ v → v ≤ hi → f (pos v) ≡ true
-WholeNaturals f lo hi Block.None = (v : ℕ) → lo ≤ v → v ≤ hi → f (pos v) ≡ false
-WholeNaturals f lo hi Block.Mixed = Unit {0}
+-- a set that f tests has a value in each window of the width that is marked, and in no other
+abbrev pub ToldBy : ℕ → (ℤ → Bool) → List ℕ → Type 0
+ToldBy width f marks = (k : ℕ) → k < 2 ^ (width - (width - 8)) → Spans f (k * 2 ^ (width - 8)) (k * 2 ^ (width - 8) + (2 ^ (width - 8) - 1)) (ltb 0 (getD marks k 0))
 
--- r says of the `count` numbers from `first` on that they are all those of first windows, or that none is
-abbrev pub TellsAll : ℕ → ℕ → List Term → ℕ → ℕ → Block → Type 0
-TellsAll width i xs first count Block.All = (k : ℕ) → first ≤ k → k < first + count → Tells width i xs k true
-TellsAll width i xs first count Block.None = (k : ℕ) → first ≤ k → k < first + count → Tells width i xs k false
-TellsAll width i xs first count Block.Mixed = Unit {0}
+-- the same of the values that the set of a list admits
+abbrev pub Told : ℕ → ℕ → List Term → List ℕ → Type 0
+Told width i xs marks = ToldBy width (admits i xs) marks

@@ -31,8 +31,8 @@ use Rattle.evaluation.specs.Meaning.{membership}
 use Rattle.evaluation.specs.Variables.{hasVariable}
 use Rattle.evaluation.specs.declared.Tested.{Tested}
 use Rattle.prefixes.specs.Prefixes.{admits}
-use Rattle.prefixes.specs.Ends.{holds}
-use Rattle.prefixes.specs.Ends as Ends
+use Rattle.batches.specs.Members.{holds}
+use Rattle.batches.specs.Members as Members
 use Rattle.terms.specs.Numbers as Numbers
 use Rattle.sets.specs.Rules.{Seeded, Leading}
 use Rattle.sets.specs.Fields.{Numbered, Any, Led}
@@ -137,7 +137,7 @@ module _ (b : ℕ) (bs : List ℕ) where
 
 -- ---- uints
 
-yes-same : (t : Tested) → isYes t ≡ Ends.isYes t
+yes-same : (t : Tested) → isYes t ≡ Members.isYes t
 yes-same Tested.No = refl
 yes-same Tested.Yes = refl
 yes-same Tested.Malformed = refl

@@ -28,10 +28,11 @@ fn leading(words: &[u32], start: usize, end: usize, width: u32, low: usize, high
     requires { ⌜ width ≤ 62 ⌝ }
     ensures { λ r. ⌜ Is (r .words) (Numbered low high (Led width (now (words .entry)) start end)) ⌝ }
 {
+    let marks = prefixes::first_windows(words, start, end, width);
     let mut out = lookahead::empty();
     let mut n = low;
     while n < high {
-        if prefixes::leads_with(words, start, end, width, n as u64) {
+        if prefixes::leads(&marks, width, n as u64) {
             out = lookahead::union(out, lookahead::single(n));
         }
         n += 1;

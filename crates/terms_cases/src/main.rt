@@ -3,9 +3,9 @@ use evaluation::Calculated;
 use evaluation::Counted;
 use evaluation::Tested;
 use libc::STDOUT_FILENO;
-use prefixes::Block;
 use sizes::Sized;
 use terms::Kind;
+ghost use Prim.Native.Nat.{_≤_};
 
 fn text(bytes: &[u8]) {
     io::write_all(STDOUT_FILENO, bytes);
@@ -93,13 +93,16 @@ struct Windows {
 }
 
 // How many first windows a set has at a width, and the least and the greatest of them.
-fn first_windows(words: &[u32], end: usize, width: u32) -> Windows {
+fn first_windows(words: &[u32], end: usize, width: u32) -> Windows
+    requires { ⌜ width ≤ 62 ⌝ }
+{
+    let marks = prefixes::first_windows(words, 0, end, width);
     let mut count: u64 = 0;
     let mut least: u64 = 0;
     let mut greatest: u64 = 0;
     let mut number: u64 = 1;
     while number < 512 {
-        if prefixes::leads_with(words, 0, end, width, number) {
+        if prefixes::leads(&marks, width, number) {
             if least == 0 {
                 least = number;
             }
@@ -115,7 +118,9 @@ fn first_windows(words: &[u32], end: usize, width: u32) -> Windows {
     }
 }
 
-fn show_windows(name: &[u8], words: &[u32], end: usize, width: u32) {
+fn show_windows(name: &[u8], words: &[u32], end: usize, width: u32)
+    requires { ⌜ width ≤ 62 ⌝ }
+{
     text(name);
     let found = first_windows(words, end, width);
     natural(found.count);
@@ -124,16 +129,6 @@ fn show_windows(name: &[u8], words: &[u32], end: usize, width: u32) {
     text(b" ");
     natural(found.greatest);
     text(b"\n");
-}
-
-// Whether windows are all first windows, or none.
-fn show_block(name: &[u8], words: &[u32], end: usize, width: u32, first: u64, count: u64) {
-    text(name);
-    match prefixes::leads_together(words, 0, end, width, first, count) {
-        Block::All => text(b"all\n"),
-        Block::None => text(b"none\n"),
-        Block::Mixed => text(b"mixed\n"),
-    }
 }
 
 fn calculations() {
@@ -289,18 +284,38 @@ fn windows_of_others() {
     show_windows(b"n of 4: ", &variable, 1, 4);
 }
 
-fn blocks() {
-    let all = ALL;
-    show_block(b"~ of 8, 256 to 511: ", &all, 1, 8, 256, 256);
-    show_block(b"~ of 8, 255 to 511: ", &all, 1, 8, 255, 257);
-    let range = RANGE;
-    show_block(b"1~8 of 8, 320 to 383: ", &range, 3, 8, 320, 64);
-    show_block(b"1~8 of 8, 256 to 263: ", &range, 3, 8, 256, 8);
-    show_block(b"1~8 of 8, 258 to 263: ", &range, 3, 8, 258, 6);
-    let beyond = [33, 300, 0];
-    show_block(b"300 of 8, 256 to 511: ", &beyond, 1, 8, 256, 256);
-    let variable = [34, 0, 0];
-    show_block(b"n of 4, 16 to 31: ", &variable, 1, 4, 16, 16);
+// A window whose values are all taken away, a value just after an end, an end below 0, and two sets where one belongs.
+fn windows_of_ends() {
+    let emptied = [
+        1,
+        512,
+        0,
+        1,
+        1023,
+        0,
+        8,
+        0,
+        0,
+        1,
+        512,
+        0,
+        1,
+        1022,
+        0,
+        8,
+        0,
+        0,
+        12,
+        0,
+        0,
+    ];
+    show_windows(b"512~1023 ! 512~1022 of 16: ", &emptied, 7, 16);
+    let after = [7, 0, 0, 1, 511, 0, 10, 0, 0, 12, 0, 0];
+    show_windows(b"~ ! ~511 of 16: ", &after, 4, 16);
+    let below = [1, 3, 0, 6, 0, 0, 1, 1, 0, 8, 0, 0];
+    show_windows(b"-3~1 of 16: ", &below, 4, 16);
+    let two = [7, 0, 0, 7, 0, 0];
+    show_windows(b"~ ~ of 16: ", &two, 2, 16);
 }
 
 fn condition(name: &[u8], words: &[u32], end: usize) {
@@ -427,7 +442,7 @@ fn main() {
     windows_of_range();
     windows_of_all();
     windows_of_others();
-    blocks();
+    windows_of_ends();
     conditions();
     size_rule();
 }

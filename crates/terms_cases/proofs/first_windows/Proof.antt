@@ -6,16 +6,19 @@ use Rattle.terms_cases.proofs.first_windows.Statement.{statement}
 use Rattle.terms_cases.proofs.first_windows.Tie as tie
 
 abbrev Inv-loop : tie.InvT-loop
-Inv-loop words end width count₀ least₀ greatest₀ number₀ count least greatest number = (number ≤ 512) × (count ≤ number)
+Inv-loop words end width marks count₀ least₀ greatest₀ number₀ count least greatest number = (number ≤ 512) × (count ≤ number)
 
 abbrev μ-loop : tie.MeasureT-loop
-μ-loop words end width count₀ least₀ greatest₀ number₀ count least greatest number = 512 - number
+μ-loop words end width marks count₀ least₀ greatest₀ number₀ count least greatest number = 512 - number
+
+first-windows-requires : tie.Need-first-windows-requires Inv-loop μ-loop
+first-windows-requires c κs = search needs
 
 loop-holds : tie.Need-loop-holds Inv-loop μ-loop
 loop-holds c = search needs
 
-leads-with-requires : tie.Need-leads-with-requires Inv-loop μ-loop
-leads-with-requires c κs = search needs
+leads-requires : tie.Need-leads-requires Inv-loop μ-loop
+leads-requires c κs = search needs
 
 add-count : tie.Need-add-count Inv-loop μ-loop
 add-count c = search needs
@@ -38,8 +41,9 @@ first-windows-spec =
     (tie.spec
     Inv-loop
     μ-loop
+    first-windows-requires
     loop-holds
-    leads-with-requires
+    leads-requires
     add-count
     add-number
     loop-less

@@ -1,0 +1,4 @@
+pub mod Members
+pub mod Effects
+pub mod Truths
+pub mod Batches
