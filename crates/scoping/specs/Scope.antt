@@ -28,6 +28,7 @@ abbrev pub bound-by : ℕ → List ℕ
 bound-by zero = []
 bound-by (suc x) = suc x ∷ []
 
+-- so construct i
 abbrev pub bound-at : List ℕ → ℕ → List ℕ
 bound-at ws i = bound-by (binder-of (constructAt ws i))
 
