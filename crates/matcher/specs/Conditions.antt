@@ -35,7 +35,7 @@ abbrev pub given : Grant → ℕ
 given (own n) = n
 given (other table frame reading n) = 0
 
--- by a whole list
+-- what a whole list grants
 unfoldable pub granted : List Grant → ℕ
 granted [] = 0
 granted (g ∷ gs) = given g + granted gs
@@ -154,11 +154,11 @@ pub record Claim (ws fs rs : List ℕ) : Type 0 where
 
 -- ---- the theorems
 
--- of every run that was opened and every list of grants
+-- what unsound words may do, sound ones never do: of every run that was opened and every list of grants
 abbrev pub NeverBroken : Type 0
 NeverBroken = (ws fs rs : List ℕ) → Opened ws fs rs → (gs : List Grant) → OthersRefused ws fs gs (start rs) → Unbroken ws fs rs gs
 
--- condition 2, of the machine: the same
+-- condition 2, of the machine: its verdict and its reading, after any list of grants
 abbrev pub Condition2 : Type 0
 Condition2 = (ws fs rs : List ℕ) → Opened ws fs rs → (gs : List Grant) → OthersRefused ws fs gs (start rs) → Exact ws fs rs gs
 

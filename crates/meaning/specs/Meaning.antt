@@ -94,7 +94,7 @@ opened rs rule = use-of (λ c. some c) (λ c v. v) (λ v v′. v′) (first-node
 
 -- ---- cases: the default is the one without a condition
 
--- node i as a case
+-- node i, as a case, is the default
 abbrev pub is-default : List ℕ → ℕ → Bool
 is-default ns i = eqb (node-word ns i 8) (node-word ns i 9)
 

@@ -98,7 +98,7 @@ is k s = eqb (s .code) k
 abbrev pub name-like : ℕ → Bool
 name-like code = eqb code 1 || (leb 6 code && leb code 8)
 
--- so a terminal
+-- a terminal that is such a name
 abbrev pub is-name : Sight → Bool
 is-name s = name-like (s .code)
 
@@ -106,7 +106,7 @@ is-name s = name-like (s .code)
 abbrev pub begin-like : ℕ → Bool
 begin-like code = eqb code 2 || (name-like code || eqb code 45)
 
--- so a terminal
+-- a terminal that begins one
 abbrev pub begins : Sight → Bool
 begins s = begin-like (s .code)
 

@@ -92,7 +92,7 @@ abbrev pub Says : Row → Type 0
 Says (row rules expected) =
     (old new : List ℕ) (answer : Admission) → table-words ≤ length old → Answers (text-of rules) old new answer → Meets expected new answer
 
--- so every row of a list
+-- every row of a list says so
 abbrev pub Each : (Row → Type 0) → List Row → Type 0
 Each P [] = Unit {0}
 Each P (r ∷ rs) = P r × Each P rs

@@ -1,4 +1,4 @@
--- The judgement over a table's words: "1 to 11 are tried in order". 5 and 6 are what the layout asks (`laid`).
+-- The judgement over a table's words: "1 to 11 are tried in order". 5 and 6, and 8's limits of widths and numbers, are what the layout asks (`laid`).
 -- Assumes nothing.
 use Prim.Native.Nat.{ℕ, _≤_, _<_}
 use mathlib.Core.Path.{_≡_}
