@@ -1,4 +1,4 @@
--- A literal by its characters, as document 01 has it: "in `\"` or `'`: printable ASCII (20 to 7e), 1 to 32 characters, `\\`, `\"`, `\'`, and `\[hex]` up to 7f".
+-- A literal by its characters: "in `\"` or `'`: printable ASCII (20 to 7e), 1 to 32 characters, `\\`, `\"`, `\'`, and `\[hex]` up to 7f".
 -- The law `PieceLaws` says that `Literals` reads these.
 -- Assumes nothing.
 use Prim.Native.Nat.{ℕ, _+_, _*_, _≤_}
