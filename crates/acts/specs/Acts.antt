@@ -57,6 +57,7 @@ abbrev pub by-branch : Bool → ℕ → Act → Act
 by-branch true j rest = Act.Enter j
 by-branch false j rest = rest
 
+-- "an alternative the branch whose windows hold what comes next, else no match": of the branches from number j up to number `end`
 abbrev pub branch-act : List ℕ → ℕ → ℕ → ℕ → Act
 branch-act ws n j end = walk (λ i rest. by-branch (stored ws (prediction-at i) n) i rest) Act.Fail Act.Broken (end - j) ws j end
 
@@ -65,12 +66,14 @@ abbrev pub case-test : List ℕ → List ℤ → ℕ → Tested
 case-test ws vs j =
     pick (ltb (construct-word ws j 6) (construct-word ws j 7)) (condition vs (construct-word ws j 6) (terms-of ws (construct-word ws j 6) (construct-word ws j 7))) Tested.Yes
 
+-- a true case is taken; "a calculation past 2^62" and terms against the layout are broken
 abbrev pub by-case : Tested → ℕ → Act → Act
 by-case Tested.Yes j rest = Act.Enter j
 by-case Tested.No j rest = rest
 by-case Tested.Malformed j rest = Act.Broken
 by-case Tested.Overflow j rest = Act.Broken
 
+-- "a switch its case"; with no true case and no default "it matches nothing and the run is no match (H)"
 abbrev pub case-act : List ℕ → List ℤ → ℕ → ℕ → Act
 case-act ws vs j end = walk (λ i rest. by-case (case-test ws vs i) i rest) Act.Fail Act.Broken (end - j) ws j end
 
@@ -80,6 +83,7 @@ members-act ws start end = walk {A = ℕ → Act} (λ i rest n. rest (n + 1)) (�
 
 -- ---- repetitions
 
+-- "between, by go or stop, in neither no match"; without clashes the two never hold together
 abbrev pub by-lookahead : Bool → Bool → ℕ → Act
 by-lookahead true exits b = Act.Again b
 by-lookahead false true b = Act.Leave
@@ -89,6 +93,7 @@ by-lookahead false false b = Act.Fail
 abbrev pub choice-act : List ℕ → ℕ → ℕ → Act
 choice-act ws n i = by-lookahead (stored ws (prediction-at (i + 1)) n) (stored ws (follow-at i) n) (i + 1)
 
+-- "with no count allowed, no match; else, below its least count, its body and itself again; at or past its greatest, nothing"
 abbrev pub turn-act : List ℕ → ℕ → ℕ → ℕ → Counted → Act
 turn-act ws n i k Counted.None = Act.Fail
 turn-act ws n i k (Counted.From low) = pick (ltb k low) (Act.Again (i + 1)) (choice-act ws n i)
@@ -96,6 +101,7 @@ turn-act ws n i k (Counted.Within low more) = pick (ltb k low) (Act.Again (i + 1
 turn-act ws n i k Counted.Malformed = Act.Broken
 turn-act ws n i k Counted.Overflow = Act.Broken
 
+-- the counts that a repetition allows at these values, by how it is written
 abbrev pub counted : List ℕ → List ℤ → Passes → Counted
 counted ws vs Passes.Optional = Counted.Within 0 1
 counted ws vs Passes.Any = Counted.From 0
@@ -104,6 +110,7 @@ counted ws vs (Passes.Counted start end) = counts vs (term-words ws) start end
 
 -- ---- fields: "no match on a difference or too few bits"
 
+-- a field of so many bits, where it holds: the number that they are is what a binder binds
 abbrev pub field-act : List ℕ → ℕ → ℕ → ℕ → Bool → Act
 field-act fs p width binder holds = pick holds (Act.Take width binder (value (take width (drop p (frameBits fs))))) Act.Fail
 
@@ -111,28 +118,33 @@ field-act fs p width binder holds = pick holds (Act.Take width binder (value (ta
 abbrev pub literal-holds : List ℕ → List ℕ → ℕ → ℕ → ℕ → ℕ → Bool
 literal-holds ws fs p i k n = same (take (8 * n) (drop (p + 8 * k) (frameBits fs))) (frameBits (literal-bytes ws i k n))
 
+-- a literal of n bytes: "no match on a difference or too few bits"
 abbrev pub literal-act : List ℕ → List ℕ → ℕ → ℕ → ℕ → Act
 literal-act ws fs p i n =
     pick (leb (p + 8 * n) (bits-of fs)) (pick (literal-holds ws fs p i 0 n) (Act.Take (8 * n) 0 0) Act.Fail) Act.Fail
 
+-- "a range of one-character literals": the next 8 bits are a number from the one character to the other
 abbrev pub range-act : List ℕ → ℕ → ℕ → ℕ → Act
 range-act fs p low high =
     pick (leb (p + 8) (bits-of fs))
     (pick (both (leb low (value (take 8 (drop p (frameBits fs))))) (leb (value (take 8 (drop p (frameBits fs)))) high)) (Act.Take 8 0 0) Act.Fail)
     Act.Fail
 
+-- a value that is in the set is taken; "a calculation past 2^62" and terms against the layout are broken
 abbrev pub by-set : Tested → ℕ → ℕ → ℕ → Act
 by-set Tested.Yes width binder n = Act.Take width binder n
 by-set Tested.No width binder n = Act.Fail
 by-set Tested.Malformed width binder n = Act.Broken
 by-set Tested.Overflow width binder n = Act.Broken
 
+-- "`uint(width, set)`, …, most significant bit first": so many bits are there, and the number that they are is in the set
 abbrev pub uint-act : List ℕ → List ℕ → List ℤ → ℕ → ℕ → ℕ → ℕ → ℕ → Act
 uint-act ws fs vs p width start end binder =
     pick (leb (p + width) (bits-of fs))
     (by-set (membership vs (pos (value (take width (drop p (frameBits fs))))) start (terms-of ws start end)) width binder (value (take width (drop p (frameBits fs)))))
     Act.Fail
 
+-- "`eod`, which takes no bits and holds only at the frame's end"
 abbrev pub end-act : List ℕ → ℕ → Act
 end-act fs p = pick (eqb p (bits-of fs)) Act.Leave Act.Fail
 
@@ -151,6 +163,7 @@ Fine i (Construct.Range low high) = Unit {0}
 Fine i (Construct.Uint width start end binder) = (width ≤ 32) × (binder ≤ 64) × (1 ≤ width)
 Fine i Construct.Eod = Unit {0}
 
+-- what is done with the first entry, by what its construct is
 abbrev pub construct-act : List ℕ → List ℕ → List ℤ → ℕ → ℕ → ℕ → Construct → Act
 construct-act ws fs vs p i k Construct.Missing = Act.Broken
 construct-act ws fs vs p i k (Construct.Alternative size) = branch-act ws (ahead-at fs p) (i + 1) (i + size)

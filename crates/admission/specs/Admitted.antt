@@ -29,7 +29,7 @@ use Rattle.admission.specs.Extents.{refusal-8}
 use Rattle.admission.specs.declared.Admission.{Admission}
 use Rattle.admission.specs.declared.Found.{Found}
 
--- ---- document 01's number and values of an answer
+-- ---- document 01's number of an answer
 
 abbrev pub number-of : Admission → ℕ
 number-of (Admission.Admitted weight) = 0
@@ -46,6 +46,7 @@ form xs = form-of xs (replicate 2560 0) (replicate 4096 0) (replicate 325 0)
 abbrev pub words-of : List ℕ → State → List ℕ
 words-of xs st = encoded xs (node-words st) (term-words st) (rule-words st) (nodes-of st) (rules-of st)
 
+-- the places of refusals 5, 6 and 8 in what is read
 abbrev pub fault-5 : State → ℕ
 fault-5 st = refusal-5 (rule-words st) (rules-of st)
 
@@ -55,22 +56,26 @@ fault-6 xs st = refusal-6 xs (node-words st) (term-words st) (rule-words st) (ru
 abbrev pub fault-8 : List ℕ → State → Found
 fault-8 xs st = refusal-8 xs (node-words st) (term-words st) (words-of xs st) (nodes-of st) (terms-of st)
 
--- passed up to 4, 5, 6, 7, 8
+-- What is read passes, up to 4 here, and each below asks for the one before it: so "1 to 11 are tried in order".
 pub record Right (xs : List ℕ) (st : State) : Type 0 where
   pub formed : form xs ≡ right st
 
+-- no "number of the Limits line passed" (5)
 pub record Limited (xs : List ℕ) (st : State) : Type 0 where
   pub passed : Right xs st
   pub none : fault-5 st ≡ nowhere
 
+-- no "name unknown, double, reserved, misplaced or of the wrong kind" (6)
 pub record Named (xs : List ℕ) (st : State) : Type 0 where
   pub passed : Limited xs st
   pub none : fault-6 xs st ≡ nowhere
 
+-- no "rule reaches itself" (7)
 pub record Straight (xs : List ℕ) (st : State) : Type 0 where
   pub passed : Named xs st
   pub none : Acyclic (words-of xs st)
 
+-- no "number or width outside its limits, or a calculation, or part of one, whose size may pass 2^62" (8)
 pub record Bounded (xs : List ℕ) (st : State) : Type 0 where
   pub passed : Straight xs st
   pub none : fault-8 xs st ≡ Found.Nothing
@@ -124,6 +129,7 @@ pub record Tabled (ws old new : List ℕ) : Type 0 where
   pub length-kept : length new ≡ length old
   pub beyond : drop table-words new ≡ drop table-words old
 
+-- the rules pass, and the table that was lent is theirs
 pub record RulesPass (xs : List ℕ) (weight : ℕ) (old new : List ℕ) : Type 0 where
   pub st : State
   pub passes : Passes xs st weight

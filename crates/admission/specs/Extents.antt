@@ -18,6 +18,7 @@ lesser Found.Nothing y = y
 lesser (Found.At p) Found.Nothing = Found.At p
 lesser (Found.At p) (Found.At q) = Found.At (min p q)
 
+-- a place, where there is a fault
 abbrev pub found-if : Bool → ℕ → Found
 found-if fault p = cond fault (Found.At p) Found.Nothing
 
@@ -44,6 +45,7 @@ list-found ts f start Sized.Passes = Found.Nothing
 list-found ts f start Sized.Malformed = Found.Nothing
 list-found ts f start (Sized.Exceeds at) = Found.At (origin-after ts f at start)
 
+-- node i: its width, its condition, and its own list
 abbrev pub node-found : (xs ns ts ws : List ℕ) → ℕ → Found
 node-found xs ns ts ws i =
     lesser (width-found xs ns i)

@@ -23,16 +23,19 @@ pub record Marks (ns ws : List ℕ) (n p : ℕ) : Type 0 where
   pub below : (i : ℕ) → i < n → EmptyBody (held ws) i → p ≤ node-word ns i 4
   pub found : (i : ℕ) → i < n → EmptyBody (held ws) i → (j : ℕ) × (j < n) × EmptyBody (held ws) j × (p ≡ node-word ns j 4)
 
+-- 9 at the least mark and 11 at the start rule; `base` is where the rules begin
 pub data LateRefused (ns rs : List ℕ) (base : ℕ) (ws : List ℕ) : (number place : ℕ) → Type 0 where
   empty-body : {p i place : ℕ} → i < construct-count ws → EmptyBody (held ws) i → Marks ns ws (construct-count ws) p → place ≡ base + p → LateRefused ns rs base ws 9 place
   overweight : {place : ℕ} → Passed10 ws → Weighing ws (λ n. 65535 < n) → place ≡ base + named-at rs 0 → LateRefused ns rs base ws 11 place
 
+-- 10, as `Admitted.Clashes` has it
 pub record LateClash (ns : List ℕ) (base : ℕ) (ws : List ℕ) (place construct : ℕ) (clash : Clash) : Type 0 where
   pub passed : Passed9 ws
   pub first : Least ws (Conflicting ws) construct
   pub answered : Answered ws construct clash
   pub at : place ≡ base + place-of ns construct
 
+-- neither: the words were completed to a sound table of the same grammar
 pub record LatePass (weight : ℕ) (old new : List ℕ) : Type 0 where
   pub judged : Passed10 old
   pub weighs : Weighing old (λ n. n ≡ weight)
@@ -40,6 +43,7 @@ pub record LatePass (weight : ℕ) (old new : List ℕ) : Type 0 where
   pub sound : Sound new
   pub same : Alike old new
 
+-- the answer to encoded words that have passed up to 8
 abbrev pub Late : (ns rs : List ℕ) → (base : ℕ) → (old new : List ℕ) → Admission → Type 0
 Late ns rs base old new (Admission.Admitted weight) = LatePass weight old new
 Late ns rs base old new (Admission.Refused number place) = LateRefused ns rs base old number place
@@ -68,6 +72,7 @@ LaidFor ws (Judgement.Conflict construct clash) = Unit {0}
 LaidFor ws Judgement.Overweight = Unit {0}
 LaidFor ws (Judgement.Passes weight) = Unit {0}
 
+-- the least mark is looked for only where 9 is to be answered
 abbrev pub MarkFor : List ℕ → List ℕ → ℕ → Judgement → Type 0
 MarkFor ns ws mark Judgement.Unlaid = mark ≡ 0
 MarkFor ns ws mark (Judgement.Recursive rule) = mark ≡ 0
@@ -77,6 +82,7 @@ MarkFor ns ws mark (Judgement.Conflict construct clash) = mark ≡ 0
 MarkFor ns ws mark Judgement.Overweight = mark ≡ 0
 MarkFor ns ws mark (Judgement.Passes weight) = mark ≡ 0
 
+-- the answer that a judgement becomes; the first three do not come to words that have passed up to 8
 abbrev pub answer-for : List ℕ → List ℕ → ℕ → ℕ → Judgement → Admission
 answer-for ns rs base mark Judgement.Unlaid = Admission.Refused 0 0
 answer-for ns rs base mark (Judgement.Recursive rule) = Admission.Refused 0 0

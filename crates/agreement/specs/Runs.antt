@@ -15,6 +15,7 @@ use Rattle.steps.specs.declared.Head.{Head}
 abbrev pub HeldEntry : Type 0
 HeldEntry = Entry (Unit {0})
 
+-- the theory's states and runs of such a grammar
 abbrev pub HeldState : Type 0
 HeldState = State (Unit {0}) Values
 
@@ -37,9 +38,11 @@ verdict-as zero = undecided
 verdict-as (suc zero) = matched
 verdict-as (suc (suc n)) = unmatched
 
+-- the theory's state: entries, the frame's bits from the position on, values and fields recorded
 abbrev pub state-held : List ℕ → Whole → HeldState
 state-held fs (whole cs ps vs rs h) = state (pending cs ps (h .count)) (drop (h .position) (frameBits fs)) (h .position) vs (recorded rs (h .captures))
 
+-- the parts of what a step may change
 abbrev pub head-of : Whole → Head
 head-of (whole cs ps vs rs h) = h
 
@@ -55,6 +58,7 @@ values-of (whole cs ps vs rs h) = vs
 abbrev pub reading-of : Whole → List ℕ
 reading-of (whole cs ps vs rs h) = rs
 
+-- the theory's run: state, steps taken, verdict
 abbrev pub run-of : List ℕ → Whole → HeldRun
 run-of fs w = run (state-held fs w) (head-of w .steps) (verdict-as (head-of w .verdict))
 

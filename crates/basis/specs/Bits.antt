@@ -5,6 +5,7 @@ use mathlib.Core.Bool.{Bool, true, false, _&&_, Bool·beq}
 use mathlib.Core.List.{List, [], _∷_, _++_}
 use lib.Dec.{eqb}
 
+-- a string of bits, in the order in which they come
 abbrev pub Bits : Type 0
 Bits = List Bool
 

@@ -27,13 +27,15 @@ least (negsuc n) = 0
 unfoldable pub between : ℕ → ℕ → Counts
 between low high = elim (leb low high) [ true ↦ within low (high - low) | false ↦ none ]
 
--- `?`, `*` and `+`
+-- `?`
 abbrev pub zero-or-one : Counts
 zero-or-one = within 0 1
 
+-- `*`
 abbrev pub zero-or-more : Counts
 zero-or-more = from 0
 
+-- `+`
 abbrev pub one-or-more : Counts
 one-or-more = from 1
 

@@ -51,6 +51,7 @@ pub record RunGranted (rs : List ℕ) (run : Run) (x : After) : Type 0 where
   -- "words beyond never change": past the fields recorded
   pub beyond : drop (2 * run-in x .captures) (reading-in x) ≡ drop (2 * run-in x .captures) rs
 
+-- of any text, table, frame, reading, run and number of steps
 pub record Condition1 : Type 0 where
   pub admitting : (text old new : List ℕ) (answer : Admission) → Answers text old new answer → TextAnswered old new answer
   pub opening-runs : (ws fs rs : List ℕ) (answer : Answer) → Answered ws fs rs answer → RunOpened answer
@@ -67,6 +68,7 @@ pub record TextTable (text new : List ℕ) (weight : ℕ) : Type 0 where
   pub weights : (w : Unit {0} → ℕ → ℕ) → Weighs (rules-grammar (admissible .reading)) w → w tt opening ≡ weight
   pub weighable : (w : Unit {0} → ℕ → ℕ) × Weighs (rules-grammar (admissible .reading)) w
 
+-- of every text that is admitted
 abbrev pub Tables : Type 0
 Tables = (text old new : List ℕ) (weight : ℕ) → Answers text old new (Admission.Admitted weight) → TextTable text new weight
 
@@ -86,6 +88,7 @@ pub record Exact (g : Grammar (Unit {0}) Values) (fs rs : List ℕ) (k : Kept) :
   pub fields : run-kept k .verdict ≡ matched → (t : Tree) (v : Values) → Derivation g (frameBits fs) t v
       → (run-kept k .captures ≡ length (captures t 0)) × (reading-kept k ≡ words-of (captures t 0) ++ drop (2 * length (captures t 0)) rs)
 
+-- of every text that is answered, and every run on an admitted one's table
 pub record Condition2 : Type 0 where
   -- by the first row of document 01's table of numbers that fits, 0 where none does
   pub admitting : (text old new : List ℕ) (answer : Admission) → Answers text old new answer → Exactly text old answer
@@ -107,6 +110,7 @@ pub record Claim (g : Grammar (Unit {0}) Values) (weight : ℕ) (ws fs rs : List
   -- never broken, and a grant of its own table, frame and reading is never refused
   pub unbroken : (gs : List Grant) → OthersRefused ws fs gs (start rs) → Unbroken ws fs rs gs
 
+-- of every text that is admitted, and every frame and reading on which its table opens a run
 abbrev pub Condition3 : Type 0
 Condition3 =
     (text old table : List ℕ) (weight : ℕ) → Answers text old table (Admission.Admitted weight) → (x : Reading text)

@@ -23,6 +23,7 @@ use Rattle.admission.specs.declared.Admission.{Admission}
 use Rattle.admission.specs.declared.Found.{Found}
 use Rattle.conditions.specs.Texts.{Reading, meant}
 
+-- its rows, each by what it is given for
 pub data Row : Type 0 where
   short-table : Row
   wrong-size : Row
@@ -36,6 +37,7 @@ pub data Row : Type 0 where
   clashing : Row
   too-heavy : Row
 
+-- the column "No."
 abbrev pub number : Row → ℕ
 number short-table = 1
 number wrong-size = 2
@@ -51,6 +53,7 @@ number too-heavy = 11
 
 -- ---- 5 to 11, of what is read of the rules `xs`, which begin at `base`
 
+-- construct i has a clash, whichever its window is
 abbrev pub HasConflict : Grammar (Unit {0}) Values → ℕ → Type 0
 HasConflict g i = (x : Bits) × Conflict g i x
 

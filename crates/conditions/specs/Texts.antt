@@ -28,6 +28,7 @@ pub record Reading (text : List ℕ) : Type 0 where
 abbrev pub meant : List ℕ → State → Grammar (Unit {0}) Values
 meant xs st = grammar-of xs (node-words st) (term-words st) (rule-words st) (nodes-of st) (rules-of st)
 
+-- that of a text: one value for each binder, as a run keeps them
 abbrev pub rules-grammar : {text : List ℕ} → Reading text → Grammar (Unit {0}) Values
 rules-grammar {text} x = meant (drop (x .base) text) (x .st)
 

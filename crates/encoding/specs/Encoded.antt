@@ -10,6 +10,7 @@ use Rattle.naming.specs.Words.{node-word, term-word, kind-of, place-of, is-bind
 use Rattle.encoding.specs.Lists.{flat, written}
 use Rattle.encoding.specs.Numbers.{rule-of, first-at, binders-before, variable-of, width-of, condition-length, own-length, condition-start, own-start}
 
+-- the mark, how many rules, constructs, variables and terms, and weight 1 until the weight is known
 abbrev pub header-words : List ℕ → ℕ → ℕ → List ℕ
 header-words ns n r = 1399811687 ∷ r ∷ n ∷ binders-before ns n ∷ condition-start ns n ∷ 1 ∷ []
 
@@ -24,10 +25,11 @@ variable-words xs ns i = cond (is-binder ns i) (i ∷ width-of xs ns i ∷ 0 ∷
 
 -- ---- constructs
 
--- from and up to, where a list is not empty
+-- a list's words: from, where it is not empty; else 0
 abbrev pub start-word : ℕ → ℕ → ℕ
 start-word start n = cond (ltb 0 n) start 0
 
+-- and up to
 abbrev pub end-word : ℕ → ℕ → ℕ
 end-word start n = cond (ltb 0 n) (start + n) 0
 
@@ -41,6 +43,7 @@ operands xs ns rs r i kind =
     (cond (eqb kind 8) (width-of xs ns i ∷ start-word (own-start ns i) (own-length ns i) ∷ end-word (own-start ns i) (own-length ns i) ∷ cond (is-binder ns i) (binders-before ns i + 1) 0 ∷ [])
     (0 ∷ 0 ∷ 0 ∷ 0 ∷ [])))))
 
+-- eight words: kind, size, four operands, and the terms of its condition, from and up to
 abbrev pub construct-words : (xs ns rs : List ℕ) → (r i : ℕ) → List ℕ
 construct-words xs ns rs r i =
     kind-of ns i ∷ node-word ns i 1 ∷ (operands xs ns rs r i (kind-of ns i) ++ (start-word (condition-start ns i) (condition-length ns i) ∷ end-word (condition-start ns i) (condition-length ns i) ∷ []))
@@ -57,9 +60,11 @@ term-words xs ns ts a i t =
 abbrev pub list-words : (xs ns ts : List ℕ) → (a i t n : ℕ) → List ℕ
 list-words xs ns ts a i t n = flat n t (term-words xs ns ts a i)
 
+-- "for each construct its condition's terms, then its own": node i, of a rule whose first node is a
 abbrev pub two-lists : (xs ns ts : List ℕ) → (a i : ℕ) → List ℕ
 two-lists xs ns ts a i = list-words xs ns ts a i (node-word ns i 8) (condition-length ns i) ++ list-words xs ns ts a i (node-word ns i 5) (own-length ns i)
 
+-- the same, whichever rule node i is in
 abbrev pub lists-words : (xs ns ts rs : List ℕ) → (r i : ℕ) → List ℕ
 lists-words xs ns ts rs r i = two-lists xs ns ts (first-at rs r i) i
 
@@ -68,6 +73,7 @@ lists-words xs ns ts rs r i = two-lists xs ns ts (first-at rs r i) i
 abbrev pub packed : List ℕ → ℕ → ℕ
 packed bytes k = getD bytes k 0 + 256 * (getD bytes (k + 1) 0 + 256 * (getD bytes (k + 2) 0 + 256 * getD bytes (k + 3) 0))
 
+-- node i has 32 bytes there, all 0 where it is no literal
 abbrev pub literal-words : List ℕ → List ℕ → ℕ → List ℕ
 literal-words xs ns i =
     cond (eqb (kind-of ns i) 6) (flat 8 0 (λ j. packed (characters-at xs (place-of ns i)) (4 * j) ∷ [])) (replicate 8 0)

@@ -22,6 +22,7 @@ first-at rs (suc k) i = elim (leb (first-node rs k) i) [ true ↦ first-node rs 
 
 -- ---- variables, in text order of their binders
 
+-- a node binds one variable or none
 abbrev pub binds-one : List ℕ → ℕ → ℕ
 binds-one ns j = cond (is-binder ns j) 1 0
 
@@ -43,18 +44,22 @@ width-of xs ns i = min 33 (capped (number-value xs (node-word ns i 3)))
 
 -- ---- terms: "in the order of the constructs: for each construct its condition's terms, then its own"
 
+-- how many terms the condition of a case has
 abbrev pub condition-length : List ℕ → ℕ → ℕ
 condition-length ns i = node-word ns i 9 - node-word ns i 8
 
+-- how many a node has of its own: a uint's set, or the counts in braces
 abbrev pub own-length : List ℕ → ℕ → ℕ
 own-length ns i = node-word ns i 6 - node-word ns i 5
 
+-- and both together
 abbrev pub lists-length : List ℕ → ℕ → ℕ
 lists-length ns i = condition-length ns i + own-length ns i
 
--- the table's number of the first term of construct i, and of the first of its own
+-- the table's number of the first term of construct i
 abbrev pub condition-start : List ℕ → ℕ → ℕ
 condition-start ns i = sum i 0 (lists-length ns)
 
+-- and of the first of its own list
 abbrev pub own-start : List ℕ → ℕ → ℕ
 own-start ns i = condition-start ns i + condition-length ns i

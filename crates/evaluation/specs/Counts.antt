@@ -46,12 +46,14 @@ calculationsEnd Form.Open last end = last
 calculationsEnd Form.UpTo last end = last
 calculationsEnd Form.Closed last end = last
 
+-- counts with one number: `{n}`, `{a~}`, `{~b}`
 abbrev pub ofOne : Form → ℤ → Counted
 ofOne Form.Exact a = shown (exactly a)
 ofOne Form.Open a = shown (atLeast a)
 ofOne Form.UpTo a = shown (span (pos 0) a)
 ofOne Form.Closed a = Counted.Malformed
 
+-- counts with two: `{a~b}`
 abbrev pub ofTwo : Form → ℤ → ℤ → Counted
 ofTwo Form.Exact a b = Counted.Malformed
 ofTwo Form.Open a b = Counted.Malformed
@@ -66,11 +68,13 @@ ofNumbers f (Numbers.Two a b) = ofTwo f a b
 ofNumbers f (Numbers.Three a b c) = Counted.Malformed
 ofNumbers f (Numbers.Four a b c d) = Counted.Malformed
 
+-- counts whose calculations came to an end; one that passed 2^62 has no value
 abbrev pub ofTrial : Form → Trial → Counted
 ofTrial f (Trial.Running s t) = ofNumbers f s
 ofTrial f Trial.Malformed = Counted.Malformed
 ofTrial f Trial.Overflow = Counted.Overflow
 
+-- with the number of the term at which they ended: refusal 8 asks where
 abbrev pub tallyEnd : Form → Ended → Tally
 tallyEnd f e = record { counted = ofTrial f (e .trial); at = e .at }
 

@@ -28,6 +28,7 @@ run k m env v i (x ∷ xs) s t = next (λ s′ t′. run k m env v (i + 1) xs s�
 
 -- ---- the end: one number and nothing else, or one test and nothing else
 
+-- a calculation leaves one number
 abbrev pub aloneOf : Numbers → Calculated
 aloneOf Numbers.Zero = Calculated.Malformed
 aloneOf (Numbers.One a) = Calculated.Number a
@@ -35,11 +36,13 @@ aloneOf (Numbers.Two a b) = Calculated.Malformed
 aloneOf (Numbers.Three a b c) = Calculated.Malformed
 aloneOf (Numbers.Four a b c d) = Calculated.Malformed
 
+-- the value of a calculation, where it came to its end
 abbrev pub numberOf : Trial → Calculated
 numberOf (Trial.Running s t) = aloneOf s
 numberOf Trial.Malformed = Calculated.Malformed
 numberOf Trial.Overflow = Calculated.Overflow
 
+-- a set or a condition leaves one test, the number 2 where it fails and 3 where it holds (`Tests`), and no number
 abbrev pub lastOf : Numbers → ℕ → Tested
 lastOf Numbers.Zero t = pick (eqb t 2) Tested.No (pick (eqb t 3) Tested.Yes Tested.Malformed)
 lastOf (Numbers.One a) t = Tested.Malformed
@@ -47,6 +50,7 @@ lastOf (Numbers.Two a b) t = Tested.Malformed
 lastOf (Numbers.Three a b c) t = Tested.Malformed
 lastOf (Numbers.Four a b c d) t = Tested.Malformed
 
+-- whether a set or a condition holds, where it came to its end
 abbrev pub verdictOf : Trial → Tested
 verdictOf (Trial.Running s t) = lastOf s t
 verdictOf Trial.Malformed = Tested.Malformed

@@ -6,6 +6,7 @@ use Rattle.terms.specs.Numbers.{pick}
 use Rattle.terms.specs.declared.Operation.{Operation}
 use Rattle.terms.specs.declared.Term.{Term}
 
+-- a part of a calculation that is a variable's use
 abbrev pub isUse : Operation → Bool
 isUse (Operation.Number n) = false
 isUse (Operation.Variable k) = true
@@ -15,6 +16,7 @@ isUse Operation.Multiply = false
 isUse Operation.Negate = false
 isUse Operation.Unknown = false
 
+-- a term that is one; an item `a` of a set may be one too
 abbrev pub usesVariable : Term → Bool
 usesVariable (Term.Part o) = isUse o
 usesVariable (Term.Single o) = isUse o
@@ -28,6 +30,7 @@ usesVariable Term.And = false
 usesVariable (Term.Compare k) = false
 usesVariable Term.Bad = false
 
+-- one variable anywhere is enough
 unfoldable pub hasVariable : List Term → Bool
 hasVariable [] = false
 hasVariable (x ∷ xs) = pick (usesVariable x) true (hasVariable xs)

@@ -8,6 +8,7 @@ use Rattle.layout.specs.Places.{word, construct-word}
 use Rattle.layout.specs.Constructs.{both, constructAt}
 use Rattle.layout.specs.Held.{size-of}
 
+-- one of two tests holds
 abbrev pub either : Bool → Bool → Bool
 either true b = true
 either false b = b

@@ -1,5 +1,5 @@
--- Which words are laid out as docs/TABLE.md says. Any words may be asked about. The stored sets and the weight's value are not looked at:
--- they are compared with what they should be elsewhere. All other words are fixed by the grammar, and unused ones are 0.
+-- Which words are laid out as docs/TABLE.md says. Any words may be asked about. The stored sets are not looked at, and of the weight only
+-- that 11 allows it: they are compared with what they should be elsewhere. All other words are fixed by the grammar, and unused ones are 0.
 -- Assumes nothing.
 use Prim.Native.Nat.{ℕ, _+_, _*_, _/_, _%_, _^_}
 use mathlib.Core.Bool.{Bool, true, false}
@@ -22,6 +22,7 @@ abbrev pub counts-limited : List ℕ → Bool
 counts-limited ws =
     both (both (limited 1 (rule-count ws) 64) (limited 1 (construct-count ws) 256)) (both (leb (variable-count ws) 64) (leb (term-count ws) 1024))
 
+-- the mark, the counts, a weight that 11 allows, and 0 in the rest of the header
 unfoldable pub headed : List ℕ → Bool
 headed ws = both (both (eqb (mark-of ws) 1399811687) (counts-limited ws)) (both (limited 1 (weight-of ws) 65535) (all-zero ws 6 rules-at))
 
@@ -35,6 +36,7 @@ operands-zero ws i k = all-zero ws (constructs-at + 8 * i + k) (constructs-at + 
 abbrev pub second-part : List ℕ → ℕ → ℕ
 second-part ws i = i + 1 + size-at ws (i + 1)
 
+-- where construct i ends
 abbrev pub construct-end : List ℕ → ℕ → ℕ
 construct-end ws i = i + size-at ws i
 
@@ -42,6 +44,7 @@ construct-end ws i = i + size-at ws i
 abbrev pub chain-laid : List ℕ → ℕ → Bool
 chain-laid ws i = both (operands-zero ws i 2) (both (ltb (second-part ws i) (construct-end ws i)) (parts-laid ws false (i + 1) (construct-end ws i)))
 
+-- how a repetition is written: only `{…}` has terms
 abbrev pub passes-laid : List ℕ → ℕ → Passes → Bool
 passes-laid ws i Passes.Optional = operands-zero ws i 3
 passes-laid ws i Passes.Any = operands-zero ws i 3
@@ -52,6 +55,7 @@ passes-laid ws i (Passes.Counted start end) = both (operands-zero ws i 5) (count
 abbrev pub repetition-laid : List ℕ → ℕ → Passes → Bool
 repetition-laid ws i passes = both (passes-laid ws i passes) (both (eqb (second-part ws i) (construct-end ws i)) (parts-laid ws false (i + 1) (construct-end ws i)))
 
+-- "`[condition: expression; ... : expression;]`, the default last and optional"
 abbrev pub switch-laid : List ℕ → ℕ → Bool
 switch-laid ws i = both (operands-zero ws i 2) (parts-laid ws true (i + 1) (construct-end ws i))
 
@@ -89,6 +93,7 @@ literal-byte ws i k = word ws (literals-at + 8 * i + k / 4) / 256 ^ (k % 4) % 25
 abbrev pub byte-laid : List ℕ → ℕ → ℕ → ℕ → Bool
 byte-laid ws i n k = ltb (literal-byte ws i k) (pick (ltb k n) 128 1)
 
+-- construct i: its words, the bytes of its literal and its condition
 abbrev pub construct-laid : List ℕ → ℕ → Bool
 construct-laid ws i = both (kind-laid ws i (constructAt ws i)) (both (from-to 0 32 (byte-laid ws i (literal-length (constructAt ws i)))) (condition-formed ws i))
 
@@ -102,11 +107,13 @@ rest-zero ws =
 
 -- ---- all of it
 
+-- all but the header and the names, which are asked before and after it
 unfoldable pub placed : List ℕ → Bool
 placed ws =
     both (both (rest-zero ws) (rules-laid ws))
     (both (from-to 0 (construct-count ws) (construct-laid ws)) (both (lists-laid ws) (from-to 0 (term-count ws) (term-laid ws))))
 
+-- "laid out as the team's docs/ say"
 unfoldable pub laid : List ℕ → Bool
 unfolding headed placed
 laid ws = both (leb table-words (length ws)) (both (headed ws) (both (placed ws) (names-laid ws)))

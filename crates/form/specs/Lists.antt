@@ -19,18 +19,21 @@ use Rattle.form.specs.Checks.{either, limited}
 
 -- ---- a construct's own list: the counts of `{…}`, the set of a uint; 0, 0 where it has none
 
+-- of counts: from
 abbrev pub counts-start : Passes → ℕ
 counts-start Passes.Optional = 0
 counts-start Passes.Any = 0
 counts-start Passes.Some = 0
 counts-start (Passes.Counted start end) = start
 
+-- and up to
 abbrev pub counts-end : Passes → ℕ
 counts-end Passes.Optional = 0
 counts-end Passes.Any = 0
 counts-end Passes.Some = 0
 counts-end (Passes.Counted start end) = end
 
+-- of any construct: from
 abbrev pub own-start : Construct → ℕ
 own-start Construct.Missing = 0
 own-start (Construct.Alternative size) = 0
@@ -43,6 +46,7 @@ own-start (Construct.Range low high) = 0
 own-start (Construct.Uint width start end binder) = start
 own-start Construct.Eod = 0
 
+-- and up to
 abbrev pub own-end : Construct → ℕ
 own-end Construct.Missing = 0
 own-end (Construct.Alternative size) = 0
@@ -65,6 +69,7 @@ begins p start end = pick (ltb start end) (eqb start p) true
 abbrev pub after : ℕ → ℕ → ℕ → ℕ
 after p start end = pick (ltb start end) end p
 
+-- where the own list of construct i is to begin, if its condition is to begin at p
 abbrev pub after-condition : List ℕ → ℕ → ℕ → ℕ
 after-condition ws i p = after p (construct-word ws i 6) (construct-word ws i 7)
 
@@ -73,6 +78,7 @@ abbrev pub lists-begin : List ℕ → ℕ → ℕ → Bool
 lists-begin ws i p =
     both (begins p (construct-word ws i 6) (construct-word ws i 7)) (begins (after-condition ws i p) (own-start (constructAt ws i)) (own-end (constructAt ws i)))
 
+-- and where the lists of the next construct are
 abbrev pub after-lists : List ℕ → ℕ → ℕ → ℕ
 after-lists ws i p = after (after-condition ws i p) (own-start (constructAt ws i)) (own-end (constructAt ws i))
 
@@ -81,6 +87,7 @@ unfoldable pub lists-from : ℕ → List ℕ → ℕ → ℕ → Bool
 lists-from zero ws i p = eqb p (term-count ws)
 lists-from (suc n) ws i p = elim (lists-begin ws i p) [ true ↦ lists-from n ws (i + 1) (after-lists ws i p) | false ↦ false ]
 
+-- the lists of all constructs
 abbrev pub lists-laid : List ℕ → Bool
 lists-laid ws = lists-from (construct-count ws) ws 0 0
 
@@ -95,9 +102,11 @@ formed (Sized.Exceeds at) = true
 abbrev pub zero-values : List ℤ
 zero-values = replicate 64 (pos 0)
 
+-- a set or a condition
 abbrev pub list-formed : Kind → List ℕ → ℕ → ℕ → Bool
 list-formed kind ws start end = formed (sizes kind zero-values start (terms (term-words ws) start end))
 
+-- the counts of `{…}`
 abbrev pub counts-formed : List ℕ → ℕ → ℕ → Bool
 counts-formed ws start end = formed (countSizes zero-values (term-words ws) start end)
 
@@ -108,8 +117,10 @@ condition-formed ws i =
 
 -- ---- a term's three words: a number and a variable's use have a low word, nothing has a high one ("to 4,294,967,295")
 
+-- the tags of a number and of a variable's use, also where they are an item `a` of a set
 abbrev pub has-low : ℕ → Bool
 has-low tag = either (limited 1 tag 2) (limited 33 tag 34)
 
+-- what a term's tag gives no meaning to is 0
 abbrev pub term-laid : List ℕ → ℕ → Bool
 term-laid ws t = both (either (has-low (word ws (terms-at + 3 * t))) (eqb (word ws (terms-at + 3 * t + 1)) 0)) (eqb (word ws (terms-at + 3 * t + 2)) 0)

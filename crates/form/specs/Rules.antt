@@ -15,6 +15,7 @@ use Rattle.form.specs.Checks.{from-to, all-zero, size-at, walk}
 use Rattle.form.specs.Parts.{unconditioned}
 use Rattle.form.specs.Lists.{own-start, own-end}
 
+-- the construct that is a rule's body
 abbrev pub body : List ℕ → ℕ → ℕ
 body ws r = rule-word ws r 0
 
@@ -28,6 +29,7 @@ rule-laid ws r =
     both (both (ltb (body ws r) (rule-end ws r 0)) (eqb (body ws r + size-at ws (body ws r)) (rule-end ws r 0)))
     (both (eqb (rule-word ws r 1 + rule-word ws r 2) (rule-end ws r 1)) (both (eqb (rule-word ws r 3) 0) (unconditioned ws (body ws r))))
 
+-- "The first is the start rule": construct 0 is its body, and its variables come first
 abbrev pub rules-laid : List ℕ → Bool
 rules-laid ws = both (both (eqb (body ws 0) 0) (eqb (rule-word ws 0 1) 0)) (from-to 0 (rule-count ws) (rule-laid ws))
 
@@ -56,6 +58,7 @@ variable-laid ws x j =
     both (both (eqb (binder-of (constructAt ws j)) (x + 1)) (eqb (variable-word ws x 0) j))
     (both (eqb (variable-word ws x 1) (construct-word ws j 2)) (all-zero ws (variables-at + 4 * x + 2) (variables-at + 4 * x + 4)))
 
+-- construct j is a binder
 abbrev pub binds : List ℕ → ℕ → Bool
 binds ws j = ltb 0 (binder-of (constructAt ws j))
 
@@ -63,6 +66,7 @@ binds ws j = ltb 0 (binder-of (constructAt ws j))
 abbrev pub member-laid : List ℕ → ℕ → ℕ → Bool
 member-laid ws j x = pick (binds ws j) (variable-laid ws x j) true
 
+-- the variable that is next after construct j
 abbrev pub next-variable : List ℕ → ℕ → ℕ → ℕ
 next-variable ws j x = pick (binds ws j) (x + 1) x
 
@@ -70,6 +74,7 @@ next-variable ws j x = pick (binds ws j) (x + 1) x
 abbrev pub binders-from : List ℕ → ℕ → ℕ → ℕ → ℕ → Bool
 binders-from ws start end first last = walk (end - start) ws (member-laid ws) (next-variable ws) (λ j x. eqb x last) end start first
 
+-- a body may be a "top concatenation", whose members may bind
 abbrev pub is-concatenation : Construct → Bool
 is-concatenation Construct.Missing = false
 is-concatenation (Construct.Alternative size) = false
@@ -86,6 +91,7 @@ is-concatenation Construct.Eod = false
 abbrev pub members-at : List ℕ → ℕ → ℕ
 members-at ws r = pick (is-concatenation (constructAt ws (body ws r))) (body ws r + 1) (body ws r)
 
+-- the variables of rule r are bound there, in order, and nowhere else in it
 abbrev pub binders-laid : List ℕ → ℕ → Bool
 binders-laid ws r = binders-from ws (members-at ws r) (rule-end ws r 0) (rule-word ws r 1) (rule-end ws r 1)
 
@@ -95,6 +101,7 @@ binders-laid ws r = binders-from ws (members-at ws r) (rule-end ws r 0) (rule-wo
 abbrev pub visible : List ℕ → ℕ → ℕ → ℕ → ℕ → Bool
 visible ws first last i y = both (ltb y last) (both (leb first y) (ltb (variable-word ws y 0) i))
 
+-- only a variable's use names something
 abbrev pub operation-named : List ℕ → ℕ → ℕ → ℕ → Operation → Bool
 operation-named ws first last i (Operation.Number n) = true
 operation-named ws first last i (Operation.Variable y) = visible ws first last i y
@@ -104,6 +111,7 @@ operation-named ws first last i Operation.Multiply = true
 operation-named ws first last i Operation.Negate = true
 operation-named ws first last i Operation.Unknown = true
 
+-- the same of a term
 abbrev pub term-named : List ℕ → ℕ → ℕ → ℕ → Term → Bool
 term-named ws first last i (Term.Part o) = operation-named ws first last i o
 term-named ws first last i (Term.Single o) = operation-named ws first last i o
@@ -121,12 +129,15 @@ term-named ws first last i Term.Bad = true
 abbrev pub list-named : List ℕ → ℕ → ℕ → ℕ → ℕ → ℕ → Bool
 list-named ws first last i start end = from-to start end (λ t. term-named ws first last i (termAt (term-words ws) t))
 
+-- the terms of its condition, and its own
 abbrev pub construct-named : List ℕ → ℕ → ℕ → ℕ → Bool
 construct-named ws first last i =
     both (list-named ws first last i (construct-word ws i 6) (construct-word ws i 7)) (list-named ws first last i (own-start (constructAt ws i)) (own-end (constructAt ws i)))
 
+-- every construct of rule r names only what is visible there
 abbrev pub uses-laid : List ℕ → ℕ → Bool
 uses-laid ws r = from-to (body ws r) (rule-end ws r 0) (construct-named ws (rule-word ws r 1) (rule-end ws r 1))
 
+-- "name unknown, double, reserved, misplaced or of the wrong kind" (6), as far as words have names
 abbrev pub names-laid : List ℕ → Bool
 names-laid ws = from-to 0 (rule-count ws) (λ r. both (binders-laid ws r) (uses-laid ws r))

@@ -1,4 +1,4 @@
--- Lines of hexadecimal: "frames, each a line of hexadecimal; over 512 characters is 21, tried before 20".
+-- Lines of hexadecimal: "frames from standard input, each a line of hexadecimal; over 512 characters is 21, tried before 20".
 -- Assumes nothing.
 use Prim.Native.Nat.{ℕ, _+_, _*_, _/_, _%_}
 use mathlib.Core.Bool.{Bool, cond, _&&_}

@@ -15,6 +15,7 @@ use Rattle.encoding.specs.Lists.{narrow}
 use Rattle.encoding.specs.Numbers.{first-at, binders-before, width-of, condition-length, own-length, condition-start, own-start}
 use Rattle.encoding.specs.Encoded.{rule-words, variable-words, construct-words, term-words, literal-words}
 
+-- what is read: shaped as its form has it, within 5's limits, with the names that 6 asks for and the widths and numbers that 8 does
 pub record Readable (xs ns ts rs : List ℕ) (n t b r : ℕ) : Type 0 where
   pub rules : Rules xs ns ts rs r n t b 0 0 0 0
   pub some : 1 ≤ r
@@ -58,6 +59,7 @@ pub record Words (xs ns ts rs : List ℕ) (n r : ℕ) (ws : List ℕ) : Type 0 w
 abbrev pub QuietAt : List ℕ → ℕ → Type 0
 QuietAt ns i = (kind-of ns i ≡ 8 → ⊥) → ((kind-of ns i ≡ 3) × (node-word ns i 3 ≡ 4) → ⊥) → own-length ns i ≡ 0
 
+-- all of n nodes are so
 abbrev pub Quiet : List ℕ → ℕ → Type 0
 Quiet ns n = (i : ℕ) → i < n → QuietAt ns i
 
@@ -76,6 +78,7 @@ pub data ConditionAt (ns ts : List ℕ) (t i : ℕ) : Type 0 where
   without : Unconditioned ns i → ConditionAt ns ts t i
   with-one : {f h : ℕ} → Conditioned ns ts i f h → h ≤ t → ConditionAt ns ts t i
 
+-- every node begins a tree, with a condition or without
 pub record Nodes (xs ns ts : List ℕ) (n t : ℕ) : Type 0 where
   pub trees : (i : ℕ) → i < n → TreeAt xs ns ts n t i
   pub conditions : (i : ℕ) → i < n → ConditionAt ns ts t i

@@ -18,9 +18,11 @@ use Rattle.literals.specs.Literals.{characters-at}
 use Rattle.naming.specs.Words.{node-word, kind-of, place-of, is-binder}
 use Rattle.encoding.specs.Numbers.{rule-of, binders-before, width-of, own-length, own-start}
 
+-- `?`, `*`, `+`, or counts in braces: the terms from `start` up to `end`
 abbrev pub passes-meant : ℕ → ℕ → ℕ → Passes
 passes-meant how start end = cond (eqb how 1) Passes.Optional (cond (eqb how 2) Passes.Any (cond (eqb how 3) Passes.Some (Passes.Counted start end)))
 
+-- by its kind, with names and lists as numbers
 unfoldable pub meant : (xs ns rs : List ℕ) → (r i : ℕ) → Construct
 meant xs ns rs r i =
     cond (eqb (kind-of ns i) 1) (Construct.Alternative (node-word ns i 1))
@@ -43,9 +45,10 @@ pub record Formed (ns : List ℕ) (n : ℕ) (ws : List ℕ) : Type 0 where
   pub counts : (i : ℕ) → i < n → kind-of ns i ≡ 3 → node-word ns i 3 ≡ 4 → counts-formed ws (own-start ns i) (own-start ns i + own-length ns i) ≡ true
   pub condition : (i : ℕ) → i < n → condition-formed ws i ≡ true
 
--- each binder's variable names it back, and the bytes of literals are laid
+-- each binder's variable names it back
 abbrev pub NamedBack : (ns : List ℕ) → (n : ℕ) → List ℕ → Type 0
 NamedBack ns n ws = (i : ℕ) → i < n → is-binder ns i ≡ true → named-back ws i (binders-before ns i + 1) ≡ true
 
+-- the bytes of literals are laid
 abbrev pub BytesLaid : ℕ → List ℕ → Type 0
 BytesLaid n ws = (i : ℕ) → i < n → from-to 0 32 (byte-laid ws i (literal-length (constructAt ws i))) ≡ true

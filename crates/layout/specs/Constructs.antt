@@ -42,13 +42,16 @@ innerOf kind size a b c =
     (pick (eqb kind 3) (repetitionOf size a b c)
     (Construct.Switch size)))
 
+-- "width a number from 1 to 32"; a binder is 1 + one of 64 variables, 0 binds none
 abbrev pub uintOf : ℕ → ℕ → ℕ → ℕ → Construct
 uintOf width start end binder =
     pick (both (both (leb 1 width) (leb width 32)) (both (listed start end) (leb binder 64))) (Construct.Uint width start end binder) Construct.Missing
 
+-- "1 to 32 characters"
 abbrev pub literalOf : ℕ → Construct
 literalOf length = pick (both (leb 1 length) (leb length 32)) (Construct.Literal length) Construct.Missing
 
+-- its two characters, "up to 7f" each
 abbrev pub rangeOf : ℕ → ℕ → Construct
 rangeOf low high = pick (both (ltb low 128) (ltb high 128)) (Construct.Range low high) Construct.Missing
 
@@ -62,9 +65,11 @@ leafOf kind a b c d =
     (pick (eqb kind 9) Construct.Eod
     Construct.Missing))))
 
+-- it is one construct, itself
 abbrev pub withoutParts : ℕ → ℕ → ℕ → ℕ → ℕ → ℕ → Construct
 withoutParts kind size a b c d = pick (eqb size 1) (leafOf kind a b c d) Construct.Missing
 
+-- construct i of these words; kinds 1 to 4 have parts
 unfoldable pub constructOf : ℕ → ℕ → ℕ → ℕ → ℕ → ℕ → ℕ → Construct
 constructOf i kind size a b c d =
     pick (both (leb 1 kind) (leb kind 4)) (pick (branches i size) (innerOf kind size a b c) Construct.Missing)

@@ -27,6 +27,7 @@ use Rattle.layout.specs.declared.Passes.{Passes}
 abbrev pub Values : Type 0
 Values = List ℤ
 
+-- a node of such a grammar
 abbrev pub HeldNode : Type 0
 HeldNode = Node (Unit {0}) Values
 
@@ -34,6 +35,7 @@ HeldNode = Node (Unit {0}) Values
 abbrev pub term-words : List ℕ → List ℕ
 term-words ws = take 3072 (drop terms-at ws)
 
+-- the terms from number `start` up to number `end`
 abbrev pub terms-of : List ℕ → ℕ → ℕ → List Term
 terms-of ws start end = terms (term-words ws) start end
 
@@ -59,6 +61,7 @@ parts (suc most) ws j end =
 
 -- ---- counts, conditions and sets, worked out; where that fails nothing is allowed, true or contained
 
+-- the counts of an answer
 abbrev pub allowed : Counted → Counts
 allowed Counted.None = Counts.none
 allowed (Counted.From low) = from low
@@ -66,12 +69,14 @@ allowed (Counted.Within low more) = within low more
 allowed Counted.Malformed = Counts.none
 allowed Counted.Overflow = Counts.none
 
+-- the test was worked out, and holds
 abbrev pub isYes : Tested → Bool
 isYes Tested.No = false
 isYes Tested.Yes = true
 isYes Tested.Malformed = false
 isYes Tested.Overflow = false
 
+-- how many passes a repetition allows at these values
 abbrev pub passes-allowed : List ℕ → Passes → Values → Counts
 passes-allowed ws Passes.Optional v = zero-or-one
 passes-allowed ws Passes.Any v = zero-or-more
@@ -85,6 +90,7 @@ passes-static ws Passes.Any = zero-or-more
 passes-static ws Passes.Some = one-or-more
 passes-static ws (Passes.Counted start end) = pick (hasVariable (terms-of ws start end)) zero-or-more (allowed (counts [] (term-words ws) start end))
 
+-- only `{n}` has no `~`
 abbrev pub isExact : Form → Bool
 isExact Form.Exact = true
 isExact Form.Open = false
@@ -118,9 +124,11 @@ unfoldable pub literal-bytes : List ℕ → ℕ → ℕ → ℕ → List ℕ
 literal-bytes ws i k zero = []
 literal-bytes ws i k (suc n) = literal-byte ws i k ∷ literal-bytes ws i (k + 1) n
 
+-- "8 bits a character": these bits and no others
 abbrev pub literal-node : List ℕ → HeldNode
 literal-node bytes = field (8 * length bytes) (λ c v bits. same bits (frameBits bytes)) (λ bits. same bits (frameBits bytes)) (λ c v bits. v)
 
+-- "a range of one-character literals": 8 bits, a number from the one character to the other
 abbrev pub range-node : ℕ → ℕ → HeldNode
 range-node low high =
     field 8 (λ c v bits. both (leb low (value bits)) (leb (value bits) high)) (λ bits. both (leb low (value bits)) (leb (value bits) high)) (λ c v bits. v)
@@ -138,6 +146,7 @@ abbrev pub bound : ℕ → Values → ℕ → Values
 bound zero v n = v
 bound (suc x) v n = set v x (pos n)
 
+-- "`uint(width, set)`, …, most significant bit first; `uint(width, var(name, set))` also binds the value"
 abbrev pub uint-node : List ℕ → ℕ → ℕ → ℕ → ℕ → HeldNode
 uint-node ws width start end binder =
     field width (λ c v bits. in-set ws start end v (value bits)) (λ bits. in-static-set ws start end (value bits)) (λ c v bits. bound binder v (value bits))
@@ -148,6 +157,7 @@ uint-node ws width start end binder =
 abbrev pub use-node : List ℕ → ℕ → HeldNode
 use-node ws r = use-of (λ c. some c) (λ c v. v) (λ v v′. v′) (rule-word ws r 0)
 
+-- construct i as a node: its parts are the constructs that fill it, of a repetition the one after it
 unfoldable pub node-of : List ℕ → ℕ → Construct → HeldNode
 unfolding parts first-case literal-bytes
 node-of ws i Construct.Missing = alternative []
@@ -165,6 +175,7 @@ node-of ws i Construct.Eod = eod
 abbrev pub opening : ℕ
 opening = 256
 
+-- the constructs by number and the opening use; "the rest 0"
 unfoldable pub held : List ℕ → Grammar (Unit {0}) Values
 unfolding node-of
 held ws =

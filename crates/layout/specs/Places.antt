@@ -8,7 +8,7 @@ use lib.ListN.{getD, take}
 abbrev pub word : List ℕ → ℕ → ℕ
 word ws k = getD ws k 0
 
--- "exactly 16,384 words"
+-- a table "has 16,384 words"
 abbrev pub table-words : ℕ
 table-words = 16384
 
@@ -16,6 +16,7 @@ table-words = 16384
 abbrev pub table-of : List ℕ → List ℕ
 table-of ws = take table-words ws
 
+-- where rules, variables, constructs, terms, bytes of literals and sets begin
 abbrev pub rules-at : ℕ
 rules-at = 64
 
@@ -34,7 +35,7 @@ literals-at = 5696
 abbrev pub sets-at : ℕ
 sets-at = 7744
 
--- the header
+-- the header: its mark, how many rules, constructs, variables and terms there are, and the weight
 abbrev pub mark-of : List ℕ → ℕ
 mark-of ws = word ws 0
 

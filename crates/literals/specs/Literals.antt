@@ -10,6 +10,7 @@ use Rattle.literals.specs.declared.Part.{Part}
 use Rattle.literals.specs.declared.Part.the-variants.{Start, Escape, Bracket, Digits, Character, Closed, Wrong}
 use Rattle.literals.specs.declared.Extent.{Extent}
 
+-- `"` or `'`
 abbrev pub is-quote : ℕ → Bool
 is-quote b = eqb b 34 || eqb b 39
 
@@ -27,6 +28,7 @@ escaped b = cond (eqb b 91) Bracket (cond (eqb b 92 || is-quote b) (Character b)
 abbrev pub widened : ℕ → ℕ → Part
 widened n b = cond (leb (16 * n + digit-of b) 127) (Digits (16 * n + digit-of b)) Wrong
 
+-- how far a literal has come with one byte more; the first byte may not close it, since it has "1 to 32 characters"
 abbrev pub part-after : Part → ℕ → ℕ → Part
 part-after Start quote b = cond (eqb b quote) Wrong (between quote b)
 part-after Escape quote b = escaped b
@@ -38,6 +40,7 @@ part-after Wrong quote b = Wrong
 
 -- ---- the whole literal
 
+-- nothing of the literal comes after it
 abbrev pub stops : Part → Bool
 stops Start = false
 stops Escape = false
@@ -47,6 +50,7 @@ stops (Character c) = false
 stops Closed = true
 stops Wrong = true
 
+-- characters are counted, not bytes
 abbrev pub counted : ℕ → Part → ℕ
 counted n Start = n
 counted n Escape = n
@@ -56,6 +60,7 @@ counted n (Character c) = n + 1
 counted n Closed = n
 counted n Wrong = n
 
+-- what came last, how many characters there are, and where it ends
 abbrev pub reached : Part → ℕ → ℕ → Extent
 reached part count end = record { part = part; count = count; end = end }
 
@@ -73,6 +78,7 @@ literal-reach quote p n i (b ∷ bs) =
 abbrev pub literal-at : List ℕ → ℕ → Extent
 literal-at xs i = literal-reach (getD xs i 0) Start 0 (i + 1) (drop (i + 1) xs)
 
+-- its closing quote came
 abbrev pub is-closed : Part → Bool
 is-closed Start = false
 is-closed Escape = false
@@ -97,6 +103,7 @@ with-character (Character c) cs = c ∷ cs
 with-character Closed cs = cs
 with-character Wrong cs = cs
 
+-- those of the bytes that follow, the literal having come as far as p
 unfoldable pub characters : ℕ → Part → List ℕ → List ℕ
 characters quote p [] = []
 characters quote p (b ∷ bs) =
@@ -117,6 +124,7 @@ is-found (Character c) left = eqb left 0
 is-found Closed left = false
 is-found Wrong left = false
 
+-- the character that ended there
 abbrev pub value-of : Part → ℕ
 value-of Start = 0
 value-of Escape = 0
@@ -126,6 +134,7 @@ value-of (Character c) = c
 value-of Closed = 0
 value-of Wrong = 0
 
+-- how many are still to come before it
 abbrev pub left-after : Part → ℕ → ℕ
 left-after Start left = left
 left-after Escape left = left

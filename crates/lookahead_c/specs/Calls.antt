@@ -21,7 +21,7 @@ abbrev pub Made : Way → List ℕ → List ℕ → Bool → Type 0
 Made way old new true = (24 ≤ length old) × ((s : Bits) → Has (part 2 new) s ↔ way (Has (part 0 old)) (Has (part 1 old)) s)
 Made way old new false = (length old < 24) × (new ≡ old)
 
--- the number of the least common string of the first two sets, 0 where there is none or no room
+-- the number of the least common string of the first two sets, 0 where there is none; of a slice without room nothing is said
 pub record Least (sets : List ℕ) (n : ℕ) : Type 0 where
   pub found : 16 ≤ length sets → 0 < n → (s : Bits) × (number s ≡ n) × Has (part 0 sets) s × Has (part 1 sets) s
   pub least : 16 ≤ length sets → (s : Bits) → Has (part 0 sets) s → Has (part 1 sets) s → (0 < n) × (n ≤ number s)

@@ -10,6 +10,7 @@ use lib.ListN.{length, getD, take, drop}
 use Rattle.basis.specs.Bits.{Bits}
 use Rattle.lookahead.specs.Sets.{Has, Proper, SameWords, Union}
 
+-- the words of set i
 abbrev pub part : ℕ → List ℕ → List ℕ
 part i words = take 8 (drop (8 * i) words)
 

@@ -35,6 +35,7 @@ abbrev pub given : Grant → ℕ
 given (own n) = n
 given (other table frame reading n) = 0
 
+-- what a whole list grants
 unfoldable pub granted : List Grant → ℕ
 granted [] = 0
 granted (g ∷ gs) = given g + granted gs
@@ -43,6 +44,7 @@ granted (g ∷ gs) = given g + granted gs
 pub data Kept : Type 0 where
   kept : Run → List ℕ → Kept
 
+-- its two parts
 abbrev pub run-kept : Kept → Run
 run-kept (kept run rs) = run
 
@@ -77,6 +79,7 @@ module _ (ws fs : List ℕ) where
   call k (own n) = grant-of (table-of ws) fs (reading-kept k) (run-kept k) n
   call k (other table frame reading n) = grant-of (table-of table) frame (handed k reading) (run-kept k) n
 
+  -- what is kept after a grant
   abbrev pub next : Kept → Grant → Kept
   next k g = left k g (call k g)
 
@@ -85,10 +88,12 @@ module _ (ws fs : List ℕ) where
   after-grants [] k = k
   after-grants (g ∷ gs) k = after-grants gs (next k g)
 
+  -- every grant in the list that is handed something else is turned away, at its moment
   unfoldable pub OthersRefused : List Grant → Kept → Type 0
   OthersRefused [] k = Unit {0}
   OthersRefused (g ∷ gs) k = TurnedAway g (call k g) × OthersRefused gs (next k g)
 
+  -- every answer in the list counts as it should, `before` having been granted before it
   unfoldable pub EachCounts : (needed before : ℕ) → List Grant → Kept → Type 0
   EachCounts needed before [] k = Unit {0}
   EachCounts needed before (g ∷ gs) k = Counts needed before k g (call k g) × EachCounts needed (before + given g) gs (next k g)
@@ -108,6 +113,7 @@ abbrev pub Decided : Run → Type 0
 Decided run = (run .verdict ≡ matched) ⊎ (run .verdict ≡ unmatched)
 
 module _ (ws fs rs : List ℕ) (gs : List Grant) where
+  -- the run and its reading after the list
   abbrev pub here : Kept
   here = after-grants ws fs gs (start rs)
 
@@ -125,6 +131,7 @@ module _ (ws fs rs : List ℕ) (gs : List Grant) where
     pub fields : run-kept here .verdict ≡ matched → (t : Tree) (v : Values) → Derivation (grammar-of ws) (frameBits fs) t v
         → (run-kept here .captures ≡ length (captures t 0)) × (reading-kept here ≡ words-of (captures t 0) ++ drop (2 * length (captures t 0)) rs)
 
+  -- "a single claim about the whole list": what it leaves of a run that takes `needed` steps to be decided
   pub record Granted (needed : ℕ) : Type 0 where
     -- the run and every word of the reading: what the steps granted in all make of the run as opened and the reading's first words
     pub state : whole-of (reading-kept here) (run-kept here) ≡ steps-of (table-of ws) fs (granted gs) (whole-of rs opened-run)
@@ -147,11 +154,14 @@ pub record Claim (ws fs rs : List ℕ) : Type 0 where
 
 -- ---- the theorems
 
+-- what unsound words may do, sound ones never do: of every run that was opened and every list of grants
 abbrev pub NeverBroken : Type 0
 NeverBroken = (ws fs rs : List ℕ) → Opened ws fs rs → (gs : List Grant) → OthersRefused ws fs gs (start rs) → Unbroken ws fs rs gs
 
+-- condition 2, of the machine: its verdict and its reading, after any list of grants
 abbrev pub Condition2 : Type 0
 Condition2 = (ws fs rs : List ℕ) → Opened ws fs rs → (gs : List Grant) → OthersRefused ws fs gs (start rs) → Exact ws fs rs gs
 
+-- condition 3: of every run that was opened, one number of steps for all lists
 abbrev pub Condition3 : Type 0
 Condition3 = (ws fs rs : List ℕ) → Opened ws fs rs → Claim ws fs rs

@@ -32,9 +32,11 @@ pub record Fits (sized : List ℤ → Sized) (v : Values) : Type 0 where
   pub inside : Inside v widest
   pub small : (at : ℕ) → sized widest ≡ Sized.Exceeds at → ⊥
 
+-- of a set or a condition
 abbrev pub ListFits : Kind → List Term → Values → Type 0
 ListFits kind list v = Fits (λ w. sizes kind w 0 list) v
 
+-- of counts
 abbrev pub CountsFit : List Term → Values → Type 0
 CountsFit list v = Fits (λ w. ofTally (counted Mode.Sizes w list)) v
 

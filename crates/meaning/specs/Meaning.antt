@@ -29,18 +29,22 @@ use Rattle.encoding.specs.Numbers.{rule-of, first-at, binders-before, variable-
 
 -- ---- parts: a node's parts follow it, each as far after the one before as that is large
 
+-- those from node j up to `end`, `most` of them at most
 unfoldable pub parts-from : List ℕ → ℕ → ℕ → ℕ → List ℕ
 parts-from ns zero j end = []
 parts-from ns (suc most) j end = elim (ltb j end) [ true ↦ j ∷ parts-from ns most (j + node-word ns j 1) end | false ↦ [] ]
 
+-- the parts of node i
 abbrev pub parts-of : List ℕ → ℕ → List ℕ
 parts-of ns i = parts-from ns (node-word ns i 1) (i + 1) (i + node-word ns i 1)
 
 -- ---- counts: "`{n}`, `{a~b}`, `{a~}` or `{~b}`". A `~` stands after the calculations that are its ends.
 
+-- the last term, by which it is seen how counts are written
 abbrev pub last-of : List Term → Term
 last-of list = getD list (length list - 1) Term.Bad
 
+-- the terms without that `~`
 abbrev pub calculations : Form → List Term → List Term
 calculations Form.Exact list = list
 calculations Form.Open list = take (length list - 1) list
@@ -51,6 +55,7 @@ calculations Form.Closed list = take (length list - 1) list
 abbrev pub counted : Mode → Values → List Term → Tally
 counted m v list = tallyEnd (formOf (last-of list)) (run Kind.Calculation m v (pos 0) 0 (calculations (formOf (last-of list)) list) Numbers.Zero 1)
 
+-- the counts that the terms allow at these values; none where a calculation passes 2^62, which refusal 8 rules out
 abbrev pub counts-in : List Term → Values → Counts
 counts-in list v = allowed (counted Mode.Values v list .counted)
 
@@ -68,6 +73,7 @@ is-fixed how list = pick (eqb how 4) (isExact (formOf (last-of list))) false
 
 -- ---- sets: "alternatives of `~`, `a`, `a~b`, `a~`, `~b`, each with at most one `!`"
 
+-- n is in the set of these terms, at these values
 abbrev pub in-set : List Term → Values → ℕ → Bool
 in-set list v n = isYes (membership v (pos n) 0 list)
 
@@ -82,11 +88,13 @@ uint-node width list binds variable =
 
 -- ---- rules: "a rule's name" stands for its body
 
+-- a use of a rule: its own values come with `localised` (`conditions`), here they stay as last bound
 abbrev pub opened : List ℕ → ℕ → HeldNode
 opened rs rule = use-of (λ c. some c) (λ c v. v) (λ v v′. v′) (first-node rs rule)
 
 -- ---- cases: the default is the one without a condition
 
+-- node i, as a case, is the default
 abbrev pub is-default : List ℕ → ℕ → Bool
 is-default ns i = eqb (node-word ns i 8) (node-word ns i 9)
 
@@ -103,6 +111,7 @@ module _ (xs ns ts rs : List ℕ) (r : ℕ) where
   abbrev pub condition-list : ℕ → List Term
   condition-list i = list-of i (node-word ns i 8) (node-word ns i 9)
 
+  -- the condition of case i holds
   abbrev pub is-true : Values → ℕ → Bool
   is-true v i = isYes (condition v 0 (condition-list i))
 

@@ -36,6 +36,7 @@ condition-size ws i =
     (sizes Kind.Condition (widest ws) (construct-word ws i 6) (terms-of ws (construct-word ws i 6) (construct-word ws i 7)))
     Sized.Passes
 
+-- the sizes in counts; `?`, `*` and `+` have no calculation
 abbrev pub counts-size : List ℕ → Passes → Sized
 counts-size ws Passes.Optional = Sized.Passes
 counts-size ws Passes.Any = Sized.Passes
@@ -55,6 +56,7 @@ own-size ws (Construct.Range low high) = Sized.Passes
 own-size ws (Construct.Uint width start end binder) = sizes Kind.Set (widest ws) start (terms-of ws start end)
 own-size ws Construct.Eod = Sized.Passes
 
+-- a calculation "whose size may pass 2^62"
 abbrev pub exceeds : Sized → Bool
 exceeds Sized.Passes = false
 exceeds Sized.Malformed = false

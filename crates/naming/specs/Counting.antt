@@ -7,6 +7,7 @@ use mathlib.Core.Bool.{Bool, true, false, cond}
 abbrev pub nowhere : ℕ
 nowhere = 18446744073709551615
 
+-- a place, where there is a fault
 abbrev pub place-if : Bool → ℕ → ℕ
 place-if fault p = cond fault p nowhere
 
@@ -20,9 +21,10 @@ unfoldable pub any-of : ℕ → ℕ → (ℕ → Bool) → Bool
 any-of zero i f = false
 any-of (suc n) i f = elim (f i) [ true ↦ true | false ↦ any-of n (i + 1) f ]
 
--- the numbers from `start` up to `end`
+-- the least place of the numbers from `start` up to `end`
 abbrev pub least-between : ℕ → ℕ → (ℕ → ℕ) → ℕ
 least-between start end f = least-of (end - start) start f
 
+-- one of these numbers passes a test
 abbrev pub any-between : ℕ → ℕ → (ℕ → Bool) → Bool
 any-between start end f = any-of (end - start) start f

@@ -12,6 +12,7 @@ use Rattle.naming.specs.Words.{rule-word, named-at}
 abbrev pub passed-in : List ℕ → ℕ → Bool
 passed-in rs k = leb 64 k || (ltb 256 (rule-word rs k 2) || (ltb 1024 (rule-word rs k 3) || ltb 64 (rule-word rs k 4)))
 
+-- rule k's name, if so
 abbrev pub limit-place : List ℕ → ℕ → ℕ
 limit-place rs k = place-if (passed-in rs k) (named-at rs k)
 

@@ -17,6 +17,7 @@ use Rattle.naming.specs.Words.{node-word, term-word, kind-of, place-of, 
 abbrev pub name-at : List ℕ → ℕ → List ℕ
 name-at xs p = name-of xs p (span-end Class.Name p (drop p xs))
 
+-- the same name stands at both places
 unfoldable pub same-name : List ℕ → ℕ → ℕ → Bool
 same-name xs p q = is-same (name-at xs p) (name-at xs q)
 
@@ -50,11 +51,11 @@ use-fault xs ns rs r a e p = is-reserved xs p || (not (rule-named xs rs r p) || 
 abbrev pub holds : List ℕ → ℕ → ℕ → Bool
 holds ns i j = ltb (i - j) (node-word ns j 1)
 
--- some node other than the rule's top concatenation does
+-- node j does, and is not node a as the rule's top concatenation
 abbrev pub held : List ℕ → ℕ → ℕ → ℕ → Bool
 held ns a i j = holds ns i j && not (eqb j a && eqb (kind-of ns a) 2)
 
--- one from a on does
+-- some node from a on does
 abbrev pub held-between : List ℕ → ℕ → ℕ → Bool
 held-between ns a i = any-between a i (held ns a i)
 
@@ -72,14 +73,17 @@ variable-fault xs ns a i p = is-reserved xs p || not (bound-between xs ns a i p)
 
 -- ---- where
 
+-- node i is a rule's use or a binder: the name, where it is at fault
 abbrev pub name-place : (xs ns rs : List ℕ) → (r a e i : ℕ) → ℕ
 name-place xs ns rs r a e i =
     cond (eqb (kind-of ns i) 5) (place-if (use-fault xs ns rs r a e (place-of ns i)) (place-of ns i))
     (cond (is-binder ns i) (place-if (binder-fault xs ns a i (bound-at ns i)) (bound-at ns i)) nowhere)
 
+-- term t in a list of node i: the name, where it is a variable's use at fault
 abbrev pub term-place : (xs ns ts : List ℕ) → (a i t : ℕ) → ℕ
 term-place xs ns ts a i t = place-if (is-use (term-word ts t 0) && variable-fault xs ns a i (term-word ts t 2)) (term-word ts t 2)
 
+-- the terms from f up to g of node i
 abbrev pub list-place : (xs ns ts : List ℕ) → (a i f g : ℕ) → ℕ
 list-place xs ns ts a i f g = least-between f g (term-place xs ns ts a i)
 
@@ -93,6 +97,7 @@ node-place xs ns ts rs r a e i =
 abbrev pub nodes-place : (xs ns ts rs : List ℕ) → (r a e : ℕ) → ℕ
 nodes-place xs ns ts rs r a e = least-between a e (node-place xs ns ts rs r a e)
 
+-- rule k: its own name, and those in its nodes
 abbrev pub rule-place : (xs ns ts rs : List ℕ) → (r k : ℕ) → ℕ
 rule-place xs ns ts rs r k =
     min (place-if (rule-fault xs rs k) (named-at rs k)) (nodes-place xs ns ts rs r (first-node rs k) (last-node rs k))

@@ -6,6 +6,7 @@ use mathlib.Core.List.{List}
 use lib.Dec.{eqb}
 use lib.ListN.{getD}
 
+-- word k of a node, of a term, of a rule
 abbrev pub node-word : List ℕ → ℕ → ℕ → ℕ
 node-word ns i k = getD ns (10 * i + k) 0
 
@@ -15,7 +16,7 @@ term-word ts t k = getD ts (4 * t + k) 0
 abbrev pub rule-word : List ℕ → ℕ → ℕ → ℕ
 rule-word rs r k = getD rs (5 * r + k) 0
 
--- of a node
+-- what a node is, and where it begins
 abbrev pub kind-of : List ℕ → ℕ → ℕ
 kind-of ns i = node-word ns i 0
 

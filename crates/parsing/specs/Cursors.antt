@@ -14,9 +14,11 @@ use Rattle.parsing.specs.Form.{Outcome, refused, run}
 use Rattle.parsing.specs.declared.Cursor.{Cursor}
 use Rattle.parsing.specs.declared.Sight.{Sight}
 
+-- the terminal that comes next
 abbrev pub sight-at : Cursor → Sight
 sight-at c = sight (c .code) (c .start) (c .end) (c .value)
 
+-- what is read so far: its counts, and the words of nodes, terms and rules
 abbrev pub state-at : Cursor → List ℕ → List ℕ → List ℕ → State
 state-at c ns ts rs = state ns ts rs (c .nodes) (c .terms) (c .binders) (c .rules)
 
@@ -42,6 +44,7 @@ abbrev pub counts-of : Sight → Cursor → Cursor
 counts-of s c =
     record { code = s .code; start = s .start; end = s .end; value = s .value; nodes = c .nodes; terms = c .terms; binders = c .binders; rules = c .rules }
 
+-- at the first terminal of a text, nothing counted
 abbrev pub first-of : List ℕ → Cursor
 first-of xs =
     record {
@@ -55,9 +58,11 @@ first-of xs =
       rules = 0;
     }
 
+-- at the terminal after this one
 abbrev pub next : List ℕ → Cursor → Cursor
 next xs c = counts-of (sight-of xs (c .end)) c
 
+-- this terminal cannot stand there
 abbrev pub fail : Cursor → Cursor
 fail c = counts-of (sight 0 (c .start) (c .end) (c .value)) c
 
@@ -65,6 +70,7 @@ fail c = counts-of (sight 0 (c .start) (c .end) (c .value)) c
 unfoldable pub resume-at : List ℕ → Sight → State → List Symbol → Outcome
 resume-at xs s st ks = elim (eqb (s .code) 0) [ true ↦ refused (s .start) | false ↦ run (s ∷ sights-after xs s) st ks ]
 
+-- the same, from a cursor on
 abbrev pub resume : List ℕ → Cursor → List ℕ → List ℕ → List ℕ → List Symbol → Outcome
 resume xs c ns ts rs ks = resume-at xs (sight-at c) (state-at c ns ts rs) ks
 
@@ -72,6 +78,7 @@ resume xs c ns ts rs ks = resume-at xs (sight-at c) (state-at c ns ts rs) ks
 unfoldable pub left-at : List ℕ → Sight → ℕ
 left-at xs s = elim (eqb (s .code) 0) [ true ↦ 0 | false ↦ elim (eqb (s .code) 5) [ true ↦ 1 | false ↦ suc (suc (length xs - s .end)) ] ]
 
+-- the same of a cursor
 abbrev pub left : List ℕ → Cursor → ℕ
 left xs c = left-at xs (sight-at c)
 

@@ -10,6 +10,7 @@ use Rattle.parsing.specs.Store.{State, nodes-of, terms-of, add, single, 
 use Rattle.parsing.specs.Symbols.{Symbol, want, sign, paren, primary, operand, factors, summands, calculation, item, item-tail, bound, exception, excluded, alternative, alternatives, value-set, counts, counts-tail, test, comparison, condition, joined, chain, atom, factor, concatenation, expression, marked, counts-end, members, branches, character-tail, last-character, width, field-set, bound-name, field-end, colon, case-end, cases, switch-end, rules, rule-end}
 use Rattle.parsing.specs.declared.Sight.{Sight}
 
+-- it is taken and these parts wait, or the text ends right, or it "cannot stand there"
 pub data Fed : Type 0 where
   go : State → List Symbol → Fed
   done : State → Fed
@@ -92,7 +93,7 @@ feed s st (factors o ∷ ks) = elim (is 42 s) [ true ↦ go st (operand o ∷ si
 feed s st (summands o ∷ ks) =
     elim (eqb (sum-tag (s .code)) 0) [ true ↦ feed s st ks | false ↦ go st (operand o ∷ factors o ∷ sign (sum-tag (s .code)) (s .start) o ∷ summands o ∷ ks) ]
 feed s st (calculation ∷ ks) = calculation-begins s st ks
--- sets: "alternatives of items, each with at most one `!` and a second item or a set in parentheses after it"
+-- sets: "alternatives of …, each with at most one `!` and a second item or a set in parentheses after it"
 feed s st (item ∷ ks) = item-begins s st ks
 feed s st (item-tail ∷ ks) = elim (is 126 s) [ true ↦ go st (bound 8 9 (s .start) ∷ ks) | false ↦ feed s (single st) ks ]
 feed s st (bound some none p ∷ ks) = elim (begins s) [ true ↦ calculation-begins s st (sign some p 0 ∷ ks) | false ↦ feed s (add none 0 p 0 st) ks ]
@@ -117,7 +118,7 @@ feed s st (joined d ∷ ks) =
       | false ↦ elim (is 124 s) [ true ↦ go st (test d ∷ sign 11 (s .start) 0 ∷ chain 124 11 d ∷ ks) | false ↦ feed s st ks ]
     ]
 feed s st (chain k tag d ∷ ks) = elim (is k s) [ true ↦ go st (test d ∷ sign tag (s .start) 0 ∷ chain k tag d ∷ ks) | false ↦ feed s st ks ]
--- expressions: "loosest first: alternative `|`, concatenation `&`, repetition"
+-- "Expressions, loosest first (document 001): alternative `|`, concatenation `&`, repetition."
 feed s st (atom d ∷ ks) = atom-begins d s st ks
 feed s st (factor d ∷ ks) = atom-begins d s st (marked (s .start) (nodes-of st) ∷ ks)
 feed s st (concatenation d ∷ ks) = atom-begins d s st (marked (s .start) (nodes-of st) ∷ members d (s .start) (nodes-of st) false ∷ ks)
@@ -136,7 +137,7 @@ feed s st (branches d p i many ∷ ks) =
 -- "`'a'~'z'`, a range of one-character literals"
 feed s st (character-tail p ∷ ks) = elim (is 126 s) [ true ↦ go st (last-character p ∷ ks) | false ↦ feed s (leaf 6 p 0 0 0 0 0 st) ks ]
 feed s st (last-character p ∷ ks) = elim (is 9 s) [ true ↦ go (leaf 7 p (s .start) 0 0 0 0 st) ks | false ↦ fault ]
--- "`uint(width, set)`; `uint(width, var(name, set))` also binds the value"; `how` is 1 where it stands outside any group
+-- "`uint(width, set)`, …; `uint(width, var(name, set))` also binds the value"; `how` is 1 where it stands outside any group, else 2
 feed s st (width d p ∷ ks) = elim (is 2 s) [ true ↦ go st (want 44 ∷ field-set d p (s .start) ∷ ks) | false ↦ fault ]
 feed s st (field-set d p w ∷ ks) =
     elim (is 8 s) [
@@ -171,11 +172,12 @@ feed s st (rule-end p i ∷ ks) = elim (is 59 s) [ true ↦ go (close-rule p i s
 
 -- ---- all terminals
 
--- "4: rules not of the form above, at the first token that cannot stand there (text's end if none)"
+-- 4: "rules not of the form above", at the "first token that cannot stand there (text's end if none)"
 pub data Outcome : Type 0 where
   right : State → Outcome
   refused : ℕ → Outcome
 
+-- one terminal after the other; the last is the end, after which nothing is read
 unfoldable pub run : List Sight → State → List Symbol → Outcome
 run [] st ks = refused 0
 run (s ∷ rest) st ks = elim (feed s st ks) [ go st′ ks′ ↦ run rest st′ ks′ | done st′ ↦ right st′ | fault ↦ refused (s .start) ]

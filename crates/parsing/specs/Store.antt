@@ -11,6 +11,7 @@ use lib.ListN.{getD, set, take, drop}
 pub data State : Type 0 where
   state : (ns ts rs : List ℕ) (n t b r : ℕ) → State
 
+-- the parts of what is read, in this order
 abbrev pub node-words : State → List ℕ
 node-words (state ns ts rs n t b r) = ns
 
@@ -41,6 +42,7 @@ unfoldable pub put-term : List ℕ → ℕ → ℕ → ℕ → ℕ → ℕ → L
 put-term ts t tag value place origin =
     cond (ltb t 1024) (set (set (set (set ts (4 * t) tag) (4 * t + 1) value) (4 * t + 2) place) (4 * t + 3) origin) ts
 
+-- one term more
 abbrev pub add : ℕ → ℕ → ℕ → ℕ → State → State
 add tag value place origin (state ns ts rs n t b r) = state ns (put-term ts t tag value place origin) rs n (counted 1024 t) b r
 
@@ -48,9 +50,11 @@ add tag value place origin (state ns ts rs n t b r) = state ns (put-term ts t ta
 abbrev pub marked-tag : ℕ → ℕ
 marked-tag tag = cond (ltb tag 32) (tag + 32) tag
 
+-- so that the item `a` of a set is told from an end of `a~b`
 unfoldable pub put-single : List ℕ → ℕ → List ℕ
 put-single ts t = cond (leb t 1024) (set ts (4 * (t - 1)) (marked-tag (getD ts (4 * (t - 1)) 0))) ts
 
+-- the same in what is read
 abbrev pub single : State → State
 single (state ns ts rs n t b r) = state ns (put-single ts t) rs n t b r
 
@@ -75,6 +79,7 @@ room ns i = take (10 * i + 10) ns ++ over (2550 - 10 * i) (drop (10 * i) ns) (dr
 unfoldable pub put-node : List ℕ → ℕ → (kind size place a b c d e : ℕ) → List ℕ
 put-node ns i kind size place a b c d e = cond (ltb i 256) (put-words (room ns i) (10 * i) kind size place a b c d e) ns
 
+-- the same in what is read; the new node is as large as all nodes from i on, itself counted
 abbrev pub insert : (kind place i a b c d e : ℕ) → State → State
 insert kind place i a b c d e (state ns ts rs n t bs r) =
     state (put-node ns i kind (counted 256 n - i) place a b c d e) ts rs (counted 256 n) t bs r
@@ -87,6 +92,7 @@ leaf kind place a b c d e st = insert kind place (nodes-of st) a b c d e st
 unfoldable pub put-condition : List ℕ → ℕ → ℕ → ℕ → List ℕ
 put-condition ns i from end = cond (ltb i 256) (set (set ns (10 * i + 8) from) (10 * i + 9) end) ns
 
+-- the same in what is read
 abbrev pub condition-on : ℕ → ℕ → ℕ → State → State
 condition-on i from end (state ns ts rs n t b r) = state (put-condition ns i from end) ts rs n t b r
 
@@ -100,5 +106,6 @@ unfoldable pub put-rule : List ℕ → ℕ → (place first nodes terms binders 
 put-rule rs r place first nodes terms binders =
     cond (ltb r 65) (set (set (set (set (set rs (5 * r) place) (5 * r + 1) first) (5 * r + 2) nodes) (5 * r + 3) terms) (5 * r + 4) binders) rs
 
+-- a rule ends here
 abbrev pub close-rule : ℕ → ℕ → State → State
 close-rule place first (state ns ts rs n t b r) = state ns ts (put-rule rs r place first n t b) n t b (counted 64 r)

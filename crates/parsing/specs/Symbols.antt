@@ -5,6 +5,7 @@
 use Prim.Native.Nat.{ℕ}
 use mathlib.Core.Bool.{Bool}
 
+-- a part of "the form above" that waits
 pub data Symbol : Type 0 where
   -- the terminal of a code
   want : ℕ → Symbol

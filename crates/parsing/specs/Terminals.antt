@@ -13,6 +13,7 @@ use Rattle.tokens.specs.declared.Token.{Token}
 use Rattle.literals.specs.Literals.{characters-at}
 use Rattle.parsing.specs.declared.Sight.{Sight}
 
+-- a token's code; what is no sign has a code below 6
 abbrev pub code-of : Kind → ℕ
 code-of Kind.Name = 1
 code-of Kind.Number = 2
@@ -51,6 +52,7 @@ opens-at xs at = eqb (code-of (token-of xs at .kind)) 40
 abbrev pub word-code : ℕ → Bool → ℕ
 word-code word opens = cond (eqb word 12) (cond opens 6 1) (cond (eqb word 9) (cond opens 8 1) (cond (eqb word 10) 7 1))
 
+-- the code of the name from `start` up to `end`
 unfoldable pub name-code : List ℕ → ℕ → ℕ → ℕ
 name-code xs start end = word-code (reserved-of (name-of xs start end)) (opens-at xs end)
 
@@ -58,6 +60,7 @@ name-code xs start end = word-code (reserved-of (name-of xs start end)) (opens-a
 unfoldable pub literal-code : List ℕ → ℕ → ℕ
 literal-code xs start = cond (eqb (length (characters-at xs start)) 1) 9 3
 
+-- a terminal: its code, from where up to where it stands, and the value of a number
 abbrev pub sight : ℕ → ℕ → ℕ → ℕ → Sight
 sight code start end value = record { code = code; start = start; end = end; value = value }
 
@@ -68,6 +71,7 @@ seen xs code start end =
     (cond (eqb code 2) (sight 2 start end (capped (number-value xs start)))
     (cond (eqb code 3) (sight (literal-code xs start) start end 0) (sight code start end 0)))
 
+-- the terminal at or after a place
 unfoldable pub sight-of : List ℕ → ℕ → Sight
 sight-of xs at = seen xs (code-of (token-of xs at .kind)) (token-of xs at .start) (token-of xs at .end)
 
@@ -76,6 +80,7 @@ unfoldable pub sights : ℕ → List ℕ → ℕ → List Sight
 sights zero xs at = []
 sights (suc n) xs at = sight-of xs at ∷ elim (eqb (sight-of xs at .code) 5) [ true ↦ [] | false ↦ sights n xs (sight-of xs at .end) ]
 
+-- all of them, since there are no more than bytes and the end
 abbrev pub sights-from : List ℕ → ℕ → List Sight
 sights-from xs at = sights (suc (length xs)) xs at
 
@@ -85,6 +90,7 @@ sights-after xs s = elim (eqb (s .code) 5) [ true ↦ [] | false ↦ sights-from
 
 -- ---- tests of a terminal
 
+-- it has this code
 abbrev pub is : ℕ → Sight → Bool
 is k s = eqb (s .code) k
 
@@ -92,6 +98,7 @@ is k s = eqb (s .code) k
 abbrev pub name-like : ℕ → Bool
 name-like code = eqb code 1 || (leb 6 code && leb code 8)
 
+-- a terminal that is such a name
 abbrev pub is-name : Sight → Bool
 is-name s = name-like (s .code)
 
@@ -99,6 +106,7 @@ is-name s = name-like (s .code)
 abbrev pub begin-like : ℕ → Bool
 begin-like code = eqb code 2 || (name-like code || eqb code 45)
 
+-- a terminal that begins one
 abbrev pub begins : Sight → Bool
 begins s = begin-like (s .code)
 

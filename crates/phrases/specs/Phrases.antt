@@ -17,6 +17,7 @@ pub record Seen (xs : List ℕ) (s : Sight) : Type 0 where
   pub at : ℕ
   pub seen : s ≡ sight-of xs at
 
+-- a part; what is read before it, and with what it adds itself; and the parts that it is made of
 pub data Production (xs : List ℕ) : Symbol → State → State → List Symbol → Type 0 where
   terminal : {k : ℕ} {a : State} → Production xs (want k) a a []
   signed : {tag p o : ℕ} {a b : State} → b ≡ add tag 0 p o a → Production xs (sign tag p o) a b []

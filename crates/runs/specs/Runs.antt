@@ -60,7 +60,7 @@ fitting ws fs room cs ps h =
 abbrev pub tries : {A : Type 0} → List ℕ → List ℕ → List ℕ → Run → A → A → A → A
 tries ws fs rs run long unfit granted = pick (leb (length fs) 256) (pick (fitting ws fs (length rs) (run .constructs) (run .passes) (head-of run)) granted unfit) long
 
--- this paper's number; 0 is no refusal
+-- the number with which a grant is refused; 0 where it is not
 abbrev pub refusal-of : List ℕ → List ℕ → List ℕ → Run → ℕ
 refusal-of ws fs rs run = tries ws fs rs run 21 24 0
 
@@ -68,6 +68,7 @@ refusal-of ws fs rs run = tries ws fs rs run 21 24 0
 pub data After : Type 0 where
   after : Run → List ℕ → Answer → After
 
+-- its three parts
 abbrev pub run-in : After → Run
 run-in (after run rs answer) = run
 
@@ -85,12 +86,13 @@ after-steps before (whole cs ps vs rs h) = after (run-of h cs ps vs) rs (Answer.
 unfoldable pub grant-of : List ℕ → List ℕ → List ℕ → Run → ℕ → After
 grant-of ws fs rs run n = tries ws fs rs run (after run rs Answer.LongFrame) (after run rs Answer.Unfit) (after-steps (run .steps) (steps-of ws fs n (whole-of rs run)))
 
--- this paper's number and count for each answer
+-- this paper's number for each answer; 0 is no refusal
 abbrev pub number-of : Answer → ℕ
 number-of Answer.LongFrame = 21
 number-of Answer.Unfit = 24
 number-of (Answer.Taken n) = 0
 
+-- "the answer says how many were taken"; a refused grant takes none
 abbrev pub taken-of : Answer → ℕ
 taken-of Answer.LongFrame = 0
 taken-of Answer.Unfit = 0

@@ -24,11 +24,12 @@ number zero bs = 0
 number (suc w) [] = 0
 number (suc w) (b ∷ bs) = b + 256 * number w bs
 
--- a whole number in two's complement of 64 bits, and back
+-- a whole number in two's complement of 64 bits
 abbrev pub pattern : ℤ → ℕ
 pattern (pos n) = n
 pattern (negsuc n) = 2 ^ 64 - suc n
 
+-- and back
 abbrev pub whole : ℕ → ℤ
 whole n = pick (ltb n (2 ^ 63)) (pos n) (negsuc (2 ^ 64 - suc n))
 

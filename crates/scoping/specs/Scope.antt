@@ -23,11 +23,12 @@ value-of v (suc x) = getD v x (pos 0)
 abbrev pub fresh : ℕ → Unit {0} → Values → Values
 fresh i c v = replicate (length v) (pos 0)
 
--- what a construct binds: a binder its variable
+-- what a construct of this binder word binds
 abbrev pub bound-by : ℕ → List ℕ
 bound-by zero = []
 bound-by (suc x) = suc x ∷ []
 
+-- what construct i binds
 abbrev pub bound-at : List ℕ → ℕ → List ℕ
 bound-at ws i = bound-by (binder-of (constructAt ws i))
 

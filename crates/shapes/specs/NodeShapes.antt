@@ -20,12 +20,14 @@ rule-word rs r k = getD rs (5 * r + k) 0
 
 -- ---- what stands at a place of the text
 
+-- a name, reserved or not
 pub record NameAt (xs : List ℕ) (p : ℕ) : Type 0 where
   pub sight : Sight
   pub seen : Seen xs sight
   pub name : is-name sight ≡ true
   pub place : p ≡ sight .start
 
+-- a number
 pub record NumberAt (xs : List ℕ) (p : ℕ) : Type 0 where
   pub sight : Sight
   pub seen : Seen xs sight
@@ -54,11 +56,12 @@ pub record Headed (ns : List ℕ) (i e kind : ℕ) : Type 0 where
   pub size-is : node-word ns i 1 ≡ e - i
   pub below : i < e
 
--- node i is no case of a switch, or one with the condition of the terms from f up to h
+-- node i is no case of a switch, or the default
 pub record Unconditioned (ns : List ℕ) (i : ℕ) : Type 0 where
   pub from-is : node-word ns i 8 ≡ 0
   pub end-is : node-word ns i 9 ≡ 0
 
+-- node i is a case with the condition of the terms from f up to h
 pub record Conditioned (ns ts : List ℕ) (i f h : ℕ) : Type 0 where
   pub from-is : node-word ns i 8 ≡ f
   pub end-is : node-word ns i 9 ≡ h
@@ -68,16 +71,19 @@ pub record Conditioned (ns ts : List ℕ) (i f h : ℕ) : Type 0 where
 pub record Binds (xs ns : List ℕ) (i β : ℕ) : Type 0 where
   pub how : ((node-word ns i 7 ≡ 0) × (β ≡ 0)) ⊎ (((node-word ns i 7 ≡ 1) ⊎ (node-word ns i 7 ≡ 2)) × (β ≡ 1) × NameAt xs (node-word ns i 4))
 
+-- a repetition written `?`, `*` or `+`
 pub record Marked (ns : List ℕ) (i : ℕ) : Type 0 where
   pub least : 1 ≤ node-word ns i 3
   pub most : node-word ns i 3 ≤ 3
 
+-- one written with braces; its counts are the terms from m up to g
 pub record Counted (ns ts : List ℕ) (i m g : ℕ) : Type 0 where
   pub how : node-word ns i 3 ≡ 4
   pub from-is : node-word ns i 5 ≡ m
   pub end-is : node-word ns i 6 ≡ g
   pub shape : CountsShape ts m g
 
+-- a uint: its width, and its set, which is the terms from f up to g
 pub record Field (xs ns ts : List ℕ) (i f g : ℕ) : Type 0 where
   pub width : NumberAt xs (node-word ns i 3)
   pub from-is : node-word ns i 5 ≡ f
@@ -86,6 +92,7 @@ pub record Field (xs ns ts : List ℕ) (i f g : ℕ) : Type 0 where
 
 -- ---- trees
 
+-- what some nodes in a row are
 pub data Shape : Type 0 where
   tree : Shape
   -- so many trees, none a case
@@ -95,6 +102,7 @@ pub data Shape : Type 0 where
   -- what may follow a case: nothing, the default, or cases
   further : Shape
 
+-- the nodes from i up to e are such a shape, with the terms from f up to g and β binders
 pub data Holds (xs ns ts : List ℕ) : Shape → (i e f g β : ℕ) → Type 0 where
   literal-tree : {i e f β : ℕ} → Headed ns i e 6 → e ≡ i + 1 → β ≡ 0 → LiteralAt xs (node-word ns i 2) ⊎ CharacterAt xs (node-word ns i 2) → Holds xs ns ts tree i e f f β
   range-tree : {i e f β : ℕ} → Headed ns i e 7 → e ≡ i + 1 → β ≡ 0 → CharacterAt xs (node-word ns i 2) → CharacterAt xs (node-word ns i 3) → Holds xs ns ts tree i e f f β
@@ -114,12 +122,14 @@ pub data Holds (xs ns ts : List ℕ) : Shape → (i e f g β : ℕ) → Type 0 w
 
 -- ---- rules: those from number k up to r have the nodes from i up to n, the terms from f up to t and the binders from u up to b
 
+-- rule k: its first node is i, and at its end there are m nodes, h terms and v binders
 pub record Ruled (rs : List ℕ) (k i m h v : ℕ) : Type 0 where
   pub first-is : rule-word rs k 1 ≡ i
   pub nodes-are : rule-word rs k 2 ≡ m
   pub terms-are : rule-word rs k 3 ≡ h
   pub binders-are : rule-word rs k 4 ≡ v
 
+-- "A rule is `name = expression ;`", and its expression is one tree
 pub data Rules (xs ns ts rs : List ℕ) (r n t b : ℕ) : (k i f u : ℕ) → Type 0 where
   no-rules : {k i f u : ℕ} → k ≡ r → i ≡ n → f ≡ t → u ≡ b → Rules xs ns ts rs r n t b k i f u
   a-rule : {k l i m f h u v β : ℕ} → NameAt xs (rule-word rs k 0) → Ruled rs k i m h v → l ≡ k + 1 → v ≡ u + β → Unconditioned ns i → Holds xs ns ts tree i m f h β → Rules xs ns ts rs r n t b l m h v → Rules xs ns ts rs r n t b k i f u

@@ -5,6 +5,7 @@ use mathlib.Core.List.{List}
 use Rattle.shapes.specs.NodeShapes.{node-word, rule-word}
 use Rattle.shapes.specs.Stored.{term-word}
 
+-- `most` is the text's length
 pub record Placed (most : ℕ) (ns ts rs : List ℕ) : Type 0 where
   -- a node's place; the name that it binds, or its repetition mark
   pub nodes : (j : ℕ) → j < 256 → (node-word ns j 2 ≤ most) × (node-word ns j 4 ≤ most)

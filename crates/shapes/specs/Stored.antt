@@ -25,6 +25,7 @@ pub data TermWords (xs ts : List ℕ) (t : ℕ) : Type 0 where
   a-use : (term-word ts t 0 ≡ 2) ⊎ (term-word ts t 0 ≡ 34) → term-word ts t 1 ≡ 0 → NameAt xs (term-word ts t 2) → TermWords xs ts t
   a-sign : is-use (term-word ts t 0) ≡ false → term-word ts t 0 < 64 → term-word ts t 1 ≡ 0 → TermWords xs ts t
 
+-- 256 nodes and 1,024 terms have room
 pub record Stored (xs ns ts : List ℕ) : Type 0 where
   pub lists : (j : ℕ) → j < 256 → OwnList ns j
   pub terms : (t : ℕ) → t < 1024 → TermWords xs ts t

@@ -14,7 +14,7 @@ use Rattle.trees.specs.Trees.{Calculation, literal, use-of, plus, minus, times,
 use Rattle.trees.specs.Postfix.{setTerms, conditionTerms, repeatTerms}
 use Rattle.trees.specs.Rooms.{Room, SetRoom, ConditionRoom}
 
--- a term of the four words: tag, value, place, origin
+-- the tags of a variable's use. A term has four words: tag, value, place, origin.
 abbrev pub is-use : ℕ → Bool
 is-use tag = eqb tag 2 || eqb tag 34
 
@@ -29,6 +29,7 @@ read-terms ts k (suc n) = read-term ts k ∷ read-terms ts (k + 1) n
 
 -- ---- variables under other numbers
 
+-- in a part of a calculation
 abbrev pub rename-operation : (ℕ → ℕ) → Operation → Operation
 rename-operation g (Operation.Number n) = Operation.Number n
 rename-operation g (Operation.Variable k) = Operation.Variable (g k)
@@ -38,6 +39,7 @@ rename-operation g Operation.Multiply = Operation.Multiply
 rename-operation g Operation.Negate = Operation.Negate
 rename-operation g Operation.Unknown = Operation.Unknown
 
+-- in a term
 abbrev pub rename-term : (ℕ → ℕ) → Term → Term
 rename-term g (Term.Part o) = Term.Part (rename-operation g o)
 rename-term g (Term.Single o) = Term.Single (rename-operation g o)
@@ -51,6 +53,7 @@ rename-term g Term.And = Term.And
 rename-term g (Term.Compare k) = Term.Compare k
 rename-term g Term.Bad = Term.Bad
 
+-- in a calculation
 unfoldable pub renamed : (ℕ → ℕ) → Calculation → Calculation
 renamed g (literal n) = literal n
 renamed g (use-of k) = use-of (g k)
@@ -59,6 +62,7 @@ renamed g (minus a b) = minus (renamed g a) (renamed g b)
 renamed g (times a b) = times (renamed g a) (renamed g b)
 renamed g (opposite a) = opposite (renamed g a)
 
+-- in a set
 unfoldable pub renamed-set : (ℕ → ℕ) → ValueSet → ValueSet
 renamed-set g everything = everything
 renamed-set g (only a) = only (renamed g a)
@@ -68,11 +72,13 @@ renamed-set g (upTo b) = upTo (renamed g b)
 renamed-set g (either x y) = either (renamed-set g x) (renamed-set g y)
 renamed-set g (without x y) = without (renamed-set g x) (renamed-set g y)
 
+-- in a condition
 unfoldable pub renamed-condition : (ℕ → ℕ) → Condition → Condition
 renamed-condition g (compare k a b) = compare k (renamed g a) (renamed g b)
 renamed-condition g (both x y) = both (renamed-condition g x) (renamed-condition g y)
 renamed-condition g (any x y) = any (renamed-condition g x) (renamed-condition g y)
 
+-- in counts
 unfoldable pub renamed-repeats : (ℕ → ℕ) → Repeats → Repeats
 renamed-repeats g (exact n) = exact (renamed g n)
 renamed-repeats g (on-from a) = on-from (renamed g a)
@@ -88,18 +94,21 @@ RepeatsRoom vars (spanning a b) = Room vars a 0 × Room vars b 1
 
 -- ---- what the terms from f up to e are
 
+-- a set, which has room whichever variables its names are
 pub record SetShape (ts : List ℕ) (f e : ℕ) : Type 0 where
   pub some : f < e
   pub tree : ValueSet
   pub is : read-terms ts f (e - f) ≡ setTerms tree
   pub room : (g : ℕ → ℕ) → ((k : ℕ) → g k < 64) → SetRoom 64 (renamed-set g tree) 0
 
+-- a condition, likewise
 pub record ConditionShape (ts : List ℕ) (f e : ℕ) : Type 0 where
   pub some : f < e
   pub tree : Condition
   pub is : read-terms ts f (e - f) ≡ conditionTerms tree
   pub room : (g : ℕ → ℕ) → ((k : ℕ) → g k < 64) → ConditionRoom 64 (renamed-condition g tree) 0
 
+-- counts, likewise
 pub record CountsShape (ts : List ℕ) (f e : ℕ) : Type 0 where
   pub some : f < e
   pub tree : Repeats

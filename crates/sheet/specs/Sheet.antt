@@ -24,12 +24,14 @@ unfoldable pub bytes : String → List ℕ
 bytes end = []
 bytes (c then s) = code c ∷ bytes s
 
+-- the text of some rules
 unfoldable pub text-of : String → List ℕ
 unfolding bytes
 text-of rules = bytes "dogma_v1 utf-8\n\n" ++ bytes rules
 
 -- ---- answers
 
+-- the sheet decides every frame
 pub data Verdict : Type 0 where
   match no-match : Verdict
 
@@ -38,6 +40,7 @@ abbrev pub stored : Verdict → ℕ
 stored match = 1
 stored no-match = 2
 
+-- the column "Answer", with the frame that it is for
 pub data Expected : Type 0 where
   -- "7 at 16"
   refused : (number place : ℕ) → Expected
@@ -46,16 +49,19 @@ pub data Expected : Type 0 where
   -- "match, 8 steps, len 2, reading 1 0 3 8 3 16": the variables' values in text order; and the weight
   run : (weight : ℕ) (frame : List ℕ) (verdict : Verdict) (steps : ℕ) (values reading : List ℕ) → Expected
 
+-- a row: rules, and the answer to them
 pub data Row : Type 0 where
   row : (rules : String) → Expected → Row
 
 -- ---- what a row says
 
+-- the window that a clash carries
 abbrev pub window-in : Clash → Option ℕ
 window-in Clash.None = none
 window-in (Clash.Branches window first second) = some window
 window-in (Clash.Passes window) = some window
 
+-- the answer is a clash at this place with this window
 abbrev pub Clashes : (place window : ℕ) → Admission → Type 0
 Clashes place window (Admission.Admitted weight) = ⊥
 Clashes place window (Admission.Refused number p) = ⊥
@@ -86,15 +92,18 @@ abbrev pub Says : Row → Type 0
 Says (row rules expected) =
     (old new : List ℕ) (answer : Admission) → table-words ≤ length old → Answers (text-of rules) old new answer → Meets expected new answer
 
+-- every row of a list says so
 abbrev pub Each : (Row → Type 0) → List Row → Type 0
 Each P [] = Unit {0}
 Each P (r ∷ rs) = P r × Each P rs
 
 -- ---- the sheet
 
+-- "G = …, weight 6"
 abbrev pub G : String
 G = "frame = uint(8, var(len, 1~8)) & uint(8, ~){len};"
 
+-- the rules of the others; K7 has those of K6
 abbrev pub K5 : String
 K5 = "frame = \"AB\" | \"AC\";"
 
@@ -113,6 +122,7 @@ K10 = "frame = uint(8, var(t, ~)) & [t = 1: \"A\"; t = 2: uint(16, ~);];"
 abbrev pub K11 : String
 K11 = "a = \"x\" & b; b = a;"
 
+-- a row with two frames stands here twice
 abbrev pub rows : List Row
 rows =
     -- K1 to K4

@@ -20,17 +20,20 @@ use Rattle.sizes.specs.declared.Sized.{Sized}
 
 -- ---- a list that comes to an end passes; one that leaves 2^62 does so at a term, of the whole or of a part
 
+-- of a calculation
 abbrev pub ofCalculated : Calculated → ℕ → Sized
 ofCalculated (Calculated.Number z) at = Sized.Passes
 ofCalculated Calculated.Malformed at = Sized.Malformed
 ofCalculated Calculated.Overflow at = Sized.Exceeds at
 
+-- of a set or a condition
 abbrev pub ofTested : Tested → ℕ → Sized
 ofTested Tested.No at = Sized.Passes
 ofTested Tested.Yes at = Sized.Passes
 ofTested Tested.Malformed at = Sized.Malformed
 ofTested Tested.Overflow at = Sized.Exceeds at
 
+-- of counts
 abbrev pub ofCounted : Counted → ℕ → Sized
 ofCounted Counted.None at = Sized.Passes
 ofCounted (Counted.From low) at = Sized.Passes
@@ -38,11 +41,13 @@ ofCounted (Counted.Within low more) at = Sized.Passes
 ofCounted Counted.Malformed at = Sized.Malformed
 ofCounted Counted.Overflow at = Sized.Exceeds at
 
+-- by the kind of list
 abbrev pub judged : Kind → Trial → ℕ → Sized
 judged Kind.Calculation r at = ofCalculated (numberOf r) at
 judged Kind.Set r at = ofTested (verdictOf r) at
 judged Kind.Condition r at = ofTested (verdictOf r) at
 
+-- at the term where it ended
 abbrev pub judgedEnd : Kind → Ended → Sized
 judgedEnd k e = judged k (e .trial) (e .at)
 
@@ -54,5 +59,6 @@ sizes k widest i xs = judgedEnd k (run k Mode.Sizes widest (pos 0) i xs Numbers.
 abbrev pub ofTally : Tally → Sized
 ofTally x = ofCounted (x .counted) (x .at)
 
+-- of the counts that are the terms from number `start` up to number `end`
 unfoldable pub countSizes : List ℤ → List ℕ → ℕ → ℕ → Sized
 countSizes widest ws start end = ofTally (tallied Mode.Sizes widest ws start end)

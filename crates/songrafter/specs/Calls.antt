@@ -26,6 +26,7 @@ told-clash place construct Clash.None = place ∷ 0 ∷ construct ∷ 0 ∷ 0 �
 told-clash place construct (Clash.Branches window first second) = place ∷ window ∷ construct ∷ first ∷ second ∷ []
 told-clash place construct (Clash.Passes window) = place ∷ window ∷ construct ∷ 0 ∷ 0 ∷ []
 
+-- the five of any answer
 abbrev pub told : Admission → List ℕ
 told (Admission.Admitted weight) = weight ∷ 0 ∷ 0 ∷ 0 ∷ 0 ∷ []
 told (Admission.Refused number place) = place ∷ 0 ∷ 0 ∷ 0 ∷ 0 ∷ []
@@ -40,9 +41,11 @@ pub record Admits (text old new answer answer′ : List ℕ) (number : ℕ) : Ty
 
 -- ---- opening: 23, 21, 22; then 24 where the room for the run is not that of a saved run. The run is written where there is room for it
 
+-- document 01 has no other number for bytes that are no saved run
 abbrev pub number-with-room : ℕ → ℕ → ℕ
 number-with-room number room = pick (eqb number 0) (pick (eqb room saved-bytes) 0 24) number
 
+-- opening answers with its number; "a refused open gives a closed run", which is written too
 pub record Opens (table frame reading run run′ : List ℕ) (number : ℕ) : Type 0 where
   pub answer : Answer
   pub answered : opening.Answered table frame reading answer
@@ -52,9 +55,11 @@ pub record Opens (table frame reading run run′ : List ℕ) (number : ℕ) : Ty
 -- ---- granting: 21, then 24, also where the slice is not a saved run's; then neither run nor reading changes, byte by byte. The count of the
 -- steps taken is written where it fits
 
+-- what the grant leaves of the run that the bytes are
 abbrev pub granted : (table frame reading run : List ℕ) → ℕ → runs.After
 granted table frame reading run steps = runs.grant-of (table-of table) frame reading (decoded run) steps
 
+-- the bytes are a saved run: all that the grant leaves is written
 abbrev pub GrantsRun : (table frame reading reading′ run run′ taken taken′ : List ℕ) → (steps number : ℕ) → Type 0
 GrantsRun table frame reading reading′ run run′ taken taken′ steps number =
     (number ≡ runs.number-of (runs.answer-in (granted table frame reading run steps)))
@@ -66,10 +71,12 @@ GrantsRun table frame reading reading′ run run′ taken taken′ steps number 
 abbrev pub no-run-number : List ℕ → ℕ
 no-run-number frame = pick (ltb 256 (length frame)) 21 24
 
+-- they are none: nothing changes, and the count is 0
 abbrev pub GrantsNone : (frame reading reading′ run run′ taken taken′ : List ℕ) → (number : ℕ) → Type 0
 GrantsNone frame reading reading′ run run′ taken taken′ number =
     (number ≡ no-run-number frame) × (reading′ ≡ reading) × (run′ ≡ run) × (taken′ ≡ set taken 0 0)
 
+-- granting, by the length of the run's bytes
 pub record Grants (table frame reading reading′ run run′ taken taken′ : List ℕ) (steps number : ℕ) : Type 0 where
   pub saved : length run ≡ saved-bytes → GrantsRun table frame reading reading′ run run′ taken taken′ steps number
   pub other : (length run ≡ saved-bytes → ⊥) → GrantsNone frame reading reading′ run run′ taken taken′ number

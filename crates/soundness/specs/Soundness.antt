@@ -14,6 +14,7 @@ use Rattle.layout.specs.Held.{Values, held, opening}
 use Rattle.scoping.specs.Scope.{value-of, fresh, scope-of}
 use Rattle.acts.specs.Stored.{tests-of}
 
+-- each in the theory's own words; above it stands the rule of document 01 that gives it
 pub record Trusted (ws : List ℕ) : Type 0 where
   -- FIRST goes by no values, and misses nothing: "a set with a variable counting as `~`", "counts with a variable allowing all"
   pub static : Static (held ws)

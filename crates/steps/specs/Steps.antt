@@ -51,10 +51,11 @@ abbrev pub taken : List ℕ → Head → ℕ → ℕ → ℕ → Head
 taken fs h count position captures =
     record { position = position; count = count; captures = captures; steps = h .steps + 1; verdict = verdict-after fs count position }
 
--- members put below each other, the first one last, ending below place `at`: `what` is put for each
+-- Members are put below each other, the first one last, ending below place `at`. One of them: `what` is put for it.
 abbrev pub put : (ℕ → ℕ) → ℕ → (ℕ → List ℕ → List ℕ) → ℕ → List ℕ → List ℕ
 put what j rest k xs = pick (eqb k 0) xs (rest (k - 1) (set xs (k - 1) (what j)))
 
+-- the members from number `start` up to number `end`
 unfoldable pub placed : (ℕ → ℕ) → List ℕ → ℕ → ℕ → ℕ → List ℕ → List ℕ
 unfolding walk
 placed what ws start end at xs = walk {A = ℕ → List ℕ → List ℕ} (put what) (λ k ys. ys) (λ k ys. ys) (end - start) ws start end at xs
@@ -87,6 +88,7 @@ take-done fs cs ps vs rs h i width binder n =
     (whole cs ps (bind binder n vs) (set (set rs (2 * h .captures) i) (2 * h .captures + 1) (h .position)) (taken fs h (h .count - 1) (h .position + width) (h .captures + 1)))
     (whole cs ps vs rs (break h))
 
+-- what an act makes of all that a step may change; the first entry is (i, k)
 abbrev pub effect : List ℕ → List ℕ → ℕ → ℕ → List ℕ → List ℕ → List ℤ → List ℕ → Head → Act → Whole
 effect ws fs i k cs ps vs rs h Act.Broken = whole cs ps vs rs (break h)
 effect ws fs i k cs ps vs rs h Act.Fail = whole cs ps vs rs (fail h)
@@ -96,13 +98,15 @@ effect ws fs i k cs ps vs rs h (Act.Again b) = again-done fs cs ps vs rs h k b
 effect ws fs i k cs ps vs rs h Act.Leave = whole cs ps vs rs (taken fs h (h .count - 1) (h .position) (h .captures))
 effect ws fs i k cs ps vs rs h (Act.Take width binder n) = take-done fs cs ps vs rs h i width binder n
 
--- the same of the arrays that a part of a step writes, whatever the others are
+-- the same of the arrays that members are put into, whatever the others are
 abbrev pub MembersDone : List ℕ → List ℕ → List ℕ → List ℕ → Head → ℕ → ℕ → ℕ → List ℕ → List ℕ → Head → Type 0
 MembersDone ws fs cs ps h start end n cs′ ps′ h′ = (vs : List ℤ) (rs : List ℕ) → whole cs′ ps′ vs rs h′ ≡ members-done ws fs cs ps vs rs h start end n
 
+-- of the arrays that a further pass writes
 abbrev pub AgainDone : List ℕ → List ℕ → List ℕ → Head → ℕ → ℕ → List ℕ → List ℕ → Head → Type 0
 AgainDone fs cs ps h k b cs′ ps′ h′ = (vs : List ℤ) (rs : List ℕ) → whole cs′ ps′ vs rs h′ ≡ again-done fs cs ps vs rs h k b
 
+-- of those that a field writes
 abbrev pub TakeDone : List ℕ → List ℤ → List ℕ → Head → ℕ → ℕ → ℕ → ℕ → List ℤ → List ℕ → Head → Type 0
 TakeDone fs vs rs h i width binder n vs′ rs′ h′ = (cs ps : List ℕ) → whole cs ps vs′ rs′ h′ ≡ take-done fs cs ps vs rs h i width binder n
 
@@ -110,6 +114,7 @@ TakeDone fs vs rs h i width binder n vs′ rs′ h′ = (cs ps : List ℕ) → w
 abbrev pub in-bound : List ℕ → List ℕ → ℕ → Bool
 in-bound ws fs n = pick (leb (weight-of ws) 65535) (ltb n (weight-of ws * (bits-of fs + 1))) false
 
+-- "A step takes the first entry"; a number past 256 is "a table entry missing"
 abbrev pub first-step : List ℕ → List ℕ → ℕ → ℕ → List ℕ → List ℕ → List ℤ → List ℕ → Head → Whole
 first-step ws fs i k cs ps vs rs h = pick (leb i 256) (effect ws fs i k cs ps vs rs h (actOf ws fs vs (h .position) i k)) (whole cs ps vs rs (break h))
 

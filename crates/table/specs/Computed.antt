@@ -8,11 +8,13 @@ use Rattle.sets.specs.Sets.{FollowSets, PredictionSets}
 use Rattle.table.specs.Judged.{Passed8, Judged}
 use Rattle.table.specs.declared.Judgement.{Judgement}
 
+-- a conflict was found
 abbrev pub is-clash : Clash → Bool
 is-clash Clash.None = false
 is-clash (Clash.Branches window first second) = true
 is-clash (Clash.Passes window) = true
 
+-- nothing was found
 abbrev pub is-passed : Judgement → Bool
 is-passed Judgement.Unlaid = false
 is-passed (Judgement.Recursive rule) = false

@@ -1,4 +1,4 @@
--- The judgement over a table's words: "1 to 11 are tried in order". 5 and 6 are what the layout asks (`laid`).
+-- The judgement over a table's words: "1 to 11 are tried in order". 5 and 6, and 8's limits of widths and numbers, are what the layout asks (`laid`).
 -- Assumes nothing.
 use Prim.Native.Nat.{ℕ, _≤_, _<_}
 use mathlib.Core.Path.{_≡_}
@@ -20,6 +20,7 @@ pub record Least (ws : List ℕ) (P : ℕ → Type 0) (i : ℕ) : Type 0 where
   pub holds : P i
   pub before : (j : ℕ) → j < i → P j → ⊥
 
+-- nothing has the property
 abbrev pub None : (ℕ → Type 0) → Type 0
 None P = (i : ℕ) → P i → ⊥
 
@@ -32,23 +33,27 @@ abbrev pub Weighing : List ℕ → (ℕ → Type 0) → Type 0
 Weighing ws P = (weight : Unit {0} → ℕ → ℕ) → Weighs (held ws) weight → P (weight tt opening)
 
 module _ (ws : List ℕ) where
-  -- passed up to 7, 8, 9, 10
+  -- laid out (5 and 6), and no "rule reaches itself" (7)
   pub record Passed7 : Type 0 where
     pub laid-out : laid ws ≡ true
     pub acyclic : Acyclic ws
 
+  -- and no calculation may pass 2^62 (8)
   pub record Passed8 : Type 0 where
     pub passed : Passed7
     pub sized : (i : ℕ) → i < construct-count ws → Oversized ws i → ⊥
 
+  -- and no "repeated body has the empty first window" (9)
   pub record Passed9 : Type 0 where
     pub passed : Passed8
     pub no-empty-body : None (EmptyBody (held ws))
 
+  -- and there is no "clash" (10)
   pub record Passed10 : Type 0 where
     pub passed : Passed9
     pub no-conflict : None (Conflicting ws)
 
+  -- the first of 5 to 11 that is given, or the weight
   abbrev pub Judged : Judgement → Type 0
   Judged Judgement.Unlaid = laid ws ≡ false
   -- 7: "rule reaches itself", "first such rule"

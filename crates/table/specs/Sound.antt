@@ -30,5 +30,6 @@ pub record Sound (ws : List ℕ) : Type 0 where
   pub weight : Weighing ws (λ n. n ≡ weight-of ws)
   pub sets : (i : ℕ) → i < construct-count ws → SetsStand ws i
 
+-- "Words past 16,384 are neither read nor changed": a caller may lend more words, and the first 16,384 are judged
 abbrev pub SoundTable : List ℕ → Type 0
 SoundTable ws = (table-words ≤ length ws) × Sound (table-of ws)

@@ -37,6 +37,7 @@ abbrev pub unary : (ℤ → ℤ) → Top → Outcome
 unary f (Top.Of rest a) = kept rest (bounded (f a))
 unary f Top.Short = Outcome.Malformed
 
+-- a part of a calculation: a number, a variable's use or a sign
 abbrev pub operateOf : Mode → List ℤ → Operation → Numbers → Outcome
 operateOf m env (Operation.Number n) s = kept s (bounded (pos n))
 operateOf m env (Operation.Variable k) s = variableOf env k s
@@ -46,6 +47,7 @@ operateOf m env Operation.Multiply s = binary _*ℤ_ (pairOf s)
 operateOf m env Operation.Negate s = unary (oppositeOf m) (topOf s)
 operateOf m env Operation.Unknown s = Outcome.Malformed
 
+-- the tests that wait are left as they are
 abbrev pub afterOf : Outcome → ℕ → Trial
 afterOf (Outcome.Stack s) t = Trial.Running s t
 afterOf Outcome.Malformed t = Trial.Malformed
@@ -53,11 +55,12 @@ afterOf Outcome.Overflow t = Trial.Overflow
 
 -- ---- sets, on a value v: "alternatives of `~`, `a`, `a~b`, `a~`, `~b`, each with at most one `!` and a second item or a set"
 
--- a test of the last number, or of the last two
+-- a test of the last number
 abbrev pub testTop : (ℤ → Bool) → Top → ℕ → Trial
 testTop p (Top.Of rest a) t = noted rest t (p a)
 testTop p Top.Short t = Trial.Malformed
 
+-- or of the last two
 abbrev pub testPair : (ℤ → ℤ → Bool) → Pair → ℕ → Trial
 testPair p (Pair.Of rest a b) t = noted rest t (p a b)
 testPair p Pair.Short t = Trial.Malformed
@@ -78,6 +81,7 @@ from v = testTop (λ a. leZ a v)
 abbrev pub upTo : ℤ → Top → ℕ → Trial
 upTo v = testTop (λ b. leZ v b)
 
+-- an item `a` tests the calculation that it ends
 abbrev pub operated : ℤ → Outcome → ℕ → Trial
 operated v (Outcome.Stack s) t = equalTo v (topOf s) t
 operated v Outcome.Malformed t = Trial.Malformed
@@ -85,6 +89,7 @@ operated v Outcome.Overflow t = Trial.Overflow
 
 -- ---- conditions: "comparisons (`= != < <= > >=`) joined all by `&` or all by `|`"
 
+-- what each comparison says of two numbers
 abbrev pub compares : Comparison → ℤ → ℤ → Bool
 compares Comparison.Equal a b = equals a b
 compares Comparison.Unequal a b = not (equals a b)
@@ -93,11 +98,13 @@ compares Comparison.AtMost a b = leZ a b
 compares Comparison.Greater a b = not (leZ a b)
 compares Comparison.AtLeast a b = leZ b a
 
+-- of the last two numbers that wait
 abbrev pub compared : Comparison → Pair → ℕ → Trial
 compared k = testPair (compares k)
 
 -- ---- a term of each kind of list; any other term cannot stand there
 
+-- in a calculation
 abbrev pub calculationStep : Mode → List ℤ → Term → Numbers → ℕ → Trial
 calculationStep m env (Term.Part o) s t = afterOf (operateOf m env o s) t
 calculationStep m env (Term.Single o) s t = Trial.Malformed
@@ -111,6 +118,7 @@ calculationStep m env Term.And s t = Trial.Malformed
 calculationStep m env (Term.Compare k) s t = Trial.Malformed
 calculationStep m env Term.Bad s t = Trial.Malformed
 
+-- in a set
 abbrev pub setStep : Mode → List ℤ → ℤ → Term → Numbers → ℕ → Trial
 setStep m env v (Term.Part o) s t = afterOf (operateOf m env o s) t
 setStep m env v (Term.Single o) s t = operated v (operateOf m env o s) t
@@ -124,6 +132,7 @@ setStep m env v Term.And s t = Trial.Malformed
 setStep m env v (Term.Compare k) s t = Trial.Malformed
 setStep m env v Term.Bad s t = Trial.Malformed
 
+-- in a condition
 abbrev pub conditionStep : Mode → List ℤ → Term → Numbers → ℕ → Trial
 conditionStep m env (Term.Part o) s t = afterOf (operateOf m env o s) t
 conditionStep m env (Term.Single o) s t = Trial.Malformed
@@ -137,6 +146,7 @@ conditionStep m env Term.And s t = combined Joint.And s t
 conditionStep m env (Term.Compare k) s t = compared k (pairOf s) t
 conditionStep m env Term.Bad s t = Trial.Malformed
 
+-- by the kind of list
 abbrev pub stepOf : Kind → Mode → List ℤ → ℤ → Term → Numbers → ℕ → Trial
 stepOf Kind.Calculation m env v = calculationStep m env
 stepOf Kind.Set m env v = setStep m env v

@@ -5,6 +5,7 @@ use mathlib.Core.Bool.{Bool, cond, not, _&&_, _||_}
 use lib.Dec.{leb, ltb, eqb}
 use Rattle.text.specs.declared.Class.{Class}
 
+-- b is `low` or more and `high` or less
 abbrev pub within : ℕ → ℕ → ℕ → Bool
 within low b high = leb low b && leb b high
 
@@ -12,6 +13,7 @@ within low b high = leb low b && leb b high
 abbrev pub is-letter : ℕ → Bool
 is-letter b = within 65 b 90 || within 97 b 122
 
+-- 0 to 9
 abbrev pub is-digit : ℕ → Bool
 is-digit b = within 48 b 57
 
@@ -43,9 +45,11 @@ lower-case b = cond (within 65 b 90) (b + 32) b
 abbrev pub digit-of : ℕ → ℕ
 digit-of b = cond (is-digit b) (b - 48) (cond (within 97 b 102) (b - 87) (cond (within 65 b 70) (b - 55) 16))
 
+-- a digit of this radix
 abbrev pub in-radix : ℕ → ℕ → Bool
 in-radix radix b = ltb (digit-of b) radix
 
+-- a byte of a class, as runs of bytes are read
 abbrev pub in-class : Class → ℕ → Bool
 in-class Class.Blank b = is-blank b
 in-class Class.Header b = is-header b

@@ -28,9 +28,11 @@ content line = cond (eqb (getD line (length line - 1) 0) 13) (take (length line 
 
 -- ---- "First line: `dogma_v1`, one or more spaces or tabs, `utf-8` in any letter case."
 
+-- this letter case only
 abbrev pub dogma-v1 : List ℕ
 dogma-v1 = 100 ∷ 111 ∷ 103 ∷ 109 ∷ 97 ∷ 95 ∷ 118 ∷ 49 ∷ []
 
+-- in lower case
 abbrev pub utf-8 : List ℕ
 utf-8 = 117 ∷ 116 ∷ 102 ∷ 45 ∷ 56 ∷ []
 
@@ -38,6 +40,7 @@ utf-8 = 117 ∷ 116 ∷ 102 ∷ 45 ∷ 56 ∷ []
 abbrev pub blanks-end : List ℕ → ℕ
 blanks-end line = span-end Class.Blank 8 (drop 8 line)
 
+-- a first line without its end
 unfoldable pub is-first-line : List ℕ → Bool
 is-first-line line = starts false dogma-v1 line && (leb 9 (blanks-end line) && is-word true utf-8 (drop (blanks-end line) line))
 
@@ -47,11 +50,12 @@ is-first-line line = starts false dogma-v1 line && (leb 9 (blanks-end line) && i
 abbrev pub equals-at : List ℕ → ℕ
 equals-at line = span-end (Class.Except 61) 2 (drop 2 line)
 
+-- a header line without its end; `Split.HeaderLine` has its parts
 unfoldable pub is-header-line : List ℕ → Bool
 is-header-line line =
     (eqb (getD line 0 0) 45 && is-blank (getD line 1 0)) && ((leb 3 (equals-at line) && ltb (equals-at line + 1) (length line)) && eqb (span-end Class.Header 0 line) (length line))
 
--- ---- "then an empty line"; "3: header wrong, at the start of the line, an unended one too (text's end if none)"
+-- ---- "then an empty line"; 3: "header wrong", at the "start of the line, an unended one too (text's end if none)"
 
 -- the header lines from place `at` on
 unfoldable pub header-lines-of : ℕ → List (List ℕ) → Heading
@@ -62,6 +66,7 @@ header-lines-of at (line ∷ more) =
       | false ↦ elim (is-header-line (content line)) [ true ↦ header-lines-of (at + length line + 1) more | false ↦ Heading.Wrong at ]
     ]
 
+-- the first line, and then the header lines
 abbrev pub first-of : List (List ℕ) → Heading
 first-of [] = Heading.Wrong 0
 first-of (line ∷ more) = elim (is-first-line (content line)) [ true ↦ header-lines-of (length line + 1) more | false ↦ Heading.Wrong 0 ]

@@ -9,6 +9,7 @@ use mathlib.Core.Option.{Option}
 use Rattle.basis.specs.Bits.{Bits}
 use Rattle.basis.specs.Counts.{Counts}
 
+-- i is one of these constructs
 infix 40 _∈_
 abbrev pub _∈_ : ℕ → List ℕ → Type 0
 i ∈ is = List·Memᴰ i is

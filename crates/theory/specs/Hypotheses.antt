@@ -30,6 +30,7 @@ pub record Static {Context Values : Type 0} (g : Grammar Context Values) : Type 
   pub chosen-listed : {i b : ℕ} {chosen : Context → Values → Option ℕ} {is : List ℕ}
       → g .node i ≡ switch chosen is → (c : Context) (v : Values) → chosen c v ≡ some b → b ∈ is
 
+-- of a grammar without refusals, and of lookups that are exact
 pub record Hypotheses {Context Values : Type 0} (g : Grammar Context Values) (tests : Tests) : Type 0 where
   pub static : Static g
   -- refusal 8: a width is at least 1; refusal 4: a literal has at least one character

@@ -14,6 +14,7 @@ use Rattle.basis.specs.Lookahead.{lookahead, join, number}
 use Rattle.theory.specs.Grammar.{Node, alternative, concatenation, repetition, switch, use-of, field, eod, Grammar, _∈_}
 use Rattle.theory.specs.Derivation.{Shape, construct, members, passes}
 
+-- "First windows": of a construct, of members in a row, of so many passes
 pub data First {Context Values : Type 0} (g : Grammar Context Values) : Shape Context Values → Bits → Type 0 where
   -- "of a field, the leading 8 bits (or all, if fewer) of each bit pattern it admits, a set with a variable counting as `~`"
   of-field : {i w : ℕ} {admits : Context → Values → Bits → Bool} {static : Bits → Bool} {binds : Context → Values → Bits → Values} {x : Bits} (bits : Bits)
@@ -36,6 +37,7 @@ pub data First {Context Values : Type 0} (g : Grammar Context Values) : Shape Co
   no-passes : {b : ℕ} → First g (passes b zero) []
   more-passes : {b k : ℕ} {x y z : Bits} → First g (construct b (g .node b)) x → First g (passes b k) y → z ≡ join x y → First g (passes b (suc k)) z
 
+-- "Follow windows": of a construct, by its number
 pub data Follow {Context Values : Type 0} (g : Grammar Context Values) : ℕ → Bits → Type 0 where
   -- "of the start rule, the empty one": it is what follows the opening use
   of-start : {i : ℕ} → i ≡ g .start → Follow g i []
@@ -60,6 +62,7 @@ pub data Predicted {Context Values : Type 0} (g : Grammar Context Values) (i : �
 pub data Continues {Context Values : Type 0} (g : Grammar Context Values) (i b : ℕ) : Bits → Type 0 where
   continues : {x y z : Bits} (k : ℕ) → First g (passes b (suc k)) x → Follow g i y → z ≡ join x y → Continues g i b z
 
+-- "*stop* is follow"
 abbrev pub Exits : {Context Values : Type 0} → Grammar Context Values → ℕ → Bits → Type 0
 Exits g i x = Follow g i x
 

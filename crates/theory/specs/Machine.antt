@@ -27,6 +27,7 @@ pub data Entry (Context : Type 0) : Type 0 where
 pub data State (Context Values : Type 0) : Type 0 where
   state : (pending : List (Entry Context)) (rest : Bits) (position : ℕ) (values : Values) (captures : List Capture) → State Context Values
 
+-- the parts of a state
 abbrev pub pending-of : {Context Values : Type 0} → State Context Values → List (Entry Context)
 pending-of (state es s p v cs) = es
 
@@ -116,6 +117,7 @@ tree-steps nil = 0
 tree-steps (member t u) = tree-steps t + tree-steps u
 tree-steps (pass t u) = 1 + tree-steps t + tree-steps u
 
+-- "match", "no match", or neither yet
 pub data Verdict : Type 0 where
   undecided matched unmatched : Verdict
 
@@ -125,9 +127,11 @@ verdict (state [] [] p v cs) = matched
 verdict (state [] (b ∷ s) p v cs) = unmatched
 verdict (state (e ∷ es) s p v cs) = undecided
 
+-- a state, "steps taken and a verdict"
 pub data Run (Context Values : Type 0) : Type 0 where
   run : (now : State Context Values) (taken : ℕ) (verdict : Verdict) → Run Context Values
 
+-- the parts of a run
 abbrev pub verdict-of : {Context Values : Type 0} → Run Context Values → Verdict
 verdict-of (run σ n d) = d
 
@@ -143,6 +147,7 @@ module _ {Context Values : Type 0} (g : Grammar Context Values) (tests : Tests) 
   unfoldable pub open-state : Bits → State Context Values
   open-state s = state (entry (g .start) (g .context) 0 ∷ []) s 0 (g .values) []
 
+  -- no step is taken yet
   unfoldable pub opened : Bits → Run Context Values
   unfolding open-state
   opened s = run (open-state s) 0 undecided

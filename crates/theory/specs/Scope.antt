@@ -69,6 +69,7 @@ module _ {Context Values : Type 0} (scope : Scope) (fresh : ℕ → Context → 
   local-use true i enters opens closes b = use-of enters (fresh i) (λ v v′. v) b
   local-use false i enters opens closes b = use-of enters opens closes b
 
+  -- nothing but the uses of rules changes
   unfoldable pub local-node : ℕ → Node Context Values → Node Context Values
   local-node i (alternative is) = alternative is
   local-node i (concatenation is) = concatenation is
@@ -78,6 +79,7 @@ module _ {Context Values : Type 0} (scope : Scope) (fresh : ℕ → Context → 
   local-node i (field w admits static binds) = field w admits static binds
   local-node i eod = eod
 
+  -- the grammar of such nodes
   abbrev pub localised : Grammar Context Values → Grammar Context Values
   localised g = record { node = λ i. local-node i (g .node i); start = g .start; context = g .context; values = g .values }
 

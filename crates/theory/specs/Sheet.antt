@@ -22,6 +22,7 @@ use Rattle.theory.specs.Machine.{Tests, state, Verdict, undecided, match
 abbrev pub Variables : Type 0
 Variables = ℕ → ℕ
 
+-- a variable's value
 abbrev pub get : Variables → ℕ → ℕ
 get v x = v x
 
@@ -29,6 +30,7 @@ get v x = v x
 abbrev pub bind : Variables → ℕ → ℕ → Variables
 bind v x n y = elim (eqb y x) [ true ↦ n | false ↦ v y ]
 
+-- nodes and grammars of the sheet
 abbrev pub SheetNode : Type 0
 SheetNode = Node (Unit {0}) Variables
 
@@ -90,14 +92,17 @@ starred body = repetition (λ c v. from 0) (from 0) false body
 pub data Case : Type 0 where
   equals : (n body : ℕ) → Case
 
+-- the body of the first case whose number k is
 unfoldable pub first-true : ℕ → List Case → Option ℕ
 first-true k [] = none
 first-true k (equals n body ∷ cases) = elim (eqb k n) [ true ↦ some body | false ↦ first-true k cases ]
 
+-- all cases, for FIRST
 unfoldable pub bodies : List Case → List ℕ
 bodies [] = []
 bodies (equals n body ∷ cases) = body ∷ bodies cases
 
+-- a switch by the variable numbered x
 abbrev pub switch-on : ℕ → List Case → SheetNode
 switch-on x cases = switch (λ c v. first-true (v x) cases) (bodies cases)
 
@@ -131,6 +136,7 @@ pub record Sample : Type 0 where
   pub weight : ℕ
   pub weights : List ℕ
 
+-- a sample's grammar
 unfoldable pub grammar-of : Sample → SheetGrammar
 unfolding grammar-from
 grammar-of s = grammar-from (s .constructs)
@@ -140,6 +146,7 @@ unfoldable pub scope-of : Sample → Scope
 unfolding numbered
 scope-of s = record { sees = numbered [] [] (s .sees); binds = numbered [] [] (s .binds); opens-rule = λ i. true; enters-with = λ i. [] }
 
+-- a rule opens with its variables all 0
 abbrev pub fresh : ℕ → Unit {0} → Variables → Variables
 fresh i c v x = 0
 
@@ -281,10 +288,12 @@ unfoldable pub first-values : ℕ → Variables → List ℕ
 first-values zero v = []
 first-values (suc n) v = v 0 ∷ first-values n (λ x. v (suc x))
 
+-- what a run answers, of so many variables
 unfoldable pub answered : ℕ → Run (Unit {0}) Variables → Answer
 unfolding first-values
 answered variables (run (state pending rest position values captures) taken verdict) = answer verdict taken (first-values variables values) captures
 
+-- a field recorded
 abbrev pub at : ℕ → ℕ → Capture
 at i p = record { construct = i; first-bit = p }
 
@@ -292,6 +301,7 @@ at i p = record { construct = i; first-bit = p }
 pub data Line : Type 0 where
   line : (grammar : Sample) (frame : List ℕ) (expected : Answer) → Line
 
+-- what the sheet says
 abbrev pub expected-of : Line → Answer
 expected-of (line s bytes a) = a
 
@@ -307,6 +317,7 @@ Says (line s bytes (answer undecided steps values captures)) = ⊥
 Says (line s bytes (answer matched steps values captures)) = Derivable (grammar-of s) (frameBits bytes)
 Says (line s bytes (answer unmatched steps values captures)) = Derivable (grammar-of s) (frameBits bytes) → ⊥
 
+-- the sheet's lines, and three of a grammar with an alternative
 unfoldable pub lines : List Line
 unfolding as-many ones one-less tagged lettered
 lines =

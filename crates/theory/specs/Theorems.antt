@@ -44,6 +44,7 @@ module _ {Context Values : Type 0} (g : Grammar Context Values) where
     pub binds-so : {i w : ℕ} {admits : Context → Values → Bits → Bool} {static : Bits → Bool} {binds : Context → Values → Bits → Values}
         → g .node i ≡ field w admits static binds → (c : Context) (v : Values) (bits : Bits) → binds c v bits ≡ bind i v bits
 
+  -- of every frame and every derivation of it
   abbrev pub ValuesTheorem : Type 0
   ValuesTheorem = (bind : ℕ → Values → Bits → Values) → Plain bind → (s : Bits) (t : Tree) (v : Values) → Derivation g s t v → v ≡ replayed bind t (g .values)
 
@@ -77,6 +78,7 @@ module _ {Context Values : Type 0} (g : Grammar Context Values) (tests : Tests) 
       pub match-end : (s : Bits) (t : Tree) (v : Values) → Derivation g s t v → (n : ℕ) → tree-steps t ≤ n
           → granted g tests n (opened g tests s) ≡ run (state [] [] (length s) v (captures t 0)) (tree-steps t) matched
 
+    -- of a grammar without refusals and weights that are large enough
     abbrev pub ExactTheorem : Type 0
     ExactTheorem = Hypotheses g tests → Outweighs g weight → Exact
 
@@ -88,6 +90,7 @@ module _ {Context Values : Type 0} (g : Grammar Context Values) (tests : Tests) 
           → (v′ : Values) × Derivation g s t v′ × (granted g tests n (opened g tests s) ≡ run (state [] [] (length s) v′ (captures t 0)) (tree-steps t) matched)
       pub once : (s : Bits) (t t′ : Tree) (v v′ : Values) → Derivation localised-g s t v → Derivation localised-g s t′ v′ → t ≡ t′
 
+    -- the same, where names keep to document 01's rules
     abbrev pub ExactLocalTheorem : {A : Type 0} → (Values → ℕ → A) → Scope → (ℕ → Context → Values → Values) → Type 0
     ExactLocalTheorem get scope fresh = Hypotheses g tests → Outweighs g weight → Lexical get scope fresh g → ExactLocal (localised scope fresh g)
 
@@ -100,6 +103,7 @@ module _ {Context Values : Type 0} (g : Grammar Context Values) (tests : Tests) 
       -- "the smaller of its grant and the steps still missing until decided"
       pub taken-later : (m n : ℕ) → taken g tests n (granted g tests m (opened g tests s)) ≡ min n (needed - m)
 
+    -- of every frame
     abbrev pub BoundTheorem : Type 0
     BoundTheorem = Hypotheses g tests → Outweighs g weight → (s : Bits) → Decision s
 
@@ -111,6 +115,7 @@ module _ {Context Values : Type 0} (g : Grammar Context Values) (tests : Tests) 
       pub captures-few : length (captures-of σ) + length (rest-of σ) ≤ length s
       pub passes-few : Passes (pending-of σ) (length s + 1)
 
+    -- of every frame and after any number of steps
     abbrev pub MomentTheorem : Type 0
     MomentTheorem = Hypotheses g tests → Outweighs g weight → (s : Bits) (n : ℕ) → Moment s (state-of (granted g tests n (opened g tests s)))
 

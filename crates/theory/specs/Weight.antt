@@ -8,10 +8,12 @@ use mathlib.Core.Option.{Option, none, some}
 use lib.ListN.{length}
 use Rattle.theory.specs.Grammar.{Node, alternative, concatenation, repetition, switch, use-of, field, eod, Grammar}
 
+-- the parts' weights, added
 unfoldable pub sum : (ℕ → ℕ) → List ℕ → ℕ
 sum f [] = 0
 sum f (i ∷ is) = f i + sum f is
 
+-- the largest of them; none is 0
 unfoldable pub largest : (ℕ → ℕ) → List ℕ → ℕ
 largest f [] = 0
 largest f (i ∷ is) = max (f i) (largest f is)
@@ -42,6 +44,7 @@ unfoldable pub members-room : (ℕ → ℕ) → List ℕ → ℕ
 members-room f [] = 0
 members-room f (i ∷ is) = max (f i + length is) (members-room f is)
 
+-- a node's room, given its parts'
 unfoldable pub room : {Context Values : Type 0} → (Context → ℕ → ℕ) → Context → Node Context Values → ℕ
 unfolding largest members-room
 room rooms c (alternative is) = largest (rooms c) is

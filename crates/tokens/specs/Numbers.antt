@@ -17,6 +17,7 @@ named-radix b = cond (eqb (lower-case b) 120) 16 (cond (eqb (lower-case b) 111) 
 abbrev pub radix-of : ℕ → ℕ → ℕ → ℕ
 radix-of a b c = cond (eqb a 48 && in-radix (named-radix b) c) (named-radix b) 10
 
+-- the radix of the number at i
 unfoldable pub radix-at : List ℕ → ℕ → ℕ
 radix-at xs i = radix-of (getD xs i 0) (getD xs (i + 1) 0) (getD xs (i + 2) 0)
 
@@ -24,6 +25,7 @@ radix-at xs i = radix-of (getD xs i 0) (getD xs (i + 1) 0) (getD xs (i + 2) 0)
 unfoldable pub digits-at : List ℕ → ℕ → ℕ
 digits-at xs i = cond (eqb (radix-at xs i) 10) i (i + 2)
 
+-- where the number at i ends: digits of its radix, as many as come
 unfoldable pub number-end-of : List ℕ → ℕ → ℕ
 number-end-of xs i = span-end (Class.Digit (radix-at xs i)) (digits-at xs i) (drop (digits-at xs i) xs)
 

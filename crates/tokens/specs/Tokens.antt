@@ -20,6 +20,7 @@ use Rattle.tokens.specs.declared.Token.{Token}
 abbrev pub separates : Bool → ℕ → Bool
 separates comment b = comment || (is-separator b || eqb b 35)
 
+-- LF ends a comment, `#` begins one
 abbrev pub comment-after : Bool → ℕ → Bool
 comment-after comment b = cond comment (not (eqb b 10)) (eqb b 35)
 
@@ -34,6 +35,7 @@ gap-end comment i (b ∷ bs) = elim (separates comment b) [ true ↦ gap-end (co
 abbrev pub is-pair : ℕ → ℕ → Bool
 is-pair b c = eqb c 61 && (eqb b 33 || (eqb b 60 || eqb b 62))
 
+-- which of the three it is
 abbrev pub pair-of : ℕ → Kind
 pair-of b = cond (eqb b 33) Kind.Unequal (cond (eqb b 60) Kind.AtMost Kind.AtLeast)
 
@@ -64,14 +66,16 @@ sign-of b =
 
 -- ---- the token that begins at place i
 
+-- a token: from where up to where, and what it is
 abbrev pub token : ℕ → ℕ → Kind → Token
 token start end kind = record { start = start; end = end; kind = kind }
 
--- "Names: an ASCII letter, then letters, digits, `_`, at most 32 bytes"; "4: a name or literal, too long or unclosed too, is one token"
+-- "Names: an ASCII letter, then letters, digits, `_`, at most 32 bytes"; 4: "a name or literal, too long or unclosed too, is one token"
 unfoldable pub name-token : List ℕ → ℕ → Token
 name-token xs i =
     token i (span-end Class.Name i (drop i xs)) (cond (leb (span-end Class.Name i (drop i xs) - i) 32) Kind.Name Kind.Fault)
 
+-- a number of any length; whether it is too large is refusal 8
 unfoldable pub number-token : List ℕ → ℕ → Token
 number-token xs i = token i (number-end-of xs i) Kind.Number
 
@@ -79,6 +83,7 @@ number-token xs i = token i (number-end-of xs i) Kind.Number
 unfoldable pub literal-token : List ℕ → ℕ → Token
 literal-token xs i = token i (literal-at xs i .end) (cond (is-right (literal-at xs i)) Kind.Literal Kind.Fault)
 
+-- a sign; the longer one first
 unfoldable pub sign-token : List ℕ → ℕ → Token
 sign-token xs i =
     elim (is-pair (getD xs i 0) (getD xs (i + 1) 0)) [
@@ -86,6 +91,7 @@ sign-token xs i =
       | false ↦ token i (i + 1) (sign-of (getD xs i 0))
     ]
 
+-- what it is, by its first byte
 unfoldable pub token-begun : List ℕ → ℕ → Token
 token-begun xs i =
     elim (is-letter (getD xs i 0)) [
@@ -98,8 +104,10 @@ token-begun xs i =
 
 -- ---- the token at or after a place; at the end an empty one
 
+-- that token, or the end
 abbrev pub token-from : List ℕ → ℕ → Token
 token-from xs i = elim (ltb i (length xs)) [ true ↦ token-begun xs i | false ↦ token i i Kind.End ]
 
+-- past the bytes that only separate
 unfoldable pub token-of : List ℕ → ℕ → Token
 token-of xs at = token-from xs (gap-end false at (drop at xs))

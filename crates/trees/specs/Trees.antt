@@ -55,6 +55,7 @@ pub data Condition : Type 0 where
   both : Condition → Condition → Condition
   any : Condition → Condition → Condition
 
+-- whether a condition holds, at the values of the variables
 unfoldable pub true-at : List ℤ → Condition → Bool
 true-at env (compare k a b) = compares k (value env a) (value env b)
 true-at env (both x y) = pick (true-at env x) (true-at env y) false
@@ -67,6 +68,7 @@ pub data Repeats : Type 0 where
   up-to : Calculation → Repeats
   spanning : Calculation → Calculation → Repeats
 
+-- "a set of whole numbers from 0", at the values of the variables
 unfoldable pub repeats : List ℤ → Repeats → Counts
 repeats env (exact n) = exactly (value env n)
 repeats env (on-from a) = atLeast (value env a)

@@ -9,6 +9,7 @@ use Rattle.layout.specs.Held.{size-of}
 use Rattle.layout.specs.declared.Construct.{Construct}
 use Rattle.rules.specs.Reaching.{body-of, rule-end}
 
+-- how many constructs construct i is; 0 where it is missing
 abbrev pub size-at : List ℕ → ℕ → ℕ
 size-at ws i = size-of (constructAt ws i)
 
@@ -30,12 +31,13 @@ Filled ws i (Construct.Range low high) = Unit {0}
 Filled ws i (Construct.Uint width start end binder) = Unit {0}
 Filled ws i Construct.Eod = Unit {0}
 
+-- all that the laws of weight and room ask
 pub record Ruled (ws : List ℕ) : Type 0 where
   -- "64 rules, 256 constructs"
   pub some-rule : 1 ≤ rule-count ws
   pub rules-most : rule-count ws ≤ 64
   pub constructs-most : construct-count ws ≤ 256
-  -- "Rule 0 is the start rule, and its body is construct 0; the constructs of rule r + 1 follow those of rule r."
+  -- "Rule 0 is the start rule, its body is construct 0"; "The constructs of rule r + 1 follow those of rule r"
   pub first-body : body-of ws 0 ≡ 0
   pub body-there : (r : ℕ) → r < rule-count ws → body-of ws r < construct-count ws
   pub body-whole : (r : ℕ) → r < rule-count ws → body-of ws r + size-at ws (body-of ws r) ≡ rule-end ws r
