@@ -16,12 +16,12 @@ use Rattle.basis.proofs.Frames.{value-take-less}
 use Rattle.evaluation.specs.Meaning.{membership}
 use Rattle.evaluation.specs.declared.Counted.{Counted}
 use Rattle.evaluation.specs.declared.Tested.{Tested}
-use Rattle.layout.specs.Places.{rule-word, construct-count}
+use Rattle.layout.specs.Places.{rule-word, rule-count, construct-count}
 use Rattle.layout.specs.Constructs.{pick, both, constructAt}
 use Rattle.layout.specs.Held.{terms-of, size-of}
 use Rattle.layout.specs.declared.Construct.{Construct}
 use Rattle.acts.specs.Stored.{stored, prediction-at, follow-at}
-use Rattle.acts.specs.Acts.{in-table, enter, ahead-at, bits-of, walk, by-branch, branch-act, case-test, by-case, case-act, members-act, by-lookahead, choice-act, turn-act, counted, literal-holds, literal-act, range-act, by-set, uint-act, end-act, Fine, construct-act, actOf, Doable}
+use Rattle.acts.specs.Acts.{in-table, enter, open-rule, ahead-at, bits-of, walk, by-branch, branch-act, case-test, by-case, case-act, members-act, by-lookahead, choice-act, turn-act, counted, literal-holds, literal-act, range-act, by-set, uint-act, end-act, Fine, construct-act, actOf, Doable}
 use Rattle.acts.specs.declared.Act.{Act}
 use Rattle.acts.proofs.Sizes.{both-true, construct-fine}
 
@@ -129,13 +129,16 @@ module _ (ws fs : List ℕ) (vs : List ℤ) (p : ℕ) where
       picked (leb (p + width) (bits-of fs)) (by-set (membership vs (pos v) start (terms-of ws start end)) width binder v) Act.Fail
       (λ e. set-good (membership vs (pos v) start (terms-of ws start end)) width binder v (leb-true (p + width) (bits-of fs) e) m small some) tt
 
+  open-good : (rule : ℕ) → Good (open-rule ws rule)
+  open-good rule = picked (ltb rule (rule-count ws)) (enter ws (rule-word ws rule 0)) Act.Broken (λ e. enter-good (rule-word ws rule 0)) tt
+
   construct-good : (i k : ℕ) (c : Construct) → Fine i c → Good (construct-act ws fs vs p i k c)
   construct-good i k Construct.Missing f = tt
   construct-good i k (Construct.Alternative size) f = branch-good (ahead-at fs p) (i + 1) (i + size) f
   construct-good i k (Construct.Concatenation size) f = members-few ws (i + 1) (i + size) (i + size - (i + 1)) (i + 1) 0 fs p f (omega arith)
   construct-good i k (Construct.Repetition size passes) f = turn-good (ahead-at fs p) i k (counted ws vs passes) f
   construct-good i k (Construct.Switch size) f = case-good (i + 1) (i + size) f
-  construct-good i k (Construct.Use rule) f = enter-good (rule-word ws rule 0)
+  construct-good i k (Construct.Use rule) f = open-good rule
   construct-good i k (Construct.Literal n) f = literal-good i n (f .1)
   construct-good i k (Construct.Range low high) f = range-good low high
   construct-good i k (Construct.Uint width start end binder) f = uint-good width start end binder (f .0) (f .1) (f .2)
@@ -144,5 +147,5 @@ module _ (ws fs : List ℕ) (vs : List ℤ) (p : ℕ) where
   pub doable : (i k : ℕ) → Good (actOf ws fs vs p i k)
   unfolding actOf
   doable i k =
-      picked (eqb i 256) (enter ws (rule-word ws 0 0)) (construct-act ws fs vs p i k (constructAt ws i)) (λ e. enter-good (rule-word ws 0 0))
-      (construct-good i k (constructAt ws i) (construct-fine ws i))
+      picked (eqb i 256) (open-rule ws 0) (pick (in-table ws i) (construct-act ws fs vs p i k (constructAt ws i)) Act.Broken) (λ e. open-good 0)
+      (picked (in-table ws i) (construct-act ws fs vs p i k (constructAt ws i)) Act.Broken (λ e. construct-good i k (constructAt ws i) (construct-fine ws i)) tt)

@@ -17,7 +17,7 @@ use Rattle.evaluation.specs.Meaning.{membership, condition}
 use Rattle.evaluation.specs.Counts.{counts}
 use Rattle.evaluation.specs.declared.Counted.{Counted}
 use Rattle.evaluation.specs.declared.Tested.{Tested}
-use Rattle.layout.specs.Places.{rule-word, construct-word, construct-count}
+use Rattle.layout.specs.Places.{rule-word, construct-word, rule-count, construct-count}
 use Rattle.layout.specs.Constructs.{pick, both, constructAt}
 use Rattle.layout.specs.Held.{term-words, terms-of, size-of, literal-bytes}
 use Rattle.layout.specs.declared.Construct.{Construct}
@@ -32,6 +32,10 @@ in-table ws i = both (ltb i 256) (ltb i (construct-count ws))
 -- a construct takes the entry's place
 abbrev pub enter : List ℕ → ℕ → Act
 enter ws i = pick (in-table ws i) (Act.Enter i) Act.Broken
+
+-- a rule's use becomes its body, where there is such a rule
+abbrev pub open-rule : List ℕ → ℕ → Act
+open-rule ws rule = pick (ltb rule (rule-count ws)) (enter ws (rule-word ws rule 0)) Act.Broken
 
 -- what comes next at a position, by its number
 abbrev pub ahead-at : List ℕ → ℕ → ℕ
@@ -110,10 +114,6 @@ counted ws vs (Passes.Counted start end) = counts vs (term-words ws) start end
 
 -- ---- fields: "no match on a difference or too few bits"
 
--- a field of so many bits, where it holds: the number that they are is what a binder binds
-abbrev pub field-act : List ℕ → ℕ → ℕ → ℕ → Bool → Act
-field-act fs p width binder holds = pick holds (Act.Take width binder (value (take width (drop p (frameBits fs))))) Act.Fail
-
 -- n bytes of the literal of construct i, from byte k on, stand where its first byte would stand at bit p
 abbrev pub literal-holds : List ℕ → List ℕ → ℕ → ℕ → ℕ → ℕ → Bool
 literal-holds ws fs p i k n = same (take (8 * n) (drop (p + 8 * k) (frameBits fs))) (frameBits (literal-bytes ws i k n))
@@ -170,7 +170,7 @@ construct-act ws fs vs p i k (Construct.Alternative size) = branch-act ws (ahead
 construct-act ws fs vs p i k (Construct.Concatenation size) = members-act ws (i + 1) (i + size)
 construct-act ws fs vs p i k (Construct.Repetition size passes) = turn-act ws (ahead-at fs p) i k (counted ws vs passes)
 construct-act ws fs vs p i k (Construct.Switch size) = case-act ws vs (i + 1) (i + size)
-construct-act ws fs vs p i k (Construct.Use rule) = enter ws (rule-word ws rule 0)
+construct-act ws fs vs p i k (Construct.Use rule) = open-rule ws rule
 construct-act ws fs vs p i k (Construct.Literal n) = literal-act ws fs p i n
 construct-act ws fs vs p i k (Construct.Range low high) = range-act fs p low high
 construct-act ws fs vs p i k (Construct.Uint width start end binder) = uint-act ws fs vs p width start end binder
@@ -178,7 +178,7 @@ construct-act ws fs vs p i k Construct.Eod = end-act fs p
 
 -- the opening use of the start rule has number 256
 unfoldable pub actOf : List ℕ → List ℕ → List ℤ → ℕ → ℕ → ℕ → Act
-actOf ws fs vs p i k = pick (eqb i 256) (enter ws (rule-word ws 0 0)) (construct-act ws fs vs p i k (constructAt ws i))
+actOf ws fs vs p i k = pick (eqb i 256) (open-rule ws 0) (pick (in-table ws i) (construct-act ws fs vs p i k (constructAt ws i)) Act.Broken)
 
 -- what holds of every act that is decided at bit p, whatever the words
 abbrev pub Doable : List ℕ → ℕ → Act → Type 0

@@ -8,7 +8,7 @@ ghost use Rattle.layout.specs.Constructs.{constructAt};
 ghost use Rattle.evaluation.specs.Meaning.{membership};
 ghost use Rattle.layout.specs.Held.{term-words, terms-of, size-of, literal-byte};
 ghost use Rattle.acts.specs.Stored.{stored as storedOf};
-ghost use Rattle.acts.specs.Acts.{in-table, enter as enterOf, ahead-at, branch-act, case-test, case-act, members-act, choice-act, turn-act, counted as countedOf, literal-holds, literal-act, by-set, range-act, uint-act, end-act, Fine, construct-act, actOf};
+ghost use Rattle.acts.specs.Acts.{in-table, enter as enterOf, open-rule, ahead-at, branch-act, case-test, case-act, members-act, choice-act, turn-act, counted as countedOf, literal-holds, literal-act, by-set, range-act, uint-act, end-act, Fine, construct-act, actOf};
 use evaluation::Counted;
 use evaluation::Tested;
 use layout::Construct;
@@ -178,6 +178,17 @@ fn enter(table: &[u32], i: usize) -> Act
         if i < layout::word(table, 2) {
             return Act::Enter { construct: i };
         }
+    }
+    Act::Broken
+}
+
+// A rule's use becomes its body, where there is such a rule.
+fn open_rule(table: &[u32], rule: usize) -> Act
+    requires { ⌜ rule < 64 ⌝ }
+    ensures { λ r. ⌜ r ≡ open-rule (now (table .entry)) rule ⌝ }
+{
+    if rule < layout::word(table, 1) {
+        return enter(table, layout::word(table, 64 + 4 * rule));
     }
     Act::Broken
 }
@@ -416,7 +427,7 @@ fn of_construct(
         Construct::Concatenation { size } => members(table, i + 1, i + size),
         Construct::Repetition { size: _, passes } => repeat(table, frame, values, p, i, k, passes),
         Construct::Switch { size } => case(table, values, i + 1, i + size),
-        Construct::Use { rule } => enter(table, layout::word(table, 64 + 4 * rule)),
+        Construct::Use { rule } => open_rule(table, rule),
         Construct::Literal { length } => literal(table, frame, p, i, length),
         Construct::Range { low, high } => range(frame, p, low, high),
         Construct::Uint {
@@ -435,15 +446,18 @@ pub fn decide(table: &[u32], frame: &[u8], values: &[i64], p: usize, i: usize, k
     ensures { λ r. ⌜ r ≡ actOf (now (table .entry)) (now (frame .entry)) (now (values .entry)) p i k ⌝ }
 {
     if i == 256 {
-        return enter(table, layout::word(table, 64));
+        return open_rule(table, 0);
     }
-    of_construct(
-        table,
-        frame,
-        values,
-        p,
-        i,
-        k,
-        layout::construct_at(table, i),
-    )
+    if i < layout::word(table, 2) {
+        return of_construct(
+            table,
+            frame,
+            values,
+            p,
+            i,
+            k,
+            layout::construct_at(table, i),
+        );
+    }
+    Act::Broken
 }

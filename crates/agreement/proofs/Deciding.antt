@@ -20,13 +20,13 @@ use Rattle.theory.specs.Grammar.{alternative, concatenation, repetition, switch
 use Rattle.theory.specs.Derivation.{Capture}
 use Rattle.theory.specs.Machine.{entry, state, Turn, fail, again, leave, turn, choose, entries, act}
 use Rattle.theory.proofs.Turns.{decide}
-use Rattle.layout.specs.Places.{rule-word}
+use Rattle.layout.specs.Places.{rule-word, rule-count}
 use Rattle.layout.specs.Constructs.{pick, both, constructAt}
 use Rattle.layout.specs.Held.{Values, HeldNode, terms-of, parts, isYes, passes-allowed, passes-static, passes-fixed, first-case, literal-bytes, bound, literal-node, range-node, use-node, in-set, node-of, held}
 use Rattle.layout.specs.declared.Construct.{Construct}
 use Rattle.layout.specs.declared.Passes.{Passes}
 use Rattle.acts.specs.Stored.{stored, prediction-at, follow-at, tests-of}
-use Rattle.acts.specs.Acts.{in-table, enter, ahead-at, bits-of, branch-act, case-act, members-act, turn-act, counted, literal-holds, literal-act, range-act, by-set, end-act, construct-act, actOf}
+use Rattle.acts.specs.Acts.{in-table, enter, open-rule, ahead-at, bits-of, branch-act, case-act, members-act, turn-act, counted, literal-holds, literal-act, range-act, by-set, end-act, construct-act, actOf}
 use Rattle.acts.specs.declared.Act.{Act}
 use Rattle.agreement.specs.Runs.{HeldEntry, HeldState}
 use Rattle.agreement.proofs.Answers.{branch-chosen, case-chosen, turned, turn-turned, counted-allowed, tested, tested-yes, tested-set}
@@ -119,6 +119,11 @@ module _ (ws fs : List ℕ) (vs : List ℤ) (p i k : ℕ) (others : List HeldEnt
       entered true h = record { agrees = refl; members = tt }
       entered false h = absurd (h refl)
 
+  does-open : (r : ℕ) → Definite (open-rule ws r) → Does (use-node ws r) (open-rule ws r)
+  does-open r s =
+      elim (decide (ltb r (rule-count ws)))
+      [ inl e ↦ rw e (does-use r (rw e at s)) | inr e ↦ absurd (subst (λ (t : Bool). Definite (pick t (enter ws (rule-word ws r 0)) Act.Broken)) e s refl) ]
+
   -- a field: so many bits are left, and they are right
   does-set : (w binder n : ℕ) (admits : Unit {0} → Values → Bits → Bool) (static : Bits → Bool) (binds : Unit {0} → Values → Bits → Values) (t : Tested)
       → leb w (length rest) ≡ true → isYes t ≡ admits tt vs (take w rest) → bound binder vs n ≡ binds tt vs (take w rest) → Definite (by-set t w binder n)
@@ -195,7 +200,7 @@ module _ (ws fs : List ℕ) (vs : List ℤ) (p i k : ℕ) (others : List HeldEnt
     does-construct (Construct.Concatenation size) s = does-concatenation size s
     does-construct (Construct.Repetition size passes) s = does-repetition passes s
     does-construct (Construct.Switch size) s = does-switch size s
-    does-construct (Construct.Use rule) s = does-use rule s
+    does-construct (Construct.Use rule) s = does-open rule s
     does-construct (Construct.Literal n) s = does-literal n s
     does-construct (Construct.Range low high) s = does-range low high s
     does-construct (Construct.Uint width start end binder) s =
@@ -207,5 +212,10 @@ module _ (ws fs : List ℕ) (vs : List ℤ) (p i k : ℕ) (others : List HeldEnt
     pub does : Definite (actOf ws fs vs p i k) → Does (held ws .node i) (actOf ws fs vs p i k)
     unfolding held actOf
     does s =
-        elim (decide (eqb i 256))
-        [ inl e ↦ rw e (does-use 0 (rw e at s)) | inr e ↦ rw e (does-construct (constructAt ws i) (rw e at s)) ]
+        elim (decide (eqb i 256)) [
+          | inl e ↦ rw e (does-open 0 (rw e at s))
+          | inr e ↦ elim (decide (in-table ws i)) [
+            | inl t ↦ rw (e, t) (does-construct (constructAt ws i) (rw (e, t) at s))
+            | inr t ↦ absurd (subst (λ (b : Bool). Definite (pick b (construct-act ws fs vs p i k (constructAt ws i)) Act.Broken)) t (rw e at s) refl)
+          ]
+        ]

@@ -20,7 +20,7 @@ use Rattle.evaluation.specs.declared.Tested.{Tested}
 use Rattle.sizes.proofs.Bounds.{Inside}
 use Rattle.sizes.proofs.Theorems.{set-passes, condition-passes, counts-pass}
 use Rattle.theory.proofs.Turns.{decide}
-use Rattle.layout.specs.Places.{rule-word, construct-word, variable-word, construct-count}
+use Rattle.layout.specs.Places.{rule-word, construct-word, variable-word, rule-count, construct-count}
 use Rattle.layout.specs.Constructs.{both, constructAt}
 use Rattle.layout.specs.Held.{size-of, term-words, terms-of, opening}
 use Rattle.layout.specs.declared.Construct.{Construct}
@@ -31,7 +31,7 @@ use Rattle.structure.proofs.RuleLaws.{rule-of, rule-within}
 use Rattle.structure.proofs.Owners.{rule-holds}
 use Rattle.structure.proofs.NodeFacts.{present, use-names, body-exists}
 use Rattle.acts.specs.Stored.{stored, prediction-at, follow-at}
-use Rattle.acts.specs.Acts.{enter, ahead-at, bits-of, walk, by-branch, branch-act, case-test, by-case, case-act, members-act, by-lookahead, choice-act, turn-act, counted, literal-holds, by-set, construct-act, actOf}
+use Rattle.acts.specs.Acts.{enter, open-rule, ahead-at, bits-of, walk, by-branch, branch-act, case-test, by-case, case-act, members-act, by-lookahead, choice-act, turn-act, counted, literal-holds, by-set, construct-act, actOf}
 use Rattle.acts.specs.declared.Act.{Act}
 use Rattle.agreement.proofs.Picks.{either-way}
 use Rattle.agreement.proofs.Walks.{Definite}
@@ -108,6 +108,9 @@ module _ (ws : List ℕ) (widest : List ℤ) {weight rooms : Unit {0} → ℕ �
   enter-safe : (b : ℕ) → b < construct-count ws → Good (enter ws b)
   enter-safe b l = rw (lt-ltb b 256 (omega (arith, r .laid .counts .constructs)), lt-ltb b (construct-count ws) l) l
 
+  open-safe : (rule : ℕ) → rule < rule-count ws → Good (open-rule ws rule)
+  open-safe rule l = rw (lt-ltb rule (rule-count ws) l) (enter-safe (rule-word ws rule 0) (body-exists (r .laid) rule l))
+
   branch-safe : (n j end : ℕ) → end ≤ construct-count ws → Good (branch-act ws n j end)
   branch-safe n j end l =
       walk-holds Good (λ i rest. by-branch (stored ws (prediction-at i) n) i rest) Act.Fail Act.Broken ws end tt (there end l) (λ i rest m h. visit i rest (stored ws (prediction-at i) n) m h) (end - j) j
@@ -168,7 +171,7 @@ module _ (ws : List ℕ) (widest : List ℤ) {weight rooms : Unit {0} → ℕ �
       let two : 2 ≤ n = (rw e at (fine ws i)) .0 in
       rw (x .1) (turn-safe (ahead-at fs p) i k (x .0) (omega (arith, ends i n h (ap size-of e))))
   construct-safe i k (Construct.Switch n) h e = case-safe (i + 1) (i + n) (ends i n h (ap size-of e))
-  construct-safe i k (Construct.Use rule) h e = enter-safe (rule-word ws rule 0) (body-exists (r .laid) rule (use-names (r .laid) i rule h e))
+  construct-safe i k (Construct.Use rule) h e = open-safe rule (use-names (r .laid) i rule h e)
   construct-safe i k (Construct.Literal n) h e =
       either-way Good (leb (p + 8 * n) (bits-of fs)) (either-way Good (literal-holds ws fs p i 0 n) tt tt) tt
   construct-safe i k (Construct.Range low high) h e =
@@ -186,5 +189,7 @@ module _ (ws : List ℕ) (widest : List ℤ) {weight rooms : Unit {0} → ℕ �
 
   pub act-safe : (i k : ℕ) → InTable ws i → Good (actOf ws fs vs p i k)
   unfolding actOf
-  act-safe i k (inl e) = rw (eq-eqb i 256 e) (enter-safe (rule-word ws 0 0) (body-exists (r .laid) 0 (r .laid .counts .some-rule)))
-  act-safe i k (inr l) = rw (ne-eqb i 256 (λ e. omega (arith, r .laid .counts .constructs))) (construct-safe i k (constructAt ws i) l refl)
+  act-safe i k (inl e) = rw (eq-eqb i 256 e) (open-safe 0 (r .laid .counts .some-rule))
+  act-safe i k (inr l) =
+      let small : i < 256 = omega (arith, r .laid .counts .constructs) in
+      rw (ne-eqb i 256 (λ e. omega arith), lt-ltb i 256 small, lt-ltb i (construct-count ws) l) (construct-safe i k (constructAt ws i) l refl)

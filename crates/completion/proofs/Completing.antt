@@ -5,8 +5,8 @@ use mathlib.Core.Path.{_≡_, refl, sym, subst, ap, _∙_}
 use mathlib.Core.Logic.{_⊎_, inl, inr}
 use mathlib.Core.List.{List}
 use native.Mathlib.Omega.{arith}
-use lib.ListN.{length, getD, set, length-set}
-use lib.Seq.{getD-set-same, getD-set-other}
+use lib.ListN.{length, getD, set, drop, length-set, length-drop}
+use lib.Seq.{getD-set-same, getD-set-other, getD-drop, ext-getD}
 use Rattle.basis.specs.Bits.{Bits}
 use Rattle.lookahead.specs.Sets.{Is}
 use Rattle.lookahead_slices.specs.Family.{part}
@@ -85,7 +85,12 @@ module _ (ws middle last follow prediction : List ℕ) (weight : ℕ) (j : Judge
   stand : (at : ℕ) (A : Bits → Type 0) (set : List ℕ) → 6 ≤ at → Is set A → StandsAt middle at set → Stands last at A
   stand at A set h i s = record { set = set; is = i; there = moved at set h s }
 
-  pub completed : Sound last × Alike ws last
+  beyond : drop table-words last ≡ drop table-words ws
+  beyond =
+      ext-getD 0 (drop table-words last) (drop table-words ws) (omega (arith, length-drop table-words last, length-drop table-words ws, last-long))
+      (λ i h. getD-drop table-words last i 0 ∙ (untouched (table-words + i) (λ z. omega arith) ∙ (w .others (table-words + i) (inr (omega (arith, laid-words .counts .constructs))) ∙ sym (getD-drop table-words ws i 0))))
+
+  pub completed : Sound last × Alike ws last × (length last ≡ length ws) × (drop table-words last ≡ drop table-words ws)
   completed = (
     sound-local alike ended (j .0) (λ f k. j .1 f k ∙ sym stored-weight)
         (λ i h.
@@ -94,4 +99,6 @@ module _ (ws middle last follow prediction : List ℕ) (weight : ℕ) (j : Judge
           stand (follow-at i) (Follow (held ws) i) (part i follow) (omega arith) (fs i small) (w .follow-stands i h),
         )),
     alike,
+    last-long,
+    beyond,
   )

@@ -16,6 +16,7 @@ use Rattle.admission.specs.Admitted.{number-of, Refusal, RulesRefused, Answered
 use Rattle.admission.specs.declared.Admission.{Admission}
 use Rattle.runs.specs.Runs.{head-of, whole-of, fitting, After, after, run-in, reading-in, answer-in, after-steps, grant-of, number-of as grant-number, taken-of}
 use Rattle.runs.specs.declared.Run.{Run}
+use Rattle.runs.proofs.Grants.{unchanged}
 use Rattle.runs.specs.declared.Answer.{Answer as GrantAnswer}
 use Rattle.matcher.specs.declared.Answer.{Answer}
 use Rattle.conditions.specs.Conditions.{TextAnswered, RunOpened, RunGranted, Condition1}
@@ -107,6 +108,7 @@ module _ (ws fs rs : List ℕ) (run : Run) (n : ℕ) where
   run-granted : RunGranted rs run (grant-of ws fs rs run n)
   run-granted =
       record {
+        at-rest = unchanged ws fs rs run n;
         number = in-each Numbered (inr (inl refl)) (inr (inr refl)) (λ w r. numbered w);
         refused = in-each Untouched (λ e. (refl, refl, refl)) (λ e. (refl, refl, refl)) (λ w r. untouched w);
         length-kept = in-each (λ x. length (reading-in x) ≡ length rs) refl refl same-length;

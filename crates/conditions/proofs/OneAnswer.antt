@@ -20,9 +20,8 @@ use Rattle.soundness.specs.OneTable.{Alike}
 use Rattle.soundness.proofs.SameSets.{alike-equal}
 use Rattle.parsing.specs.Store.{State}
 use Rattle.text.specs.Header.{header-of}
-use Rattle.admission.specs.Admitted.{number-of, form, words-of, Passes, Tabled, RulesPass, Headed, Clashes, Answers, refused-early, by-rules}
+use Rattle.admission.specs.Admitted.{place-in, number-of, form, words-of, Passes, Tabled, RulesPass, Headed, Clashes, Answers, refused-early, by-rules}
 use Rattle.admission.specs.declared.Admission.{Admission}
-use Rattle.conditions.specs.Refusals.{place-in}
 use Rattle.conditions.specs.Conditions.{OneAnswer}
 use Rattle.conditions.proofs.Tables.{one-base, one-state}
 use Rattle.conditions.proofs.Refusals.{least-same}

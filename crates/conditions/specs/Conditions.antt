@@ -16,7 +16,7 @@ use Rattle.theory.specs.Weight.{Weighs}
 use Rattle.layout.specs.Places.{table-words, table-of, weight-of}
 use Rattle.layout.specs.Held.{Values, held, opening}
 use Rattle.acts.specs.Acts.{bits-of}
-use Rattle.steps.specs.Steps.{matched, unmatched}
+use Rattle.steps.specs.Steps.{undecided, matched, unmatched}
 use Rattle.agreement.specs.Runs.{words-of}
 use Rattle.table.specs.Sound.{SoundTable}
 use Rattle.admission.specs.Admitted.{number-of, Answers}
@@ -47,6 +47,8 @@ pub record RunOpened (answer : Answer) : Type 0 where
 pub record RunGranted (rs : List ℕ) (run : Run) (x : After) : Type 0 where
   pub number : (grant-number (answer-in x) ≡ 0) ⊎ (grant-number (answer-in x) ≡ 21) ⊎ (grant-number (answer-in x) ≡ 24)
   pub refused : (grant-number (answer-in x) ≡ 0 → ⊥) → (run-in x ≡ run) × (reading-in x ≡ rs) × (taken-of (answer-in x) ≡ 0)
+  -- "A decided, closed or broken run takes no more steps."
+  pub at-rest : (run .verdict ≡ undecided → ⊥) → (run-in x ≡ run) × (reading-in x ≡ rs) × (taken-of (answer-in x) ≡ 0)
   pub length-kept : length (reading-in x) ≡ length rs
   -- "words beyond never change": past the fields recorded
   pub beyond : drop (2 * run-in x .captures) (reading-in x) ≡ drop (2 * run-in x .captures) rs

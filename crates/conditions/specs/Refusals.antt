@@ -4,10 +4,12 @@ use Prim.Native.Nat.{ℕ, _+_, _≤_, _<_}
 use mathlib.Core.Path.{_≡_}
 use mathlib.Core.Logic.{_⊎_, _↔_}
 use mathlib.Core.List.{List}
+use mathlib.Core.Option.{some}
 use lib.ListN.{length, drop}
 use Rattle.basis.specs.Bits.{Bits}
+use Rattle.basis.specs.Lookahead.{number as window-number}
 use Rattle.theory.specs.Grammar.{Grammar}
-use Rattle.theory.specs.Lookahead.{Conflict, EmptyBody}
+use Rattle.theory.specs.Lookahead.{Conflict, LeastConflict, EmptyBody}
 use Rattle.theory.specs.Weight.{Weighs}
 use Rattle.layout.specs.Places.{table-words}
 use Rattle.layout.specs.Held.{Values, opening}
@@ -18,7 +20,8 @@ use Rattle.parsing.specs.Store.{State, node-words, rule-words, nodes-of}
 use Rattle.parsing.specs.Form.{refused}
 use Rattle.naming.specs.Counting.{nowhere}
 use Rattle.naming.specs.Words.{node-word, place-of, named-at}
-use Rattle.admission.specs.Admitted.{number-of, form, words-of, fault-5, fault-6, fault-8}
+use Rattle.admission.specs.Admitted.{number-of, place-in, window-in, form, words-of, fault-5, fault-6, fault-8}
+use Rattle.conflicts.specs.declared.Clash.{Clash}
 use Rattle.admission.specs.declared.Admission.{Admission}
 use Rattle.admission.specs.declared.Found.{Found}
 use Rattle.conditions.specs.Texts.{Reading, meant}
@@ -121,13 +124,10 @@ NoneBelow text table n = (k : Row) (q : ℕ) → number k < n → Fits text tabl
 abbrev pub First : (text table : List ℕ) → Row → (place : ℕ) → Type 0
 First text table k p = Fits text table k p × NoneBelow text table (number k)
 
--- the place that an answer carries
-abbrev pub place-in : Admission → ℕ
-place-in (Admission.Admitted weight) = 0
-place-in (Admission.Refused n place) = place
-place-in (Admission.Conflict place construct clash) = place
-
 -- "Given exactly when": an answer has the number and place of the first row that fits, and 0 exactly where none does
 pub record Exactly (text table : List ℕ) (answer : Admission) : Type 0 where
   pub admitted-iff : (number-of answer ≡ 0) ↔ NoneBelow text table 12
   pub refused-iff : (k : Row) (p : ℕ) → ((number-of answer ≡ number k) × (place-in answer ≡ p)) ↔ First text table k p
+  -- 10: "the answer carries the least common window"
+  pub window : (x : Reading text) (p i : ℕ) (c : Clash) → answer ≡ Admission.Conflict p i c
+      → (w : Bits) × (window-in c ≡ some (window-number w)) × LeastConflict (meant (drop (x .base) text) (x .st)) i w

@@ -11,10 +11,10 @@ use Rattle.theory.specs.Weight.{Weighs}
 use Rattle.layout.specs.Places.{table-words}
 use Rattle.layout.specs.Held.{Values}
 use Rattle.parsing.specs.Store.{State}
-use Rattle.admission.specs.Admitted.{number-of, Headed, Answers}
+use Rattle.admission.specs.Admitted.{place-in, number-of, Headed, Answers}
 use Rattle.admission.specs.declared.Admission.{Admission}
 use Rattle.conditions.specs.Texts.{Reading, meant, rules-grammar}
-use Rattle.conditions.specs.Refusals.{Row, empty-body, clashing, too-heavy, number, EmptyBodies, Clashes, TooHeavy, NoneBelow, First, place-in}
+use Rattle.conditions.specs.Refusals.{Row, empty-body, clashing, too-heavy, number, EmptyBodies, Clashes, TooHeavy, NoneBelow, First}
 use Rattle.conditions.specs.Conditions.{TextTable}
 use Rattle.conditions.proofs.Refusals.{below-next, below-9, read}
 use Rattle.conditions.proofs.Exactly.{exactly}

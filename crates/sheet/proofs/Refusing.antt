@@ -20,15 +20,15 @@ use Rattle.conflicts.specs.declared.Clash.{Clash}
 use Rattle.table.specs.Judged.{Least}
 use Rattle.parsing.specs.Store.{node-words}
 use Rattle.naming.specs.Words.{node-word}
-use Rattle.admission.specs.Admitted.{number-of, words-of, Headed, Answers, refused-early, by-rules}
+use Rattle.admission.specs.Admitted.{window-in, place-in, number-of, words-of, Headed, Answers, refused-early, by-rules}
 use Rattle.admission.specs.declared.Admission.{Admission}
 use Rattle.conditions.specs.Texts.{Reading}
-use Rattle.conditions.specs.Refusals.{empty-body, clashing, recursive, EmptyBodies, place-in}
+use Rattle.conditions.specs.Refusals.{empty-body, clashing, recursive, EmptyBodies}
 use Rattle.conditions.proofs.Refusals.{below-next, below-7, below-9, read, fitting}
 use Rattle.conditions.proofs.Exactly.{exactly}
 use Rattle.conditions.proofs.Tables.{words-hold}
 use Rattle.conditions.proofs.Buffers.{refused-number}
-use Rattle.sheet.specs.Sheet.{text-of, K5, K8, K11, refused, clash, row, window-in, Clashes, Says}
+use Rattle.sheet.specs.Sheet.{text-of, K5, K8, K11, refused, clash, row, Clashes, Says}
 use Rattle.sheet.proofs.Computing.{rules-in, grammar}
 use Rattle.sheet.proofs.Texts.{state-K5, state-K8, state-K11, formed-K5, formed-K8, formed-K11}
 use Rattle.sheet.proofs.Stages.{bounded-K5, bounded-K8, named-K11, reaches-K11}

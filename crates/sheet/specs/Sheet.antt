@@ -6,13 +6,12 @@ use Prim.Native.Char.{code}
 use Prim.Native.String.{String, [] as end, _∷_ as _then_}
 use mathlib.Core.Path.{_≡_}
 use mathlib.Core.List.{List, [], _∷_, _++_, map}
-use mathlib.Core.Option.{Option, none, some}
+use mathlib.Core.Option.{some}
 use lib.IntN.{pos}
 use lib.ListN.{length, drop, replicate}
 use Rattle.layout.specs.Places.{table-words}
 use Rattle.acts.specs.Acts.{bits-of}
-use Rattle.conflicts.specs.declared.Clash.{Clash}
-use Rattle.admission.specs.Admitted.{Answers}
+use Rattle.admission.specs.Admitted.{window-in, Answers}
 use Rattle.admission.specs.declared.Admission.{Admission}
 use Rattle.matcher.specs.Opening.{Opened}
 use Rattle.matcher.specs.Conditions.{Grant, granted, Kept, run-kept, reading-kept, OthersRefused, start, here}
@@ -54,12 +53,6 @@ pub data Row : Type 0 where
   row : (rules : String) → Expected → Row
 
 -- ---- what a row says
-
--- the window that a clash carries
-abbrev pub window-in : Clash → Option ℕ
-window-in Clash.None = none
-window-in (Clash.Branches window first second) = some window
-window-in (Clash.Passes window) = some window
 
 -- the answer is a clash at this place with this window
 abbrev pub Clashes : (place window : ℕ) → Admission → Type 0

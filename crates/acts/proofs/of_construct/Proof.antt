@@ -10,13 +10,12 @@ use Rattle.acts.proofs.of_construct.Lts as lts
 use Rattle.acts.proofs.alternative.Reads as alternative-reads
 use Rattle.acts.proofs.case.Reads as case-reads
 use Rattle.acts.proofs.end.Reads as end-reads
-use Rattle.acts.proofs.enter.Reads as enter-reads
+use Rattle.acts.proofs.open_rule.Reads as open-rule-reads
 use Rattle.acts.proofs.literal.Reads as literal-reads
 use Rattle.acts.proofs.members.Reads as members-reads
 use Rattle.acts.proofs.range.Reads as range-reads
 use Rattle.acts.proofs.repeat.Reads as repeat-reads
 use Rattle.acts.proofs.uint.Reads as uint-reads
-use Rattle.layout.proofs.word.Reads as word-reads
 
 -- src/lib.rt:362:31
 enum-told : tie.Need-enum-told
@@ -74,21 +73,8 @@ case-requires c κs = (omega arith, subst (Fine (c .before .before .before .befo
 enum-known-construct-5 : tie.Need-enum-known-construct-5
 enum-known-construct-5 c = search needs
 
--- src/lib.rt:367:74
-mul-word : tie.Need-mul-word
-mul-word c = (let f = subst (Fine (c .before .before .before .before .before .args .i)) (c .before .construct5 .given .1) (c .before .before .before .before .before .pre .4) in omega arith)
-
--- src/lib.rt:367:69
-add-word : tie.Need-add-word
-add-word c = (let f = subst (Fine (c .before .before .before .before .before .args .i)) (c .before .construct5 .given .1) (c .before .before .before .before .before .pre .4) in omega arith)
-
--- src/lib.rt:367:49
-word-requires : tie.Need-word-requires
-word-requires c κs = search needs
-
--- src/lib.rt:367:36
-enter-requires : tie.Need-enter-requires
-enter-requires c κs = search needs
+open-rule-requires : tie.Need-open-rule-requires
+open-rule-requires c κs = subst (Fine (c .before .before .before .before .before .args .i)) (c .before .construct5 .given .1) (c .before .before .before .before .before .pre .4)
 
 -- src/lib.rt:368:30
 enum-known-construct-6 : tie.Need-enum-known-construct-6
@@ -144,7 +130,7 @@ returns-5 c = simp (c .before .before .construct4 .given .1) (c .case .ensures)
 
 -- src/lib.rt:357:1
 returns-6 : tie.Need-returns-6
-returns-6 c = simp (c .before .before .before .construct5 .given .1, add-zero, ← (c .before .word .ensures .0)) (c .enter .ensures)
+returns-6 c = simp (c .before .before .construct5 .given .1) (c .open-rule .ensures)
 
 -- src/lib.rt:357:1
 returns-7 : tie.Need-returns-7
@@ -180,10 +166,7 @@ of-construct-spec =
     add-case-2
     case-requires
     enum-known-construct-5
-    mul-word
-    add-word
-    word-requires
-    enter-requires
+    open-rule-requires
     enum-known-construct-6
     literal-requires
     enum-known-construct-7

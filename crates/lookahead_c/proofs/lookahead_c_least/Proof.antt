@@ -30,7 +30,7 @@ returns-2 c =
     none (c .before .before .before .before .before .before .before .args .sets .now) _ _ (c .before .before .before .before .load .ensures) (c .before .before .before .load2 .ensures) h
 
 returns-3 : tie.Need-returns-3
-returns-3 c = some (c .before .before .before .before .before .before .before .before .args .sets .now) _ _ (c .before .before .before .before .before .load .ensures) (c .before .before .before .before .load2 .ensures) (c .before .n .given .0 .0) (rw (c .before .n .given .1) at (c .before .before .before .least-common .ensures))
+returns-3 c = some (c .before .before .before .before .before .before .before .before .args .sets .now) _ _ (c .before .before .before .before .before .load .ensures) (c .before .before .before .before .load2 .ensures) (c .before .n .given .0 .0) (c .before .before .before .before .before .before .if1 .left) (rw (c .before .n .given .1) at (c .before .before .before .least-common .ensures))
 
 pub lookahead-c-least-spec : {M : Type 1} → statement M
 lookahead-c-least-spec =
