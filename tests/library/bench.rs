@@ -117,6 +117,7 @@ fn largest() {
         ("256 items of 8 bits taken away", one_uint(8, 256, |i| format!("{i}!{i}"))),
         ("170 items up to a number, taken away", one_uint(16, 170, |i| format!("~{i}!~{}", i + 1))),
         ("128 ranges taken away", one_uint(32, 128, |i| format!("{0}~{1}!{0}~{1}", i * 33554432, i * 33554432 + 99))),
+        ("200 uints of three items", format!("dogma_v1 utf-8\n\na = {};", (0..200).map(|i| format!("uint(32,{i}!{i}|{})", i + 1)).collect::<Vec<_>>().join("&"))),
         ("16 deep", format!("dogma_v1 utf-8\n\na = {}\"x\"{};", "(".repeat(16), "?)".repeat(16))),
         ("250 uses", format!("dogma_v1 utf-8\n\na = uint(8, var(n, ~)) & {};", (0..250).map(|_| "uint(8, n)").collect::<Vec<_>>().join("&"))),
         ("8,000 bytes of comments", format!("dogma_v1 utf-8\n\n{}", "# comment\n".repeat(800))),
