@@ -6,29 +6,40 @@ use crate::writing::say;
 use text::Class;
 use text::spans::byte_at;
 use text::spans::span;
+ghost use mathlib.Core.Path.{_≡_};
+ghost use Prim.Native.Nat.{_+_, _-_, min};
+ghost use Rattle.explain.specs.Lines.{lines-before, line-start};
 
-// A line's number, and the place of its first byte.
+// A line: how many end before it, and the place of its first byte.
 struct Line {
-    number: usize,
+    before: usize,
     start: usize,
 }
 
-pub fn minus(a: usize, b: usize) -> usize {
+// a - b, where it is not below 0.
+pub fn saturating_sub(a: usize, b: usize) -> usize
+    ensures { λ r. ⌜ r ≡ a - b ⌝ }
+{
     if b <= a {
         return a - b;
     }
     0
 }
 
-pub fn more(n: usize) -> usize {
-    if n < 1000000 {
+// n + 1, where there is such a number.
+pub fn saturating_next(n: usize) -> usize
+    ensures { λ r. ⌜ r ≡ min (n + 1) 18446744073709551615 ⌝ }
+{
+    if n < 18446744073709551615 {
         return n + 1;
     }
     n
 }
 
 // At most `most` bytes from a place up to another.
-pub fn cut(from: usize, to: usize, most: usize) -> usize {
+pub fn cut(from: usize, to: usize, most: usize) -> usize
+    ensures { λ r. ⌜ r ≡ min (from + most) to ⌝ }
+{
     if from <= to {
         if most < to - from {
             return from + most;
@@ -37,24 +48,27 @@ pub fn cut(from: usize, to: usize, most: usize) -> usize {
     to
 }
 
-fn line_of(grammar: &[u8], at: usize) -> Line {
-    let mut number = 1;
+// The line that a place is in.
+fn line_of(grammar: &[u8], at: usize) -> Line
+    ensures { λ r. ⌜ (r .before ≡ lines-before (now (grammar .entry)) at) × (r .start ≡ line-start (now (grammar .entry)) at) ⌝ }
+{
+    let mut before = 0;
     let mut start = 0;
     let mut i = 0;
     while i < at {
         if byte_at(grammar, i) == b'\n' {
-            number = more(number);
+            before += 1;
             start = i + 1;
         }
         i += 1;
     }
-    Line { number, start }
+    Line { before, start }
 }
 
 // Where the line ends, without its LF or CR LF.
 fn line_end(grammar: &[u8], at: usize) -> usize {
     let end = span(Class::Except(10), grammar, at);
-    let last = minus(end, 1);
+    let last = saturating_sub(end, 1);
     if byte_at(grammar, last) == b'\r' {
         return last;
     }
@@ -65,8 +79,8 @@ fn line_end(grammar: &[u8], at: usize) -> usize {
 pub fn place(grammar: &[u8], at: usize) {
     let line = line_of(grammar, at);
     let start = line.start;
-    number(b"line ", line.number);
-    number(b", column ", more(minus(at, start)));
+    number(b"line ", saturating_next(line.before));
+    number(b", column ", saturating_next(saturating_sub(at, start)));
 }
 
 fn left_edge(cut: bool) {
@@ -87,8 +101,8 @@ fn right_edge(cut: bool) {
 
 // A long line is shown from 60 bytes before the place.
 fn from_of(start: usize, at: usize) -> usize {
-    if 60 < minus(at, start) {
-        return minus(at, 60);
+    if 60 < saturating_sub(at, start) {
+        return saturating_sub(at, 60);
     }
     start
 }

@@ -1,5 +1,5 @@
 // Refusal 6: a name that is unknown, double, reserved, misplaced or of the wrong kind.
-use crate::quoting::deeper;
+use crate::quoting::nesting;
 use crate::quoting::token;
 use crate::writing::say;
 use parsing::terminals::look;
@@ -53,7 +53,7 @@ fn role_from(grammar: &[u8], base: usize, at: usize) -> Role {
         if at <= sight.start {
             break;
         }
-        depth = deeper(sight.code, depth);
+        depth = nesting(sight.code, depth);
         before = last;
         last = sight.code;
         here = sight.end;

@@ -1,12 +1,14 @@
 // A part of a grammar, quoted: from its place to where it ends, at most 60 bytes.
 use crate::lines::cut;
-use crate::lines::minus;
-use crate::lines::more;
+use crate::lines::saturating_next;
+use crate::lines::saturating_sub;
 use crate::writing::Style;
 use crate::writing::bytes;
 use crate::writing::say;
 use parsing::terminals::look;
 use text::bytes::either;
+ghost use mathlib.Core.Path.{_≡_};
+ghost use Rattle.explain.specs.Nesting.{is-opening, is-closing, nested};
 
 // What the part is. A branch ends before `|`, a member also before `&`, a field also before a repetition mark.
 pub enum Part {
@@ -15,18 +17,18 @@ pub enum Part {
     Field,
 }
 
-fn opens(code: usize) -> bool {
-    match code {
-        40 | 91 | 123 => true,
-        _ => false,
-    }
+// ( [ {
+fn opens(code: usize) -> bool
+    ensures { λ r. ⌜ r ≡ is-opening code ⌝ }
+{
+    either(code == 40, either(code == 91, code == 123))
 }
 
-fn closes(code: usize) -> bool {
-    match code {
-        41 | 93 | 125 => true,
-        _ => false,
-    }
+// ) ] }
+fn closes(code: usize) -> bool
+    ensures { λ r. ⌜ r ≡ is-closing code ⌝ }
+{
+    either(code == 41, either(code == 93, code == 125))
 }
 
 // The text's end, and a token that can stand nowhere.
@@ -74,12 +76,15 @@ fn ends(part: Part, code: usize, depth: usize) -> bool {
     false
 }
 
-pub fn deeper(code: usize, depth: usize) -> usize {
+// How deep brackets are nested after a token.
+pub fn nesting(code: usize, depth: usize) -> usize
+    ensures { λ r. ⌜ r ≡ nested code depth ⌝ }
+{
     if opens(code) {
-        return more(depth);
+        return saturating_next(depth);
     }
     if closes(code) {
-        return minus(depth, 1);
+        return saturating_sub(depth, 1);
     }
     depth
 }
@@ -94,7 +99,7 @@ fn end_of(grammar: &[u8], at: usize, part: Part) -> usize {
         if ends(part, code, depth) {
             break;
         }
-        depth = deeper(code, depth);
+        depth = nesting(code, depth);
         end = sight.end;
         tokens += 1;
     }

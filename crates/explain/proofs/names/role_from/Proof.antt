@@ -16,8 +16,8 @@ loop-holds c = tt
 look-requires : tie.Need-look-requires Inv-loop μ-loop
 look-requires c κs = search needs
 
-deeper-requires : tie.Need-deeper-requires Inv-loop μ-loop
-deeper-requires c κs = search needs
+nesting-requires : tie.Need-nesting-requires Inv-loop μ-loop
+nesting-requires c κs = search needs
 
 add-tokens : tie.Need-add-tokens Inv-loop μ-loop
 add-tokens c = omega arith
@@ -42,7 +42,7 @@ role-from-spec =
     μ-loop
     loop-holds
     look-requires
-    deeper-requires
+    nesting-requires
     add-tokens
     loop-less
     loop-again

@@ -19,8 +19,8 @@ look-requires c κs = search needs
 ends-requires : tie.Need-ends-requires Inv-loop μ-loop
 ends-requires c κs = search needs
 
-deeper-requires : tie.Need-deeper-requires Inv-loop μ-loop
-deeper-requires c κs = search needs
+nesting-requires : tie.Need-nesting-requires Inv-loop μ-loop
+nesting-requires c κs = search needs
 
 add-tokens : tie.Need-add-tokens Inv-loop μ-loop
 add-tokens c = omega arith
@@ -46,7 +46,7 @@ end-of-spec =
     loop-holds
     look-requires
     ends-requires
-    deeper-requires
+    nesting-requires
     add-tokens
     loop-less
     loop-again

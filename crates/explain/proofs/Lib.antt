@@ -1,0 +1,2 @@
+-- Laws behind the proofs of the report.
+pub mod LineLaws
