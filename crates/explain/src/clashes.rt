@@ -1,12 +1,12 @@
 // A clash: what shares which bits, and what to change.
-use crate::lines;
-use crate::quoting::Part;
-use crate::quoting::quote;
-use crate::windows;
-use crate::writing::say;
 use conflicts::Clash;
 use locating::Located;
 use locating::locate;
+use wording::lines;
+use wording::quoting::Part;
+use wording::quoting::quote;
+use wording::windows;
+use wording::writing::say;
 
 fn part_at(grammar: &[u8], at: usize, part: Part) {
     say(b"    ");

@@ -1,10 +1,10 @@
 // Refusals 4 and 8: a token that cannot stand where it does, and a number that is outside its limits.
-use crate::quoting::token;
-use crate::writing::say;
 use literals::quote;
 use parsing::terminals::look;
 use text::bytes::letter;
 use text::spans::byte_at;
+use wording::quoting::token;
+use wording::writing::say;
 
 fn literal() {
     say(

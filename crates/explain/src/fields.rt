@@ -1,11 +1,11 @@
 // An admitted grammar: its numbers, and its fields in order.
-use crate::lines;
-use crate::quoting::Part;
-use crate::quoting::quote;
-use crate::writing::number;
-use crate::writing::say;
 use locating::Located;
 use locating::locate;
+use wording::lines;
+use wording::quoting::Part;
+use wording::quoting::quote;
+use wording::writing::number;
+use wording::writing::say;
 
 fn field_at(grammar: &[u8], construct: usize, at: usize) {
     number(b"    construct ", construct);

@@ -1,12 +1,12 @@
 // Refusal 6: a name that is unknown, double, reserved, misplaced or of the wrong kind.
-use crate::quoting::nesting;
-use crate::quoting::token;
-use crate::writing::say;
 use parsing::terminals::look;
 use text::Class;
 use text::Heading;
 use text::spans::span;
 use tokens::names::reserved;
+use wording::quoting::token;
+use wording::walking::nesting;
+use wording::writing::say;
 
 // What a name is where it stands.
 enum Role {

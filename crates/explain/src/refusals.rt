@@ -1,9 +1,9 @@
 // Refusals 1 to 9 and 11: what each means, and what to change.
 use crate::faults;
-use crate::lines;
 use crate::names;
-use crate::writing::number;
-use crate::writing::say;
+use wording::lines;
+use wording::writing::number;
+use wording::writing::say;
 
 fn size(grammar: &[u8]) {
     if grammar.len() == 0 {

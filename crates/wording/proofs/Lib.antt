@@ -1,0 +1,3 @@
+-- Laws behind the proofs of the report.
+pub mod LineLaws
+pub mod WalkLaws
