@@ -1,5 +1,6 @@
 // An admitted grammar: its numbers, and its fields in order.
 use locating::Located;
+use locating::Query;
 use locating::locate;
 use wording::lines;
 use wording::quoting::Part;
@@ -31,13 +32,13 @@ fn field_of(grammar: &[u8], construct: usize, kind: usize, at: usize) {
 }
 
 fn field(grammar: &[u8], construct: usize) {
-    match locate(grammar, construct) {
+    match locate(grammar, Query::Construct(construct)) {
         Located::Construct {
             place,
             kind,
             count: _,
         } => field_of(grammar, construct, kind, place),
-        Located::Nothing => {}
+        _ => {}
     }
 }
 
@@ -50,13 +51,13 @@ fn fields(grammar: &[u8], count: usize) {
 }
 
 fn constructs(grammar: &[u8]) -> usize {
-    match locate(grammar, 0) {
+    match locate(grammar, Query::Construct(0)) {
         Located::Construct {
             place: _,
             kind: _,
             count,
         } => count,
-        Located::Nothing => 0,
+        _ => 0,
     }
 }
 

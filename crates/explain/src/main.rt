@@ -2,8 +2,8 @@
 use admission::Admission;
 
 mod clashes;
-mod faults;
 mod fields;
+mod limits;
 mod names;
 mod refusals;
 

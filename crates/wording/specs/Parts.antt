@@ -1,8 +1,11 @@
 -- Where a part of a grammar ends, by the code of the token after it.
 -- Assumes nothing.
-use Prim.Native.Nat.{ℕ}
-use mathlib.Core.Bool.{Bool, _||_, _&&_}
+use Prim.Native.Nat.{ℕ, zero, suc}
+use mathlib.Core.Bool.{Bool, true, false, _||_, _&&_}
+use mathlib.Core.List.{List}
 use lib.Dec.{eqb}
+use Rattle.parsing.specs.Terminals.{sight-of}
+use Rattle.wording.specs.Nesting.{nested}
 use Rattle.wording.specs.declared.quoting.Part.{Part}
 
 -- the text's end, and a token that can stand nowhere
@@ -34,3 +37,12 @@ ends-at Part.Field code = is-mark code || ends-member code
 -- outside of brackets
 abbrev pub ends : Part → (code depth : ℕ) → Bool
 ends part code depth = is-never code || (eqb depth 0 && ends-at part code)
+
+-- the place after a part's last token, with at most n tokens from `here` on
+unfoldable pub part-end : ℕ → List ℕ → Part → (here depth : ℕ) → ℕ
+part-end zero text part here depth = here
+part-end (suc n) text part here depth =
+    elim (ends part (sight-of text here .code) depth) [
+      | true ↦ here
+      | false ↦ part-end n text part (sight-of text here .end) (nested (sight-of text here .code) depth)
+    ]

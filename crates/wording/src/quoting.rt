@@ -12,7 +12,7 @@ ghost use mathlib.Core.Path.{_≡_};
 ghost use mathlib.Core.Bool.{cond};
 ghost use Prim.Native.Nat.{_-_};
 ghost use lib.Dec.{ltb};
-ghost use Rattle.wording.specs.Parts.{is-never, ends-whole, ends-branch, ends-member, is-mark, ends-at, ends as endsOf};
+ghost use Rattle.wording.specs.Parts.{is-never, ends-whole, ends-branch, ends-member, is-mark, ends-at, ends as endsOf, part-end};
 
 // What the part is. A whole expression ends before `;` or a closing bracket, a branch also before `|`, a member also before `&`, a
 // field also before a repetition mark.
@@ -76,12 +76,19 @@ fn ends(part: Part, code: usize, depth: usize) -> bool
     either(never(code), both(depth == 0, ends_at(part, code)))
 }
 
+// Not in front of the dots of a cut.
+fn blank(room: usize) {
+    if 1 < room {
+        say(b" ");
+    }
+}
+
 // The blank between two tokens, and the room after it.
 fn gap(here: usize, start: usize, room: usize) -> usize
     ensures { λ r. ⌜ r ≡ cond (ltb here start) (room - 1) room ⌝ }
 {
     if here < start {
-        say(b" ");
+        blank(room);
         return saturating_sub(room, 1);
     }
     room
@@ -122,6 +129,26 @@ pub fn quote(grammar: &[u8], at: usize, part: Part) {
         here = end;
         tokens += 1;
     }
+}
+
+// Where a part ends: the place after its last token.
+pub fn end_of(grammar: &[u8], at: usize, part: Part) -> usize
+    ensures { λ r. ⌜ r ≡ part-end 8192 (now (grammar .entry)) part at 0 ⌝ }
+{
+    let mut here = at;
+    let mut depth = 0;
+    let mut tokens: usize = 0;
+    while tokens < 8192 {
+        let sight = look(grammar, here);
+        let code = sight.code;
+        if ends(part, code, depth) {
+            return here;
+        }
+        depth = nesting(code, depth);
+        here = sight.end;
+        tokens += 1;
+    }
+    here
 }
 
 // The token at a place.

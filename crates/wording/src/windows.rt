@@ -3,7 +3,7 @@ use crate::writing::hexadecimal;
 use crate::writing::number;
 use crate::writing::say;
 ghost use mathlib.Core.Path.{_≡_};
-ghost use Prim.Native.Nat.{_%_};
+ghost use Prim.Native.Nat.{_%_, _<_};
 ghost use Rattle.wording.specs.Shown.{size-below-16, size-from-16, size-of, digit-of};
 
 fn size_below_16(window: usize) -> usize
@@ -94,31 +94,38 @@ fn byte(n: usize) -> u8
     (n % 256) as u8
 }
 
-fn eight(window: usize) {
-    let n = window % 256;
-    hexadecimal(b" (hexadecimal ", n, 2);
-    number(b", decimal ", n);
-    character(byte(n));
-    say(b").\n");
+// 2 to the number of bits.
+fn power(n: usize) -> usize
+    ensures { λ r. ⌜ 0 < r ⌝ }
+{
+    match n {
+        1 => 2,
+        2 => 4,
+        3 => 8,
+        4 => 16,
+        5 => 32,
+        6 => 64,
+        7 => 128,
+        _ => 256,
+    }
 }
 
-fn four(window: usize) {
-    let n = window % 16;
-    hexadecimal(b" (hexadecimal ", n, 1);
-    number(b", decimal ", n);
-    say(b").\n");
+// Two digits from five bits on.
+fn digits(n: usize) -> usize {
+    if n < 5 {
+        return 1;
+    }
+    2
 }
 
 fn value(window: usize, n: usize) {
+    let v = window % power(n);
+    hexadecimal(b" (hexadecimal ", v, digits(n));
+    number(b", decimal ", v);
     if n == 8 {
-        eight(window);
-        return;
+        character(byte(v));
     }
-    if n == 4 {
-        four(window);
-        return;
-    }
-    say(b".\n");
+    say(b").\n");
 }
 
 fn short(n: usize) {

@@ -1,0 +1,6 @@
+// What the refusals mean and what to change, in sentences for a clerk.
+pub mod form;
+pub mod header;
+pub mod limits;
+pub mod names;
+pub mod rest;
