@@ -12,6 +12,8 @@ use wording::walking::Context;
 use wording::walking::before;
 use wording::writing::hexadecimal;
 use wording::writing::say;
+ghost use mathlib.Core.Path.{_≡_};
+ghost use Rattle.advice.specs.Codes.{begins-item, ends-item, is-literal, is-ranging, in-field, in-set, is-joining};
 
 fn literal() {
     say(b"This literal is wrong. A literal has 1 to 32 characters of printable\n");
@@ -129,8 +131,22 @@ fn number() {
 }
 
 fn item() {
-    say(b"What to change: put & (then) or | (or) between two items. Or is the ;\n");
-    say(b"of the rule before it missing? Every rule is name = expression ;.\n");
+    say(b"What to change: put & (then) or | (or) between two items; between two\n");
+    say(b"numbers | or the sign of a calculation. Or is the ; of the rule before\n");
+    say(b"it missing? Every rule is name = expression ;.\n");
+}
+
+fn call() {
+    say(b"No ( comes after a name. Only uint(..) is written so, and var(..)\n");
+    say(b"right after the comma of a uint.\n");
+    say(b"What to change: is uint or var misspelt? Or is & (then) or | (or)\n");
+    say(b"missing in front of the ( ?\n");
+}
+
+fn rule_start() {
+    say(b"The name of a rule must stand here. A rule is written\n");
+    say(b"    name = expression ;\n");
+    say(b"What to change: is a ; one too many in front of it?\n");
 }
 
 fn sign() {
@@ -140,26 +156,37 @@ fn sign() {
 }
 
 // Names, numbers, literals, and what opens an item.
-fn begins_item(code: usize) -> bool {
-    match code {
-        1 | 2 | 3 | 6 | 7 | 8 | 9 | 40 | 91 => true,
-        _ => false,
-    }
+fn begins_item(code: usize) -> bool
+    ensures { λ r. ⌜ r ≡ begins-item code ⌝ }
+{
+    either(
+        both(1 <= code, code <= 3),
+        either(both(6 <= code, code <= 9), either(code == 40, code == 91)),
+    )
 }
 
 // A name, a number, a literal, a closing bracket.
-fn ends_item(code: usize) -> bool {
-    match code {
-        1 | 2 | 3 | 7 | 9 | 41 | 93 | 125 => true,
-        _ => false,
-    }
+fn ends_item(code: usize) -> bool
+    ensures { λ r. ⌜ r ≡ ends-item code ⌝ }
+{
+    either(
+        either(both(1 <= code, code <= 3), code == 7),
+        either(
+            code == 9,
+            either(code == 41, either(code == 93, code == 125)),
+        ),
+    )
 }
 
-fn literal_code(code: usize) -> bool {
+fn literal_code(code: usize) -> bool
+    ensures { λ r. ⌜ r ≡ is-literal code ⌝ }
+{
     either(code == 3, code == 9)
 }
 
-fn ranging(code: usize, last: usize) -> bool {
+fn ranging(code: usize, last: usize) -> bool
+    ensures { λ r. ⌜ r ≡ is-ranging code last ⌝ }
+{
     either(
         both(code == 126, literal_code(last)),
         both(last == 126, literal_code(code)),
@@ -167,19 +194,25 @@ fn ranging(code: usize, last: usize) -> bool {
 }
 
 // `uint(`, or `uint(` and a width.
-fn in_field(seen: Context) -> bool {
+fn in_field(third: usize, second: usize, last: usize) -> bool
+    ensures { λ r. ⌜ r ≡ in-field third second last ⌝ }
+{
     either(
-        both(seen.second == 6, seen.last == 40),
-        both(seen.third == 6, both(seen.second == 40, seen.last == 2)),
+        both(second == 6, last == 40),
+        both(third == 6, both(second == 40, last == 2)),
     )
 }
 
 // A width and a comma; a variable's name and a comma.
-fn in_set(seen: Context) -> bool {
-    both(seen.last == 44, either(seen.second == 2, seen.second == 1))
+fn in_set(second: usize, last: usize) -> bool
+    ensures { λ r. ⌜ r ≡ in-set second last ⌝ }
+{
+    both(last == 44, either(second == 2, second == 1))
 }
 
-fn joins(code: usize) -> bool {
+fn joins(code: usize) -> bool
+    ensures { λ r. ⌜ r ≡ is-joining code ⌝ }
+{
     either(code == 38, code == 124)
 }
 
@@ -190,6 +223,10 @@ fn general(code: usize, last: usize) {
     }
     if both(joins(code), ends_item(last)) {
         mixed();
+        return;
+    }
+    if both(code == 40, last == 1) {
+        call();
         return;
     }
     if both(begins_item(code), ends_item(last)) {
@@ -204,11 +241,11 @@ fn general(code: usize, last: usize) {
 }
 
 fn bracketed(code: usize, seen: Context) {
-    if in_field(seen) {
+    if in_field(seen.third, seen.second, seen.last) {
         field();
         return;
     }
-    if in_set(seen) {
+    if in_set(seen.second, seen.last) {
         set();
         return;
     }
@@ -224,16 +261,29 @@ fn misplaced(code: usize, seen: Context) {
         range();
         return;
     }
-    if both(seen.depth == 0, both(seen.second == 59, seen.last == 1)) {
+    bracketed(code, seen);
+}
+
+// Outside of brackets: after a `;`, and after that and a name.
+fn outside(code: usize, seen: Context) {
+    if seen.last == 59 {
+        rule_start();
+        return;
+    }
+    if both(seen.second == 59, seen.last == 1) {
         equals();
         return;
     }
-    bracketed(code, seen);
+    misplaced(code, seen);
 }
 
 fn opened(code: usize, seen: Context) {
     if both(16 <= seen.depth, either(code == 40, code == 91)) {
         deep();
+        return;
+    }
+    if seen.depth == 0 {
+        outside(code, seen);
         return;
     }
     misplaced(code, seen);

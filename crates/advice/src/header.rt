@@ -2,6 +2,11 @@
 use text::Class;
 use text::spans::span;
 use wording::writing::say;
+ghost use mathlib.Core.Path.{_≡_};
+ghost use lib.Dec.{leb};
+ghost use lib.ListN.{length, drop};
+ghost use Rattle.text.specs.Spans.{span-end};
+ghost use Rattle.text.specs.declared.Class.{Class};
 
 fn empty() {
     say(b"The file is empty, or cannot be read.\n");
@@ -53,7 +58,9 @@ fn header_end() {
 }
 
 // Whether the text's last line has the place in it.
-fn last_line(grammar: &[u8], at: usize) -> bool {
+fn last_line(grammar: &[u8], at: usize) -> bool
+    ensures { λ r. ⌜ r ≡ leb (length (now (grammar .entry))) (span-end (Class.Except 10) at (drop at (now (grammar .entry)))) ⌝ }
+{
     grammar.len() <= span(Class::Except(10), grammar, at)
 }
 

@@ -11,6 +11,8 @@ use wording::quoting::end_of;
 use wording::quoting::quote;
 use wording::windows;
 use wording::writing::say;
+ghost use mathlib.Core.Path.{_≡_};
+ghost use Rattle.explain.specs.Report.{part-of};
 
 fn part_at(grammar: &[u8], at: usize, part: Part) {
     say(b"    ");
@@ -63,7 +65,9 @@ fn leading(grammar: &[u8], at: usize) {
 }
 
 // An alternative that is a branch stands in parentheses.
-fn part_of(kind: usize) -> Part {
+fn part_of(kind: usize) -> Part
+    ensures { λ r. ⌜ r ≡ part-of kind ⌝ }
+{
     if kind == 1 {
         return Part::Whole;
     }

@@ -2,11 +2,14 @@
 use locating::Located;
 use locating::Query;
 use locating::locate;
+use text::bytes::either;
 use wording::lines;
 use wording::quoting::Part;
 use wording::quoting::quote;
 use wording::writing::number;
 use wording::writing::say;
+ghost use mathlib.Core.Path.{_≡_};
+ghost use Rattle.explain.specs.Report.{is-field, bound-of};
 
 fn field_at(grammar: &[u8], construct: usize, at: usize) {
     number(b"    construct ", construct);
@@ -18,11 +21,10 @@ fn field_at(grammar: &[u8], construct: usize, at: usize) {
 }
 
 // A literal, a range or a uint.
-fn is_field(kind: usize) -> bool {
-    match kind {
-        6 | 7 | 8 => true,
-        _ => false,
-    }
+fn is_field(kind: usize) -> bool
+    ensures { λ r. ⌜ r ≡ is-field kind ⌝ }
+{
+    either(kind == 6, either(kind == 7, kind == 8))
 }
 
 fn field_of(grammar: &[u8], construct: usize, kind: usize, at: usize) {
@@ -62,7 +64,9 @@ fn constructs(grammar: &[u8]) -> usize {
 }
 
 // The bound on the steps of a run is the weight times one more than the frame's bits: 2,049 for 256 bytes.
-fn steps(weight: usize) -> usize {
+fn steps(weight: usize) -> usize
+    ensures { λ r. ⌜ r ≡ bound-of weight ⌝ }
+{
     if weight <= 65535 {
         return weight * 2049;
     }
