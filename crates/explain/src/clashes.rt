@@ -90,27 +90,11 @@ fn branch(grammar: &[u8], construct: usize) {
     }
 }
 
-fn change_ends() {
-    say(b"What to change: let only one of the two match where the frame has\n");
-    say(b"nothing left. eod matches there, and so does what can be empty: ?, *\n");
-    say(b"and {0~..}.\n");
-}
-
-fn change_begins() {
-    say(b"What to change, one of these:\n");
-    say(b"  - Let the two differ in their first 8 bits. Take what they share out\n");
-    say(b"    of one of the sets or ranges, or change what one begins with.\n");
-    say(b"  - Put what both begin with in front of the alternative, once:\n");
-    say(b"    \"A\" & (\"B\" | \"C\") for \"AB\" | \"AC\".\n");
-    say(b"  - Bind a field that comes before, and choose by a switch:\n");
-    say(b"    uint(8, var(kind, ~)) & [kind = 1: \"AB\"; kind = 2: \"AC\";].\n");
-}
-
 fn change_branches(window: usize) {
     if window < 2 {
-        change_ends();
+        advice::clashes::ends();
     } else {
-        change_begins();
+        advice::clashes::begins();
     }
 }
 
@@ -122,19 +106,6 @@ fn branches(grammar: &[u8], window: usize, first: usize, second: usize) {
     say(b"Both admit");
     windows::window(window);
     change_branches(window);
-}
-
-fn change_passes() {
-    say(b"What to change, one of these:\n");
-    say(b"  - Let what comes after the repetition begin with bits that no pass\n");
-    say(b"    begins with, such as an end mark.\n");
-    say(b"  - Give the number of passes: {4}, or {n} with n bound by a field\n");
-    say(b"    that comes before: uint(8, var(n, ~)) & \"A\"{n}.\n");
-}
-
-fn after_rule() {
-    say(b"After it comes what follows the parentheses around it, or its rule\n");
-    say(b"where that is used; inside of a repetition also a further pass.\n");
 }
 
 fn after_member(grammar: &[u8], at: usize) {
@@ -150,7 +121,7 @@ fn after(grammar: &[u8], end: usize) {
         after_member(grammar, look(grammar, sight.end).start);
         return;
     }
-    after_rule();
+    advice::clashes::after_rule();
 }
 
 fn passes(grammar: &[u8], at: usize, window: usize) {
@@ -161,7 +132,7 @@ fn passes(grammar: &[u8], at: usize, window: usize) {
     after(grammar, end_of(grammar, at, Part::Member));
     say(b"Going on and stopping both admit");
     windows::window(window);
-    change_passes();
+    advice::clashes::passes();
 }
 
 fn explained(grammar: &[u8], at: usize, clash: Clash) {
