@@ -1,9 +1,10 @@
 // Runs the reference implementation. `reference readings` checks the settled readings' examples and the limits; `vectors FOLDER` checks the
-// vectors; `compare SEED TEXTS` compares it with itself; `text SEED` writes the random text that the comparison has at that seed; `timing
-// FOLDER` tells how long the vectors take.
+// vectors; `reports FOLDER` checks the stored reports of `explain`; `compare SEED TEXTS` compares it with itself; `text SEED` writes the
+// random text that the comparison has at that seed; `timing FOLDER` tells how long the vectors take.
 mod boundaries;
 mod compare;
 mod readings;
+mod reports;
 mod timing;
 mod vectors;
 
@@ -18,13 +19,14 @@ fn main() {
     match arguments.iter().map(String::as_str).collect::<Vec<_>>()[..] {
         ["readings"] => println!("reference: {} examples of the readings, {} limits", readings::check(), boundaries::check()),
         ["vectors", folder] => println!("reference: {} texts as the vectors say", vectors::check(Path::new(folder))),
+        ["reports", folder] => println!("reference: {} reports of explain hold its numbers, places and windows", reports::check(Path::new(folder))),
         ["timing", folder] => timing::report(Path::new(folder)),
         ["compare", seed, texts] => compare::report(number(seed), number(texts) as usize),
         ["text", seed] => {
             let text = random_grammar::text(&mut Random::new(number(seed)));
             std::io::stdout().write_all(&text).expect("standard output");
         }
-        _ => panic!("use: reference readings | vectors FOLDER | timing FOLDER | compare SEED TEXTS | text SEED"),
+        _ => panic!("use: reference readings | vectors FOLDER | reports FOLDER | timing FOLDER | compare SEED TEXTS | text SEED"),
     }
 }
 

@@ -1,12 +1,18 @@
 // A clash: what shares which bits, and what to change.
-use crate::lines;
-use crate::quoting::Part;
-use crate::quoting::quote;
-use crate::windows;
-use crate::writing::say;
+use crate::names::rule_at;
 use conflicts::Clash;
 use locating::Located;
+use locating::Query;
 use locating::locate;
+use parsing::terminals::look;
+use wording::lines;
+use wording::quoting::Part;
+use wording::quoting::end_of;
+use wording::quoting::quote;
+use wording::windows;
+use wording::writing::say;
+ghost use mathlib.Core.Path.{_≡_};
+ghost use Rattle.explain.specs.Report.{part-of};
 
 fn part_at(grammar: &[u8], at: usize, part: Part) {
     say(b"    ");
@@ -16,48 +22,85 @@ fn part_at(grammar: &[u8], at: usize, part: Part) {
     say(b"\n");
 }
 
-fn branch(grammar: &[u8], construct: usize) {
-    match locate(grammar, construct) {
-        Located::Construct {
-            place,
-            kind: _,
-            count: _,
-        } => part_at(grammar, place, Part::Branch),
-        Located::Nothing => {}
+// The rule at a place, and where its expression begins; no place stays none.
+fn shown(grammar: &[u8], at: usize) -> usize {
+    if at == 18446744073709551615 {
+        return at;
+    }
+    say(b"    ");
+    rule_at(grammar, at);
+    look(grammar, look(grammar, at).end).end
+}
+
+fn defined(grammar: &[u8], at: usize) -> usize {
+    match locate(grammar, Query::Definition(at)) {
+        Located::Definition(place) => shown(grammar, place),
+        _ => 18446744073709551615,
     }
 }
 
-fn change_ends() {
-    say(
-        b"What to change: let only one of the two match where the frame has nothing left. eod, ?, * and {0~..} do.\n",
-    );
+// What a token leads to: behind a ( the next token, at a name the rule's expression.
+fn further(grammar: &[u8], code: usize, start: usize, end: usize) -> usize {
+    if code == 40 {
+        return end;
+    }
+    if code == 1 {
+        return defined(grammar, start);
+    }
+    18446744073709551615
 }
 
-fn change_begins() {
-    say(
-        b"What to change: let the two branches differ in their first 8 bits; where one is a rule's name, look at how that\n",
-    );
-    say(
-        b"rule begins. What both begin with can stand once in front of the alternative, as in \"A\" & (\"B\" | \"C\") for\n",
-    );
-    say(
-        b"\"AB\" | \"AC\". Or bind a field that comes before by var(..), and choose by a switch, as in\n",
-    );
-    say(b"[kind = 1: \"AB\"; kind = 2: \"AC\";].\n");
+// Where a part begins with a rule's name, that rule; and so on.
+fn leading(grammar: &[u8], at: usize) {
+    let mut here = at;
+    let mut tokens: usize = 0;
+    while tokens < 1024 {
+        let sight = look(grammar, here);
+        here = further(grammar, sight.code, sight.start, sight.end);
+        if here == 18446744073709551615 {
+            return;
+        }
+        tokens += 1;
+    }
+}
+
+// An alternative that is a branch stands in parentheses.
+fn part_of(kind: usize) -> Part
+    ensures { λ r. ⌜ r ≡ part-of kind ⌝ }
+{
+    if kind == 1 {
+        return Part::Whole;
+    }
+    Part::Branch
+}
+
+fn branch_at(grammar: &[u8], at: usize, kind: usize) {
+    part_at(grammar, at, part_of(kind));
+    leading(grammar, at);
+}
+
+fn branch(grammar: &[u8], construct: usize) {
+    match locate(grammar, Query::Construct(construct)) {
+        Located::Construct {
+            place,
+            kind,
+            count: _,
+        } => branch_at(grammar, place, kind),
+        _ => {}
+    }
 }
 
 fn change_branches(window: usize) {
     if window < 2 {
-        change_ends();
+        advice::clashes::ends();
     } else {
-        change_begins();
+        advice::clashes::begins();
     }
 }
 
 fn branches(grammar: &[u8], window: usize, first: usize, second: usize) {
-    say(
-        b"The next bits of a frame must say which branch of an alternative is taken. Here they cannot:\n",
-    );
+    say(b"The next bits of a frame must say which branch of an alternative is\n");
+    say(b"taken. Here they cannot:\n");
     branch(grammar, first);
     branch(grammar, second);
     say(b"Both admit");
@@ -65,24 +108,31 @@ fn branches(grammar: &[u8], window: usize, first: usize, second: usize) {
     change_branches(window);
 }
 
-fn change_passes() {
-    say(
-        b"What to change: let what follows the repetition begin with bits that no pass begins with, such as an end mark.\n",
-    );
-    say(
-        b"Or give the number of passes: {4}, or {n} with n bound by a field that comes before, as in\n",
-    );
-    say(b"uint(8, var(n, ~)) & \"A\"{n}.\n");
+fn after_member(grammar: &[u8], at: usize) {
+    say(b"After it comes this, and what follows this where it can be empty:\n");
+    part_at(grammar, at, Part::Branch);
+    leading(grammar, at);
+}
+
+// What follows a member that ends at a place.
+fn after(grammar: &[u8], end: usize) {
+    let sight = look(grammar, end);
+    if sight.code == 38 {
+        after_member(grammar, look(grammar, sight.end).start);
+        return;
+    }
+    advice::clashes::after_rule();
 }
 
 fn passes(grammar: &[u8], at: usize, window: usize) {
-    say(
-        b"Before each pass of a repetition (?, *, + or {..}) the next bits must say whether it comes. Here they cannot:\n",
-    );
+    say(b"Before each pass of a repetition (?, *, + or {..}) the next bits must\n");
+    say(b"say whether it comes. Here they cannot:\n");
     part_at(grammar, at, Part::Member);
+    leading(grammar, at);
+    after(grammar, end_of(grammar, at, Part::Member));
     say(b"Going on and stopping both admit");
     windows::window(window);
-    change_passes();
+    advice::clashes::passes();
 }
 
 fn explained(grammar: &[u8], at: usize, clash: Clash) {

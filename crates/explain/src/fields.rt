@@ -1,11 +1,15 @@
 // An admitted grammar: its numbers, and its fields in order.
-use crate::lines;
-use crate::quoting::Part;
-use crate::quoting::quote;
-use crate::writing::number;
-use crate::writing::say;
 use locating::Located;
+use locating::Query;
 use locating::locate;
+use text::bytes::either;
+use wording::lines;
+use wording::quoting::Part;
+use wording::quoting::quote;
+use wording::writing::number;
+use wording::writing::say;
+ghost use mathlib.Core.Path.{_≡_};
+ghost use Rattle.explain.specs.Report.{is-field, bound-of};
 
 fn field_at(grammar: &[u8], construct: usize, at: usize) {
     number(b"    construct ", construct);
@@ -17,11 +21,10 @@ fn field_at(grammar: &[u8], construct: usize, at: usize) {
 }
 
 // A literal, a range or a uint.
-fn is_field(kind: usize) -> bool {
-    match kind {
-        6 | 7 | 8 => true,
-        _ => false,
-    }
+fn is_field(kind: usize) -> bool
+    ensures { λ r. ⌜ r ≡ is-field kind ⌝ }
+{
+    either(kind == 6, either(kind == 7, kind == 8))
 }
 
 fn field_of(grammar: &[u8], construct: usize, kind: usize, at: usize) {
@@ -31,13 +34,13 @@ fn field_of(grammar: &[u8], construct: usize, kind: usize, at: usize) {
 }
 
 fn field(grammar: &[u8], construct: usize) {
-    match locate(grammar, construct) {
+    match locate(grammar, Query::Construct(construct)) {
         Located::Construct {
             place,
             kind,
             count: _,
         } => field_of(grammar, construct, kind, place),
-        Located::Nothing => {}
+        _ => {}
     }
 }
 
@@ -50,18 +53,20 @@ fn fields(grammar: &[u8], count: usize) {
 }
 
 fn constructs(grammar: &[u8]) -> usize {
-    match locate(grammar, 0) {
+    match locate(grammar, Query::Construct(0)) {
         Located::Construct {
             place: _,
             kind: _,
             count,
         } => count,
-        Located::Nothing => 0,
+        _ => 0,
     }
 }
 
 // The bound on the steps of a run is the weight times one more than the frame's bits: 2,049 for 256 bytes.
-fn steps(weight: usize) -> usize {
+fn steps(weight: usize) -> usize
+    ensures { λ r. ⌜ r ≡ bound-of weight ⌝ }
+{
     if weight <= 65535 {
         return weight * 2049;
     }

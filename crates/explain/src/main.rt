@@ -2,16 +2,12 @@
 use admission::Admission;
 
 mod clashes;
-mod faults;
 mod fields;
-mod lines;
+mod limits;
 mod names;
-mod quoting;
 mod refusals;
-mod windows;
-mod writing;
 
-use writing::say;
+use wording::writing::say;
 
 fn answered(grammar: &[u8], answer: Admission) {
     match answer {

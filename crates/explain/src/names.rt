@@ -1,23 +1,16 @@
 // Refusal 6: a name that is unknown, double, reserved, misplaced or of the wrong kind.
-use crate::quoting::deeper;
-use crate::quoting::token;
-use crate::writing::say;
-use parsing::terminals::look;
+use locating::Fault;
+use locating::Located;
+use locating::Query;
+use locating::locate;
 use text::Class;
-use text::Heading;
 use text::spans::span;
 use tokens::names::reserved;
-
-// What a name is where it stands.
-enum Role {
-    Rule,
-    Binder,
-    Use,
-}
-
-pub fn name(grammar: &[u8], at: usize) {
-    token(grammar, at);
-}
+use wording::lines;
+use wording::quoting::Part;
+use wording::quoting::quote;
+use wording::quoting::token;
+use wording::writing::say;
 
 fn is_reserved(grammar: &[u8], start: usize, end: usize) -> bool {
     if start <= end {
@@ -28,98 +21,83 @@ fn is_reserved(grammar: &[u8], start: usize, end: usize) -> bool {
     false
 }
 
-// A rule's name follows a `;` outside of any brackets, or is the first token. The name that a field binds follows `var(`.
-fn role_after(depth: usize, before: usize, last: usize) -> Role {
-    if before == 8 {
-        return Role::Binder;
-    }
-    if depth == 0 {
-        if last == 59 {
-            return Role::Rule;
-        }
-    }
-    Role::Use
+// A rule, with its line and column.
+pub fn rule_at(grammar: &[u8], at: usize) {
+    say(b"    ");
+    lines::place(grammar, at);
+    say(b":  ");
+    quote(grammar, at, Part::Whole);
+    say(b"\n");
 }
 
-// What stands at the place, with the rules from `base` on.
-fn role_from(grammar: &[u8], base: usize, at: usize) -> Role {
-    let mut here = base;
-    let mut depth = 0;
-    let mut before = 59;
-    let mut last = 59;
-    let mut tokens: usize = 0;
-    while tokens < 8192 {
-        let sight = look(grammar, here);
-        if at <= sight.start {
-            break;
-        }
-        depth = deeper(sight.code, depth);
-        before = last;
-        last = sight.code;
-        here = sight.end;
-        tokens += 1;
-    }
-    role_after(depth, before, last)
+fn double(grammar: &[u8], at: usize) {
+    advice::names::double();
+    rule_at(grammar, at);
+    advice::names::change_double();
 }
 
-fn role_at(grammar: &[u8], at: usize) -> Role {
-    match text::header::header(grammar) {
-        Heading::Rules(base) => role_from(grammar, base, at),
-        Heading::Wrong(_) => Role::Use,
-    }
+fn variable(grammar: &[u8], at: usize) {
+    advice::names::variable();
+    lines::shown(grammar, at);
+    advice::names::change_variable();
 }
 
-fn reserved_word() {
-    say(b" is a reserved word and cannot be used as a name here.\n");
-    say(b"What to change: choose another name, here and wherever it is used.\n");
+fn twice(grammar: &[u8], at: usize) {
+    advice::names::twice();
+    lines::shown(grammar, at);
+    advice::names::change_twice();
 }
 
-fn double() {
-    say(b" is already the name of a rule above.\n");
-    say(b"What to change: give one of the two rules another name, or take one out.\n");
+fn later(grammar: &[u8], at: usize) {
+    advice::names::later();
+    lines::shown(grammar, at);
+    advice::names::change_later();
 }
 
-fn unknown() {
-    say(b" is not known here, or cannot stand here.\n");
-    say(
-        b"What to change: in an expression write the name of a rule, in the same letter case. In a set, a count or a\n",
-    );
-    say(
-        b"condition write a variable: bound by var(..) in the same rule, once, in an earlier member that stands\n",
-    );
-    say(b"outside of parentheses, repetitions and switches.\n");
+fn rule(grammar: &[u8], at: usize) {
+    advice::names::rule();
+    rule_at(grammar, at);
+    advice::names::change_unbound();
 }
 
-fn misbound() {
-    say(b" cannot be bound here, or is bound twice in this rule.\n");
-    say(
-        b"What to change: let var(..) stand in the rule's own concatenation, outside of alternatives, parentheses,\n",
-    );
-    say(
-        b"repetitions and switches. A branch that binds a variable can be a rule of its own, as in\n",
-    );
-    say(b"    frame = card | mailer;\n");
-    say(b"    mailer = \"M\" & uint(8, var(n, ~)) & uint(8, ~){n};\n");
+fn elsewhere(grammar: &[u8], at: usize) {
+    advice::names::elsewhere();
+    lines::shown(grammar, at);
+    advice::names::change_elsewhere();
 }
 
-fn told(role: Role) {
-    match role {
-        Role::Rule => double(),
-        Role::Binder => misbound(),
-        Role::Use => unknown(),
+fn no_variable() {
+    advice::names::no_variable();
+    advice::names::change_unbound();
+}
+
+fn told(grammar: &[u8], fault: Fault) {
+    match fault {
+        Fault::Double(at) => double(grammar, at),
+        Fault::NoRule => advice::names::no_rule(),
+        Fault::Variable(at) => variable(grammar, at),
+        Fault::Twice(at) => twice(grammar, at),
+        Fault::Misplaced => advice::names::misplaced(),
+        Fault::Later(at) => later(grammar, at),
+        Fault::Rule(at) => rule(grammar, at),
+        Fault::Elsewhere(at) => elsewhere(grammar, at),
+        Fault::NoVariable => no_variable(),
     }
 }
 
 fn fault_at(grammar: &[u8], at: usize, end: usize) {
     if is_reserved(grammar, at, end) {
-        reserved_word();
+        advice::names::reserved();
         return;
     }
-    told(role_at(grammar, at));
+    match locate(grammar, Query::Name(at)) {
+        Located::Name(fault) => told(grammar, fault),
+        _ => {}
+    }
 }
 
 pub fn fault(grammar: &[u8], at: usize) {
     say(b"The name ");
-    name(grammar, at);
+    token(grammar, at);
     fault_at(grammar, at, span(Class::Name, grammar, at));
 }

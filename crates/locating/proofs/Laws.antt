@@ -1,4 +1,4 @@
--- What is located, by how the text is read.
+-- What is located, by how the text qs read.
 -- Assumes nothing.
 use Prim.Native.Nat.{ℕ, _+_, _≤_, _<_}
 use mathlib.Core.Path.{_≡_, refl, sym, ap, _∙_}
@@ -11,11 +11,12 @@ use Rattle.text.specs.Header.{header-of}
 use Rattle.text.specs.declared.Heading.{Heading}
 use Rattle.locating.specs.Located.{located-after, located}
 use Rattle.locating.specs.declared.Located.{Located}
+use Rattle.locating.specs.declared.Query.{Query}
 
-pub too-long : (text : List ℕ) (i : ℕ) → 8192 < length text → Located.Nothing ≡ located text i
-too-long text i l = let q : ltb 8192 (length text) ≡ true = lt-ltb 8192 (length text) l in rw q refl
+pub too-long : (text : List ℕ) (q : Query) → 8192 < length text → Located.Nothing ≡ located text q
+too-long text q l = let t : ltb 8192 (length text) ≡ true = lt-ltb 8192 (length text) l in rw t refl
 
-pub short : (text : List ℕ) (i : ℕ) (h g : Heading) (r : Located) → h ≡ header-of text → h ≡ g → length text ≤ 8192 → r ≡ located-after text i g → r ≡ located text i
-short text i h g r e z l w =
-    let q : ltb 8192 (length text) ≡ false = le-ltb 8192 (length text) l
-    in w ∙ ap (located-after text i) (sym z ∙ e) ∙ rw q refl
+pub short : (text : List ℕ) (q : Query) (h g : Heading) (r : Located) → h ≡ header-of text → h ≡ g → length text ≤ 8192 → r ≡ located-after text q g → r ≡ located text q
+short text q h g r e z l w =
+    let t : ltb 8192 (length text) ≡ false = le-ltb 8192 (length text) l
+    in w ∙ ap (located-after text q) (sym z ∙ e) ∙ rw t refl

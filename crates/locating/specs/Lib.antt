@@ -1,2 +1,3 @@
 -- What `locate` promises.
+pub mod Faults
 pub mod Located

@@ -7,7 +7,7 @@ use Rattle.locating.proofs.locate.Statement.{statement}
 use Rattle.locating.proofs.locate.Tie as tie
 
 returns : tie.Need-returns
-returns c = too-long (c .before .before .args .text .now) (c .before .before .args .i) (c .if1 .taken)
+returns c = too-long (c .before .before .args .text .now) (c .before .before .args .query) (c .if1 .taken)
 
 header-requires : tie.Need-header-requires
 header-requires c κs = search needs
@@ -22,10 +22,10 @@ locate-from-requires : tie.Need-locate-from-requires
 locate-from-requires c κs = (rules-inside (c .before .before .before .before .before .before .args .text .now) (c .before .before .before .header .result) _ (c .before .before .before .header .ensures) (c .before .base .given .1), c .before .before .before .before .if1 .left)
 
 returns-2 : tie.Need-returns-2
-returns-2 c = short (c .before .before .before .before .before .args .text .now) (c .before .before .before .before .before .args .i) (c .before .before .header .result) _ Located.Nothing (c .before .before .header .ensures) (c .enum-told .given .1) (c .before .before .before .if1 .left) refl
+returns-2 c = short (c .before .before .before .before .before .args .text .now) (c .before .before .before .before .before .args .query) (c .before .before .header .result) _ Located.Nothing (c .before .before .header .ensures) (c .enum-told .given .1) (c .before .before .before .if1 .left) refl
 
 returns-3 : tie.Need-returns-3
-returns-3 c = short (c .before .before .before .before .before .before .before .args .text .now) (c .before .before .before .before .before .before .before .args .i) (c .before .before .before .before .header .result) _ (c .locate-from .result) (c .before .before .before .before .header .ensures) (c .before .before .base .given .1) (c .before .before .before .before .before .if1 .left) (c .locate-from .ensures)
+returns-3 c = short (c .before .before .before .before .before .before .before .args .text .now) (c .before .before .before .before .before .before .before .args .query) (c .before .before .before .before .header .result) _ (c .locate-from .result) (c .before .before .before .before .header .ensures) (c .before .before .base .given .1) (c .before .before .before .before .before .if1 .left) (c .locate-from .ensures)
 
 pub locate-spec : {M : Type 1} → statement M
 locate-spec =

@@ -21,7 +21,7 @@ locate-rules-requires : tie.Need-locate-rules-requires
 locate-rules-requires c κs = search needs
 
 returns : tie.Need-returns
-returns c = c .locate-rules .ensures ∙ ap (λ (xs : List ℕ). located-in (c .before .before .before .args .base) (c .before .before .before .args .i) (form xs)) (rest (c .before .before .before .args .text .now) (c .before .before .before .args .base))
+returns c = c .locate-rules .ensures ∙ ap (λ (xs : List ℕ). located-in xs (c .before .before .before .args .base) (c .before .before .before .args .query) (form xs)) (rest (c .before .before .before .args .text .now) (c .before .before .before .args .base))
 
 pub locate-from-spec : {M : Type 1} → statement M
 locate-from-spec =

@@ -1,0 +1,2 @@
+-- What the advice on a token goes by.
+pub mod Codes

@@ -1,0 +1,2 @@
+-- What the report goes by.
+pub mod Report

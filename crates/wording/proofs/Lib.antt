@@ -1,0 +1,4 @@
+-- Laws behind the proofs of the report.
+pub mod LineLaws
+pub mod WalkLaws
+pub mod PartLaws

@@ -1,0 +1,6 @@
+// What the report is written with: bytes, lines and parts of a grammar's text, and windows.
+pub mod lines;
+pub mod quoting;
+pub mod walking;
+pub mod windows;
+pub mod writing;
