@@ -9,7 +9,7 @@ use mathlib.Core.Logic.{_⊎_, inl, inr}
 use mathlib.Core.List.{List}
 use lib.Dec.{leb, ltb, eqb}
 use lib.IntN.{ℤ, pos}
-use lib.ListN.{length, take, drop}
+use lib.ListN.{take, drop}
 use lib.Pow.{pow-mono}
 use Rattle.basis.specs.Bits.{value, frameBits}
 use Rattle.basis.proofs.Frames.{value-take-less}
@@ -21,7 +21,7 @@ use Rattle.layout.specs.Constructs.{pick, both, constructAt}
 use Rattle.layout.specs.Held.{terms-of, size-of}
 use Rattle.layout.specs.declared.Construct.{Construct}
 use Rattle.acts.specs.Stored.{stored, prediction-at, follow-at}
-use Rattle.acts.specs.Acts.{in-table, enter, open-rule, ahead-at, bits-of, walk, by-branch, branch-act, case-test, by-case, case-act, members-act, by-lookahead, choice-act, turn-act, counted, literal-holds, literal-act, range-act, by-set, uint-act, end-act, Fine, construct-act, actOf, Doable}
+use Rattle.acts.specs.Acts.{in-table, enter, open-rule, ahead-at, bits-of, walk, by-branch, branch-act, case-test, by-case, case-act, by-lookahead, choice-act, turn-act, counted, literal-holds, literal-act, range-act, by-set, uint-act, Fine, construct-act, actOf, Doable}
 use Rattle.acts.specs.declared.Act.{Act}
 use Rattle.acts.proofs.Sizes.{both-true, construct-fine}
 

@@ -1,7 +1,7 @@
 -- Branches, cases and members, one part at a time: what a loop over them keeps.
 -- Assumes nothing.
 use Prim.Native.Nat.{ℕ, _+_, _-_, _≤_, _<_}
-use mathlib.Core.Path.{_≡_, refl, sym, _∙_, ap}
+use mathlib.Core.Path.{_≡_, _∙_, ap}
 use mathlib.Core.Bool.{Bool, true, false}
 use mathlib.Core.List.{List}
 use lib.IntN.{ℤ}
@@ -9,7 +9,7 @@ use Rattle.evaluation.specs.declared.Tested.{Tested}
 use Rattle.layout.specs.Constructs.{constructAt}
 use Rattle.layout.specs.Held.{size-of}
 use Rattle.acts.specs.Stored.{stored, prediction-at}
-use Rattle.acts.specs.Acts.{walk, by-branch, branch-act, case-test, by-case, case-act, members-act}
+use Rattle.acts.specs.Acts.{walk, by-branch, branch-act, case-test, by-case, case-act}
 use Rattle.acts.specs.declared.Act.{Act}
 use Rattle.acts.proofs.Walks.{walk-end, walk-missing, walk-part, walk-first}
 

@@ -1,6 +1,6 @@
 -- What holds of every construct that a table has at a place, whatever its words: `Fine`.
 -- Assumes nothing.
-use Prim.Native.Nat.{ℕ, _+_, _≤_, _<_}
+use Prim.Native.Nat.{ℕ, _+_, _≤_}
 use native.Mathlib.Omega.{arith}
 use borrow.Author.Tests.{leb-true, ltb-true}
 use mathlib.Core.Path.{_≡_, refl}

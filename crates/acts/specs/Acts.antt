@@ -5,7 +5,7 @@
 -- and itself again; at or past its greatest, nothing; between, by go or stop, in neither no match. Literal, range, uint and eod compare".
 -- Broken where "a table entry missing or against the layout, a calculation past 2^62" is met.
 -- Assumes nothing.
-use Prim.Native.Nat.{ℕ, zero, suc, _+_, _*_, _-_, _/_, _≤_, _<_}
+use Prim.Native.Nat.{ℕ, zero, suc, _+_, _*_, _-_, _≤_, _<_}
 use mathlib.Core.Bool.{Bool, true, false}
 use mathlib.Core.List.{List}
 use lib.Dec.{leb, ltb, eqb}

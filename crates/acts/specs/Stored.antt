@@ -5,7 +5,6 @@ use Prim.Native.Nat.{ℕ, _+_, _*_, _/_, _%_, _^_}
 use mathlib.Core.Bool.{Bool}
 use mathlib.Core.List.{List}
 use lib.Dec.{eqb}
-use Rattle.basis.specs.Bits.{Bits}
 use Rattle.basis.specs.Lookahead.{number}
 use Rattle.theory.specs.Machine.{Tests}
 use Rattle.layout.specs.Places.{word, sets-at}

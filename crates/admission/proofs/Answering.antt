@@ -1,18 +1,16 @@
 -- From the judgement's answer to the text's.
 -- Assumes nothing.
-use Prim.Native.Nat.{ℕ, _+_, _≤_, _<_}
-use mathlib.Core.Path.{_≡_, refl, sym, ap, subst, _∙_}
+use Prim.Native.Nat.{ℕ, _≤_, _<_}
+use mathlib.Core.Path.{_≡_, sym, subst}
 use mathlib.Core.List.{List}
 use native.Mathlib.Omega.{arith}
 use lib.ListN.{length}
 use Rattle.theory.specs.Lookahead.{EmptyBody}
-use Rattle.layout.specs.Places.{construct-count, table-words}
+use Rattle.layout.specs.Places.{construct-count}
 use Rattle.layout.specs.Held.{held}
-use Rattle.conflicts.specs.declared.Clash.{Clash}
 use Rattle.table.specs.Sound.{Sound}
 use Rattle.soundness.specs.OneTable.{Alike}
 use Rattle.parsing.specs.Store.{State, node-words, rule-words, nodes-of}
-use Rattle.naming.specs.Words.{node-word}
 use Rattle.admission.specs.Admitted.{words-of, Bounded, LeastMark, RulesRefused, by-empty-body, by-weight, AnsweredRules}
 use Rattle.admission.specs.Late.{Marks, LateRefused, empty-body, overweight, Late, HandedOver}
 use Rattle.admission.specs.declared.Admission.{Admission}

@@ -1,15 +1,14 @@
 -- Refusal 8: where nothing is found nothing is outside its limits, and what is found stands in the text.
 -- Assumes nothing.
 use Prim.Native.Nat.{ℕ, zero, suc, _+_, _-_, _≤_, _<_, min}
-use mathlib.Core.Path.{_≡_, refl, sym, ap, subst, _∙_}
+use mathlib.Core.Path.{_≡_, refl, sym, _∙_}
 use mathlib.Core.Logic.{_⊎_, inl, inr, ⊎-elim}
-use mathlib.Core.Bool.{Bool, true, false, cond, not, _&&_, _||_}
+use mathlib.Core.Bool.{Bool, true, false, not, _&&_, _||_}
 use mathlib.Core.List.{List}
 use native.Mathlib.Omega.{arith}
 use borrow.Author.Tests.{eq-eqb, eqb-true, leb-true, ltb-false}
 use lib.Dec.{leb, ltb, eqb}
 use lib.ListN.{length}
-use Rattle.text.proofs.Tests.{which}
 use Rattle.sizes.specs.declared.Sized.{Sized}
 use Rattle.layout.specs.Constructs.{constructAt}
 use Rattle.measures.specs.Measures.{condition-size, own-size, exceeds, oversized}

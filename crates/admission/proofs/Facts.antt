@@ -1,7 +1,7 @@
 -- What is known of a text that passes 5: its words are within their lengths, and every place that is stored lies in the text.
 -- Assumes nothing.
 use Prim.Native.Nat.{ℕ, _+_, _*_, _≤_, _<_}
-use mathlib.Core.Path.{_≡_, refl, sym, ap, subst, _∙_}
+use mathlib.Core.Path.{_≡_, _∙_}
 use mathlib.Core.Logic.{_⊎_, ⊎-elim}
 use mathlib.Core.Bool.{false}
 use mathlib.Core.List.{List, [], _∷_}
@@ -23,7 +23,7 @@ use Rattle.laying.proofs.LimitLaws.{limits}
 use Rattle.laying.proofs.Sums.{side}
 use Rattle.laying.proofs.StoredFacts.{quiet-of}
 use Rattle.laying.proofs.Totals.{terms-of-rules}
-use Rattle.admission.specs.Admitted.{form, Right, Limited}
+use Rattle.admission.specs.Admitted.{Right, Limited}
 use Rattle.admission.specs.Late.{Within}
 
 -- what is read has the lengths of the arrays, and every place lies in the text, whatever its limits

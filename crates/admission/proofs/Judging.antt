@@ -1,22 +1,18 @@
 -- From refusals 5, 6 and 8 passed to words that pass the judgement's first parts.
 -- Assumes nothing.
-use Prim.Native.Nat.{ℕ, _+_, _≤_, _<_}
-use mathlib.Core.Path.{_≡_, refl, sym, ap, subst, _∙_}
+use Prim.Native.Nat.{ℕ, _≤_}
+use mathlib.Core.Path.{_≡_, refl, sym, subst, _∙_}
 use mathlib.Core.Bool.{true, false}
 use mathlib.Core.List.{List}
 use native.Mathlib.Omega.{arith}
 use lib.ListN.{length}
 use Rattle.theory.specs.Lookahead.{EmptyBody}
 use Rattle.layout.specs.Places.{construct-count}
-use Rattle.layout.specs.Held.{held}
 use Rattle.form.specs.Laid.{laid}
-use Rattle.rules.specs.Reaching.{Reaches}
-use Rattle.conflicts.specs.declared.Clash.{Clash}
-use Rattle.table.specs.Judged.{Passed7, Passed8, Judged, Least, Oversized}
+use Rattle.table.specs.Judged.{Passed8, Judged, Oversized}
 use Rattle.table.specs.declared.Judgement.{Judgement}
 use Rattle.completion.specs.Completed.{Completed}
-use Rattle.parsing.specs.Store.{State, state, node-words, term-words, rule-words, nodes-of, rules-of}
-use Rattle.naming.specs.Words.{node-word, place-of, named-at}
+use Rattle.parsing.specs.Store.{State, state, nodes-of}
 use Rattle.laying.specs.Context.{Readable}
 use Rattle.laying.proofs.LaidOut.{words-by-place, laid-out}
 use Rattle.admission.specs.Admitted.{words-of, Bounded}

@@ -1,19 +1,16 @@
 -- Places of refusals stand in the text: each is at most 8,192, or no place.
 -- Assumes nothing.
-use Prim.Native.Nat.{ℕ, zero, suc, _+_, _*_, _-_, _≤_, _<_, min}
-use mathlib.Core.Path.{_≡_, refl, sym, ap, subst, _∙_}
-use mathlib.Core.Logic.{_⊎_, inl, inr, ⊎-elim}
-use mathlib.Core.Bool.{Bool, true, false, cond, not, _&&_, _||_}
+use Prim.Native.Nat.{ℕ, zero, suc, _+_, _-_, _≤_, _<_, min}
+use mathlib.Core.Path.{_≡_, refl}
+use mathlib.Core.Logic.{_⊎_, inl, inr}
+use mathlib.Core.Bool.{Bool, true, false, cond, _&&_}
 use mathlib.Core.List.{List}
 use native.Mathlib.Omega.{arith}
 use lib.Dec.{eqb}
-use lib.ListN.{length, getD, List·getD-eq-default}
-use Rattle.parsing.specs.Store.{State, state, node-words, term-words, rule-words, rules-of}
 use Rattle.naming.specs.Counting.{nowhere, place-if, least-of}
 use Rattle.naming.specs.Words.{node-word, term-word, kind-of, place-of, bound-at, is-binder, is-use, named-at, first-node, last-node}
 use Rattle.naming.specs.Limits.{limit-place, passed-in}
 use Rattle.naming.specs.Names.{rule-fault, use-fault, binder-fault, variable-fault, name-place, term-place, list-place, node-place, nodes-place, rule-place}
-use Rattle.admission.specs.Admitted.{fault-5, fault-6}
 use Rattle.admission.specs.Late.{Within}
 
 abbrev pub Spot : ℕ → Type 0

@@ -1,19 +1,19 @@
 -- What each stage hands to the functions that it calls.
 -- Assumes nothing.
 use Prim.Native.Nat.{ℕ, _+_, _≤_, _<_}
-use mathlib.Core.Path.{_≡_, refl, sym, ap, subst, _∙_}
-use mathlib.Core.Logic.{_⊎_, inl, inr}
+use mathlib.Core.Path.{_≡_, refl, sym, subst, _∙_}
+use mathlib.Core.Logic.{inl}
 use mathlib.Core.Bool.{true, false}
 use mathlib.Core.List.{List}
 use native.Mathlib.Omega.{arith}
 use borrow.Author.Tests.{eq-eqb, ne-eqb}
 use lib.Dec.{eqb}
-use lib.ListN.{length, length-replicate, replicate}
-use Rattle.rules.specs.Reaching.{Found, Reaches, Acyclic}
+use lib.ListN.{length, length-replicate}
+use Rattle.rules.specs.Reaching.{Found}
 use Rattle.rules.specs.declared.Recursion.{Recursion}
 use Rattle.table.specs.Judged.{Passed8}
-use Rattle.parsing.specs.Store.{State, state, node-words, term-words, rule-words, nodes-of, terms-of, rules-of}
-use Rattle.parsing.specs.Form.{right, refused}
+use Rattle.parsing.specs.Store.{State, node-words, term-words, rule-words, nodes-of, terms-of, rules-of}
+use Rattle.parsing.specs.Form.{refused}
 use Rattle.parsing.specs.Cursors.{state-at}
 use Rattle.parsing.specs.declared.Cursor.{Cursor}
 use Rattle.syntax.specs.Rules.{form-of, outcome-of}
@@ -24,10 +24,10 @@ use Rattle.encoding.specs.Numbers.{condition-start}
 use Rattle.encoding.specs.Encoded.{encoded}
 use Rattle.laying.proofs.Areas.{written-length}
 use Rattle.laying.proofs.NodeFacts.{nodes-of-rules}
-use Rattle.admission.specs.Admitted.{form, words-of, fault-5, fault-6, fault-8, Right, Limited, Named, Straight, Bounded, RulesRefused, by-form, by-limit, by-name, by-cycle, by-size}
+use Rattle.admission.specs.Admitted.{form, words-of, fault-5, fault-6, fault-8, Right, Limited, Named, Straight, Bounded, RulesRefused, by-limit, by-name, by-cycle}
 use Rattle.admission.specs.Late.{Within}
 use Rattle.admission.specs.declared.Found as places
-use Rattle.admission.proofs.Facts.{Basics, basics, Facts, facts, within, term-within}
+use Rattle.admission.proofs.Facts.{Basics, basics, facts, within, term-within}
 use Rattle.admission.proofs.Spots.{limits-spot, names-spot, some-spot}
 use Rattle.admission.proofs.Extending.{Inside, found-inside}
 use Rattle.admission.proofs.Judging.{passed-8}

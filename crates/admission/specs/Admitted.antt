@@ -1,24 +1,24 @@
 -- What an answer to a text says: "1 to 11 are tried in order; within one, the smallest place, outer first. A refused grammar changes no word of
 -- the table."
 -- Assumes nothing.
-use Prim.Native.Nat.{ℕ, _+_, _*_, _≤_, _<_}
+use Prim.Native.Nat.{ℕ, _+_, _≤_, _<_}
 use mathlib.Core.Path.{_≡_}
 use mathlib.Core.Logic.{_⊎_}
 use mathlib.Core.List.{List}
 use mathlib.Core.Option.{Option, none, some}
-use lib.ListN.{length, take, drop, replicate}
+use lib.ListN.{length, drop, replicate}
 use Rattle.theory.specs.Lookahead.{EmptyBody}
 use Rattle.layout.specs.Places.{table-words, table-of}
 use Rattle.layout.specs.Held.{held}
 use Rattle.rules.specs.Reaching.{Reaches, Acyclic}
 use Rattle.conflicts.specs.Conflicts.{Conflicting, Answered}
 use Rattle.conflicts.specs.declared.Clash.{Clash}
-use Rattle.table.specs.Judged.{Passed8, Passed9, Passed10, Least, Weighing}
+use Rattle.table.specs.Judged.{Passed9, Passed10, Least, Weighing}
 use Rattle.table.specs.Sound.{Sound}
 use Rattle.soundness.specs.OneTable.{Alike}
 use Rattle.text.specs.Header.{header-of}
 use Rattle.text.specs.declared.Heading.{Heading}
-use Rattle.parsing.specs.Store.{State, state, node-words, term-words, rule-words, nodes-of, terms-of, rules-of}
+use Rattle.parsing.specs.Store.{State, node-words, term-words, rule-words, nodes-of, terms-of, rules-of}
 use Rattle.parsing.specs.Form.{Outcome, right, refused}
 use Rattle.syntax.specs.Rules.{form-of}
 use Rattle.naming.specs.Counting.{nowhere}

@@ -1,15 +1,15 @@
 -- The sets of counts are what they are written as: whole numbers from 0, between ends that may lie below 0.
 -- Assumes nothing.
-use Prim.Native.Nat.{ℕ, zero, suc, _+_, _-_, _≤_, _<_}
+use Prim.Native.Nat.{ℕ, _-_, _≤_}
 use native.Mathlib.Omega.{arith}
 use borrow.Author.Tests.{leb-true, leb-false}
-use mathlib.Core.Path.{_≡_, refl, sym, ap}
-use mathlib.Core.Logic.{_↔_, _⊎_, inl, inr}
+use mathlib.Core.Path.{_≡_, refl, ap}
+use mathlib.Core.Logic.{_↔_}
 use mathlib.Core.Bool.{Bool, true, false}
-use lib.Dec.{T, leb, leb→le, le→leb}
+use lib.Dec.{leb, leb→le, le→leb}
 use lib.IntN.{ℤ, pos, negsuc}
-use lib.Signed.{_≤ℤ_, leZ}
-use Rattle.basis.specs.Counts.{Counts, from, within, Allows, least, between, exactly, atLeast, span}
+use lib.Signed.{_≤ℤ_}
+use Rattle.basis.specs.Counts.{Allows, least, between, exactly, atLeast, span}
 
 -- `{n}` is n alone, and no number where n is below 0
 pub exactly-allows : (n : ℤ) (k : ℕ) → Allows (exactly n) k ↔ (n ≡ pos k)

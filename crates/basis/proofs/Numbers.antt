@@ -7,11 +7,9 @@ use mathlib.Core.List.{[], _∷_, _++_}
 use native.Mathlib.Nat.{pow-suc, one-mul, mod-eq-of-lt, div-eq-of-lt}
 use native.Mathlib.Decide.{decLe, decLt}
 use native.Mathlib.Omega.{arith}
-use native.Mathlib.Numerals.{one-add}
 use lib.ListN.{length, take}
 use lib.Seq.{take-all}
-use lib.Dec.{eqb}
-use lib.Pow.{pow-mono, pow-pos, mod-pow-add, shr-shr, high, low}
+use lib.Pow.{pow-mono, pow-pos, high, low}
 use Rattle.basis.specs.Bits.{Bits, digit, bitsOf, append-digits, value}
 use Rattle.basis.specs.Lookahead.{lookahead, number}
 use Rattle.basis.proofs.Values.{length-bitsOf, append-bitsOf, append-value, value-less, take-bitsOf}

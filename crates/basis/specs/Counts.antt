@@ -1,8 +1,8 @@
 -- Counts of a repetition. "A repetition's counts are a set of whole numbers from 0: `{length - 8}` with length 5 is the empty set,
 -- which no derivation meets."
 -- Assumes nothing.
-use Prim.Native.Nat.{ℕ, zero, suc, _+_, _-_, _≤_}
-use mathlib.Core.Bool.{Bool, true, false}
+use Prim.Native.Nat.{ℕ, _+_, _-_, _≤_}
+use mathlib.Core.Bool.{true, false}
 use lib.Dec.{leb}
 use lib.IntN.{ℤ, pos, negsuc}
 

@@ -1,8 +1,8 @@
 -- Words that pass, with their sets and weight written in, are a sound table of the same grammar.
 -- Assumes nothing.
-use Prim.Native.Nat.{ℕ, _+_, _*_, _≤_, _<_}
-use mathlib.Core.Path.{_≡_, refl, sym, subst, ap, _∙_}
-use mathlib.Core.Logic.{_⊎_, inl, inr}
+use Prim.Native.Nat.{ℕ, _+_, _≤_, _<_}
+use mathlib.Core.Path.{_≡_, refl, sym, ap, _∙_}
+use mathlib.Core.Logic.{inl, inr}
 use mathlib.Core.List.{List}
 use native.Mathlib.Omega.{arith}
 use lib.ListN.{length, getD, set, drop, length-set, length-drop}
@@ -13,7 +13,7 @@ use Rattle.lookahead_slices.specs.Family.{part}
 use Rattle.lookahead_slices.specs.Narrow.{StandsAt}
 use Rattle.theory.specs.Lookahead.{Follow, Predicted}
 use Rattle.theory.specs.Weight.{Weighs, weigh}
-use Rattle.layout.specs.Places.{word, table-words, sets-at, construct-count, weight-of}
+use Rattle.layout.specs.Places.{table-words, construct-count, weight-of}
 use Rattle.layout.specs.Held.{held, opening, use-node}
 use Rattle.acts.specs.Stored.{prediction-at, follow-at}
 use Rattle.structure.proofs.Facts.{Laid, facts}
@@ -22,7 +22,7 @@ use Rattle.weights.proofs.Heights.{weight-at}
 use Rattle.weights.proofs.Theorems.{weights-exist}
 use Rattle.sets.specs.Sets.{FollowSets, PredictionSets}
 use Rattle.sets.proofs.HeldLaws.{node-opening}
-use Rattle.table.specs.Judged.{Weighing, Passed7, Judged}
+use Rattle.table.specs.Judged.{Passed7, Judged}
 use Rattle.table.specs.Sound.{Stands, Sound}
 use Rattle.table.specs.declared.Judgement.{Judgement}
 use Rattle.soundness.specs.OneTable.{Alike, Ended}

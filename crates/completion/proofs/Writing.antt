@@ -1,15 +1,14 @@
 -- Sets written one construct after the other.
 -- Assumes nothing.
-use Prim.Native.Nat.{ℕ, _+_, _*_, _≤_, _<_}
-use mathlib.Core.Path.{_≡_, refl, sym, subst, ap, _∙_}
-use mathlib.Core.Logic.{_⊎_, inl, inr}
+use Prim.Native.Nat.{ℕ, _+_, _<_}
+use mathlib.Core.Path.{_≡_, subst, ap, _∙_}
+use mathlib.Core.Logic.{inl, inr}
 use mathlib.Core.List.{List}
 use native.Mathlib.Omega.{arith}
 use native.Mathlib.Decide.{decLt}
-use lib.ListN.{length, getD, set, length-set}
+use lib.ListN.{length, getD, set}
 use Rattle.lookahead_slices.specs.Family.{part}
 use Rattle.lookahead_slices.specs.Narrow.{StandsAt, Put}
-use Rattle.layout.specs.Places.{sets-at}
 use Rattle.acts.specs.Stored.{prediction-at, follow-at}
 use Rattle.completion.specs.Completed.{SetsWritten}
 

@@ -1,23 +1,20 @@
 -- Of well laid out words: the body of a repetition is nobody else's part and no rule's body, so what lets the repetition continue is its
 -- body's prediction set.
 -- Assumes nothing.
-use Prim.Native.Nat.{ℕ, _+_, _≤_, _<_}
+use Prim.Native.Nat.{ℕ, _+_, _<_}
 use mathlib.Core.Path.{_≡_, refl, sym, subst, ap, _∙_}
 use mathlib.Core.Logic.{_⊎_, inl, inr, _↔_}
-use mathlib.Core.Bool.{Bool, true, false}
 use mathlib.Core.List.{List, [], _∷_, _++_, List·Memᴰ·head, List·Memᴰ·tail, List·Memᴰ·not-nil}
-use mathlib.Core.Option.{Option}
 use native.Mathlib.Omega.{arith}
 use native.Mathlib.Decide.{decLt, ℕ-discrete}
 use Rattle.basis.specs.Bits.{Bits}
-use Rattle.basis.specs.Counts.{Counts}
-use Rattle.theory.specs.Grammar.{Node, alternative, concatenation, repetition, switch, use-of, field, eod, _∈_}
-use Rattle.theory.specs.Derivation.{construct, passes}
+use Rattle.theory.specs.Grammar.{alternative, concatenation, repetition, switch, use-of, field, eod, _∈_}
+use Rattle.theory.specs.Derivation.{passes}
 use Rattle.theory.specs.Lookahead.{First, Follow, Predicted, Continues}
 use Rattle.theory.proofs.Prediction.{FollowsPass, follows-pass, continue-predicted, predicted-continue}
 use Rattle.layout.specs.Places.{rule-count, construct-count}
 use Rattle.layout.specs.Constructs.{constructAt}
-use Rattle.layout.specs.Held.{Values, HeldNode, size-of, held, node-of, opening, passes-allowed, passes-static, passes-fixed}
+use Rattle.layout.specs.Held.{HeldNode, size-of, held, node-of, passes-allowed, passes-static, passes-fixed}
 use Rattle.layout.specs.declared.Construct.{Construct}
 use Rattle.layout.specs.declared.Passes.{Passes}
 use Rattle.form.specs.Rules.{body}

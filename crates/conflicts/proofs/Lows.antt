@@ -1,9 +1,8 @@
 -- Least numbers of strings, and the least that two of the parts share: of those before a place, part by part.
 -- Assumes nothing.
-use Prim.Native.Nat.{ℕ, zero, suc, _+_, _≤_, _<_, min}
-use mathlib.Core.Path.{_≡_, refl, sym, subst, ap, _∙_}
-use mathlib.Core.Logic.{_⊎_, inl, inr, _≢_, _↔_}
-use mathlib.Core.Bool.{Bool, true, false}
+use Prim.Native.Nat.{ℕ, _≤_, _<_, min}
+use mathlib.Core.Path.{_≡_, sym, subst, _∙_}
+use mathlib.Core.Logic.{_⊎_, inl, inr, _↔_}
 use mathlib.Core.List.{List, [], _∷_}
 use native.Mathlib.Omega.{arith}
 use lib.Dec.{eqb, leb}
@@ -11,11 +10,10 @@ use borrow.Author.Tests.{eqb-true, eqb-false, leb-true, leb-false}
 use Rattle.basis.specs.Bits.{Bits}
 use Rattle.basis.specs.Lookahead.{number}
 use Rattle.basis.proofs.Numbers.{number-pos}
-use Rattle.lookahead.specs.Sets.{Has, Is, Proper, Union}
+use Rattle.lookahead.specs.Sets.{Has, Is, Union}
 use Rattle.lookahead.proofs.PassLaws.{is-map}
 use Rattle.theory.specs.Grammar.{_∈_}
 use Rattle.theory.proofs.Turns.{decide}
-use Rattle.layout.specs.Constructs.{pick}
 use Rattle.sets.specs.Rules.{Family}
 use Rattle.conflicts.specs.Windows.{Lowest, lower-of, Shared, HasNumber, FirstFrom}
 use Rattle.conflicts.proofs.Walks.{Split, here, split-next, before-next, all-before}

@@ -1,35 +1,31 @@
 -- What the answers mean for the grammar of well laid out words: refusals 9 and 10.
 -- Assumes nothing.
-use Prim.Native.Nat.{ℕ, _+_, _≤_, _<_}
+use Prim.Native.Nat.{ℕ, _+_, _<_}
 use mathlib.Core.Path.{_≡_, refl, sym, subst, ap, _∙_}
-use mathlib.Core.Logic.{_⊎_, inl, inr, _↔_}
+use mathlib.Core.Logic.{_↔_}
 use mathlib.Core.Bool.{Bool, true, false}
 use mathlib.Core.List.{List, [], List·Memᴰ·not-nil}
 use native.Mathlib.Omega.{arith}
-use native.Mathlib.Decide.{decLt, ℕ-discrete}
 use Rattle.basis.specs.Bits.{Bits}
 use Rattle.basis.specs.Counts.{Counts}
-use Rattle.basis.specs.Lookahead.{number}
-use Rattle.lookahead_slices.specs.Family.{part}
-use Rattle.theory.specs.Grammar.{Node, alternative, concatenation, repetition, switch, use-of, field, eod, _∈_}
+use Rattle.theory.specs.Grammar.{alternative, concatenation, repetition, switch, use-of, field, eod, _∈_}
 use Rattle.theory.specs.Derivation.{construct}
-use Rattle.theory.specs.Lookahead.{First, Follow, Predicted, Continues, Exits, Conflict, LeastConflict, EmptyBody}
+use Rattle.theory.specs.Lookahead.{First, Follow, Predicted, Continues, Conflict, EmptyBody}
 use Rattle.layout.specs.Places.{construct-count}
 use Rattle.layout.specs.Constructs.{constructAt}
-use Rattle.layout.specs.Held.{Values, HeldNode, held, node-of, parts, passes-allowed, passes-static, passes-fixed}
+use Rattle.layout.specs.Held.{Values, HeldNode, held, node-of, passes-allowed, passes-static, passes-fixed}
 use Rattle.layout.specs.declared.Construct.{Construct}
 use Rattle.layout.specs.declared.Passes.{Passes}
 use Rattle.structure.proofs.Facts.{Laid}
-use Rattle.structure.proofs.NodeFacts.{missing-past}
 use Rattle.sets.specs.Rules.{Family}
 use Rattle.sets.specs.Rounds.{strings}
 use Rattle.sets.specs.Parts.{siblings}
 use Rattle.sets.specs.Sets.{FirstSets, FollowSets, PredictionSets}
 use Rattle.sets.proofs.PartLaws.{parts-siblings}
 use Rattle.sets.proofs.HeldLaws.{Fine, fine, node-inside}
-use Rattle.conflicts.specs.Windows.{Lowest, Shared, HasNumber}
+use Rattle.conflicts.specs.Windows.{Lowest, Shared}
 use Rattle.conflicts.specs.Clashes.{FirstHolders, Common, Branching, Turning, Repeating, NoClash, ClashOf, EmptyAt}
-use Rattle.conflicts.specs.Conflicts.{Conflicting, LeastWindow, FirstTwo, Answered}
+use Rattle.conflicts.specs.Conflicts.{Conflicting, LeastWindow, Answered}
 use Rattle.conflicts.specs.declared.Clash.{Clash}
 use Rattle.conflicts.proofs.Walks.{lies}
 use Rattle.conflicts.proofs.Lows.{lowest-map}

@@ -1,7 +1,7 @@
 -- A walk over a construct's parts: which of them lie before the present place, and which are still to come.
 -- Assumes nothing.
 use Prim.Native.Nat.{ℕ, zero, suc, _+_, _-_, _≤_, _<_}
-use mathlib.Core.Path.{_≡_, refl, sym, subst, ap, _∙_}
+use mathlib.Core.Path.{_≡_, refl}
 use mathlib.Core.Logic.{_⊎_, inl, inr}
 use mathlib.Core.Bool.{Bool, true, false}
 use mathlib.Core.List.{List, [], _∷_, List·Memᴰ·head, List·Memᴰ·tail, List·Memᴰ·not-nil, List·Memᴰ·cases-cons}
@@ -14,7 +14,7 @@ use Rattle.theory.proofs.Turns.{decide}
 use Rattle.layout.specs.Constructs.{constructAt}
 use Rattle.layout.specs.Held.{size-of, parts}
 use Rattle.sets.specs.Parts.{siblings}
-use Rattle.sets.proofs.PartLaws.{siblings-done, siblings-last, siblings-next}
+use Rattle.sets.proofs.PartLaws.{siblings-last, siblings-next}
 
 abbrev Lies : ℕ → ℕ → ℕ → Type 0
 Lies j end k = (j ≤ k) × (k < end)

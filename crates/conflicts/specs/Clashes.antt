@@ -7,7 +7,6 @@ use mathlib.Core.Logic.{_⊎_}
 use mathlib.Core.Bool.{Bool, true, false}
 use mathlib.Core.List.{List, []}
 use Rattle.basis.specs.Bits.{Bits}
-use Rattle.basis.specs.Lookahead.{number}
 use Rattle.theory.specs.Grammar.{_∈_}
 use Rattle.layout.specs.Held.{passes-fixed}
 use Rattle.layout.specs.declared.Construct.{Construct}

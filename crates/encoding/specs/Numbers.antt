@@ -1,7 +1,7 @@
 -- What names and lists of terms are in a table: numbers of rules, of variables, of terms.
 -- Assumes nothing.
 use Prim.Native.Nat.{ℕ, zero, suc, _+_, _-_, min}
-use mathlib.Core.Bool.{Bool, true, false, cond}
+use mathlib.Core.Bool.{true, false, cond}
 use mathlib.Core.List.{List}
 use lib.Dec.{leb}
 use Rattle.tokens.specs.Numbers.{number-value, capped}

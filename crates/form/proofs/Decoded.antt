@@ -1,17 +1,16 @@
 -- What holds of a construct whatever its words: its size leaves it within the 256, and its operands are within their limits.
 -- Assumes nothing.
-use Prim.Native.Nat.{ℕ, zero, suc, _+_, _-_, _≤_, _<_}
-use mathlib.Core.Path.{_≡_, refl, sym, ap, _∙_}
+use Prim.Native.Nat.{ℕ, _+_, _-_, _≤_, _<_}
+use mathlib.Core.Path.{_≡_, refl}
 use mathlib.Core.Bool.{Bool, true, false}
 use mathlib.Core.List.{List}
 use native.Mathlib.Omega.{arith}
 use borrow.Author.Tests.{ltb-true, leb-true}
 use lib.Dec.{leb, ltb, eqb}
 use Rattle.layout.specs.Places.{construct-word}
-use Rattle.layout.specs.Constructs.{pick, both, branches, listed, repetitionOf, innerOf, uintOf, literalOf, rangeOf, leafOf, withoutParts, constructOf, constructAt}
+use Rattle.layout.specs.Constructs.{pick, both, branches, listed, innerOf, uintOf, leafOf, constructOf, constructAt}
 use Rattle.layout.specs.Held.{size-of}
 use Rattle.layout.specs.declared.Construct.{Construct}
-use Rattle.layout.specs.declared.Passes.{Passes}
 use Rattle.form.specs.Checks.{size-at}
 use Rattle.form.proofs.Walks.{both-first, both-second}
 

@@ -7,7 +7,7 @@ use lib.Dec.{leb, ltb, eqb}
 use Rattle.terms.specs.Words.{termAt}
 use Rattle.terms.specs.declared.Operation.{Operation}
 use Rattle.terms.specs.declared.Term.{Term}
-use Rattle.layout.specs.Places.{word, variables-at, rule-count, construct-count, variable-count, rule-word, variable-word, construct-word}
+use Rattle.layout.specs.Places.{word, variables-at, rule-count, variable-count, rule-word, variable-word, construct-word}
 use Rattle.layout.specs.Constructs.{pick, both, constructAt}
 use Rattle.layout.specs.Held.{term-words}
 use Rattle.layout.specs.declared.Construct.{Construct}

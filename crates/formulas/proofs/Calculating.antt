@@ -1,19 +1,19 @@
 -- Parts of calculations: what each does with the next terminal.
 -- Assumes nothing.
-use Prim.Native.Nat.{ℕ, _+_, _≤_, _<_}
-use mathlib.Core.Path.{_≡_, refl, sym, ap, subst, _∙_}
-use mathlib.Core.Bool.{Bool, true, false}
-use mathlib.Core.List.{List, [], _∷_, _++_}
+use Prim.Native.Nat.{ℕ, _≤_, _<_}
+use mathlib.Core.Path.{_≡_, refl}
+use mathlib.Core.Bool.{true, false}
+use mathlib.Core.List.{List, [], _∷_}
 use native.Mathlib.Omega.{arith}
 use borrow.Author.Tests.{eq-eqb, ne-eqb, lt-ltb}
 use lib.Dec.{eqb, ltb}
 use Rattle.parsing.specs.Terminals.{name-like, live}
 use Rattle.parsing.specs.Store.{put-term}
-use Rattle.parsing.specs.Symbols.{Symbol, sign, primary, operand, factors, summands, calculation}
-use Rattle.parsing.specs.Form.{go, fault, primary-begins, operand-begins, sum-tag, feed}
-use Rattle.parsing.specs.Cursors.{next, fail, term-more, Reads, ReadsTerms}
+use Rattle.parsing.specs.Symbols.{sign, primary, operand, factors, summands, calculation}
+use Rattle.parsing.specs.Form.{primary-begins, operand-begins, sum-tag, feed}
+use Rattle.parsing.specs.Cursors.{next, fail, term-more, ReadsTerms}
 use Rattle.parsing.specs.declared.Cursor.{Cursor}
-use Rattle.parsing.proofs.Steps.{then, take-then, take-only, skip-then, nothing, fault-only}
+use Rattle.parsing.proofs.Steps.{then, take-then, skip-then, nothing, fault-only}
 use Rattle.parsing.proofs.Loops.{Still, still-turn, still-end, take-term, name-not, name-live, test-live}
 
 module _ {xs : List ℕ} {c d r : Cursor} {ts ts′ : List ℕ} (o : ℕ) where

@@ -1,20 +1,18 @@
 -- Parts of sets and of counts: what each does with the next terminal.
 -- Assumes nothing.
 use Prim.Native.Nat.{ℕ, _+_, _≤_, _<_}
-use mathlib.Core.Path.{_≡_, refl, sym, ap, subst, _∙_}
-use mathlib.Core.Bool.{Bool, true, false}
-use mathlib.Core.List.{List, [], _∷_, _++_}
-use native.Mathlib.Omega.{arith}
-use borrow.Author.Tests.{eq-eqb, ne-eqb, lt-ltb, le-ltb}
-use lib.Dec.{eqb, ltb}
-use Rattle.parsing.specs.Terminals.{begin-like, live}
-use Rattle.parsing.specs.Store.{put-term, put-single}
-use Rattle.parsing.specs.Symbols.{Symbol, want, sign, calculation, item, item-tail, bound, exception, excluded, alternative, alternatives, value-set, counts, counts-tail, test, comparison, condition, joined, chain}
-use Rattle.parsing.specs.Form.{go, fault, item-begins, test-begins, comparison-tag, feed}
+use mathlib.Core.Path.{_≡_, refl, sym, subst}
+use mathlib.Core.Bool.{true, false}
+use mathlib.Core.List.{List, [], _∷_}
+use borrow.Author.Tests.{ne-eqb, lt-ltb, le-ltb}
+use Rattle.parsing.specs.Terminals.{begin-like}
+use Rattle.parsing.specs.Store.{put-single}
+use Rattle.parsing.specs.Symbols.{want, sign, calculation, item, item-tail, bound, exception, excluded, alternative, alternatives, value-set, counts, counts-tail}
+use Rattle.parsing.specs.Form.{item-begins, feed}
 use Rattle.parsing.specs.Cursors.{next, fail, Reads, ReadsTerms, ReadsOn}
 use Rattle.parsing.specs.declared.Cursor.{Cursor}
 use Rattle.parsing.proofs.Steps.{then, take-then, skip-then, nothing, fault-only}
-use Rattle.parsing.proofs.Loops.{Still, still-start, still-turn, still-end, test-live}
+use Rattle.parsing.proofs.Loops.{Still, still-turn, still-end}
 
 module _ {xs : List ℕ} {c m r : Cursor} {ts ts₁ ts′ : List ℕ} (some none p : ℕ) where
   pub bound-some : begin-like (c .code) ≡ true → ReadsTerms xs (calculation ∷ []) c ts m ts₁ → ReadsTerms xs (sign some p 0 ∷ []) m ts₁ r ts′ → ReadsTerms xs (bound some none p ∷ []) c ts r ts′

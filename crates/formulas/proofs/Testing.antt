@@ -1,20 +1,18 @@
 -- Parts of conditions: what each does with the next terminal.
 -- Assumes nothing.
 use Prim.Native.Nat.{ℕ, _+_, _≤_, _<_}
-use mathlib.Core.Path.{_≡_, refl, sym, ap, subst, _∙_}
-use mathlib.Core.Bool.{Bool, true, false, not}
-use mathlib.Core.List.{List, [], _∷_, _++_}
-use native.Mathlib.Omega.{arith}
+use mathlib.Core.Path.{_≡_, refl, sym, ap, _∙_}
+use mathlib.Core.Bool.{true, false, not}
+use mathlib.Core.List.{List, [], _∷_}
 use borrow.Author.Tests.{eq-eqb, ne-eqb, lt-ltb, le-ltb}
-use lib.Dec.{eqb, ltb}
-use Rattle.parsing.specs.Terminals.{begin-like, live}
-use Rattle.parsing.specs.Store.{put-term, put-single}
-use Rattle.parsing.specs.Symbols.{Symbol, want, sign, calculation, item, item-tail, bound, exception, excluded, alternative, alternatives, value-set, counts, counts-tail, test, comparison, condition, joined, chain}
-use Rattle.parsing.specs.Form.{go, fault, item-begins, test-begins, comparison-tag, feed}
-use Rattle.parsing.specs.Cursors.{next, fail, Reads, ReadsTerms, ReadsOn}
+use lib.Dec.{eqb}
+use Rattle.parsing.specs.Terminals.{live}
+use Rattle.parsing.specs.Symbols.{want, sign, calculation, test, comparison, condition, joined, chain}
+use Rattle.parsing.specs.Form.{test-begins, comparison-tag, feed}
+use Rattle.parsing.specs.Cursors.{next, fail, ReadsTerms, ReadsOn}
 use Rattle.parsing.specs.declared.Cursor.{Cursor}
 use Rattle.parsing.proofs.Steps.{then, take-then, skip-then, nothing, fault-only}
-use Rattle.parsing.proofs.Loops.{Still, still-start, still-turn, still-end, test-live}
+use Rattle.parsing.proofs.Loops.{Still, still-turn, still-end, test-live}
 
 comparison-live : (n : ℕ) → (comparison-tag n ≡ 0 → ⊥) → live n ≡ true
 comparison-live n h = test-live (λ (k : ℕ). not (eqb (comparison-tag k) 0)) refl refl n (ap not (ne-eqb (comparison-tag n) 0 h))

@@ -1,7 +1,7 @@
 -- The words that are encoded from a right text are laid out: all parts together.
 -- Assumes nothing.
 use Prim.Native.Nat.{ℕ, _≤_, _<_}
-use mathlib.Core.Path.{_≡_, refl}
+use mathlib.Core.Path.{_≡_}
 use mathlib.Core.Logic.{⊎-elim}
 use mathlib.Core.Bool.{true}
 use mathlib.Core.List.{List}
@@ -10,9 +10,7 @@ use lib.ListN.{length, getD}
 use Rattle.literals.specs.Literals.{characters-at}
 use Rattle.literals.proofs.Sizes.{character-small}
 use Rattle.layout.specs.Places.{construct-count}
-use Rattle.layout.specs.Constructs.{constructAt}
-use Rattle.form.specs.Checks.{from-to}
-use Rattle.form.specs.Laid.{construct-laid, headed, placed, laid}
+use Rattle.form.specs.Laid.{construct-laid, placed, laid}
 use Rattle.shapes.specs.NodeShapes.{tree, Holds, literal-tree, range-tree, use-tree, eod-tree, uint-tree, marked-tree, counted-tree, chain-tree, switch-tree}
 use Rattle.shapes.specs.Stored.{Stored}
 use Rattle.shapes.specs.Placed.{Placed}
@@ -20,7 +18,7 @@ use Rattle.naming.specs.Counting.{nowhere}
 use Rattle.naming.specs.Words.{term-word, kind-of, place-of, is-use}
 use Rattle.encoding.specs.Numbers.{binders-before, condition-start}
 use Rattle.encoding.specs.Encoded.{encoded}
-use Rattle.laying.specs.Context.{Readable, Words, Nodes, Quiet}
+use Rattle.laying.specs.Context.{Readable, Words, Quiet}
 use Rattle.laying.specs.Meant.{Known, Formed, NamedBack, BytesLaid}
 use Rattle.laying.proofs.EncodedWords.{encoded-words}
 use Rattle.laying.proofs.Passing.{both-pass, all-pass}

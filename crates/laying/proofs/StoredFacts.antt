@@ -1,12 +1,12 @@
 -- What every stored node and term has, as the laws of lists and terms ask for it.
 -- Assumes nothing.
-use Prim.Native.Nat.{ℕ, _-_, _≤_, _<_}
-use mathlib.Core.Path.{_≡_, refl, sym, ap, _∙_}
-use mathlib.Core.Logic.{_⊎_, inl, inr}
+use Prim.Native.Nat.{ℕ, _-_, _≤_}
+use mathlib.Core.Path.{_≡_}
+use mathlib.Core.Logic.{inl, inr}
 use mathlib.Core.List.{List}
 use native.Mathlib.Omega.{arith}
 use Rattle.shapes.specs.Stored.{OwnList, of-field, of-counts, no-list, TermWords, a-number, a-use, a-sign, Stored}
-use Rattle.naming.specs.Words.{term-word, kind-of, node-word}
+use Rattle.naming.specs.Words.{term-word}
 use Rattle.encoding.specs.Numbers.{own-length}
 use Rattle.laying.specs.Context.{Quiet}
 use Rattle.laying.proofs.TermsLaid.{Signs}

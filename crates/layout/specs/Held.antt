@@ -7,7 +7,7 @@ use mathlib.Core.Option.{Option, none, some}
 use lib.Dec.{leb, ltb, eqb}
 use lib.IntN.{ℤ, pos}
 use lib.ListN.{length, take, drop, set, replicate}
-use Rattle.basis.specs.Bits.{Bits, value, frameBits, same}
+use Rattle.basis.specs.Bits.{value, frameBits, same}
 use Rattle.basis.specs.Counts.{Counts, from, within, zero-or-one, zero-or-more, one-or-more}
 use Rattle.terms.specs.Words.{termAt, terms}
 use Rattle.evaluation.specs.Meaning.{membership, condition}

@@ -1,9 +1,9 @@
 -- A literal that is read to its closing quote is written by its characters.
 -- Assumes nothing.
-use Prim.Native.Nat.{ℕ, suc, _+_, _*_, _≤_}
-use mathlib.Core.Path.{_≡_, refl, sym, ap, ap₂, subst, _∙_}
+use Prim.Native.Nat.{ℕ, _+_, _*_, _≤_}
+use mathlib.Core.Path.{_≡_, refl, sym, ap, subst, _∙_}
 use mathlib.Core.Logic.{⊎-elim}
-use mathlib.Core.Bool.{Bool, true, false, _&&_, _||_}
+use mathlib.Core.Bool.{true, false, _||_}
 use mathlib.Core.List.{List, [], _∷_, _++_, append-assoc}
 use native.Mathlib.Omega.{arith}
 use borrow.Author.Tests.{eqb-true, leb-true}
@@ -13,7 +13,7 @@ use Rattle.text.proofs.Tests.{both-first, both-second, which}
 use Rattle.literals.specs.Literals.{is-quote, between, part-after, stops, counted, reached, literal-reach, is-closed}
 use Rattle.literals.specs.Pieces.{Piece, plain, escape, hexadecimal, hex-value, all-hex, written, Right, spelled, All-right}
 use Rattle.literals.specs.declared.Part.{Part}
-use Rattle.literals.specs.declared.Part.the-variants.{Start, Escape, Bracket, Digits, Character, Closed, Wrong}
+use Rattle.literals.specs.declared.Part.the-variants.{Start, Escape, Bracket, Digits, Character, Wrong}
 use Rattle.literals.specs.declared.Extent.{Extent}
 use Rattle.literals.proofs.Reaches.{start-between, reach-on, reach-off}
 

@@ -3,7 +3,7 @@
 use Prim.Native.Nat.{ℕ, suc, _+_, _*_, _≤_}
 use mathlib.Core.Path.{_≡_, refl, sym, ap, ap₂, subst, _∙_}
 use mathlib.Core.Logic.{⊎-elim}
-use mathlib.Core.Bool.{Bool, true, false, _&&_, _||_}
+use mathlib.Core.Bool.{true, false, _||_}
 use mathlib.Core.List.{List, [], _∷_, _++_, map, append-assoc, append-nil}
 use native.Mathlib.Omega.{arith}
 use borrow.Author.Tests.{eq-eqb, eqb-true, le-leb}
@@ -14,8 +14,7 @@ use Rattle.text.proofs.Tests.{both-first, both-second, which}
 use Rattle.literals.specs.Literals.{is-quote, between, part-after, stops, counted, reached, literal-reach, with-character, characters}
 use Rattle.literals.specs.Pieces.{Piece, plain, escape, hexadecimal, hex-value, all-hex, written, value, Right, spelled, All-right}
 use Rattle.literals.specs.declared.Part.{Part}
-use Rattle.literals.specs.declared.Part.the-variants.{Start, Escape, Bracket, Digits, Character, Closed, Wrong}
-use Rattle.literals.specs.declared.Extent.{Extent}
+use Rattle.literals.specs.declared.Part.the-variants.{Start, Escape, Bracket, Digits, Character, Closed}
 use Rattle.literals.proofs.Reaches.{start-between, reach-on, reach-off, characters-on, characters-off}
 
 -- a value grows with its digits

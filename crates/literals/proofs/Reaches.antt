@@ -1,9 +1,9 @@
 -- Laws of literals, as their loops go.
 -- Assumes nothing.
 use Prim.Native.Nat.{ℕ, suc, _+_, _-_, _≤_, _<_}
-use mathlib.Core.Path.{_≡_, refl, sym, ap, _∙_}
+use mathlib.Core.Path.{_≡_, refl, ap, _∙_}
 use mathlib.Core.Logic.{⊎-elim}
-use mathlib.Core.Bool.{Bool, true, false}
+use mathlib.Core.Bool.{true, false}
 use mathlib.Core.List.{List, [], _∷_}
 use native.Mathlib.Omega.{arith}
 use borrow.Author.Tests.{eqb-true, eqb-false}
@@ -14,7 +14,6 @@ use Rattle.text.proofs.Tests.{which}
 use Rattle.literals.specs.Literals.{between, part-after, stops, counted, reached, literal-reach, with-character, characters, is-found, value-of, left-after}
 use Rattle.literals.specs.declared.Part.{Part}
 use Rattle.literals.specs.declared.Part.the-variants.{Start, Escape, Bracket, Digits, Character, Closed, Wrong}
-use Rattle.literals.specs.declared.Extent.{Extent}
 
 -- a first byte that is no quote is a character's
 pub start-between : (quote b : ℕ) → eqb b quote ≡ false → between quote b ≡ part-after Start quote b

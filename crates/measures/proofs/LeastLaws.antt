@@ -1,10 +1,7 @@
 -- A search for the least number with a property.
 -- Assumes nothing.
-use Prim.Native.Nat.{ℕ, _+_, _≤_, _<_}
-use mathlib.Core.Path.{_≡_}
-use mathlib.Core.Logic.{inl, inr}
+use Prim.Native.Nat.{ℕ, _<_}
 use native.Mathlib.Omega.{arith}
-use borrow.Author.Count.{below-more}
 use Rattle.measures.specs.Measures.{LeastOf}
 
 module _ (P : ℕ → Type 0) (n : ℕ) where

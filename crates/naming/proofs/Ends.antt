@@ -1,6 +1,6 @@
 -- Where the name at a place ends.
 -- Assumes nothing.
-use Prim.Native.Nat.{ℕ, _-_, max, _≤_, _<_}
+use Prim.Native.Nat.{ℕ, _-_, _≤_, _<_}
 use mathlib.Core.Path.{_≡_, sym}
 use mathlib.Core.List.{List, []}
 use native.Mathlib.Omega.{arith}

@@ -1,7 +1,7 @@
 -- Refusal 6: "name unknown, double, reserved, misplaced or of the wrong kind", at "the name". Each name that is at fault has a place, and the
 -- least of them is the refusal's.
 -- Assumes nothing.
-use Prim.Native.Nat.{ℕ, _+_, _-_, min}
+use Prim.Native.Nat.{ℕ, _-_, min}
 use mathlib.Core.Bool.{Bool, cond, not, _&&_, _||_}
 use mathlib.Core.List.{List}
 use lib.Dec.{ltb, eqb}

@@ -10,10 +10,10 @@ use borrow.Author.Tests.{eqb-true}
 use lib.Dec.{eqb}
 use Rattle.text.proofs.Tests.{which}
 use Rattle.parsing.specs.Terminals.{name-like, live}
-use Rattle.parsing.specs.Store.{State, add, put-term}
+use Rattle.parsing.specs.Store.{add, put-term}
 use Rattle.parsing.specs.Symbols.{Symbol}
-use Rattle.parsing.specs.Form.{Fed, go, fault, feed}
-use Rattle.parsing.specs.Cursors.{sight-at, state-at, next, fail, term-more, resume, left, Reads, ReadsTerms}
+use Rattle.parsing.specs.Form.{go, feed}
+use Rattle.parsing.specs.Cursors.{sight-at, state-at, next, term-more, resume, left, Reads, ReadsTerms}
 use Rattle.parsing.specs.declared.Cursor.{Cursor}
 use Rattle.parsing.proofs.Resuming.{takes, left-falls}
 use Rattle.parsing.proofs.Steps.{take-only}

@@ -1,23 +1,22 @@
 -- Where terminals stand, and how many more may come.
 -- Assumes nothing.
-use Prim.Native.Nat.{ℕ, zero, suc, _+_, _-_, _≤_, _<_}
-use mathlib.Core.Path.{_≡_, refl, sym, ap, subst, _∙_}
+use Prim.Native.Nat.{ℕ, zero, suc, _-_, _≤_, _<_}
+use mathlib.Core.Path.{_≡_, refl, sym, ap, subst}
 use mathlib.Core.Logic.{_⊎_, inl, inr, ⊎-elim}
-use mathlib.Core.Bool.{Bool, true, false, cond, not, _&&_, _||_}
+use mathlib.Core.Bool.{Bool, true, false, cond}
 use mathlib.Core.List.{List, [], _∷_}
 use native.Mathlib.Omega.{arith}
-use borrow.Author.Tests.{eqb-true, eqb-false, leb-true, leb-false, ltb-true, ltb-false}
+use borrow.Author.Tests.{eqb-true, leb-true, leb-false, ltb-true}
 use lib.Dec.{eqb, leb, ltb}
 use lib.ListN.{length, drop, drop-of-length-le}
 use Rattle.text.proofs.Tests.{which}
-use Rattle.tokens.specs.Numbers.{number-value, capped}
 use Rattle.tokens.specs.Names.{reserved-of, name-of}
 use Rattle.tokens.specs.Tokens.{gap-end, token, token-from, token-of}
 use Rattle.tokens.specs.declared.Kind.{Kind}
 use Rattle.tokens.specs.declared.Token.{Token}
 use Rattle.tokens.proofs.Bounds.{Placed, placed}
 use Rattle.literals.specs.Literals.{characters-at}
-use Rattle.parsing.specs.Terminals.{code-of, opens-at, name-code, literal-code, sight, seen, sight-of, sights, sights-from, sights-after, live}
+use Rattle.parsing.specs.Terminals.{code-of, opens-at, name-code, literal-code, seen, sight-of, sights, sights-from, sights-after, live}
 use Rattle.parsing.specs.declared.Sight.{Sight}
 
 -- a kind is the end's, or neither a failure nor the end

@@ -2,7 +2,7 @@
 -- and its further parts wait; or it has come to its end and the next part is tried; or the terminal cannot stand there.
 -- Assumes nothing.
 use Prim.Native.Nat.{ℕ, _+_}
-use mathlib.Core.Bool.{Bool, true, false, cond, _&&_, _||_}
+use mathlib.Core.Bool.{Bool, true, false, cond, _&&_}
 use mathlib.Core.List.{List, [], _∷_}
 use lib.Dec.{ltb, eqb}
 use Rattle.parsing.specs.Terminals.{is, is-name, begins}

@@ -1,6 +1,6 @@
 -- The terminals of the grammar: what a token is to the form of rules. A sign's code is its byte, 128 more where `=` follows.
 -- Assumes nothing.
-use Prim.Native.Nat.{ℕ, zero, suc, _+_}
+use Prim.Native.Nat.{ℕ, zero, suc}
 use mathlib.Core.Bool.{Bool, true, false, cond, not, _&&_, _||_}
 use mathlib.Core.List.{List, [], _∷_}
 use lib.Dec.{leb, eqb}
@@ -9,7 +9,6 @@ use Rattle.tokens.specs.Numbers.{number-value, capped}
 use Rattle.tokens.specs.Names.{reserved-of, name-of}
 use Rattle.tokens.specs.Tokens.{token-of}
 use Rattle.tokens.specs.declared.Kind.{Kind}
-use Rattle.tokens.specs.declared.Token.{Token}
 use Rattle.literals.specs.Literals.{characters-at}
 use Rattle.parsing.specs.declared.Sight.{Sight}
 

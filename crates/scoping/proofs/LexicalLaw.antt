@@ -20,7 +20,7 @@ use Rattle.layout.specs.Places.{rule-count, construct-count}
 use Rattle.layout.specs.Constructs.{constructAt}
 use Rattle.layout.specs.Held.{Values, HeldNode, use-node, node-of, opening, held}
 use Rattle.layout.specs.declared.Construct.{Construct}
-use Rattle.form.specs.Rules.{body, binder-of}
+use Rattle.form.specs.Rules.{binder-of}
 use Rattle.form.specs.Laid.{laid}
 use Rattle.form.proofs.Decoded.{picked}
 use Rattle.rules.specs.Reaching.{Acyclic}

@@ -17,8 +17,7 @@ use Rattle.layout.specs.Constructs.{constructAt}
 use Rattle.layout.specs.Held.{held, node-of}
 use Rattle.layout.specs.declared.Construct.{Construct}
 use Rattle.layout.specs.declared.Passes as Times
-use Rattle.theory.specs.Grammar.{alternative, concatenation, repetition, use-of, _∈_}
-use Rattle.theory.specs.Derivation.{members, passes}
+use Rattle.theory.specs.Grammar.{alternative, concatenation, use-of, _∈_}
 use Rattle.theory.specs.Lookahead.{Follow}
 use Rattle.theory.proofs.Inversion.{Keeps, MembersKeep}
 use Rattle.sets.specs.Rules.{Family}

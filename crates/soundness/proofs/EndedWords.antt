@@ -10,7 +10,6 @@ use lib.Dec.{eqb}
 use Rattle.layout.specs.Places.{word, table-words, rules-at, variables-at, constructs-at, terms-at, literals-at, sets-at, rule-count, construct-count, variable-count, term-count, weight-of}
 use Rattle.layout.specs.Constructs.{both}
 use Rattle.form.specs.Checks.{limited, every, from-to, all-zero}
-use Rattle.form.specs.Laid.{laid}
 use Rattle.form.proofs.Walks.{both-second}
 use Rattle.structure.proofs.Facts.{Laid, each}
 use Rattle.soundness.specs.OneTable.{Ended}

@@ -19,7 +19,7 @@ use Rattle.form.specs.Checks.{either, every, from-to, all-zero, size-at, walk}
 use Rattle.form.specs.Parts.{unconditioned, part-laid, parts-laid}
 use Rattle.form.specs.Lists.{formed, zero-values, list-formed, condition-formed}
 use Rattle.form.specs.Rules.{named-back}
-use Rattle.form.specs.Laid.{operands-zero, chain-laid, passes-laid, kind-laid, literal-length, byte-laid, construct-laid, laid}
+use Rattle.form.specs.Laid.{operands-zero, chain-laid, passes-laid, kind-laid, literal-length, byte-laid, construct-laid}
 use Rattle.form.proofs.Decoded.{Fine, fine}
 use Rattle.sets.proofs.HeldLaws.{missing}
 use Rattle.soundness.specs.OneTable.{Alike}

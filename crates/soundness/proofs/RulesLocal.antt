@@ -20,7 +20,7 @@ use Rattle.layout.specs.declared.Construct.{Construct}
 use Rattle.form.specs.Checks.{either, limited, from-to, all-zero, size-at}
 use Rattle.form.specs.Parts.{unconditioned}
 use Rattle.form.specs.Lists.{own-start, own-end, begins, after, lists-begin, after-lists, lists-from, lists-laid, has-low, term-laid}
-use Rattle.form.specs.Rules.{body, rule-end, rule-laid, binder-of, variable-laid, binds, member-laid, next-variable, binders-from, is-concatenation, binders-laid, visible, operation-named, term-named, list-named, construct-named, uses-laid}
+use Rattle.form.specs.Rules.{body, rule-end, rule-laid, binder-of, variable-laid, member-laid, next-variable, binders-from, is-concatenation, binders-laid, visible, operation-named, term-named, list-named, construct-named, uses-laid}
 use Rattle.form.specs.Laid.{headed, construct-laid, placed, laid}
 use Rattle.form.proofs.Decoded.{Fine, fine}
 use Rattle.structure.proofs.Facts.{Laid, facts}

@@ -3,18 +3,18 @@
 use Prim.Native.Nat.{ℕ, zero, suc, _+_, _*_, _-_, _≤_, _<_}
 use native.Mathlib.Omega.{arith}
 use borrow.Author.Tests.{leb-true, ltb-true, ne-eqb, eqb-false}
-use mathlib.Core.Path.{_≡_, refl, sym, ap, _∙_}
+use mathlib.Core.Path.{_≡_, refl, ap, _∙_}
 use mathlib.Core.Bool.{Bool, true, false}
 use mathlib.Core.List.{List}
 use lib.Dec.{leb, ltb, eqb}
 use lib.IntN.{ℤ}
 use lib.ListN.{length, getD, set, length-set}
 use Rattle.layout.specs.Constructs.{pick, both}
-use Rattle.acts.specs.Acts.{bits-of, walk, actOf, Doable}
+use Rattle.acts.specs.Acts.{bits-of, actOf, Doable}
 use Rattle.acts.specs.declared.Act.{Act}
 use Rattle.acts.proofs.Sizes.{both-true}
 use Rattle.acts.proofs.Doing.{walk-keeps, doable}
-use Rattle.steps.specs.Steps.{Whole, whole, break, fail, taken, put, placed, bind, members-done, again-done, take-done, effect, in-bound, first-step, step-of, steps-of, Fits}
+use Rattle.steps.specs.Steps.{Whole, whole, break, taken, put, placed, bind, members-done, again-done, take-done, effect, in-bound, first-step, step-of, steps-of, Fits}
 use Rattle.steps.specs.declared.Head.{Head}
 
 -- putting members keeps a list's length

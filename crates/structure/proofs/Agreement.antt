@@ -2,25 +2,20 @@
 -- use, its set, its counts and its choice of a case are the same. (Lists of different lengths do not do: past a list's end a variable's use
 -- is malformed, though `getD` gives 0 there.)
 -- Assumes nothing.
-use Prim.Native.Nat.{ℕ, zero, suc, _+_, _≤_, _<_}
-use mathlib.Core.Path.{_≡_, refl, sym, ap, _∙_}
-use mathlib.Core.Logic.{inl, inr}
+use Prim.Native.Nat.{ℕ, zero, suc, _≤_, _<_}
+use mathlib.Core.Path.{_≡_, refl, ap, _∙_}
 use mathlib.Core.Bool.{Bool, true, false}
 use mathlib.Core.List.{List, [], _∷_, List·Memᴰ·head, List·Memᴰ·tail}
-use mathlib.Core.Option.{Option, none, some}
-use native.Mathlib.Omega.{arith}
+use mathlib.Core.Option.{Option, some}
 use lib.Dec.{ltb}
 use lib.IntN.{ℤ, pos}
-use lib.ListN.{length, getD, set, length-set}
+use lib.ListN.{length, getD, length-set}
 use lib.Seq.{getD-set-same, getD-set-other}
 use Rattle.terms.specs.Numbers.{pick as choose, bounded, kept}
 use Rattle.terms.specs.Steps.{variableOf}
 use Rattle.evaluation.specs.Meaning.{condition}
 use Rattle.terms.specs.declared.Outcome.{Outcome}
-use Rattle.terms.specs.declared.Numbers.{Numbers}
-use Rattle.basis.specs.Counts.{Counts}
 use Rattle.theory.specs.Grammar.{_∈_}
-use Rattle.theory.proofs.Turns.{decide}
 use Rattle.layout.specs.Places.{rule-count, construct-word}
 use Rattle.layout.specs.Constructs.{constructAt}
 use Rattle.layout.specs.Held.{Values, term-words, terms-of, isYes, allowed, passes-allowed, first-case, in-set, bound}

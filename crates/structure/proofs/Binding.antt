@@ -17,11 +17,11 @@ use Rattle.layout.specs.Constructs.{pick, both, constructAt}
 use Rattle.layout.specs.Held.{size-of, term-words, parts}
 use Rattle.layout.specs.declared.Construct.{Construct}
 use Rattle.theory.specs.Grammar.{_∈_}
-use Rattle.form.specs.Checks.{all-zero, from-to, size-at, walk}
+use Rattle.form.specs.Checks.{all-zero, size-at, walk}
 use Rattle.terms.specs.declared.Kind.{Kind}
 use Rattle.form.specs.Lists.{own-start, own-end, list-formed}
 use Rattle.form.specs.Laid.{kind-laid}
-use Rattle.form.specs.Rules.{body, rule-end, binder-of, named-back, variable-laid, binds, member-laid, next-variable, is-concatenation, members-at, visible, operation-named, term-named, list-named, construct-named, uses-laid}
+use Rattle.form.specs.Rules.{body, rule-end, binder-of, named-back, variable-laid, binds, member-laid, next-variable, is-concatenation, members-at, visible, operation-named, term-named, list-named, construct-named}
 use Rattle.form.proofs.Walks.{both-first, both-second, one-step, at-once}
 use Rattle.structure.proofs.Facts.{Laid, each, lt-of-ne}
 use Rattle.structure.proofs.Tiles.{Tiles, none, more}

@@ -1,7 +1,7 @@
 -- What laid out words give, piece by piece.
 -- Assumes nothing.
 use Prim.Native.Nat.{ℕ, zero, suc, _+_, _-_, _≤_, _<_}
-use mathlib.Core.Path.{_≡_, refl, sym, _∙_}
+use mathlib.Core.Path.{_≡_, sym, _∙_}
 use mathlib.Core.Logic.{inl, inr}
 use mathlib.Core.Bool.{Bool, true, false}
 use mathlib.Core.List.{List}
@@ -12,7 +12,7 @@ use lib.ListN.{length}
 use Rattle.theory.proofs.Turns.{decide}
 use Rattle.layout.specs.Places.{table-words, rules-at, mark-of, weight-of, rule-count, construct-count, term-count, rule-word}
 use Rattle.layout.specs.Constructs.{both, constructAt}
-use Rattle.form.specs.Checks.{limited, every, from-to, all-zero, size-at}
+use Rattle.form.specs.Checks.{limited, from-to, all-zero, size-at}
 use Rattle.form.specs.Parts.{unconditioned}
 use Rattle.form.specs.Lists.{lists-laid, condition-formed, term-laid}
 use Rattle.form.specs.Rules.{body, rule-end, rule-laid, rules-laid, binders-laid, uses-laid, names-laid}

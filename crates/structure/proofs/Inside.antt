@@ -1,7 +1,7 @@
 -- Below a construct that is no rule's body nothing binds: so what a part may use is what the construct may.
 -- Assumes nothing.
 use Prim.Native.Nat.{ℕ, _+_, _≤_, _<_}
-use mathlib.Core.Path.{_≡_, refl, sym, ap, _∙_}
+use mathlib.Core.Path.{_≡_}
 use mathlib.Core.List.{List, List·Memᴰ·eq-of-singleton}
 use native.Mathlib.Omega.{arith}
 use Rattle.theory.specs.Grammar.{_∈_}
@@ -9,13 +9,13 @@ use Rattle.layout.specs.Places.{rule-count, construct-count}
 use Rattle.layout.specs.Constructs.{constructAt}
 use Rattle.layout.specs.declared.Construct.{Construct}
 use Rattle.form.specs.Checks.{size-at}
-use Rattle.form.specs.Rules.{body, rule-end, binder-of, members-at}
-use Rattle.structure.proofs.Tiles.{Within, Holds, Apart, same, before, behind, within}
-use Rattle.structure.proofs.Facts.{RuleLaid, Laid}
+use Rattle.form.specs.Rules.{body, rule-end, binder-of}
+use Rattle.structure.proofs.Tiles.{Holds, Apart, same, before, behind}
+use Rattle.structure.proofs.Facts.{Laid}
 use Rattle.structure.proofs.PartLaws.{parts-of}
-use Rattle.structure.proofs.RuleLaws.{RuleOf, rule-of, rule-fact, rule-within}
+use Rattle.structure.proofs.RuleLaws.{rule-of, rule-fact, rule-within}
 use Rattle.structure.proofs.Owners.{PartOf, part-within, parts-apart, part-around, nested, one-rule, rule-holds}
-use Rattle.structure.proofs.Binding.{top-members, members-of, TopBinder, top-binder}
+use Rattle.structure.proofs.Binding.{top-members, members-of, top-binder}
 
 -- a top member is the body or a part of it
 pub data Top (ws : List ℕ) (i k : ℕ) : Type 0 where

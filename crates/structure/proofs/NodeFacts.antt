@@ -1,28 +1,28 @@
 -- More of what the theory asks of the grammar that words hold: widths, uses; and constructs past the count.
 -- Assumes nothing.
 use Prim.Native.Nat.{ℕ, zero, suc, _+_, _*_, _-_, _≤_, _<_}
-use mathlib.Core.Path.{_≡_, refl, sym, ap, _∙_}
+use mathlib.Core.Path.{_≡_, refl, ap}
 use mathlib.Core.Logic.{inl, inr}
-use mathlib.Core.Bool.{Bool, true, false}
-use mathlib.Core.List.{List, [], _∷_}
+use mathlib.Core.Bool.{Bool, true}
+use mathlib.Core.List.{List}
 use mathlib.Core.Option.{Option}
 use native.Mathlib.Omega.{arith}
-use borrow.Author.Tests.{leb-true, ltb-true, ltb-false, eqb-true, le-ltb, lt-ltb}
-use lib.Dec.{leb, ltb, eqb}
+use borrow.Author.Tests.{ltb-true, eqb-true}
+use lib.Dec.{ltb, eqb}
 use lib.ListN.{length}
 use Rattle.basis.specs.Bits.{Bits}
-use Rattle.theory.specs.Grammar.{Node, alternative, concatenation, repetition, switch, use-of, field, eod, Grammar}
+use Rattle.theory.specs.Grammar.{alternative, concatenation, repetition, switch, use-of, field, eod}
 use Rattle.theory.proofs.Turns.{decide}
 use Rattle.layout.specs.Places.{word, rules-at, variables-at, constructs-at, terms-at, literals-at, sets-at, table-words, rule-count, construct-count, variable-count, term-count, construct-word}
-use Rattle.layout.specs.Constructs.{pick, both, branches, listed, innerOf, leafOf, constructOf, constructAt}
+use Rattle.layout.specs.Constructs.{both, constructOf, constructAt}
 use Rattle.layout.specs.Held.{Values, HeldNode, literal-bytes, node-of, opening, held}
 use Rattle.layout.specs.declared.Construct.{Construct}
 use Rattle.form.specs.Checks.{all-zero}
-use Rattle.form.specs.Rules.{body, rule-end}
-use Rattle.form.specs.Laid.{operands-zero, kind-laid, rest-zero}
+use Rattle.form.specs.Rules.{body}
+use Rattle.form.specs.Laid.{operands-zero, kind-laid}
 use Rattle.form.proofs.Walks.{both-first, both-second}
 use Rattle.form.proofs.Decoded.{picked, Fine, fine}
-use Rattle.structure.proofs.Facts.{Laid, RuleLaid, each}
+use Rattle.structure.proofs.Facts.{Laid, each}
 use Rattle.structure.proofs.RuleLaws.{rule-fact, rule-within}
 
 -- ---- a field takes a bit

@@ -1,9 +1,8 @@
 -- Whose part a construct is, of laid out words: each is a rule's body or a part of exactly one construct.
 -- Assumes nothing.
 use Prim.Native.Nat.{ℕ, zero, suc, _+_, _-_, _≤_, _<_}
-use mathlib.Core.Path.{_≡_, refl, sym, ap, _∙_}
+use mathlib.Core.Path.{_≡_, sym, ap}
 use mathlib.Core.Logic.{inl, inr}
-use mathlib.Core.Bool.{Bool, true, false}
 use mathlib.Core.List.{List}
 use native.Mathlib.Omega.{arith}
 use borrow.Author.Tests.{eqb-true, eqb-false, ltb-true, ltb-false}
@@ -12,14 +11,12 @@ use Rattle.theory.specs.Grammar.{_∈_}
 use Rattle.theory.proofs.Turns.{decide}
 use Rattle.layout.specs.Places.{rule-count, construct-count}
 use Rattle.layout.specs.Constructs.{constructAt}
-use Rattle.layout.specs.Held.{size-of}
 use Rattle.form.specs.Checks.{size-at}
-use Rattle.form.specs.Parts.{part-laid}
 use Rattle.form.specs.Rules.{body, rule-end}
-use Rattle.structure.proofs.Tiles.{Within, Holds, Apart, same, before, behind, within, apart, covered}
-use Rattle.structure.proofs.Facts.{RuleLaid, Laid, lt-of-ne}
-use Rattle.structure.proofs.PartLaws.{parts-of, is-switch, Tiled, tiled}
-use Rattle.structure.proofs.RuleLaws.{RuleOf, rule-of, rule-fact, rules-apart, rule-within}
+use Rattle.structure.proofs.Tiles.{Holds, Apart, same, before, behind, within, apart, covered}
+use Rattle.structure.proofs.Facts.{Laid, lt-of-ne}
+use Rattle.structure.proofs.PartLaws.{parts-of, tiled}
+use Rattle.structure.proofs.RuleLaws.{rule-of, rule-fact, rules-apart}
 
 -- p is a part of construct o
 abbrev pub PartOf : List ℕ → ℕ → ℕ → Type 0

@@ -1,24 +1,22 @@
 -- The parts of a construct, of laid out words: they tile what follows it up to its end.
 -- Assumes nothing.
 use Prim.Native.Nat.{ℕ, zero, suc, _+_, _-_, _≤_, _<_}
-use mathlib.Core.Path.{_≡_, refl, sym, subst, ap, _∙_}
-use mathlib.Core.Logic.{inl, inr}
+use mathlib.Core.Path.{_≡_, refl, ap, _∙_}
 use mathlib.Core.Bool.{Bool, true, false}
 use mathlib.Core.List.{List, [], _∷_}
 use native.Mathlib.Omega.{arith}
-use borrow.Author.Tests.{eqb-true, ltb-true}
+use borrow.Author.Tests.{eqb-true}
 use lib.Dec.{ltb, eqb}
 use Rattle.layout.specs.Places.{construct-count}
 use Rattle.layout.specs.Constructs.{both, constructAt}
 use Rattle.layout.specs.Held.{size-of, parts}
 use Rattle.layout.specs.declared.Construct.{Construct}
-use Rattle.layout.specs.declared.Passes.{Passes}
 use Rattle.form.specs.Checks.{size-at}
 use Rattle.form.specs.Parts.{part-laid, parts-laid}
 use Rattle.form.specs.Laid.{operands-zero, second-part, construct-end, passes-laid, kind-laid}
 use Rattle.form.proofs.Walks.{both-first, both-second}
-use Rattle.form.proofs.Decoded.{Fine, fine}
-use Rattle.structure.proofs.Tiles.{Tiles, none, more, tiles, parts-more, parts-none}
+use Rattle.form.proofs.Decoded.{fine}
+use Rattle.structure.proofs.Tiles.{Tiles, none, tiles, parts-more, parts-none}
 use Rattle.structure.proofs.Facts.{Laid}
 
 -- the parts of a construct, as the grammar that the table holds has them

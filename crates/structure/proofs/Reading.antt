@@ -1,10 +1,10 @@
 -- What a list of terms comes to depends only on the variables that it uses.
 -- Assumes nothing.
 use Prim.Native.Nat.{ℕ, zero, suc, _+_, _-_, _≤_, _<_}
-use mathlib.Core.Path.{_≡_, refl, sym, ap, _∙_}
+use mathlib.Core.Path.{_≡_, refl, ap, _∙_}
 use mathlib.Core.Logic.{inl, inr}
 use mathlib.Core.Bool.{Bool, true, false}
-use mathlib.Core.List.{List, [], _∷_}
+use mathlib.Core.List.{List}
 use native.Mathlib.Omega.{arith}
 use lib.Dec.{ltb, eqb}
 use lib.IntN.{ℤ, pos}
@@ -13,7 +13,7 @@ use Rattle.terms.specs.Words.{termAt, termsFrom, terms}
 use Rattle.terms.specs.Steps.{variableOf, operateOf, afterOf, operated, stepOf}
 use Rattle.evaluation.specs.Meaning.{next, run, verdictOf, membership, condition}
 use Rattle.evaluation.specs.Counts.{formOf, calculationsEnd, tallyEnd, tallied, counts}
-use Rattle.evaluation.specs.Variables.{isUse, usesVariable, hasVariable}
+use Rattle.evaluation.specs.Variables.{usesVariable, hasVariable}
 use Rattle.evaluation.specs.declared.Ended.{Ended}
 use Rattle.evaluation.specs.declared.Form.{Form}
 use Rattle.terms.specs.declared.Kind.{Kind}

@@ -1,16 +1,16 @@
 -- The rules of laid out words: one after the other, and every construct in one of them.
 -- Assumes nothing.
 use Prim.Native.Nat.{ℕ, zero, suc, _+_, _-_, _≤_, _<_}
-use mathlib.Core.Path.{_≡_, refl, sym, ap, _∙_}
+use mathlib.Core.Path.{_≡_}
 use mathlib.Core.Logic.{inl, inr}
-use mathlib.Core.Bool.{Bool, true, false}
+use mathlib.Core.Bool.{Bool, true}
 use mathlib.Core.List.{List}
 use native.Mathlib.Omega.{arith}
 use borrow.Author.Tests.{lt-ltb, le-ltb, ltb-true, ltb-false, eqb-true}
 use lib.Dec.{ltb, eqb}
 use Rattle.theory.proofs.Turns.{decide}
 use Rattle.layout.specs.Places.{word, rule-count, construct-count, rule-word}
-use Rattle.layout.specs.Constructs.{pick, both}
+use Rattle.layout.specs.Constructs.{both}
 use Rattle.form.specs.Checks.{size-at}
 use Rattle.form.specs.Parts.{unconditioned}
 use Rattle.form.specs.Rules.{body, rule-end, rule-laid}

@@ -1,19 +1,19 @@
 -- What is static covers what happens, in the grammar that any words hold.
 -- Assumes nothing.
-use Prim.Native.Nat.{ℕ, zero, suc, _+_, _-_, _≤_, _<_}
-use mathlib.Core.Path.{_≡_, refl, sym, ap, _∙_}
+use Prim.Native.Nat.{ℕ, _+_, _-_}
+use mathlib.Core.Path.{_≡_, refl, ap, _∙_}
 use mathlib.Core.Logic.{inl, inr}
 use mathlib.Core.Bool.{Bool, true, false}
 use mathlib.Core.List.{List, [], _∷_, List·Memᴰ·head, List·Memᴰ·tail}
-use mathlib.Core.Option.{Option, none, some}
+use mathlib.Core.Option.{some}
 use native.Mathlib.Omega.{arith}
 use lib.Dec.{ltb, eqb}
 use lib.IntN.{ℤ, pos, negsuc}
 use Rattle.basis.specs.Bits.{Bits, value}
-use Rattle.basis.specs.Counts.{Counts, Allows, exactly}
+use Rattle.basis.specs.Counts.{Allows, exactly}
 use Rattle.terms.specs.Numbers.{pick as choose}
 use Rattle.terms.specs.Words.{termAt, terms}
-use Rattle.evaluation.specs.Meaning.{run, membership, condition}
+use Rattle.evaluation.specs.Meaning.{run, condition}
 use Rattle.evaluation.specs.declared.Tally.{Tally}
 use Rattle.evaluation.specs.Counts.{shown, formOf, calculationsEnd, ofNumbers, ofTrial, talliedBy, tallied, counts}
 use Rattle.evaluation.specs.Variables.{hasVariable}
@@ -22,15 +22,13 @@ use Rattle.evaluation.specs.declared.Form.{Form}
 use Rattle.terms.specs.declared.Kind.{Kind}
 use Rattle.terms.specs.declared.Mode.{Mode}
 use Rattle.terms.specs.declared.Numbers.{Numbers}
-use Rattle.terms.specs.declared.Term.{Term}
-use Rattle.evaluation.specs.declared.Tested.{Tested}
 use Rattle.terms.specs.declared.Trial.{Trial}
-use Rattle.theory.specs.Grammar.{Node, alternative, concatenation, repetition, switch, use-of, field, eod, Grammar, _∈_}
+use Rattle.theory.specs.Grammar.{alternative, concatenation, repetition, switch, use-of, field, eod, _∈_}
 use Rattle.theory.specs.Hypotheses.{Static}
 use Rattle.theory.proofs.Turns.{decide}
 use Rattle.layout.specs.Places.{construct-word}
-use Rattle.layout.specs.Constructs.{pick, constructAt}
-use Rattle.layout.specs.Held.{Values, HeldNode, term-words, terms-of, parts, allowed, isYes, passes-allowed, passes-static, isExact, passes-fixed, first-case, in-set, in-static-set, use-node, node-of, opening, held}
+use Rattle.layout.specs.Constructs.{constructAt}
+use Rattle.layout.specs.Held.{Values, HeldNode, term-words, terms-of, parts, allowed, isYes, passes-allowed, passes-static, isExact, passes-fixed, first-case, in-set, in-static-set, node-of, opening, held}
 use Rattle.layout.specs.declared.Construct.{Construct}
 use Rattle.layout.specs.declared.Passes.{Passes}
 use Rattle.form.proofs.Decoded.{picked}

@@ -1,16 +1,15 @@
 -- Items of expressions and repetition marks: what each does with the next terminal.
 -- Assumes nothing.
-use Prim.Native.Nat.{ℕ, _+_, _-_, _≤_, _<_}
+use Prim.Native.Nat.{ℕ, _+_, _-_}
 use mathlib.Core.Path.{_≡_, refl, sym, ap, subst, _∙_}
-use mathlib.Core.Bool.{Bool, true, false, cond, not}
+use mathlib.Core.Bool.{true, false, cond, not}
 use mathlib.Core.List.{List, [], _∷_, _++_}
-use native.Mathlib.Omega.{arith}
-use borrow.Author.Tests.{eq-eqb, ne-eqb, lt-ltb, le-ltb}
-use lib.Dec.{eqb, ltb}
+use borrow.Author.Tests.{eq-eqb, ne-eqb}
+use lib.Dec.{eqb}
 use Rattle.parsing.specs.Terminals.{name-like, live}
-use Rattle.parsing.specs.Store.{counted, put-node, insert, leaf}
+use Rattle.parsing.specs.Store.{counted, put-node, insert}
 use Rattle.parsing.specs.Symbols.{Symbol, want, value-set, counts, paren, atom, marked, counts-end, character-tail, last-character, width, field-set, bound-name, field-end}
-use Rattle.parsing.specs.Form.{go, fault, atom-begins, mark-of, feed}
+use Rattle.parsing.specs.Form.{go, atom-begins, mark-of, feed}
 use Rattle.parsing.specs.Cursors.{sight-at, state-at, next, fail, node-more, binder-more, Reads, ReadsTerms, ReadsOn, ReadsNodes}
 use Rattle.parsing.specs.declared.Cursor.{Cursor}
 use Rattle.parsing.proofs.Steps.{then, take-then, take-more, take-only, skip-then, nothing, fault-only}

@@ -3,21 +3,20 @@
 use Prim.Native.Nat.{ℕ, _+_, _-_, _≤_, _<_}
 use mathlib.Core.Path.{_≡_, refl, sym, ap, subst, _∙_}
 use mathlib.Core.Logic.{⊎-elim}
-use mathlib.Core.Bool.{Bool, true, false, cond, not, _||_}
+use mathlib.Core.Bool.{Bool, true, false, not, _||_}
 use mathlib.Core.List.{List, [], _∷_, _++_}
 use native.Mathlib.Omega.{arith}
-use borrow.Author.Tests.{eq-eqb, ne-eqb, lt-ltb, le-ltb}
-use lib.Dec.{eqb, ltb}
+use borrow.Author.Tests.{ne-eqb, lt-ltb, le-ltb}
+use lib.Dec.{eqb}
 use Rattle.text.proofs.Tests.{which}
 use Rattle.parsing.specs.Terminals.{live}
-use Rattle.parsing.specs.Store.{State, counted, put-node, put-condition, insert}
+use Rattle.parsing.specs.Store.{State, counted, put-node, put-condition}
 use Rattle.parsing.specs.Symbols.{Symbol, want, condition, atom, factor, concatenation, expression, marked, members, branches, colon, case-end, cases, switch-end}
-use Rattle.parsing.specs.Form.{go, fault, atom-begins, chained, feed}
-use Rattle.parsing.specs.Cursors.{sight-at, state-at, next, fail, node-more, resume, resume-at, left, left-at, Reads, ReadsTerms, ReadsOn, ReadsNodes}
-use Rattle.parsing.specs.declared.Sight.{Sight}
+use Rattle.parsing.specs.Form.{go, atom-begins, chained, feed}
+use Rattle.parsing.specs.Cursors.{sight-at, state-at, next, fail, node-more, resume, left, Reads, ReadsTerms, ReadsOn, ReadsNodes}
 use Rattle.parsing.specs.declared.Cursor.{Cursor}
-use Rattle.parsing.proofs.Resuming.{skips, takes, faults, left-falls, left-some, left-dead, dead-same}
-use Rattle.parsing.proofs.Steps.{then, take-then, take-only, skip-then, nothing, fault-only}
+use Rattle.parsing.proofs.Resuming.{skips, takes, left-falls, left-some, left-dead, dead-same}
+use Rattle.parsing.proofs.Steps.{then, take-then, skip-then, nothing, fault-only}
 use Rattle.syntax.proofs.Atoms.{take-node}
 
 -- a loop's turns: what waits may change

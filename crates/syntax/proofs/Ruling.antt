@@ -1,22 +1,20 @@
 -- Rules, one after the other, up to the text's end.
 -- Assumes nothing.
-use Prim.Native.Nat.{ℕ, _+_, _≤_, _<_}
+use Prim.Native.Nat.{ℕ}
 use mathlib.Core.Path.{_≡_, refl, sym, ap, subst, _∙_}
-use mathlib.Core.Logic.{⊎-elim}
 use mathlib.Core.Bool.{Bool, true, false, _&&_}
-use mathlib.Core.List.{List, [], _∷_, _++_}
+use mathlib.Core.List.{List, [], _∷_}
 use native.Mathlib.Omega.{arith}
-use borrow.Author.Tests.{eq-eqb, ne-eqb}
+use borrow.Author.Tests.{ne-eqb}
 use lib.Dec.{eqb}
-use Rattle.text.proofs.Tests.{which}
-use Rattle.parsing.specs.Terminals.{name-like, live, sight-of}
+use Rattle.parsing.specs.Terminals.{name-like}
 use Rattle.parsing.specs.Store.{put-rule, close-rule}
-use Rattle.parsing.specs.Symbols.{Symbol, want, expression, rule-end, rules}
-use Rattle.parsing.specs.Form.{go, done, fault, feed}
-use Rattle.parsing.specs.Cursors.{sight-at, state-at, first-of, next, fail, rule-more, resume, left, Reads, ReadsOn}
+use Rattle.parsing.specs.Symbols.{want, expression, rule-end, rules}
+use Rattle.parsing.specs.Form.{feed}
+use Rattle.parsing.specs.Cursors.{sight-at, state-at, first-of, next, fail, rule-more, resume, Reads, ReadsOn}
 use Rattle.parsing.specs.declared.Cursor.{Cursor}
 use Rattle.parsing.proofs.Resuming.{takes, faults, starts, ends, stops, left-falls, left-failed}
-use Rattle.parsing.proofs.Loops.{name-not, name-live}
+use Rattle.parsing.proofs.Loops.{name-live}
 use Rattle.syntax.specs.Rules.{Ends, ReadsRule, form-of, outcome-of}
 
 -- ---- the end of a rule

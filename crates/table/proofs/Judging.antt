@@ -1,23 +1,19 @@
 -- From searches to what is passed.
 -- Assumes nothing.
 use Prim.Native.Nat.{ℕ, _≤_, _<_}
-use mathlib.Core.Path.{_≡_, refl, sym, subst, ap, _∙_}
-use mathlib.Core.Logic.{_⊎_, inl, inr, _↔_}
-use mathlib.Core.Bool.{Bool, true, false, false≢true}
+use mathlib.Core.Path.{_≡_, refl, sym}
+use mathlib.Core.Bool.{true, false, false≢true}
 use mathlib.Core.List.{List, [], List·Memᴰ·not-nil}
 use native.Mathlib.Omega.{arith}
 use native.Mathlib.Decide.{decLt, ℕ-discrete}
 use Rattle.basis.specs.Bits.{Bits}
-use Rattle.theory.specs.Grammar.{Node, alternative, concatenation, repetition, switch, use-of, field, eod}
+use Rattle.theory.specs.Grammar.{alternative, concatenation, repetition, switch, use-of, field, eod}
 use Rattle.theory.specs.Lookahead.{Conflict, EmptyBody}
-use Rattle.theory.specs.Weight.{Weighs}
 use Rattle.layout.specs.Places.{construct-count}
 use Rattle.layout.specs.Held.{HeldNode, held, node-of, opening}
-use Rattle.form.specs.Laid.{laid}
 use Rattle.structure.proofs.Facts.{Laid, facts}
 use Rattle.structure.proofs.NodeFacts.{missing-past}
 use Rattle.scoping.proofs.RuledLaw.{ruled}
-use Rattle.rules.specs.Reaching.{Acyclic}
 use Rattle.weights.specs.Weighed.{Weight}
 use Rattle.weights.specs.Sweeps.{capped}
 use Rattle.sets.proofs.HeldLaws.{node-inside, node-opening, node-past}

@@ -1,6 +1,6 @@
 -- A first line is right exactly where it has the parts that document 01 names.
 -- Assumes nothing.
-use Prim.Native.Nat.{ℕ, suc, _+_, _-_, max, _≤_, _<_}
+use Prim.Native.Nat.{ℕ, _+_, _-_, max, _≤_, _<_}
 use mathlib.Core.Path.{_≡_, refl, sym, ap, ap₂, subst, _∙_}
 use mathlib.Core.Logic.{⊎-elim}
 use mathlib.Core.Bool.{Bool, true, false, _&&_}
@@ -8,14 +8,14 @@ use mathlib.Core.List.{List, [], _∷_, _++_, map}
 use native.Mathlib.Omega.{arith}
 use borrow.Author.Tests.{eq-eqb, eqb-true, le-leb, leb-true}
 use lib.Dec.{leb, eqb}
-use lib.ListN.{length, take, drop, length-map, length-take, length-drop, take-append-drop}
+use lib.ListN.{length, take, drop, length-map, length-drop, take-append-drop}
 use lib.Seq.{drop-drop, drop-append-seam, length-take-le}
 use Rattle.text.specs.Bytes.{is-blank, lower-case}
 use Rattle.text.specs.Spans.{span-end, starts, is-word}
 use Rattle.text.specs.Header.{dogma-v1, utf-8, blanks-end, is-first-line}
 use Rattle.text.specs.Split.{every, FirstLine}
 use Rattle.text.specs.declared.Class.{Class}
-use Rattle.text.proofs.Runs.{starts-on, starts-off, starts-length, span-grows, span-within}
+use Rattle.text.proofs.Runs.{starts-on, starts-off, starts-length, span-within}
 use Rattle.text.proofs.Tests.{both-first, both-second, which}
 use Rattle.text.proofs.HeaderLaws.{both-true, never, run-every, run-over}
 

@@ -15,7 +15,7 @@ use Rattle.text.specs.Spans.{span-end}
 use Rattle.text.specs.Header.{is-header-line}
 use Rattle.text.specs.Split.{every, HeaderLine}
 use Rattle.text.specs.declared.Class.{Class}
-use Rattle.text.proofs.Runs.{span-on, span-off, span-grows, span-fits}
+use Rattle.text.proofs.Runs.{span-on, span-off, span-grows}
 use Rattle.text.proofs.Tests.{both-first, both-second, which}
 
 -- both tests hold

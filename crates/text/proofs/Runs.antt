@@ -1,7 +1,7 @@
 -- Laws of runs and words, as their loops go.
 -- Assumes nothing.
 use Prim.Native.Nat.{ℕ, suc, _+_, _-_, max, _≤_, _<_}
-use mathlib.Core.Path.{_≡_, refl, sym, ap, ap₂, _∙_}
+use mathlib.Core.Path.{_≡_, refl, sym, ap₂, _∙_}
 use mathlib.Core.Bool.{Bool, true, false, cond}
 use mathlib.Core.Logic.{⊎-elim}
 use mathlib.Core.List.{List, [], _∷_}

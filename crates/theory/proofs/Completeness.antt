@@ -1,15 +1,15 @@
 -- A derivation is what the machine does, in exactly the tree's number of steps.
 -- Assumes nothing.
-use Prim.Native.Nat.{ℕ, zero, suc, _+_, _≤_, _<_}
+use Prim.Native.Nat.{ℕ, suc, _+_}
 use native.Mathlib.Omega.{arith}
 use native.Mathlib.Decide.{ℕ-discrete}
-use native.Mathlib.Nat.{add-zero, zero-add, add-assoc}
+use native.Mathlib.Nat.{add-zero, zero-add}
 use borrow.Author.Tests.{le-leb}
-use mathlib.Core.Path.{_≡_, refl, sym, _∙_, ap, ap₂, subst, subst₂}
-use mathlib.Core.Logic.{_⊎_, inl, inr}
+use mathlib.Core.Path.{_≡_, refl, sym, _∙_, ap, subst, subst₂}
+use mathlib.Core.Logic.{inl, inr}
 use mathlib.Core.Bool.{Bool, true, false}
-use mathlib.Core.List.{List, [], _∷_, _++_, append-assoc, append-nil, List·Memᴰ, List·Memᴰ·head, List·Memᴰ·tail}
-use mathlib.Core.Option.{Option, none, some}
+use mathlib.Core.List.{List, [], _∷_, _++_, List·Memᴰ·head, List·Memᴰ·tail}
+use mathlib.Core.Option.{some}
 use lib.ListN.{length, take, drop, length-append}
 use lib.Seq.{take-at, drop-at}
 use lib.Dec.{leb}
@@ -19,9 +19,9 @@ use Rattle.basis.specs.Lookahead.{lookahead}
 use Rattle.basis.proofs.Joins.{lookahead-length}
 use Rattle.theory.specs.Grammar.{Node, alternative, repetition, Grammar, _∈_}
 use Rattle.theory.specs.Derivation.{Tree, covered, Capture, captures, Shape, construct, members, passes, Derives}
-use Rattle.theory.specs.Lookahead.{First, Follow, Predicted, Continues, Conflict}
-use Rattle.theory.specs.Machine.{Tests, Entry, entry, State, state, again, leave, turn, choose, entries, tree-steps}
-use Rattle.theory.specs.Hypotheses.{Static, Hypotheses}
+use Rattle.theory.specs.Lookahead.{Follow, Predicted, Continues, Conflict}
+use Rattle.theory.specs.Machine.{Tests, Entry, entry, state, again, leave, turn, choose, entries, tree-steps}
+use Rattle.theory.specs.Hypotheses.{Hypotheses}
 use Rattle.theory.proofs.FirstTheorem.{first}
 use Rattle.theory.proofs.FollowTheorem.{After, next-follows, after-member, after-members, after-pass, derived-predicted}
 use Rattle.theory.proofs.Turns.{decide, turn-again, turn-leave}

@@ -1,27 +1,26 @@
 -- When and how a run is decided: the machine's two big-step theorems, put together at the opening.
 -- Assumes nothing.
-use Prim.Native.Nat.{ℕ, zero, suc, _+_, _-_, _*_, _≤_, _<_, min}
+use Prim.Native.Nat.{ℕ, suc, _+_, _-_, _*_, _≤_, _<_}
 use native.Mathlib.Omega.{arith}
 use native.Mathlib.Decide.{decLt}
 use native.Mathlib.Nat.{zero-add, le-refl, mul-le-mul-left}
 use mathlib.Core.Path.{_≡_, refl, sym, _∙_, ap, subst}
-use mathlib.Core.Logic.{_⊎_, inl, inr, _≢_, _↔_}
+use mathlib.Core.Logic.{_≢_}
 use mathlib.Core.List.{List, [], _∷_, _++_, append-nil}
 use lib.ListN.{length, length-append}
 use Rattle.basis.specs.Bits.{Bits}
-use Rattle.basis.specs.Lookahead.{lookahead}
 use Rattle.theory.specs.Grammar.{Grammar}
 use Rattle.theory.specs.Derivation.{Tree, covered, Capture, captures, construct, Derives, Derivation}
 use Rattle.theory.specs.Lookahead.{Follow}
-use Rattle.theory.specs.Machine.{Tests, Entry, entry, State, state, pending-of, Verdict, undecided, matched, unmatched, verdict, Run, run, verdict-of, state-of, taken-of, tree-steps, Passes, open-state, opened, stepped, granted, taken}
+use Rattle.theory.specs.Machine.{Tests, Entry, entry, State, state, undecided, matched, unmatched, verdict, Run, run, verdict-of, state-of, taken-of, tree-steps, open-state, opened, stepped, granted}
 use Rattle.theory.specs.Weight.{Outweighs}
 use Rattle.theory.specs.Hypotheses.{Hypotheses}
-use Rattle.theory.specs.Theorems.{Derivable, step-bound, ExactTheorem, Decision}
+use Rattle.theory.specs.Theorems.{Derivable, step-bound}
 use Rattle.theory.proofs.FirstTheorem.{covers}
 use Rattle.theory.proofs.Steps.{Path, Stuck, resize, after}
 use Rattle.theory.proofs.Completeness.{Todo, follows-derivation}
 use Rattle.theory.proofs.Progress.{Counted, Fails, Outcome, each}
-use Rattle.theory.proofs.Runs.{settle, granted-decided, granted-sum, granted-grows, path-runs, path-before, stepped-stuck}
+use Rattle.theory.proofs.Runs.{granted-sum, path-runs, path-before, stepped-stuck}
 
 -- where nothing is pending the run is decided, and matched only at the frame's end
 closed-settled : (Context : Type 0) {Values : Type 0} (r : Bits) (p : ℕ) (v : Values) (cs : List Capture) → verdict {Context = Context} (state [] r p v cs) ≢ undecided

@@ -1,10 +1,9 @@
 -- First: a derivation over bits puts the first 8 of them into FIRST.
 -- Assumes nothing.
-use Prim.Native.Nat.{ℕ}
 use mathlib.Core.Path.{_≡_, refl, sym, _∙_, ap}
-use mathlib.Core.List.{List, [], _∷_, _++_, append-assoc}
+use mathlib.Core.List.{_++_, append-assoc}
 use Rattle.basis.specs.Bits.{Bits}
-use Rattle.basis.specs.Lookahead.{lookahead, join}
+use Rattle.basis.specs.Lookahead.{lookahead}
 use Rattle.basis.proofs.Joins.{lookahead-append}
 use Rattle.theory.specs.Grammar.{Grammar}
 use Rattle.theory.specs.Derivation.{Tree, covered, Shape, construct, members, passes, Derives}

@@ -1,6 +1,6 @@
 -- Follow: what is left of the frame after any part of a derivation begins with a string of FOLLOW.
 -- Assumes nothing.
-use Prim.Native.Nat.{ℕ, zero, suc}
+use Prim.Native.Nat.{ℕ, suc}
 use mathlib.Core.Path.{_≡_, refl, sym, _∙_, ap, subst}
 use mathlib.Core.Bool.{Bool}
 use mathlib.Core.List.{List, [], _∷_, _++_, append-assoc, append-cancel-left}
@@ -10,7 +10,7 @@ use Rattle.basis.specs.Lookahead.{lookahead, join}
 use Rattle.basis.proofs.Joins.{lookahead-append}
 use Rattle.theory.specs.Grammar.{Grammar, concatenation, repetition}
 use Rattle.theory.specs.Derivation.{Tree, covered, Shape, construct, members, passes, Derives, Leaves}
-use Rattle.theory.specs.Lookahead.{First, Follow, Predicted}
+use Rattle.theory.specs.Lookahead.{Follow, Predicted}
 use Rattle.theory.specs.Hypotheses.{Static}
 use Rattle.theory.proofs.FirstTheorem.{Known, covers, first}
 

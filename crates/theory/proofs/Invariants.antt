@@ -1,11 +1,11 @@
 -- What a step changes, and what therefore holds of a run at every moment.
 -- Assumes nothing.
-use Prim.Native.Nat.{ℕ, zero, suc, _+_, _-_, _≤_, _<_, max}
+use Prim.Native.Nat.{ℕ, zero, suc, _+_, _-_, _≤_}
 use native.Mathlib.Omega.{arith}
 use borrow.Author.Tests.{leb-true}
 use mathlib.Core.Path.{_≡_, refl, sym, _∙_, ap, subst}
-use mathlib.Core.Logic.{_⊎_, inl, inr}
-use mathlib.Core.Bool.{Bool, true, false}
+use mathlib.Core.Logic.{inl, inr}
+use mathlib.Core.Bool.{Bool}
 use mathlib.Core.List.{List, [], _∷_, _++_}
 use mathlib.Core.Option.{Option, none, some}
 use lib.ListN.{length, take, drop, length-append, length-drop, length-map}
@@ -16,9 +16,9 @@ use Rattle.basis.specs.Counts.{Counts}
 use Rattle.basis.specs.Lookahead.{lookahead}
 use Rattle.theory.specs.Grammar.{Node, alternative, concatenation, repetition, switch, use-of, field, eod, Grammar, _∈_}
 use Rattle.theory.specs.Derivation.{Capture}
-use Rattle.theory.specs.Machine.{Tests, Entry, entry, State, state, pending-of, rest-of, position-of, captures-of, Turn, fail, again, leave, turn, choose, entries, act, step, undecided, matched, unmatched, Run, run, verdict, state-of, open-state, opened, stepped, granted}
-use Rattle.theory.specs.Weight.{largest, members-room, room, Houses}
-use Rattle.theory.specs.Hypotheses.{Static, Hypotheses}
+use Rattle.theory.specs.Machine.{Tests, Entry, entry, State, state, pending-of, rest-of, position-of, captures-of, turn, choose, entries, act, step, undecided, matched, unmatched, Run, run, state-of, open-state, opened, stepped, granted}
+use Rattle.theory.specs.Weight.{members-room, room, Houses}
+use Rattle.theory.specs.Hypotheses.{Hypotheses}
 use Rattle.theory.proofs.Turns.{decide}
 use Rattle.theory.proofs.Progress.{chosen-in, in-largest, given, which}
 

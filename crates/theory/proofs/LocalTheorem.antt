@@ -1,12 +1,11 @@
 -- Local: threading one value for each binder through a derivation gives the same trees as variables local to each opening of a rule.
 -- Assumes nothing.
-use Prim.Native.Nat.{ℕ, zero, suc}
+use Prim.Native.Nat.{ℕ}
 use mathlib.Core.Path.{_≡_, refl, sym, _∙_, ap, ap₂, subst, subst₂}
-use mathlib.Core.Logic.{_⊎_, inl, inr, _↔_}
+use mathlib.Core.Logic.{inl, inr, _↔_}
 use mathlib.Core.Bool.{Bool, true, false}
-use mathlib.Core.List.{List, [], _∷_, _++_, List·Memᴰ, List·Memᴰ·head, List·Memᴰ·tail, Memᴰ·append-left, List·Memᴰ·append-cases, List·Memᴰ·not-nil}
-use mathlib.Core.Option.{Option, some}
-use lib.ListN.{length}
+use mathlib.Core.List.{List, [], _++_, List·Memᴰ·head, List·Memᴰ·tail, Memᴰ·append-left, List·Memᴰ·append-cases, List·Memᴰ·not-nil}
+use mathlib.Core.Option.{Option}
 use Rattle.basis.specs.Bits.{Bits}
 use Rattle.basis.specs.Counts.{Counts, Allows}
 use Rattle.theory.specs.Grammar.{Node, alternative, concatenation, repetition, switch, use-of, field, eod, Grammar, _∈_}

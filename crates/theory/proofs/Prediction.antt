@@ -1,7 +1,7 @@
 -- What lets a repetition continue is its body's prediction set (joins associate), where nothing else has that body. So one set for each
 -- construct, with its FOLLOW set, is all that a step looks up.
 -- Assumes nothing.
-use Prim.Native.Nat.{ℕ, zero, suc}
+use Prim.Native.Nat.{ℕ}
 use mathlib.Core.Path.{_≡_, refl, sym, _∙_, ap}
 use mathlib.Core.Bool.{Bool}
 use Rattle.basis.specs.Bits.{Bits}

@@ -1,27 +1,27 @@
 -- From any entry the machine either derives it or fails, within weight × (bits + 1) steps, and no repetition begins more passes than bits
 -- were taken and one.
 -- Assumes nothing.
-use Prim.Native.Nat.{ℕ, zero, suc, _+_, _*_, _≤_, _<_, max}
+use Prim.Native.Nat.{ℕ, zero, suc, _+_, _*_, _≤_, _<_}
 use native.Mathlib.Omega.{arith}
-use native.Mathlib.Nat.{add-zero, zero-add, add-assoc, mul-le-mul-right, mul-le-mul-left, le-refl}
+use native.Mathlib.Nat.{add-zero, zero-add, mul-le-mul-right, mul-le-mul-left, le-refl}
 use borrow.Author.Tests.{leb-true}
-use mathlib.Core.Path.{_≡_, refl, sym, _∙_, ap, ap₂, subst, subst₂}
+use mathlib.Core.Path.{_≡_, refl, sym, _∙_, ap, subst, subst₂}
 use mathlib.Core.Logic.{_⊎_, inl, inr}
-use mathlib.Core.Bool.{Bool, true, false}
-use mathlib.Core.List.{List, [], _∷_, _++_, append-nil, List·Memᴰ, List·Memᴰ·head, List·Memᴰ·tail}
+use mathlib.Core.Bool.{Bool, true}
+use mathlib.Core.List.{List, [], _∷_, _++_, List·Memᴰ·head, List·Memᴰ·tail}
 use mathlib.Core.Option.{Option, none, some}
-use lib.ListN.{length, take, drop, length-append, take-append-drop, length-take}
+use lib.ListN.{length, take, length-append, take-append-drop}
 use lib.Seq.{length-take-le}
 use lib.Dec.{leb}
 use Rattle.basis.specs.Bits.{Bits}
 use Rattle.basis.specs.Counts.{Counts, Allows}
 use Rattle.basis.specs.Lookahead.{lookahead}
 use Rattle.theory.specs.Grammar.{Node, alternative, concatenation, repetition, switch, use-of, field, eod, Grammar, _∈_}
-use Rattle.theory.specs.Derivation.{Tree, leaf, end, node, nil, member, pass, covered, Capture, captures, Shape, construct, members, passes, Derives}
+use Rattle.theory.specs.Derivation.{Tree, node, covered, Capture, captures, Shape, construct, members, passes, Derives}
 use Rattle.theory.specs.Lookahead.{First, EmptyBody}
 use Rattle.theory.specs.Machine.{Tests, Entry, entry, State, state, Turn, fail, again, leave, turn, choose, entries, tree-steps, Passes}
 use Rattle.theory.specs.Weight.{sum, largest, weigh, Outweighs}
-use Rattle.theory.specs.Hypotheses.{Static, Hypotheses}
+use Rattle.theory.specs.Hypotheses.{Hypotheses}
 use Rattle.theory.proofs.FirstTheorem.{covers, first}
 use Rattle.theory.proofs.Weights.{weigh-positive}
 use Rattle.theory.proofs.Turns.{decide, Reached, reached-zero, reached-again, allowed-leave}

@@ -1,14 +1,14 @@
 -- Runs granted steps: grants add up, and a path of steps is what a grant does.
 -- Assumes nothing.
-use Prim.Native.Nat.{ℕ, zero, suc, _+_, _-_, _≤_, _<_, min}
+use Prim.Native.Nat.{ℕ, zero, suc, _+_, _-_, _≤_, _<_}
 use native.Mathlib.Omega.{arith}
-use native.Mathlib.Nat.{add-zero, zero-add, add-suc}
-use mathlib.Core.Path.{_≡_, refl, sym, _∙_, ap, subst}
+use native.Mathlib.Nat.{add-zero, zero-add}
+use mathlib.Core.Path.{_≡_, refl, _∙_, ap}
 use mathlib.Core.Logic.{_⊎_, inl, inr, _≢_}
-use mathlib.Core.List.{List, [], _∷_}
+use mathlib.Core.List.{[], _∷_}
 use mathlib.Core.Option.{Option, none, some}
 use Rattle.theory.specs.Grammar.{Grammar}
-use Rattle.theory.specs.Machine.{Tests, Entry, entry, State, state, Verdict, undecided, matched, unmatched, verdict, Run, run, verdict-of, state-of, taken-of, step, stepped, granted, taken}
+use Rattle.theory.specs.Machine.{Tests, State, state, Verdict, undecided, matched, unmatched, verdict, Run, run, verdict-of, taken-of, step, stepped, granted, taken}
 use Rattle.theory.specs.Theorems.{AdditiveTheorem}
 use Rattle.theory.proofs.Steps.{Goes, Stuck, Path}
 

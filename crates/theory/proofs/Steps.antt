@@ -1,15 +1,13 @@
 -- The machine's steps, one law for each kind of construct, and runs of steps.
 -- Assumes nothing.
-use Prim.Native.Nat.{ℕ, zero, suc, _+_, _≤_, _<_}
+use Prim.Native.Nat.{ℕ, zero, suc, _+_}
 use native.Mathlib.Omega.{arith}
-use borrow.Author.Tests.{le-leb}
 use native.Mathlib.Nat.{add-zero, add-assoc}
 use mathlib.Core.Path.{_≡_, refl, sym, _∙_, ap, ap₂, subst}
 use mathlib.Core.Bool.{Bool, true, false}
 use mathlib.Core.List.{List, [], _∷_, _++_, append-assoc, append-nil}
 use mathlib.Core.Option.{Option, none, some}
 use lib.ListN.{length, take, drop, length-append}
-use lib.Seq.{take-at, drop-at}
 use lib.Dec.{leb}
 use Rattle.basis.specs.Bits.{Bits}
 use Rattle.basis.specs.Counts.{Counts}

@@ -1,20 +1,20 @@
 -- The theorems of `specs/Theorems.antt`, proved.
 -- Assumes nothing.
-use Prim.Native.Nat.{ℕ, zero, suc, _+_, _-_, _≤_, _<_, min}
+use Prim.Native.Nat.{ℕ, _+_, _-_, _≤_, _<_, min}
 use native.Mathlib.Omega.{arith}
 use native.Mathlib.Decide.{decLt}
 use mathlib.Core.Path.{_≡_, refl, sym, _∙_, ap, subst}
-use mathlib.Core.Logic.{_⊎_, inl, inr, _≢_, _↔_}
-use mathlib.Core.List.{List, [], _∷_}
-use lib.ListN.{length, drop, length-drop}
+use mathlib.Core.Logic.{_⊎_, inl, inr, _≢_}
+use mathlib.Core.List.{[]}
+use lib.ListN.{length, length-drop}
 use Rattle.basis.specs.Bits.{Bits}
 use Rattle.theory.specs.Grammar.{Grammar}
-use Rattle.theory.specs.Derivation.{Tree, captures, construct, Derivation}
-use Rattle.theory.specs.Lookahead.{Follow, Conflict}
+use Rattle.theory.specs.Derivation.{Tree, captures, Derivation}
+use Rattle.theory.specs.Lookahead.{Follow}
 use Rattle.theory.specs.Machine.{Tests, State, state, pending-of, rest-of, position-of, Verdict, undecided, matched, unmatched, Run, run, verdict-of, state-of, taken-of, tree-steps, Passes, opened, granted, taken}
-use Rattle.theory.specs.Weight.{Outweighs, Houses}
-use Rattle.theory.specs.Hypotheses.{Static, Hypotheses}
-use Rattle.theory.specs.Theorems.{FirstTheorem, FollowTheorem, UniqueTheorem, Derivable, AdditiveTheorem, step-bound, Exact, ExactTheorem, Decision, BoundTheorem, Moment, MomentTheorem, RoomTheorem, ValuesTheorem, LocalTheorem, ExactLocal, ExactLocalTheorem}
+use Rattle.theory.specs.Weight.{Outweighs}
+use Rattle.theory.specs.Hypotheses.{Hypotheses}
+use Rattle.theory.specs.Theorems.{FirstTheorem, FollowTheorem, UniqueTheorem, Derivable, AdditiveTheorem, step-bound, Exact, ExactTheorem, Decision, BoundTheorem, Moment, MomentTheorem, RoomTheorem, ValuesTheorem, LocalTheorem, ExactLocalTheorem}
 use Rattle.theory.proofs.FirstTheorem as FirstProof
 use Rattle.theory.proofs.FollowTheorem as FollowProof
 use Rattle.theory.proofs.FollowTheorem.{After}

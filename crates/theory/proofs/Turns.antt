@@ -1,14 +1,14 @@
 -- What a repetition does at its turn, by the counts that it allows.
 -- Assumes nothing.
-use Prim.Native.Nat.{ℕ, zero, suc, _+_, _≤_, _<_}
+use Prim.Native.Nat.{ℕ, suc, _+_, _≤_}
 use native.Mathlib.Omega.{arith}
-use borrow.Author.Tests.{ltb-true, ltb-false, leb-true, leb-false, lt-ltb, le-ltb, le-leb, lt-leb}
-use mathlib.Core.Path.{_≡_, refl, sym, _∙_, ap}
+use borrow.Author.Tests.{ltb-true, ltb-false, leb-false, le-ltb, lt-leb}
+use mathlib.Core.Path.{_≡_, refl}
 use mathlib.Core.Logic.{_⊎_, inl, inr}
 use mathlib.Core.Bool.{Bool, true, false}
 use lib.Dec.{leb, ltb}
 use Rattle.basis.specs.Counts.{Counts, from, within, Allows}
-use Rattle.theory.specs.Machine.{Turn, fail, again, leave, by-lookahead, turn}
+use Rattle.theory.specs.Machine.{again, leave, by-lookahead, turn}
 
 -- a test, with what it says
 pub decide : (b : Bool) → (b ≡ true) ⊎ (b ≡ false)

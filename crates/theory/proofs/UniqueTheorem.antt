@@ -1,24 +1,23 @@
 -- Unique: any two derivations of one frame are the same tree.
 -- Assumes nothing.
-use Prim.Native.Nat.{ℕ, zero, suc}
+use Prim.Native.Nat.{ℕ, suc}
 use native.Mathlib.Omega.{arith}
 use native.Mathlib.Decide.{ℕ-discrete}
 use mathlib.Core.Path.{_≡_, refl, sym, _∙_, ap, ap₂, subst, subst₂}
 use mathlib.Core.Bool.{Bool, true, false}
-use mathlib.Core.List.{List, [], _∷_, _++_}
+use mathlib.Core.List.{List, [], _++_}
 use mathlib.Core.Option.{Option, some}
 use lib.ListN.{length, take, drop}
 use lib.Seq.{take-at, drop-at}
 use Rattle.basis.specs.Bits.{Bits}
 use Rattle.basis.specs.Counts.{Counts, Allows}
-use Rattle.basis.specs.Lookahead.{lookahead, join}
+use Rattle.basis.specs.Lookahead.{lookahead}
 use Rattle.theory.specs.Grammar.{Node, Grammar, alternative, repetition, _∈_}
-use Rattle.theory.specs.Derivation.{Tree, leaf, node, member, pass, covered, Shape, construct, members, passes, Derives}
-use Rattle.theory.specs.Lookahead.{First, Follow, Continues, Conflict}
-use Rattle.theory.specs.Machine.{Tests}
-use Rattle.theory.specs.Hypotheses.{Static, Hypotheses}
-use Rattle.theory.proofs.FirstTheorem.{Known, covers, first}
-use Rattle.theory.proofs.FollowTheorem.{After, next-follows, after-member, after-members, after-pass, after-passes, derived-predicted}
+use Rattle.theory.specs.Derivation.{Tree, leaf, node, member, pass, Shape, construct, members, passes, Derives}
+use Rattle.theory.specs.Lookahead.{Follow, Continues, Conflict}
+use Rattle.theory.specs.Hypotheses.{Static}
+use Rattle.theory.proofs.FirstTheorem.{first}
+use Rattle.theory.proofs.FollowTheorem.{After, next-follows, after-member, after-members, after-pass, derived-predicted}
 
 module _ {Context Values : Type 0} (g : Grammar Context Values) (h : Static g) (no-conflict : (i : ℕ) (x : Bits) → Conflict g i x → ⊥) where
   -- two derivations' trees, and what they leave, are the same

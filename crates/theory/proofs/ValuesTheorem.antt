@@ -1,7 +1,7 @@
 -- Values: a derivation ends with the values last bound.
 -- Assumes nothing.
 use Prim.Native.Nat.{ℕ}
-use mathlib.Core.Path.{_≡_, refl, sym, _∙_, ap}
+use mathlib.Core.Path.{_≡_, refl, _∙_, ap}
 use Rattle.basis.specs.Bits.{Bits}
 use Rattle.theory.specs.Grammar.{Grammar}
 use Rattle.theory.specs.Derivation.{Tree, replayed, Shape, Derives}

@@ -10,7 +10,7 @@ use mathlib.Core.Option.{Option, some}
 use lib.ListN.{length}
 use Rattle.basis.specs.Bits.{Bits}
 use Rattle.basis.specs.Counts.{Counts, Allows}
-use Rattle.theory.specs.Grammar.{Node, alternative, repetition, switch, use-of, field, Grammar, _∈_}
+use Rattle.theory.specs.Grammar.{alternative, repetition, switch, use-of, field, Grammar, _∈_}
 use Rattle.theory.specs.Derivation.{Tree, construct, Derives}
 use Rattle.theory.specs.Lookahead.{Predicted, Continues, Exits, Conflict, EmptyBody}
 use Rattle.theory.specs.Machine.{Tests}

@@ -11,7 +11,7 @@ use lib.ListN.{length}
 use Rattle.basis.specs.Bits.{Bits}
 use Rattle.basis.specs.Counts.{Counts, Allows}
 use Rattle.basis.specs.Lookahead.{lookahead, join, number}
-use Rattle.theory.specs.Grammar.{Node, alternative, concatenation, repetition, switch, use-of, field, eod, Grammar, _∈_}
+use Rattle.theory.specs.Grammar.{alternative, concatenation, repetition, switch, use-of, field, eod, Grammar, _∈_}
 use Rattle.theory.specs.Derivation.{Shape, construct, members, passes}
 
 -- "First windows": of a construct, of members in a row, of so many passes

@@ -3,11 +3,11 @@
 -- g is a grammar, `tests` what the machine looks up, `weight` its constructs' weights, `rooms` enough room for each. What `Hypotheses`,
 -- `Static`, `Outweighs`, `Houses` and `Lexical` ask, and which refusal of document 01 gives it, is said where they are defined.
 -- Assumes nothing.
-use Prim.Native.Nat.{ℕ, suc, _+_, _-_, _*_, _≤_, _<_, min}
+use Prim.Native.Nat.{ℕ, _+_, _-_, _*_, _≤_, _<_, min}
 use mathlib.Core.Path.{_≡_}
 use mathlib.Core.Logic.{_↔_, _≢_}
 use mathlib.Core.Bool.{Bool}
-use mathlib.Core.List.{List, [], _∷_, _++_}
+use mathlib.Core.List.{[], _++_}
 use mathlib.Core.Option.{Option}
 use lib.ListN.{length, drop}
 use Rattle.basis.specs.Bits.{Bits}
@@ -15,7 +15,7 @@ use Rattle.basis.specs.Lookahead.{lookahead}
 use Rattle.theory.specs.Grammar.{Grammar, use-of, field}
 use Rattle.theory.specs.Derivation.{Tree, covered, captures, replayed, construct, Derives, Derivation, Leaves}
 use Rattle.theory.specs.Lookahead.{First, Follow, Conflict}
-use Rattle.theory.specs.Machine.{Tests, State, state, Run, run, undecided, matched, unmatched, verdict-of, state-of, taken-of, pending-of, rest-of, position-of, captures-of, Passes, tree-steps, opened, granted, taken}
+use Rattle.theory.specs.Machine.{Tests, State, state, Run, run, undecided, matched, unmatched, verdict-of, state-of, pending-of, rest-of, position-of, captures-of, Passes, tree-steps, opened, granted, taken}
 use Rattle.theory.specs.Weight.{Outweighs, Houses}
 use Rattle.theory.specs.Hypotheses.{Static, Hypotheses}
 use Rattle.theory.specs.Scope.{Scope, localised, Lexical}

@@ -1,12 +1,12 @@
 -- Where tokens stand: a token begins at or after its place, ends within the bytes, and is empty only at the end.
 -- Assumes nothing.
-use Prim.Native.Nat.{ℕ, suc, _+_, _-_, max, _≤_, _<_}
+use Prim.Native.Nat.{ℕ, _+_, _-_, _≤_, _<_}
 use mathlib.Core.Path.{_≡_, refl, sym, ap, subst, _∙_}
 use mathlib.Core.Logic.{⊎-elim}
 use mathlib.Core.Bool.{Bool, true, false, _&&_, _||_}
 use mathlib.Core.List.{List}
 use native.Mathlib.Omega.{arith}
-use borrow.Author.Tests.{lt-ltb, le-ltb, ltb-true, ltb-false, leb-true, leb-false, eqb-true, eqb-false}
+use borrow.Author.Tests.{lt-ltb, ltb-true, ltb-false, leb-true, eqb-true, eqb-false}
 use lib.Dec.{leb, ltb, eqb}
 use lib.ListN.{length, getD, drop, length-drop, List·getD-eq-default}
 use Rattle.text.specs.Bytes.{is-letter, is-digit, lower-case, in-radix}
@@ -18,8 +18,8 @@ use Rattle.literals.specs.Literals.{is-quote, literal-at, is-right, characters-
 use Rattle.literals.specs.declared.Part.{Part}
 use Rattle.literals.proofs.Reaches.{reach-grows, reach-fits}
 use Rattle.literals.proofs.Sizes.{right-sized}
-use Rattle.tokens.specs.Numbers.{named-radix, radix-of, radix-at, digits-at, number-end-of}
-use Rattle.tokens.specs.Tokens.{gap-end, is-pair, pair-of, sign-of, token, name-token, number-token, literal-token, sign-token, token-begun, token-from, token-of}
+use Rattle.tokens.specs.Numbers.{named-radix, radix-at, digits-at, number-end-of}
+use Rattle.tokens.specs.Tokens.{gap-end, is-pair, pair-of, sign-of, name-token, number-token, literal-token, sign-token, token-begun, token-of}
 use Rattle.tokens.specs.declared.Kind.{Kind}
 use Rattle.tokens.specs.declared.Token.{Token}
 use Rattle.tokens.proofs.Found.{from-some, from-none}

@@ -5,7 +5,7 @@ use mathlib.Core.Path.{_≡_}
 use mathlib.Core.Bool.{Bool, true, false}
 use mathlib.Core.List.{List, [], _∷_}
 use native.Mathlib.Omega.{arith}
-use lib.ListN.{length, getD, drop, drop-of-length-le, length-drop}
+use lib.ListN.{length, getD, drop, drop-of-length-le}
 use Rattle.text.proofs.Runs.{next}
 use Rattle.text.proofs.Tests.{choice}
 use Rattle.tokens.specs.Tokens.{separates, comment-after, gap-end}

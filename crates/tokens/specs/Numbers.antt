@@ -1,7 +1,7 @@
 -- Numbers: "decimal, 0x, 0o, 0b"; the longest well-formed number is the token.
 -- Assumes nothing.
 use Prim.Native.Nat.{ℕ, _+_, _*_, min}
-use mathlib.Core.Bool.{Bool, true, false, cond, _&&_}
+use mathlib.Core.Bool.{true, false, cond, _&&_}
 use mathlib.Core.List.{List, [], _∷_}
 use lib.Dec.{eqb}
 use lib.ListN.{getD, drop}

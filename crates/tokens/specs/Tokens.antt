@@ -11,7 +11,6 @@ use Rattle.text.specs.declared.Class.{Class}
 use Rattle.tokens.specs.Numbers.{number-end-of}
 use Rattle.literals.specs.Literals.{is-quote, literal-at, is-right}
 use Rattle.tokens.specs.declared.Kind.{Kind}
-use Rattle.literals.specs.declared.Extent.{Extent}
 use Rattle.tokens.specs.declared.Token.{Token}
 
 -- ---- "space, tab, CR and LF only separate tokens, and `#` runs a comment to the line's end"

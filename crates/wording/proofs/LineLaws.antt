@@ -1,6 +1,6 @@
 -- A walk over a text, byte by byte: the lines that end before a place, and where the place's own line starts.
 -- Assumes nothing.
-use Prim.Native.Nat.{ℕ, suc, _+_, _≤_, _<_}
+use Prim.Native.Nat.{ℕ, _+_, _≤_, _<_}
 use mathlib.Core.Path.{_≡_, _∙_, refl, ap, sym}
 use mathlib.Core.List.{List}
 use native.Mathlib.Numerals.{add-one}

@@ -1,5 +1,4 @@
 use native.Mathlib.Omega.{arith}
-use native.Mathlib.Nat.{add-zero}
 use mathlib.Core.Path.{subst}
 use Rattle.acts.specs.Acts.{Fine}
 use borrow.Author.Needs.{needs}

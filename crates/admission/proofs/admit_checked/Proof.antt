@@ -1,8 +1,6 @@
 use Prim.Native.Nat.{ℕ, _+_, _<_, _≤_}
-use mathlib.Core.Path.{_≡_, refl, sym, ap, subst, _∙_}
-use mathlib.Core.List.{List}
+use mathlib.Core.Path.{refl, sym, ap, subst, _∙_}
 use native.Mathlib.Omega.{arith}
-use lib.ListN.{length, drop, replicate}
 use Rattle.parsing.specs.Cursors.{state-at}
 use Rattle.naming.specs.Counting.{nowhere}
 use Rattle.admission.specs.declared.Admission.{Admission}

@@ -1,11 +1,5 @@
-use Prim.Native.Nat.{ℕ, _+_, _<_, _≤_}
-use mathlib.Core.Path.{_≡_, refl, sym, ap, subst, _∙_}
-use mathlib.Core.List.{List}
-use native.Mathlib.Omega.{arith}
-use lib.ListN.{length, drop, replicate}
+use mathlib.Core.Path.{refl, sym, subst}
 use Rattle.parsing.specs.Cursors.{state-at}
-use Rattle.naming.specs.Counting.{nowhere}
-use Rattle.admission.specs.declared.Admission.{Admission}
 use Rattle.shapes.proofs.Shaped.{blank}
 use Rattle.admission.specs.Admitted.{AnsweredRules, by-form}
 use Rattle.admission.proofs.Facts.{basics}

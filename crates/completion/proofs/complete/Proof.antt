@@ -1,4 +1,4 @@
-use mathlib.Core.Path.{_≡_, refl, subst, _∙_}
+use mathlib.Core.Path.{refl, subst}
 use native.Mathlib.Omega.{arith}
 use Rattle.structure.proofs.Facts.{facts}
 use Rattle.table.specs.Judged.{Judged}

@@ -1,8 +1,7 @@
 -- `completion::write_sets` meets its contract. The invariant: the sets of the constructs below i were written, and nothing else. Assumes nothing.
-use Prim.Native.Nat.{ℕ, _+_, _*_, _-_, _≤_, _<_}
-use mathlib.Core.Path.{_≡_, refl, sym, subst, _∙_}
+use Prim.Native.Nat.{_-_, _≤_}
+use mathlib.Core.Path.{_≡_, refl, subst}
 use native.Mathlib.Omega.{arith}
-use lib.ListN.{length}
 use Rattle.completion.specs.Completed.{SetsWritten}
 use Rattle.completion.proofs.Writing.{none-written, one-written}
 use Rattle.completion.proofs.write_sets.Statement.{statement}

@@ -1,4 +1,4 @@
-use mathlib.Core.Path.{_≡_, sym, subst}
+use mathlib.Core.Path.{sym, subst}
 use Rattle.layout.specs.declared.Construct.{Construct}
 use Rattle.sets.specs.Rounds.{strings}
 use Rattle.sets.proofs.HeldLaws.{Fine, fine}

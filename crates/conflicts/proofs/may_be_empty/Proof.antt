@@ -1,7 +1,6 @@
-use Prim.Native.Nat.{_+_}
 use mathlib.Core.List.{[]}
-use mathlib.Core.Path.{_≡_, sym, subst}
-use mathlib.Core.Bool.{Bool, false, false≢true}
+use mathlib.Core.Path.{sym, subst}
+use mathlib.Core.Bool.{false, false≢true}
 use Rattle.lookahead.specs.Sets.{Decides}
 use Rattle.layout.specs.declared.Construct.{Construct}
 use Rattle.sets.specs.Rounds.{strings}

@@ -1,10 +1,9 @@
-use Prim.Native.Nat.{_+_, _<_}
+use Prim.Native.Nat.{_+_}
 use native.Mathlib.Omega.{arith}
 use Rattle.basis.specs.Bits.{Bits}
 use Rattle.lookahead.specs.Sets.{Has}
 use Rattle.sets.specs.Rounds.{strings}
 use Rattle.conflicts.specs.Clashes.{Common}
-use Rattle.conflicts.specs.Windows.{Lowest}
 use Rattle.conflicts.proofs.Lows.{lowest-map}
 use borrow.Author.Needs.{needs}
 use Rattle.conflicts.proofs.turns.Statement.{statement}

@@ -1,6 +1,6 @@
 use Prim.Native.Nat.{ℕ, _+_, _*_, _-_, _^_, _≤_}
 use native.Mathlib.Omega.{arith}
-use mathlib.Core.Path.{_≡_, _∙_, ap, ap₂}
+use mathlib.Core.Path.{_∙_, ap, ap₂}
 use lib.ListN.{length}
 use lib.Pow.{pow-mono}
 use Rattle.basis.proofs.Frames.{ahead-short, ahead-long}

@@ -1,10 +1,9 @@
-use Prim.Native.Nat.{ℕ, suc, _+_, _*_, _-_, _^_, _≤_, _<_}
+use Prim.Native.Nat.{ℕ, _+_, _*_, _-_, _^_, _≤_, _<_}
 use native.Mathlib.Omega.{arith}
 use native.Mathlib.Numerals.{add-one}
-use mathlib.Core.Path.{_≡_, refl, sym, _∙_, ap, ap₂, subst}
+use mathlib.Core.Path.{_≡_, sym, _∙_, ap, ap₂, subst}
 use lib.ListN.{length, getD}
 use lib.Pow.{pow-mono, pow-add}
-use borrow.Author.Needs.{needs}
 use Rattle.basis.proofs.Frames.{bytes-value, bytes-none, bytes-more}
 use Rattle.frame.proofs.bytes.Statement.{statement}
 use Rattle.frame.proofs.bytes.Tie as tie

@@ -1,7 +1,7 @@
 use borrow.Author.Needs.{needs}
 use Prim.Native.Nat.{ℕ, _+_, _*_}
-use mathlib.Core.Path.{_≡_, refl, sym, ap, ap₂, _∙_}
-use borrow.Author.Tests.{eq-eqb, ne-eqb, lt-ltb, le-ltb, le-leb, lt-leb}
+use mathlib.Core.Path.{_≡_, sym, ap₂, _∙_}
+use borrow.Author.Tests.{le-leb, lt-leb}
 use Rattle.text.specs.Bytes.{digit-of}
 use Rattle.literals.proofs.widened.Statement.{statement}
 use Rattle.literals.proofs.widened.Tie as tie

@@ -1,7 +1,6 @@
-use Prim.Native.Nat.{ℕ, _^_, _-_, _≤_, _<_, min}
-use mathlib.Core.Path.{_≡_, ap, _∙_}
+use Prim.Native.Nat.{_^_, _-_, _≤_, _<_}
+use mathlib.Core.Path.{_∙_}
 use native.Mathlib.Omega.{arith}
-use lib.IntN.{ℤ, pos}
 use lib.Pow.{pow-mono, pow-pos}
 use Rattle.measures.proofs.WidestLaws.{largest-below, largest-past, stored-back}
 use borrow.Author.Needs.{needs}

@@ -2,7 +2,7 @@ use Prim.Native.Nat.{_-_}
 use native.Mathlib.Omega.{arith}
 use mathlib.Core.Path.{_≡_, refl, sym, ap, subst, _∙_}
 use lib.ListN.{length}
-use Rattle.steps.specs.Steps.{Whole, whole, step-of, steps-of, Fits}
+use Rattle.steps.specs.Steps.{whole, steps-of, Fits}
 use Rattle.steps.proofs.Running.{step-fits, steps-stay, steps-next, steps-none}
 use Rattle.steps.proofs.advance.Statement.{statement}
 use Rattle.steps.proofs.advance.Tie as tie

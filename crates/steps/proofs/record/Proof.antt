@@ -1,6 +1,5 @@
 use lib.ListN.{length-set}
 use native.Mathlib.Omega.{arith}
-use lib.Seq.{lt-length-set}
 use borrow.Author.Needs.{needs}
 use Rattle.steps.proofs.record.Statement.{statement}
 use Rattle.steps.proofs.record.Tie as tie

@@ -1,10 +1,8 @@
 -- `table::first_conflict` meets its contract. The invariant: no construct below i has one. Assumes nothing.
 use Prim.Native.Nat.{ℕ, _-_, _≤_, _<_}
-use mathlib.Core.Path.{_≡_, sym, subst, _∙_}
-use mathlib.Core.Bool.{true, false≢true}
+use mathlib.Core.Path.{sym, subst, _∙_}
 use native.Mathlib.Omega.{arith}
 use borrow.Author.Count.{below-more}
-use Rattle.layout.specs.Held.{held}
 use Rattle.measures.specs.Measures.{LeastOf}
 use Rattle.measures.proofs.LeastLaws.{least-here, least-none}
 use Rattle.structure.proofs.Facts.{facts}

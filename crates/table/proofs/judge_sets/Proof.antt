@@ -1,5 +1,4 @@
 use native.Mathlib.Omega.{arith}
-use Prim.Native.Nat.{_≤_, _<_}
 use Rattle.theory.specs.Lookahead.{EmptyBody}
 use Rattle.layout.specs.Held.{held}
 use Rattle.structure.proofs.Facts.{facts}

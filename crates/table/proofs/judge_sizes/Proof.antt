@@ -1,4 +1,3 @@
-use native.Mathlib.Omega.{arith}
 use Rattle.structure.proofs.Facts.{facts}
 use Rattle.table.specs.Judged.{Oversized}
 use Rattle.table.proofs.Judging.{least-of, none-below}

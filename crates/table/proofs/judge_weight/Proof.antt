@@ -1,4 +1,3 @@
-use native.Mathlib.Omega.{arith}
 use Rattle.table.proofs.Judging.{overweight, exact-weight}
 use borrow.Author.Needs.{needs}
 use Rattle.table.proofs.judge_weight.Statement.{statement}

@@ -7,7 +7,7 @@ use native.Mathlib.Omega.{arith}
 use Rattle.sets.specs.Rounds.{strings}
 use Rattle.sets.specs.Parts.{siblings}
 use Rattle.sets.proofs.PartLaws.{siblings-done, siblings-last, siblings-next}
-use Rattle.conflicts.proofs.Walks.{lies, split-all, Parted, parted}
+use Rattle.conflicts.proofs.Walks.{lies, split-all, parted}
 use Rattle.conflicts.proofs.Lows.{Seeking, seek-none, seek-next, seek-found, seek-done}
 use borrow.Author.Needs.{needs}
 use Rattle.conflicts.proofs.windows.holder.Statement.{statement}

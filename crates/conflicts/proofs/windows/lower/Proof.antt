@@ -1,6 +1,6 @@
 use borrow.Author.Tests.{eq-eqb, ne-eqb}
 use Prim.Native.Nat.{min}
-use mathlib.Core.Path.{_≡_, sym}
+use mathlib.Core.Path.{_≡_}
 use native.Mathlib.Omega.{arith}
 use Rattle.conflicts.proofs.windows.lower.Statement.{statement}
 use Rattle.conflicts.proofs.windows.lower.Tie as tie

@@ -1,8 +1,5 @@
-use Prim.Native.Nat.{ℕ}
 use mathlib.Core.Path.{subst}
-use Rattle.basis.specs.Bits.{Bits}
 use Rattle.lookahead.specs.Least.{LeastCommon}
-use Rattle.lookahead.specs.Sets.{Has}
 use Rattle.conflicts.proofs.Lows.{lowest-none, lowest-some}
 use borrow.Author.Needs.{needs}
 use Rattle.conflicts.proofs.windows.shared.Statement.{statement}

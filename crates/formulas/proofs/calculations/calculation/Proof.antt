@@ -1,4 +1,4 @@
-use Rattle.formulas.proofs.Calculating.{primary-number, primary-name, primary-fault, operand-minus, operand-plain, factors-turn, factors-end, sum-live, summands-turn, summands-end, calculation-reads}
+use Rattle.formulas.proofs.Calculating.{calculation-reads}
 use borrow.Author.Needs.{needs}
 use Rattle.formulas.proofs.calculations.calculation.Statement.{statement}
 use Rattle.formulas.proofs.calculations.calculation.Tie as tie

@@ -1,11 +1,11 @@
-use Rattle.parsing.specs.Symbols.{factors, summands}
+use Rattle.parsing.specs.Symbols.{factors}
 use Rattle.parsing.specs.Cursors.{left}
 use Rattle.parsing.proofs.Steps.{then}
 use Rattle.parsing.proofs.Loops.{Still, still-start, turn-falls}
-use Rattle.formulas.proofs.Calculating.{primary-number, primary-name, primary-fault, operand-minus, operand-plain, factors-turn, factors-end, sum-live, summands-turn, summands-end, calculation-reads}
-use Prim.Native.Nat.{ℕ, _+_, _*_, _-_, _≤_, _<_}
+use Rattle.formulas.proofs.Calculating.{factors-turn, factors-end}
+use Prim.Native.Nat.{ℕ, _-_}
 use mathlib.Core.List.{List, [], _∷_}
-use mathlib.Core.Path.{_≡_, refl, sym, ap, _∙_}
+use mathlib.Core.Path.{refl}
 use borrow.Author.Needs.{needs}
 use Rattle.formulas.proofs.calculations.factors.Statement.{statement}
 use Rattle.formulas.proofs.calculations.factors.Tie as tie

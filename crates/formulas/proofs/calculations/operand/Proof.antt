@@ -1,4 +1,4 @@
-use Rattle.formulas.proofs.Calculating.{primary-number, primary-name, primary-fault, operand-minus, operand-plain, factors-turn, factors-end, sum-live, summands-turn, summands-end, calculation-reads}
+use Rattle.formulas.proofs.Calculating.{operand-minus, operand-plain}
 use borrow.Author.Needs.{needs}
 use Rattle.formulas.proofs.calculations.operand.Statement.{statement}
 use Rattle.formulas.proofs.calculations.operand.Tie as tie

@@ -1,5 +1,5 @@
-use Rattle.formulas.proofs.Calculating.{primary-number, primary-name, primary-fault, operand-minus, operand-plain, factors-turn, factors-end, sum-live, summands-turn, summands-end, calculation-reads}
-use mathlib.Core.Path.{_≡_, refl, sym, ap, _∙_}
+use Rattle.formulas.proofs.Calculating.{primary-number, primary-name, primary-fault}
+use mathlib.Core.Path.{sym, _∙_}
 use borrow.Author.Needs.{needs}
 use Rattle.formulas.proofs.calculations.primary.Statement.{statement}
 use Rattle.formulas.proofs.calculations.primary.Tie as tie

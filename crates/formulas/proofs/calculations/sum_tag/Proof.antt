@@ -1,4 +1,4 @@
-use borrow.Author.Tests.{eq-eqb, ne-eqb, lt-ltb, le-ltb, le-leb, lt-leb}
+use borrow.Author.Tests.{ne-eqb}
 use Rattle.formulas.proofs.calculations.sum_tag.Statement.{statement}
 use Rattle.formulas.proofs.calculations.sum_tag.Tie as tie
 use Rattle.formulas.proofs.calculations.sum_tag.Reads as reads

@@ -2,10 +2,10 @@ use Rattle.parsing.specs.Symbols.{factors, summands}
 use Rattle.parsing.specs.Cursors.{left}
 use Rattle.parsing.proofs.Steps.{then}
 use Rattle.parsing.proofs.Loops.{Still, still-start, turn-falls}
-use Rattle.formulas.proofs.Calculating.{primary-number, primary-name, primary-fault, operand-minus, operand-plain, factors-turn, factors-end, sum-live, summands-turn, summands-end, calculation-reads}
-use Prim.Native.Nat.{ℕ, _+_, _*_, _-_, _≤_, _<_}
+use Rattle.formulas.proofs.Calculating.{sum-live, summands-turn, summands-end}
+use Prim.Native.Nat.{ℕ, _-_, _<_}
 use mathlib.Core.List.{List, [], _∷_}
-use mathlib.Core.Path.{_≡_, refl, sym, ap, subst, _∙_}
+use mathlib.Core.Path.{sym, subst, _∙_}
 use borrow.Author.Needs.{needs}
 use Rattle.formulas.proofs.calculations.summands.Statement.{statement}
 use Rattle.formulas.proofs.calculations.summands.Tie as tie

@@ -2,10 +2,10 @@ use Rattle.parsing.specs.Symbols.{chain}
 use Rattle.parsing.specs.Cursors.{left}
 use Rattle.parsing.proofs.Steps.{then}
 use Rattle.parsing.proofs.Loops.{Still, still-start, turn-falls}
-use Rattle.formulas.proofs.Testing.{comparison-reads, comparison-fault, test-group, test-deep, test-plain, chain-turn, chain-end, condition-and, condition-or, condition-only}
-use Prim.Native.Nat.{ℕ, _+_, _*_, _-_, _≤_, _<_}
+use Rattle.formulas.proofs.Testing.{comparison-reads, test-group, test-deep, test-plain, chain-turn, chain-end, condition-and, condition-or, condition-only}
+use Prim.Native.Nat.{ℕ, _+_, _*_, _-_, _<_}
 use mathlib.Core.List.{List, [], _∷_}
-use mathlib.Core.Path.{_≡_, refl, sym, ap, _∙_}
+use mathlib.Core.Path.{refl}
 use native.Mathlib.Omega.{arith}
 use borrow.Author.Needs.{needs}
 use Prim.Native.Nat.{ℕ, _<_}

@@ -1,4 +1,4 @@
-use Rattle.formulas.proofs.Testing.{comparison-reads, comparison-fault, test-group, test-deep, test-plain, chain-turn, chain-end, condition-and, condition-or, condition-only}
+use Rattle.formulas.proofs.Testing.{comparison-reads, comparison-fault}
 use borrow.Author.Needs.{needs}
 use Rattle.formulas.proofs.conditions.comparison.Statement.{statement}
 use Rattle.formulas.proofs.conditions.comparison.Tie as tie

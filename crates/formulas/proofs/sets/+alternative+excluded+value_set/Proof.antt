@@ -1,10 +1,10 @@
-use mathlib.Core.Path.{_≡_, refl, sym, ap, _∙_}
+use mathlib.Core.Path.{refl}
 use Rattle.parsing.specs.Symbols.{alternatives}
 use Rattle.parsing.specs.Cursors.{left}
 use Rattle.parsing.proofs.Steps.{then}
 use Rattle.parsing.proofs.Loops.{Still, still-start, turn-falls}
-use Rattle.formulas.proofs.Choosing.{bound-some, bound-none, tail-range, tail-single, counts-range, counts-single, item-open, item-closed, counts-closed, counts-open, alternative-with, alternative-only, excluded-set, excluded-deep, excluded-item, alternatives-turn, set-reads}
-use Prim.Native.Nat.{ℕ, _+_, _*_, _-_, _≤_, _<_}
+use Rattle.formulas.proofs.Choosing.{alternative-with, alternative-only, excluded-set, excluded-deep, excluded-item, alternatives-turn, set-reads}
+use Prim.Native.Nat.{ℕ, _+_, _*_, _-_, _<_}
 use mathlib.Core.List.{List, [], _∷_}
 use native.Mathlib.Omega.{arith}
 use borrow.Author.Needs.{needs}

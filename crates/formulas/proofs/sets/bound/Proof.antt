@@ -1,5 +1,5 @@
-use Rattle.formulas.proofs.Choosing.{bound-some, bound-none, tail-range, tail-single, counts-range, counts-single, item-open, item-closed, counts-closed, counts-open, alternative-with, alternative-only, excluded-set, excluded-deep, excluded-item, alternatives-turn, set-reads}
-use mathlib.Core.Path.{_≡_, refl, sym, ap, _∙_}
+use Rattle.formulas.proofs.Choosing.{bound-some, bound-none}
+use mathlib.Core.Path.{sym, _∙_}
 use borrow.Author.Needs.{needs}
 use Rattle.formulas.proofs.sets.bound.Statement.{statement}
 use Rattle.formulas.proofs.sets.bound.Tie as tie

@@ -1,4 +1,4 @@
-use Rattle.formulas.proofs.Choosing.{bound-some, bound-none, tail-range, tail-single, counts-range, counts-single, item-open, item-closed, counts-closed, counts-open, alternative-with, alternative-only, excluded-set, excluded-deep, excluded-item, alternatives-turn, set-reads}
+use Rattle.formulas.proofs.Choosing.{counts-range, counts-single}
 use borrow.Author.Needs.{needs}
 use Rattle.formulas.proofs.sets.counts_tail.Statement.{statement}
 use Rattle.formulas.proofs.sets.counts_tail.Tie as tie

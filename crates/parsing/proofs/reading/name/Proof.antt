@@ -1,6 +1,6 @@
 use lib.Dec.{eqb}
-use mathlib.Core.Bool.{Bool, _&&_, _||_}
-use mathlib.Core.Path.{_≡_, refl, sym, ap, _∙_}
+use mathlib.Core.Bool.{Bool, _||_}
+use mathlib.Core.Path.{ap, _∙_}
 use borrow.Author.Needs.{needs}
 use Rattle.parsing.proofs.reading.name.Statement.{statement}
 use Rattle.parsing.proofs.reading.name.Tie as tie

@@ -1,5 +1,5 @@
-use mathlib.Core.Bool.{Bool, true, false, cond}
-use mathlib.Core.Path.{_≡_, refl, sym, ap, _∙_}
+use mathlib.Core.Bool.{Bool, cond}
+use mathlib.Core.Path.{sym, ap, _∙_}
 use borrow.Author.Needs.{needs}
 use Rattle.parsing.proofs.terminals.before_paren.Statement.{statement}
 use Rattle.parsing.proofs.terminals.before_paren.Tie as tie

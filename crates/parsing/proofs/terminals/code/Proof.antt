@@ -1,5 +1,5 @@
-use Rattle.parsing.specs.Terminals.{code-of, opens-at, name-code, literal-code, sight, seen, sight-of, live}
-use mathlib.Core.Path.{_≡_, refl, sym, ap, _∙_}
+use Rattle.parsing.specs.Terminals.{code-of}
+use mathlib.Core.Path.{sym, ap}
 use borrow.Author.Needs.{needs}
 use Rattle.parsing.proofs.terminals.code.Statement.{statement}
 use Rattle.parsing.proofs.terminals.code.Tie as tie

@@ -1,10 +1,10 @@
 use Rattle.literals.specs.Literals.{characters-at}
-use Rattle.parsing.specs.Terminals.{code-of, opens-at, name-code, literal-code, sight, seen, sight-of, live}
-use lib.ListN.{length, set, getD}
-use borrow.Author.Tests.{eq-eqb, ne-eqb, lt-ltb, le-ltb, le-leb, lt-leb}
+use Rattle.parsing.specs.Terminals.{literal-code}
+use lib.ListN.{length}
+use borrow.Author.Tests.{ne-eqb}
 use lib.Dec.{eqb}
-use mathlib.Core.Bool.{Bool, true, false, cond}
-use mathlib.Core.Path.{_≡_, refl, sym, ap, _∙_}
+use mathlib.Core.Bool.{false}
+use mathlib.Core.Path.{_≡_, sym, _∙_}
 use borrow.Author.Needs.{needs}
 use Rattle.parsing.proofs.terminals.literal_of.Statement.{statement}
 use Rattle.parsing.proofs.terminals.literal_of.Tie as tie

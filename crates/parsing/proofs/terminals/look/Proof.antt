@@ -1,5 +1,5 @@
-use Rattle.parsing.proofs.Steps.{inside-of, look-told, look-end, want-reads, want-faults, want-falls, fail-falls, paren-reads, paren-deep, sign-reads, single-first, single-later}
-use mathlib.Core.Path.{_≡_, refl, sym, ap, _∙_}
+use Rattle.parsing.proofs.Steps.{inside-of, look-told, look-end}
+use mathlib.Core.Path.{_∙_}
 use borrow.Author.Needs.{needs}
 use Rattle.parsing.proofs.terminals.look.Statement.{statement}
 use Rattle.parsing.proofs.terminals.look.Tie as tie

@@ -1,11 +1,11 @@
 use Rattle.parsing.specs.Terminals.{word-code}
-use Prim.Native.Nat.{ℕ, _+_, _*_, _-_, _≤_, _<_}
-use Rattle.parsing.specs.Terminals.{code-of, opens-at, name-code, literal-code, sight, seen, sight-of, live}
+use Prim.Native.Nat.{ℕ, _-_}
+use Rattle.parsing.specs.Terminals.{opens-at, name-code}
 use Rattle.tokens.specs.Names.{reserved-of, name-of}
-use borrow.Author.Tests.{eq-eqb, ne-eqb, lt-ltb, le-ltb, le-leb, lt-leb}
+use borrow.Author.Tests.{ne-eqb}
 use lib.Dec.{eqb}
-use mathlib.Core.Bool.{Bool, true, false, cond}
-use mathlib.Core.Path.{_≡_, refl, sym, ap, _∙_}
+use mathlib.Core.Bool.{false}
+use mathlib.Core.Path.{_≡_, sym, ap, _∙_}
 use borrow.Author.Needs.{needs}
 use Rattle.parsing.proofs.terminals.name_of.Statement.{statement}
 use Rattle.parsing.proofs.terminals.name_of.Tie as tie

@@ -1,8 +1,8 @@
 use Rattle.tokens.specs.declared.Token.{Token}
-use Rattle.parsing.specs.Terminals.{code-of, opens-at, name-code, literal-code, sight, seen, sight-of, live}
+use Rattle.parsing.specs.Terminals.{code-of}
 use lib.Dec.{eqb}
-use Prim.Native.Nat.{ℕ, _+_, _*_, _-_, _≤_, _<_}
-use mathlib.Core.Path.{_≡_, refl, sym, ap, _∙_}
+use Prim.Native.Nat.{ℕ, _-_}
+use mathlib.Core.Path.{ap, _∙_}
 use borrow.Author.Needs.{needs}
 use Rattle.parsing.proofs.terminals.opens.Statement.{statement}
 use Rattle.parsing.proofs.terminals.opens.Tie as tie

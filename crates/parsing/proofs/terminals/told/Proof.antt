@@ -1,7 +1,7 @@
-use Rattle.parsing.specs.Terminals.{code-of, opens-at, name-code, literal-code, sight, seen, sight-of, live}
-use borrow.Author.Tests.{eq-eqb, ne-eqb, lt-ltb, le-ltb, le-leb, lt-leb}
-use Prim.Native.Nat.{ℕ, _+_, _*_, _-_, _≤_, _<_}
-use mathlib.Core.Path.{_≡_, refl, sym, ap, _∙_}
+use Rattle.parsing.specs.Terminals.{sight, seen}
+use borrow.Author.Tests.{ne-eqb}
+use Prim.Native.Nat.{ℕ, _-_}
+use mathlib.Core.Path.{ap}
 use borrow.Author.Needs.{needs}
 use Rattle.parsing.proofs.terminals.told.Statement.{statement}
 use Rattle.parsing.proofs.terminals.told.Tie as tie

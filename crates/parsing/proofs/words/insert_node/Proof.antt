@@ -1,4 +1,4 @@
-use mathlib.Core.Path.{_≡_, refl, sym, ap, _∙_}
+use mathlib.Core.Path.{_∙_}
 use borrow.Author.Needs.{needs}
 use Rattle.parsing.proofs.words.insert_node.Statement.{statement}
 use Rattle.parsing.proofs.words.insert_node.Tie as tie

@@ -1,4 +1,4 @@
-use borrow.Author.Tests.{eq-eqb, ne-eqb, lt-ltb, le-ltb, le-leb, lt-leb}
+use borrow.Author.Tests.{lt-ltb, le-ltb}
 use borrow.Author.Needs.{needs}
 use Rattle.parsing.proofs.words.marked_tag.Statement.{statement}
 use Rattle.parsing.proofs.words.marked_tag.Tie as tie

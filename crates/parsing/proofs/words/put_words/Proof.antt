@@ -1,5 +1,5 @@
-use Rattle.parsing.specs.Store.{counted, put-words, put-term, marked-tag, put-single, room, put-node, put-condition, put-rule}
-use mathlib.Core.Path.{_≡_, refl, sym, ap, _∙_}
+use Rattle.parsing.specs.Store.{put-words}
+use mathlib.Core.Path.{refl}
 use borrow.Author.Needs.{needs}
 use Rattle.parsing.proofs.words.put_words.Statement.{statement}
 use Rattle.parsing.proofs.words.put_words.Tie as tie

@@ -1,4 +1,4 @@
-use Rattle.syntax.proofs.Chains.{case-ends, switch-ends, switch-end-fault, chained-many, chained-one}
+use Rattle.syntax.proofs.Chains.{chained-many, chained-one}
 use borrow.Author.Needs.{needs}
 use Rattle.syntax.proofs.fields.chained.Statement.{statement}
 use Rattle.syntax.proofs.fields.chained.Tie as tie

@@ -1,4 +1,4 @@
-use borrow.Author.Tests.{eq-eqb, ne-eqb, lt-ltb, le-ltb, le-leb, lt-leb}
+use borrow.Author.Tests.{ne-eqb}
 use Rattle.syntax.proofs.fields.outside.Statement.{statement}
 use Rattle.syntax.proofs.fields.outside.Tie as tie
 use Rattle.syntax.proofs.fields.outside.Reads as reads

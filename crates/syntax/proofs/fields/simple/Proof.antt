@@ -1,5 +1,5 @@
-use Rattle.syntax.proofs.Atoms.{last-reads, range-reads, last-fault, character-reads, field-ends, field-end-fault, bound-reads, bound-fault, set-binds, set-plain, field-reads, atom-literal, atom-eod, atom-use, atom-character, atom-field, atom-fault, mark-counts, mark-counts-fault, mark-none, mark-sign}
-use mathlib.Core.Path.{_≡_, refl, sym, ap, subst, _∙_}
+use Rattle.syntax.proofs.Atoms.{atom-literal, atom-eod, atom-use, atom-character, atom-field, atom-fault}
+use mathlib.Core.Path.{sym, _∙_}
 use borrow.Author.Needs.{needs}
 use Rattle.syntax.proofs.fields.simple.Statement.{statement}
 use Rattle.syntax.proofs.fields.simple.Tie as tie

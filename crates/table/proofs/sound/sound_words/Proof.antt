@@ -1,4 +1,4 @@
-use mathlib.Core.Path.{_≡_, sym, ap, subst, _∙_}
+use mathlib.Core.Path.{sym, ap, subst, _∙_}
 use Rattle.table.specs.Computed.{is-passed, Computed}
 use Rattle.table.specs.Judged.{Judged}
 use Rattle.structure.proofs.Facts.{facts}

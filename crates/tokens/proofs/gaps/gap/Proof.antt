@@ -1,7 +1,6 @@
 use Prim.Native.Nat.{_-_}
-use mathlib.Core.Path.{_≡_, refl, sym, ap, ap₂, _∙_}
+use mathlib.Core.Path.{_≡_, refl, sym, _∙_}
 use mathlib.Core.Bool.{false}
-use native.Mathlib.Omega.{arith}
 use lib.ListN.{length, drop}
 use Rattle.tokens.specs.Tokens.{gap-end}
 use Rattle.tokens.proofs.Gapped.{gap-turn, gap-stop, gap-out}

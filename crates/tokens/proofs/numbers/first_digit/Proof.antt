@@ -1,6 +1,6 @@
 use borrow.Author.Needs.{needs}
-use mathlib.Core.Path.{_≡_, refl, sym, ap, ap₂, _∙_}
-use borrow.Author.Tests.{eq-eqb, ne-eqb, lt-ltb, le-ltb, le-leb, lt-leb}
+use mathlib.Core.Path.{sym, _∙_}
+use borrow.Author.Tests.{eq-eqb, ne-eqb}
 use Rattle.tokens.specs.Numbers.{radix-at, digits-at}
 use Rattle.tokens.proofs.numbers.first_digit.Statement.{statement}
 use Rattle.tokens.proofs.numbers.first_digit.Tie as tie

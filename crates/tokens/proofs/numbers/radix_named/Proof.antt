@@ -1,6 +1,6 @@
 use borrow.Author.Needs.{needs}
 use native.Mathlib.Omega.{arith}
-use borrow.Author.Tests.{eq-eqb, ne-eqb, lt-ltb, le-ltb, le-leb, lt-leb}
+use borrow.Author.Tests.{ne-eqb}
 use Rattle.tokens.proofs.numbers.radix_named.Statement.{statement}
 use Rattle.tokens.proofs.numbers.radix_named.Tie as tie
 

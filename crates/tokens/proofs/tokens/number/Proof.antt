@@ -1,6 +1,6 @@
 use borrow.Author.Needs.{needs}
 use Prim.Native.Nat.{ℕ}
-use mathlib.Core.Path.{_≡_, refl, sym, ap, ap₂, _∙_}
+use mathlib.Core.Path.{ap}
 use Rattle.tokens.specs.Tokens.{token, number-token}
 use Rattle.tokens.specs.declared.Kind.{Kind}
 use Rattle.tokens.proofs.tokens.number.Statement.{statement}

@@ -1,7 +1,7 @@
 use borrow.Author.Needs.{needs}
 use Prim.Native.Nat.{_+_}
-use mathlib.Core.Path.{_≡_, refl, sym, ap, ap₂, _∙_}
-use mathlib.Core.Bool.{true, false, _&&_, _||_}
+use mathlib.Core.Path.{_≡_, sym, ap, ap₂, _∙_}
+use mathlib.Core.Bool.{true, false}
 use lib.ListN.{getD}
 use Rattle.tokens.specs.Tokens.{is-pair, pair-of, sign-of, token, sign-token}
 use Rattle.tokens.specs.declared.Kind.{Kind}
