@@ -55,33 +55,11 @@ fn stored(table: &[u32], base: usize, n: u64) -> bool
     w / power(n % 32) % 2 == 1
 }
 
-fn size(construct: Construct) -> usize
-    ensures { λ r. ⌜ r ≡ size-of construct ⌝ }
-{
-    match construct {
-        Construct::Missing => 0,
-        Construct::Alternative { size } => size,
-        Construct::Concatenation { size } => size,
-        Construct::Repetition { size, passes: _ } => size,
-        Construct::Switch { size } => size,
-        Construct::Use { rule: _ } => 1,
-        Construct::Literal { length: _ } => 1,
-        Construct::Range { low: _, high: _ } => 1,
-        Construct::Uint {
-            width: _,
-            start: _,
-            end: _,
-            binder: _,
-        } => 1,
-        Construct::Eod => 1,
-    }
-}
-
 // How many constructs construct j is; a missing one is none.
 pub fn size_at(table: &[u32], j: usize) -> usize
     ensures { λ r. ⌜ (r ≡ size-of (constructAt (now (table .entry)) j)) × (r ≤ 256) ⌝ }
 {
-    size(layout::construct_at(table, j))
+    layout::size_of(layout::construct_at(table, j))
 }
 
 // The first branch whose prediction set holds what comes next, number n.

@@ -136,7 +136,7 @@ fn answered(table: &[u32; 16384], weight: usize, line: &[u8])
 fn ended(table: &[u32; 16384], weight: usize, line: &[u8], held: usize)
     requires { ⌜ (weight ≤ 65535) × (held ≤ length (now line)) ⌝ }
 {
-    answered(table, weight, hexadecimal::content(&line[0..held]));
+    answered(table, weight, text::header::content(&line[0..held]));
 }
 
 // A last line without LF is one if it has a byte.

@@ -78,31 +78,9 @@ pub fn construct_word(table: &[u32], i: usize, k: usize) -> usize
     word(table, 576 + 8 * i + k)
 }
 
-fn size(construct: Construct) -> usize
-    ensures { λ r. ⌜ r ≡ size-of construct ⌝ }
-{
-    match construct {
-        Construct::Missing => 0,
-        Construct::Alternative { size } => size,
-        Construct::Concatenation { size } => size,
-        Construct::Repetition { size, passes: _ } => size,
-        Construct::Switch { size } => size,
-        Construct::Use { rule: _ } => 1,
-        Construct::Literal { length: _ } => 1,
-        Construct::Range { low: _, high: _ } => 1,
-        Construct::Uint {
-            width: _,
-            start: _,
-            end: _,
-            binder: _,
-        } => 1,
-        Construct::Eod => 1,
-    }
-}
-
 // How many constructs construct i is; none leaves the 256.
 pub fn size_at(table: &[u32], i: usize) -> usize
     ensures { λ r. ⌜ (r ≡ size-at (now (table .entry)) i) × (r ≤ 256 - i) ⌝ }
 {
-    size(construct_at(table, i))
+    layout::size_of(construct_at(table, i))
 }

@@ -8,7 +8,6 @@ ghost use Prim.Native.Nat.{_*_, _/_, _%_, _≤_, _<_};
 ghost use lib.ListN.{length};
 ghost use lib.Seq.{sets};
 ghost use Rattle.text.specs.Bytes.{digit-of};
-ghost use Rattle.text.specs.Header.{content as contentOf};
 ghost use Rattle.hexadecimal.specs.Lines.{is-frame, line-of, number-of, byte-of, bytes-of};
 
 // What a line is, without its end.
@@ -19,21 +18,6 @@ pub enum Line {
     NoFrame,
     // A frame of so many bytes.
     Frame(usize),
-}
-
-// A line before its LF, without a CR at its end.
-pub fn content(line: &[u8]) -> &[u8]
-    ensures { λ r. ⌜ now r ≡ contentOf (now (line .entry)) ⌝ }
-{
-    let n = line.len();
-    if n == 0 {
-        return line;
-    }
-    let last = n - 1;
-    if line[last] == 13 {
-        return &line[..last];
-    }
-    line
 }
 
 // The number of refusal; 0 for a frame.

@@ -1,6 +1,7 @@
 // The words of a table (docs/TABLE.md): where things stand, and what they say. Any words may arrive.
 ghost use mathlib.Core.Path.{_≡_};
 ghost use Prim.Native.Nat.{ℕ, _+_, _*_, _<_};
+ghost use Rattle.layout.specs.Held.{size-of};
 ghost use Rattle.layout.specs.Places.{word as wordAt};
 ghost use Rattle.layout.specs.Constructs.{branches as branchesOf, listed as listedOf, repetitionOf, innerOf, uintOf, literalOf, rangeOf, leafOf, withoutParts, constructOf, constructAt};
 
@@ -244,4 +245,27 @@ pub fn construct_at(table: &[u32], i: usize) -> Construct
         word(table, at + 4),
         word(table, at + 5),
     )
+}
+
+// How many constructs a construct is; a missing one is none.
+pub fn size_of(construct: Construct) -> usize
+    ensures { λ r. ⌜ r ≡ size-of construct ⌝ }
+{
+    match construct {
+        Construct::Missing => 0,
+        Construct::Alternative { size } => size,
+        Construct::Concatenation { size } => size,
+        Construct::Repetition { size, passes: _ } => size,
+        Construct::Switch { size } => size,
+        Construct::Use { rule: _ } => 1,
+        Construct::Literal { length: _ } => 1,
+        Construct::Range { low: _, high: _ } => 1,
+        Construct::Uint {
+            width: _,
+            start: _,
+            end: _,
+            binder: _,
+        } => 1,
+        Construct::Eod => 1,
+    }
 }

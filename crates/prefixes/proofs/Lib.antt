@@ -1,5 +1,4 @@
 pub mod Windows
-pub mod Static
 pub mod MarkLaws
 pub mod TryLaws
 pub mod Steady

@@ -11,32 +11,10 @@ use layout::Construct;
 use layout::construct_at;
 use lookahead::Set;
 
-fn size_of(construct: Construct) -> usize
-    ensures { λ r. ⌜ r ≡ sizeOf construct ⌝ }
-{
-    match construct {
-        Construct::Missing => 0,
-        Construct::Alternative { size } => size,
-        Construct::Concatenation { size } => size,
-        Construct::Repetition { size, passes: _ } => size,
-        Construct::Switch { size } => size,
-        Construct::Use { rule: _ } => 1,
-        Construct::Literal { length: _ } => 1,
-        Construct::Range { low: _, high: _ } => 1,
-        Construct::Uint {
-            width: _,
-            start: _,
-            end: _,
-            binder: _,
-        } => 1,
-        Construct::Eod => 1,
-    }
-}
-
 pub fn size_at(table: &[u32], i: usize) -> usize
     ensures { λ r. ⌜ (r ≡ sizeOf (constructAt (now (table .entry)) i)) × (r ≤ 256) ⌝ }
 {
-    size_of(construct_at(table, i))
+    layout::size_of(construct_at(table, i))
 }
 
 // Set i of a family in the one form of a set; a number past the family's has none.

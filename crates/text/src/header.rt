@@ -12,8 +12,8 @@ ghost use Prim.Native.Nat.{_≤_};
 ghost use lib.ListN.{length, drop};
 ghost use Rattle.text.specs.Header.{content as contentOf, is-first-line, is-header-line, lines, header-lines-of, header-of};
 
-// A line without a CR at its end.
-fn content(line: &[u8]) -> &[u8]
+// A line before its LF, without a CR at its end.
+pub fn content(line: &[u8]) -> &[u8]
     ensures { λ r. ⌜ now r ≡ contentOf (now (line .entry)) ⌝ }
 {
     let n = line.len();

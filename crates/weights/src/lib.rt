@@ -4,7 +4,7 @@ ghost use Prim.Native.Nat.{ℕ, _+_, _<_, _≤_};
 ghost use mathlib.Core.Bool.{false};
 ghost use mathlib.Core.List.{_∷_};
 ghost use lib.ListN.{length, getD};
-ghost use Rattle.layout.specs.Held.{size-of, parts};
+ghost use Rattle.layout.specs.Held.{parts};
 ghost use Rattle.rules.specs.Reaching.{body-of};
 ghost use Rattle.weights.specs.Sweeps.{capped, joined, weighed, gathered, swept, settled};
 ghost use Rattle.weights.specs.Weighed.{Weights, Weight};
@@ -13,35 +13,12 @@ use layout::construct_at;
 use layout::word;
 use rules::at_most;
 
-// How many constructs a construct is.
-fn size_of(construct: Construct) -> usize
-    ensures { λ r. ⌜ r ≡ size-of construct ⌝ }
-{
-    match construct {
-        Construct::Missing => 0,
-        Construct::Alternative { size } => size,
-        Construct::Concatenation { size } => size,
-        Construct::Repetition { size, passes: _ } => size,
-        Construct::Switch { size } => size,
-        Construct::Use { rule: _ } => 1,
-        Construct::Literal { length: _ } => 1,
-        Construct::Range { low: _, high: _ } => 1,
-        Construct::Uint {
-            width: _,
-            start: _,
-            end: _,
-            binder: _,
-        } => 1,
-        Construct::Eod => 1,
-    }
-}
-
 // The part after part j, or the end.
 fn next_part(table: &[u32], j: usize, end: usize) -> usize
     requires { ⌜ j < end ⌝ }
     ensures { λ r. ⌜ (j < r) × (r ≤ end) × ((n : ℕ) → parts (n + 1) (now (table .entry)) j end ≡ j ∷ parts n (now (table .entry)) r end) ⌝ }
 {
-    let size = size_of(construct_at(table, j));
+    let size = layout::size_of(construct_at(table, j));
     if size == 0 {
         return end;
     }
@@ -97,7 +74,7 @@ fn weigh_at(table: &[u32], weights: &[u32], i: usize) -> usize
     ensures { λ r. ⌜ r ≡ weighed (now (table .entry)) (now (weights .entry)) i ⌝ }
 {
     let construct = construct_at(table, i);
-    let end = i + size_of(construct);
+    let end = i + layout::size_of(construct);
     match construct {
         Construct::Missing => 1,
         Construct::Alternative { size: _ } => one_more(gather(table, weights, false, i + 1, end)),

@@ -7,7 +7,7 @@ use Rattle.acts.proofs.size_at.Statement.{statement}
 use Rattle.acts.proofs.size_at.Tie as tie
 use Rattle.acts.proofs.size_at.Reads as reads
 use Rattle.acts.proofs.size_at.Lts as lts
-use Rattle.acts.proofs.size.Reads as size-reads
+use Rattle.layout.proofs.size_of.Reads as size-of-reads
 use Rattle.layout.proofs.construct_at.Reads as construct-at-reads
 
 -- src/lib.rt:72:10
@@ -15,12 +15,12 @@ construct-at-requires : tie.Need-construct-at-requires
 construct-at-requires c κs = search needs
 
 -- src/lib.rt:72:5
-size-requires : tie.Need-size-requires
-size-requires c κs = search needs
+size-of-requires : tie.Need-size-of-requires
+size-of-requires c κs = search needs
 
 -- src/lib.rt:69:1
 returns : tie.Need-returns
-returns c = (c .size .ensures ∙ ap size-of (c .before .construct-at .ensures), subst (λ (n : ℕ). n ≤ 256) (sym (c .size .ensures ∙ ap size-of (c .before .construct-at .ensures))) (size-small (c .before .before .before .args .table .now) (c .before .before .before .args .j)))
+returns c = (c .size-of .ensures ∙ ap size-of (c .before .construct-at .ensures), subst (λ (n : ℕ). n ≤ 256) (sym (c .size-of .ensures ∙ ap size-of (c .before .construct-at .ensures))) (size-small (c .before .before .before .args .table .now) (c .before .before .before .args .j)))
 
 pub size-at-spec : {M : Type 1} → statement M
-size-at-spec = tie.close (tie.spec construct-at-requires size-requires returns)
+size-at-spec = tie.close (tie.spec construct-at-requires size-of-requires returns)
