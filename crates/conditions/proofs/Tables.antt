@@ -16,13 +16,15 @@ use Rattle.soundness.proofs.HeldLocal.{held-local}
 use Rattle.soundness.proofs.Reliability.{weighed}
 use Rattle.text.specs.Header.{header-of}
 use Rattle.text.specs.declared.Heading.{Heading}
-use Rattle.parsing.specs.Store.{State, state}
+use Rattle.parsing.specs.Store.{State, state, node-words, term-words, rule-words, nodes-of, rules-of}
 use Rattle.parsing.specs.Form.{Outcome, right, refused}
 use Rattle.admission.specs.Admitted.{form, words-of, Bounded, Headed, RulesPass, Answers, refused-early, by-rules}
 use Rattle.admission.specs.declared.Admission.{Admission}
 use Rattle.admission.proofs.Facts.{facts}
 use Rattle.admission.proofs.Judging.{readable}
+use Rattle.meaning.specs.Claims.{Meanings}
 use Rattle.meaning.proofs.Holding.{holds-text}
+use Rattle.meaning.proofs.Trees.{meanings}
 use Rattle.matcher.specs.Conditions.{grammar-of}
 use Rattle.conditions.specs.Texts.{Reading, meant, each-use, text-grammar}
 use Rattle.conditions.specs.Conditions.{TextTable, Tables}
@@ -71,6 +73,11 @@ words-hold xs (state ns ts rs n t b r) p h =
     let f = facts xs (state ns ts rs n t b r) (p .passed .passed .passed) h in
     holds-text (readable xs ns ts rs n t b r p f h) (f .shape .stored) (f .basics .places)
 
+words-mean : (xs : List ℕ) (st : State) → Bounded xs st → length xs ≤ 8192 → Meanings xs (node-words st) (term-words st) (rule-words st) (nodes-of st) (rules-of st)
+words-mean xs (state ns ts rs n t b r) p h =
+    let f = facts xs (state ns ts rs n t b r) (p .passed .passed .passed) h in
+    meanings (readable xs ns ts rs n t b r p f h) (f .shape .stored) (f .basics .places)
+
 module _ (text old new : List ℕ) (weight base : ℕ) (h : Headed text old base) (p : RulesPass (drop base text) weight old new) where
   abbrev xs : List ℕ
   xs = drop base text
@@ -100,6 +107,7 @@ module _ (text old new : List ℕ) (weight base : ℕ) (h : Headed text old base
               reading = record { base = base; st = p .st; header = h .header; formed = p .passes .passed .passed .passed .passed .passed .formed };
               passes = p .passes;
             };
+        forms = words-mean xs (p .st) (p .passes .passed) fitting;
         sound = ((let z : 16384 ≤ length new = omega (arith, p .table .length-kept, h .table-fits) in z), p .table .sound);
         holds = table-holds;
         weight-stored = sym (p .table .sound .weight (λ c i. weight-at (table-of new) i) weigh-table) ∙ weights (λ c i. weight-at (table-of new) i) weigh-text;

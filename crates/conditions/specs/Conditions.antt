@@ -27,7 +27,7 @@ use Rattle.matcher.specs.Opening.{Answered, Opened, run-given, number-of as ope
 use Rattle.matcher.specs.declared.Answer.{Answer}
 use Rattle.matcher.specs.Conditions.{Grant, Kept, run-kept, reading-kept, OthersRefused, start, Decided, here, Unbroken, Granted}
 use Rattle.conditions.specs.Refusals.{Exactly}
-use Rattle.conditions.specs.Texts.{Reading, rules-grammar, text-grammar, Admissible}
+use Rattle.conditions.specs.Texts.{Reading, rules-grammar, FormsMeant, text-grammar, Admissible}
 
 -- ---- 1. "each is answered or refused by a number of document 01, buffers are left as stated, no caller is trusted"
 
@@ -64,6 +64,7 @@ pub record Condition1 : Type 0 where
 -- "each admitted grammar has one table, sound": it holds the grammar that the text means, and its weight
 pub record TextTable (text new : List ℕ) (weight : ℕ) : Type 0 where
   pub admissible : Admissible text weight
+  pub forms : FormsMeant (admissible .reading)
   pub sound : SoundTable new
   pub holds : held (table-of new) ≡ rules-grammar (admissible .reading)
   pub weight-stored : weight-of (table-of new) ≡ weight

@@ -15,6 +15,7 @@ use Rattle.parsing.specs.Store.{State, node-words, term-words, rule-words, node
 use Rattle.parsing.specs.Form.{right}
 use Rattle.admission.specs.Admitted.{form, Passes}
 use Rattle.meaning.specs.Meaning.{grammar-of}
+use Rattle.meaning.specs.Claims.{Meanings}
 
 -- A text with a right header and rules of the right form: where its rules begin, and the nodes, terms and rules that are read of them. Both are
 -- values of functions of the text, so a text has at most one (`one-reading`).
@@ -31,6 +32,11 @@ meant xs st = grammar-of xs (node-words st) (term-words st) (rule-words st) (nod
 -- that of a text: one value for each binder, as a run keeps them
 abbrev pub rules-grammar : {text : List ℕ} → Reading text → Grammar (Unit {0}) Values
 rules-grammar {text} x = meant (drop (x .base) text) (x .st)
+
+-- its sets, counts and cases mean what document 01's forms mean (crates `meaning`, `trees`)
+abbrev pub FormsMeant : {text : List ℕ} → Reading text → Type 0
+FormsMeant {text} x =
+    Meanings (drop (x .base) text) (node-words (x .st)) (term-words (x .st)) (rule-words (x .st)) (nodes-of (x .st)) (rules-of (x .st))
 
 -- "Variables are local to a rule": every use of a rule opens it anew. Of a scope, `localised` reads nothing else.
 abbrev pub each-use : Scope

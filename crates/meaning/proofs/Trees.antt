@@ -31,7 +31,7 @@ use Rattle.laying.specs.Context.{Readable, TreeAt, ConditionAt, without, with-o
 use Rattle.laying.proofs.NodeFacts.{nodes, tree-below, tree-size}
 use Rattle.laying.proofs.TermsListed.{cut-variable}
 use Rattle.meaning.specs.Meaning.{last-of, passes, uint-node, counts-in, static-counts, in-set, in-static-set, is-fixed, parts-of, own-list, condition-list, is-default, is-true, first-true, meant-node, grammar-of}
-use Rattle.meaning.specs.Claims.{ListFits, UintMeans, CountsMean, met, Guards, SwitchMeans}
+use Rattle.meaning.specs.Claims.{ListFits, UintMeans, CountsMean, met, Guards, SwitchMeans, Meanings}
 use Rattle.meaning.proofs.ListsHeld.{OwnShape, set-shape, counts-shape, own-of-set, own-of-counts, own-under, condition-under, own-held, condition-held}
 use Rattle.meaning.proofs.PartLists.{part-below, given, default-last}
 use Rattle.meaning.proofs.TreeLists.{set-has, set-first, condition-has, form-is, counts-has, counts-first}
@@ -73,7 +73,7 @@ module _ {xs ns ts rs : List ℕ} {n t b r : ℕ} (text : Readable xs ns ts rs n
     own-cut : OwnShape ns ts t i → own-list xs ns ts rs r i ≡ map (rename-term cut) (read-terms ts (node-word ns i 5) (node-word ns i 6 - node-word ns i 5))
     own-cut o = sym (own-held text stored places i h o) ∙ own-under text stored places i h cut (λ p l. omega arith) o
 
-    pub uint-means : kind-of ns i ≡ 8 → UintMeans (grammar-of xs ns ts rs n r .node i) (width-of xs ns i) (own-list xs ns ts rs r i) (is-binder ns i) (binders-before ns i)
+    uint-means : kind-of ns i ≡ 8 → UintMeans (grammar-of xs ns ts rs n r .node i) (width-of xs ns i) (own-list xs ns ts rs r i) (is-binder ns i) (binders-before ns i)
     unfolding meant-node
     uint-means k =
         let list : List Term = own-list xs ns ts rs r i in
@@ -93,7 +93,7 @@ module _ {xs ns ts rs : List ℕ} {n t b r : ℕ} (text : Readable xs ns ts rs n
           at-first = λ v bits f. set-first list tree small is is-cut (x .room cut (λ p. omega arith)) v f (value bits);
         }
 
-    pub counts-mean : kind-of ns i ≡ 3 → node-word ns i 3 ≡ 4 → CountsMean (grammar-of xs ns ts rs n r .node i) (own-list xs ns ts rs r i) (i + 1)
+    counts-mean : kind-of ns i ≡ 3 → node-word ns i 3 ≡ 4 → CountsMean (grammar-of xs ns ts rs n r .node i) (own-list xs ns ts rs r i) (i + 1)
     unfolding meant-node
     counts-mean k w =
         let list : List Term = own-list xs ns ts rs r i in
@@ -167,7 +167,7 @@ module _ {xs ns ts rs : List ℕ} {n t b r : ℕ} (text : Readable xs ns ts rs n
   met-by c l (yes h) v f = case-met c h (nodes text .conditions c h) v f
   met-by c l (no m) v f = absurd (m l)
 
-  pub switch-means : (i : ℕ) → i < n → kind-of ns i ≡ 4 → SwitchMeans xs ns ts rs r (grammar-of xs ns ts rs n r .node i) (parts-of ns i)
+  switch-means : (i : ℕ) → i < n → kind-of ns i ≡ 4 → SwitchMeans xs ns ts rs r (grammar-of xs ns ts rs n r .node i) (parts-of ns i)
   unfolding meant-node
   switch-means i h k =
       let tree-at : TreeAt xs ns ts n t i = nodes text .trees i h in
@@ -184,3 +184,6 @@ module _ {xs ns ts rs : List ℕ} {n t b r : ℕ} (text : Readable xs ns ts rs n
             by-tests xs ns ts rs r v (parts-of ns i)
             ∙ chosen-same (λ c. pick (is-default ns c) true (is-true xs ns ts rs r v c)) (λ c. met v (guard-by c (decLt c n))) (parts-of ns i) (λ c m. met-by c (below c m) (decLt c n) v (f c m));
       }
+
+  pub meanings : Meanings xs ns ts rs n r
+  meanings = record { uints = uint-means; counted-passes = counts-mean; switches = switch-means }

@@ -1,6 +1,6 @@
 -- What is claimed of the sets, counts and conditions of a text: they mean what the trees of document 01 mean (`trees`).
 -- Assumes nothing.
-use Prim.Native.Nat.{ℕ}
+use Prim.Native.Nat.{ℕ, _+_, _<_}
 use mathlib.Core.Path.{_≡_}
 use mathlib.Core.Bool.{Bool, true, false}
 use mathlib.Core.List.{List, [], _∷_}
@@ -22,7 +22,9 @@ use Rattle.theory.specs.Grammar.{_∈_, repetition, switch, field}
 use Rattle.theory.specs.Machine.{choose}
 use Rattle.layout.specs.Constructs.{pick}
 use Rattle.layout.specs.Held.{Values, HeldNode}
-use Rattle.meaning.specs.Meaning.{counted, condition-list, is-default}
+use Rattle.naming.specs.Words.{node-word, kind-of, is-binder}
+use Rattle.encoding.specs.Numbers.{binders-before, width-of}
+use Rattle.meaning.specs.Meaning.{counted, parts-of, own-list, condition-list, is-default, grammar-of}
 
 -- "a calculation, or part of one, whose size may pass 2^62 (variables at their widest, sizes added and multiplied)" is refused. So: the values
 -- lie within sizes of the 64 variables at which no calculation of a list passes 2^62.
@@ -96,3 +98,9 @@ pub record SwitchMeans (xs ns ts rs : List ℕ) (r : ℕ) (node : HeldNode) (cas
   pub guards : (b : ℕ) → b ∈ cases → Guards xs ns ts rs r b (guard b)
   pub takes : (c : Unit {0}) (v : Values) → ((b : ℕ) → b ∈ cases → is-default ns b ≡ false → ListFits Kind.Condition (condition-list xs ns ts rs r b) v)
       → chosen c v ≡ choose (λ b. met v (guard b)) cases
+
+-- Sets, counts and cases of what is read (n nodes, r rules) mean what the trees of document 01's forms mean (crate `trees`).
+pub record Meanings (xs ns ts rs : List ℕ) (n r : ℕ) : Type 0 where
+  pub uints : (i : ℕ) → i < n → kind-of ns i ≡ 8 → UintMeans (grammar-of xs ns ts rs n r .node i) (width-of xs ns i) (own-list xs ns ts rs r i) (is-binder ns i) (binders-before ns i)
+  pub counted-passes : (i : ℕ) → i < n → kind-of ns i ≡ 3 → node-word ns i 3 ≡ 4 → CountsMean (grammar-of xs ns ts rs n r .node i) (own-list xs ns ts rs r i) (i + 1)
+  pub switches : (i : ℕ) → i < n → kind-of ns i ≡ 4 → SwitchMeans xs ns ts rs r (grammar-of xs ns ts rs n r .node i) (parts-of ns i)
