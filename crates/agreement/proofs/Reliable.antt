@@ -13,7 +13,7 @@ use Rattle.terms.specs.declared.Kind.{Kind}
 use Rattle.evaluation.specs.declared.Counted.{Counted}
 use Rattle.sizes.specs.Sizes.{sizes, countSizes}
 use Rattle.sizes.specs.declared.Sized.{Sized}
-use Rattle.sizes.proofs.Bounds.{Inside}
+use Rattle.sizes.specs.Inside.{Inside}
 use Rattle.sizes.proofs.Forms.{list-passes, counts-passes}
 use Rattle.theory.specs.Hypotheses.{Hypotheses}
 use Rattle.theory.specs.Weight.{Outweighs, Houses}

@@ -17,7 +17,7 @@ use Rattle.evaluation.specs.Meaning.{membership}
 use Rattle.evaluation.specs.Counts.{counts, shown}
 use Rattle.evaluation.specs.declared.Counted.{Counted}
 use Rattle.evaluation.specs.declared.Tested.{Tested}
-use Rattle.sizes.proofs.Bounds.{Inside}
+use Rattle.sizes.specs.Inside.{Inside}
 use Rattle.sizes.proofs.Theorems.{set-passes, condition-passes, counts-pass}
 use Rattle.theory.proofs.Turns.{decide}
 use Rattle.layout.specs.Places.{rule-word, construct-word, variable-word, rule-count, construct-count}

@@ -16,7 +16,7 @@ use Rattle.basis.specs.Bits.{Bits}
 use Rattle.theory.specs.Derivation.{Capture}
 use Rattle.theory.specs.Machine.{entry, state, pending-of, undecided, verdict, verdict-of, state-of, entries, open-state, opened}
 use Rattle.theory.proofs.Turns.{decide}
-use Rattle.sizes.proofs.Bounds.{Below, Inside}
+use Rattle.sizes.specs.Inside.{Below, Inside}
 use Rattle.layout.specs.Places.{construct-count}
 use Rattle.layout.specs.Held.{Values, parts, bound, held}
 use Rattle.acts.specs.Stored.{tests-of}

@@ -10,8 +10,7 @@ use Rattle.theory.specs.Grammar.{alternative, concatenation, repetition, switch
 use Rattle.theory.specs.Lookahead.{Predicted}
 use Rattle.layout.specs.Places.{table-words, table-of}
 use Rattle.layout.specs.Held.{HeldNode, held}
-use Rattle.conflicts.specs.Conflicts.{Conflicting, LeastWindow, FirstTwo, Answered}
-use Rattle.conflicts.specs.Clashes.{FirstHolders}
+use Rattle.conflicts.specs.Conflicts.{FirstHolders, Conflicting, LeastWindow, FirstTwo, Answered}
 use Rattle.conflicts.specs.declared.Clash.{Clash}
 use Rattle.table.specs.Judged.{Least}
 use Rattle.sets.specs.Rules.{Family}

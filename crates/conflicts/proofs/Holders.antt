@@ -10,8 +10,8 @@ use Rattle.basis.specs.Bits.{Bits}
 use Rattle.basis.specs.Lookahead.{number}
 use Rattle.theory.specs.Grammar.{_∈_}
 use Rattle.sets.specs.Rules.{Family}
-use Rattle.conflicts.specs.Windows.{Lowest, Shared, HasNumber, FirstFrom}
-use Rattle.conflicts.specs.Clashes.{FirstHolders}
+use Rattle.conflicts.specs.Windows.{Lowest, Shared, FirstFrom}
+use Rattle.conflicts.specs.Conflicts.{HasNumber, FirstHolders}
 
 module _ (F : Family) (whole : List ℕ) (n end : ℕ) (inside : (k : ℕ) → k ∈ whole → k < end) where
   -- where some part has it, the search finds one

@@ -15,7 +15,8 @@ use Rattle.lookahead.proofs.PassLaws.{is-map}
 use Rattle.theory.specs.Grammar.{_∈_}
 use Rattle.theory.proofs.Turns.{decide}
 use Rattle.sets.specs.Rules.{Family}
-use Rattle.conflicts.specs.Windows.{Lowest, lower-of, Shared, HasNumber, FirstFrom}
+use Rattle.conflicts.specs.Conflicts.{HasNumber}
+use Rattle.conflicts.specs.Windows.{Lowest, lower-of, Shared, FirstFrom}
 use Rattle.conflicts.proofs.Walks.{Split, here, split-next, before-next, all-before}
 
 module _ (P Q : Bits → Type 0) where

@@ -24,8 +24,8 @@ use Rattle.sets.specs.Sets.{FirstSets, FollowSets, PredictionSets}
 use Rattle.sets.proofs.PartLaws.{parts-siblings}
 use Rattle.sets.proofs.HeldLaws.{Fine, fine, node-inside}
 use Rattle.conflicts.specs.Windows.{Lowest, Shared}
-use Rattle.conflicts.specs.Clashes.{FirstHolders, Common, Branching, Turning, Repeating, NoClash, ClashOf, EmptyAt}
-use Rattle.conflicts.specs.Conflicts.{Conflicting, LeastWindow, Answered}
+use Rattle.conflicts.specs.Clashes.{Common, Branching, Turning, Repeating, NoClash, ClashOf, EmptyAt}
+use Rattle.conflicts.specs.Conflicts.{FirstHolders, Conflicting, LeastWindow, Answered}
 use Rattle.conflicts.specs.declared.Clash.{Clash}
 use Rattle.conflicts.proofs.Walks.{lies}
 use Rattle.conflicts.proofs.Lows.{lowest-map}

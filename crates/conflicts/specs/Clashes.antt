@@ -1,28 +1,18 @@
 -- What a construct's answer says of the computed sets, for any words. Only the crate's own helpers promise this: `Conflicts` says what it
 -- means for the grammar of well laid out words.
 -- Assumes nothing.
-use Prim.Native.Nat.{ℕ, _+_, _≤_, _<_}
+use Prim.Native.Nat.{ℕ, _+_, _<_}
 use mathlib.Core.Path.{_≡_}
-use mathlib.Core.Logic.{_⊎_}
 use mathlib.Core.Bool.{Bool, true, false}
 use mathlib.Core.List.{List, []}
 use Rattle.basis.specs.Bits.{Bits}
-use Rattle.theory.specs.Grammar.{_∈_}
 use Rattle.layout.specs.Held.{passes-fixed}
 use Rattle.layout.specs.declared.Construct.{Construct}
 use Rattle.sets.specs.Rules.{Family}
 use Rattle.sets.specs.Parts.{siblings}
-use Rattle.conflicts.specs.Windows.{Lowest, Shared, HasNumber}
+use Rattle.conflicts.specs.Windows.{Lowest, Shared}
+use Rattle.conflicts.specs.Conflicts.{FirstHolders}
 use Rattle.conflicts.specs.declared.Clash.{Clash}
-
--- the first two of these parts that have the string with number n
-pub record FirstHolders (F : Family) (is : List ℕ) (n first second : ℕ) : Type 0 where
-  pub first-listed : first ∈ is
-  pub second-listed : second ∈ is
-  pub in-order : first < second
-  pub first-has : HasNumber F first n
-  pub second-has : HasNumber F second n
-  pub others : (j : ℕ) → j ∈ is → HasNumber F j n → (j ≡ first) ⊎ (second ≤ j)
 
 -- strings that both sets have
 abbrev pub Common : (Bits → Type 0) → (Bits → Type 0) → Bits → Type 0

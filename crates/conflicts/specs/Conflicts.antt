@@ -1,15 +1,30 @@
 -- Refusals 9 and 10 over a table's words. What they are is the theory's `EmptyBody` and `Conflict`.
 -- Assumes nothing.
-use Prim.Native.Nat.{ℕ}
+use Prim.Native.Nat.{ℕ, _≤_, _<_}
 use mathlib.Core.Path.{_≡_}
+use mathlib.Core.Logic.{_⊎_}
 use mathlib.Core.List.{List}
 use Rattle.basis.specs.Bits.{Bits}
 use Rattle.basis.specs.Lookahead.{number}
-use Rattle.theory.specs.Grammar.{alternative}
+use Rattle.theory.specs.Grammar.{_∈_, alternative}
 use Rattle.theory.specs.Lookahead.{Predicted, Conflict, LeastConflict}
 use Rattle.layout.specs.Held.{held}
-use Rattle.conflicts.specs.Clashes.{FirstHolders}
 use Rattle.conflicts.specs.declared.Clash.{Clash}
+
+-- ---- of sets of windows, one for each construct
+
+-- construct j has the window with number n
+abbrev pub HasNumber : (ℕ → Bits → Type 0) → ℕ → ℕ → Type 0
+HasNumber F j n = (x : Bits) × (number x ≡ n) × F j x
+
+-- the first two of these parts that have the window with number n
+pub record FirstHolders (F : ℕ → Bits → Type 0) (is : List ℕ) (n first second : ℕ) : Type 0 where
+  pub first-listed : first ∈ is
+  pub second-listed : second ∈ is
+  pub in-order : first < second
+  pub first-has : HasNumber F first n
+  pub second-has : HasNumber F second n
+  pub others : (j : ℕ) → j ∈ is → HasNumber F j n → (j ≡ first) ⊎ (second ≤ j)
 
 module _ (ws : List ℕ) (i : ℕ) where
   -- construct i has a conflict (01's clash)

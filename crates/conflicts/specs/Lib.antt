@@ -1,3 +1,3 @@
+pub mod Conflicts
 pub mod Windows
 pub mod Clashes
-pub mod Conflicts

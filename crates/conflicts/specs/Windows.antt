@@ -10,6 +10,7 @@ use Rattle.basis.specs.Lookahead.{number}
 use Rattle.theory.specs.Grammar.{_∈_}
 use Rattle.layout.specs.Constructs.{pick}
 use Rattle.sets.specs.Rules.{Family}
+use Rattle.conflicts.specs.Conflicts.{HasNumber}
 
 -- n is the least number of the strings that P names; 0 where there are none
 pub record Lowest (P : Bits → Type 0) (n : ℕ) : Type 0 where
@@ -30,10 +31,6 @@ pub record Shared (F : Family) (is : List ℕ) (x : Bits) : Type 0 where
   pub apart : one ≢ other
   pub one-has : F one x
   pub other-has : F other x
-
--- part j has the string with number n
-abbrev pub HasNumber : Family → ℕ → ℕ → Type 0
-HasNumber F j n = (x : Bits) × (number x ≡ n) × F j x
 
 -- the first of these parts, from number `from` on, that has the string with number n; `end` where none has it
 pub record FirstFrom (F : Family) (is : List ℕ) (from n end r : ℕ) : Type 0 where

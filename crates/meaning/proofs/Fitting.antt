@@ -19,7 +19,7 @@ use Rattle.evaluation.specs.declared.Counted.{Counted}
 use Rattle.evaluation.specs.declared.Tested.{Tested}
 use Rattle.sizes.specs.Sizes.{ofCalculated, ofTested, ofCounted, judged, sizes, countSizes}
 use Rattle.sizes.specs.declared.Sized.{Sized}
-use Rattle.sizes.proofs.Bounds.{Inside}
+use Rattle.sizes.specs.Inside.{Inside}
 use Rattle.layout.specs.Held.{Values}
 use Rattle.meaning.specs.Meaning.{counted}
 use Rattle.meaning.specs.Claims.{ListFits, CountsFit}

@@ -15,7 +15,7 @@ use Rattle.terms.specs.declared.Term.{Term}
 use Rattle.evaluation.specs.Variables.{hasVariable}
 use Rattle.sizes.specs.Sizes.{sizes, ofTally}
 use Rattle.sizes.specs.declared.Sized.{Sized}
-use Rattle.sizes.proofs.Bounds.{Inside}
+use Rattle.sizes.specs.Inside.{Inside}
 use Rattle.trees.specs.Trees.{ValueSet, has, Condition, true-at, Repeats, exact, on-from, up-to, spanning, repeats}
 use Rattle.trees.specs.Postfix.{setTerms, conditionTerms, repeatTerms}
 use Rattle.theory.specs.Grammar.{_∈_, repetition, switch, field}

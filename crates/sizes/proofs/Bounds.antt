@@ -10,6 +10,7 @@ use borrow.Author.Tests.{ltb-true, leb-true, leb-false}
 use lib.Dec.{leb, ltb}
 use lib.ListN.{length, getD}
 use lib.IntN.{ℤ, pos, negsuc, natAbs, negℤ, _+ℤ_, _-ℤ_, _*ℤ_}
+use Rattle.sizes.specs.Inside.{Below, Inside}
 use Rattle.wholes.proofs.Laws.{natAbs-neg, abs-product, bounded-in, bounded-out}
 use Rattle.terms.specs.Numbers.{pick, bounded, differenceOf, oppositeOf, pushed, kept, topOf, pairOf}
 use Rattle.terms.specs.Steps.{variableOf, binary, unary, operateOf}
@@ -19,11 +20,6 @@ use Rattle.terms.specs.declared.Operation.{Operation}
 use Rattle.terms.specs.declared.Outcome.{Outcome}
 
 -- ---- one number and its size
-
-pub record Below (a z : ℤ) : Type 0 where
-  pub size : ℕ
-  pub is : z ≡ pos size
-  pub le : natAbs a ≤ size
 
 abs-cond : (c : Bool) (x y k : ℕ) → suc x ≤ k → y ≤ k → natAbs (cond c (negsuc x) (pos y)) ≤ k
 abs-cond true x y k p q = p
@@ -111,11 +107,7 @@ unary-kept f g h (two {b = b} {b′ = b′} p q) = kept-kept (f b) (g b′) (one
 unary-kept f g h (three {c = c} {c′ = c′} p q r) = kept-kept (f c) (g c′) (two p q) (h c c′ r)
 unary-kept f g h (four {d = d} {d′ = d′} p q r u) = kept-kept (f d) (g d′) (three p q r) (h d d′ u)
 
--- ---- the variables: each value is below its size
-
-pub record Inside (env widest : List ℤ) : Type 0 where
-  pub same : length env ≡ length widest
-  pub each : (k : ℕ) → k < length widest → Below (getD env k (pos 0)) (getD widest k (pos 0))
+-- ---- the variables
 
 module _ (env widest : List ℤ) (inside : Inside env widest) where
   variable-kept : (k : ℕ) {s s′ : Numbers} → Smaller s s′ → Kept (variableOf env k s) (variableOf widest k s′)

@@ -21,7 +21,8 @@ use Rattle.terms.specs.declared.Operation.{Operation}
 use Rattle.terms.specs.declared.Outcome.{Outcome}
 use Rattle.terms.specs.declared.Term.{Term}
 use Rattle.terms.specs.declared.Trial.{Trial}
-use Rattle.sizes.proofs.Bounds.{Smaller, none, one, two, three, four, Kept, Inside, operate-kept}
+use Rattle.sizes.specs.Inside.{Inside}
+use Rattle.sizes.proofs.Bounds.{Smaller, none, one, two, three, four, Kept, operate-kept}
 use Rattle.sizes.proofs.Depths.{SameDepth, depth-more, depth-below, depth-past, depth-less}
 
 -- where sizes go on, values (or smaller sizes) go on with smaller numbers and equally many tests, and where they are malformed so are values

@@ -22,7 +22,7 @@ use Rattle.evaluation.specs.declared.Counted.{Counted}
 use Rattle.evaluation.specs.declared.Form.{Form}
 use Rattle.sizes.specs.Sizes.{countSizes}
 use Rattle.sizes.specs.declared.Sized.{Sized}
-use Rattle.sizes.proofs.Bounds.{Inside}
+use Rattle.sizes.specs.Inside.{Inside}
 use Rattle.sizes.proofs.Theorems.{counts-pass}
 use Rattle.trees.specs.Trees.{Calculation, value, Repeats, exact, on-from, up-to, spanning, repeats}
 use Rattle.trees.specs.Postfix.{lastSign, before, calculationTerms, repeatTerms}

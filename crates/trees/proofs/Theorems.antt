@@ -22,7 +22,7 @@ use Rattle.evaluation.specs.declared.Calculated.{Calculated}
 use Rattle.evaluation.specs.declared.Tested.{Tested}
 use Rattle.sizes.specs.Sizes.{ofCalculated, ofTested, sizes}
 use Rattle.sizes.specs.declared.Sized.{Sized}
-use Rattle.sizes.proofs.Bounds.{Inside}
+use Rattle.sizes.specs.Inside.{Inside}
 use Rattle.sizes.proofs.Theorems.{calculation-passes, set-passes, condition-passes}
 use Rattle.trees.specs.Trees.{Calculation, value, ValueSet, has, Condition, true-at}
 use Rattle.trees.specs.Postfix.{calculationTerms, setTerms, conditionTerms}
