@@ -26,9 +26,13 @@ pub struct Answer {
     pub words: [u64; ANSWER_WORDS],
 }
 
+pub fn admit_into(text: &Guarded<u8>, table: &mut Guarded<u32>, words: &mut Guarded<u64>) -> usize {
+    unsafe { songrafter_admit(text.pointer(), text.length, table.pointer_mut(), table.length, words.pointer_mut(), words.length) }
+}
+
 pub fn admit(text: &Guarded<u8>, table: &mut Guarded<u32>) -> Answer {
     let mut words = Guarded::new(&[u64::MAX; ANSWER_WORDS]);
-    let number = unsafe { songrafter_admit(text.pointer(), text.length, table.pointer_mut(), table.length, words.pointer_mut(), words.length) };
+    let number = admit_into(text, table, &mut words);
     Answer { number, words: words.values().try_into().expect("five words") }
 }
 

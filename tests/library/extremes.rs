@@ -8,8 +8,12 @@ use reference::random::Random;
 
 const HEADER: &[u8] = b"dogma_v1 utf-8\n\n";
 
+pub fn texts() -> Vec<Vec<u8>> {
+    [one_byte(), nested(), endless()].concat()
+}
+
 pub fn report() {
-    let texts = [one_byte(), nested(), endless()].concat();
+    let texts = texts();
     let mut tally = Tally::default();
     for (seed, text) in texts.iter().enumerate() {
         if let Err(why) = check(text, &mut Random::new(seed as u64), &mut tally) {

@@ -1,6 +1,6 @@
 // Compares the compiled library with the reference implementation: `library vectors FOLDER`, `library extremes`, `library compare
 // SEED TEXTS` (random and damaged texts, frames and grants), `library forged SEED RUNS` (forged tables and runs), `library bench FOLDER`, `library
-// stack`. Every array that the library is lent ends where a page begins that nobody may touch, so that a read or write past it ends the program.
+// stack FOLDER`. Every array that the library is lent ends where a page begins that nobody may touch, so that a read or write past it ends the program.
 mod bench;
 mod calls;
 mod compare;
@@ -20,9 +20,8 @@ fn main() {
         ["extremes"] => extremes::report(),
         ["forged", seed, runs] => forged::report(number(seed), number(runs)),
         ["bench", folder] => bench::report(Path::new(folder)),
-        ["stack"] => stack::report(),
-        ["probe", call, kb] => stack::probe(call, number(kb) as usize),
-        _ => panic!("use: library vectors FOLDER | compare SEED TEXTS | extremes | forged SEED RUNS | bench FOLDER | stack"),
+        ["stack", folder] => stack::report(Path::new(folder)),
+        _ => panic!("use: library vectors FOLDER | compare SEED TEXTS | extremes | forged SEED RUNS | bench FOLDER | stack FOLDER"),
     }
 }
 

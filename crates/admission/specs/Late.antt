@@ -12,7 +12,7 @@ use Rattle.conflicts.specs.Conflicts.{Conflicting, Answered}
 use Rattle.conflicts.specs.declared.Clash.{Clash}
 use Rattle.form.specs.Laid.{laid}
 use Rattle.table.specs.declared.Judgement.{Judgement}
-use Rattle.table.specs.Judged.{Passed9, Passed10, Least, Weighing}
+use Rattle.table.specs.Judged.{number-of, Passed9, Passed10, Least, Weighing}
 use Rattle.table.specs.Sound.{Sound}
 use Rattle.soundness.specs.OneTable.{Alike}
 use Rattle.naming.specs.Words.{node-word, place-of, named-at}
@@ -87,7 +87,7 @@ abbrev pub answer-for : List ℕ → List ℕ → ℕ → ℕ → Judgement → 
 answer-for ns rs base mark Judgement.Unlaid = Admission.Refused 0 0
 answer-for ns rs base mark (Judgement.Recursive rule) = Admission.Refused 0 0
 answer-for ns rs base mark (Judgement.Oversized construct) = Admission.Refused 0 0
-answer-for ns rs base mark (Judgement.EmptyBody construct) = Admission.Refused 9 (base + mark)
+answer-for ns rs base mark (Judgement.EmptyBody construct) = Admission.Refused (number-of (Judgement.EmptyBody construct)) (base + mark)
 answer-for ns rs base mark (Judgement.Conflict construct clash) = Admission.Conflict (base + place-of ns construct) construct clash
-answer-for ns rs base mark Judgement.Overweight = Admission.Refused 11 (base + named-at rs 0)
+answer-for ns rs base mark Judgement.Overweight = Admission.Refused (number-of Judgement.Overweight) (base + named-at rs 0)
 answer-for ns rs base mark (Judgement.Passes weight) = Admission.Admitted weight

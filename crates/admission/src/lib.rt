@@ -15,9 +15,9 @@ ghost use Rattle.naming.specs.Words.{node-word, place-of, named-at};
 ghost use Rattle.admission.specs.Admitted.{words-of, Right, Named, Straight, AnsweredRules, Answers};
 ghost use Rattle.admission.specs.Late.{LaidFor, MarkFor, answer-for, Late, HandedOver, Within};
 
-pub mod copying;
-pub mod extents;
-pub mod marks;
+mod copying;
+mod extents;
+mod marks;
 
 // The answer to a text: its grammar's weight, or a number of document 01 with a place; a conflict (10) with its construct, and the least
 // window with the branches that share it.

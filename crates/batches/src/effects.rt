@@ -17,7 +17,7 @@ ghost use Rattle.terms.specs.Numbers.{topOf, pairOf};
 ghost use Rattle.batches.specs.Effects.{clip, itemOf, equalTurn, fromTurn, upToTurn, pairTurn, partTurn, singleTurn, turnOf};
 
 // The number itself, 0 for one below.
-pub fn natural(a: i64) -> u64
+fn natural(a: i64) -> u64
     ensures { λ r. ⌜ r ≡ clip a ⌝ }
 {
     if negative(a) { 0 } else { magnitude(a) }

@@ -1,6 +1,13 @@
 // Tables of the bench sheet's grammars, laid out by hand, for programs that try them. Their sets are 0 but where a function says otherwise.
+ghost use mathlib.Core.Path.{_≡_};
+ghost use mathlib.Core.Bool.{cond};
+ghost use lib.Dec.{ltb};
+ghost use lib.ListN.{set};
 
-pub fn put(table: &mut [u32; 16384], k: usize, w: u32) {
+// A word of a table; past its end nothing is written.
+pub fn put(table: &mut [u32; 16384], k: usize, w: u32)
+    ensures { λ r. ⌜ now (table .exit) ≡ cond (ltb k 16384) (set (now (table .entry)) k w) (now (table .entry)) ⌝ }
+{
     if k < 16384 {
         table[k] = w;
     }

@@ -18,7 +18,7 @@ use sets::parts::set_of;
 use terms::Term;
 use terms::decode::term_at;
 
-pub mod windows;
+mod windows;
 
 // A conflict of one construct, with the number of its least window: two branches of an alternative, or continue and exit of a repetition.
 pub enum Clash {

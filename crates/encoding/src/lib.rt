@@ -1,5 +1,5 @@
 // The words of a table from what is read.
 pub mod areas;
-pub mod constructs;
+mod constructs;
 pub mod numbers;
-pub mod put;
+mod put;

@@ -15,11 +15,11 @@ ghost use Rattle.layout.specs.Places.{construct-count};
 ghost use Rattle.form.specs.Laid.{counts-limited, headed as headedOf, rest-zero, placed as placedOf, laid as laidOf};
 
 pub mod checks;
-pub mod constructs;
+mod constructs;
 pub mod lists;
-pub mod names;
-pub mod parts;
-pub mod rules;
+mod names;
+mod parts;
+mod rules;
 
 fn counts(table: &[u32]) -> bool
     ensures { λ r. ⌜ r ≡ counts-limited (now (table .entry)) ⌝ }

@@ -11,7 +11,7 @@ ghost use Rattle.layout.specs.Constructs.{both as bothOf};
 ghost use Rattle.form.specs.Checks.{size-at};
 ghost use Rattle.form.specs.Parts.{conditioned as conditionedOf, unconditioned as unconditionedOf, default-at, part-laid, parts-laid};
 
-pub fn conditioned(table: &[u32], i: usize) -> bool
+fn conditioned(table: &[u32], i: usize) -> bool
     requires { ⌜ i ≤ 4294967296 ⌝ }
     ensures { λ r. ⌜ r ≡ conditionedOf (now (table .entry)) i ⌝ }
 {

@@ -1,4 +1,4 @@
 // Calculations, sets, counts in braces and conditions, as lists of terms.
-pub mod calculations;
+mod calculations;
 pub mod conditions;
 pub mod sets;

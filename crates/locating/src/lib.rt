@@ -14,7 +14,7 @@ ghost use Rattle.admission.specs.Admitted.{form};
 ghost use Rattle.locating.specs.Faults.{from-base, rule-number, first-rule, name-fault};
 ghost use Rattle.locating.specs.Located.{totals-of, answered, located-in, located};
 
-pub mod faults;
+mod faults;
 
 // A construct by its number; the rule that a place lies in; the rule that has the name at a place; what is wrong with the name at a place.
 pub enum Query {

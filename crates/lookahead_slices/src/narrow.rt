@@ -2,25 +2,9 @@
 ghost use mathlib.Core.Path.{_≡_};
 ghost use Prim.Native.Nat.{_+_, _*_, _/_, _%_, _^_, _≤_};
 ghost use lib.ListN.{length};
-ghost use Rattle.basis.specs.Bits.{Bits};
-ghost use Rattle.basis.specs.Lookahead.{number};
 ghost use Rattle.lookahead.specs.Sets.{Decides};
-ghost use Rattle.lookahead_slices.specs.Narrow.{HasAt, StandsAt, Put};
+ghost use Rattle.lookahead_slices.specs.Narrow.{StandsAt, Put};
 use lookahead::Set;
-
-// Whether the string with number n is in the set; no other number is.
-pub fn contains(table: &[u32], at: usize, n: usize) -> bool
-    requires { ⌜ at + 16 ≤ length (now table) ⌝ }
-    ensures { λ r. ⌜ Decides r ((s : Bits) × (number s ≡ n) × HasAt (now (table .entry)) at s) ⌝ }
-{
-    if n == 0 {
-        return false;
-    }
-    if n < 512 {
-        return (table[at + n / 32] >> (n % 32)) % 2 == 1;
-    }
-    false
-}
 
 // The lower half of a word where k is even, else the upper.
 fn half(w: u64, k: usize) -> u32

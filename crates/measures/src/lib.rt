@@ -115,7 +115,7 @@ fn exceeds(sized: Sized) -> bool
 }
 
 // Whether a size in one of its lists may pass 2^62.
-pub fn oversized(table: &[u32], widest: &[i64; 64], i: usize) -> bool
+fn oversized(table: &[u32], widest: &[i64; 64], i: usize) -> bool
     requires { ⌜ (16384 ≤ length (now table)) × (i ≤ 4294967296) × (now widest ≡ widestOf (now table)) ⌝ }
     ensures { λ r. ⌜ r ≡ oversizedOf (now (table .entry)) i ⌝ }
 {

@@ -3,7 +3,7 @@
 // nothing changes.
 mod fields;
 pub mod first;
-pub mod follow;
+mod follow;
 pub mod parts;
 pub mod prediction;
 mod rules;

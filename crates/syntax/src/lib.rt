@@ -1,4 +1,4 @@
 // The syntax of a text: rules, expressions, and what they are made of.
-pub mod expressions;
-pub mod fields;
+mod expressions;
+mod fields;
 pub mod rules;

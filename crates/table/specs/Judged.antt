@@ -14,6 +14,16 @@ use Rattle.measures.specs.Measures.{oversized}
 use Rattle.conflicts.specs.Conflicts.{Conflicting, Answered}
 use Rattle.table.specs.declared.Judgement.{Judgement}
 
+-- this paper's number; 0 is none. Words that are not laid out are no table: "table not sound"
+abbrev pub number-of : Judgement → ℕ
+number-of Judgement.Unlaid = 23
+number-of (Judgement.Recursive rule) = 7
+number-of (Judgement.Oversized construct) = 8
+number-of (Judgement.EmptyBody construct) = 9
+number-of (Judgement.Conflict construct clash) = 10
+number-of Judgement.Overweight = 11
+number-of (Judgement.Passes weight) = 0
+
 -- the least construct with the property
 pub record Least (ws : List ℕ) (P : ℕ → Type 0) (i : ℕ) : Type 0 where
   pub there : i < construct-count ws

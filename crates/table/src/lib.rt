@@ -174,13 +174,3 @@ pub fn judge_into(
     }
     answer
 }
-
-// What any words are: the first of 5 to 11 that they do not pass, with the construct or rule at fault, or their weight.
-pub fn judge(table: &[u32]) -> Judgement
-    ensures { λ r. ⌜ Judged (now (table .entry)) r ⌝ }
-{
-    let mut first = [0u64; 2056];
-    let mut follow = [0u64; 2056];
-    let mut prediction = [0u64; 2056];
-    judge_into(table, &mut first, &mut follow, &mut prediction)
-}

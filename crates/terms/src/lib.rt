@@ -11,10 +11,10 @@
 //
 // An item that is one value, `a`, has no sign of its own: the last term of its calculation, tag 1 to 6, has 32 added to its tag.
 pub mod decode;
-pub mod modes;
+mod modes;
 pub mod stack;
 pub mod step;
-pub mod truths;
+mod truths;
 
 // What a number, a variable's use or a sign of a calculation does. `Unknown` is no such term.
 pub enum Operation {

@@ -7,7 +7,7 @@ use wholes::Checked;
 ghost use mathlib.Core.Path.{_≡_};
 ghost use Rattle.terms.specs.Numbers.{pushed, kept, topOf, pairOf};
 
-pub fn push(numbers: Numbers, last: i64) -> Outcome
+fn push(numbers: Numbers, last: i64) -> Outcome
     ensures { λ r. ⌜ r ≡ pushed numbers last ⌝ }
 {
     match numbers {

@@ -42,7 +42,7 @@ pub fn digit(b: u8) -> bool
     within(48, b, 57)
 }
 
-pub fn name_byte(b: u8) -> bool
+fn name_byte(b: u8) -> bool
     ensures { λ r. ⌜ r ≡ is-name b ⌝ }
 {
     either(letter(b), either(digit(b), b == 95))

@@ -7,7 +7,6 @@ use mathlib.Core.List.{List, [], _∷_}
 use lib.Dec.{eqb}
 use lib.ListN.{take, drop}
 use Rattle.text.specs.Spans.{is-word}
-use Rattle.tokens.specs.declared.Word.{Word}
 
 -- the words, each as its bytes
 abbrev pub reserved-words : List (List ℕ)
@@ -64,10 +63,6 @@ word-number k (word ∷ more) name = cond (is-word false word name) k (word-numb
 -- a reserved word by its number, from 1; 0 of any other name
 abbrev pub reserved-of : List ℕ → ℕ
 reserved-of name = word-number 1 reserved-words name
-
--- what a reserved word is to the form of rules: three open a form of their own
-abbrev pub word-of : ℕ → Word
-word-of number = cond (eqb number 0) Word.Plain (cond (eqb number 9) Word.Var (cond (eqb number 10) Word.Eod (cond (eqb number 12) Word.Uint Word.Reserved)))
 
 -- the bytes of a name from `start` up to `end`
 abbrev pub name-of : List ℕ → ℕ → ℕ → List ℕ

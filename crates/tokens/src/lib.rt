@@ -1,5 +1,5 @@
 // Tokens of a grammar's rules. Nothing is stored: a token is found at a place.
-pub mod gaps;
+mod gaps;
 pub mod names;
 pub mod numbers;
 pub mod tokens;
@@ -44,14 +44,4 @@ pub struct Token {
     pub start: usize,
     pub end: usize,
     pub kind: Kind,
-}
-
-// What a name is to the form of rules.
-pub enum Word {
-    Plain,
-    Uint,
-    Var,
-    Eod,
-    // any other reserved word
-    Reserved,
 }

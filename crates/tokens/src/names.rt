@@ -1,5 +1,4 @@
-// Names: reserved words, and whether two are one.
-use crate::Word;
+// Names: reserved words.
 use text::Class;
 use text::spans::span;
 use text::spans::spells;
@@ -7,7 +6,7 @@ ghost use mathlib.Core.Path.{_≡_};
 ghost use Prim.Native.Nat.{_≤_};
 ghost use lib.ListN.{length};
 ghost use Rattle.text.specs.Header.{lines};
-ghost use Rattle.tokens.specs.Names.{word-number, reserved-of, word-of, name-of, is-same};
+ghost use Rattle.tokens.specs.Names.{word-number, reserved-of};
 
 // The number of a name in a list of words that each end with LF, from 1; 0 where it is none of them.
 fn number_in(words: &[u8], name: &[u8]) -> usize
@@ -37,32 +36,4 @@ pub fn reserved(name: &[u8]) -> usize
         b"sized\naligned\nreversed\nordered\nbyte_order\nbom_ordered\npeek\noffset\nvar\neod\nunicode\nuint\nsint\nfloat\ninf\nnan\nnzero\nordering\nunicode_categories\nmsb\nlsb\n",
         name,
     )
-}
-
-// Whether the names from a up to p and from b up to q are one.
-pub fn same_name(text: &[u8], a: usize, p: usize, b: usize, q: usize) -> bool
-    requires { ⌜ (a ≤ p) × (p ≤ length (now text)) × (b ≤ q) × (q ≤ length (now text)) ⌝ }
-    ensures { λ r. ⌜ r ≡ is-same (name-of (now (text .entry)) a p) (name-of (now (text .entry)) b q) ⌝ }
-{
-    spells(false, &text[a..p], &text[b..q])
-}
-
-fn word(number: usize) -> Word
-    ensures { λ r. ⌜ r ≡ word-of number ⌝ }
-{
-    match number {
-        0 => Word::Plain,
-        9 => Word::Var,
-        10 => Word::Eod,
-        12 => Word::Uint,
-        _ => Word::Reserved,
-    }
-}
-
-// What the name from `start` up to `end` is.
-pub fn word_at(text: &[u8], start: usize, end: usize) -> Word
-    requires { ⌜ (start ≤ end) × (end ≤ length (now text)) ⌝ }
-    ensures { λ r. ⌜ r ≡ word-of (reserved-of (name-of (now (text .entry)) start end)) ⌝ }
-{
-    word(reserved(&text[start..end]))
 }

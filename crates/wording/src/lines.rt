@@ -112,7 +112,7 @@ fn from_of(start: usize, at: usize) -> usize
 }
 
 // The line, with a mark under the place.
-pub fn marked(grammar: &[u8], at: usize) {
+fn marked(grammar: &[u8], at: usize) {
     let start = line_of(grammar, at).start;
     let end = line_end(grammar, at);
     let from = from_of(start, at);
