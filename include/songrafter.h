@@ -4,11 +4,13 @@
  * handed has to be checked first. What each call promises is proved (docs/CONFORMANCE.md), for memory that is
  * handed to it as said here:
  *
- * - A pointer with a length is an array of that many elements. No pointer is null, also where the length is 0.
+ * - A pointer with a length is an array of that many elements. Where the length is 0 it may be null.
  * - Arrays that a call writes to overlap no other array of that call.
  * - All memory is the caller's. Nothing is kept between calls: no allocation, no global state, no lock. So calls
  *   may run on several threads at once, as long as no array that one writes to is used by another.
- * - The stack that each call takes is in README.md ("Figures").
+ * - A call needs at most the stack that SONGRAFTER_STACK_… says below.
+ *
+ * The archive is for x86-64 (System V calling convention), and needs memcpy and memset of a C library, nothing else.
  */
 #ifndef SONGRAFTER_H
 #define SONGRAFTER_H
@@ -28,6 +30,13 @@ extern "C" {
 #define SONGRAFTER_READING_WORDS 4096u  /* room that is enough for every frame, in uint32_t: two words for each bit */
 #define SONGRAFTER_RUN_BYTES 2596u      /* a saved run */
 #define SONGRAFTER_VARIABLES 64u        /* values of a run */
+
+/* Stack, in bytes, that is enough for each call: more than the deepest text found took (`sh tests/figures`), and every
+ * test of the library runs them on stacks of exactly this size. */
+#define SONGRAFTER_STACK_ADMIT 204800u /* songrafter_admit */
+#define SONGRAFTER_STACK_OPEN 81920u   /* songrafter_open */
+#define SONGRAFTER_STACK_GRANT 16384u  /* songrafter_grant */
+#define SONGRAFTER_STACK_ACCESS 8192u  /* songrafter_verdict and the others that read a saved run */
 
 /* Numbers of refusal. 0 is no refusal. */
 enum {
@@ -75,14 +84,19 @@ size_t songrafter_open(const uint32_t *table, size_t table_len, const uint8_t *f
 /* Grants steps to a run. Answers 0, or 21 or 24, and then neither the run nor its reading changes. The run, its
  * reading (two words for each field: construct, first bit) and, where `taken_len` is not 0, the count of the steps
  * taken in taken[0], 0 where the grant is refused, are written. A run that is decided, closed or broken takes none.
- * Keep table, frame and run as they are between two grants; other ones are answered all the same, and at worst the
- * run ends as broken. */
+ * A verdict means something only for a run that songrafter_open answered with 0, on this table and for this frame, with
+ * run, table and frame kept as they were between two grants. Other ones are answered all the same, within the steps
+ * that the table's weight allows and with no word written out of place; but over a changed table or frame, or of a
+ * forged run, match, no match and broken say nothing. */
 size_t songrafter_grant(const uint32_t *table, size_t table_len, const uint8_t *frame, size_t frame_len,
                         uint32_t *reading, size_t reading_len, uint8_t *run, size_t run_len, uint64_t steps,
                         uint64_t *taken, size_t taken_len);
 
-/* Of a saved run: its verdict, the steps that it has taken, the fields recorded in its reading, and the value of
- * variable k (0 from 64 on). A slice that is not 2,596 bytes is read as a closed run. */
+/* Of a saved run: its verdict, the steps that it has taken, the fields recorded in its reading, its position (the bits
+ * read), and the value of variable k (0 from 64 on). They say what stands in the bytes, whatever that is; a slice that is
+ * not 2,596 bytes is read as a closed run. Of a run that comes from outside ask songrafter_grant for 0 steps first: where
+ * the run does not fit table, frame and reading it answers 24, and only where it answers 0 do the fields lie within the
+ * reading (a loop up to songrafter_fields over a forged run reads past it) and do fields and values mean something. */
 uint32_t songrafter_verdict(const uint8_t *run, size_t run_len);
 uint64_t songrafter_steps(const uint8_t *run, size_t run_len);
 uint64_t songrafter_fields(const uint8_t *run, size_t run_len);
