@@ -8,3 +8,4 @@ pub mod Judging
 pub mod Answering
 pub mod Stages
 pub mod HeaderPlaces
+pub mod Handing

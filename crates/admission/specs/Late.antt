@@ -2,7 +2,7 @@
 -- Assumes nothing.
 use Prim.Native.Nat.{ℕ, _+_, _≤_, _<_}
 use mathlib.Core.Path.{_≡_}
-use mathlib.Core.Bool.{true}
+use mathlib.Core.Bool.{Bool, true, false}
 use mathlib.Core.List.{List}
 use lib.ListN.{length, take, drop}
 use Rattle.theory.specs.Lookahead.{EmptyBody}
@@ -48,6 +48,12 @@ abbrev pub Late : (ns rs : List ℕ) → (base : ℕ) → (old new : List ℕ) �
 Late ns rs base old new (Admission.Admitted weight) = LatePass weight old new
 Late ns rs base old new (Admission.Refused number place) = LateRefused ns rs base old number place
 Late ns rs base old new (Admission.Conflict place construct clash) = LateClash ns base old place construct clash
+
+-- the table goes to the caller
+abbrev pub is-admitted : Admission → Bool
+is-admitted (Admission.Admitted weight) = true
+is-admitted (Admission.Refused number place) = false
+is-admitted (Admission.Conflict place construct clash) = false
 
 -- an admitted grammar's table is the first 16,384 words, and nothing else changes
 abbrev pub HandedOver : Admission → (words old new : List ℕ) → Type 0

@@ -13,7 +13,7 @@ ghost use Rattle.table.specs.Judged.{Passed8};
 ghost use Rattle.parsing.specs.Cursors.{state-at};
 ghost use Rattle.naming.specs.Words.{node-word, place-of, named-at};
 ghost use Rattle.admission.specs.Admitted.{words-of, Right, Named, Straight, AnsweredRules, Answers};
-ghost use Rattle.admission.specs.Late.{LaidFor, MarkFor, answer-for, Late, HandedOver, Within};
+ghost use Rattle.admission.specs.Late.{LaidFor, MarkFor, answer-for, Late, is-admitted, HandedOver, Within};
 
 mod copying;
 mod extents;
@@ -129,27 +129,32 @@ fn judged(nodes: &[usize], rules: &[usize], base: usize, words: &mut [u32]) -> A
     answer_for(judgement, nodes, rules, base, mark)
 }
 
+fn is_admitted(answer: Admission) -> bool
+    ensures { λ r. ⌜ r ≡ is-admitted answer ⌝ }
+{
+    match answer {
+        Admission::Admitted { weight: _ } => true,
+        Admission::Refused {
+            number: _,
+            place: _,
+        } => false,
+        Admission::Conflict {
+            place: _,
+            construct: _,
+            clash: _,
+        } => false,
+    }
+}
+
 // An admitted grammar's table goes to the caller.
 fn handed_over(answer: Admission, words: &[u32], table: &mut [u32]) -> Admission
     requires { ⌜ (length (now words) ≡ 16384) × (16384 ≤ length (now table)) ⌝ }
     ensures { λ r. ⌜ (r ≡ answer) × HandedOver answer (now (words .entry)) (now (table .entry)) (now (table .exit)) ⌝ }
 {
-    match answer {
-        Admission::Admitted { weight } => {
-            copying::copy(words, table);
-            Admission::Admitted { weight }
-        }
-        Admission::Refused { number, place } => Admission::Refused { number, place },
-        Admission::Conflict {
-            place,
-            construct,
-            clash,
-        } => Admission::Conflict {
-            place,
-            construct,
-            clash,
-        },
+    if is_admitted(answer) {
+        copying::copy(words, table);
     }
+    answer
 }
 
 // 8 to 11, of words in which no rule reaches itself.
