@@ -56,11 +56,11 @@ module _ (ws fs : List ℕ) where
 
     again-fits : (k b : ℕ) → Fits fs (again-done fs cs ps vs rs h k b)
     again-fits k b =
-        picked (both (ltb (h .count) 256) (ltb k 4294967295))
+        picked (both (ltb (h .count) 256) (ltb k (bits-of fs + 1)))
         (whole (set cs (h .count) b) (set (set ps (h .count - 1) (k + 1)) (h .count) 0) vs rs (taken fs h (h .count + 1) (h .position) (h .captures)))
         (whole cs ps vs rs (break h))
         (λ e.
-        let l : h .count < 256 = ltb-true (h .count) 256 (both-true (ltb (h .count) 256) (ltb k 4294967295) e .0) in
+        let l : h .count < 256 = ltb-true (h .count) 256 (both-true (ltb (h .count) 256) (ltb k (bits-of fs + 1)) e .0) in
         (f .0, (let z : h .count + 1 ≤ 256 = omega arith in z), f .2, length-set cs (h .count) b ∙ f .3, length-set (set ps (h .count - 1) (k + 1)) (h .count) 0 ∙ (length-set ps (h .count - 1) (k + 1) ∙ f .4)))
         f
 
@@ -75,7 +75,7 @@ module _ (ws fs : List ℕ) where
         (w, (let z : h .count - 1 ≤ 256 = omega (arith, f .1) in z), (let z : 2 * (h .captures + 1) ≤ length (set (set rs (2 * h .captures) i) (2 * h .captures + 1) (h .position)) = omega arith in z), f .3, f .4))
         f
 
-    effect-fits : (i k : ℕ) (a : Act) → Doable fs (h .position) a → Fits fs (effect ws fs i k cs ps vs rs h a)
+    effect-fits : (i k : ℕ) (a : Act) → Doable ws fs (h .position) a → Fits fs (effect ws fs i k cs ps vs rs h a)
     effect-fits i k Act.Broken d = f
     effect-fits i k Act.Fail d = f
     effect-fits i k (Act.Enter b) d = (f .0, f .1, f .2, length-set cs (h .count - 1) b ∙ f .3, length-set ps (h .count - 1) 0 ∙ f .4)
