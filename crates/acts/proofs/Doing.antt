@@ -26,7 +26,7 @@ use Rattle.acts.specs.declared.Act.{Act}
 use Rattle.acts.proofs.Sizes.{both-true, construct-fine}
 
 -- a test, with what it says
-decide : (t : Bool) → (t ≡ true) ⊎ (t ≡ false)
+pub decide : (t : Bool) → (t ≡ true) ⊎ (t ≡ false)
 decide true = inl refl
 decide false = inr refl
 
