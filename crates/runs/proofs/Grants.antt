@@ -10,7 +10,7 @@ use lib.Dec.{leb}
 use lib.ListN.{length}
 use Rattle.layout.specs.Constructs.{pick, both}
 use Rattle.acts.specs.Acts.{bits-of}
-use Rattle.steps.specs.Steps.{Whole, whole, step-of, steps-of, Fits}
+use Rattle.steps.specs.Steps.{Whole, whole, step-of, steps-of}
 use Rattle.steps.proofs.Running.{steps-stay, steps-none}
 use Rattle.runs.specs.Runs.{head-of, whole-of, entries-fit, fitting, refusal-of, After, after, run-in, reading-in, answer-in, after-steps, grant-of, number-of, taken-of, opened-run}
 use Rattle.runs.specs.declared.Run.{Run}
