@@ -296,58 +296,72 @@ fn before(i: u32) -> Run {
 }
 
 // A table that counts fewer constructs than one of them has parts: members, a branch, a body, a case.
-fn parts_past() {
+fn members_past() {
     let mut table = [0u32; 16384];
     bench_tables::g(&mut table);
     bench_tables::put(&mut table, 2, 3);
     row(b"3 of 4 constructs, members", &table, &[2, 65, 66]);
-    let mut table5 = [0u32; 16384];
-    bench_tables::k5(&mut table5);
-    bench_tables::put(&mut table5, 2, 2);
-    bench_tables::put(&mut table5, 7818, 2);
-    row(b"2 of 3 constructs, a branch", &table5, b"AC");
-    let mut table6 = [0u32; 16384];
-    bench_tables::k6(&mut table6);
-    bench_tables::k6_sets(&mut table6);
-    bench_tables::put(&mut table6, 2, 2);
-    three_ways(b"2 of 4 constructs, a body", &table6, &[17], before(1));
+}
+
+fn branch_past() {
+    let mut table = [0u32; 16384];
+    bench_tables::k5(&mut table);
+    bench_tables::put(&mut table, 2, 2);
+    bench_tables::put(&mut table, 7818, 2);
+    row(b"2 of 3 constructs, a branch", &table, b"AC");
+}
+
+fn body_past() {
+    let mut table = [0u32; 16384];
+    bench_tables::k6(&mut table);
+    bench_tables::k6_sets(&mut table);
+    bench_tables::put(&mut table, 2, 2);
+    three_ways(b"2 of 4 constructs, a body", &table, &[17], before(1));
+}
+
+fn over_k10(name: &[u8], constructs: u32, terms: u32) {
+    let mut table = [0u32; 16384];
+    bench_tables::k10(&mut table);
+    bench_tables::put(&mut table, 2, constructs);
+    bench_tables::put(&mut table, 4, terms);
+    let mut run = before(2);
+    run.values[0] = 2;
+    three_ways(name, &table, b"AB", run);
 }
 
 fn case_past() {
-    let mut table = [0u32; 16384];
-    bench_tables::k10(&mut table);
-    bench_tables::put(&mut table, 2, 4);
-    let mut run = before(2);
-    run.values[0] = 2;
-    three_ways(b"4 of 5 constructs, a case", &table, b"AB", run);
-    bench_tables::put(&mut table, 2, 5);
-    bench_tables::put(&mut table, 4, 6);
-    three_ways(b"6 of 8 terms, a condition", &table, b"AB", run);
+    over_k10(b"4 of 5 constructs, a case", 4, 8);
+    over_k10(b"6 of 8 terms, a condition", 5, 6);
 }
 
 // Fewer terms and variables than a set, counts and a binder name.
-fn terms_past() {
+fn counted_g(name: &[u8], variables: u32, terms: u32) {
     let mut table = [0u32; 16384];
     bench_tables::g(&mut table);
-    bench_tables::put(&mut table, 4, 2);
-    row(b"2 of 5 terms, a set", &table, &[2, 65, 66]);
-    bench_tables::put(&mut table, 4, 3);
-    row(b"3 of 5 terms, counts", &table, &[2, 65, 66]);
-    bench_tables::put(&mut table, 4, 5);
-    bench_tables::put(&mut table, 3, 0);
-    row(b"no variable, a binder", &table, &[2, 65, 66]);
+    bench_tables::put(&mut table, 3, variables);
+    bench_tables::put(&mut table, 4, terms);
+    row(name, &table, &[2, 65, 66]);
+}
+
+fn terms_past() {
+    counted_g(b"2 of 5 terms, a set", 1, 2);
+    counted_g(b"3 of 5 terms, counts", 1, 3);
+    counted_g(b"no variable, a binder", 0, 5);
 }
 
 // A pass more than the frame's bits and one.
-fn passes_past() {
+fn passed(name: &[u8], passes: u32) {
     let mut table = [0u32; 16384];
     bench_tables::k6(&mut table);
     bench_tables::k6_sets(&mut table);
     let mut run = before(1);
-    run.passes[0] = 8;
-    three_ways(b"8 passes of 8 bits", &table, &[18], run);
-    run.passes[0] = 9;
-    three_ways(b"9 passes of 8 bits", &table, &[18], run);
+    run.passes[0] = passes;
+    three_ways(name, &table, &[18], run);
+}
+
+fn passes_past() {
+    passed(b"8 passes of 8 bits", 8);
+    passed(b"9 passes of 8 bits", 9);
 }
 
 fn main() {
@@ -357,7 +371,9 @@ fn main() {
     lists();
     verdicts();
     broken();
-    parts_past();
+    members_past();
+    branch_past();
+    body_past();
     case_past();
     terms_past();
     passes_past();

@@ -10,10 +10,10 @@ use Rattle.runs_demo.proofs.in_turn.Reads as in-turn-reads
 use Rattle.runs_demo.proofs.show_run.Reads as show-run-reads
 
 abbrev Inv-loop : tie.InvT-loop
-Inv-loop table frame from even odd reading₀ run₀ grants₀ reading run grants = grants ≤ 1000
+Inv-loop table frame even odd reading₀ run₀ grants₀ reading run grants = grants ≤ 1000
 
 abbrev μ-loop : tie.MeasureT-loop
-μ-loop table frame from even odd reading₀ run₀ grants₀ reading run grants = 1000 - grants
+μ-loop table frame even odd reading₀ run₀ grants₀ reading run grants = 1000 - grants
 
 -- src/main.rt:91:5
 loop-holds : tie.Need-loop-holds Inv-loop μ-loop
