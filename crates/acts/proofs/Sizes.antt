@@ -36,10 +36,10 @@ or-missing i t a h = picked i t a Construct.Missing h (missing i)
 
 repetition-good : (i size a b c : ℕ) → 2 ≤ size → i + size ≤ 256 → Good i (repetitionOf size a b c)
 repetition-good i size a b c m l =
-    picked i (eqb a 1) _ _ (λ x. record { fine = omega arith; small = omega arith })
-    (picked i (eqb a 2) _ _ (λ x. record { fine = omega arith; small = omega arith })
-    (picked i (eqb a 3) _ _ (λ x. record { fine = omega arith; small = omega arith })
-    (or-missing i (both (eqb a 4) (listed b c)) _ (λ x. record { fine = omega arith; small = omega arith }))))
+    picked i (eqb a 1) _ _ (λ x. record { fine = (l, m); small = omega arith })
+    (picked i (eqb a 2) _ _ (λ x. record { fine = (l, m); small = omega arith })
+    (picked i (eqb a 3) _ _ (λ x. record { fine = (l, m); small = omega arith })
+    (or-missing i (both (eqb a 4) (listed b c)) _ (λ x. record { fine = (l, m); small = omega arith }))))
 
 inner-good : (i kind size a b c : ℕ) → branches i size ≡ true → Good i (innerOf kind size a b c)
 inner-good i kind size a b c e =

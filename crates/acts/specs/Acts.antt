@@ -6,6 +6,7 @@
 -- Broken where "a table entry missing or against the layout, a calculation past 2^62" is met.
 -- Assumes nothing.
 use Prim.Native.Nat.{ℕ, zero, suc, _+_, _*_, _-_, _≤_, _<_}
+use mathlib.Core.Path.{_≡_}
 use mathlib.Core.Bool.{Bool, true, false}
 use mathlib.Core.List.{List}
 use lib.Dec.{leb, ltb, eqb}
@@ -17,7 +18,7 @@ use Rattle.evaluation.specs.Meaning.{membership, condition}
 use Rattle.evaluation.specs.Counts.{counts}
 use Rattle.evaluation.specs.declared.Counted.{Counted}
 use Rattle.evaluation.specs.declared.Tested.{Tested}
-use Rattle.layout.specs.Places.{rule-word, construct-word, rule-count, construct-count}
+use Rattle.layout.specs.Places.{rule-word, construct-word, rule-count, construct-count, variable-count, term-count}
 use Rattle.layout.specs.Constructs.{pick, both, constructAt}
 use Rattle.layout.specs.Held.{term-words, terms-of, size-of, literal-bytes}
 use Rattle.layout.specs.declared.Construct.{Construct}
@@ -28,6 +29,17 @@ use Rattle.acts.specs.declared.Act.{Act}
 -- "An entry isn't in the table": a number past the 256 or past the table's count
 abbrev pub in-table : List ℕ → ℕ → Bool
 in-table ws i = both (ltb i 256) (ltb i (construct-count ws))
+
+-- the whole of a construct is in the table, its parts too: where not, "a table entry missing"
+abbrev pub whole-in-table : List ℕ → ℕ → Bool
+whole-in-table ws i = leb (i + size-of (constructAt ws i)) (construct-count ws)
+
+-- a list of terms up to number `end`, and a binder (1 + its variable): within the table's counts of terms and variables
+abbrev pub terms-in-table : List ℕ → ℕ → Bool
+terms-in-table ws end = leb end (term-count ws)
+
+abbrev pub binder-in-table : List ℕ → ℕ → Bool
+binder-in-table ws binder = leb binder (variable-count ws)
 
 -- a construct takes the entry's place
 abbrev pub enter : List ℕ → ℕ → Act
@@ -68,7 +80,9 @@ branch-act ws n j end = walk (λ i rest. by-branch (stored ws (prediction-at i) 
 -- the first true case; one without a condition is the default
 abbrev pub case-test : List ℕ → List ℤ → ℕ → Tested
 case-test ws vs j =
-    pick (ltb (construct-word ws j 6) (construct-word ws j 7)) (condition vs (construct-word ws j 6) (terms-of ws (construct-word ws j 6) (construct-word ws j 7))) Tested.Yes
+    pick (ltb (construct-word ws j 6) (construct-word ws j 7))
+    (pick (terms-in-table ws (construct-word ws j 7)) (condition vs (construct-word ws j 6) (terms-of ws (construct-word ws j 6) (construct-word ws j 7))) Tested.Malformed)
+    Tested.Yes
 
 -- a true case is taken; "a calculation past 2^62" and terms against the layout are broken
 abbrev pub by-case : Tested → ℕ → Act → Act
@@ -110,7 +124,7 @@ abbrev pub counted : List ℕ → List ℤ → Passes → Counted
 counted ws vs Passes.Optional = Counted.Within 0 1
 counted ws vs Passes.Any = Counted.From 0
 counted ws vs Passes.Some = Counted.From 1
-counted ws vs (Passes.Counted start end) = counts vs (term-words ws) start end
+counted ws vs (Passes.Counted start end) = pick (terms-in-table ws end) (counts vs (term-words ws) start end) Counted.Malformed
 
 -- ---- fields: "no match on a difference or too few bits"
 
@@ -138,11 +152,15 @@ by-set Tested.Malformed width binder n = Act.Broken
 by-set Tested.Overflow width binder n = Act.Broken
 
 -- "`uint(width, set)`, …, most significant bit first": so many bits are there, and the number that they are is in the set
-abbrev pub uint-act : List ℕ → List ℕ → List ℤ → ℕ → ℕ → ℕ → ℕ → ℕ → Act
-uint-act ws fs vs p width start end binder =
+abbrev pub bits-act : List ℕ → List ℕ → List ℤ → ℕ → ℕ → ℕ → ℕ → ℕ → Act
+bits-act ws fs vs p width start end binder =
     pick (leb (p + width) (bits-of fs))
     (by-set (membership vs (pos (value (take width (drop p (frameBits fs))))) start (terms-of ws start end)) width binder (value (take width (drop p (frameBits fs)))))
     Act.Fail
+
+-- of a uint whose set and variable are in the table
+abbrev pub uint-act : List ℕ → List ℕ → List ℤ → ℕ → ℕ → ℕ → ℕ → ℕ → Act
+uint-act ws fs vs p width start end binder = pick (both (terms-in-table ws end) (binder-in-table ws binder)) (bits-act ws fs vs p width start end binder) Act.Broken
 
 -- "`eod`, which takes no bits and holds only at the frame's end"
 abbrev pub end-act : List ℕ → ℕ → Act
@@ -155,7 +173,7 @@ abbrev pub Fine : ℕ → Construct → Type 0
 Fine i Construct.Missing = Unit {0}
 Fine i (Construct.Alternative size) = i + size ≤ 256
 Fine i (Construct.Concatenation size) = i + size ≤ 256
-Fine i (Construct.Repetition size passes) = i < 255
+Fine i (Construct.Repetition size passes) = (i + size ≤ 256) × (2 ≤ size)
 Fine i (Construct.Switch size) = i + size ≤ 256
 Fine i (Construct.Use rule) = rule < 64
 Fine i (Construct.Literal n) = (n ≤ 32) × (1 ≤ n)
@@ -178,14 +196,18 @@ construct-act ws fs vs p i k Construct.Eod = end-act fs p
 
 -- the opening use of the start rule has number 256
 unfoldable pub actOf : List ℕ → List ℕ → List ℤ → ℕ → ℕ → ℕ → Act
-actOf ws fs vs p i k = pick (eqb i 256) (open-rule ws 0) (pick (in-table ws i) (construct-act ws fs vs p i k (constructAt ws i)) Act.Broken)
+actOf ws fs vs p i k = pick (eqb i 256) (open-rule ws 0) (pick (whole-in-table ws i) (construct-act ws fs vs p i k (constructAt ws i)) Act.Broken)
 
--- what holds of every act that is decided at bit p, whatever the words
-abbrev pub Doable : List ℕ → ℕ → Act → Type 0
-Doable fs p Act.Broken = Unit {0}
-Doable fs p Act.Fail = Unit {0}
-Doable fs p (Act.Enter b) = b < 256
-Doable fs p (Act.Members start end n) = (end ≤ 256) × (n ≤ 256)
-Doable fs p (Act.Again b) = b < 256
-Doable fs p Act.Leave = Unit {0}
-Doable fs p (Act.Take width binder n) = (p + width ≤ bits-of fs) × (binder ≤ 64) × (n < 4294967296) × (1 ≤ width)
+-- how many parts stand from number `start` up to number `end`
+abbrev pub part-count : List ℕ → ℕ → ℕ → ℕ
+part-count ws start end = walk (λ j rest. rest + 1) 0 0 (end - start) ws start end
+
+-- what holds of every act that is decided at bit p, whatever the words: what it leads to is in the table
+abbrev pub Doable : List ℕ → List ℕ → ℕ → Act → Type 0
+Doable ws fs p Act.Broken = Unit {0}
+Doable ws fs p Act.Fail = Unit {0}
+Doable ws fs p (Act.Enter b) = (b < 256) × (b < construct-count ws)
+Doable ws fs p (Act.Members start end n) = (end ≤ 256) × (n ≤ 256) × (end ≤ construct-count ws) × (n ≡ part-count ws start end)
+Doable ws fs p (Act.Again b) = (b < 256) × (b < construct-count ws)
+Doable ws fs p Act.Leave = Unit {0}
+Doable ws fs p (Act.Take width binder n) = (p + width ≤ bits-of fs) × (binder ≤ 64) × (n < 4294967296) × (1 ≤ width)

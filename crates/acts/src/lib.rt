@@ -8,7 +8,7 @@ ghost use Rattle.layout.specs.Constructs.{constructAt};
 ghost use Rattle.evaluation.specs.Meaning.{membership};
 ghost use Rattle.layout.specs.Held.{term-words, terms-of, size-of, literal-byte};
 ghost use Rattle.acts.specs.Stored.{stored as storedOf};
-ghost use Rattle.acts.specs.Acts.{in-table, enter as enterOf, open-rule, ahead-at, branch-act, case-test, case-act, members-act, choice-act, turn-act, counted as countedOf, literal-holds, literal-act, by-set, range-act, uint-act, end-act, Fine, construct-act, actOf};
+ghost use Rattle.acts.specs.Acts.{in-table, enter as enterOf, open-rule, ahead-at, branch-act, case-test, case-act, members-act, choice-act, turn-act, counted as countedOf, literal-holds, literal-act, by-set, range-act, bits-act, uint-act, end-act, Fine, construct-act, actOf};
 use evaluation::Counted;
 use evaluation::Tested;
 use layout::Construct;
@@ -97,6 +97,9 @@ fn case_holds(table: &[u32], values: &[i64], j: usize) -> Tested
     let start = layout::word(table, 576 + 8 * j + 6);
     let end = layout::word(table, 576 + 8 * j + 7);
     if start < end {
+        if layout::word(table, 4) < end {
+            return Tested::Malformed;
+        }
         return evaluation::satisfied(terms(table), start, end, values);
     }
     Tested::Yes
@@ -185,6 +188,17 @@ fn choice(table: &[u32], n: u64, i: usize) -> Act
     Act::Fail
 }
 
+// How many passes the terms from `start` up to `end` allow, if the table has them.
+fn counts_of(table: &[u32], values: &[i64], start: usize, end: usize) -> Counted
+    requires { ⌜ 16384 ≤ length (now table) ⌝ }
+    ensures { λ r. ⌜ r ≡ countedOf (now (table .entry)) (now (values .entry)) (Passes.Counted start end) ⌝ }
+{
+    if layout::word(table, 4) < end {
+        return Counted::Malformed;
+    }
+    evaluation::counts::count(terms(table), start, end, values)
+}
+
 fn counts(table: &[u32], values: &[i64], passes: Passes) -> Counted
     requires { ⌜ 16384 ≤ length (now table) ⌝ }
     ensures { λ r. ⌜ r ≡ countedOf (now (table .entry)) (now (values .entry)) passes ⌝ }
@@ -193,12 +207,7 @@ fn counts(table: &[u32], values: &[i64], passes: Passes) -> Counted
         Passes::Optional => Counted::Within { low: 0, more: 1 },
         Passes::Any => Counted::From { low: 0 },
         Passes::Some => Counted::From { low: 1 },
-        Passes::Counted { start, end } => evaluation::counts::count(
-            terms(table),
-            start,
-            end,
-            values,
-        ),
+        Passes::Counted { start, end } => counts_of(table, values, start, end),
     }
 }
 
@@ -298,6 +307,7 @@ fn range(frame: &[u8], p: usize, low: usize, high: usize) -> Act
     Act::Fail
 }
 
+// A uint whose set and variable the table has.
 fn uint(
     table: &[u32],
     frame: &[u8],
@@ -310,6 +320,28 @@ fn uint(
 ) -> Act
     requires { ⌜ (16384 ≤ length (now table)) × (p ≤ 8 * length (now frame)) × (length (now frame) ≤ 256) × (width ≤ 32) ⌝ }
     ensures { λ r. ⌜ r ≡ uint-act (now (table .entry)) (now (frame .entry)) (now (values .entry)) p width start end binder ⌝ }
+{
+    if layout::word(table, 4) < end {
+        return Act::Broken;
+    }
+    if layout::word(table, 3) < binder {
+        return Act::Broken;
+    }
+    bits(table, frame, values, p, width, start, end, binder)
+}
+
+fn bits(
+    table: &[u32],
+    frame: &[u8],
+    values: &[i64],
+    p: usize,
+    width: usize,
+    start: usize,
+    end: usize,
+    binder: usize,
+) -> Act
+    requires { ⌜ (16384 ≤ length (now table)) × (p ≤ 8 * length (now frame)) × (length (now frame) ≤ 256) × (width ≤ 32) ⌝ }
+    ensures { λ r. ⌜ r ≡ bits-act (now (table .entry)) (now (frame .entry)) (now (values .entry)) p width start end binder ⌝ }
 {
     if p + width <= 8 * frame.len() {
         let value = frame::bits(frame, p, width);
@@ -426,16 +458,10 @@ pub fn decide(table: &[u32], frame: &[u8], values: &[i64], p: usize, i: usize, k
     if i == 256 {
         return open_rule(table, 0);
     }
-    if i < layout::word(table, 2) {
-        return of_construct(
-            table,
-            frame,
-            values,
-            p,
-            i,
-            k,
-            layout::construct_at(table, i),
-        );
+    let construct = layout::construct_at(table, i);
+    let end = i + layout::size_of(construct);
+    if end <= layout::word(table, 2) {
+        return of_construct(table, frame, values, p, i, k, construct);
     }
     Act::Broken
 }

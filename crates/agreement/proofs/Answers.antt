@@ -9,21 +9,25 @@ use mathlib.Core.List.{List, [], _∷_}
 use lib.Dec.{leb, ltb}
 use lib.IntN.{ℤ}
 use Rattle.evaluation.specs.Meaning.{condition}
+use Rattle.evaluation.specs.Counts.{counts}
 use Rattle.evaluation.specs.declared.Counted.{Counted}
 use Rattle.evaluation.specs.declared.Tested.{Tested}
 use Rattle.theory.specs.Machine.{Turn, fail, again, leave, by-lookahead, turn, choose}
 use Rattle.theory.proofs.Turns.{decide}
 use Rattle.layout.specs.Places.{construct-word}
 use Rattle.layout.specs.Constructs.{pick}
-use Rattle.layout.specs.Held.{terms-of, parts, allowed, isYes, passes-allowed, first-case}
+use Rattle.layout.specs.Held.{term-words, terms-of, parts, allowed, isYes, passes-allowed, first-case}
 use Rattle.layout.specs.declared.Passes.{Passes}
 use Rattle.acts.specs.Stored.{stored, prediction-at, follow-at}
-use Rattle.acts.specs.Acts.{by-branch, branch-act, case-test, by-case, case-act, by-lookahead as act-by-lookahead, turn-act, counted, by-set}
+use Rattle.acts.specs.Acts.{terms-in-table, by-branch, branch-act, case-test, by-case, case-act, by-lookahead as act-by-lookahead, turn-act, counted, by-set}
 use Rattle.acts.specs.declared.Act.{Act}
 use Rattle.agreement.proofs.Walks.{Definite, Visit, chosen-act, found-chosen}
 
--- a case's test is the condition that the grammar's switch goes by
-pub first-choose : (ws : List ℕ) (vs : List ℤ) (bs : List ℕ) → first-case ws vs bs ≡ choose (λ b. isYes (case-test ws vs b)) bs
+-- what the grammar's switch goes by: a case's condition holds, or it has none
+abbrev case-holds : List ℕ → List ℤ → ℕ → Bool
+case-holds ws vs b = pick (ltb (construct-word ws b 6) (construct-word ws b 7)) (isYes (condition vs (construct-word ws b 6) (terms-of ws (construct-word ws b 6) (construct-word ws b 7)))) true
+
+first-choose : (ws : List ℕ) (vs : List ℤ) (bs : List ℕ) → first-case ws vs bs ≡ choose (case-holds ws vs) bs
 unfolding first-case choose
 first-choose ws vs [] = refl
 first-choose ws vs (b ∷ bs) =
@@ -44,13 +48,23 @@ by-case-visit j Tested.No = Visit.passes refl (λ rest. refl)
 by-case-visit j Tested.Malformed = Visit.breaks (λ rest. refl)
 by-case-visit j Tested.Overflow = Visit.breaks (λ rest. refl)
 
+-- a case's test is that, where its terms are in the table
+case-visit : (ws : List ℕ) (vs : List ℤ) (j : ℕ) → Visit j (case-holds ws vs j) (λ rest. by-case (case-test ws vs j) j rest)
+case-visit ws vs j =
+    by (ltb (construct-word ws j 6) (construct-word ws j 7)) (terms-in-table ws (construct-word ws j 7)) (condition vs (construct-word ws j 6) (terms-of ws (construct-word ws j 6) (construct-word ws j 7)))
+  where
+    by : (s t : Bool) (x : Tested) → Visit j (pick s (isYes x) true) (λ rest. by-case (pick s (pick t x Tested.Malformed) Tested.Yes) j rest)
+    by true true x = by-case-visit j x
+    by true false x = Visit.breaks (λ rest. refl)
+    by false t x = Visit.takes refl (λ rest. refl)
+
 pub branch-chosen : (ws : List ℕ) (n m j end : ℕ) → end ≤ j + m → Definite (branch-act ws n j end) → branch-act ws n j end ≡ chosen-act (choose (λ b. stored ws (prediction-at b) n) (parts m ws j end))
 branch-chosen ws n m j end l s =
     found-chosen ws end (λ b. stored ws (prediction-at b) n) (λ i rest. by-branch (stored ws (prediction-at i) n) i rest) (λ i. by-branch-visit i (stored ws (prediction-at i) n)) (end - j) m j (omega arith) l s
 
 pub case-chosen : (ws : List ℕ) (vs : List ℤ) (m j end : ℕ) → end ≤ j + m → Definite (case-act ws vs j end) → case-act ws vs j end ≡ chosen-act (first-case ws vs (parts m ws j end))
 case-chosen ws vs m j end l s =
-    found-chosen ws end (λ b. isYes (case-test ws vs b)) (λ i rest. by-case (case-test ws vs i) i rest) (λ i. by-case-visit i (case-test ws vs i)) (end - j) m j (omega arith) l s
+    found-chosen ws end (case-holds ws vs) (λ i rest. by-case (case-test ws vs i) i rest) (case-visit ws vs) (end - j) m j (omega arith) l s
     ∙ ap chosen-act (sym (first-choose ws vs (parts m ws j end)))
 
 -- a repetition's turn
@@ -81,11 +95,16 @@ turn-turned ws n i k (Counted.Within low more) s =
 turn-turned ws n i k Counted.Malformed s = absurd (s refl)
 turn-turned ws n i k Counted.Overflow s = absurd (s refl)
 
-pub counted-allowed : (ws : List ℕ) (vs : List ℤ) (p : Passes) → allowed (counted ws vs p) ≡ passes-allowed ws p vs
-counted-allowed ws vs Passes.Optional = refl
-counted-allowed ws vs Passes.Any = refl
-counted-allowed ws vs Passes.Some = refl
-counted-allowed ws vs (Passes.Counted start end) = refl
+-- counts whose terms are in the table are the grammar's
+pub counted-allowed : (ws : List ℕ) (vs : List ℤ) (n i k : ℕ) (p : Passes) → Definite (turn-act ws n i k (counted ws vs p)) → allowed (counted ws vs p) ≡ passes-allowed ws p vs
+counted-allowed ws vs n i k Passes.Optional s = refl
+counted-allowed ws vs n i k Passes.Any s = refl
+counted-allowed ws vs n i k Passes.Some s = refl
+counted-allowed ws vs n i k (Passes.Counted start end) s = by (terms-in-table ws end) s
+  where
+    by : (t : Bool) → Definite (turn-act ws n i k (pick t (counts vs (term-words ws) start end) Counted.Malformed)) → allowed (pick t (counts vs (term-words ws) start end) Counted.Malformed) ≡ allowed (counts vs (term-words ws) start end)
+    by true d = refl
+    by false d = absurd (d refl)
 
 -- a test by itself
 abbrev pub tested : Bool → Tested

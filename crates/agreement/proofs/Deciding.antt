@@ -22,11 +22,11 @@ use Rattle.theory.specs.Machine.{entry, state, Turn, fail, again, leave, turn, 
 use Rattle.theory.proofs.Turns.{decide}
 use Rattle.layout.specs.Places.{rule-word, rule-count}
 use Rattle.layout.specs.Constructs.{pick, both, constructAt}
-use Rattle.layout.specs.Held.{Values, HeldNode, terms-of, parts, isYes, passes-allowed, passes-static, passes-fixed, first-case, literal-bytes, bound, literal-node, range-node, use-node, in-set, node-of, held}
+use Rattle.layout.specs.Held.{Values, HeldNode, terms-of, parts, isYes, passes-allowed, passes-static, passes-fixed, first-case, literal-bytes, bound, literal-node, range-node, uint-node, use-node, in-set, node-of, held}
 use Rattle.layout.specs.declared.Construct.{Construct}
 use Rattle.layout.specs.declared.Passes.{Passes}
 use Rattle.acts.specs.Stored.{stored, prediction-at, follow-at, tests-of}
-use Rattle.acts.specs.Acts.{in-table, enter, open-rule, ahead-at, bits-of, branch-act, case-act, members-act, turn-act, counted, literal-holds, literal-act, range-act, by-set, end-act, construct-act, actOf}
+use Rattle.acts.specs.Acts.{in-table, whole-in-table, terms-in-table, binder-in-table, enter, open-rule, ahead-at, bits-of, branch-act, case-act, members-act, turn-act, counted, literal-holds, literal-act, range-act, by-set, bits-act, end-act, construct-act, actOf}
 use Rattle.acts.specs.declared.Act.{Act}
 use Rattle.agreement.specs.Runs.{HeldEntry, HeldState}
 use Rattle.agreement.proofs.Answers.{branch-chosen, case-chosen, turned, turn-turned, counted-allowed, tested, tested-yes, tested-set}
@@ -108,21 +108,19 @@ module _ (ws fs : List ℕ) (vs : List ℤ) (p i k : ℕ) (others : List HeldEnt
   does-repetition q s =
       let n : ℕ = ahead-at fs p in
       let node : HeldNode = repetition (λ c v. passes-allowed ws q v) (passes-static ws q) (passes-fixed ws q) (i + 1) in
-      let e = turn-turned ws n i k (counted ws vs q) s ∙ ap (λ (c : Counts). turned (i + 1) (turn c k (stored ws (prediction-at (i + 1)) n) (stored ws (follow-at i) n))) (counted-allowed ws vs q) in
+      let e = turn-turned ws n i k (counted ws vs q) s ∙ ap (λ (c : Counts). turned (i + 1) (turn c k (stored ws (prediction-at (i + 1)) n) (stored ws (follow-at i) n))) (counted-allowed ws vs n i k q s) in
       subst (Does node) (sym e) (does-turned node (turn (passes-allowed ws q vs) k (stored ws (prediction-at (i + 1)) n) (stored ws (follow-at i) n)) refl)
 
-  does-use : (r : ℕ) → Definite (enter ws (rule-word ws r 0)) → Does (use-node ws r) (enter ws (rule-word ws r 0))
-  unfolding act
-  does-use r s = entered (in-table ws (rule-word ws r 0)) s
-    where
-      entered : (t : Bool) → Definite (pick t (Act.Enter (rule-word ws r 0)) Act.Broken) → Does (use-node ws r) (pick t (Act.Enter (rule-word ws r 0)) Act.Broken)
-      entered true h = record { agrees = refl; members = tt }
-      entered false h = absurd (h refl)
+  -- what is done only where a test says that it is in the table
+  does-guarded : (node : HeldNode) (t : Bool) (a : Act) → (Definite a → Does node a) → Definite (pick t a Act.Broken) → Does node (pick t a Act.Broken)
+  does-guarded node true a f s = f s
+  does-guarded node false a f s = absurd (s refl)
 
   does-open : (r : ℕ) → Definite (open-rule ws r) → Does (use-node ws r) (open-rule ws r)
-  does-open r s =
-      elim (decide (ltb r (rule-count ws)))
-      [ inl e ↦ rw e (does-use r (rw e at s)) | inr e ↦ absurd (subst (λ (t : Bool). Definite (pick t (enter ws (rule-word ws r 0)) Act.Broken)) e s refl) ]
+  unfolding act
+  does-open r =
+      let b : ℕ = rule-word ws r 0 in
+      does-guarded (use-node ws r) (ltb r (rule-count ws)) (enter ws b) (does-guarded (use-node ws r) (in-table ws b) (Act.Enter b) (λ h. record { agrees = refl; members = tt }))
 
   -- a field: so many bits are left, and they are right
   does-set : (w binder n : ℕ) (admits : Unit {0} → Values → Bits → Bool) (static : Bits → Bool) (binds : Unit {0} → Values → Bits → Values) (t : Tested)
@@ -205,7 +203,8 @@ module _ (ws fs : List ℕ) (vs : List ℤ) (p i k : ℕ) (others : List HeldEnt
     does-construct (Construct.Range low high) s = does-range low high s
     does-construct (Construct.Uint width start end binder) s =
         let n : ℕ = value (take width rest) in
-        does-field width binder n (λ c v bits. in-set ws start end v (value bits)) _ (λ c v bits. bound binder v (value bits)) (membership vs (pos n) start (terms-of ws start end)) refl refl s
+        does-guarded (uint-node ws width start end binder) (both (terms-in-table ws end) (binder-in-table ws binder)) (bits-act ws fs vs p width start end binder)
+        (does-field width binder n (λ c v bits. in-set ws start end v (value bits)) _ (λ c v bits. bound binder v (value bits)) (membership vs (pos n) start (terms-of ws start end)) refl refl) s
     does-construct Construct.Eod s = does-end rest refl
 
     -- the opening use too
@@ -214,8 +213,5 @@ module _ (ws fs : List ℕ) (vs : List ℤ) (p i k : ℕ) (others : List HeldEnt
     does s =
         elim (decide (eqb i 256)) [
           | inl e ↦ rw e (does-open 0 (rw e at s))
-          | inr e ↦ elim (decide (in-table ws i)) [
-            | inl t ↦ rw (e, t) (does-construct (constructAt ws i) (rw (e, t) at s))
-            | inr t ↦ absurd (subst (λ (b : Bool). Definite (pick b (construct-act ws fs vs p i k (constructAt ws i)) Act.Broken)) t (rw e at s) refl)
-          ]
+          | inr e ↦ rw e (does-guarded (node-of ws i (constructAt ws i)) (whole-in-table ws i) (construct-act ws fs vs p i k (constructAt ws i)) (does-construct (constructAt ws i)) (rw e at s))
         ]

@@ -115,8 +115,8 @@ module _ (ws fs cs ps : List ℕ) (vs : List ℤ) (rs : List ℕ) (h : Head) (f 
   does-again b u =
       let ps′ : List ℕ = set ps (n - 1) (k + 1) in
       let there : Whole = whole (set cs n b) (set ps′ n 0) vs rs (taken fs h (n + 1) (h .position) (h .captures)) in
-      let t : both (ltb n 256) (ltb k 4294967295) ≡ true = first-kept (both (ltb n 256) (ltb k 4294967295)) there (whole cs ps vs rs (break h)) refl u in
-      let l : n < 256 = ltb-true n 256 (both-true (ltb n 256) (ltb k 4294967295) t .0) in
+      let t : both (ltb n 256) (ltb k (bits-of fs + 1)) ≡ true = first-kept (both (ltb n 256) (ltb k (bits-of fs + 1))) there (whole cs ps vs rs (break h)) refl u in
+      let l : n < 256 = ltb-true n 256 (both-true (ltb n 256) (ltb k (bits-of fs + 1)) t .0) in
       let ep : length ps′ ≡ length ps = length-set ps (n - 1) (k + 1) in
       let lc : n < length cs = omega (arith, f .3) in
       let lp : n < length ps′ = omega (arith, f .4) in
@@ -146,7 +146,7 @@ module _ (ws fs cs ps : List ℕ) (vs : List ℤ) (rs : List ℕ) (h : Head) (f 
       (sym (drop-drop width (h .position) (frameBits fs))) (bind-bound binder v vs))
 
   -- any act that is not broken
-  pub does-effect : (a : Act) → Doable fs (h .position) a → Membered ws a → Unbroken (effect ws fs i k cs ps vs rs h a)
+  pub does-effect : (a : Act) → Doable ws fs (h .position) a → Membered ws a → Unbroken (effect ws fs i k cs ps vs rs h a)
       → run-of fs (effect ws fs i k cs ps vs rs h a) ≡ after σ (h .steps) (act-done a)
   does-effect Act.Broken d m u = absurd (u refl)
   does-effect Act.Fail d m u = ap (λ (x : ℕ). run σ x unmatched) (add-one (h .steps))

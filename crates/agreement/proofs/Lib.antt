@@ -12,6 +12,7 @@ pub mod Readings
 pub mod Verdicts
 pub mod Widths
 pub mod Reliable
+pub mod Ends
 pub mod Safety
 pub mod Steady
 pub mod Never

@@ -1,4 +1,4 @@
--- One step over reliable words: where the theory's next state has room, it is not broken, and that state is steady too.
+-- One step over reliable words: where the theory's next state has room and few enough passes, it is not broken, and that state is steady too.
 -- Assumes nothing.
 use Prim.Native.Nat.{ℕ, _+_, _*_, _-_, _≤_, _<_}
 use native.Mathlib.Omega.{arith}
@@ -13,7 +13,7 @@ use Rattle.theory.specs.Derivation.{Capture}
 use Rattle.theory.specs.Machine.{entry, pending-of, captures-of, Passes, state-of, entries, stepped}
 use Rattle.layout.specs.Held.{parts, held}
 use Rattle.acts.specs.Stored.{tests-of}
-use Rattle.acts.specs.Acts.{actOf}
+use Rattle.acts.specs.Acts.{bits-of, actOf}
 use Rattle.acts.specs.declared.Act.{Act}
 use Rattle.steps.specs.Steps.{Whole, whole, verdict-after, effect, in-bound, step-of, Fits, broken}
 use Rattle.steps.specs.declared.Head.{Head}
@@ -53,22 +53,22 @@ module _ (ws fs cs ps : List ℕ) (vs : List ℤ) (rs : List ℕ) (h : Head) whe
   next a = state-of (after (state-held fs w) (h .steps) (done ws fs vs (h .position) i k others rc a))
 
   -- where the theory's next state has room, so have the arrays
-  effect-unbroken : (widest : List ℤ) → 0 < h .count → k < 4294967295 → (a : Act) → Safe ws widest a → Membered ws a → length (pending-of (next a)) ≤ 256 → 2 * length (captures-of (next a)) ≤ length rs
+  effect-unbroken : (widest : List ℤ) → 0 < h .count → (a : Act) → Safe ws widest a → Membered ws a → Passes (pending-of (next a)) (bits-of fs + 1) → length (pending-of (next a)) ≤ 256 → 2 * length (captures-of (next a)) ≤ length rs
       → Unbroken (effect ws fs i k cs ps vs rs h a)
-  effect-unbroken widest m l Act.Broken s x room words = absurd s
-  effect-unbroken widest m l Act.Fail s x room words = λ e. omega arith
-  effect-unbroken widest m l (Act.Enter b) s x room words = verdict-unbroken fs (h .count) (h .position)
-  effect-unbroken widest m l (Act.Members start end n) s x room words =
+  effect-unbroken widest m Act.Broken s x p room words = absurd s
+  effect-unbroken widest m Act.Fail s x p room words = λ e. omega arith
+  effect-unbroken widest m (Act.Enter b) s x p room words = verdict-unbroken fs (h .count) (h .position)
+  effect-unbroken widest m (Act.Members start end n) s x p room words =
       let js : List ℕ = parts (end - start) ws start end in
       let e : js ≡ x .0 = row-parts (end - start) (x .1) (omega arith) in
       let q : length (entries tt js ++ others) ≡ length js + (h .count - 1) = length-append (entries tt js) others ∙ ap₂ _+_ (length-map js (λ j. entry j tt 0)) (pending-length cs ps (h .count - 1)) in
       let y : length js ≡ n = ap length e ∙ sym (x .2) in
       rw (le-leb (h .count + n) 257 (omega arith)) (verdict-unbroken fs (h .count - 1 + n) (h .position))
-  effect-unbroken widest m l (Act.Again b) s x room words =
+  effect-unbroken widest m (Act.Again b) s x p room words =
       let q : length others ≡ h .count - 1 = pending-length cs ps (h .count - 1) in
-      rw (lt-ltb (h .count) 256 (omega arith), lt-ltb k 4294967295 l) (verdict-unbroken fs (h .count + 1) (h .position))
-  effect-unbroken widest m l Act.Leave s x room words = verdict-unbroken fs (h .count - 1) (h .position)
-  effect-unbroken widest m l (Act.Take width binder n) s x room words =
+      rw (lt-ltb (h .count) 256 (omega arith), lt-ltb k (bits-of fs + 1) (p .1 .0)) (verdict-unbroken fs (h .count + 1) (h .position))
+  effect-unbroken widest m Act.Leave s x p room words = verdict-unbroken fs (h .count - 1) (h .position)
+  effect-unbroken widest m (Act.Take width binder n) s x p room words =
       let q : length (rc ++ (record { construct = i; first-bit = h .position } ∷ [])) ≡ h .captures + 1 = length-append rc (record { construct = i; first-bit = h .position } ∷ []) ∙ ap (_+ 1) (recorded-length rs (h .captures)) in
       rw (le-leb (2 * h .captures + 2) (length rs) (omega arith)) (verdict-unbroken fs (h .count - 1) (h .position + width))
 
@@ -103,14 +103,11 @@ module _ (ws fs cs ps : List ℕ) (vs : List ℤ) (rs : List ℕ) (h : Head) whe
     pub step-steady : Steady ws widest (stepped (held ws) (tests-of ws) (run-of fs w))
     step-steady = rw stepped-so (steady-after ws widest fs vs (h .position) i k others rc (state-held fs w) (h .steps) act-of (table-entries .0) (table-entries .1) (st .inside) (st .there) (st .inside) safe (does-so .members))
 
-    few-passes : (n : ℕ) → Passes (pending cs ps (h .count)) n → k ≤ n
-    few-passes n p = (rw (pending-first cs ps (h .count) some-entry) at p) .0
-
-    pub step-unbroken : in-bound ws fs (h .steps) ≡ true → Passes (pending cs ps (h .count)) 2049
+    pub step-unbroken : in-bound ws fs (h .steps) ≡ true
+        → Passes (pending-of (state-of (stepped (held ws) (tests-of ws) (run-of fs w)))) (bits-of fs + 1)
         → length (pending-of (state-of (stepped (held ws) (tests-of ws) (run-of fs w)))) ≤ 256
         → 2 * length (captures-of (state-of (stepped (held ws) (tests-of ws) (run-of fs w)))) ≤ length rs
         → Unbroken (step-of ws fs w)
     step-unbroken b p room words =
-        let l : k ≤ 2049 = few-passes 2049 p in
         rw (step-is e b some-entry (small (table-entries .0)))
-        (effect-unbroken widest some-entry (omega arith) act-of safe (does-so .members) (rw stepped-so at room) (rw stepped-so at words))
+        (effect-unbroken widest some-entry act-of safe (does-so .members) (rw stepped-so at p) (rw stepped-so at room) (rw stepped-so at words))

@@ -16,7 +16,6 @@ use Rattle.theory.specs.Machine.{entry, state, pending-of, captures-of, Passes,
 use Rattle.theory.specs.Theorems.{Decision, Moment}
 use Rattle.theory.proofs.Theorems as Theory
 use Rattle.theory.proofs.Runs.{granted-sum}
-use Rattle.theory.proofs.Progress.{passes-more}
 use Rattle.layout.specs.Places.{weight-of}
 use Rattle.layout.specs.Held.{opening, held}
 use Rattle.acts.specs.Stored.{tests-of}
@@ -96,6 +95,9 @@ module _ (ws : List ℕ) (widest : List ℤ) (weight rooms : Unit {0} → ℕ �
   few-captures : (n : ℕ) → 2 * length (captures-of (state-of (at n))) ≤ length rs
   few-captures n = omega (arith, moment n .captures-few, frame-length fs, o .room)
 
+  few-passes : (n : ℕ) → Passes (pending-of (state-of (at n))) (bits-of fs + 1)
+  few-passes n = subst (λ (k : ℕ). Passes (pending-of (state-of (at n))) (k + 1)) (frame-length fs) (moment n .passes-few)
+
   -- after n steps
   pub record Going (n : ℕ) : Type 0 where
     pub unbroken : Unbroken (steps-of ws fs n w₀)
@@ -115,11 +117,10 @@ module _ (ws : List ℕ) (widest : List ℤ) (weight rooms : Unit {0} → ℕ �
     taken-further : Fits fs w → length rs′ ≡ length rs → run-of fs w ≡ at n → Steady ws widest (run-of fs w) → h .verdict ≡ 0 → Further
     taken-further f long e st q =
         let b : in-bound ws fs (h .steps) ≡ true = subst (λ (m : ℕ). in-bound ws fs m ≡ true) (sym (ap taken-of e)) (in-time n (sym (ap verdict-of e) ∙ ap verdict-as q)) in
-        let p : Passes (pending cs′ ps′ (h .count)) (length s + 1) = subst (λ (x : HeldRun). Passes (pending-of (state-of x)) (length s + 1)) (sym e) (moment n .passes-few) in
-        let l : length s + 1 ≤ 2049 = omega (arith, frame-length fs, o .short) in
         let x : at (suc n) ≡ stepped (held ws) (tests-of ws) (run-of fs w) = at-next n ∙ ap (stepped (held ws) (tests-of ws)) (sym e) in
         let u : Unbroken (step-of ws fs w) =
-        step-unbroken ws fs cs′ ps′ vs′ rs′ h widest r f q st b (passes-more (pending cs′ ps′ (h .count)) l p)
+        step-unbroken ws fs cs′ ps′ vs′ rs′ h widest r f q st b
+        (subst (λ (y : HeldRun). Passes (pending-of (state-of y)) (bits-of fs + 1)) x (few-passes (suc n)))
         (subst (λ (y : HeldRun). length (pending-of (state-of y)) ≤ 256) x (few-entries (suc n)))
         (rw long (subst (λ (y : HeldRun). 2 * length (captures-of (state-of y)) ≤ length rs) x (few-captures (suc n)))) in
         (u, subst (Steady ws widest) (sym (step-agrees ws fs w f u)) (step-steady ws fs cs′ ps′ vs′ rs′ h widest r f q st))

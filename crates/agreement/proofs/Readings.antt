@@ -5,16 +5,17 @@ use native.Mathlib.Omega.{arith}
 use native.Mathlib.Numerals.{add-one}
 use mathlib.Core.Path.{_≡_, refl, sym, _∙_, ap, ap₂}
 use mathlib.Core.List.{List, [], _∷_, _++_, append-assoc}
-use lib.Dec.{leb, ltb, eqb}
+use lib.Dec.{leb, ltb}
 use lib.IntN.{ℤ}
 use lib.ListN.{length, getD, set, take, drop, length-set, take-append-drop}
 use lib.Seq.{take-suc, take-take, take-set-le, drop-set-lt, drop-drop}
 use Rattle.theory.specs.Derivation.{Capture}
 use Rattle.layout.specs.Constructs.{both}
-use Rattle.acts.specs.Acts.{actOf}
+use Rattle.acts.specs.Acts.{bits-of, actOf}
 use Rattle.acts.specs.declared.Act.{Act}
-use Rattle.steps.specs.Steps.{Whole, whole, break, take-done, effect, in-bound, first-step, step-of, steps-of, Fits}
+use Rattle.steps.specs.Steps.{Whole, whole, break, take-done, effect, step-of, steps-of, Fits}
 use Rattle.steps.specs.declared.Head.{Head}
+use Rattle.steps.proofs.Running.{step-by}
 use Rattle.agreement.specs.Runs.{recorded, words-of, head-of, reading-of}
 use Rattle.agreement.proofs.Picks.{either-way}
 use Rattle.agreement.proofs.Grants.{steps-fit}
@@ -74,23 +75,17 @@ module _ (ws fs cs ps : List ℕ) (vs : List ℤ) (rs : List ℕ) (h : Head) whe
   effect-records i k Act.Fail = stays _ _ _ _ refl
   effect-records i k (Act.Enter b) = stays _ _ _ _ refl
   effect-records i k (Act.Members start end n) = either-way (Recorded w) (leb (h .count + n) 257) (stays _ _ _ _ refl) (stays _ _ _ _ refl)
-  effect-records i k (Act.Again b) = either-way (Recorded w) (both (ltb (h .count) 256) (ltb k 4294967295)) (stays _ _ _ _ refl) (stays _ _ _ _ refl)
+  effect-records i k (Act.Again b) = either-way (Recorded w) (both (ltb (h .count) 256) (ltb k (bits-of fs + 1))) (stays _ _ _ _ refl) (stays _ _ _ _ refl)
   effect-records i k Act.Leave = stays _ _ _ _ refl
   effect-records i k (Act.Take width binder n) = take-records i width binder n
 
-  first-records : (i k : ℕ) → Recorded w (first-step ws fs i k cs ps vs rs h)
-  first-records i k = either-way (Recorded w) (leb i 256) (effect-records i k (actOf ws fs vs (h .position) i k)) (stays cs ps vs (break h) refl)
-
 -- a step, and steps
 pub step-records : (ws fs : List ℕ) (w : Whole) → Recorded w (step-of ws fs w)
-unfolding step-of
 step-records ws fs (whole cs ps vs rs h) =
-    let bad = same-reading cs ps cs ps vs vs rs h (break h) refl in
-    either-way (Recorded (whole cs ps vs rs h)) (eqb (h .verdict) 0)
-    (either-way (Recorded (whole cs ps vs rs h)) (in-bound ws fs (h .steps))
-    (either-way (Recorded (whole cs ps vs rs h)) (eqb (h .count) 0) bad (first-records ws fs cs ps vs rs h (getD cs (h .count - 1) 0) (getD ps (h .count - 1) 0)))
-    bad)
-    (same-reading cs ps cs ps vs vs rs h h refl)
+    let i : ℕ = getD cs (h .count - 1) 0 in
+    let k : ℕ = getD ps (h .count - 1) 0 in
+    step-by ws fs (Recorded (whole cs ps vs rs h)) cs ps vs rs h (same-reading cs ps cs ps vs vs rs h h refl) (same-reading cs ps cs ps vs vs rs h (break h) refl)
+    (λ some. effect-records ws fs cs ps vs rs h i k (actOf ws fs vs (h .position) i k))
 
 pub steps-record : (ws fs : List ℕ) (n : ℕ) (w : Whole) → Recorded w (steps-of ws fs n w)
 unfolding steps-of

@@ -2,7 +2,7 @@
 -- Assumes nothing.
 use Prim.Native.Nat.{ℕ, zero, suc, _+_, _*_, _-_, _^_, _≤_, _<_, min}
 use native.Mathlib.Omega.{arith}
-use borrow.Author.Tests.{lt-ltb, eq-eqb, ne-eqb, ltb-true}
+use borrow.Author.Tests.{le-leb, lt-ltb, eq-eqb, ne-eqb, ltb-true}
 use mathlib.Core.Path.{_≡_, refl, _∙_, ap, subst}
 use mathlib.Core.Logic.{_⊎_, inl, inr}
 use mathlib.Core.Bool.{Bool, true, false}
@@ -20,7 +20,7 @@ use Rattle.evaluation.specs.declared.Tested.{Tested}
 use Rattle.sizes.specs.Inside.{Inside}
 use Rattle.sizes.proofs.Theorems.{set-passes, condition-passes, counts-pass}
 use Rattle.theory.proofs.Turns.{decide}
-use Rattle.layout.specs.Places.{rule-word, construct-word, variable-word, rule-count, construct-count}
+use Rattle.layout.specs.Places.{rule-word, construct-word, variable-word, rule-count, construct-count, variable-count, term-count}
 use Rattle.layout.specs.Constructs.{both, constructAt}
 use Rattle.layout.specs.Held.{size-of, term-words, terms-of, opening}
 use Rattle.layout.specs.declared.Construct.{Construct}
@@ -37,6 +37,7 @@ use Rattle.agreement.proofs.Picks.{either-way}
 use Rattle.agreement.proofs.Walks.{Definite}
 use Rattle.agreement.proofs.Widths.{binder-width}
 use Rattle.agreement.proofs.Reliable.{Reliable, condition-answers, counts-answer, set-answers}
+use Rattle.agreement.proofs.Ends.{condition-ends, counts-end, set-ends}
 
 -- a binder's values: 1 + a variable whose size is at least the largest value of this width; 0 binds none
 abbrev pub Binds : List ℤ → ℕ → ℕ → Type 0
@@ -105,6 +106,11 @@ module _ (ws : List ℕ) (widest : List ℤ) {weight rooms : Unit {0} → ℕ �
       let m : min 32 (variable-word ws x 1) ≡ width = omega (arith, b .width-is) in
       (2 ^ width - 1, r .each-widest x (b .known) ∙ ap (λ (k : ℕ). pos (2 ^ k - 1)) m, (let z : n ≤ 2 ^ width - 1 = omega arith in z))
 
+  -- a binder is one of the table's variables
+  binder-counted : (i width start end binder : ℕ) → i < construct-count ws → constructAt ws i ≡ Construct.Uint width start end binder → binder ≤ variable-count ws
+  binder-counted i width start end zero h e = omega arith
+  binder-counted i width start end (suc x) h e = binder-width (r .laid) i width start end x h e .counted
+
   enter-safe : (b : ℕ) → b < construct-count ws → Good (enter ws b)
   enter-safe b l = rw (lt-ltb b 256 (omega (arith, r .laid .counts .constructs)), lt-ltb b (construct-count ws) l) l
 
@@ -127,7 +133,8 @@ module _ (ws : List ℕ) (widest : List ℤ) {weight rooms : Unit {0} → ℕ �
       tested i h =
           elim (decide (ltb (construct-word ws i 6) (construct-word ws i 7))) [
             | inl t ↦
-                rw t (condition-passes vs widest inside (construct-word ws i 6) (terms-of ws (construct-word ws i 6) (construct-word ws i 7)) (condition-answers r i h (ltb-true (construct-word ws i 6) (construct-word ws i 7) t)))
+                let l : construct-word ws i 6 < construct-word ws i 7 = ltb-true (construct-word ws i 6) (construct-word ws i 7) t in
+                rw (t, le-leb (construct-word ws i 7) (term-count ws) (condition-ends r i h l)) (condition-passes vs widest inside (construct-word ws i 6) (terms-of ws (construct-word ws i 6) (construct-word ws i 7)) (condition-answers r i h l))
             | inr t ↦ inr (rw t)
           ]
 
@@ -156,7 +163,7 @@ module _ (ws : List ℕ) (widest : List ℤ) {weight rooms : Unit {0} → ℕ �
   counts-shown i n Passes.Optional h e = (within 0 1, refl)
   counts-shown i n Passes.Any h e = (from 0, refl)
   counts-shown i n Passes.Some h e = (from 1, refl)
-  counts-shown i n (Passes.Counted start end) h e = counts-pass vs widest inside (term-words ws) start end (counts-answer r i n start end h e)
+  counts-shown i n (Passes.Counted start end) h e = rw (le-leb end (term-count ws) (counts-end r i h n start end e)) (counts-pass vs widest inside (term-words ws) start end (counts-answer r i n start end h e))
 
   set-safe : (t : Tested) (width binder n : ℕ) → (t ≡ Tested.No) ⊎ (t ≡ Tested.Yes) → Binds widest binder n → Good (by-set t width binder n)
   set-safe t width binder n (inl e) b = rw e tt
@@ -181,15 +188,15 @@ module _ (ws : List ℕ) (widest : List ℤ) {weight rooms : Unit {0} → ℕ �
       let v = value (take width (drop p (frameBits fs))) in
       let l : v < 2 ^ width = value-take-less width (drop p (frameBits fs)) in
       let t : Tested = membership vs (pos v) start (terms-of ws start end) in
-      either-way Good (leb (p + width) (bits-of fs))
+      rw (le-leb end (term-count ws) (set-ends r i h width start end binder e), le-leb binder (variable-count ws) (binder-counted i width start end binder h e))
+      (either-way Good (leb (p + width) (bits-of fs))
       (set-safe t width binder v (set-passes vs widest inside (pos v) start (terms-of ws start end) (set-answers r i width start end binder h e))
       (binds-within i width start end binder v h e l ((rw e at (fine ws i)) .2)))
-      tt
+      tt)
   construct-safe i k Construct.Eod h e = either-way Good (eqb p (bits-of fs)) tt tt
 
   pub act-safe : (i k : ℕ) → InTable ws i → Good (actOf ws fs vs p i k)
   unfolding actOf
   act-safe i k (inl e) = rw (eq-eqb i 256 e) (open-safe 0 (r .laid .counts .some-rule))
   act-safe i k (inr l) =
-      let small : i < 256 = omega (arith, r .laid .counts .constructs) in
-      rw (ne-eqb i 256 (λ e. omega arith), lt-ltb i 256 small, lt-ltb i (construct-count ws) l) (construct-safe i k (constructAt ws i) l refl)
+      rw (ne-eqb i 256 (λ e. omega (arith, r .laid .counts .constructs)), le-leb (i + size-at ws i) (construct-count ws) (ends i (size-at ws i) l refl)) (construct-safe i k (constructAt ws i) l refl)

@@ -32,7 +32,7 @@ effect-few ws fs i k cs ps vs rs h Act.Broken = inl refl
 effect-few ws fs i k cs ps vs rs h Act.Fail = inr (omega arith)
 effect-few ws fs i k cs ps vs rs h (Act.Enter b) = inr (after-few fs (h .count) (h .position))
 effect-few ws fs i k cs ps vs rs h (Act.Members start end n) = either-way Few (leb (h .count + n) 257) (inr (after-few fs (h .count - 1 + n) (h .position))) (inl refl)
-effect-few ws fs i k cs ps vs rs h (Act.Again b) = either-way Few (both (ltb (h .count) 256) (ltb k 4294967295)) (inr (after-few fs (h .count + 1) (h .position))) (inl refl)
+effect-few ws fs i k cs ps vs rs h (Act.Again b) = either-way Few (both (ltb (h .count) 256) (ltb k (bits-of fs + 1))) (inr (after-few fs (h .count + 1) (h .position))) (inl refl)
 effect-few ws fs i k cs ps vs rs h Act.Leave = inr (after-few fs (h .count - 1) (h .position))
 effect-few ws fs i k cs ps vs rs h (Act.Take width binder n) = either-way Few (leb (2 * h .captures + 2) (length rs)) (inr (after-few fs (h .count - 1) (h .position + width))) (inl refl)
 

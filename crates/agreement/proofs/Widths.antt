@@ -65,6 +65,7 @@ construct-width ws i =
 -- a binder's variable, and its width
 pub record Binder (ws : List ℕ) (x width : ℕ) : Type 0 where
   pub known : x < 64
+  pub counted : suc x ≤ variable-count ws
   pub width-is : variable-word ws x 1 ≡ width
 
 pub binder-width : {ws : List ℕ} → Laid ws → (i width start end x : ℕ) → i < construct-count ws → constructAt ws i ≡ Construct.Uint width start end (suc x) → Binder ws x width
@@ -80,5 +81,6 @@ binder-width {ws} l i width start end x h e =
     let w : construct-word ws i 2 ≡ width = rw e at (construct-width ws i) in
     record {
       known = omega (arith, l .counts .variables);
+      counted = few;
       width-is = b .width ∙ (ap (λ (y : ℕ). construct-word ws y 2) place ∙ w);
     }

@@ -3,21 +3,22 @@
 use Prim.Native.Nat.{ℕ, zero, suc, _+_, _*_, _-_, _≤_}
 use native.Mathlib.Omega.{arith}
 use borrow.Author.Tests.{le-leb}
-use mathlib.Core.Path.{_≡_, refl, sym, ap, subst, _∙_}
+use mathlib.Core.Path.{_≡_, refl, sym, ap, ap₂, subst, _∙_}
 use mathlib.Core.Bool.{Bool, true, false}
 use mathlib.Core.List.{List}
 use lib.Dec.{leb}
 use lib.ListN.{length}
 use Rattle.layout.specs.Constructs.{pick, both}
 use Rattle.acts.specs.Acts.{bits-of}
-use Rattle.steps.specs.Steps.{Whole, whole, step-of, steps-of, Fits}
+use Rattle.steps.specs.Steps.{Whole, whole, step-of, steps-of}
 use Rattle.steps.proofs.Running.{steps-stay, steps-none}
 use Rattle.runs.specs.Runs.{head-of, whole-of, entries-fit, fitting, refusal-of, After, after, run-in, reading-in, answer-in, after-steps, grant-of, number-of, taken-of, opened-run}
 use Rattle.runs.specs.declared.Run.{Run}
 use Rattle.runs.specs.declared.Answer.{Answer}
-use Rattle.runs.proofs.Fitting.{Rest, fitting-rest, rest-fitting, fitting-fits}
+use Rattle.runs.specs.Composing.{Arrays, fits, further, ComeTo, GrantsCompose}
+use Rattle.runs.proofs.Fitting.{Rest, rest-fitting}
 use Rattle.runs.proofs.Taken.{steps-in, steps-near, steps-add}
-use Rattle.runs.proofs.Kept.{Roomy, steps-roomy, steps-fit}
+use Rattle.runs.proofs.Kept.{fitting-kept}
 
 -- "no step is taken and nothing changes"
 abbrev pub Unchanged : Run → List ℕ → After → Type 0
@@ -33,10 +34,12 @@ steps-made before (whole cs ps vs rs h) = refl
 pub counted : (before : ℕ) (w : Whole) → taken-of (answer-in (after-steps before w)) ≡ steps-in w - before
 counted before (whole cs ps vs rs h) = refl
 
--- counted from an earlier moment
-sooner : (before between : ℕ) (w : Whole) → before ≤ between → between ≤ steps-in w
-    → after-steps before w ≡ after (run-in (after-steps between w)) (reading-in (after-steps between w)) (Answer.Taken (between - before + taken-of (answer-in (after-steps between w))))
-sooner before between (whole cs ps vs rs h) a b = ap (λ (k : ℕ). after (run-in (after-steps between (whole cs ps vs rs h))) rs (Answer.Taken k)) (let z : h .steps - before ≡ between - before + (h .steps - between) = omega arith in z)
+-- from whichever moment steps are counted, the run and the words are the same
+run-alike : (a b : ℕ) (w : Whole) → run-in (after-steps a w) ≡ run-in (after-steps b w)
+run-alike a b (whole cs ps vs rs h) = refl
+
+reading-alike : (a b : ℕ) (w : Whole) → reading-in (after-steps a w) ≡ reading-in (after-steps b w)
+reading-alike a b (whole cs ps vs rs h) = refl
 
 none-refused : (s t : Bool) → _≡_ {A = ℕ} (pick s (pick t 0 24) 21) 0 → (s ≡ true) × (t ≡ true)
 none-refused true true e = (refl, refl)
@@ -133,24 +136,63 @@ module _ (ws fs : List ℕ) where
         let t : a ≡ steps-in w₁ - run .steps = took in
         ((let z : a ≤ m = omega arith in z), (let z : run₁ .steps ≡ run .steps + a = omega arith in z))
 
-    -- grants add up: the run, the reading and the steps taken are those of one grant of the sum
-    pub grants-add : (n : ℕ) (run₂ : Run) (rs₂ : List ℕ) (b : ℕ) → grant-of ws fs rs₁ run₁ n ≡ after run₂ rs₂ (Answer.Taken b) → grant-of ws fs rs run (m + n) ≡ after run₂ rs₂ (Answer.Taken (a + b))
-    grants-add n run₂ rs₂ b second =
-        let w₂ : Whole = steps-of ws fs n w₁ in
-        let s : run₁ .steps ≡ steps-in w₁ = ap steps-in state in
-        let then : after run₂ rs₂ (Answer.Taken b) ≡ after-steps (steps-in w₁) w₂ =
-        sym second ∙ (granted rs₁ run₁ n (answered rs₁ run₁ n run₂ rs₂ b second) ∙ (ap (λ (k : ℕ). after-steps k (steps-of ws fs n (whole-of rs₁ run₁))) s ∙ ap (λ (w : Whole). after-steps (steps-in w₁) (steps-of ws fs n w)) state)) in
-        granted rs run (m + n) ok ∙ (ap (after-steps (run .steps)) (sym (steps-add ws fs m n (whole-of rs run)))
-        ∙ (sooner (run .steps) (steps-in w₁) w₂ (steps-near ws fs m (whole-of rs run) .0) (steps-near ws fs n w₁ .0)
-        ∙ (ap (λ (k : ℕ). after (run-in (after-steps (steps-in w₁) w₂)) (reading-in (after-steps (steps-in w₁) w₂)) (Answer.Taken (k + taken-of (answer-in (after-steps (steps-in w₁) w₂))))) (sym took)
-        ∙ ap (λ (x : After). after (run-in x) (reading-in x) (Answer.Taken (a + taken-of (answer-in x)))) (sym then))))
+module _ (ws fs rs : List ℕ) (run : Run) (m n : ℕ) (lengths : Arrays run) where
+  abbrev x : After
+  x = grant-of ws fs rs run m
 
-    -- what the steps changed is refused, over the same table, frame and reading, exactly where an entry no longer fits
-    pub refused-again : length (run .constructs) ≡ 256 → length (run .passes) ≡ 256 → refusal-of ws fs rs₁ run₁ ≡ pick (entries-fit ws (bits-of fs) (run₁ .constructs) (run₁ .passes) (run₁ .count)) 0 24
-    refused-again lc lp =
-        let e = none-refused (leb (length fs) 256) (fit rs run) ok in
-        let r = fitting-rest ws fs (length rs) (run .constructs) (run .passes) (head-of run) (e .1) in
-        let f : Fits fs (whole-of rs₁ run₁) = subst (Fits fs) (sym state) (steps-fit ws fs (length rs) m (whole-of rs run) (fitting-fits ws fs (run .constructs) (run .passes) (run .values) rs (head-of run) lc lp (e .1) .1)) in
-        let g : Roomy ws fs (length rs) (whole-of rs₁ run₁) = subst (Roomy ws fs (length rs)) (sym state) (steps-roomy ws fs (length rs) m (whole-of rs run) (r .verdict, refl, r .roomy)) in
-        let k : Rest ws fs (length rs₁) (head-of run₁) = record { table = r .table; position = f .0; verdict = g .0; count = f .1; roomy = subst (λ (l : ℕ). 2 * (run₁ .captures + (bits-of fs - run₁ .position)) ≤ l) (sym (g .1)) (g .2) } in
-        ap (λ (t : Bool). pick t (pick (fit rs₁ run₁) 0 24) 21) (e .0) ∙ ap (λ (t : Bool). pick t 0 24) (rest-fitting ws fs (length rs₁) (run₁ .constructs) (run₁ .passes) (head-of run₁) k)
+  abbrev y : After
+  y = further ws fs x n
+
+  abbrev z : After
+  z = grant-of ws fs rs run (m + n)
+
+  -- refused, nothing changes, and so is every further grant
+  turned-away : (refusal-of ws fs rs run ≡ 0 → ⊥) → ComeTo x y z
+  turned-away h =
+      let ux = refused ws fs rs run m h in
+      let same : refusal-of ws fs (reading-in x) (run-in x) ≡ refusal-of ws fs rs run = λ t. refusal-of ws fs (ux .1 t) (ux .0 t) in
+      let uy = refused ws fs (reading-in x) (run-in x) n (λ e. h (sym same ∙ e)) in
+      let uz = refused ws fs rs run (m + n) h in
+      record {
+        run = uy .0 ∙ (ux .0 ∙ sym (uz .0));
+        reading = uy .1 ∙ (ux .1 ∙ sym (uz .1));
+        number = refusal-told ws fs (reading-in x) (run-in x) n ∙ (same ∙ sym (refusal-told ws fs rs run (m + n)));
+        taken = ap₂ _+_ (ux .2) (uy .2) ∙ sym (uz .2);
+      }
+
+  -- granted, the second is granted too
+  let-pass : refusal-of ws fs rs run ≡ 0 → ComeTo x y z
+  let-pass ok =
+      let w₁ : Whole = steps-of ws fs m (whole-of rs run) in
+      let w₂ : Whole = steps-of ws fs n w₁ in
+      let ex : x ≡ after-steps (run .steps) w₁ = granted ws fs rs run m ok in
+      let state : whole-of (reading-in x) (run-in x) ≡ w₁ = ap (λ (a : After). whole-of (reading-in a) (run-in a)) ex ∙ made (run .steps) w₁ in
+      let e = none-refused (leb (length fs) 256) (fit ws fs rs run) ok in
+      let passes : fits ws fs (whole-of (reading-in x) (run-in x)) ≡ true = ap (fits ws fs) state ∙ fitting-kept ws fs rs run m lengths (e .1) in
+      let ok₁ : refusal-of ws fs (reading-in x) (run-in x) ≡ 0 = simp (e .0, passes) in
+      let s : run-in x .steps ≡ steps-in w₁ = ap steps-in state in
+      let ey : y ≡ after-steps (steps-in w₁) w₂ =
+      granted ws fs (reading-in x) (run-in x) n ok₁ ∙ (λ t. after-steps (s t) (steps-of ws fs n (state t))) in
+      let ez : z ≡ after-steps (run .steps) w₂ = granted ws fs rs run (m + n) ok ∙ ap (after-steps (run .steps)) (sym (steps-add ws fs m n (whole-of rs run))) in
+      let tx : taken-of (answer-in x) ≡ steps-in w₁ - run .steps = ap (λ (a : After). taken-of (answer-in a)) ex ∙ counted (run .steps) w₁ in
+      let ty : taken-of (answer-in y) ≡ steps-in w₂ - steps-in w₁ = ap (λ (a : After). taken-of (answer-in a)) ey ∙ counted (steps-in w₁) w₂ in
+      let tz : taken-of (answer-in z) ≡ steps-in w₂ - run .steps = ap (λ (a : After). taken-of (answer-in a)) ez ∙ counted (run .steps) w₂ in
+      let a : run .steps ≤ steps-in w₁ = steps-near ws fs m (whole-of rs run) .0 in
+      let b : steps-in w₁ ≤ steps-in w₂ = steps-near ws fs n w₁ .0 in
+      record {
+        run = ap run-in ey ∙ (run-alike (steps-in w₁) (run .steps) w₂ ∙ sym (ap run-in ez));
+        reading = ap reading-in ey ∙ (reading-alike (steps-in w₁) (run .steps) w₂ ∙ sym (ap reading-in ez));
+        number = refusal-told ws fs (reading-in x) (run-in x) n ∙ (ok₁ ∙ (sym ok ∙ sym (refusal-told ws fs rs run (m + n))));
+        taken = omega (arith, tx, ty, tz, a, b);
+      }
+
+  composed : ComeTo x y z
+  composed = by (refusal-of ws fs rs run) refl
+    where
+      by : (r : ℕ) → refusal-of ws fs rs run ≡ r → ComeTo x y z
+      by zero e = let-pass e
+      by (suc k) e = turned-away (λ z. absurd (omega (arith, e, z)))
+
+-- grants compose
+pub grants-compose : GrantsCompose
+grants-compose ws fs rs run m n lengths = composed ws fs rs run m n lengths

@@ -1,19 +1,24 @@
--- Steps keep all that 24 asks of a run but its entries: for any words, a run that fits has a position within the frame, a known verdict, at
--- most 256 entries and room for what is recorded and unread, after every step too. Its entries may cease to fit where the table is not sound:
--- a branch may stand past the count of constructs, and a body that takes no bits may pass more often than there are bits.
+-- Steps keep all that 24 asks, for any words: a run that fits has a position within the frame, a known verdict, at most 256 entries that are all
+-- in the table, and room for what is recorded and unread, after every step too.
 -- Assumes nothing.
 use Prim.Native.Nat.{ℕ, zero, suc, _+_, _*_, _-_, _≤_}
 use native.Mathlib.Omega.{arith}
-use mathlib.Core.Path.{_≡_, _∙_}
+use mathlib.Core.Path.{_≡_, refl, sym, _∙_}
 use mathlib.Core.Bool.{Bool, true, false}
 use mathlib.Core.List.{List}
 use lib.Dec.{eqb}
+use lib.IntN.{ℤ}
 use lib.ListN.{length, set, length-set}
 use Rattle.layout.specs.Constructs.{pick}
 use Rattle.acts.specs.Acts.{bits-of}
 use Rattle.steps.specs.Steps.{Whole, whole, verdict-after, step-of, steps-of, Fits}
 use Rattle.steps.proofs.Running.{step-fits}
+use Rattle.steps.specs.declared.Head.{Head}
+use Rattle.runs.specs.Runs.{head-of, whole-of, entries-fit}
+use Rattle.runs.specs.Composing.{fits, FittingKept}
+use Rattle.runs.proofs.Fitting.{fitting-rest, rest-fitting, fitting-fits}
 use Rattle.runs.proofs.Ways.{stepped}
+use Rattle.runs.proofs.Entries.{Entries, entries-all, entries-each, steps-entries}
 
 module _ (ws fs : List ℕ) (most : ℕ) where
   -- a known verdict, and room for what is recorded and unread in a reading of so many words
@@ -52,3 +57,25 @@ module _ (ws fs : List ℕ) (most : ℕ) where
   unfolding steps-of
   steps-fit zero w f = f
   steps-fit (suc n) w f = steps-fit n (step-of ws fs w) (step-fits ws fs w f)
+
+-- what fits, taken apart and put together
+module _ (ws fs : List ℕ) where
+  pub fitting-known : (cs ps : List ℕ) (vs : List ℤ) (rs : List ℕ) (h : Head) → fits ws fs (whole cs ps vs rs h) ≡ true → entries-fit ws (bits-of fs) cs ps (h .count) ≡ true
+  fitting-known cs ps vs rs h e = sym (rest-fitting ws fs (length rs) cs ps h (fitting-rest ws fs (length rs) cs ps h e)) ∙ e
+
+  put-together : (most : ℕ) (w : Whole) → 16384 ≤ length ws → Fits fs w → Roomy ws fs most w → Entries ws fs w → fits ws fs w ≡ true
+  put-together most (whole cs ps vs rs h) t f g e =
+      let m : 2 * (h .captures + (bits-of fs - h .position)) ≤ most = g .2 in
+      rest-fitting ws fs (length rs) cs ps h (record { table = t; position = f .0; verdict = g .0; count = f .1; roomy = omega (arith, g .1) }) ∙ entries-all ws fs cs ps (h .count) (e .0) (e .1)
+
+-- "a run that 24 lets pass passes it after any number of steps"
+pub fitting-kept : FittingKept
+fitting-kept ws fs rs run n lengths e =
+    let cs : List ℕ = run .constructs in
+    let ps : List ℕ = run .passes in
+    let h : Head = head-of run in
+    let w : Whole = whole-of rs run in
+    let r = fitting-rest ws fs (length rs) cs ps h e in
+    let f = fitting-fits ws fs cs ps (run .values) rs h (lengths .0) (lengths .1) e in
+    put-together ws fs (length rs) (steps-of ws fs n w) (f .0) (steps-fit ws fs (length rs) n w (f .1)) (steps-roomy ws fs (length rs) n w (r .verdict, refl, r .roomy))
+    (steps-entries ws fs n w (f .1) (entries-each ws fs cs ps (run .count) (fitting-known ws fs cs ps (run .values) rs h e)))

@@ -2,5 +2,6 @@
 pub mod Fitting
 pub mod Ways
 pub mod Taken
+pub mod Entries
 pub mod Kept
 pub mod Grants

@@ -3,15 +3,16 @@
 use Prim.Native.Nat.{ℕ, _+_, _*_, _-_, _≤_}
 use mathlib.Core.Bool.{Bool, true, false}
 use mathlib.Core.List.{List}
-use lib.Dec.{leb, ltb, eqb}
+use lib.Dec.{leb, ltb}
 use lib.IntN.{ℤ}
 use lib.ListN.{length, getD, set}
 use Rattle.layout.specs.Constructs.{pick, both}
 use Rattle.acts.specs.Acts.{actOf, bits-of, Doable}
 use Rattle.acts.specs.declared.Act.{Act}
 use Rattle.acts.proofs.Doing.{doable}
-use Rattle.steps.specs.Steps.{Whole, whole, break, fail, taken, placed, bind, effect, in-bound, first-step, step-of}
+use Rattle.steps.specs.Steps.{Whole, whole, break, fail, taken, placed, bind, effect, step-of}
 use Rattle.steps.specs.declared.Head.{Head}
+use Rattle.steps.proofs.Running.{step-by}
 
 module _ (fs : List ℕ) (P : Whole → Type 0) (cs ps : List ℕ) (vs : List ℤ) (rs : List ℕ) (h : Head) where
   -- nothing, broken, failed, another list, a field recorded: it lies within the frame and takes a bit
@@ -28,7 +29,7 @@ module _ (fs : List ℕ) (P : Whole → Type 0) (cs ps : List ℕ) (vs : List �
   picked false a b x y = y
 
   module _ (w : Ways) (ws : List ℕ) where
-    effected : (i k : ℕ) (a : Act) → Doable fs (h .position) a → P (effect ws fs i k cs ps vs rs h a)
+    effected : (i k : ℕ) (a : Act) → Doable ws fs (h .position) a → P (effect ws fs i k cs ps vs rs h a)
     effected i k Act.Broken d = w .broke
     effected i k Act.Fail d = w .failed
     effected i k (Act.Enter b) d = w .moved (set cs (h .count - 1) b) (set ps (h .count - 1) 0) (h .count)
@@ -40,7 +41,7 @@ module _ (fs : List ℕ) (P : Whole → Type 0) (cs ps : List ℕ) (vs : List �
     effected i k (Act.Again b) d =
         let cs′ : List ℕ = set cs (h .count) b in
         let ps′ : List ℕ = set (set ps (h .count - 1) (k + 1)) (h .count) 0 in
-        picked (both (ltb (h .count) 256) (ltb k 4294967295)) (whole cs′ ps′ vs rs (taken fs h (h .count + 1) (h .position) (h .captures))) (whole cs ps vs rs (break h)) (w .moved cs′ ps′ (h .count + 1)) (w .broke)
+        picked (both (ltb (h .count) 256) (ltb k (bits-of fs + 1))) (whole cs′ ps′ vs rs (taken fs h (h .count + 1) (h .position) (h .captures))) (whole cs ps vs rs (break h)) (w .moved cs′ ps′ (h .count + 1)) (w .broke)
     effected i k Act.Leave d = w .moved cs ps (h .count - 1)
     effected i k (Act.Take width binder n) d =
         picked (leb (2 * h .captures + 2) (length rs))
@@ -48,16 +49,7 @@ module _ (fs : List ℕ) (P : Whole → Type 0) (cs ps : List ℕ) (vs : List �
         (whole cs ps vs rs (break h)) (w .took i width binder n (d .0) (d .3)) (w .broke)
 
     pub stepped : P (step-of ws fs (whole cs ps vs rs h))
-    unfolding step-of
     stepped =
         let i : ℕ = getD cs (h .count - 1) 0 in
         let k : ℕ = getD ps (h .count - 1) 0 in
-        let ended : Whole = whole cs ps vs rs (break h) in
-        let done : Whole = effect ws fs i k cs ps vs rs h (actOf ws fs vs (h .position) i k) in
-        let first : Whole = first-step ws fs i k cs ps vs rs h in
-        let here : Whole = pick (eqb (h .count) 0) ended first in
-        picked (eqb (h .verdict) 0) (pick (in-bound ws fs (h .steps)) here ended) (whole cs ps vs rs h)
-        (picked (in-bound ws fs (h .steps)) here ended
-        (picked (eqb (h .count) 0) ended first (w .broke) (picked (leb i 256) done ended (effected i k (actOf ws fs vs (h .position) i k) (doable ws fs vs (h .position) i k)) (w .broke)))
-        (w .broke))
-        (w .same)
+        step-by ws fs P cs ps vs rs h (w .same) (w .broke) (λ some. effected i k (actOf ws fs vs (h .position) i k) (doable ws fs vs (h .position) i k))

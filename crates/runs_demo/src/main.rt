@@ -1,5 +1,5 @@
 // Runs of the bench sheet's tables over their frames, by grants of 2^64 - 1, of 1, and of 0 and 3 in turn; then saved runs, tables, frames
-// and readings of which each is refused or broken for another reason.
+// and readings of which each is refused or broken for another reason; then forged runs and tables, which end alike by one grant and by many.
 use libc::STDOUT_FILENO;
 use runs::Answer;
 use runs::Run;
@@ -78,6 +78,10 @@ fn grant(
     run: Run,
     steps: u64,
 ) -> Run {
+    if steps == 1 {
+        let one = runs::step(&table[..], frame, &mut reading[..], run);
+        return one.run;
+    }
     let granted = runs::advance(&table[..], frame, &mut reading[..], run, steps);
     granted.run
 }
@@ -89,10 +93,10 @@ fn in_turn(grants: u64, even: u64, odd: u64) -> u64 {
     odd
 }
 
-// An opened run, by grants of `even` and `odd` in turn until it is decided.
-fn play(table: &[u32; 16384], frame: &[u8], even: u64, odd: u64) {
+// A run, by grants of `even` and `odd` in turn until it is decided.
+fn play(table: &[u32; 16384], frame: &[u8], from: Run, even: u64, odd: u64) {
     let mut reading = [0u32; 512];
-    let mut run = runs::opened();
+    let mut run = from;
     let mut grants: u64 = 0;
     while grants < 1000 {
         if run.verdict != 0 {
@@ -105,12 +109,22 @@ fn play(table: &[u32; 16384], frame: &[u8], even: u64, odd: u64) {
     show_run(run, grants, &reading);
 }
 
-fn row(name: &[u8], table: &[u32; 16384], frame: &[u8]) {
+fn three_ways(name: &[u8], table: &[u32; 16384], frame: &[u8], run: Run) {
     text(name);
     text(b"\n");
-    play(table, frame, 18446744073709551615, 18446744073709551615);
-    play(table, frame, 1, 1);
-    play(table, frame, 0, 3);
+    play(
+        table,
+        frame,
+        run,
+        18446744073709551615,
+        18446744073709551615,
+    );
+    play(table, frame, run, 1, 1);
+    play(table, frame, run, 0, 3);
+}
+
+fn row(name: &[u8], table: &[u32; 16384], frame: &[u8]) {
+    three_ways(name, table, frame, runs::opened());
 }
 
 fn sheet() {
@@ -274,15 +288,80 @@ fn broken() {
     saved(b"kind 10", &table, runs::opened());
 }
 
-// A table that counts one construct of four: after two steps the list holds others, which a later grant refuses.
-fn leaves_table() {
+// A run before construct i.
+fn before(i: u32) -> Run {
+    let mut run = runs::opened();
+    run.constructs[0] = i;
+    run
+}
+
+// A table that counts fewer constructs than one of them has parts: members, a branch, a body, a case.
+fn members_past() {
     let mut table = [0u32; 16384];
     bench_tables::g(&mut table);
-    bench_tables::put(&mut table, 2, 1);
-    let mut reading = [0u32; 512];
-    let frame = [2u8, 65, 66];
-    let run = grant(&table, &frame, &mut reading, runs::opened(), 2);
-    saved(b"one construct counted, after two steps", &table, run);
+    bench_tables::put(&mut table, 2, 3);
+    row(b"3 of 4 constructs, members", &table, &[2, 65, 66]);
+}
+
+fn branch_past() {
+    let mut table = [0u32; 16384];
+    bench_tables::k5(&mut table);
+    bench_tables::put(&mut table, 2, 2);
+    bench_tables::put(&mut table, 7818, 2);
+    row(b"2 of 3 constructs, a branch", &table, b"AC");
+}
+
+fn body_past() {
+    let mut table = [0u32; 16384];
+    bench_tables::k6(&mut table);
+    bench_tables::k6_sets(&mut table);
+    bench_tables::put(&mut table, 2, 2);
+    three_ways(b"2 of 4 constructs, a body", &table, &[17], before(1));
+}
+
+fn over_k10(name: &[u8], constructs: u32, terms: u32) {
+    let mut table = [0u32; 16384];
+    bench_tables::k10(&mut table);
+    bench_tables::put(&mut table, 2, constructs);
+    bench_tables::put(&mut table, 4, terms);
+    let mut run = before(2);
+    run.values[0] = 2;
+    three_ways(name, &table, b"AB", run);
+}
+
+fn case_past() {
+    over_k10(b"4 of 5 constructs, a case", 4, 8);
+    over_k10(b"6 of 8 terms, a condition", 5, 6);
+}
+
+// Fewer terms and variables than a set, counts and a binder name.
+fn counted_g(name: &[u8], variables: u32, terms: u32) {
+    let mut table = [0u32; 16384];
+    bench_tables::g(&mut table);
+    bench_tables::put(&mut table, 3, variables);
+    bench_tables::put(&mut table, 4, terms);
+    row(name, &table, &[2, 65, 66]);
+}
+
+fn terms_past() {
+    counted_g(b"2 of 5 terms, a set", 1, 2);
+    counted_g(b"3 of 5 terms, counts", 1, 3);
+    counted_g(b"no variable, a binder", 0, 5);
+}
+
+// A pass more than the frame's bits and one.
+fn passed(name: &[u8], passes: u32) {
+    let mut table = [0u32; 16384];
+    bench_tables::k6(&mut table);
+    bench_tables::k6_sets(&mut table);
+    let mut run = before(1);
+    run.passes[0] = passes;
+    three_ways(name, &table, &[18], run);
+}
+
+fn passes_past() {
+    passed(b"8 passes of 8 bits", 8);
+    passed(b"9 passes of 8 bits", 9);
 }
 
 fn main() {
@@ -292,5 +371,10 @@ fn main() {
     lists();
     verdicts();
     broken();
-    leaves_table();
+    members_past();
+    branch_past();
+    body_past();
+    case_past();
+    terms_past();
+    passes_past();
 }

@@ -38,6 +38,33 @@ positive zero h = absurd (h refl)
 positive (suc n) h = omega arith
 
 module _ (ws fs : List ℕ) where
+  -- what holds after a step, from what holds of the run as it is, broken, and after what was decided for its first entry
+  module _ (P : Whole → Type 0) where
+    by-test : (t : Bool) (a b : Whole) → (t ≡ true → P a) → (t ≡ false → P b) → P (pick t a b)
+    by-test true a b x y = x refl
+    by-test false a b x y = y refl
+
+    pub step-by : (cs ps : List ℕ) (vs : List ℤ) (rs : List ℕ) (h : Head) → P (whole cs ps vs rs h) → P (whole cs ps vs rs (break h))
+        → (0 < h .count → P (effect ws fs (getD cs (h .count - 1) 0) (getD ps (h .count - 1) 0) cs ps vs rs h (actOf ws fs vs (h .position) (getD cs (h .count - 1) 0) (getD ps (h .count - 1) 0))))
+        → P (step-of ws fs (whole cs ps vs rs h))
+    unfolding step-of
+    step-by cs ps vs rs h same broke acts =
+        let i : ℕ = getD cs (h .count - 1) 0 in
+        let k : ℕ = getD ps (h .count - 1) 0 in
+        let ended : Whole = whole cs ps vs rs (break h) in
+        let first : Whole = first-step ws fs i k cs ps vs rs h in
+        let here : Whole = pick (eqb (h .count) 0) ended first in
+        by-test (eqb (h .verdict) 0) (pick (in-bound ws fs (h .steps)) here ended) (whole cs ps vs rs h)
+        (λ e.
+        by-test (in-bound ws fs (h .steps)) here ended
+        (λ b.
+        by-test (eqb (h .count) 0) ended first (λ z. broke)
+        (λ z.
+        let some : 0 < h .count = positive (h .count) (eqb-false (h .count) 0 z) in
+        by-test (leb i 256) (effect ws fs i k cs ps vs rs h (actOf ws fs vs (h .position) i k)) ended (λ l. acts some) (λ l. broke)))
+        (λ b. broke))
+        (λ e. same)
+
   picked : (t : Bool) (a b : Whole) → (t ≡ true → Fits fs a) → Fits fs b → Fits fs (pick t a b)
   picked true a b x y = x refl
   picked false a b x y = y
@@ -56,11 +83,11 @@ module _ (ws fs : List ℕ) where
 
     again-fits : (k b : ℕ) → Fits fs (again-done fs cs ps vs rs h k b)
     again-fits k b =
-        picked (both (ltb (h .count) 256) (ltb k 4294967295))
+        picked (both (ltb (h .count) 256) (ltb k (bits-of fs + 1)))
         (whole (set cs (h .count) b) (set (set ps (h .count - 1) (k + 1)) (h .count) 0) vs rs (taken fs h (h .count + 1) (h .position) (h .captures)))
         (whole cs ps vs rs (break h))
         (λ e.
-        let l : h .count < 256 = ltb-true (h .count) 256 (both-true (ltb (h .count) 256) (ltb k 4294967295) e .0) in
+        let l : h .count < 256 = ltb-true (h .count) 256 (both-true (ltb (h .count) 256) (ltb k (bits-of fs + 1)) e .0) in
         (f .0, (let z : h .count + 1 ≤ 256 = omega arith in z), f .2, length-set cs (h .count) b ∙ f .3, length-set (set ps (h .count - 1) (k + 1)) (h .count) 0 ∙ (length-set ps (h .count - 1) (k + 1) ∙ f .4)))
         f
 
@@ -75,7 +102,7 @@ module _ (ws fs : List ℕ) where
         (w, (let z : h .count - 1 ≤ 256 = omega (arith, f .1) in z), (let z : 2 * (h .captures + 1) ≤ length (set (set rs (2 * h .captures) i) (2 * h .captures + 1) (h .position)) = omega arith in z), f .3, f .4))
         f
 
-    effect-fits : (i k : ℕ) (a : Act) → Doable fs (h .position) a → Fits fs (effect ws fs i k cs ps vs rs h a)
+    effect-fits : (i k : ℕ) (a : Act) → Doable ws fs (h .position) a → Fits fs (effect ws fs i k cs ps vs rs h a)
     effect-fits i k Act.Broken d = f
     effect-fits i k Act.Fail d = f
     effect-fits i k (Act.Enter b) d = (f .0, f .1, f .2, length-set cs (h .count - 1) b ∙ f .3, length-set ps (h .count - 1) 0 ∙ f .4)
@@ -84,29 +111,11 @@ module _ (ws fs : List ℕ) where
     effect-fits i k Act.Leave d = (f .0, (let z : h .count - 1 ≤ 256 = omega (arith, f .1) in z), f .2, f .3, f .4)
     effect-fits i k (Act.Take width binder n) d = take-fits i width binder n (d .0)
 
-    first-fits : (i k : ℕ) → Fits fs (first-step ws fs i k cs ps vs rs h)
-    first-fits i k =
-        picked (leb i 256) (effect ws fs i k cs ps vs rs h (actOf ws fs vs (h .position) i k)) (whole cs ps vs rs (break h))
-        (λ e. effect-fits i k (actOf ws fs vs (h .position) i k) (doable ws fs vs (h .position) i k)) f
-
-  -- a test, with what it says where it fails
-  left : (t : Bool) (a b : Whole) → Fits fs a → (t ≡ false → Fits fs b) → Fits fs (pick t a b)
-  left true a b x y = x
-  left false a b x y = y refl
-
   pub step-fits : (w : Whole) → Fits fs w → Fits fs (step-of ws fs w)
-  unfolding step-of
   step-fits (whole cs ps vs rs h) f =
-      let first : Whole = first-step ws fs (getD cs (h .count - 1) 0) (getD ps (h .count - 1) 0) cs ps vs rs h in
-      let here : Whole = pick (eqb (h .count) 0) (whole cs ps vs rs (break h)) first in
-      picked (eqb (h .verdict) 0) (pick (in-bound ws fs (h .steps)) here (whole cs ps vs rs (break h))) (whole cs ps vs rs h)
-      (λ e.
-      picked (in-bound ws fs (h .steps)) here (whole cs ps vs rs (break h))
-      (λ b.
-      left (eqb (h .count) 0) (whole cs ps vs rs (break h)) first f
-      (λ n. first-fits cs ps vs rs h f (let z : h .count ≡ 0 → ⊥ = eqb-false (h .count) 0 n in positive (h .count) z) (getD cs (h .count - 1) 0) (getD ps (h .count - 1) 0)))
-      f)
-      f
+      let i : ℕ = getD cs (h .count - 1) 0 in
+      let k : ℕ = getD ps (h .count - 1) 0 in
+      step-by (Fits fs) cs ps vs rs h f f (λ some. effect-fits cs ps vs rs h f some i k (actOf ws fs vs (h .position) i k) (doable ws fs vs (h .position) i k))
 
   -- a run that is not undecided stays as it is
   pub step-stays : (cs ps : List ℕ) (vs : List ℤ) (rs : List ℕ) (h : Head) → (h .verdict ≡ 0 → ⊥) → step-of ws fs (whole cs ps vs rs h) ≡ whole cs ps vs rs h

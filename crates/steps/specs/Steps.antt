@@ -74,10 +74,10 @@ members-done ws fs cs ps vs rs h start end n =
     (whole (placed (λ j. j) ws start end (h .count - 1 + n) cs) (placed (λ j. 0) ws start end (h .count - 1 + n) ps) vs rs (taken fs h (h .count - 1 + n) (h .position) (h .captures)))
     (whole cs ps vs rs (break h))
 
--- the first entry with one pass more than k, below its body
+-- the first entry with one pass more than k, below its body; a list has room for "the frame's bits and one" passes, as 24 says
 abbrev pub again-done : List ℕ → List ℕ → List ℕ → List ℤ → List ℕ → Head → ℕ → ℕ → Whole
 again-done fs cs ps vs rs h k b =
-    pick (both (ltb (h .count) 256) (ltb k 4294967295))
+    pick (both (ltb (h .count) 256) (ltb k (bits-of fs + 1)))
     (whole (set cs (h .count) b) (set (set ps (h .count - 1) (k + 1)) (h .count) 0) vs rs (taken fs h (h .count + 1) (h .position) (h .captures)))
     (whole cs ps vs rs (break h))
 

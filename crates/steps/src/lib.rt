@@ -185,7 +185,7 @@ fn do_again(
     if 256 <= count {
         return broken(head);
     }
-    if 4294967295 <= k {
+    if 8 * frame.len() + 1 <= k as usize {
         return broken(head);
     }
     again(constructs, passes, count, k, body);
@@ -232,7 +232,7 @@ fn do_act(
     k: u32,
     act: Act,
 ) -> Head
-    requires { ⌜ (length (now frame) ≤ 256) × (head .steps < 18446744073709551615) × (0 < head .count) × (head .count ≤ 256) × (2 * head .captures ≤ length (now reading)) × (i ≤ 256) × (length (now constructs) ≡ 256) × (length (now passes) ≡ 256) × Doable (now frame) (head .position) act ⌝ }
+    requires { ⌜ (length (now frame) ≤ 256) × (head .steps < 18446744073709551615) × (0 < head .count) × (head .count ≤ 256) × (2 * head .captures ≤ length (now reading)) × (i ≤ 256) × (length (now constructs) ≡ 256) × (length (now passes) ≡ 256) × Doable (now table) (now frame) (head .position) act ⌝ }
     ensures { λ r. ⌜ whole (now (constructs .exit)) (now (passes .exit)) (now (values .exit)) (now (reading .exit)) r ≡ effectOf (now (table .entry)) (now (frame .entry)) i k (now (constructs .entry)) (now (passes .entry)) (now (values .entry)) (now (reading .entry)) head act ⌝ }
 {
     let count = head.count;

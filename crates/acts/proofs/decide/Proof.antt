@@ -1,17 +1,18 @@
 use native.Mathlib.Omega.{arith}
-use Prim.Native.Nat.{_<_}
-use borrow.Author.Tests.{eq-eqb, ne-eqb, lt-ltb, le-ltb}
-use mathlib.Core.Path.{sym, subst}
+use borrow.Author.Tests.{eq-eqb, ne-eqb, le-leb, lt-leb}
+use mathlib.Core.Path.{sym, subst, ap, _∙_}
+use Rattle.layout.specs.Held.{size-of}
 use Rattle.acts.specs.Acts.{Fine, actOf}
-use Rattle.acts.proofs.Sizes.{construct-fine}
+use Rattle.acts.proofs.Sizes.{size-small, construct-fine}
 use borrow.Author.Needs.{needs}
 use Rattle.acts.proofs.decide.Statement.{statement}
 use Rattle.acts.proofs.decide.Tie as tie
 use Rattle.acts.proofs.decide.Reads as reads
 use Rattle.acts.proofs.decide.Lts as lts
-use Rattle.acts.proofs.open_rule.Reads as open-rule-reads
 use Rattle.acts.proofs.of_construct.Reads as of-construct-reads
+use Rattle.acts.proofs.open_rule.Reads as open-rule-reads
 use Rattle.layout.proofs.construct_at.Reads as construct-at-reads
+use Rattle.layout.proofs.size_of.Reads as size-of-reads
 use Rattle.layout.proofs.word.Reads as word-reads
 
 open-rule-requires : tie.Need-open-rule-requires
@@ -21,22 +22,28 @@ returns : tie.Need-returns
 unfolding actOf
 returns c = simp (eq-eqb _ _ (c .before .if1 .taken)) (c .open-rule .ensures)
 
-word-requires : tie.Need-word-requires
-word-requires c κs = search needs
-
 construct-at-requires : tie.Need-construct-at-requires
 construct-at-requires c κs = search needs
 
+size-of-requires : tie.Need-size-of-requires
+size-of-requires c κs = search needs
+
+add-end : tie.Need-add-end
+add-end c = (let few = size-small (c .before .before .before .before .before .args .table .now) (c .before .before .before .before .before .args .i) in let is = c .size-of .ensures ∙ ap size-of (c .before .construct-at .ensures) in omega arith)
+
+word-requires : tie.Need-word-requires
+word-requires c κs = search needs
+
 of-construct-requires : tie.Need-of-construct-requires
-of-construct-requires c κs = (omega arith, omega arith, omega arith, omega arith, subst (Fine (c .before .before .before .before .before .before .args .i)) (sym (c .construct-at .ensures)) (construct-fine (c .before .before .before .before .before .before .args .table .now) (c .before .before .before .before .before .before .args .i)))
+of-construct-requires c κs = (omega arith, omega arith, omega arith, omega arith, subst (Fine (c .before .before .before .before .before .before .before .args .i)) (sym (c .before .before .before .construct-at .ensures)) (construct-fine (c .before .before .before .before .before .before .before .args .table .now) (c .before .before .before .before .before .before .before .args .i)))
 
 returns-2 : tie.Need-returns-2
 unfolding actOf
-returns-2 c = simp (ne-eqb _ _ (c .before .before .before .before .if1 .left), lt-ltb (c .before .before .before .before .before .before .before .args .i) 256 (let z : c .before .before .before .before .before .before .before .args .i < 256 = omega arith in z), ← (c .before .before .before .word .ensures .0), lt-ltb _ _ (c .before .before .if2 .taken), ← (c .before .construct-at .ensures)) (c .of-construct .ensures)
+returns-2 c = simp (ne-eqb _ _ (c .before .before .before .before .before .if1 .left), ← (c .before .before .before .before .construct-at .ensures), ← (c .before .before .before .size-of .ensures), ← (c .before .before .word .ensures .0), le-leb _ _ (c .before .if2 .taken)) (c .of-construct .ensures)
 
 returns-3 : tie.Need-returns-3
 unfolding actOf
-returns-3 c = simp (ne-eqb _ _ (c .before .before .if1 .left), lt-ltb (c .before .before .before .before .before .args .i) 256 (let z : c .before .before .before .before .before .args .i < 256 = omega arith in z), ← (c .before .word .ensures .0), le-ltb _ _ (c .if2 .left))
+returns-3 c = simp (ne-eqb _ _ (c .before .before .before .before .if1 .left), ← (c .before .before .before .construct-at .ensures), ← (c .before .before .size-of .ensures), ← (c .before .word .ensures .0), lt-leb _ _ (c .if2 .left))
 
 pub decide-spec : {M : Type 1} → statement M
 decide-spec =
@@ -44,8 +51,10 @@ decide-spec =
     (tie.spec
     open-rule-requires
     returns
-    word-requires
     construct-at-requires
+    size-of-requires
+    add-end
+    word-requires
     of-construct-requires
     returns-2
     returns-3)

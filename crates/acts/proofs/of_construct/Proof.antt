@@ -50,7 +50,7 @@ enum-known-construct-3 c = search needs
 
 -- src/lib.rt:365:54
 repeat-requires : tie.Need-repeat-requires
-repeat-requires c κs = (omega arith, subst (Fine (c .before .before .before .before .before .args .i)) (c .before .construct3 .given .1) (c .before .before .before .before .before .pre .4), omega arith, omega arith)
+repeat-requires c κs = (let f = subst (Fine (c .before .before .before .before .before .args .i)) (c .before .construct3 .given .1) (c .before .before .before .before .before .pre .4) in (omega arith, omega (arith, f .0, f .1), omega arith, omega arith))
 
 -- src/lib.rt:366:29
 enum-known-construct-4 : tie.Need-enum-known-construct-4

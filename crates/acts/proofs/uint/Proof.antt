@@ -1,45 +1,30 @@
-use Prim.Native.Nat.{_^_, _≤_}
-use native.Mathlib.Omega.{arith}
-use lib.Pow.{pow-mono}
 use borrow.Author.Tests.{le-leb, lt-leb}
 use borrow.Author.Needs.{needs}
 use Rattle.acts.proofs.uint.Statement.{statement}
 use Rattle.acts.proofs.uint.Tie as tie
 use Rattle.acts.proofs.uint.Reads as reads
 use Rattle.acts.proofs.uint.Lts as lts
-use Rattle.acts.proofs.by_set.Reads as by-set-reads
-use Rattle.acts.proofs.set_holds.Reads as set-holds-reads
-use Rattle.frame.proofs.bits.Reads as bits-reads
+use Rattle.acts.proofs.bits.Reads as bits-reads
+use Rattle.layout.proofs.word.Reads as word-reads
 
--- src/lib.rt:293:8
-add-if1 : tie.Need-add-if1
-add-if1 c = search needs
+word-requires : tie.Need-word-requires
+word-requires c κs = search needs
 
--- src/lib.rt:293:21
-mul-if1 : tie.Need-mul-if1
-mul-if1 c = search needs
+returns : tie.Need-returns
+returns c = simp (← (c .before .word .ensures .0), lt-leb _ _ (c .if1 .taken))
 
--- src/lib.rt:294:13
+word-requires-2 : tie.Need-word-requires-2
+word-requires-2 c κs = search needs
+
+returns-2 : tie.Need-returns-2
+returns-2 c = simp (← (c .before .before .before .word .ensures .0), le-leb _ _ (c .before .before .if1 .left), ← (c .before .word2 .ensures .0), lt-leb _ _ (c .if2 .taken))
+
 bits-requires : tie.Need-bits-requires
 bits-requires c κs = search needs
 
--- src/lib.rt:296:13
-set-holds-requires : tie.Need-set-holds-requires
-set-holds-requires c κs = (omega arith, (let z : 2 ^ c .before .before .before .before .args .width ≤ 2 ^ 32 = pow-mono {j = 32} (omega arith) in let b = c .bits .ensures .1 in omega arith))
-
--- src/lib.rt:295:9
-by-set-requires : tie.Need-by-set-requires
-by-set-requires c κs = search needs
-
--- src/lib.rt:295:9
-returns : tie.Need-returns
-returns c = simp (le-leb _ _ (c .before .before .before .if1 .taken), ← (c .before .before .bits .ensures .0), ← (c .before .set-holds .ensures)) (c .by-set .ensures)
-
--- src/lib.rt:289:1
-returns-2 : tie.Need-returns-2
-returns-2 c = simp (lt-leb _ _ (c .if1 .left))
+returns-3 : tie.Need-returns-3
+returns-3 c = simp (← (c .before .before .before .before .word .ensures .0), le-leb _ _ (c .before .before .before .if1 .left), ← (c .before .before .word2 .ensures .0), le-leb _ _ (c .before .if2 .left)) (c .bits .ensures)
 
 pub uint-spec : {M : Type 1} → statement M
 uint-spec =
-    tie.close
-    (tie.spec add-if1 mul-if1 bits-requires set-holds-requires by-set-requires returns returns-2)
+    tie.close (tie.spec word-requires returns word-requires-2 returns-2 bits-requires returns-3)

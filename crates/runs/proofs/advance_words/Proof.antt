@@ -31,7 +31,7 @@ advance-requires c κs = let x = fitting-fits (c .before .before .before .before
 
 -- src/lib.rt:219:21
 sub-taken : tie.Need-sub-taken
-sub-taken c = let x : c .before .before .before .before .before .before .before .before .before .before .before .before .before .before .before .before .before .before .args .run .steps ≤ c .before .before .advance .result .steps = subst (λ (w : Whole). c .before .before .before .before .before .before .before .before .before .before .before .before .before .before .before .before .before .before .args .run .steps ≤ steps-in w) (sym (c .before .before .advance .ensures)) (steps-near (c .before .before .before .before .before .before .before .before .before .before .before .before .before .before .before .before .before .before .args .table .now) (c .before .before .before .before .before .before .before .before .before .before .before .before .before .before .before .before .before .before .args .frame .now) (c .before .before .before .before .before .before .before .before .before .before .before .before .before .before .before .before .before .before .args .steps) (whole-of (c .before .before .before .before .before .before .before .before .before .before .before .before .before .before .before .before .before .before .args .reading .now) (c .before .before .before .before .before .before .before .before .before .before .before .before .before .before .before .before .before .before .args .run)) .0) in omega arith
+sub-taken c = let x : c .before .before .before .before .before .before .before .before .before .before .before .before .before .before .before .before .before .before .args .run .steps ≤ c .before .before .advance .result .steps = subst (λ (w : Whole). c .before .before .before .before .before .before .before .before .before .before .before .before .before .before .before .before .before .before .args .run .steps ≤ steps-in w) (sym (c .before .before .advance .ensures)) (steps-near (c .before .before .before .before .before .before .before .before .before .before .before .before .before .before .before .before .before .before .args .table .now) (c .before .before .before .before .before .before .before .before .before .before .before .before .before .before .before .before .before .before .args .frame .now) _ (whole-of (c .before .before .before .before .before .before .before .before .before .before .before .before .before .before .before .before .before .before .args .reading .now) (c .before .before .before .before .before .before .before .before .before .before .before .before .before .before .before .before .before .before .args .run)) .0) in omega arith
 
 -- src/lib.rt:220:9
 put-together-requires : tie.Need-put-together-requires

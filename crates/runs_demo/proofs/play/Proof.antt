@@ -5,7 +5,6 @@ use Rattle.runs_demo.proofs.play.Statement.{statement}
 use Rattle.runs_demo.proofs.play.Tie as tie
 use Rattle.runs_demo.proofs.play.Reads as reads
 use Rattle.runs_demo.proofs.play.Lts as lts
-use Rattle.runs.proofs.opened.Reads as opened-reads
 use Rattle.runs_demo.proofs.grant.Reads as grant-reads
 use Rattle.runs_demo.proofs.in_turn.Reads as in-turn-reads
 use Rattle.runs_demo.proofs.show_run.Reads as show-run-reads
@@ -15,10 +14,6 @@ Inv-loop table frame even odd reading₀ run₀ grants₀ reading run grants = g
 
 abbrev μ-loop : tie.MeasureT-loop
 μ-loop table frame even odd reading₀ run₀ grants₀ reading run grants = 1000 - grants
-
--- src/main.rt:89:9
-opened-requires : tie.Need-opened-requires Inv-loop μ-loop
-opened-requires c κs = search needs
 
 -- src/main.rt:91:5
 loop-holds : tie.Need-loop-holds Inv-loop μ-loop
@@ -58,7 +53,6 @@ play-spec =
     (tie.spec
     Inv-loop
     μ-loop
-    opened-requires
     loop-holds
     in-turn-requires
     grant-requires

@@ -36,7 +36,7 @@ enum-known-act c = search needs
 
 -- src/lib.rt:245:13
 enter-requires : tie.Need-enter-requires
-enter-requires c κs = (let d = subst (Doable _ _) (c .before .before .before .act .given .1) (c .before .before .before .before .before .before .before .before .pre .8) in (omega arith, omega arith, omega arith))
+enter-requires c κs = (let d = subst (Doable _ _ _) (c .before .before .before .act .given .1) (c .before .before .before .before .before .before .before .before .pre .8) in (omega arith, omega arith, omega (arith, d .0)))
 
 -- src/lib.rt:246:13
 taken-requires : tie.Need-taken-requires
@@ -48,7 +48,7 @@ enum-known-act-2 c = search needs
 
 -- src/lib.rt:249:13
 do-members-requires : tie.Need-do-members-requires
-do-members-requires c κs = (let d = subst (Doable _ _) (c .before .before .before .act2 .given .1) (c .before .before .before .before .before .before .before .before .pre .8) in (omega arith, omega arith, omega arith, omega arith, d .0, d .1, omega arith, omega arith))
+do-members-requires c κs = (let d = subst (Doable _ _ _) (c .before .before .before .act2 .given .1) (c .before .before .before .before .before .before .before .before .pre .8) in (omega arith, omega arith, omega arith, omega arith, d .0, d .1, omega arith, omega arith))
 
 -- src/lib.rt:251:22
 enum-known-act-3 : tie.Need-enum-known-act-3
@@ -56,7 +56,7 @@ enum-known-act-3 c = search needs
 
 -- src/lib.rt:251:32
 do-again-requires : tie.Need-do-again-requires
-do-again-requires c κs = (let d = subst (Doable _ _) (c .before .before .before .act3 .given .1) (c .before .before .before .before .before .before .before .before .pre .8) in (omega arith, omega arith, omega arith, omega arith, d))
+do-again-requires c κs = (let d = subst (Doable _ _ _) (c .before .before .before .act3 .given .1) (c .before .before .before .before .before .before .before .before .pre .8) in (omega arith, omega arith, omega arith, omega arith, d .0))
 
 -- src/lib.rt:252:42
 enum-told-3 : tie.Need-enum-told-3
@@ -76,7 +76,7 @@ enum-known-act-4 c = search needs
 
 -- src/lib.rt:254:13
 do-take-requires : tie.Need-do-take-requires
-do-take-requires c κs = (let d = subst (Doable _ _) (c .before .before .before .act4 .given .1) (c .before .before .before .before .before .before .before .before .pre .8) in (omega arith, omega arith, omega arith, omega arith, omega arith, d .0, d .1, d .2))
+do-take-requires c κs = (let d = subst (Doable _ _ _) (c .before .before .before .act4 .given .1) (c .before .before .before .before .before .before .before .before .pre .8) in (omega arith, omega arith, omega arith, omega arith, omega arith, d .0, d .1, d .2))
 
 -- src/lib.rt:223:1
 returns : tie.Need-returns

@@ -35,7 +35,7 @@ decide-requires c κs = search needs
 
 -- src/lib.rt:286:9
 do-act-requires : tie.Need-do-act-requires
-do-act-requires c κs = (omega arith, omega arith, omega arith, omega arith, omega arith, omega arith, omega arith, omega arith, subst (Doable _ _) (sym (c .before .before .before .before .decide .ensures)) (doable _ _ _ _ _ _))
+do-act-requires c κs = (omega arith, omega arith, omega arith, omega arith, omega arith, omega arith, omega arith, omega arith, subst (Doable _ _ _) (sym (c .before .before .before .before .decide .ensures)) (doable _ _ _ _ _ _))
 
 -- src/lib.rt:286:9
 same-length : tie.Need-same-length
