@@ -8,8 +8,8 @@ use mathlib.Core.Option.{some}
 use lib.ListN.{length, drop}
 use Rattle.basis.specs.Bits.{Bits}
 use Rattle.basis.specs.Lookahead.{number as window-number}
-use Rattle.theory.specs.Grammar.{Grammar}
-use Rattle.theory.specs.Lookahead.{Conflict, LeastConflict, EmptyBody}
+use Rattle.theory.specs.Grammar.{alternative, Grammar}
+use Rattle.theory.specs.Lookahead.{Predicted, Conflict, LeastConflict, EmptyBody}
 use Rattle.theory.specs.Weight.{Weighs}
 use Rattle.layout.specs.Places.{table-words}
 use Rattle.layout.specs.Held.{Values, opening}
@@ -21,6 +21,7 @@ use Rattle.parsing.specs.Form.{refused}
 use Rattle.naming.specs.Counting.{nowhere}
 use Rattle.naming.specs.Words.{node-word, place-of, named-at}
 use Rattle.admission.specs.Admitted.{number-of, place-in, window-in, form, words-of, fault-5, fault-6, fault-8}
+use Rattle.conflicts.specs.Clashes.{FirstHolders}
 use Rattle.conflicts.specs.declared.Clash.{Clash}
 use Rattle.admission.specs.declared.Admission.{Admission}
 use Rattle.admission.specs.declared.Found.{Found}
@@ -97,6 +98,29 @@ module _ (base : ℕ) (xs : List ℕ) (st : State) (p : ℕ) where
   abbrev pub TooHeavy : Type 0
   TooHeavy = (w : Unit {0} → ℕ → ℕ) × Weighs (meant xs st) w × (65535 < w tt opening) × (p ≡ base + named-at (rule-words st) 0)
 
+-- ---- what an answer carries beside its number and place
+
+-- "Weight: … grammar, as a use of its start rule": it is n
+abbrev pub Weight : (base : ℕ) → List ℕ → State → (n : ℕ) → Type 0
+Weight base xs st n = (w : Unit {0} → ℕ → ℕ) × Weighs (meant xs st) w × (w tt opening ≡ n)
+
+-- the branches that an answer names: the first two of the alternative that have the window. A repetition's go and stop have no numbers.
+abbrev pub Sharing : Grammar (Unit {0}) Values → ℕ → Clash → Type 0
+Sharing g i Clash.None = ⊥
+Sharing g i (Clash.Branches window first second) = (is : List ℕ) × (g .node i ≡ alternative is) × FirstHolders (Predicted g) is window first second
+Sharing g i (Clash.Passes window) = (is : List ℕ) → g .node i ≡ alternative is → ⊥
+
+-- 10, with a construct and its clash: the construct is the first that clashes, and the place is its place
+pub record Clashed (answer : Admission) (base : ℕ) (xs : List ℕ) (st : State) (p : ℕ) : Type 0 where
+  pub construct : ℕ
+  pub clash : Clash
+  pub answered : answer ≡ Admission.Conflict p construct clash
+  pub before : (j : ℕ) → j < construct → HasConflict (meant xs st) j → ⊥
+  pub place : p ≡ base + place-of (node-words st) construct
+  -- "the answer carries the least common window"
+  pub window : (x : Bits) × (window-in clash ≡ some (window-number x)) × LeastConflict (meant xs st) construct x
+  pub branches : Sharing (meant xs st) construct clash
+
 -- it holds of what is read of the text
 abbrev pub Read : List ℕ → (ℕ → List ℕ → State → ℕ → Type 0) → ℕ → Type 0
 Read text P p = (x : Reading text) × P (x .base) (drop (x .base) text) (x .st) p
@@ -128,6 +152,7 @@ First text table k p = Fits text table k p × NoneBelow text table (number k)
 pub record Exactly (text table : List ℕ) (answer : Admission) : Type 0 where
   pub admitted-iff : (number-of answer ≡ 0) ↔ NoneBelow text table 12
   pub refused-iff : (k : Row) (p : ℕ) → ((number-of answer ≡ number k) × (place-in answer ≡ p)) ↔ First text table k p
-  -- 10: "the answer carries the least common window"
-  pub window : (x : Reading text) (p i : ℕ) (c : Clash) → answer ≡ Admission.Conflict p i c
-      → (w : Bits) × (window-in c ≡ some (window-number w)) × LeastConflict (meant (drop (x .base) text) (x .st)) i w
+  -- 0 carries the text's weight
+  pub weight : number-of answer ≡ 0 → (n : ℕ) × (answer ≡ Admission.Admitted n) × Read text Weight n
+  -- 10 carries the first construct that clashes, and its least window
+  pub clash : number-of answer ≡ 10 → Read text (Clashed answer) (place-in answer)
