@@ -80,6 +80,12 @@ abbrev pub OneAnswer : Type 0
 OneAnswer =
     (text old new new′ : List ℕ) (answer answer′ : Admission) → Answers text old new answer → Answers text old new′ answer′ → (answer ≡ answer′) × (new ≡ new′)
 
+-- "each admitted grammar has one table": one answer and one table to a text, whatever words stood there before
+abbrev pub OneTable : Type 0
+OneTable =
+    (text old old′ new new′ : List ℕ) (answer answer′ : Admission) → table-words ≤ length old → table-words ≤ length old′ → Answers text old new answer → Answers text old′ new′ answer′
+    → (answer ≡ answer′) × (number-of answer ≡ 0 → table-of new ≡ table-of new′)
+
 -- ---- 2. "A grammar is admitted exactly when document 01's rules admit it; a decided run says match exactly when some derivation covers the
 -- whole frame, and its reading lists that derivation's fields."
 
