@@ -1,14 +1,14 @@
 -- The mission's three conditions, of what the calls promise: `Answers` (`admission::admit`), `Answered` and `run-given` (`matcher::open`),
 -- `grant-of` (`runs::advance`, `runs::grant`). They stand at the end of each part, and are proved: `Condition1` by `condition-1`
--- (`proofs/Buffers.antt`), `Tables` by `text-table` (`proofs/Tables.antt`), `OneAnswer` by `one-answer` (`proofs/OneAnswer.antt`), `Condition2` and
--- `Condition3` by `condition-2` and `condition-3` (`proofs/Conditions.antt`).
+-- (`proofs/Buffers.antt`), `Tables` by `text-table` (`proofs/Tables.antt`), `OneAnswer` and `OneTable` by `one-answer` and `one-table`
+-- (`proofs/OneAnswer.antt`), `Condition2`, `AtMostOne` and `Condition3` by `condition-2`, `at-most-one` and `condition-3` (`proofs/Conditions.antt`).
 -- Assumes nothing.
 use Prim.Native.Nat.{ℕ, _+_, _*_, _≤_}
 use mathlib.Core.Path.{_≡_}
 use mathlib.Core.Logic.{_⊎_, _↔_}
 use mathlib.Core.List.{List, _++_}
 use lib.ListN.{length, drop}
-use Rattle.basis.specs.Bits.{frameBits}
+use Rattle.basis.specs.Bits.{Bits, frameBits}
 use Rattle.theory.specs.Grammar.{Grammar}
 use Rattle.theory.specs.Derivation.{Tree, captures, Derivation}
 use Rattle.theory.specs.Theorems.{Derivable}
@@ -21,11 +21,11 @@ use Rattle.agreement.specs.Runs.{words-of}
 use Rattle.table.specs.Sound.{SoundTable}
 use Rattle.admission.specs.Admitted.{number-of, Answers}
 use Rattle.admission.specs.declared.Admission.{Admission}
-use Rattle.runs.specs.Runs.{After, run-in, reading-in, answer-in, grant-of, closed-run, number-of as grant-number, taken-of}
+use Rattle.runs.specs.Runs.{After, run-in, reading-in, answer-in, grant-of, opened-run, closed-run, number-of as grant-number, taken-of}
 use Rattle.runs.specs.declared.Run.{Run}
 use Rattle.matcher.specs.Opening.{Answered, Opened, run-given, number-of as opening-number}
 use Rattle.matcher.specs.declared.Answer.{Answer}
-use Rattle.matcher.specs.Conditions.{Grant, Kept, run-kept, reading-kept, OthersRefused, start, Decided, here, Unbroken, Granted}
+use Rattle.matcher.specs.Conditions.{Grant, Kept, run-kept, reading-kept, OthersRefused, start, Decided, here, Unbroken, Granted, Handing, run-after, AnyReading}
 use Rattle.conditions.specs.Refusals.{Exactly}
 use Rattle.conditions.specs.Texts.{Reading, rules-grammar, FormsMeant, text-grammar, Admissible}
 
@@ -110,17 +110,24 @@ pub record Condition2 : Type 0 where
 
 -- ---- 3. "At most one derivation; decided within weight × (bits + 1) steps; and for every list of grants, one claim"
 
-pub record Claim (g : Grammar (Unit {0}) Values) (weight : ℕ) (ws fs rs : List ℕ) : Type 0 where
-  pub once : (t t′ : Tree) (v v′ : Values) → Derivation g (frameBits fs) t v → Derivation g (frameBits fs) t′ v′ → t ≡ t′
+-- of every text that is admitted, and any bits
+abbrev pub AtMostOne : Type 0
+AtMostOne = (text old table : List ℕ) (weight : ℕ) → Answers text old table (Admission.Admitted weight) → (x : Reading text)
+    → (s : Bits) (t t′ : Tree) (v v′ : Values) → Derivation (text-grammar x) s t v → Derivation (text-grammar x) s t′ v′ → t ≡ t′
+
+-- of a run on a table, a frame and a reading
+pub record Claim (weight : ℕ) (ws fs rs : List ℕ) : Type 0 where
   pub needed : ℕ
   pub within-bound : needed ≤ weight * (bits-of fs + 1)
   -- run, reading and count are what document 01's steps make of them (`matcher`, `Granted`)
   pub granting : (gs : List Grant) → OthersRefused ws fs gs (start rs) → Granted ws fs rs gs needed
   -- never broken, and a grant of its own table, frame and reading is never refused
   pub unbroken : (gs : List Grant) → OthersRefused ws fs gs (start rs) → Unbroken ws fs rs gs
+  -- nor is it ever broken by grants of its own table and frame with any readings (`matcher`, `AnyReading`)
+  pub any-reading : (hs : List Handing) → AnyReading ws fs (run-after ws fs hs opened-run)
 
 -- of every text that is admitted, and every frame and reading on which its table opens a run
 abbrev pub Condition3 : Type 0
 Condition3 =
-    (text old table : List ℕ) (weight : ℕ) → Answers text old table (Admission.Admitted weight) → (x : Reading text)
-    → (fs rs : List ℕ) → Opened table fs rs → Claim (text-grammar x) weight table fs rs
+    (text old table : List ℕ) (weight : ℕ) → Answers text old table (Admission.Admitted weight)
+    → (fs rs : List ℕ) → Opened table fs rs → Claim weight table fs rs

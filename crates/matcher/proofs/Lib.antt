@@ -1,5 +1,6 @@
 -- Laws of an opening, and the mission's conditions.
 pub mod Answers
 pub mod Moments
+pub mod AnyReading
 pub mod Conditions
 pub mod Others

@@ -15,7 +15,6 @@ use Rattle.theory.specs.Derivation.{Tree, captures, Derivation}
 use Rattle.theory.specs.Machine.{tree-steps}
 use Rattle.theory.specs.Scope.{localised}
 use Rattle.theory.specs.Theorems.{Derivable}
-use Rattle.theory.proofs.Theorems.{exact-local}
 use Rattle.layout.specs.Places.{table-words, table-of, construct-count, weight-of}
 use Rattle.layout.specs.Constructs.{pick}
 use Rattle.layout.specs.Held.{Values, opening, held}
@@ -23,7 +22,6 @@ use Rattle.scoping.specs.Scope.{value-of, scope-of, fresh}
 use Rattle.weights.proofs.Heights.{weight-at}
 use Rattle.weights.proofs.Rooms.{rooms}
 use Rattle.measures.specs.Measures.{widest}
-use Rattle.acts.specs.Stored.{tests-of}
 use Rattle.acts.specs.Acts.{bits-of, in-table}
 use Rattle.steps.specs.Steps.{Whole, whole, steps-of}
 use Rattle.steps.proofs.Running.{steps-stay}
@@ -61,7 +59,7 @@ module _ (ws : List ℕ) (few : construct-count ws ≤ 256) (bits : ℕ) (cs ps 
       let x = each n (omega arith) in
       simp (le-leb (getD ps n 0) (bits + 1) (x .1), in-table-true ws (getD cs n 0) few (x .0)) (all-fit n (λ j l. each j (omega arith)))
 
-admitted : (ws fs rs : List ℕ) (run : Run) → construct-count ws ≤ 256 → table-words ≤ length ws → length fs ≤ 256 → Fitting ws fs (whole-of rs run) → refusal-of ws fs rs run ≡ 0
+pub admitted : (ws fs rs : List ℕ) (run : Run) → construct-count ws ≤ 256 → table-words ≤ length ws → length fs ≤ 256 → Fitting ws fs (whole-of rs run) → refusal-of ws fs rs run ≡ 0
 admitted ws fs rs run few long short f =
     let r : Rest ws fs (length rs) (head-of run) = record { table = long; position = f .fits .0; verdict = omega (arith, f .verdict); count = f .fits .1; roomy = f .room } in
     let e = rest-fitting ws fs (length rs) (run .constructs) (run .passes) (head-of run) r ∙ all-fit ws few (bits-of fs) (run .constructs) (run .passes) (run .count) (f .entry) in
@@ -153,7 +151,3 @@ module _ (ws fs rs : List ℕ) (o : Opened ws fs rs) where
     fields-at t v d =
         let x = match-end-local table (widest table) (λ c i. weight-at table i) (rooms table) words fs (opened-run .constructs) (opened-run .passes) rs begun value-of (scope-of table) fresh (trusted table (o .0 .1) .lexical) t v d (m + tree-steps t) (omega arith) in
         subst (Listed t) (at-rest m (tree-steps t) decided) (x .2 .fields, x .2 .reading)
-
-  pub one-derivation : (t t′ : Tree) (v v′ : Values) → Derivation local (frameBits fs) t v → Derivation local (frameBits fs) t′ v′ → t ≡ t′
-  one-derivation t t′ v v′ d d′ =
-      exact-local (held table) (tests-of table) (λ c i. weight-at table i) value-of (scope-of table) fresh (words .hypotheses) (words .weighs) (trusted table (o .0 .1) .lexical) .once (frameBits fs) t t′ v v′ d d′

@@ -1,5 +1,5 @@
--- Conditions 2 (of the machine) and 3 of the mission, of every run that was opened. The statements stand at the end: `NeverBroken`,
--- `Condition2`, `Condition3`; `proofs/Conditions.antt` proves them: `never-broken`, `condition-2`, `condition-3`.
+-- Conditions 2 (of the machine) and 3 of the mission, of every run that was opened. The statements stand at the end: `AtMostOne`, `NeverBroken`,
+-- `Condition2`, `Condition3`; `proofs/Conditions.antt` proves them: `at-most-one`, `never-broken`, `condition-2`, `condition-3`.
 -- Assumes nothing.
 use Prim.Native.Nat.{ℕ, _+_, _*_, _-_, _≤_, _<_, min}
 use mathlib.Core.Path.{_≡_}
@@ -7,7 +7,7 @@ use mathlib.Core.Logic.{_⊎_, _↔_}
 use mathlib.Core.List.{List, [], _∷_, _++_}
 use mathlib.Core.Option.{Option, none, some}
 use lib.ListN.{length, drop}
-use Rattle.basis.specs.Bits.{frameBits}
+use Rattle.basis.specs.Bits.{Bits, frameBits}
 use Rattle.theory.specs.Grammar.{Grammar}
 use Rattle.theory.specs.Derivation.{Tree, captures, Derivation}
 use Rattle.theory.specs.Scope.{localised}
@@ -21,6 +21,7 @@ use Rattle.agreement.specs.Runs.{words-of}
 use Rattle.runs.specs.Runs.{whole-of, opened-run, After, run-in, reading-in, answer-in, grant-of, number-of, taken-of}
 use Rattle.runs.specs.declared.Run.{Run}
 use Rattle.runs.specs.declared.Answer.{Answer}
+use Rattle.table.specs.Sound.{SoundTable}
 use Rattle.matcher.specs.Opening.{Opened}
 
 -- ---- a list of grants
@@ -98,6 +99,22 @@ module _ (ws fs : List ℕ) where
   EachCounts needed before [] k = Unit {0}
   EachCounts needed before (g ∷ gs) k = Counts needed before k g (call k g) × EachCounts needed (before + given g) gs (next k g)
 
+-- ---- grants with any readings
+
+-- A grant of so many steps, handed the run's own table and frame and this reading: "with run, table and frame kept unchanged" asks nothing of the
+-- reading.
+pub data Handing : Type 0 where
+  handing : (reading : List ℕ) (steps : ℕ) → Handing
+
+-- the run after a list of them; one that is refused leaves it as it was
+unfoldable pub run-after : (ws fs : List ℕ) → List Handing → Run → Run
+run-after ws fs [] run = run
+run-after ws fs (handing rs n ∷ hs) run = run-after ws fs hs (run-in (grant-of (table-of ws) fs rs run n))
+
+-- 24: "two words for each field recorded and bit unread"
+abbrev pub room-for : List ℕ → Run → ℕ
+room-for fs run = 2 * (run .captures + (bits-of fs - run .position))
+
 -- ---- what is claimed
 
 -- the grammar that a table holds: "Variables are local to a rule."
@@ -111,6 +128,15 @@ start rs = kept opened-run rs
 -- "decided is match or no match"
 abbrev pub Decided : Run → Type 0
 Decided run = (run .verdict ≡ matched) ⊎ (run .verdict ≡ unmatched)
+
+-- "ends as *broken* … never": nor does a further grant break it, which 24 refuses exactly where its reading has no room, and which makes of the run
+-- the same whatever words the reading holds
+pub record AnyReading (ws fs : List ℕ) (run : Run) : Type 0 where
+  pub not-broken : run .verdict ≡ broken → ⊥
+  pub granted-iff : (rs : List ℕ) (n : ℕ) → (number-of (answer-in (grant-of (table-of ws) fs rs run n)) ≡ 0) ↔ (room-for fs run ≤ length rs)
+  pub refused-iff : (rs : List ℕ) (n : ℕ) → (number-of (answer-in (grant-of (table-of ws) fs rs run n)) ≡ 24) ↔ (length rs < room-for fs run)
+  pub same : (rs rs′ : List ℕ) (n : ℕ) → room-for fs run ≤ length rs → room-for fs run ≤ length rs′
+      → let x = grant-of (table-of ws) fs rs run n in let x′ = grant-of (table-of ws) fs rs′ run n in (run-in x ≡ run-in x′) × (answer-in x ≡ answer-in x′)
 
 module _ (ws fs rs : List ℕ) (gs : List Grant) where
   -- the run and its reading after the list
@@ -149,14 +175,19 @@ pub record Claim (ws fs rs : List ℕ) : Type 0 where
   -- decided within weight × (bits + 1)
   pub within-bound : needed ≤ weight-of (table-of ws) * (bits-of fs + 1)
   pub granting : (gs : List Grant) → OthersRefused ws fs gs (start rs) → Granted ws fs rs gs needed
-  -- and no frame has two derivations
-  pub once : (t t′ : Tree) (v v′ : Values) → Derivation (grammar-of ws) (frameBits fs) t v → Derivation (grammar-of ws) (frameBits fs) t′ v′ → t ≡ t′
 
 -- ---- the theorems
 
--- what unsound words may do, sound ones never do: of every run that was opened and every list of grants
-abbrev pub NeverBroken : Type 0
-NeverBroken = (ws fs rs : List ℕ) → Opened ws fs rs → (gs : List Grant) → OthersRefused ws fs gs (start rs) → Unbroken ws fs rs gs
+-- "At most one derivation": of every sound table, and of any bits
+abbrev pub AtMostOne : Type 0
+AtMostOne = (ws : List ℕ) → SoundTable ws → (s : Bits) (t t′ : Tree) (v v′ : Values) → Derivation (grammar-of ws) s t v → Derivation (grammar-of ws) s t′ v′ → t ≡ t′
+
+-- what unsound words may do, sound ones never do: of every run that was opened
+pub record NeverBroken : Type 0 where
+  -- and every list of condition 3's grants
+  pub listed : (ws fs rs : List ℕ) → Opened ws fs rs → (gs : List Grant) → OthersRefused ws fs gs (start rs) → Unbroken ws fs rs gs
+  -- and every list of grants with any readings
+  pub any-reading : (ws fs rs : List ℕ) → Opened ws fs rs → (hs : List Handing) → AnyReading ws fs (run-after ws fs hs opened-run)
 
 -- condition 2, of the machine: its verdict and its reading, after any list of grants
 abbrev pub Condition2 : Type 0
