@@ -11,6 +11,7 @@ use lib.ListN.{length, drop}
 use Rattle.basis.specs.Bits.{Bits, frameBits}
 use Rattle.theory.specs.Grammar.{Grammar}
 use Rattle.theory.specs.Derivation.{Tree, captures, Derivation}
+use Rattle.theory.specs.Machine.{Tests}
 use Rattle.theory.specs.Theorems.{Derivable}
 use Rattle.theory.specs.Weight.{Weighs}
 use Rattle.layout.specs.Places.{table-words, table-of, weight-of}
@@ -25,7 +26,8 @@ use Rattle.runs.specs.Runs.{After, run-in, reading-in, answer-in, grant-of, ope
 use Rattle.runs.specs.declared.Run.{Run}
 use Rattle.matcher.specs.Opening.{Answered, Opened, run-given, number-of as opening-number}
 use Rattle.matcher.specs.declared.Answer.{Answer}
-use Rattle.matcher.specs.Conditions.{Grant, Kept, run-kept, reading-kept, OthersRefused, start, Decided, here, Unbroken, Granted, Handing, run-after, AnyReading}
+use Rattle.matcher.specs.Windows.{Tells}
+use Rattle.matcher.specs.Conditions.{Grant, Kept, run-kept, reading-kept, OthersRefused, start, Decided, here, Unbroken, Granted, BySteps, Handing, run-after, AnyReading}
 use Rattle.conditions.specs.Refusals.{Exactly}
 use Rattle.conditions.specs.Texts.{Reading, rules-grammar, FormsMeant, text-grammar, Admissible}
 
@@ -70,6 +72,8 @@ pub record TextTable (text new : List ℕ) (weight : ℕ) : Type 0 where
   pub weight-stored : weight-of (table-of new) ≡ weight
   pub weights : (w : Unit {0} → ℕ → ℕ) → Weighs (rules-grammar (admissible .reading)) w → w tt opening ≡ weight
   pub weighable : (w : Unit {0} → ℕ → ℕ) × Weighs (rules-grammar (admissible .reading)) w
+  -- its windows can be told
+  pub windows : (tests : Tests) × Tells (rules-grammar (admissible .reading)) tests
 
 -- of every text that is admitted
 abbrev pub Tables : Type 0
@@ -115,12 +119,14 @@ abbrev pub AtMostOne : Type 0
 AtMostOne = (text old table : List ℕ) (weight : ℕ) → Answers text old table (Admission.Admitted weight) → (x : Reading text)
     → (s : Bits) (t t′ : Tree) (v v′ : Values) → Derivation (text-grammar x) s t v → Derivation (text-grammar x) s t′ v′ → t ≡ t′
 
--- of a run on a table, a frame and a reading
-pub record Claim (weight : ℕ) (ws fs rs : List ℕ) : Type 0 where
+-- of a run on a table, a frame and a reading; the table is that of a text with this grammar and weight
+pub record Claim (g : Grammar (Unit {0}) Values) (weight : ℕ) (ws fs rs : List ℕ) : Type 0 where
   pub needed : ℕ
   pub within-bound : needed ≤ weight * (bits-of fs + 1)
-  -- run, reading and count are what document 01's steps make of them (`matcher`, `Granted`)
+  -- run, reading and count are what the steps granted in all make of them (`matcher`, `Granted`)
   pub granting : (gs : List Grant) → OthersRefused ws fs gs (start rs) → Granted ws fs rs gs needed
+  -- and these are document 01's steps on the text's grammar (`theory`, `Machine`)
+  pub by-steps : (gs : List Grant) → OthersRefused ws fs gs (start rs) → BySteps g ws fs rs gs
   -- never broken, and a grant of its own table, frame and reading is never refused
   pub unbroken : (gs : List Grant) → OthersRefused ws fs gs (start rs) → Unbroken ws fs rs gs
   -- nor is it ever broken by grants of its own table and frame with any readings (`matcher`, `AnyReading`)
@@ -129,5 +135,5 @@ pub record Claim (weight : ℕ) (ws fs rs : List ℕ) : Type 0 where
 -- of every text that is admitted, and every frame and reading on which its table opens a run
 abbrev pub Condition3 : Type 0
 Condition3 =
-    (text old table : List ℕ) (weight : ℕ) → Answers text old table (Admission.Admitted weight)
-    → (fs rs : List ℕ) → Opened table fs rs → Claim weight table fs rs
+    (text old table : List ℕ) (weight : ℕ) → Answers text old table (Admission.Admitted weight) → (x : Reading text)
+    → (fs rs : List ℕ) → Opened table fs rs → Claim (rules-grammar x) weight table fs rs

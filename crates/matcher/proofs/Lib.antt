@@ -2,5 +2,6 @@
 pub mod Answers
 pub mod Moments
 pub mod AnyReading
+pub mod Telling
 pub mod Conditions
 pub mod Others

@@ -12,7 +12,7 @@ use lib.ListN.{length, getD, replicate, drop, length-set, length-replicate}
 use Rattle.basis.specs.Bits.{frameBits}
 use Rattle.theory.specs.Grammar.{Grammar}
 use Rattle.theory.specs.Derivation.{Tree, captures, Derivation}
-use Rattle.theory.specs.Machine.{tree-steps}
+use Rattle.theory.specs.Machine.{tree-steps, opened, granted}
 use Rattle.theory.specs.Scope.{localised}
 use Rattle.theory.specs.Theorems.{Derivable}
 use Rattle.layout.specs.Places.{table-words, table-of, construct-count, weight-of}
@@ -22,14 +22,15 @@ use Rattle.scoping.specs.Scope.{value-of, scope-of, fresh}
 use Rattle.weights.proofs.Heights.{weight-at}
 use Rattle.weights.proofs.Rooms.{rooms}
 use Rattle.measures.specs.Measures.{widest}
+use Rattle.acts.specs.Stored.{tests-of}
 use Rattle.acts.specs.Acts.{bits-of, in-table}
 use Rattle.steps.specs.Steps.{Whole, whole, steps-of}
 use Rattle.steps.proofs.Running.{steps-stay}
-use Rattle.agreement.specs.Runs.{words-of, reading-of, head-of as head-in}
+use Rattle.agreement.specs.Runs.{words-of, reading-of, head-of as head-in, run-of}
 use Rattle.agreement.proofs.Safety.{InTable}
 use Rattle.agreement.proofs.Reliable.{Reliable}
 use Rattle.agreement.proofs.Openings.{Opening}
-use Rattle.agreement.proofs.Fitting.{Fitting, fitting}
+use Rattle.agreement.proofs.Fitting.{Fitting, fitting, agrees}
 use Rattle.agreement.proofs.Conclusions.{decides, match-iff-local, mismatch-iff-local, match-end-local}
 use Rattle.soundness.proofs.Reliability.{reliable, weight-stored}
 use Rattle.soundness.proofs.Trust.{trusted}
@@ -91,6 +92,11 @@ module _ (ws fs rs : List ℕ) (o : Opened ws fs rs) where
   pub fits-at : (m : ℕ) → Fitting table fs (at m)
   unfolding held
   fits-at m = fitting table (widest table) (λ c i. weight-at table i) (rooms table) words fs (opened-run .constructs) (opened-run .passes) rs begun m
+
+  -- the words' run is the theory's, on the grammar that the words hold
+  pub run-at : (m : ℕ) → run-of fs (at m) ≡ granted (held table) (tests-of table) m (opened (held table) (tests-of table) (frameBits fs))
+  unfolding held
+  run-at m = agrees table (widest table) (λ c i. weight-at table i) (rooms table) words fs (opened-run .constructs) (opened-run .passes) rs begun m
 
   pub own-admitted : (m : ℕ) (run : Run) (rs′ : List ℕ) → whole-of rs′ run ≡ at m → refusal-of table fs rs′ run ≡ 0
   own-admitted m run rs′ e = admitted table fs rs′ run (words .laid .counts .constructs) (words .laid .long) (o .1) (subst (Fitting table fs) (sym e) (fits-at m))

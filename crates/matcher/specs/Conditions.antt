@@ -10,6 +10,7 @@ use lib.ListN.{length, drop}
 use Rattle.basis.specs.Bits.{Bits, frameBits}
 use Rattle.theory.specs.Grammar.{Grammar}
 use Rattle.theory.specs.Derivation.{Tree, captures, Derivation}
+use Rattle.theory.specs.Machine.{Tests, opened, granted as granted-steps}
 use Rattle.theory.specs.Scope.{localised}
 use Rattle.theory.specs.Theorems.{Derivable}
 use Rattle.layout.specs.Places.{table-of, weight-of}
@@ -17,12 +18,13 @@ use Rattle.layout.specs.Held.{Values, held}
 use Rattle.scoping.specs.Scope.{scope-of, fresh}
 use Rattle.acts.specs.Acts.{bits-of}
 use Rattle.steps.specs.Steps.{undecided, matched, unmatched, broken, steps-of}
-use Rattle.agreement.specs.Runs.{words-of}
+use Rattle.agreement.specs.Runs.{words-of, run-of}
 use Rattle.runs.specs.Runs.{whole-of, opened-run, After, run-in, reading-in, answer-in, grant-of, number-of, taken-of}
 use Rattle.runs.specs.declared.Run.{Run}
 use Rattle.runs.specs.declared.Answer.{Answer}
 use Rattle.table.specs.Sound.{SoundTable}
 use Rattle.matcher.specs.Opening.{Opened}
+use Rattle.matcher.specs.Windows.{Tells}
 
 -- ---- a list of grants
 
@@ -169,12 +171,19 @@ module _ (ws fs rs : List ℕ) (gs : List Grant) where
     -- "words beyond never change"
     pub beyond : drop (2 * run-kept here .captures) (reading-kept here) ≡ drop (2 * run-kept here .captures) rs
 
+-- The run and its fields after the list are what document 01's steps (crate `theory`, `Machine`) make of a grammar, however its windows are looked up.
+abbrev pub BySteps : Grammar (Unit {0}) Values → (ws fs rs : List ℕ) → List Grant → Type 0
+BySteps g ws fs rs gs = (tests : Tests) → Tells g tests
+    → run-of fs (whole-of (reading-kept (here ws fs rs gs)) (run-kept (here ws fs rs gs))) ≡ granted-steps g tests (granted gs) (opened g tests (frameBits fs))
+
 -- "a single claim about the whole list, not one for each grant"
 pub record Claim (ws fs rs : List ℕ) : Type 0 where
   pub needed : ℕ
   -- decided within weight × (bits + 1)
   pub within-bound : needed ≤ weight-of (table-of ws) * (bits-of fs + 1)
   pub granting : (gs : List Grant) → OthersRefused ws fs gs (start rs) → Granted ws fs rs gs needed
+  -- the steps are document 01's, of the grammar that the table holds
+  pub by-steps : (gs : List Grant) → OthersRefused ws fs gs (start rs) → BySteps (held (table-of ws)) ws fs rs gs
 
 -- ---- the theorems
 
