@@ -9,8 +9,9 @@ use native.Mathlib.Omega.{arith}
 use lib.ListN.{drop}
 use Rattle.basis.specs.Bits.{Bits}
 use Rattle.basis.specs.Lookahead.{number as window-number}
+use Rattle.basis.proofs.Numbers.{number-injective}
 use Rattle.theory.specs.Grammar.{Grammar}
-use Rattle.theory.specs.Lookahead.{LeastConflict}
+use Rattle.theory.specs.Lookahead.{Predicted, LeastConflict}
 use Rattle.theory.specs.Weight.{Weighs}
 use Rattle.scoping.proofs.RuledLaw.{ruled}
 use Rattle.layout.specs.Held.{Values, held}
@@ -19,11 +20,13 @@ use Rattle.weights.proofs.Theorems.{weights-exist}
 use Rattle.table.specs.Judged.{Passed10}
 use Rattle.parsing.specs.Store.{State}
 use Rattle.admission.specs.Admitted.{number-of, place-in, window-in, words-of, Bounded, Headed, Refusal, RulesRefused, AnsweredRules, Answers, refused-early, by-rules, Clashes, LeastMark as TableMark}
+use Rattle.conflicts.specs.Windows.{HasNumber}
+use Rattle.conflicts.specs.Clashes.{FirstHolders}
 use Rattle.conflicts.specs.Conflicts.{Conflicting, Answered}
 use Rattle.conflicts.specs.declared.Clash.{Clash}
 use Rattle.admission.specs.declared.Admission.{Admission}
 use Rattle.conditions.specs.Texts.{meant}
-use Rattle.conditions.specs.Refusals.{Row, short-table, wrong-size, wrong-header, wrong-form, past-limit, wrong-name, recursive, too-large, empty-body, clashing, too-heavy, number, HasConflict, LeastMark, Weight, Sharing, Clashed, Read, NoneBelow, First, Exactly}
+use Rattle.conditions.specs.Refusals.{Row, short-table, wrong-size, wrong-header, wrong-form, past-limit, wrong-name, recursive, too-large, empty-body, clashing, too-heavy, number, HasConflict, LeastMark, Weight, FirstTwo, Sharing, Clashed, Read, NoneBelow, First, Exactly}
 use Rattle.conditions.proofs.Refusals.{same-row, in-range, one-first, below-1, below-2, below-3, below-4, below-5, below-6, below-7, below-8, below-9, below-10, below-11, below-12, reading, to-text}
 use Rattle.conditions.proofs.Buffers.{refused-number}
 
@@ -100,12 +103,24 @@ module _ (text table : List ℕ) where
 
   -- of a clash: the least window that is common in the grammar, and the branches that share it
   abbrev Told-of : Grammar (Unit {0}) Values → ℕ → Clash → Type 0
-  Told-of g i c = ((x : Bits) × (window-in c ≡ some (window-number x)) × LeastConflict g i x) × Sharing g i c
+  Told-of g i c = (x : Bits) × (window-in c ≡ some (window-number x)) × LeastConflict g i x × Sharing g i x c
+
+  two-have : (g : Grammar (Unit {0}) Values) (is : List ℕ) (x : Bits) (n first second : ℕ) → window-number x ≡ n → FirstHolders (Predicted g) is n first second → FirstTwo g is x first second
+  two-have g is x n first second e h =
+      record {
+        in-order = h .in-order;
+        first-has = (h .first-listed, has first (h .first-has));
+        second-has = (h .second-listed, has second (h .second-has));
+        others = λ j m p. h .others j m (x, e, p);
+      }
+    where
+      has : (j : ℕ) → HasNumber (Predicted g) j n → Predicted g j x
+      has j (y, d, p) = subst (Predicted g j) (number-injective y x (d ∙ sym e)) p
 
   told-of : (ws : List ℕ) (i : ℕ) → Conflicting ws i → (c : Clash) → Answered ws i c → Told-of (held ws) i c
   told-of ws i k Clash.None a = absurd (a k)
-  told-of ws i k (Clash.Branches n first second) ((x, e, l), two) = ((x, ap some (sym e), l), (two .branches, two .node, two .holders))
-  told-of ws i k (Clash.Passes n) ((x, e, l), none) = ((x, ap some (sym e), l), none)
+  told-of ws i k (Clash.Branches n first second) ((x, e, l), two) = (x, ap some (sym e), l, (two .branches, two .node, two-have (held ws) (two .branches) x n first second e (two .holders)))
+  told-of ws i k (Clash.Passes n) ((x, e, l), none) = (x, ap some (sym e), l, none)
 
   clashed-rules : (base : ℕ) → Headed text table base → (p i : ℕ) (c : Clash) → Clashes (drop base text) base p i c → Read text (Clashed (Admission.Conflict p i c)) p
   clashed-rules base h p i c k =
@@ -121,7 +136,9 @@ module _ (text table : List ℕ) where
           before = to-text text table base h st b (λ g. (j : ℕ) → j < i → HasConflict g j → ⊥) (k .first .before);
           place = k .at;
           window = t .0;
-          branches = t .1;
+          carried = t .1;
+          least = t .2;
+          shared = t .3;
         },
       )
 

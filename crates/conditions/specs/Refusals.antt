@@ -8,7 +8,7 @@ use mathlib.Core.Option.{some}
 use lib.ListN.{length, drop}
 use Rattle.basis.specs.Bits.{Bits}
 use Rattle.basis.specs.Lookahead.{number as window-number}
-use Rattle.theory.specs.Grammar.{alternative, Grammar}
+use Rattle.theory.specs.Grammar.{alternative, Grammar, _∈_}
 use Rattle.theory.specs.Lookahead.{Predicted, Conflict, LeastConflict, EmptyBody}
 use Rattle.theory.specs.Weight.{Weighs}
 use Rattle.layout.specs.Places.{table-words}
@@ -21,7 +21,6 @@ use Rattle.parsing.specs.Form.{refused}
 use Rattle.naming.specs.Counting.{nowhere}
 use Rattle.naming.specs.Words.{node-word, place-of, named-at}
 use Rattle.admission.specs.Admitted.{number-of, place-in, window-in, form, words-of, fault-5, fault-6, fault-8}
-use Rattle.conflicts.specs.Clashes.{FirstHolders}
 use Rattle.conflicts.specs.declared.Clash.{Clash}
 use Rattle.admission.specs.declared.Admission.{Admission}
 use Rattle.admission.specs.declared.Found.{Found}
@@ -104,11 +103,18 @@ module _ (base : ℕ) (xs : List ℕ) (st : State) (p : ℕ) where
 abbrev pub Weight : (base : ℕ) → List ℕ → State → (n : ℕ) → Type 0
 Weight base xs st n = (w : Unit {0} → ℕ → ℕ) × Weighs (meant xs st) w × (w tt opening ≡ n)
 
--- the branches that an answer names: the first two of the alternative that have the window. A repetition's go and stop have no numbers.
-abbrev pub Sharing : Grammar (Unit {0}) Values → ℕ → Clash → Type 0
-Sharing g i Clash.None = ⊥
-Sharing g i (Clash.Branches window first second) = (is : List ℕ) × (g .node i ≡ alternative is) × FirstHolders (Predicted g) is window first second
-Sharing g i (Clash.Passes window) = (is : List ℕ) → g .node i ≡ alternative is → ⊥
+-- the first two of these branches, in text order, that have the window
+pub record FirstTwo (g : Grammar (Unit {0}) Values) (is : List ℕ) (x : Bits) (first second : ℕ) : Type 0 where
+  pub in-order : first < second
+  pub first-has : (first ∈ is) × Predicted g first x
+  pub second-has : (second ∈ is) × Predicted g second x
+  pub others : (j : ℕ) → j ∈ is → Predicted g j x → (j ≡ first) ⊎ (second ≤ j)
+
+-- the branches that an answer names; a repetition's go and stop have no names
+abbrev pub Sharing : Grammar (Unit {0}) Values → ℕ → Bits → Clash → Type 0
+Sharing g i x Clash.None = ⊥
+Sharing g i x (Clash.Branches window first second) = (is : List ℕ) × (g .node i ≡ alternative is) × FirstTwo g is x first second
+Sharing g i x (Clash.Passes window) = (is : List ℕ) → g .node i ≡ alternative is → ⊥
 
 -- 10, with a construct and its clash: the construct is the first that clashes, and the place is its place
 pub record Clashed (answer : Admission) (base : ℕ) (xs : List ℕ) (st : State) (p : ℕ) : Type 0 where
@@ -118,8 +124,10 @@ pub record Clashed (answer : Admission) (base : ℕ) (xs : List ℕ) (st : State
   pub before : (j : ℕ) → j < construct → HasConflict (meant xs st) j → ⊥
   pub place : p ≡ base + place-of (node-words st) construct
   -- "the answer carries the least common window"
-  pub window : (x : Bits) × (window-in clash ≡ some (window-number x)) × LeastConflict (meant xs st) construct x
-  pub branches : Sharing (meant xs st) construct clash
+  pub window : Bits
+  pub carried : window-in clash ≡ some (window-number window)
+  pub least : LeastConflict (meant xs st) construct window
+  pub shared : Sharing (meant xs st) construct window clash
 
 -- it holds of what is read of the text
 abbrev pub Read : List ℕ → (ℕ → List ℕ → State → ℕ → Type 0) → ℕ → Type 0
