@@ -22,12 +22,12 @@ use Rattle.agreement.specs.Runs.{words-of}
 use Rattle.table.specs.Sound.{SoundTable}
 use Rattle.admission.specs.Admitted.{number-of, Answers}
 use Rattle.admission.specs.declared.Admission.{Admission}
-use Rattle.runs.specs.Runs.{After, run-in, reading-in, answer-in, grant-of, opened-run, closed-run, number-of as grant-number, taken-of}
+use Rattle.runs.specs.Runs.{After, run-in, reading-in, answer-in, grant-of, closed-run, number-of as grant-number, taken-of}
 use Rattle.runs.specs.declared.Run.{Run}
 use Rattle.matcher.specs.Opening.{Answered, Opened, run-given, number-of as opening-number}
 use Rattle.matcher.specs.declared.Answer.{Answer}
 use Rattle.matcher.specs.Windows.{Tells}
-use Rattle.matcher.specs.Conditions.{Grant, Kept, run-kept, reading-kept, OthersRefused, start, Decided, here, Unbroken, Granted, BySteps, Handing, run-after, AnyReading}
+use Rattle.matcher.specs.Conditions.{Grant, Kept, run-kept, reading-kept, OthersRefused, start, Decided, here, Unbroken, Granted, BySteps, Handing, AnyReading}
 use Rattle.conditions.specs.Refusals.{Exactly}
 use Rattle.conditions.specs.Texts.{Reading, rules-grammar, FormsMeant, text-grammar, Admissible}
 
@@ -130,7 +130,7 @@ pub record Claim (g : Grammar (Unit {0}) Values) (weight : ℕ) (ws fs rs : List
   -- never broken, and a grant of its own table, frame and reading is never refused
   pub unbroken : (gs : List Grant) → OthersRefused ws fs gs (start rs) → Unbroken ws fs rs gs
   -- nor is it ever broken by grants of its own table and frame with any readings (`matcher`, `AnyReading`)
-  pub any-reading : (hs : List Handing) → AnyReading ws fs (run-after ws fs hs opened-run)
+  pub any-reading : (hs : List Handing) → AnyReading ws fs hs rs
 
 -- of every text that is admitted, and every frame and reading on which its table opens a run
 abbrev pub Condition3 : Type 0

@@ -19,7 +19,7 @@ use Rattle.steps.specs.Steps.{Whole, whole, effect, in-bound, step-of, steps-of
 use Rattle.steps.specs.declared.Head.{Head}
 use Rattle.agreement.specs.Runs.{head-of as head-in}
 use Rattle.agreement.proofs.Fitting.{Fitting}
-use Rattle.runs.specs.Runs.{head-of, run-of, whole-of, opened-run, fitting, refusal-of, After, run-in, answer-in, after-steps, grant-of}
+use Rattle.runs.specs.Runs.{head-of, run-of, whole-of, opened-run, fitting, refusal-of, After, run-in, answer-in, after-steps, grant-of, number-of}
 use Rattle.runs.specs.declared.Run.{Run}
 use Rattle.runs.specs.declared.Answer.{Answer}
 use Rattle.runs.proofs.Fitting.{fitting-rest}
@@ -27,7 +27,7 @@ use Rattle.runs.proofs.Kept.{Roomy, steps-roomy}
 use Rattle.runs.proofs.Taken.{steps-add}
 use Rattle.runs.proofs.Grants.{refusal-told, refused as refused-law, granted as granted-law}
 use Rattle.matcher.specs.Opening.{Opened}
-use Rattle.matcher.specs.Conditions.{Handing, handing, run-after, room-for, AnyReading}
+use Rattle.matcher.specs.Conditions.{own, run-kept, after-grants, here, Handing, handing, run-after, now, further, AnyReading}
 use Rattle.matcher.proofs.Moments.{admitted, words, at, fits-at}
 
 -- the same with another reading
@@ -86,6 +86,10 @@ module _ (ws fs : List ℕ) where
       steps-alike n m m′ (step-of ws fs w) (step-of ws fs w′) (steps-roomy ws fs m 1 w r) (steps-roomy ws fs m′ 1 w′ r′) (one-alike m m′ w w′ r r′ e)
 
 -- ---- a run that was opened
+
+-- "two words for each field recorded and bit unread"
+abbrev room-for : List ℕ → Run → ℕ
+room-for fs run = 2 * (run .captures + (bits-of fs - run .position))
 
 none-refused : (s t : Bool) → _≡_ {A = ℕ} (pick s (pick t 0 24) 21) 0 → t ≡ true
 none-refused true true e = refl
@@ -179,30 +183,40 @@ module _ (ws fs rs : List ℕ) (o : Opened ws fs rs) where
   stands [] m run e = (m, e)
   stands (handing zs n ∷ hs) m run e = let x = handed m run e zs n in stands hs (x .0) (run-in (grant-of t fs zs run n)) (x .1)
 
-  stands-so : (m : ℕ) (run : Run) → Stands m run → AnyReading ws fs run
-  stands-so m run e =
-      record {
-        not-broken = λ z. omega (arith, z, ap (λ (h : Head). h .verdict) (same-head m run e []), fits-at ws fs rs o m .verdict);
-        granted-iff = λ zs n. (λ z. room-there m run e zs (sym (refusal-told t fs zs run n) ∙ z), λ l. refusal-told t fs zs run n ∙ passes m run e zs l);
-        refused-iff = λ zs n. (
-          λ z. (let q : refusal-of t fs zs run ≡ 24 = sym (refusal-told t fs zs run n) ∙ z in let p : room-for fs run ≤ length zs → ⊥ = λ l. (let y : refusal-of t fs zs run ≡ 0 = passes m run e zs l in omega arith) in not-below (room-for fs run) (length zs) p),
-          λ l. refusal-told t fs zs run n ∙ refused-24 m run e zs l,
-        );
-        same = λ zs zs′ n l l′. (
-            let w : Whole = steps-of t fs n (whole-of zs run) in
-            let w′ : Whole = steps-of t fs n (whole-of zs′ run) in
-            let g = granted-law t fs zs run n (passes m run e zs l) in
-            let g′ = granted-law t fs zs′ run n (passes m run e zs′ l′) in
-            let s : Alike w w′ = steps-same m run e zs n l ∙ sym (steps-same m run e zs′ n l′) in (
-              ap run-in g ∙ (made-run (run .steps) w ∙ (ap run-from s ∙ sym (ap run-in g′ ∙ made-run (run .steps) w′))),
-              ap answer-in g ∙ (made-answer (run .steps) w ∙ (ap (λ (x : Whole). Answer.Taken (head-in x .steps - run .steps)) s ∙ sym (ap answer-in g′ ∙ made-answer (run .steps) w′))),
-            )
-            );
-      }
-    where
-      not-below : (a b : ℕ) → (a ≤ b → ⊥) → b < a
-      not-below a b h = omega (arith, h)
+  -- the run that a grant of m with its own reading leaves
+  run-own : (m : ℕ) → run-kept (here ws fs rs (own m ∷ [])) ≡ run-from (over [] (at ws fs rs o m))
+  unfolding after-grants steps-of
+  run-own m = ap run-in (granted-law t fs rs opened-run m (passes 0 opened-run refl rs (omega (arith, o .2)))) ∙ made-run 0 (at ws fs rs o m)
 
-  pub any-reading : (hs : List Handing) → AnyReading ws fs (run-after ws fs hs opened-run)
+  module _ (hs : List Handing) (m : ℕ) (e : Stands m (now ws fs hs)) where
+    abbrev r : Run
+    r = now ws fs hs
+
+    not-granted : (zs : List ℕ) (n : ℕ) → number-of (answer-in (further ws fs hs zs n)) ≡ 24 → room-for fs r ≤ length zs → ⊥
+    not-granted zs n z l = omega (arith, z, refusal-told t fs zs r n, passes m r e zs l)
+
+    not-below : (a b : ℕ) → (a ≤ b → ⊥) → b < a
+    not-below a b h = omega (arith, h)
+
+    stands-so : AnyReading ws fs hs rs
+    stands-so =
+        record {
+          not-broken = λ z. omega (arith, z, ap (λ (h : Head). h .verdict) (same-head m r e []), fits-at ws fs rs o m .verdict);
+          as-own = (m, ap run-from e ∙ sym (run-own m));
+          granted-iff = λ zs n. (λ z. room-there m r e zs (sym (refusal-told t fs zs r n) ∙ z), λ l. refusal-told t fs zs r n ∙ passes m r e zs l);
+          refused-iff = λ zs n. (λ z. not-below (room-for fs r) (length zs) (not-granted zs n z), λ l. refusal-told t fs zs r n ∙ refused-24 m r e zs l);
+          same = λ zs zs′ n l l′. (
+              let w : Whole = steps-of t fs n (whole-of zs r) in
+              let w′ : Whole = steps-of t fs n (whole-of zs′ r) in
+              let g = granted-law t fs zs r n (passes m r e zs l) in
+              let g′ = granted-law t fs zs′ r n (passes m r e zs′ l′) in
+              let s : Alike w w′ = steps-same m r e zs n l ∙ sym (steps-same m r e zs′ n l′) in (
+                ap run-in g ∙ (made-run (r .steps) w ∙ (ap run-from s ∙ sym (ap run-in g′ ∙ made-run (r .steps) w′))),
+                ap answer-in g ∙ (made-answer (r .steps) w ∙ (ap (λ (x : Whole). Answer.Taken (head-in x .steps - r .steps)) s ∙ sym (ap answer-in g′ ∙ made-answer (r .steps) w′))),
+              )
+              );
+        }
+
+  pub any-reading : (hs : List Handing) → AnyReading ws fs hs rs
   unfolding steps-of
-  any-reading hs = let x = stands hs 0 opened-run refl in stands-so (x .0) (run-after ws fs hs opened-run) (x .1)
+  any-reading hs = let x = stands hs 0 opened-run refl in stands-so hs (x .0) (x .1)

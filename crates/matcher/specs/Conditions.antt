@@ -113,10 +113,6 @@ unfoldable pub run-after : (ws fs : List ℕ) → List Handing → Run → Run
 run-after ws fs [] run = run
 run-after ws fs (handing rs n ∷ hs) run = run-after ws fs hs (run-in (grant-of (table-of ws) fs rs run n))
 
--- 24: "two words for each field recorded and bit unread"
-abbrev pub room-for : List ℕ → Run → ℕ
-room-for fs run = 2 * (run .captures + (bits-of fs - run .position))
-
 -- ---- what is claimed
 
 -- the grammar that a table holds: "Variables are local to a rule."
@@ -130,15 +126,6 @@ start rs = kept opened-run rs
 -- "decided is match or no match"
 abbrev pub Decided : Run → Type 0
 Decided run = (run .verdict ≡ matched) ⊎ (run .verdict ≡ unmatched)
-
--- "ends as *broken* … never": nor does a further grant break it, which 24 refuses exactly where its reading has no room, and which makes of the run
--- the same whatever words the reading holds
-pub record AnyReading (ws fs : List ℕ) (run : Run) : Type 0 where
-  pub not-broken : run .verdict ≡ broken → ⊥
-  pub granted-iff : (rs : List ℕ) (n : ℕ) → (number-of (answer-in (grant-of (table-of ws) fs rs run n)) ≡ 0) ↔ (room-for fs run ≤ length rs)
-  pub refused-iff : (rs : List ℕ) (n : ℕ) → (number-of (answer-in (grant-of (table-of ws) fs rs run n)) ≡ 24) ↔ (length rs < room-for fs run)
-  pub same : (rs rs′ : List ℕ) (n : ℕ) → room-for fs run ≤ length rs → room-for fs run ≤ length rs′
-      → let x = grant-of (table-of ws) fs rs run n in let x′ = grant-of (table-of ws) fs rs′ run n in (run-in x ≡ run-in x′) × (answer-in x ≡ answer-in x′)
 
 module _ (ws fs rs : List ℕ) (gs : List Grant) where
   -- the run and its reading after the list
@@ -171,6 +158,29 @@ module _ (ws fs rs : List ℕ) (gs : List Grant) where
     -- "words beyond never change"
     pub beyond : drop (2 * run-kept here .captures) (reading-kept here) ≡ drop (2 * run-kept here .captures) rs
 
+module _ (ws fs : List ℕ) (hs : List Handing) where
+  -- the run after grants with any readings, and what a further one leaves
+  abbrev pub now : Run
+  now = run-after ws fs hs opened-run
+
+  abbrev pub further : (reading : List ℕ) (steps : ℕ) → After
+  further zs n = grant-of (table-of ws) fs zs now n
+
+  -- 24: "two words for each field recorded and bit unread"
+  abbrev pub room-now : ℕ
+  room-now = 2 * (now .captures + (bits-of fs - now .position))
+
+  -- "ends as *broken* … never from an open on a sound table with run, table and frame kept unchanged", whatever readings the grants are handed: 24
+  -- refuses one exactly where its reading has no room, and the words that a reading holds change neither the run nor the count
+  pub record AnyReading (rs : List ℕ) : Type 0 where
+    pub not-broken : now .verdict ≡ broken → ⊥
+    -- it is the run that some grant with its own reading leaves
+    pub as-own : (n : ℕ) × (now ≡ run-kept (here ws fs rs (own n ∷ [])))
+    pub granted-iff : (zs : List ℕ) (n : ℕ) → (number-of (answer-in (further zs n)) ≡ 0) ↔ (room-now ≤ length zs)
+    pub refused-iff : (zs : List ℕ) (n : ℕ) → (number-of (answer-in (further zs n)) ≡ 24) ↔ (length zs < room-now)
+    pub same : (zs zs′ : List ℕ) (n : ℕ) → room-now ≤ length zs → room-now ≤ length zs′
+        → (run-in (further zs n) ≡ run-in (further zs′ n)) × (answer-in (further zs n) ≡ answer-in (further zs′ n))
+
 -- The run and its fields after the list are what document 01's steps (crate `theory`, `Machine`) make of a grammar, however its windows are looked up.
 abbrev pub BySteps : Grammar (Unit {0}) Values → (ws fs rs : List ℕ) → List Grant → Type 0
 BySteps g ws fs rs gs = (tests : Tests) → Tells g tests
@@ -196,7 +206,7 @@ pub record NeverBroken : Type 0 where
   -- and every list of condition 3's grants
   pub listed : (ws fs rs : List ℕ) → Opened ws fs rs → (gs : List Grant) → OthersRefused ws fs gs (start rs) → Unbroken ws fs rs gs
   -- and every list of grants with any readings
-  pub any-reading : (ws fs rs : List ℕ) → Opened ws fs rs → (hs : List Handing) → AnyReading ws fs (run-after ws fs hs opened-run)
+  pub any-reading : (ws fs rs : List ℕ) → Opened ws fs rs → (hs : List Handing) → AnyReading ws fs hs rs
 
 -- condition 2, of the machine: its verdict and its reading, after any list of grants
 abbrev pub Condition2 : Type 0
