@@ -7,7 +7,7 @@ use Prim.Native.Nat.{ℕ, _+_, _*_, _≤_}
 use mathlib.Core.Path.{_≡_}
 use mathlib.Core.Logic.{_⊎_, _↔_}
 use mathlib.Core.List.{List, _++_}
-use lib.ListN.{length, drop}
+use lib.ListN.{length, take, drop}
 use Rattle.basis.specs.Bits.{Bits, frameBits}
 use Rattle.theory.specs.Grammar.{Grammar}
 use Rattle.theory.specs.Derivation.{Tree, captures, Derivation}
@@ -52,8 +52,9 @@ pub record RunGranted (rs : List ℕ) (run : Run) (x : After) : Type 0 where
   -- "A decided, closed or broken run takes no more steps."
   pub at-rest : (run .verdict ≡ undecided → ⊥) → (run-in x ≡ run) × (reading-in x ≡ rs) × (taken-of (answer-in x) ≡ 0)
   pub length-kept : length (reading-in x) ≡ length rs
-  -- "words beyond never change": past the fields recorded
+  -- "words beyond never change": past the fields recorded; and the words of those recorded before stay
   pub beyond : drop (2 * run-in x .captures) (reading-in x) ≡ drop (2 * run-in x .captures) rs
+  pub before : take (2 * run .captures) (reading-in x) ≡ take (2 * run .captures) rs
 
 -- of any text, table, frame, reading, run and number of steps
 pub record Condition1 : Type 0 where

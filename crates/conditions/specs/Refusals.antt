@@ -116,7 +116,8 @@ Sharing g i x Clash.None = ⊥
 Sharing g i x (Clash.Branches window first second) = (is : List ℕ) × (g .node i ≡ alternative is) × FirstTwo g is x first second
 Sharing g i x (Clash.Passes window) = (is : List ℕ) → g .node i ≡ alternative is → ⊥
 
--- 10, with a construct and its clash: the construct is the first that clashes, and the place is its place
+-- 10, with a construct and its clash. "within one, the smallest place, outer first": the construct is the first that clashes, as they are numbered "in
+-- text order, the outer before the inner", and the place is its place.
 pub record Clashed (answer : Admission) (base : ℕ) (xs : List ℕ) (st : State) (p : ℕ) : Type 0 where
   pub construct : ℕ
   pub clash : Clash
