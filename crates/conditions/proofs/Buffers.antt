@@ -7,7 +7,7 @@ use mathlib.Core.Bool.{Bool, true, false}
 use mathlib.Core.List.{List}
 use native.Mathlib.Omega.{arith}
 use lib.Dec.{leb}
-use lib.ListN.{length, drop}
+use lib.ListN.{length, take, drop}
 use Rattle.layout.specs.Places.{table-words}
 use Rattle.layout.specs.Constructs.{pick}
 use Rattle.steps.specs.Steps.{Whole, whole, steps-of}
@@ -93,6 +93,9 @@ module _ (ws fs rs : List ℕ) (run : Run) (n : ℕ) where
   abbrev Beyond : After → Type 0
   Beyond x = drop (2 * run-in x .captures) (reading-in x) ≡ drop (2 * run-in x .captures) rs
 
+  abbrev Before : After → Type 0
+  Before x = take (2 * run .captures) (reading-in x) ≡ take (2 * run .captures) rs
+
   numbered : (w : Whole) → Numbered (after-steps (run .steps) w)
   numbered (whole cs ps vs zs h) = inl refl
 
@@ -105,6 +108,9 @@ module _ (ws fs rs : List ℕ) (run : Run) (n : ℕ) where
   beyond : (w : Whole) → Recorded (whole-of rs run) w → Beyond (after-steps (run .steps) w)
   beyond (whole cs ps vs zs h) r = r .past
 
+  before : (w : Whole) → Recorded (whole-of rs run) w → Before (after-steps (run .steps) w)
+  before (whole cs ps vs zs h) r = r .before
+
   run-granted : RunGranted rs run (grant-of ws fs rs run n)
   run-granted =
       record {
@@ -113,6 +119,7 @@ module _ (ws fs rs : List ℕ) (run : Run) (n : ℕ) where
         refused = in-each Untouched (λ e. (refl, refl, refl)) (λ e. (refl, refl, refl)) (λ w r. untouched w);
         length-kept = in-each (λ x. length (reading-in x) ≡ length rs) refl refl same-length;
         beyond = in-each Beyond refl refl beyond;
+        before = in-each Before refl refl before;
       }
 
 pub condition-1 : Condition1

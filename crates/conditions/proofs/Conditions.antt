@@ -6,9 +6,11 @@ use mathlib.Core.Logic.{_↔_}
 use mathlib.Core.List.{List}
 use native.Mathlib.Omega.{arith}
 use lib.ListN.{length}
+use Rattle.basis.specs.Bits.{Bits}
 use Rattle.theory.specs.Grammar.{Grammar}
+use Rattle.theory.specs.Derivation.{Tree, Derivation}
 use Rattle.layout.specs.Places.{table-of, weight-of}
-use Rattle.layout.specs.Held.{Values}
+use Rattle.layout.specs.Held.{Values, held}
 use Rattle.acts.specs.Acts.{bits-of}
 use Rattle.admission.specs.Admitted.{Answers}
 use Rattle.admission.specs.declared.Admission.{Admission}
@@ -16,25 +18,26 @@ use Rattle.table.specs.Sound.{SoundTable}
 use Rattle.matcher.specs.Opening.{Answered, Opened}
 use Rattle.matcher.specs.declared.Answer.{Answer}
 use Rattle.matcher.specs.Conditions.{Grant, OthersRefused, start, here, grammar-of}
-use Rattle.matcher.proofs.Conditions.{condition-2 as table-condition-2, condition-3 as table-condition-3, never-broken}
+use Rattle.matcher.proofs.Conditions.{condition-2 as table-condition-2, condition-3 as table-condition-3, at-most-one as table-at-most-one, never-broken}
 use Rattle.conditions.specs.Texts.{Reading, text-grammar}
-use Rattle.conditions.specs.Conditions.{Exact, Claim, Condition2, Condition3}
+use Rattle.conditions.specs.Conditions.{Exact, AtMostOne, Claim, Condition2, Condition3}
 use Rattle.conditions.proofs.Exactly.{exactly}
-use Rattle.conditions.proofs.Tables.{text-table, same-grammar}
+use Rattle.conditions.proofs.Tables.{text-table, same-rules, same-grammar}
 
 module _ (ws fs rs : List ℕ) (o : Opened ws fs rs) where
   exact : (gs : List Grant) → OthersRefused ws fs gs (start rs) → Exact (grammar-of ws) fs rs (here ws fs rs gs)
   exact gs a = let e = table-condition-2 ws fs rs o gs a in record { match-iff = e .match-iff; no-match-iff = e .no-match-iff; fields = e .fields }
 
-  claim : (weight : ℕ) → weight-of (table-of ws) ≡ weight → Claim (grammar-of ws) weight ws fs rs
+  claim : (weight : ℕ) → weight-of (table-of ws) ≡ weight → Claim (held (table-of ws)) weight ws fs rs
   claim weight e =
       let c = table-condition-3 ws fs rs o in
       record {
-        once = c .once;
         needed = c .needed;
         within-bound = subst (λ (k : ℕ). c .needed ≤ k * (bits-of fs + 1)) e (c .within-bound);
         granting = c .granting;
-        unbroken = never-broken ws fs rs o;
+        by-steps = c .by-steps;
+        unbroken = never-broken .listed ws fs rs o;
+        any-reading = never-broken .any-reading ws fs rs o;
       }
 
 matching : (text old table : List ℕ) (weight : ℕ) → Answers text old table (Admission.Admitted weight) → (x : Reading text)
@@ -52,7 +55,12 @@ opens ws fs rs Answer.Opened s a = (λ e. (a .1, a .2), λ h. refl)
 pub condition-2 : Condition2
 condition-2 = record { admitting = exactly; opened = λ text old table weight a fs rs answer. opens table fs rs answer (text-table text old table weight a .sound); matching = matching }
 
+pub at-most-one : AtMostOne
+at-most-one text old table weight a x =
+    subst (λ (g : Grammar (Unit {0}) Values). (s : Bits) (t t′ : Tree) (v v′ : Values) → Derivation g s t v → Derivation g s t′ v′ → t ≡ t′)
+    (same-grammar text old table weight a x) (table-at-most-one table (text-table text old table weight a .sound))
+
 pub condition-3 : Condition3
 condition-3 text old table weight a x fs rs o =
-    subst (λ (g : Grammar (Unit {0}) Values). Claim g weight table fs rs) (same-grammar text old table weight a x)
+    subst (λ (g : Grammar (Unit {0}) Values). Claim g weight table fs rs) (same-rules text old table weight a x)
     (claim table fs rs o weight (text-table text old table weight a .weight-stored))

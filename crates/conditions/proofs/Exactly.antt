@@ -1,7 +1,7 @@
 -- Each answer to a text is the first row of document 01's table that fits, or none fits.
 -- Assumes nothing.
 use Prim.Native.Nat.{ℕ, _<_}
-use mathlib.Core.Path.{_≡_, refl, sym, ap, ap₂, subst, _∙_}
+use mathlib.Core.Path.{_≡_, refl, sym, ap, subst, _∙_}
 use mathlib.Core.Logic.{_⊎_, inl, inr}
 use mathlib.Core.List.{List}
 use mathlib.Core.Option.{some}
@@ -9,8 +9,9 @@ use native.Mathlib.Omega.{arith}
 use lib.ListN.{drop}
 use Rattle.basis.specs.Bits.{Bits}
 use Rattle.basis.specs.Lookahead.{number as window-number}
+use Rattle.basis.proofs.Numbers.{number-injective}
 use Rattle.theory.specs.Grammar.{Grammar}
-use Rattle.theory.specs.Lookahead.{LeastConflict}
+use Rattle.theory.specs.Lookahead.{Predicted, LeastConflict}
 use Rattle.theory.specs.Weight.{Weighs}
 use Rattle.scoping.proofs.RuledLaw.{ruled}
 use Rattle.layout.specs.Held.{Values, held}
@@ -19,13 +20,15 @@ use Rattle.weights.proofs.Theorems.{weights-exist}
 use Rattle.table.specs.Judged.{Passed10}
 use Rattle.parsing.specs.Store.{State}
 use Rattle.admission.specs.Admitted.{number-of, place-in, window-in, words-of, Bounded, Headed, Refusal, RulesRefused, AnsweredRules, Answers, refused-early, by-rules, Clashes, LeastMark as TableMark}
-use Rattle.conflicts.specs.Conflicts.{LeastWindow, Answered}
+use Rattle.conflicts.specs.Windows.{HasNumber}
+use Rattle.conflicts.specs.Clashes.{FirstHolders}
+use Rattle.conflicts.specs.Conflicts.{Conflicting, Answered}
 use Rattle.conflicts.specs.declared.Clash.{Clash}
 use Rattle.admission.specs.declared.Admission.{Admission}
-use Rattle.conditions.specs.Texts.{Reading, meant}
-use Rattle.conditions.specs.Refusals.{Row, short-table, wrong-size, wrong-header, wrong-form, past-limit, wrong-name, recursive, too-large, empty-body, clashing, too-heavy, number, HasConflict, LeastMark, NoneBelow, First, Exactly}
-use Rattle.conditions.proofs.Refusals.{same-row, in-range, one-first, below-1, below-2, below-3, below-4, below-5, below-6, below-7, below-8, below-9, below-10, below-11, below-12, fitting, reading, to-text}
-use Rattle.conditions.proofs.Tables.{one-reading, words-hold}
+use Rattle.conditions.specs.Texts.{meant}
+use Rattle.conditions.specs.Refusals.{Row, short-table, wrong-size, wrong-header, wrong-form, past-limit, wrong-name, recursive, too-large, empty-body, clashing, too-heavy, number, HasConflict, LeastMark, Weight, FirstTwo, Sharing, Clashed, Read, NoneBelow, First, Exactly}
+use Rattle.conditions.proofs.Refusals.{same-row, in-range, one-first, below-1, below-2, below-3, below-4, below-5, below-6, below-7, below-8, below-9, below-10, below-11, below-12, reading, to-text}
+use Rattle.conditions.proofs.Buffers.{refused-number}
 
 -- the weights of words that pass 10
 pub weights-of : (ws : List ℕ) → Passed10 ws → Weighs (held ws) (λ c i. weight-at ws i)
@@ -96,46 +99,86 @@ module _ (text table : List ℕ) where
   told new answer (refused-early n place e r k) = subst Told (sym e) (inr (early n place r))
   told new answer (by-rules base h p) = told-rules base h new answer p
 
-  -- of a clash, the least window that is common in the text's grammar
-  abbrev Window : Reading text → ℕ → Clash → Type 0
-  Window x i c = (w : Bits) × (window-in c ≡ some (window-number w)) × LeastConflict (meant (drop (x .base) text) (x .st)) i w
+  -- ---- what an answer carries
 
-  window-rules : (base : ℕ) → Headed text table base → (x : Reading text) (p i : ℕ) (c : Clash) → Clashes (drop base text) base p i c → Window x i c
-  window-rules base h x p i c k = by c (k .answered)
+  -- of a clash: the least window that is common in the grammar, and the branches that share it
+  abbrev Told-of : Grammar (Unit {0}) Values → ℕ → Clash → Type 0
+  Told-of g i c = (x : Bits) × (window-in c ≡ some (window-number x)) × LeastConflict g i x × Sharing g i x c
+
+  two-have : (g : Grammar (Unit {0}) Values) (is : List ℕ) (x : Bits) (n first second : ℕ) → window-number x ≡ n → FirstHolders (Predicted g) is n first second → FirstTwo g is x first second
+  two-have g is x n first second e h =
+      record {
+        in-order = h .in-order;
+        first-has = (h .first-listed, has first (h .first-has));
+        second-has = (h .second-listed, has second (h .second-has));
+        others = λ j m p. h .others j m (x, e, p);
+      }
     where
-      same : held (words-of (drop base text) (k .st)) ≡ meant (drop (x .base) text) (x .st)
-      same =
-          let s = one-reading (reading text table base h (k .st) (k .passed .passed .passed .passed .passed)) x in
-          words-hold (drop base text) (k .st) (k .passed) (fitting text table base h) ∙ ap₂ (λ (b : ℕ) (st : State). meant (drop b text) st) (s .0) (s .1)
+      has : (j : ℕ) → HasNumber (Predicted g) j n → Predicted g j x
+      has j (y, d, p) = subst (Predicted g j) (number-injective y x (d ∙ sym e)) p
 
-      least : (n : ℕ) → LeastWindow (words-of (drop base text) (k .st)) i n → (w : Bits) × (some n ≡ some (window-number w)) × LeastConflict (meant (drop (x .base) text) (x .st)) i w
-      least n (w, e, l) = (w, ap some (sym e), subst (λ (g : Grammar (Unit {0}) Values). LeastConflict g i w) same l)
+  told-of : (ws : List ℕ) (i : ℕ) → Conflicting ws i → (c : Clash) → Answered ws i c → Told-of (held ws) i c
+  told-of ws i k Clash.None a = absurd (a k)
+  told-of ws i k (Clash.Branches n first second) ((x, e, l), two) = (x, ap some (sym e), l, (two .branches, two .node, two-have (held ws) (two .branches) x n first second e (two .holders)))
+  told-of ws i k (Clash.Passes n) ((x, e, l), none) = (x, ap some (sym e), l, none)
 
-      by : (d : Clash) → Answered (words-of (drop base text) (k .st)) i d → Window x i d
-      by Clash.None a = absurd (a (k .first .holds))
-      by (Clash.Branches n first second) a = least n (a .0)
-      by (Clash.Passes n) a = least n (a .0)
+  clashed-rules : (base : ℕ) → Headed text table base → (p i : ℕ) (c : Clash) → Clashes (drop base text) base p i c → Read text (Clashed (Admission.Conflict p i c)) p
+  clashed-rules base h p i c k =
+      let st : State = k .st in
+      let b : Bounded (drop base text) st = k .passed in
+      let ws : List ℕ = words-of (drop base text) st in
+      let t = to-text text table base h st b (λ g. Told-of g i c) (told-of ws i (k .first .holds) c (k .answered)) in (
+        reading text table base h st (b .passed .passed .passed .passed),
+        record {
+          construct = i;
+          clash = c;
+          answered = refl;
+          before = to-text text table base h st b (λ g. (j : ℕ) → j < i → HasConflict g j → ⊥) (k .first .before);
+          place = k .at;
+          window = t .0;
+          carried = t .1;
+          least = t .2;
+          shared = t .3;
+        },
+      )
 
-  window-told : (new : List ℕ) (answer : Admission) → Answers text table new answer → (x : Reading text) (p i : ℕ) (c : Clash) → answer ≡ Admission.Conflict p i c → Window x i c
-  window-told new answer (refused-early n place e r k) x p i c z = let d : Admission.Refused n place ≡ Admission.Conflict p i c = sym e ∙ z in let u : _≡_ {A = ℕ} 0 1 = cc in absurd (omega arith)
-  window-told new answer (by-rules base h a) x p i c z = window-rules base h x p i c (subst (AnsweredRules (drop base text) base table new) z a .0)
+  clashed : (new : List ℕ) (answer : Admission) → Answers text table new answer → number-of answer ≡ 10 → Read text (Clashed answer) (place-in answer)
+  clashed new (Admission.Admitted w) a z = absurd (omega arith)
+  clashed new (Admission.Refused n p) a z = absurd (refused-number text table new n p a .2 z)
+  clashed new (Admission.Conflict p i c) (refused-early n q e r k) z = let u : _≡_ {A = ℕ} 0 1 = cc in absurd (omega arith)
+  clashed new (Admission.Conflict p i c) (by-rules base h (k, same)) z = clashed-rules base h p i c k
 
-  exactly-told : (answer : Admission) → Told answer → ((x : Reading text) (p i : ℕ) (c : Clash) → answer ≡ Admission.Conflict p i c → Window x i c) → Exactly text table answer
-  exactly-told answer (inl (z, none)) window =
-      record {
-        admitted-iff = (λ e. none, λ f. z);
-        refused-iff = λ k p. (λ e. absurd (omega (arith, z, e .0, in-range k .0)), λ f. absurd (none k p (in-range k .1) (f .0)));
-        window = window;
-      }
-  exactly-told answer (inr (k, e, f)) window =
-      record {
-        admitted-iff = (λ z. absurd (omega (arith, z, e, in-range k .0)), λ none. absurd (none k (place-in answer) (in-range k .1) (f .0)));
-        refused-iff = λ j p. (
-          λ x. subst (First text table j) (x .1) (subst (λ (r : Row). First text table r (place-in answer)) (same-row k j (e ∙ x .0)) f),
-          λ g. (let u = one-first text table k j (place-in answer) p f g in (sym e ∙ u .0, u .1)),
-        );
-        window = window;
-      }
+  weighed : (new : List ℕ) (answer : Admission) → Answers text table new answer → number-of answer ≡ 0 → (n : ℕ) × (answer ≡ Admission.Admitted n) × Read text Weight n
+  weighed new (Admission.Admitted n) (refused-early m q e r k) z = let u : _≡_ {A = ℕ} 0 1 = cc in absurd (omega arith)
+  weighed new (Admission.Admitted n) (by-rules base h a) z =
+      let st : State = a .st in
+      let b : Bounded (drop base text) st = a .passes .passed in
+      let ws : List ℕ = words-of (drop base text) st in
+      let w : Unit {0} → ℕ → ℕ = λ c i. weight-at ws i in
+      let e : Weighs (held ws) w = weights-of ws (a .passes .judged) in
+      (n, refl, (reading text table base h st (b .passed .passed .passed .passed), (w, to-text text table base h st b (λ g. Weighs g w) e, a .passes .weighs w e)))
+  weighed new (Admission.Refused n p) a z = absurd (omega (arith, z, refused-number text table new n p a .0))
+  weighed new (Admission.Conflict p i c) a z = absurd (omega arith)
+
+  module _ (new : List ℕ) (answer : Admission) (a : Answers text table new answer) where
+    exactly-told : Told answer → Exactly text table answer
+    exactly-told (inl (z, none)) =
+        record {
+          admitted-iff = (λ e. none, λ f. z);
+          refused-iff = λ k p. (λ e. absurd (omega (arith, z, e .0, in-range k .0)), λ f. absurd (none k p (in-range k .1) (f .0)));
+          weight = weighed new answer a;
+          clash = clashed new answer a;
+        }
+    exactly-told (inr (k, e, f)) =
+        record {
+          admitted-iff = (λ z. absurd (omega (arith, z, e, in-range k .0)), λ none. absurd (none k (place-in answer) (in-range k .1) (f .0)));
+          refused-iff = λ j p. (
+            λ x. subst (First text table j) (x .1) (subst (λ (r : Row). First text table r (place-in answer)) (same-row k j (e ∙ x .0)) f),
+            λ g. (let u = one-first text table k j (place-in answer) p f g in (sym e ∙ u .0, u .1)),
+          );
+          weight = weighed new answer a;
+          clash = clashed new answer a;
+        }
 
 pub exactly : (text old new : List ℕ) (answer : Admission) → Answers text old new answer → Exactly text old answer
-exactly text old new answer a = exactly-told text old answer (told text old new answer a) (window-told text old new answer a)
+exactly text old new answer a = exactly-told text old new answer a (told text old new answer a)

@@ -1,8 +1,8 @@
--- Two answers to one text and table are the same, and leave the same words.
+-- Two answers to one text are the same, and leave the same table; with the same words before, the same words.
 -- Assumes nothing.
-use Prim.Native.Nat.{ℕ, _≤_, _<_}
-use mathlib.Core.Path.{_≡_, sym, ap, ap₂, subst, _∙_}
-use mathlib.Core.Logic.{_⊎_, inl, inr}
+use Prim.Native.Nat.{ℕ, zero, suc, _≤_, _<_}
+use mathlib.Core.Path.{_≡_, refl, sym, ap, ap₂, subst, _∙_}
+use mathlib.Core.Logic.{_⊎_, _↔_, inl, inr}
 use mathlib.Core.List.{List, [], _++_}
 use native.Mathlib.Omega.{arith}
 use lib.ListN.{length, drop, length-take, take-append-drop}
@@ -21,7 +21,8 @@ use Rattle.parsing.specs.Store.{State}
 use Rattle.text.specs.Header.{header-of}
 use Rattle.admission.specs.Admitted.{place-in, number-of, form, words-of, Passes, Tabled, RulesPass, Headed, Clashes, Answers, refused-early, by-rules}
 use Rattle.admission.specs.declared.Admission.{Admission}
-use Rattle.conditions.specs.Conditions.{OneAnswer}
+use Rattle.conditions.specs.Refusals.{Row, short-table, wrong-size, wrong-header, wrong-form, past-limit, wrong-name, recursive, too-large, empty-body, clashing, too-heavy, number, Fits, NoneBelow}
+use Rattle.conditions.specs.Conditions.{OneAnswer, OneTable}
 use Rattle.conditions.proofs.Tables.{one-base, one-state}
 use Rattle.conditions.proofs.Refusals.{least-same}
 use Rattle.conditions.proofs.Exactly.{weights-of, told, exactly}
@@ -29,13 +30,35 @@ use Rattle.conditions.proofs.Buffers.{refused-number, condition-1}
 
 -- ---- the same number, and the same place where it is a refusal
 
-module _ (text old new new′ : List ℕ) (r r′ : Admission) (a : Answers text old new r) (a′ : Answers text old new′ r′) where
-  same-number : (number-of r ≡ number-of r′) × ((number-of r ≡ 0 → ⊥) → place-in r ≡ place-in r′)
-  same-number =
+-- the same rows fit with these words as table and with those
+abbrev SameRows : (text old old′ : List ℕ) → Type 0
+SameRows text old old′ = (k : Row) (p : ℕ) → Fits text old k p ↔ Fits text old′ k p
+
+-- so they do of whole tables: only the first row reads of the table, its length
+whole-rows : (text old old′ : List ℕ) → table-words ≤ length old → table-words ≤ length old′ → SameRows text old old′
+whole-rows text old old′ l l′ short-table p = (λ f. absurd (omega (arith, l, f .0)), λ f. absurd (omega (arith, l′, f .0)))
+whole-rows text old old′ l l′ wrong-size p = (λ f. f, λ f. f)
+whole-rows text old old′ l l′ wrong-header p = (λ f. f, λ f. f)
+whole-rows text old old′ l l′ wrong-form p = (λ f. f, λ f. f)
+whole-rows text old old′ l l′ past-limit p = (λ f. f, λ f. f)
+whole-rows text old old′ l l′ wrong-name p = (λ f. f, λ f. f)
+whole-rows text old old′ l l′ recursive p = (λ f. f, λ f. f)
+whole-rows text old old′ l l′ too-large p = (λ f. f, λ f. f)
+whole-rows text old old′ l l′ empty-body p = (λ f. f, λ f. f)
+whole-rows text old old′ l l′ clashing p = (λ f. f, λ f. f)
+whole-rows text old old′ l l′ too-heavy p = (λ f. f, λ f. f)
+
+module _ (text old old′ : List ℕ) (rows : SameRows text old old′) where
+  none-same : (n : ℕ) → NoneBelow text old n → NoneBelow text old′ n
+  none-same n none k q l f = none k q l (rows k q .1 f)
+
+  same-number : (new new′ : List ℕ) (r r′ : Admission) → Answers text old new r → Answers text old′ new′ r′
+      → (number-of r ≡ number-of r′) × ((number-of r ≡ 0 → ⊥) → place-in r ≡ place-in r′)
+  same-number new new′ r r′ a a′ =
       elim (told text old new r a) [
-        | inl x ↦ (x .0 ∙ sym (exactly text old new′ r′ a′ .admitted-iff .1 (x .1)), λ n. absurd (n (x .0)))
+        | inl x ↦ (x .0 ∙ sym (exactly text old′ new′ r′ a′ .admitted-iff .1 (none-same 12 (x .1))), λ n. absurd (n (x .0)))
         | inr x ↦
-            let e = exactly text old new′ r′ a′ .refused-iff (x .0) (place-in r) .1 (x .2) in
+            let e = exactly text old′ new′ r′ a′ .refused-iff (x .0) (place-in r) .1 (rows (x .0) (place-in r) .0 (x .2 .0), none-same (number (x .0)) (x .2 .1)) in
             (sym (x .1) ∙ sym (e .0), λ n. sym (e .1))
       ]
 
@@ -92,18 +115,15 @@ module _ (ws : List ℕ) (i : ℕ) where
 
 -- ---- one weight and one table
 
-module _ (ws old new new′ : List ℕ) (fits : table-words ≤ length old) (x : Tabled ws old new) (y : Tabled ws old new′) where
+module _ (ws old old′ new new′ : List ℕ) (fits : table-words ≤ length old) (fits′ : table-words ≤ length old′) (x : Tabled ws old new) (y : Tabled ws old′ new′) where
   alike : Alike (table-of new) (table-of new′)
   alike = record { long = x .same .long′; long′ = y .same .long′; same = λ k l e. sym (x .same .same k l e) ∙ y .same .same k l e }
 
-  whole : (zs : List ℕ) → length zs ≡ length old → length (table-of zs) ≡ table-words
-  whole zs e = length-take table-words zs ∙ (let z : _ ≡ table-words = omega (arith, e, fits) in z)
+  whole : (was is : List ℕ) → table-words ≤ length was → length is ≡ length was → length (table-of is) ≡ table-words
+  whole was is l e = length-take table-words is ∙ (let z : _ ≡ table-words = omega (arith, e, l) in z)
 
   tables-same : table-of new ≡ table-of new′
-  tables-same = alike-equal alike (x .sound) (y .sound) (whole new (x .length-kept)) (whole new′ (y .length-kept))
-
-  one-table : new ≡ new′
-  one-table = sym (take-append-drop table-words new) ∙ (ap₂ _++_ tables-same (x .beyond ∙ sym (y .beyond)) ∙ take-append-drop table-words new′)
+  tables-same = alike-equal alike (x .sound) (y .sound) (whole old new fits (x .length-kept)) (whole old′ new′ fits′ (y .length-kept))
 
 one-weight : (xs : List ℕ) (st : State) (w v : ℕ) → Passes xs st w → Passes xs st v → w ≡ v
 one-weight xs st w v x y =
@@ -131,31 +151,33 @@ module _ (text old new : List ℕ) where
   kept r a n = condition-1 .admitting text old new r a .refused n
 
 -- two that are read by rules are so from the same place on
-together : (text old : List ℕ) (A B : ℕ → Type 0) (C : Type 0) → ByRules text old A → ByRules text old B → ((base : ℕ) → Headed text old base → A base → B base → C) → C
-together text old A B C x y f =
-    f (x .base) (x .headed) (x .answered) (subst B (one-base (header-of text) (y .base) (x .base) (y .headed .header) (x .headed .header)) (y .answered))
+together : (text old old′ : List ℕ) (A B : ℕ → Type 0) (C : Type 0) → ByRules text old A → ByRules text old′ B → ((base : ℕ) → Headed text old base → Headed text old′ base → A base → B base → C) → C
+together text old old′ A B C x y f =
+    let e = one-base (header-of text) (y .base) (x .base) (y .headed .header) (x .headed .header) in
+    f (x .base) (x .headed) (subst (Headed text old′) e (y .headed)) (x .answered) (subst B e (y .answered))
 
-module _ (text old new new′ : List ℕ) where
-  both-admitted : (w v : ℕ) → Answers text old new (Admission.Admitted w) → Answers text old new′ (Admission.Admitted v) → (Admission.Admitted w ≡ Admission.Admitted v) × (new ≡ new′)
+module _ (text old old′ new new′ : List ℕ) where
+  both-admitted : (w v : ℕ) → Answers text old new (Admission.Admitted w) → Answers text old′ new′ (Admission.Admitted v) → (Admission.Admitted w ≡ Admission.Admitted v) × (table-of new ≡ table-of new′)
   both-admitted w v a b =
-      together text old (λ base. RulesPass (drop base text) w old new) (λ base. RulesPass (drop base text) v old new′) ((Admission.Admitted w ≡ Admission.Admitted v) × (new ≡ new′))
-      (of-admitted text old new w a) (of-admitted text old new′ v b) same
+      together text old old′ (λ base. RulesPass (drop base text) w old new) (λ base. RulesPass (drop base text) v old′ new′) ((Admission.Admitted w ≡ Admission.Admitted v) × (table-of new ≡ table-of new′))
+      (of-admitted text old new w a) (of-admitted text old′ new′ v b) same
     where
-      same : (base : ℕ) → Headed text old base → RulesPass (drop base text) w old new → RulesPass (drop base text) v old new′ → (Admission.Admitted w ≡ Admission.Admitted v) × (new ≡ new′)
-      same base h x y =
+      same : (base : ℕ) → Headed text old base → Headed text old′ base → RulesPass (drop base text) w old new → RulesPass (drop base text) v old′ new′
+          → (Admission.Admitted w ≡ Admission.Admitted v) × (table-of new ≡ table-of new′)
+      same base h h′ x y =
           let xs : List ℕ = drop base text in
           let e : y .st ≡ x .st = one-state (form xs) (y .st) (x .st) (y .passes .passed .passed .passed .passed .passed .formed) (x .passes .passed .passed .passed .passed .passed .formed) in (
             ap Admission.Admitted (one-weight xs (x .st) w v (x .passes) (subst (λ (st : State). Passes xs st v) e (y .passes))),
-            one-table (words-of xs (x .st)) old new new′ (h .table-fits) (x .table) (subst (λ (st : State). Tabled (words-of xs st) old new′) e (y .table)),
+            tables-same (words-of xs (x .st)) old old′ new new′ (h .table-fits) (h′ .table-fits) (x .table) (subst (λ (st : State). Tabled (words-of xs st) old′ new′) e (y .table)),
           )
 
-  both-clash : (p q i j : ℕ) (c d : Clash) → p ≡ q → Answers text old new (Admission.Conflict p i c) → Answers text old new′ (Admission.Conflict q j d) → Admission.Conflict p i c ≡ Admission.Conflict q j d
+  both-clash : (p q i j : ℕ) (c d : Clash) → p ≡ q → Answers text old new (Admission.Conflict p i c) → Answers text old′ new′ (Admission.Conflict q j d) → Admission.Conflict p i c ≡ Admission.Conflict q j d
   both-clash p q i j c d z a b =
-      together text old (λ base. Clashes (drop base text) base p i c) (λ base. Clashes (drop base text) base q j d) (Admission.Conflict p i c ≡ Admission.Conflict q j d)
-      (of-conflict text old new p i c a) (of-conflict text old new′ q j d b) same
+      together text old old′ (λ base. Clashes (drop base text) base p i c) (λ base. Clashes (drop base text) base q j d) (Admission.Conflict p i c ≡ Admission.Conflict q j d)
+      (of-conflict text old new p i c a) (of-conflict text old′ new′ q j d b) same
     where
-      same : (base : ℕ) → Headed text old base → Clashes (drop base text) base p i c → Clashes (drop base text) base q j d → Admission.Conflict p i c ≡ Admission.Conflict q j d
-      same base h x y =
+      same : (base : ℕ) → Headed text old base → Headed text old′ base → Clashes (drop base text) base p i c → Clashes (drop base text) base q j d → Admission.Conflict p i c ≡ Admission.Conflict q j d
+      same base h h′ x y =
           let xs : List ℕ = drop base text in
           let ws : List ℕ = words-of xs (x .st) in
           let e : y .st ≡ x .st = one-state (form xs) (y .st) (x .st) (y .passed .passed .passed .passed .passed .formed) (x .passed .passed .passed .passed .passed .formed) in
@@ -165,24 +187,36 @@ module _ (text old new new′ : List ℕ) where
           let k : c ≡ d = one-clash ws j (l .holds) c d (subst (λ (n : ℕ). Answered ws n c) s (x .answered)) m in
           λ t. Admission.Conflict (z t) (s t) (k t)
 
+  -- the same answer, and where it admits the same table
+  abbrev Same : Admission → Admission → Type 0
+  Same r r′ = (r ≡ r′) × (number-of r ≡ 0 → table-of new ≡ table-of new′)
+
+  one : SameRows text old old′ → (r r′ : Admission) → Answers text old new r → Answers text old′ new′ r′ → Same r r′
+  one rows r r′ a a′ = by r r′ a a′ (same-number text old old′ rows new new′ r r′ a a′)
+    where
+      by : (r r′ : Admission) → Answers text old new r → Answers text old′ new′ r′ → (number-of r ≡ number-of r′) × ((number-of r ≡ 0 → ⊥) → place-in r ≡ place-in r′) → Same r r′
+      by (Admission.Admitted w) (Admission.Admitted v) a b e = let x = both-admitted w v a b in (x .0, λ z. x .1)
+      by (Admission.Admitted w) (Admission.Refused n q) a b e = absurd (omega (arith, e .0, refused-number text old′ new′ n q b .0))
+      by (Admission.Admitted w) (Admission.Conflict q j d) a b e = absurd (omega (arith, e .0))
+      by (Admission.Refused m p) (Admission.Admitted v) a b e = absurd (omega (arith, e .0, refused-number text old new m p a .0))
+      by (Admission.Refused m p) (Admission.Refused n q) a b e =
+          let x : 1 ≤ m = refused-number text old new m p a .0 in
+          (ap₂ Admission.Refused (e .0) (e .1 (λ z. omega (arith, x, z))), λ z. absurd (omega (arith, x, z)))
+      by (Admission.Refused m p) (Admission.Conflict q j d) a b e = absurd (refused-number text old new m p a .2 (e .0))
+      by (Admission.Conflict p i c) (Admission.Admitted v) a b e = absurd (omega (arith, e .0))
+      by (Admission.Conflict p i c) (Admission.Refused n q) a b e = absurd (refused-number text old′ new′ n q b .2 (sym (e .0)))
+      by (Admission.Conflict p i c) (Admission.Conflict q j d) a b e = (both-clash p q i j c d (e .1 (λ z. omega (arith, z))) a b, λ z. absurd (omega (arith, z)))
+
+pub one-table : OneTable
+one-table text old old′ new new′ r r′ l l′ a a′ = one text old old′ new new′ (whole-rows text old old′ l l′) r r′ a a′
+
 pub one-answer : OneAnswer
-one-answer text old new new′ r r′ a a′ = by r r′ a a′ (same-number text old new new′ r r′ a a′)
+one-answer text old new new′ r r′ a a′ =
+    let x = one text old old new new′ (λ k p. (λ f. f, λ f. f)) r r′ a a′ in
+    (x .0, by (number-of r) refl (x .1) (ap number-of (x .0)))
   where
-    by : (r r′ : Admission) → Answers text old new r → Answers text old new′ r′ → (number-of r ≡ number-of r′) × ((number-of r ≡ 0 → ⊥) → place-in r ≡ place-in r′) → (r ≡ r′) × (new ≡ new′)
-    by (Admission.Admitted w) (Admission.Admitted v) a b e = both-admitted text old new new′ w v a b
-    by (Admission.Admitted w) (Admission.Refused n q) a b e = absurd (omega (arith, e .0, refused-number text old new′ n q b .0))
-    by (Admission.Admitted w) (Admission.Conflict q j d) a b e = absurd (omega (arith, e .0))
-    by (Admission.Refused m p) (Admission.Admitted v) a b e = absurd (omega (arith, e .0, refused-number text old new m p a .0))
-    by (Admission.Refused m p) (Admission.Refused n q) a b e =
-        let x : 1 ≤ m = refused-number text old new m p a .0 in
-        let y : 1 ≤ n = refused-number text old new′ n q b .0 in (
-          ap₂ Admission.Refused (e .0) (e .1 (λ z. omega (arith, x, z))),
-          kept text old new (Admission.Refused m p) a (λ z. omega (arith, x, z)) ∙ sym (kept text old new′ (Admission.Refused n q) b (λ z. omega (arith, y, z))),
-        )
-    by (Admission.Refused m p) (Admission.Conflict q j d) a b e = absurd (refused-number text old new m p a .2 (e .0))
-    by (Admission.Conflict p i c) (Admission.Admitted v) a b e = absurd (omega (arith, e .0))
-    by (Admission.Conflict p i c) (Admission.Refused n q) a b e = absurd (refused-number text old new′ n q b .2 (sym (e .0)))
-    by (Admission.Conflict p i c) (Admission.Conflict q j d) a b e = (
-      both-clash text old new new′ p q i j c d (e .1 (λ z. omega (arith, z))) a b,
-      kept text old new (Admission.Conflict p i c) a (λ z. omega (arith, z)) ∙ sym (kept text old new′ (Admission.Conflict q j d) b (λ z. omega (arith, z))),
-    )
+    by : (n : ℕ) → number-of r ≡ n → (number-of r ≡ 0 → table-of new ≡ table-of new′) → number-of r ≡ number-of r′ → new ≡ new′
+    by zero e t s =
+        sym (take-append-drop table-words new)
+        ∙ (ap₂ _++_ (t e) (condition-1 .admitting text old new r a .beyond ∙ sym (condition-1 .admitting text old new′ r′ a′ .beyond)) ∙ take-append-drop table-words new′)
+    by (suc n) e t s = kept text old new r a (λ z. omega (arith, e, z)) ∙ sym (kept text old new′ r′ a′ (λ z. omega (arith, e, s, z)))

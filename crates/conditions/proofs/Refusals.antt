@@ -16,8 +16,7 @@ use Rattle.rules.specs.Reaching.{Reaches}
 use Rattle.table.specs.Judged.{Passed9, Passed10}
 use Rattle.text.specs.Header.{header-of}
 use Rattle.text.specs.declared.Heading.{Heading}
-use Rattle.parsing.specs.Store.{State, node-words, rule-words}
-use Rattle.naming.specs.Words.{place-of, named-at}
+use Rattle.parsing.specs.Store.{State}
 use Rattle.parsing.specs.Form.{Outcome, right, refused}
 use Rattle.admission.specs.Admitted.{form, words-of, fault-8, Right, Limited, Named, Straight, Bounded, Passes, Headed}
 use Rattle.admission.specs.declared.Found.{Found}
@@ -91,15 +90,15 @@ one-place text table wrong-form p q (b, m, h, e, z) (b′, m′, h′, e′, z�
 one-place text table past-limit p q e f = both-read text PastLimit p q (λ b xs st x y. x .1 ∙ sym (y .1)) e f
 one-place text table wrong-name p q e f = both-read text WrongName p q (λ b xs st x y. x .1 ∙ sym (y .1)) e f
 one-place text table recursive p q e f =
-    both-read text Recursive p q (λ b xs st x y. x .3 ∙ (ap (λ (r : ℕ). b + named-at (rule-words st) r) (least-same (λ r. Reaches (words-of xs st) r r) (x .0) (y .0) (x .1) (y .1) (x .2) (y .2)) ∙ sym (y .3))) e f
-one-place text table too-large p q e f = both-read text TooLarge p q (λ b xs st x y. x .2 ∙ (ap (λ (r : ℕ). b + r) (ap found-in (sym (x .1) ∙ y .1)) ∙ sym (y .2))) e f
+    both-read text Recursive p q (λ b xs st x y. (let s : x .0 ≡ y .0 = least-same (λ r. Reaches (words-of xs st) r r) (x .0) (y .0) (x .1) (y .1) (x .2) (y .2) in let z = x .3 in let z′ = y .3 in cc)) e f
+one-place text table too-large p q e f = both-read text TooLarge p q (λ b xs st x y. omega (arith, x .2, y .2, ap found-in (sym (x .1) ∙ y .1))) e f
 one-place text table empty-body p q e f =
-    both-read text EmptyBodies p q (λ b xs st x y. x .2 ∙ (ap (λ (r : ℕ). b + r) (same-mark (x .0) (y .0) (x .1) (y .1)) ∙ sym (y .2))) e f
+    both-read text EmptyBodies p q (λ b xs st x y. omega (arith, x .2, y .2, same-mark (x .0) (y .0) (x .1) (y .1))) e f
   where
     same-mark : {g : Grammar (Unit {0}) Values} {st : State} (p q : ℕ) → LeastMark g st p → LeastMark g st q → p ≡ q
     same-mark p q m n = omega (arith, m .mark, n .mark, m .least (n .construct) (n .there) (n .empty), n .least (m .construct) (m .there) (m .empty))
 one-place text table clashing p q e f =
-    both-read text Clashes p q (λ b xs st x y. x .3 ∙ (ap (λ (r : ℕ). b + place-of (node-words st) r) (least-same (HasConflict (meant xs st)) (x .0) (y .0) (x .1) (y .1) (x .2) (y .2)) ∙ sym (y .3))) e f
+    both-read text Clashes p q (λ b xs st x y. (let s : x .0 ≡ y .0 = least-same (HasConflict (meant xs st)) (x .0) (y .0) (x .1) (y .1) (x .2) (y .2) in let z = x .3 in let z′ = y .3 in cc)) e f
 one-place text table too-heavy p q e f = both-read text TooHeavy p q (λ b xs st x y. x .3 ∙ sym (y .3)) e f
 
 -- ---- there is one first row

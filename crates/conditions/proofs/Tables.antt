@@ -12,8 +12,10 @@ use Rattle.layout.specs.Places.{table-of}
 use Rattle.layout.specs.Held.{Values, held, opening}
 use Rattle.scoping.specs.Scope.{scope-of, fresh}
 use Rattle.weights.proofs.Heights.{weight-at}
+use Rattle.acts.specs.Stored.{tests-of}
 use Rattle.soundness.proofs.HeldLocal.{held-local}
 use Rattle.soundness.proofs.Reliability.{weighed}
+use Rattle.soundness.proofs.Trust.{trusted}
 use Rattle.text.specs.Header.{header-of}
 use Rattle.text.specs.declared.Heading.{Heading}
 use Rattle.parsing.specs.Store.{State, state, node-words, term-words, rule-words, nodes-of, rules-of}
@@ -25,8 +27,10 @@ use Rattle.admission.proofs.Judging.{readable}
 use Rattle.meaning.specs.Claims.{Meanings}
 use Rattle.meaning.proofs.Holding.{holds-text}
 use Rattle.meaning.proofs.Trees.{meanings}
+use Rattle.matcher.specs.Windows.{Tells}
 use Rattle.matcher.specs.Conditions.{grammar-of}
-use Rattle.conditions.specs.Texts.{Reading, meant, each-use, text-grammar}
+use Rattle.matcher.proofs.Telling.{tells}
+use Rattle.conditions.specs.Texts.{Reading, meant, rules-grammar, each-use, text-grammar}
 use Rattle.conditions.specs.Conditions.{TextTable, Tables}
 
 -- ---- a text has one reading
@@ -113,15 +117,19 @@ module _ (text old new : List ℕ) (weight base : ℕ) (h : Headed text old base
         weight-stored = sym (p .table .sound .weight (λ c i. weight-at (table-of new) i) weigh-table) ∙ weights (λ c i. weight-at (table-of new) i) weigh-text;
         weights = weights;
         weighable = (λ c i. weight-at (table-of new) i, weigh-text);
+        windows = (tests-of (table-of new), subst (λ (g : Grammar (Unit {0}) Values). Tells g (tests-of (table-of new))) table-holds (tells (trusted (table-of new) (p .table .sound) .hypotheses)));
       }
 
 pub text-table : Tables
 text-table text old new weight (refused-early number place e r k) = let z : _≡_ {A = ℕ} 0 1 = cc in absurd (omega arith)
 text-table text old new weight (by-rules base h p) = table-is text old new weight base h p
 
--- the grammar that the matcher follows is the text's
-pub same-grammar : (text old new : List ℕ) (weight : ℕ) → Answers text old new (Admission.Admitted weight) → (x : Reading text) → grammar-of new ≡ text-grammar x
-same-grammar text old new weight a x =
+-- the table holds the text's grammar, and the grammar that the matcher follows is the text's
+pub same-rules : (text old new : List ℕ) (weight : ℕ) → Answers text old new (Admission.Admitted weight) → (x : Reading text) → held (table-of new) ≡ rules-grammar x
+same-rules text old new weight a x =
     let t : TextTable text new weight = text-table text old new weight a in
     let s = one-reading (t .admissible .reading) x in
-    localised-so (table-of new) (held (table-of new)) ∙ ap (localised each-use fresh) (t .holds ∙ ap₂ (λ (k : ℕ) (st : State). meant (drop k text) st) (s .0) (s .1))
+    t .holds ∙ ap₂ (λ (k : ℕ) (st : State). meant (drop k text) st) (s .0) (s .1)
+
+pub same-grammar : (text old new : List ℕ) (weight : ℕ) → Answers text old new (Admission.Admitted weight) → (x : Reading text) → grammar-of new ≡ text-grammar x
+same-grammar text old new weight a x = localised-so (table-of new) (held (table-of new)) ∙ ap (localised each-use fresh) (same-rules text old new weight a x)

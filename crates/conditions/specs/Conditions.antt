@@ -1,16 +1,17 @@
 -- The mission's three conditions, of what the calls promise: `Answers` (`admission::admit`), `Answered` and `run-given` (`matcher::open`),
 -- `grant-of` (`runs::advance`, `runs::grant`). They stand at the end of each part, and are proved: `Condition1` by `condition-1`
--- (`proofs/Buffers.antt`), `Tables` by `text-table` (`proofs/Tables.antt`), `OneAnswer` by `one-answer` (`proofs/OneAnswer.antt`), `Condition2` and
--- `Condition3` by `condition-2` and `condition-3` (`proofs/Conditions.antt`).
+-- (`proofs/Buffers.antt`), `Tables` by `text-table` (`proofs/Tables.antt`), `OneAnswer` and `OneTable` by `one-answer` and `one-table`
+-- (`proofs/OneAnswer.antt`), `Condition2`, `AtMostOne` and `Condition3` by `condition-2`, `at-most-one` and `condition-3` (`proofs/Conditions.antt`).
 -- Assumes nothing.
 use Prim.Native.Nat.{ℕ, _+_, _*_, _≤_}
 use mathlib.Core.Path.{_≡_}
 use mathlib.Core.Logic.{_⊎_, _↔_}
 use mathlib.Core.List.{List, _++_}
-use lib.ListN.{length, drop}
-use Rattle.basis.specs.Bits.{frameBits}
+use lib.ListN.{length, take, drop}
+use Rattle.basis.specs.Bits.{Bits, frameBits}
 use Rattle.theory.specs.Grammar.{Grammar}
 use Rattle.theory.specs.Derivation.{Tree, captures, Derivation}
+use Rattle.theory.specs.Machine.{Tests}
 use Rattle.theory.specs.Theorems.{Derivable}
 use Rattle.theory.specs.Weight.{Weighs}
 use Rattle.layout.specs.Places.{table-words, table-of, weight-of}
@@ -25,7 +26,8 @@ use Rattle.runs.specs.Runs.{After, run-in, reading-in, answer-in, grant-of, clo
 use Rattle.runs.specs.declared.Run.{Run}
 use Rattle.matcher.specs.Opening.{Answered, Opened, run-given, number-of as opening-number}
 use Rattle.matcher.specs.declared.Answer.{Answer}
-use Rattle.matcher.specs.Conditions.{Grant, Kept, run-kept, reading-kept, OthersRefused, start, Decided, here, Unbroken, Granted}
+use Rattle.matcher.specs.Windows.{Tells}
+use Rattle.matcher.specs.Conditions.{Grant, Kept, run-kept, reading-kept, OthersRefused, start, Decided, here, Unbroken, Granted, BySteps, Handing, AnyReading}
 use Rattle.conditions.specs.Refusals.{Exactly}
 use Rattle.conditions.specs.Texts.{Reading, rules-grammar, FormsMeant, text-grammar, Admissible}
 
@@ -50,8 +52,9 @@ pub record RunGranted (rs : List ℕ) (run : Run) (x : After) : Type 0 where
   -- "A decided, closed or broken run takes no more steps."
   pub at-rest : (run .verdict ≡ undecided → ⊥) → (run-in x ≡ run) × (reading-in x ≡ rs) × (taken-of (answer-in x) ≡ 0)
   pub length-kept : length (reading-in x) ≡ length rs
-  -- "words beyond never change": past the fields recorded
+  -- "words beyond never change": past the fields recorded; and the words of those recorded before stay
   pub beyond : drop (2 * run-in x .captures) (reading-in x) ≡ drop (2 * run-in x .captures) rs
+  pub before : take (2 * run .captures) (reading-in x) ≡ take (2 * run .captures) rs
 
 -- of any text, table, frame, reading, run and number of steps
 pub record Condition1 : Type 0 where
@@ -70,6 +73,8 @@ pub record TextTable (text new : List ℕ) (weight : ℕ) : Type 0 where
   pub weight-stored : weight-of (table-of new) ≡ weight
   pub weights : (w : Unit {0} → ℕ → ℕ) → Weighs (rules-grammar (admissible .reading)) w → w tt opening ≡ weight
   pub weighable : (w : Unit {0} → ℕ → ℕ) × Weighs (rules-grammar (admissible .reading)) w
+  -- its windows can be told
+  pub windows : (tests : Tests) × Tells (rules-grammar (admissible .reading)) tests
 
 -- of every text that is admitted
 abbrev pub Tables : Type 0
@@ -79,6 +84,12 @@ Tables = (text old new : List ℕ) (weight : ℕ) → Answers text old new (Admi
 abbrev pub OneAnswer : Type 0
 OneAnswer =
     (text old new new′ : List ℕ) (answer answer′ : Admission) → Answers text old new answer → Answers text old new′ answer′ → (answer ≡ answer′) × (new ≡ new′)
+
+-- "each admitted grammar has one table": one answer and one table to a text, whatever words stood there before
+abbrev pub OneTable : Type 0
+OneTable =
+    (text old old′ new new′ : List ℕ) (answer answer′ : Admission) → table-words ≤ length old → table-words ≤ length old′ → Answers text old new answer → Answers text old′ new′ answer′
+    → (answer ≡ answer′) × (number-of answer ≡ 0 → table-of new ≡ table-of new′)
 
 -- ---- 2. "A grammar is admitted exactly when document 01's rules admit it; a decided run says match exactly when some derivation covers the
 -- whole frame, and its reading lists that derivation's fields."
@@ -104,17 +115,26 @@ pub record Condition2 : Type 0 where
 
 -- ---- 3. "At most one derivation; decided within weight × (bits + 1) steps; and for every list of grants, one claim"
 
+-- of every text that is admitted, and any bits
+abbrev pub AtMostOne : Type 0
+AtMostOne = (text old table : List ℕ) (weight : ℕ) → Answers text old table (Admission.Admitted weight) → (x : Reading text)
+    → (s : Bits) (t t′ : Tree) (v v′ : Values) → Derivation (text-grammar x) s t v → Derivation (text-grammar x) s t′ v′ → t ≡ t′
+
+-- of a run on a table, a frame and a reading; the table is that of a text with this grammar and weight
 pub record Claim (g : Grammar (Unit {0}) Values) (weight : ℕ) (ws fs rs : List ℕ) : Type 0 where
-  pub once : (t t′ : Tree) (v v′ : Values) → Derivation g (frameBits fs) t v → Derivation g (frameBits fs) t′ v′ → t ≡ t′
   pub needed : ℕ
   pub within-bound : needed ≤ weight * (bits-of fs + 1)
-  -- run, reading and count are what document 01's steps make of them (`matcher`, `Granted`)
+  -- run, reading and count are what the steps granted in all make of them (`matcher`, `Granted`)
   pub granting : (gs : List Grant) → OthersRefused ws fs gs (start rs) → Granted ws fs rs gs needed
+  -- and these are document 01's steps on the text's grammar (`theory`, `Machine`)
+  pub by-steps : (gs : List Grant) → OthersRefused ws fs gs (start rs) → BySteps g ws fs rs gs
   -- never broken, and a grant of its own table, frame and reading is never refused
   pub unbroken : (gs : List Grant) → OthersRefused ws fs gs (start rs) → Unbroken ws fs rs gs
+  -- nor is it ever broken by grants of its own table and frame with any readings (`matcher`, `AnyReading`)
+  pub any-reading : (hs : List Handing) → AnyReading ws fs hs rs
 
 -- of every text that is admitted, and every frame and reading on which its table opens a run
 abbrev pub Condition3 : Type 0
 Condition3 =
     (text old table : List ℕ) (weight : ℕ) → Answers text old table (Admission.Admitted weight) → (x : Reading text)
-    → (fs rs : List ℕ) → Opened table fs rs → Claim (text-grammar x) weight table fs rs
+    → (fs rs : List ℕ) → Opened table fs rs → Claim (rules-grammar x) weight table fs rs

@@ -8,8 +8,8 @@ use mathlib.Core.Option.{some}
 use lib.ListN.{length, drop}
 use Rattle.basis.specs.Bits.{Bits}
 use Rattle.basis.specs.Lookahead.{number as window-number}
-use Rattle.theory.specs.Grammar.{Grammar}
-use Rattle.theory.specs.Lookahead.{Conflict, LeastConflict, EmptyBody}
+use Rattle.theory.specs.Grammar.{alternative, Grammar, _∈_}
+use Rattle.theory.specs.Lookahead.{Predicted, Conflict, LeastConflict, EmptyBody}
 use Rattle.theory.specs.Weight.{Weighs}
 use Rattle.layout.specs.Places.{table-words}
 use Rattle.layout.specs.Held.{Values, opening}
@@ -97,6 +97,39 @@ module _ (base : ℕ) (xs : List ℕ) (st : State) (p : ℕ) where
   abbrev pub TooHeavy : Type 0
   TooHeavy = (w : Unit {0} → ℕ → ℕ) × Weighs (meant xs st) w × (65535 < w tt opening) × (p ≡ base + named-at (rule-words st) 0)
 
+-- ---- what an answer carries beside its number and place
+
+-- "Weight: … grammar, as a use of its start rule": it is n
+abbrev pub Weight : (base : ℕ) → List ℕ → State → (n : ℕ) → Type 0
+Weight base xs st n = (w : Unit {0} → ℕ → ℕ) × Weighs (meant xs st) w × (w tt opening ≡ n)
+
+-- the first two of these branches, in text order, that have the window
+pub record FirstTwo (g : Grammar (Unit {0}) Values) (is : List ℕ) (x : Bits) (first second : ℕ) : Type 0 where
+  pub in-order : first < second
+  pub first-has : (first ∈ is) × Predicted g first x
+  pub second-has : (second ∈ is) × Predicted g second x
+  pub others : (j : ℕ) → j ∈ is → Predicted g j x → (j ≡ first) ⊎ (second ≤ j)
+
+-- the branches that an answer names; a repetition's go and stop have no names
+abbrev pub Sharing : Grammar (Unit {0}) Values → ℕ → Bits → Clash → Type 0
+Sharing g i x Clash.None = ⊥
+Sharing g i x (Clash.Branches window first second) = (is : List ℕ) × (g .node i ≡ alternative is) × FirstTwo g is x first second
+Sharing g i x (Clash.Passes window) = (is : List ℕ) → g .node i ≡ alternative is → ⊥
+
+-- 10, with a construct and its clash. "within one, the smallest place, outer first": the construct is the first that clashes, as they are numbered "in
+-- text order, the outer before the inner", and the place is its place.
+pub record Clashed (answer : Admission) (base : ℕ) (xs : List ℕ) (st : State) (p : ℕ) : Type 0 where
+  pub construct : ℕ
+  pub clash : Clash
+  pub answered : answer ≡ Admission.Conflict p construct clash
+  pub before : (j : ℕ) → j < construct → HasConflict (meant xs st) j → ⊥
+  pub place : p ≡ base + place-of (node-words st) construct
+  -- "the answer carries the least common window"
+  pub window : Bits
+  pub carried : window-in clash ≡ some (window-number window)
+  pub least : LeastConflict (meant xs st) construct window
+  pub shared : Sharing (meant xs st) construct window clash
+
 -- it holds of what is read of the text
 abbrev pub Read : List ℕ → (ℕ → List ℕ → State → ℕ → Type 0) → ℕ → Type 0
 Read text P p = (x : Reading text) × P (x .base) (drop (x .base) text) (x .st) p
@@ -128,6 +161,7 @@ First text table k p = Fits text table k p × NoneBelow text table (number k)
 pub record Exactly (text table : List ℕ) (answer : Admission) : Type 0 where
   pub admitted-iff : (number-of answer ≡ 0) ↔ NoneBelow text table 12
   pub refused-iff : (k : Row) (p : ℕ) → ((number-of answer ≡ number k) × (place-in answer ≡ p)) ↔ First text table k p
-  -- 10: "the answer carries the least common window"
-  pub window : (x : Reading text) (p i : ℕ) (c : Clash) → answer ≡ Admission.Conflict p i c
-      → (w : Bits) × (window-in c ≡ some (window-number w)) × LeastConflict (meant (drop (x .base) text) (x .st)) i w
+  -- 0 carries the text's weight
+  pub weight : number-of answer ≡ 0 → (n : ℕ) × (answer ≡ Admission.Admitted n) × Read text Weight n
+  -- 10 carries the first construct that clashes, and its least window
+  pub clash : number-of answer ≡ 10 → Read text (Clashed answer) (place-in answer)

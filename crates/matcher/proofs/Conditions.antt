@@ -9,9 +9,16 @@ use mathlib.Core.Option.{none, some}
 use lib.ListN.{drop}
 use Rattle.basis.specs.Bits.{frameBits}
 use Rattle.theory.specs.Theorems.{Derivable}
+use Rattle.theory.proofs.Theorems.{exact-local}
 use Rattle.layout.specs.Places.{table-of}
+use Rattle.layout.specs.Held.{held}
+use Rattle.scoping.specs.Scope.{value-of, scope-of, fresh}
+use Rattle.weights.proofs.Heights.{weight-at}
+use Rattle.acts.specs.Stored.{tests-of}
+use Rattle.soundness.proofs.Reliability.{reliable}
+use Rattle.soundness.proofs.Trust.{trusted}
 use Rattle.steps.specs.Steps.{Whole, whole, steps-of}
-use Rattle.agreement.specs.Runs.{reading-of, head-of as head-in}
+use Rattle.agreement.specs.Runs.{reading-of, head-of as head-in, run-of}
 use Rattle.agreement.proofs.Readings.{steps-record}
 use Rattle.runs.specs.Runs.{whole-of, opened-run, After, run-in, reading-in, answer-in, after-steps, grant-of, number-of}
 use Rattle.runs.specs.declared.Run.{Run}
@@ -19,8 +26,10 @@ use Rattle.runs.specs.declared.Answer.{Answer}
 use Rattle.runs.proofs.Taken.{steps-add}
 use Rattle.runs.proofs.Grants.{Unchanged, made, refusal-told, refused as refused-law, granted as granted-law}
 use Rattle.matcher.specs.Opening.{Opened}
-use Rattle.matcher.specs.Conditions.{Grant, own, other, given, granted, Kept, run-kept, reading-kept, TurnedAway, Counts, call, next, after-grants, OthersRefused, EachCounts, grammar-of, start, Decided, here, Unbroken, Exact, Granted, Claim, NeverBroken, Condition2, Condition3}
-use Rattle.matcher.proofs.Moments.{at, fits-at, own-admitted, course, match-at, no-match-at, fields-at, one-derivation}
+use Rattle.matcher.specs.Conditions.{Grant, own, other, given, granted, Kept, run-kept, reading-kept, TurnedAway, Counts, call, next, after-grants, OthersRefused, EachCounts, grammar-of, start, Decided, here, Unbroken, Exact, Granted, BySteps, Claim, AtMostOne, NeverBroken, Condition2, Condition3}
+use Rattle.matcher.proofs.Moments.{at, fits-at, run-at, own-admitted, course, match-at, no-match-at, fields-at}
+use Rattle.matcher.proofs.AnyReading.{any-reading}
+use Rattle.matcher.proofs.Telling.{tells, same-run}
 
 -- the answer counts the steps
 answer-made : (before : ℕ) (w : Whole) → answer-in (after-steps before w) ≡ Answer.Taken (head-in w .steps - before)
@@ -145,17 +154,28 @@ module _ (ws fs rs : List ℕ) (o : Opened ws fs rs) where
         not-below : (m n : ℕ) → (m < n → ⊥) → n ≤ m
         not-below m n h = omega (arith, h)
 
+    by-steps : BySteps (held (table-of ws)) ws fs rs gs
+    by-steps tests t =
+        let h = trusted (table-of ws) (o .0 .1) .hypotheses in
+        ap (run-of fs) state ∙ (run-at ws fs rs o (granted gs) ∙ same-run (held (table-of ws)) (h .static) (tests-of (table-of ws)) tests (tells h) t (granted gs) (frameBits fs))
+
   claim : Claim ws fs rs
   claim =
       record {
         needed = needs;
         within-bound = course ws fs rs o .within-bound;
         granting = granting;
-        once = one-derivation ws fs rs o;
+        by-steps = by-steps;
       }
 
+pub at-most-one : AtMostOne
+at-most-one ws s =
+    let t : List ℕ = table-of ws in
+    let r = reliable (s .1) in
+    exact-local (held t) (tests-of t) (λ c i. weight-at t i) value-of (scope-of t) fresh (r .hypotheses) (r .weighs) (trusted t (s .1) .lexical) .once
+
 pub never-broken : NeverBroken
-never-broken = unbroken
+never-broken = record { listed = unbroken; any-reading = any-reading }
 
 pub condition-2 : Condition2
 condition-2 = exact

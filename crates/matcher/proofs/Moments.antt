@@ -12,10 +12,9 @@ use lib.ListN.{length, getD, replicate, drop, length-set, length-replicate}
 use Rattle.basis.specs.Bits.{frameBits}
 use Rattle.theory.specs.Grammar.{Grammar}
 use Rattle.theory.specs.Derivation.{Tree, captures, Derivation}
-use Rattle.theory.specs.Machine.{tree-steps}
+use Rattle.theory.specs.Machine.{tree-steps, opened, granted}
 use Rattle.theory.specs.Scope.{localised}
 use Rattle.theory.specs.Theorems.{Derivable}
-use Rattle.theory.proofs.Theorems.{exact-local}
 use Rattle.layout.specs.Places.{table-words, table-of, construct-count, weight-of}
 use Rattle.layout.specs.Constructs.{pick}
 use Rattle.layout.specs.Held.{Values, opening, held}
@@ -27,11 +26,11 @@ use Rattle.acts.specs.Stored.{tests-of}
 use Rattle.acts.specs.Acts.{bits-of, in-table}
 use Rattle.steps.specs.Steps.{Whole, whole, steps-of}
 use Rattle.steps.proofs.Running.{steps-stay}
-use Rattle.agreement.specs.Runs.{words-of, reading-of, head-of as head-in}
+use Rattle.agreement.specs.Runs.{words-of, reading-of, head-of as head-in, run-of}
 use Rattle.agreement.proofs.Safety.{InTable}
 use Rattle.agreement.proofs.Reliable.{Reliable}
 use Rattle.agreement.proofs.Openings.{Opening}
-use Rattle.agreement.proofs.Fitting.{Fitting, fitting}
+use Rattle.agreement.proofs.Fitting.{Fitting, fitting, agrees}
 use Rattle.agreement.proofs.Conclusions.{decides, match-iff-local, mismatch-iff-local, match-end-local}
 use Rattle.soundness.proofs.Reliability.{reliable, weight-stored}
 use Rattle.soundness.proofs.Trust.{trusted}
@@ -61,7 +60,7 @@ module _ (ws : List ℕ) (few : construct-count ws ≤ 256) (bits : ℕ) (cs ps 
       let x = each n (omega arith) in
       simp (le-leb (getD ps n 0) (bits + 1) (x .1), in-table-true ws (getD cs n 0) few (x .0)) (all-fit n (λ j l. each j (omega arith)))
 
-admitted : (ws fs rs : List ℕ) (run : Run) → construct-count ws ≤ 256 → table-words ≤ length ws → length fs ≤ 256 → Fitting ws fs (whole-of rs run) → refusal-of ws fs rs run ≡ 0
+pub admitted : (ws fs rs : List ℕ) (run : Run) → construct-count ws ≤ 256 → table-words ≤ length ws → length fs ≤ 256 → Fitting ws fs (whole-of rs run) → refusal-of ws fs rs run ≡ 0
 admitted ws fs rs run few long short f =
     let r : Rest ws fs (length rs) (head-of run) = record { table = long; position = f .fits .0; verdict = omega (arith, f .verdict); count = f .fits .1; roomy = f .room } in
     let e = rest-fitting ws fs (length rs) (run .constructs) (run .passes) (head-of run) r ∙ all-fit ws few (bits-of fs) (run .constructs) (run .passes) (run .count) (f .entry) in
@@ -93,6 +92,11 @@ module _ (ws fs rs : List ℕ) (o : Opened ws fs rs) where
   pub fits-at : (m : ℕ) → Fitting table fs (at m)
   unfolding held
   fits-at m = fitting table (widest table) (λ c i. weight-at table i) (rooms table) words fs (opened-run .constructs) (opened-run .passes) rs begun m
+
+  -- the words' run is the theory's, on the grammar that the words hold
+  pub run-at : (m : ℕ) → run-of fs (at m) ≡ granted (held table) (tests-of table) m (opened (held table) (tests-of table) (frameBits fs))
+  unfolding held
+  run-at m = agrees table (widest table) (λ c i. weight-at table i) (rooms table) words fs (opened-run .constructs) (opened-run .passes) rs begun m
 
   pub own-admitted : (m : ℕ) (run : Run) (rs′ : List ℕ) → whole-of rs′ run ≡ at m → refusal-of table fs rs′ run ≡ 0
   own-admitted m run rs′ e = admitted table fs rs′ run (words .laid .counts .constructs) (words .laid .long) (o .1) (subst (Fitting table fs) (sym e) (fits-at m))
@@ -153,7 +157,3 @@ module _ (ws fs rs : List ℕ) (o : Opened ws fs rs) where
     fields-at t v d =
         let x = match-end-local table (widest table) (λ c i. weight-at table i) (rooms table) words fs (opened-run .constructs) (opened-run .passes) rs begun value-of (scope-of table) fresh (trusted table (o .0 .1) .lexical) t v d (m + tree-steps t) (omega arith) in
         subst (Listed t) (at-rest m (tree-steps t) decided) (x .2 .fields, x .2 .reading)
-
-  pub one-derivation : (t t′ : Tree) (v v′ : Values) → Derivation local (frameBits fs) t v → Derivation local (frameBits fs) t′ v′ → t ≡ t′
-  one-derivation t t′ v v′ d d′ =
-      exact-local (held table) (tests-of table) (λ c i. weight-at table i) value-of (scope-of table) fresh (words .hypotheses) (words .weighs) (trusted table (o .0 .1) .lexical) .once (frameBits fs) t t′ v v′ d d′

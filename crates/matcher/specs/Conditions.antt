@@ -1,5 +1,5 @@
--- Conditions 2 (of the machine) and 3 of the mission, of every run that was opened. The statements stand at the end: `NeverBroken`,
--- `Condition2`, `Condition3`; `proofs/Conditions.antt` proves them: `never-broken`, `condition-2`, `condition-3`.
+-- Conditions 2 (of the machine) and 3 of the mission, of every run that was opened. The statements stand at the end: `AtMostOne`, `NeverBroken`,
+-- `Condition2`, `Condition3`; `proofs/Conditions.antt` proves them: `at-most-one`, `never-broken`, `condition-2`, `condition-3`.
 -- Assumes nothing.
 use Prim.Native.Nat.{ℕ, _+_, _*_, _-_, _≤_, _<_, min}
 use mathlib.Core.Path.{_≡_}
@@ -7,9 +7,10 @@ use mathlib.Core.Logic.{_⊎_, _↔_}
 use mathlib.Core.List.{List, [], _∷_, _++_}
 use mathlib.Core.Option.{Option, none, some}
 use lib.ListN.{length, drop}
-use Rattle.basis.specs.Bits.{frameBits}
+use Rattle.basis.specs.Bits.{Bits, frameBits}
 use Rattle.theory.specs.Grammar.{Grammar}
 use Rattle.theory.specs.Derivation.{Tree, captures, Derivation}
+use Rattle.theory.specs.Machine.{Tests, opened, granted as granted-steps}
 use Rattle.theory.specs.Scope.{localised}
 use Rattle.theory.specs.Theorems.{Derivable}
 use Rattle.layout.specs.Places.{table-of, weight-of}
@@ -17,11 +18,13 @@ use Rattle.layout.specs.Held.{Values, held}
 use Rattle.scoping.specs.Scope.{scope-of, fresh}
 use Rattle.acts.specs.Acts.{bits-of}
 use Rattle.steps.specs.Steps.{undecided, matched, unmatched, broken, steps-of}
-use Rattle.agreement.specs.Runs.{words-of}
+use Rattle.agreement.specs.Runs.{words-of, run-of}
 use Rattle.runs.specs.Runs.{whole-of, opened-run, After, run-in, reading-in, answer-in, grant-of, number-of, taken-of}
 use Rattle.runs.specs.declared.Run.{Run}
 use Rattle.runs.specs.declared.Answer.{Answer}
+use Rattle.table.specs.Sound.{SoundTable}
 use Rattle.matcher.specs.Opening.{Opened}
+use Rattle.matcher.specs.Windows.{Tells}
 
 -- ---- a list of grants
 
@@ -98,6 +101,18 @@ module _ (ws fs : List ℕ) where
   EachCounts needed before [] k = Unit {0}
   EachCounts needed before (g ∷ gs) k = Counts needed before k g (call k g) × EachCounts needed (before + given g) gs (next k g)
 
+-- ---- grants with any readings
+
+-- A grant of so many steps, handed the run's own table and frame and this reading: "with run, table and frame kept unchanged" asks nothing of the
+-- reading.
+pub data Handing : Type 0 where
+  handing : (reading : List ℕ) (steps : ℕ) → Handing
+
+-- the run after a list of them; one that is refused leaves it as it was
+unfoldable pub run-after : (ws fs : List ℕ) → List Handing → Run → Run
+run-after ws fs [] run = run
+run-after ws fs (handing rs n ∷ hs) run = run-after ws fs hs (run-in (grant-of (table-of ws) fs rs run n))
+
 -- ---- what is claimed
 
 -- the grammar that a table holds: "Variables are local to a rule."
@@ -143,20 +158,55 @@ module _ (ws fs rs : List ℕ) (gs : List Grant) where
     -- "words beyond never change"
     pub beyond : drop (2 * run-kept here .captures) (reading-kept here) ≡ drop (2 * run-kept here .captures) rs
 
+module _ (ws fs : List ℕ) (hs : List Handing) where
+  -- the run after grants with any readings, and what a further one leaves
+  abbrev pub now : Run
+  now = run-after ws fs hs opened-run
+
+  abbrev pub further : (reading : List ℕ) (steps : ℕ) → After
+  further zs n = grant-of (table-of ws) fs zs now n
+
+  -- 24: "two words for each field recorded and bit unread"
+  abbrev pub room-now : ℕ
+  room-now = 2 * (now .captures + (bits-of fs - now .position))
+
+  -- "ends as *broken* … never from an open on a sound table with run, table and frame kept unchanged", whatever readings the grants are handed: 24
+  -- refuses one exactly where its reading has no room, and the words that a reading holds change neither the run nor the count
+  pub record AnyReading (rs : List ℕ) : Type 0 where
+    pub not-broken : now .verdict ≡ broken → ⊥
+    -- it is the run that some grant with its own reading leaves
+    pub as-own : (n : ℕ) × (now ≡ run-kept (here ws fs rs (own n ∷ [])))
+    pub granted-iff : (zs : List ℕ) (n : ℕ) → (number-of (answer-in (further zs n)) ≡ 0) ↔ (room-now ≤ length zs)
+    pub refused-iff : (zs : List ℕ) (n : ℕ) → (number-of (answer-in (further zs n)) ≡ 24) ↔ (length zs < room-now)
+    pub same : (zs zs′ : List ℕ) (n : ℕ) → room-now ≤ length zs → room-now ≤ length zs′
+        → (run-in (further zs n) ≡ run-in (further zs′ n)) × (answer-in (further zs n) ≡ answer-in (further zs′ n))
+
+-- The run and its fields after the list are what document 01's steps (crate `theory`, `Machine`) make of a grammar, however its windows are looked up.
+abbrev pub BySteps : Grammar (Unit {0}) Values → (ws fs rs : List ℕ) → List Grant → Type 0
+BySteps g ws fs rs gs = (tests : Tests) → Tells g tests
+    → run-of fs (whole-of (reading-kept (here ws fs rs gs)) (run-kept (here ws fs rs gs))) ≡ granted-steps g tests (granted gs) (opened g tests (frameBits fs))
+
 -- "a single claim about the whole list, not one for each grant"
 pub record Claim (ws fs rs : List ℕ) : Type 0 where
   pub needed : ℕ
   -- decided within weight × (bits + 1)
   pub within-bound : needed ≤ weight-of (table-of ws) * (bits-of fs + 1)
   pub granting : (gs : List Grant) → OthersRefused ws fs gs (start rs) → Granted ws fs rs gs needed
-  -- and no frame has two derivations
-  pub once : (t t′ : Tree) (v v′ : Values) → Derivation (grammar-of ws) (frameBits fs) t v → Derivation (grammar-of ws) (frameBits fs) t′ v′ → t ≡ t′
+  -- the steps are document 01's, of the grammar that the table holds
+  pub by-steps : (gs : List Grant) → OthersRefused ws fs gs (start rs) → BySteps (held (table-of ws)) ws fs rs gs
 
 -- ---- the theorems
 
--- what unsound words may do, sound ones never do: of every run that was opened and every list of grants
-abbrev pub NeverBroken : Type 0
-NeverBroken = (ws fs rs : List ℕ) → Opened ws fs rs → (gs : List Grant) → OthersRefused ws fs gs (start rs) → Unbroken ws fs rs gs
+-- "At most one derivation": of every sound table, and of any bits
+abbrev pub AtMostOne : Type 0
+AtMostOne = (ws : List ℕ) → SoundTable ws → (s : Bits) (t t′ : Tree) (v v′ : Values) → Derivation (grammar-of ws) s t v → Derivation (grammar-of ws) s t′ v′ → t ≡ t′
+
+-- what unsound words may do, sound ones never do: of every run that was opened
+pub record NeverBroken : Type 0 where
+  -- and every list of condition 3's grants
+  pub listed : (ws fs rs : List ℕ) → Opened ws fs rs → (gs : List Grant) → OthersRefused ws fs gs (start rs) → Unbroken ws fs rs gs
+  -- and every list of grants with any readings
+  pub any-reading : (ws fs rs : List ℕ) → Opened ws fs rs → (hs : List Handing) → AnyReading ws fs hs rs
 
 -- condition 2, of the machine: its verdict and its reading, after any list of grants
 abbrev pub Condition2 : Type 0
