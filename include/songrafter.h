@@ -81,11 +81,13 @@ size_t songrafter_grant(const uint32_t *table, size_t table_len, const uint8_t *
                         uint32_t *reading, size_t reading_len, uint8_t *run, size_t run_len, uint64_t steps,
                         uint64_t *taken, size_t taken_len);
 
-/* Of a saved run: its verdict, the steps that it has taken, the fields recorded in its reading, and the value of
- * variable k (0 from 64 on). A slice that is not 2,596 bytes is read as a closed run. */
+/* Of a saved run: its verdict, the steps that it has taken, the fields recorded in its reading, its position (the
+ * bits of the frame that it has read), and the value of variable k (0 from 64 on). A slice that is not 2,596 bytes
+ * is read as a closed run. */
 uint32_t songrafter_verdict(const uint8_t *run, size_t run_len);
 uint64_t songrafter_steps(const uint8_t *run, size_t run_len);
 uint64_t songrafter_fields(const uint8_t *run, size_t run_len);
+uint64_t songrafter_position(const uint8_t *run, size_t run_len);
 int64_t songrafter_value(const uint8_t *run, size_t run_len, size_t k);
 
 #ifdef __cplusplus

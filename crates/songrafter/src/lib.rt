@@ -204,6 +204,13 @@ pub extern "C" fn songrafter_fields(run: &[u8]) -> u64
 }
 
 #[no_mangle]
+pub extern "C" fn songrafter_position(run: &[u8]) -> u64
+    ensures { λ r. ⌜ r ≡ restored (now (run .entry)) .position ⌝ }
+{
+    saved::decode(run).position
+}
+
+#[no_mangle]
 pub extern "C" fn songrafter_value(run: &[u8], k: usize) -> i64
     ensures { λ r. ⌜ r ≡ getD (restored (now (run .entry)) .values) k (pos 0) ⌝ }
 {

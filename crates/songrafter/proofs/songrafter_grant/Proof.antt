@@ -1,6 +1,8 @@
-use mathlib.Core.Path.{refl}
+use mathlib.Core.Path.{refl, _∙_}
+use lib.ListN.{length}
 use Rattle.songrafter.proofs.CallLaws.{grants-run}
 use borrow.Author.Needs.{needs}
+use borrow.Author.Tests.{eq-eqb}
 use Rattle.songrafter.proofs.songrafter_grant.Statement.{statement}
 use Rattle.songrafter.proofs.songrafter_grant.Tie as tie
 use Rattle.songrafter.proofs.songrafter_grant.Reads as reads
@@ -23,7 +25,7 @@ same-length c = search needs
 
 -- src/lib.rt:173:9
 returns : tie.Need-returns
-returns c = record { saved = λ h. absurd (c .before .before .before .before .if1 .taken h); other = λ h. (c .before .before .no-run .ensures .0, refl, refl, c .before .before .no-run .ensures .1); refused = λ h. (refl, refl) }
+returns c = record { saved = λ h. absurd (c .before .before .before .before .if1 .taken h); other = λ h. (c .before .before .no-run .ensures .0, refl, refl, c .before .before .no-run .ensures .1); refused = λ h. (refl, refl); run-length = refl; read-back = λ h. absurd (c .before .before .before .before .if1 .taken h) }
 
 -- src/lib.rt:175:53
 decode-requires : tie.Need-decode-requires
@@ -63,7 +65,7 @@ same-length-4 c = search needs
 
 -- src/lib.rt:161:1
 returns-2 : tie.Need-returns-2
-returns-2 c = let a = c .before .before .before .before .before .before .before .before .before .before .before .before .before .before .before .before .before .before .before .before .before .before .before .args in grants-run (a .table .now) (a .frame .now) (a .reading .now) (c .before .before .before .before .before .before .before .before .before .before .before .before .before .advance .last .1 .1 .0) (a .run .now) (c .before .before .before .before .before .before .before .before .encode .last .1 .0) (a .taken .now) (c .before .before .before .put-count .last .0) (a .steps) (c .grant-number .result) (c .before .before .before .before .before .steps-taken .result) (c .before .before .before .before .before .before .before .before .before .before .before .before .before .before .decode .result) (c .before .before .before .before .before .before .before .before .before .before .before .before .before .advance .result .run) (c .before .before .before .before .before .before .before .before .before .before .before .before .before .advance .result .answer) (c .before .before .before .before .before .before .before .before .before .before .before .before .before .before .before .before .before .if1 .left) (c .before .before .before .before .before .before .before .before .before .before .before .before .before .before .decode .ensures .0) (c .before .before .before .before .before .before .before .before .before .before .before .before .before .before .decode .ensures .1 (c .before .before .before .before .before .before .before .before .before .before .before .before .before .before .before .before .before .if1 .left)) (c .before .before .before .before .before .before .before .before .before .before .before .before .before .advance .ensures) (c .before .before .before .before .before .before .before .before .encode .ensures .0) (c .before .before .before .before .before .steps-taken .ensures) (c .before .before .before .put-count .ensures) (c .grant-number .ensures)
+returns-2 c = let a = c .before .before .before .before .before .before .before .before .before .before .before .before .before .before .before .before .before .before .before .before .before .before .before .args in grants-run (a .table .now) (a .frame .now) (a .reading .now) (c .before .before .before .before .before .before .before .before .before .before .before .before .before .advance .last .1 .1 .0) (a .run .now) (c .before .before .before .before .before .before .before .before .encode .last .1 .0) (a .taken .now) (c .before .before .before .put-count .last .0) (a .steps) (c .grant-number .result) (c .before .before .before .before .before .steps-taken .result) (c .before .before .before .before .before .before .before .before .before .before .before .before .before .before .decode .result) (c .before .before .before .before .before .before .before .before .before .before .before .before .before .advance .result .run) (c .before .before .before .before .before .before .before .before .before .before .before .before .before .advance .result .answer) (c .before .before .before .before .before .before .before .before .before .before .before .before .before .before .before .before .before .if1 .left) (c .before .before .before .before .before .before .before .before .encode .kept .1 .0) (c .before .before .before .before .before .before .before .before .before .before .before .before .before .before .decode .ensures .0) (c .before .before .before .before .before .before .before .before .before .before .before .before .before .before .decode .ensures .1 (c .before .before .before .before .before .before .before .before .before .before .before .before .before .before .before .before .before .if1 .left)) (c .before .before .before .before .before .before .before .before .encode .ensures .2 (c .before .before .before .before .before .before .before .before .encode .ensures .1 ∙ eq-eqb (length (a .run .now)) 2596 (c .before .before .before .before .before .before .before .before .before .before .before .before .before .before .before .before .before .if1 .left))) (c .before .before .before .before .before .before .before .before .before .before .before .before .before .advance .ensures) (c .before .before .before .before .before .before .before .before .encode .ensures .0) (c .before .before .before .before .before .steps-taken .ensures) (c .before .before .before .put-count .ensures) (c .grant-number .ensures)
 
 pub songrafter-grant-spec : {M : Type 1} → statement M
 songrafter-grant-spec =

@@ -5,6 +5,7 @@ use Rattle.runs.specs.declared.Run.{Run}
 use Rattle.saved.specs.Saved.{stored}
 use Rattle.songrafter.specs.Calls.{number-with-room}
 use borrow.Author.Needs.{needs}
+use borrow.Author.Tests.{eq-eqb}
 use Rattle.songrafter.proofs.songrafter_open.Statement.{statement}
 use Rattle.songrafter.proofs.songrafter_open.Tie as tie
 use Rattle.songrafter.proofs.songrafter_open.Reads as reads
@@ -36,7 +37,7 @@ same-length c = search needs
 
 -- src/lib.rt:105:1
 returns : tie.Need-returns
-returns c = let run = c .before .before .before .before .before .before .before .before .before .before .before .before .args .run .now in record { answer = c .before .before .before .before .before .before .before .«open» .result .answer; answered = c .before .before .before .before .before .before .before .«open» .ensures .1; number-is = c .with-room .ensures ∙ ap (λ (n : ℕ). number-with-room n (length run)) (c .before .opening-number .ensures); run-is = c .before .before .before .before .encode .ensures .0 ∙ ap (λ (r : Run). stored r run) (c .before .before .before .before .before .before .before .«open» .ensures .0) }
+returns c = let run = c .before .before .before .before .before .before .before .before .before .before .before .before .args .run .now in record { answer = c .before .before .before .before .before .before .before .«open» .result .answer; answered = c .before .before .before .before .before .before .before .«open» .ensures .1; number-is = c .with-room .ensures ∙ ap (λ (n : ℕ). number-with-room n (length run)) (c .before .opening-number .ensures); run-is = c .before .before .before .before .encode .ensures .0 ∙ ap (λ (r : Run). stored r run) (c .before .before .before .before .before .before .before .«open» .ensures .0); run-length = c .before .before .before .before .encode .kept .1 .0; read-back = λ h. c .before .before .before .before .encode .ensures .2 (c .before .before .before .before .encode .ensures .1 ∙ eq-eqb (length run) 2596 h) ∙ c .before .before .before .before .before .before .before .«open» .ensures .0 }
 
 pub songrafter-open-spec : {M : Type 1} → statement M
 songrafter-open-spec =
