@@ -1,0 +1,173 @@
+-- The mission's three conditions, of the calls of a C program (`include/songrafter.h`): from what `songrafter_admit`, `songrafter_open` and
+-- `songrafter_grant` promise of any bytes and words, of any lengths (`Admits`, `Opens`, `Grants`). A name with ′ is what a call leaves of an array.
+-- `proofs/Calls.antt` proves them: `calls-1`, `calls-2`, `calls-3`.
+-- Assumes nothing.
+use Prim.Native.Nat.{ℕ, _+_, _*_, _-_, _≤_, min}
+use mathlib.Core.Path.{_≡_}
+use mathlib.Core.Logic.{_⊎_, _↔_}
+use mathlib.Core.List.{List, [], _∷_}
+use mathlib.Core.Option.{Option, none, some}
+use lib.ListN.{length, getD, set, drop}
+use Rattle.layout.specs.Places.{table-words}
+use Rattle.acts.specs.Acts.{bits-of}
+use Rattle.steps.specs.Steps.{undecided}
+use Rattle.runs.specs.Runs.{closed-run}
+use Rattle.saved.specs.Saved.{saved-bytes, encoded, restored}
+use Rattle.matcher.specs.Conditions.{Grant, own as own-grant, kept, run-kept, reading-kept, here, Unbroken, Granted}
+use Rattle.songrafter.specs.Calls.{Admits, Opens, Grants}
+use Rattle.conditions.specs.Texts.{text-grammar, Admissible}
+use Rattle.conditions.specs.Refusals.{Exactly}
+use Rattle.conditions.specs.Conditions.{Exact, Claim}
+
+-- ---- 1. "each is answered or refused by a number of document 01, buffers are left as stated, no caller is trusted"
+
+-- songrafter_admit(text, table, answer): 0, or 1 to 11. "A refused grammar changes no word of the table", "Words past 16,384 are neither read
+-- nor changed"; five numbers of `answer` at most are written.
+pub record AdmitLeaves (table table′ answer answer′ : List ℕ) (number : ℕ) : Type 0 where
+  pub numbered : number ≤ 11
+  pub refused : (number ≡ 0 → ⊥) → table′ ≡ table
+  pub beyond : (length table′ ≡ length table) × (drop table-words table′ ≡ drop table-words table)
+  pub answer-beyond : (length answer′ ≡ length answer) × (drop 5 answer′ ≡ drop 5 answer)
+
+-- songrafter_open(table, frame, reading, run): 0, 23, 21, 22, or 24. "a refused open gives a closed run", where `run` has a run's 2,596 bytes;
+-- where it has not, the call is refused and writes nothing.
+pub record OpenLeaves (run run′ : List ℕ) (number : ℕ) : Type 0 where
+  pub numbered : (number ≡ 0) ⊎ (number ≡ 21) ⊎ (number ≡ 22) ⊎ (number ≡ 23) ⊎ (number ≡ 24)
+  pub run-length : length run′ ≡ length run
+  pub refused : (number ≡ 0 → ⊥) → length run ≡ saved-bytes → restored run′ ≡ closed-run
+  pub other-length : (length run ≡ saved-bytes → ⊥) → (number ≡ 0 → ⊥) × (run′ ≡ run)
+
+-- songrafter_grant(table, frame, reading, run, steps, taken): 0, 21 or 24. Refused, "no step is taken and nothing changes"; nor does it of a run
+-- that is not undecided. "words beyond never change": past the fields recorded; of `taken` the first at most is written.
+pub record GrantLeaves (reading reading′ run run′ taken taken′ : List ℕ) (number : ℕ) : Type 0 where
+  pub numbered : (number ≡ 0) ⊎ (number ≡ 21) ⊎ (number ≡ 24)
+  pub refused : (number ≡ 0 → ⊥) → (run′ ≡ run) × (reading′ ≡ reading) × (taken′ ≡ set taken 0 0)
+  pub at-rest : (restored run .verdict ≡ undecided → ⊥) → (run′ ≡ run) × (reading′ ≡ reading) × (taken′ ≡ set taken 0 0)
+  pub run-length : length run′ ≡ length run
+  pub beyond : (length reading′ ≡ length reading) × (drop (2 * restored run′ .captures) reading′ ≡ drop (2 * restored run′ .captures) reading)
+  pub taken-beyond : (length taken′ ≡ length taken) × (drop 1 taken′ ≡ drop 1 taken)
+
+-- of all that may be handed to them
+pub record Calls1 : Type 0 where
+  pub admitting : (text table table′ answer answer′ : List ℕ) (number : ℕ) → Admits text table table′ answer answer′ number → AdmitLeaves table table′ answer answer′ number
+  pub opening : (table frame reading run run′ : List ℕ) (number : ℕ) → Opens table frame reading run run′ number → OpenLeaves run run′ number
+  pub granting : (table frame reading reading′ run run′ taken taken′ : List ℕ) (steps number : ℕ)
+      → Grants table frame reading reading′ run run′ taken taken′ steps number → GrantLeaves reading reading′ run run′ taken taken′ number
+
+-- ---- 2. "A grammar is admitted exactly when document 01's rules admit it", and on its table a run is opened wherever it may be
+
+pub record Calls2 : Type 0 where
+  -- `number` and `answer` tell the first row of document 01's table that fits
+  pub admitting : (text table table′ answer answer′ : List ℕ) (number : ℕ) (a : Admits text table table′ answer answer′ number) → Exactly text table (a .admission)
+  pub opening : (text old table answer answer′ : List ℕ) → Admits text old table answer answer′ 0
+      → (frame reading run run′ : List ℕ) (number : ℕ) → Opens table frame reading run run′ number
+      → (number ≡ 0) ↔ ((length frame ≤ 256) × (2 * bits-of frame ≤ length reading) × (length run ≡ saved-bytes))
+
+-- ---- a kiosk's calls of songrafter_grant
+
+-- what a call is handed: the kiosk's own table, frame, reading and run; or other ones (no reading, no run: the kiosk's own)
+pub data Buffers : Type 0 where
+  own : Buffers
+  other : (table frame : List ℕ) (reading run : Option (List ℕ)) → Buffers
+
+-- a call, its answer, and what it left of the reading and the run that it was handed
+pub record Call : Type 0 where
+  pub buffers : Buffers
+  pub steps : ℕ
+  pub taken : List ℕ
+  pub number : ℕ
+  pub reading′ : List ℕ
+  pub run′ : List ℕ
+  pub taken′ : List ℕ
+
+-- the array that a call is handed, where the kiosk has `mine`
+abbrev pub handed : (mine : List ℕ) → Option (List ℕ) → List ℕ
+handed mine none = mine
+handed mine (some xs) = xs
+
+-- what the kiosk then has: its own array changes only where it was handed over
+abbrev pub left : (mine : List ℕ) → Option (List ℕ) → (xs′ : List ℕ) → List ℕ
+left mine none xs′ = xs′
+left mine (some xs) xs′ = mine
+
+abbrev pub run-left : List ℕ → Buffers → Call → List ℕ
+run-left run own c = c .run′
+run-left run (other table frame r b) c = left run b (c .run′)
+
+abbrev pub reading-left : List ℕ → Buffers → Call → List ℕ
+reading-left reading own c = c .reading′
+reading-left reading (other table frame r b) c = left reading r (c .reading′)
+
+-- the kiosk's run and reading after some calls
+unfoldable pub run-after : List ℕ → List Call → List ℕ
+run-after run [] = run
+run-after run (c ∷ cs) = run-after (run-left run (c .buffers) c) cs
+
+unfoldable pub reading-after : List ℕ → List Call → List ℕ
+reading-after reading [] = reading
+reading-after reading (c ∷ cs) = reading-after (reading-left reading (c .buffers) c) cs
+
+-- the grants among them that are the kiosk's own
+abbrev pub also : Buffers → ℕ → List Grant → List Grant
+also own n gs = own-grant n ∷ gs
+also (other table frame r b) n gs = gs
+
+unfoldable pub own-grants : List Call → List Grant
+own-grants [] = []
+own-grants (c ∷ cs) = also (c .buffers) (c .steps) (own-grants cs)
+
+module _ (table frame : List ℕ) where
+  -- the call was answered as songrafter_grant promises. "The refused ones in the list are handed another table, frame or reading", or run
+  abbrev pub Promised : (run reading : List ℕ) → Buffers → Call → Type 0
+  Promised run reading own c = Grants table frame reading (c .reading′) run (c .run′) (c .taken) (c .taken′) (c .steps) (c .number)
+  Promised run reading (other t f r b) c =
+      Grants t f (handed reading r) (c .reading′) (handed run b) (c .run′) (c .taken) (c .taken′) (c .steps) (c .number) × (c .number ≡ 0 → ⊥)
+
+  -- calls one after the other, the run and the reading as the last one left them
+  unfoldable pub Made : (run reading : List ℕ) → List Call → Type 0
+  Made run reading [] = Unit {0}
+  Made run reading (c ∷ cs) = Promised run reading (c .buffers) c × Made (run-left run (c .buffers) c) (reading-left reading (c .buffers) c) cs
+
+-- ---- 2 and 3 of them
+
+-- "A grant handed the run's own table, frame and reading is never refused": taken[0] is then "the smaller of its grant and the steps still missing
+-- until decided", `needed` in all and `before` granted before. The refused ones "count 0 and change nothing".
+abbrev pub Counts : (needed before : ℕ) → (run reading : List ℕ) → Buffers → Call → Type 0
+Counts needed before run reading own c = (c .number ≡ 0) × (c .taken′ ≡ set (c .taken) 0 (min (c .steps) (needed - before)))
+Counts needed before run reading (other table frame r b) c = (c .taken′ ≡ set (c .taken) 0 0) × (c .run′ ≡ handed run b) × (c .reading′ ≡ handed reading r)
+
+abbrev pub given : Buffers → ℕ → ℕ
+given own n = n
+given (other table frame r b) n = 0
+
+unfoldable pub EachCounts : (needed before : ℕ) → (run reading : List ℕ) → List Call → Type 0
+EachCounts needed before run reading [] = Unit {0}
+EachCounts needed before run reading (c ∷ cs) =
+    Counts needed before run reading (c .buffers) c × EachCounts needed (before + given (c .buffers) (c .steps)) (run-left run (c .buffers) c) (reading-left reading (c .buffers) c) cs
+
+-- after a list of calls: the run's bytes and the reading are those that condition 3's claim speaks of (`matcher`, `Granted`, `Unbroken`), and what
+-- `songrafter_verdict`, `_fields` and the others read in them is exact
+pub record Lived (weight : ℕ) (text table frame reading run : List ℕ) (x : Admissible text weight) (needed : ℕ) (cs : List Call) : Type 0 where
+  pub run-is : run-after run cs ≡ encoded (run-kept (here table frame reading (own-grants cs)))
+  pub read-back : restored (run-after run cs) ≡ run-kept (here table frame reading (own-grants cs))
+  pub reading-is : reading-after reading cs ≡ reading-kept (here table frame reading (own-grants cs))
+  pub granted : Granted table frame reading (own-grants cs) needed
+  pub unbroken : Unbroken table frame reading (own-grants cs)
+  pub answers : EachCounts needed 0 run reading cs
+  -- "a decided run says match exactly when some derivation covers the whole frame, and its reading lists that derivation's fields"
+  pub exact : Exact (text-grammar (x .reading)) frame reading (kept (restored (run-after run cs)) (reading-after reading cs))
+
+-- the weight is answer[0] of songrafter_admit
+pub record Life (text table answer answer′ frame reading run : List ℕ) : Type 0 where
+  pub weight : ℕ
+  pub weight-told : 1 ≤ length answer → getD answer′ 0 0 ≡ weight
+  pub admissible : Admissible text weight
+  -- "decided within weight × (bits + 1) steps", one number for all lists (`needed`, `within-bound`)
+  pub claim : Claim (text-grammar (admissible .reading)) weight table frame reading
+  pub calls : (cs : List Call) → Made table frame run reading cs → Lived weight text table frame reading run admissible (claim .needed) cs
+
+-- songrafter_admit answered 0 and wrote `table`; songrafter_open answered 0 for that table, a frame and a reading, and wrote `run` over `room`
+abbrev pub Calls3 : Type 0
+Calls3 =
+    (text old table answer answer′ : List ℕ) → Admits text old table answer answer′ 0
+    → (frame reading room run : List ℕ) → Opens table frame reading room run 0 → Life text table answer answer′ frame reading run
