@@ -24,7 +24,7 @@ use Rattle.saved.specs.Saved.{saved-bytes, encoded, decoded, restored}
 use Rattle.saved.proofs.Saving.{restored-is, restored-not}
 use Rattle.matcher.specs.Opening.{Answered, Opened, run-given, number-of as opening-number}
 use Rattle.matcher.specs.declared.Answer.{Answer}
-use Rattle.matcher.specs.Conditions.{Grant, own as own-grant, Kept, kept, run-kept, reading-kept, start, here, call, next, after-grants, OthersRefused, EachCounts as GrantsCount}
+use Rattle.matcher.specs.Conditions.{Grant, own as own-grant, Kept, granted as steps-granted, kept, run-kept, reading-kept, Decided, start, here, call, next, after-grants, OthersRefused, EachCounts as GrantsCount}
 use Rattle.songrafter.specs.Calls.{told, Admits, number-with-room, Opens, granted, no-run-number, Grants}
 use Rattle.conditions.specs.Texts.{text-grammar}
 use Rattle.conditions.specs.Conditions.{Exact, Claim}
@@ -308,6 +308,7 @@ calls-3 text old table answer answer′ a frame reading room run o =
             granted = g;
             unbroken = claim .unbroken (own-grants cs) others;
             answers = l .0;
+            decided-iff = subst (λ (r : Run). Decided r ↔ (claim .needed ≤ steps-granted (own-grants cs))) (sym read) (g .decided-iff);
             exact = subst (Exact (text-grammar (x .reading)) frame reading) (sym (ap₂ kept read (s .words-are) ∙ kept-parts (here table frame reading (own-grants cs))))
                 (condition-2 .matching text old table (w .weight) (w .answers) (x .reading) frame reading opened (own-grants cs) others);
           };

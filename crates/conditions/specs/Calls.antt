@@ -13,7 +13,7 @@ use Rattle.acts.specs.Acts.{bits-of}
 use Rattle.steps.specs.Steps.{undecided}
 use Rattle.runs.specs.Runs.{closed-run}
 use Rattle.saved.specs.Saved.{saved-bytes, encoded, restored}
-use Rattle.matcher.specs.Conditions.{Grant, own as own-grant, kept, run-kept, reading-kept, here, Unbroken, Granted}
+use Rattle.matcher.specs.Conditions.{Grant, own as own-grant, granted as steps-granted, kept, run-kept, reading-kept, Decided, here, Unbroken, Granted}
 use Rattle.songrafter.specs.Calls.{Admits, Opens, Grants}
 use Rattle.conditions.specs.Texts.{text-grammar, Admissible}
 use Rattle.conditions.specs.Refusals.{Exactly}
@@ -154,6 +154,8 @@ pub record Lived (weight : ℕ) (text table frame reading run : List ℕ) (x : A
   pub granted : Granted table frame reading (own-grants cs) needed
   pub unbroken : Unbroken table frame reading (own-grants cs)
   pub answers : EachCounts needed 0 run reading cs
+  -- songrafter_verdict is match or no match exactly where so many steps were granted in all
+  pub decided-iff : Decided (restored (run-after run cs)) ↔ (needed ≤ steps-granted (own-grants cs))
   -- "a decided run says match exactly when some derivation covers the whole frame, and its reading lists that derivation's fields"
   pub exact : Exact (text-grammar (x .reading)) frame reading (kept (restored (run-after run cs)) (reading-after reading cs))
 
