@@ -25,12 +25,14 @@ use Rattle.saved.proofs.Saving.{restored-is, restored-not}
 use Rattle.matcher.specs.Opening.{Answered, Opened, run-given, number-of as opening-number}
 use Rattle.matcher.specs.declared.Answer.{Answer}
 use Rattle.matcher.specs.Conditions.{Grant, own as own-grant, Kept, granted as steps-granted, kept, run-kept, reading-kept, Decided, start, here, call, next, after-grants, OthersRefused, EachCounts as GrantsCount}
+use Rattle.matcher.proofs.Answers.{answer-once}
 use Rattle.songrafter.specs.Calls.{told, Admits, number-with-room, Opens, granted, no-run-number, Grants}
 use Rattle.conditions.specs.Texts.{text-grammar}
 use Rattle.conditions.specs.Conditions.{Exact, Claim}
-use Rattle.conditions.specs.Calls.{AdmitLeaves, OpenLeaves, GrantLeaves, Calls1, Calls2, Buffers, own, other, Call, handed, left, run-left, reading-left, run-after, reading-after, also, own-grants, Promised, Made, Counts, given, EachCounts, Lived, Life, Calls3}
+use Rattle.conditions.specs.Calls.{AdmitLeaves, OpenLeaves, GrantLeaves, Calls1, OneOutcome, Calls2, Buffers, own, other, Call, handed, left, run-left, reading-left, run-after, reading-after, also, own-grants, Promised, Made, Counts, given, EachCounts, Lived, Life, Calls3}
 use Rattle.conditions.proofs.Buffers.{refused-number, condition-1}
 use Rattle.conditions.proofs.Tables.{text-table}
+use Rattle.conditions.proofs.OneAnswer.{one-answer}
 use Rattle.conditions.proofs.Conditions.{condition-2, condition-3}
 
 -- ---- songrafter_admit
@@ -169,6 +171,43 @@ module _ (table frame reading reading′ run run′ taken taken′ : List ℕ) (
 
 pub calls-1 : Calls1
 calls-1 = record { admitting = admit-leaves; opening = open-leaves; granting = grant-leaves }
+
+-- ---- one outcome
+
+admit-once : (text table table₁ table₂ answer answer₁ answer₂ : List ℕ) (m n : ℕ) → Admits text table table₁ answer answer₁ m → Admits text table table₂ answer answer₂ n
+    → (m ≡ n) × (table₁ ≡ table₂) × (answer₁ ≡ answer₂)
+admit-once text table table₁ table₂ answer answer₁ answer₂ m n a b =
+    let e = one-answer text table table₁ table₂ (a .admission) (b .admission) (a .answers) (b .answers) in
+    (a .number-is ∙ ap text-number (e .0) ∙ sym (b .number-is), e .1, a .told-is ∙ ap (λ (x : Admission). sets answer 0 (told x)) (e .0) ∙ sym (b .told-is))
+
+open-once : (table frame reading run run₁ run₂ : List ℕ) (m n : ℕ) → Opens table frame reading run run₁ m → Opens table frame reading run run₂ n → (m ≡ n) × (run₁ ≡ run₂)
+open-once table frame reading run run₁ run₂ m n a b =
+    let e : a .answer ≡ b .answer = answer-once table frame reading (a .answer) (b .answer) (a .answered) (b .answered) in (
+      a .number-is ∙ ap (λ (x : Answer). number-with-room (opening-number x) (length run)) e ∙ sym (b .number-is),
+      a .run-is ∙ ap (λ (x : Answer). pick (eqb (length run) 2596) (encoded (run-given x)) run) e ∙ sym (b .run-is),
+    )
+
+grant-once : (table frame reading reading₁ reading₂ run run₁ run₂ taken taken₁ taken₂ : List ℕ) (steps m n : ℕ)
+    → Grants table frame reading reading₁ run run₁ taken taken₁ steps m → Grants table frame reading reading₂ run run₂ taken taken₂ steps n
+    → (m ≡ n) × (reading₁ ≡ reading₂) × (run₁ ≡ run₂) × (taken₁ ≡ taken₂)
+grant-once table frame reading reading₁ reading₂ run run₁ run₂ taken taken₁ taken₂ steps m n a b = by (eqb (length run) 2596) refl
+  where
+    by : (s : Bool) → eqb (length run) 2596 ≡ s → (m ≡ n) × (reading₁ ≡ reading₂) × (run₁ ≡ run₂) × (taken₁ ≡ taken₂)
+    by true e =
+        let l = eqb-true (length run) 2596 e in
+        let p = a .saved l in
+        let q = b .saved l in
+        (p .0 ∙ sym (q .0), p .1 ∙ sym (q .1), p .2 ∙ sym (q .2), p .3 ∙ sym (q .3))
+    by false e =
+        let l = eqb-false (length run) 2596 e in
+        let p = a .other l in
+        let q = b .other l in
+        (p .0 ∙ sym (q .0), p .1 ∙ sym (q .1), p .2 ∙ sym (q .2), p .3 ∙ sym (q .3))
+
+pub one-outcome : OneOutcome
+one-outcome = record { admitting = admit-once; opening = open-once; granting = grant-once }
+
+-- ---- 2
 
 opens-where : (text old table answer answer′ : List ℕ) → Admits text old table answer answer′ 0
     → (frame reading run run′ : List ℕ) (number : ℕ) → Opens table frame reading run run′ number

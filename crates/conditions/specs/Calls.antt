@@ -1,6 +1,6 @@
 -- The mission's three conditions, of the calls of a C program (`include/songrafter.h`): from what `songrafter_admit`, `songrafter_open` and
 -- `songrafter_grant` promise of any bytes and words, of any lengths (`Admits`, `Opens`, `Grants`). A name with ′ is what a call leaves of an array.
--- `proofs/Calls.antt` proves them: `calls-1`, `calls-2`, `calls-3`.
+-- `proofs/Calls.antt` proves them: `calls-1`, `one-outcome`, `calls-2`, `calls-3`.
 -- Assumes nothing.
 use Prim.Native.Nat.{ℕ, _+_, _*_, _-_, _≤_, min}
 use mathlib.Core.Path.{_≡_}
@@ -53,6 +53,15 @@ pub record Calls1 : Type 0 where
   pub opening : (table frame reading run run′ : List ℕ) (number : ℕ) → Opens table frame reading run run′ number → OpenLeaves run run′ number
   pub granting : (table frame reading reading′ run run′ taken taken′ : List ℕ) (steps number : ℕ)
       → Grants table frame reading reading′ run run′ taken taken′ steps number → GrantLeaves reading reading′ run run′ taken taken′ number
+
+-- "Each public call promises its complete answer and the words it leaves, refused calls too": what it is handed decides them
+pub record OneOutcome : Type 0 where
+  pub admitting : (text table table₁ table₂ answer answer₁ answer₂ : List ℕ) (m n : ℕ)
+      → Admits text table table₁ answer answer₁ m → Admits text table table₂ answer answer₂ n → (m ≡ n) × (table₁ ≡ table₂) × (answer₁ ≡ answer₂)
+  pub opening : (table frame reading run run₁ run₂ : List ℕ) (m n : ℕ) → Opens table frame reading run run₁ m → Opens table frame reading run run₂ n → (m ≡ n) × (run₁ ≡ run₂)
+  pub granting : (table frame reading reading₁ reading₂ run run₁ run₂ taken taken₁ taken₂ : List ℕ) (steps m n : ℕ)
+      → Grants table frame reading reading₁ run run₁ taken taken₁ steps m → Grants table frame reading reading₂ run run₂ taken taken₂ steps n
+      → (m ≡ n) × (reading₁ ≡ reading₂) × (run₁ ≡ run₂) × (taken₁ ≡ taken₂)
 
 -- ---- 2. "A grammar is admitted exactly when document 01's rules admit it", and on its table a run is opened wherever it may be
 
