@@ -17,19 +17,19 @@ use Rattle.acts.specs.Acts.{bits-of}
 use Rattle.conflicts.specs.declared.Clash.{Clash}
 use Rattle.admission.specs.Admitted.{number-of as text-number, Answers}
 use Rattle.admission.specs.declared.Admission.{Admission}
-use Rattle.runs.specs.Runs.{opened-run, closed-run, run-in, reading-in, answer-in, grant-of, number-of, taken-of}
+use Rattle.runs.specs.Runs.{closed-run, After, run-in, reading-in, answer-in, grant-of, number-of, taken-of}
 use Rattle.runs.specs.declared.Run.{Run}
 use Rattle.runs.specs.declared.Answer.{Answer as GrantAnswer}
 use Rattle.saved.specs.Saved.{saved-bytes, encoded, decoded, restored}
-use Rattle.saved.proofs.Saving.{restored-is, restored-not}
+use Rattle.saved.proofs.Saving.{restored-is}
 use Rattle.matcher.specs.Opening.{Answered, Opened, run-given, number-of as opening-number}
 use Rattle.matcher.specs.declared.Answer.{Answer}
-use Rattle.matcher.specs.Conditions.{Grant, own as own-grant, Kept, granted as steps-granted, kept, run-kept, reading-kept, Decided, start, here, call, next, after-grants, OthersRefused, EachCounts as GrantsCount}
+use Rattle.matcher.specs.Conditions.{Grant, own, Kept, granted as steps-granted, kept, run-kept, reading-kept, Decided, start, here, call, next, after-grants, OthersRefused, EachCounts as GrantsCount}
 use Rattle.matcher.proofs.Answers.{answer-once}
-use Rattle.songrafter.specs.Calls.{told, Admits, number-with-room, Opens, granted, no-run-number, Grants}
+use Rattle.songrafter.specs.Calls.{told, Admits, number-with-room, Opens, granted, Grants}
 use Rattle.conditions.specs.Texts.{text-grammar}
-use Rattle.conditions.specs.Conditions.{Exact, Claim}
-use Rattle.conditions.specs.Calls.{AdmitLeaves, OpenLeaves, GrantLeaves, Calls1, OneOutcome, Calls2, Buffers, own, other, Call, handed, left, run-left, reading-left, run-after, reading-after, also, own-grants, Promised, Made, Counts, given, EachCounts, Lived, Life, Calls3}
+use Rattle.conditions.specs.Conditions.{Exact}
+use Rattle.conditions.specs.Calls.{AdmitLeaves, OpenLeaves, GrantLeaves, Calls1, OneOutcome, Calls2, handed, left, Kiosk, no-call, own-call, other-call, EachCounts, Calls3}
 use Rattle.conditions.proofs.Buffers.{refused-number, condition-1}
 use Rattle.conditions.proofs.Tables.{text-table}
 use Rattle.conditions.proofs.OneAnswer.{one-answer}
@@ -232,84 +232,71 @@ record Same (run reading : List ℕ) (k : Kept) : Type 0 where
   read-as : decoded run ≡ run-kept k
   words-are : reading ≡ reading-kept k
 
--- of none but own grants no other has to be refused
-own-refuses : (table frame : List ℕ) (b : Buffers) (n : ℕ) (gs : List Grant) (k : Kept) → ((k : Kept) → OthersRefused table frame gs k) → OthersRefused table frame (also b n gs) k
-unfolding OthersRefused
-own-refuses table frame own n gs k r = (tt, r (next table frame k (own-grant n)))
-own-refuses table frame (other t f h b) n gs k r = r k
-
-owns-refuse : (table frame : List ℕ) (cs : List Call) (k : Kept) → OthersRefused table frame (own-grants cs) k
-unfolding own-grants OthersRefused
-owns-refuse table frame [] k = tt
-owns-refuse table frame (c ∷ cs) k = own-refuses table frame (c .buffers) (c .steps) (own-grants cs) k (owns-refuse table frame cs)
-
 -- what a refused call leaves of the kiosk's own is what it had
 left-same : (mine : List ℕ) (h : Option (List ℕ)) (xs : List ℕ) → xs ≡ handed mine h → left mine h xs ≡ mine
 left-same mine none xs e = e
 left-same mine (some ys) xs e = refl
 
 module _ (table frame : List ℕ) where
-  -- a grant of its own
-  after-own : (run reading : List ℕ) (k : Kept) (c : Call) → Same run reading k → Promised table frame run reading own c → Same (c .run′) (c .reading′) (next table frame k (own-grant (c .steps)))
-  after-own run reading k c s g =
-      let e : granted table frame reading run (c .steps) ≡ call table frame k (own-grant (c .steps)) =
-      ap₂ (λ (r : Run) (rs : List ℕ). grant-of (table-of table) frame rs r (c .steps)) (s .read-as) (s .words-are) in
-      let x = g .saved (s .full) in
-      let full : length (c .run′) ≡ 2596 = g .run-length ∙ s .full in
-      record {
-        full = full;
-        bytes-are = x .2 ∙ ap (λ y. encoded (run-in y)) e;
-        read-as = sym (restored-is (c .run′) full) ∙ g .read-back (s .full) .1 ∙ ap run-in e;
-        words-are = x .1 ∙ ap reading-in e;
-      }
+  -- of none but own grants no other has to be refused
+  owns-refuse : {run reading run′ reading′ : List ℕ} {gs : List Grant} → Kiosk table frame run reading gs run′ reading′ → (k : Kept) → OthersRefused table frame gs k
+  unfolding OthersRefused
+  owns-refuse no-call k = tt
+  owns-refuse (own-call reading₁ run₁ taken taken₁ steps number g cs) k = (tt, owns-refuse cs (next table frame k (own steps)))
+  owns-refuse (other-call t f r b reading₁ run₁ taken taken₁ steps number g cs) k = owns-refuse cs k
 
-  -- its number, and the count that it writes
-  own-counts : (needed before : ℕ) (run reading : List ℕ) (k : Kept) (c : Call) → Same run reading k → Promised table frame run reading own c
-      → answer-in (call table frame k (own-grant (c .steps))) ≡ GrantAnswer.Taken (min (c .steps) (needed - before)) → Counts needed before run reading own c
-  own-counts needed before run reading k c s g a =
-      let e : answer-in (granted table frame reading run (c .steps)) ≡ GrantAnswer.Taken (min (c .steps) (needed - before)) =
-      ap₂ (λ (r : Run) (rs : List ℕ). answer-in (grant-of (table-of table) frame rs r (c .steps))) (s .read-as) (s .words-are) ∙ a in
-      let x = g .saved (s .full) in
-      (x .0 ∙ ap number-of e, x .3 ∙ ap (λ (y : GrantAnswer). set (c .taken) 0 (taken-of y)) e)
+  module _ (run reading reading₁ run₁ taken taken₁ : List ℕ) (steps number : ℕ) (k : Kept) (s : Same run reading k) (g : Grants table frame reading reading₁ run run₁ taken taken₁ steps number) where
+    -- a grant of its own is a grant to the run kept
+    same-grant : granted table frame reading run steps ≡ call table frame k (own steps)
+    same-grant = ap₂ (λ (r : Run) (rs : List ℕ). grant-of (table-of table) frame rs r steps) (s .read-as) (s .words-are)
+
+    after-own : Same run₁ reading₁ (next table frame k (own steps))
+    after-own =
+        let x = g .saved (s .full) in
+        let full : length run₁ ≡ 2596 = g .run-length ∙ s .full in
+        record {
+          full = full;
+          bytes-are = x .2 ∙ ap (λ (y : After). encoded (run-in y)) same-grant;
+          read-as = sym (restored-is run₁ full) ∙ g .read-back (s .full) .1 ∙ ap run-in same-grant;
+          words-are = x .1 ∙ ap reading-in same-grant;
+        }
+
+    -- its number, and the count that it writes
+    own-counts : (n : ℕ) → answer-in (call table frame k (own steps)) ≡ GrantAnswer.Taken n → (number ≡ 0) × (taken₁ ≡ set taken 0 n)
+    own-counts n a =
+        let e : answer-in (granted table frame reading run steps) ≡ GrantAnswer.Taken n = ap answer-in same-grant ∙ a in
+        let x = g .saved (s .full) in
+        (x .0 ∙ ap number-of e, x .3 ∙ ap (λ (y : GrantAnswer). set taken 0 (taken-of y)) e)
 
   -- a call handed others, refused
-  other-leaves : (run reading t f : List ℕ) (h b : Option (List ℕ)) (c : Call) → Promised table frame run reading (other t f h b) c
-      → (c .run′ ≡ handed run b) × (c .reading′ ≡ handed reading h) × (c .taken′ ≡ set (c .taken) 0 0)
-  other-leaves run reading t f h b c p =
-      grant-leaves t f (handed reading h) (c .reading′) (handed run b) (c .run′) (c .taken) (c .taken′) (c .steps) (c .number) (p .0) .refused (p .1)
+  module _ (run reading t f : List ℕ) (r b : Option (List ℕ)) (reading₁ run₁ taken taken₁ : List ℕ) (steps number : ℕ) (g : Grants t f (handed reading r) reading₁ (handed run b) run₁ taken taken₁ steps number × (number ≡ 0 → ⊥)) where
+    other-leaves : (run₁ ≡ handed run b) × (reading₁ ≡ handed reading r) × (taken₁ ≡ set taken 0 0)
+    other-leaves = grant-leaves t f (handed reading r) reading₁ (handed run b) run₁ taken taken₁ steps number (g .0) .refused (g .1)
 
-  after-other : (run reading t f : List ℕ) (h b : Option (List ℕ)) (k : Kept) (c : Call) → Same run reading k → Promised table frame run reading (other t f h b) c
-      → Same (left run b (c .run′)) (left reading h (c .reading′)) k
-  after-other run reading t f h b k c s p =
-      let u = other-leaves run reading t f h b c p in
-      subst (λ (r : List ℕ). Same r (left reading h (c .reading′)) k) (sym (left-same run b (c .run′) (u .0)))
-      (subst (λ (rs : List ℕ). Same run rs k) (sym (left-same reading h (c .reading′) (u .1))) s)
+    after-other : (k : Kept) → Same run reading k → Same (left run b run₁) (left reading r reading₁) k
+    after-other k s =
+        subst (λ (x : List ℕ). Same x (left reading r reading₁) k) (sym (left-same run b run₁ (other-leaves .0)))
+        (subst (λ (x : List ℕ). Same run x k) (sym (left-same reading r reading₁ (other-leaves .1))) s)
 
-  -- all calls: their answers, and what they leave
-  abbrev Lives : ℕ → List Call → Type 0
-  Lives needed cs =
-      (before : ℕ) (run reading : List ℕ) (k : Kept) → Same run reading k → Made table frame run reading cs → GrantsCount table frame needed before (own-grants cs) k
-      → EachCounts needed before run reading cs × Same (run-after run cs) (reading-after reading cs) (after-grants table frame (own-grants cs) k)
+  -- all calls: what they leave, and their answers
+  leaves : {run reading run′ reading′ : List ℕ} {gs : List Grant} → Kiosk table frame run reading gs run′ reading′ → (k : Kept) → Same run reading k → Same run′ reading′ (after-grants table frame gs k)
+  unfolding after-grants
+  leaves no-call k s = s
+  leaves {run} {reading} (own-call reading₁ run₁ taken taken₁ steps number g cs) k s =
+      leaves cs (next table frame k (own steps)) (after-own run reading reading₁ run₁ taken taken₁ steps number k s g)
+  leaves {run} {reading} (other-call t f r b reading₁ run₁ taken taken₁ steps number g cs) k s =
+      leaves cs k (after-other run reading t f r b reading₁ run₁ taken taken₁ steps number g k s)
 
-  -- one call more, before them
-  lives-on : (needed : ℕ) (c : Call) (cs : List Call) → Lives needed cs → (b : Buffers) (before : ℕ) (run reading : List ℕ) (k : Kept) → Same run reading k
-      → Promised table frame run reading b c → Made table frame (run-left run b c) (reading-left reading b c) cs → GrantsCount table frame needed before (also b (c .steps) (own-grants cs)) k
-      → (Counts needed before run reading b c × EachCounts needed (before + given b (c .steps)) (run-left run b c) (reading-left reading b c) cs)
-      × Same (run-after (run-left run b c) cs) (reading-after (reading-left reading b c) cs) (after-grants table frame (also b (c .steps) (own-grants cs)) k)
-  unfolding GrantsCount after-grants
-  lives-on needed c cs on own before run reading k s p m q =
-      let r = on (before + c .steps) (c .run′) (c .reading′) (next table frame k (own-grant (c .steps))) (after-own run reading k c s p) m (q .1) in
-      ((own-counts needed before run reading k c s p (q .0), r .0), r .1)
-  lives-on needed c cs on (other t f h b) before run reading k s p m q =
-      let u = other-leaves run reading t f h b c p in
-      let z : before ≡ before + 0 = omega arith in
-      let r = on (before + 0) (left run b (c .run′)) (left reading h (c .reading′)) k (after-other run reading t f h b k c s p) m (subst (λ (d : ℕ). GrantsCount table frame needed d (own-grants cs) k) z q) in
-      (((u .2, u .0, u .1), r .0), r .1)
-
-  lives : (needed : ℕ) (cs : List Call) → Lives needed cs
-  unfolding own-grants Made EachCounts GrantsCount run-after reading-after after-grants
-  lives needed [] before run reading k s m q = (tt, s)
-  lives needed (c ∷ cs) before run reading k s m q = lives-on needed c cs (lives needed cs) (c .buffers) before run reading k s (m .0) (m .1) q
+  counts : (needed before : ℕ) {run reading run′ reading′ : List ℕ} {gs : List Grant} (cs : Kiosk table frame run reading gs run′ reading′) (k : Kept) → Same run reading k
+      → GrantsCount table frame needed before gs k → EachCounts needed before run reading cs
+  unfolding EachCounts GrantsCount
+  counts needed before no-call k s q = tt
+  counts needed before {run} {reading} (own-call reading₁ run₁ taken taken₁ steps number g cs) k s q =
+      let c = own-counts run reading reading₁ run₁ taken taken₁ steps number k s g (min steps (needed - before)) (q .0) in
+      (c .0, c .1, counts needed (before + steps) cs (next table frame k (own steps)) (after-own run reading reading₁ run₁ taken taken₁ steps number k s g) (q .1))
+  counts needed before {run} {reading} (other-call t f r b reading₁ run₁ taken taken₁ steps number g cs) k s q =
+      let u = other-leaves run reading t f r b reading₁ run₁ taken taken₁ steps number g in
+      (u .2, u .0, u .1, counts needed before cs k (after-other run reading t f r b reading₁ run₁ taken taken₁ steps number g k s) q)
 
 -- ---- condition 3
 
@@ -334,21 +321,20 @@ calls-3 text old table answer answer′ a frame reading room run o =
       weight-told = w .told-so;
       admissible = x;
       claim = claim;
-      calls = λ cs m.
+      calls = λ gs run′ reading′ cs.
           let others = owns-refuse table frame cs (start reading) in
-          let g = claim .granting (own-grants cs) others in
-          let l = lives table frame (claim .needed) cs 0 run reading (start reading) first m (g .answers) in
-          let s = l .1 in
-          let read : restored (run-after run cs) ≡ run-kept (here table frame reading (own-grants cs)) = restored-is (run-after run cs) (s .full) ∙ s .read-as in
+          let g = claim .granting gs others in
+          let s = leaves table frame cs (start reading) first in
+          let read : restored run′ ≡ run-kept (here table frame reading gs) = restored-is run′ (s .full) ∙ s .read-as in
           record {
             run-is = s .bytes-are;
             read-back = read;
             reading-is = s .words-are;
             granted = g;
-            unbroken = claim .unbroken (own-grants cs) others;
-            answers = l .0;
-            decided-iff = subst (λ (r : Run). Decided r ↔ (claim .needed ≤ steps-granted (own-grants cs))) (sym read) (g .decided-iff);
-            exact = subst (Exact (text-grammar (x .reading)) frame reading) (sym (ap₂ kept read (s .words-are) ∙ kept-parts (here table frame reading (own-grants cs))))
-                (condition-2 .matching text old table (w .weight) (w .answers) (x .reading) frame reading opened (own-grants cs) others);
+            unbroken = claim .unbroken gs others;
+            answers = counts table frame (claim .needed) 0 cs (start reading) first (g .answers);
+            decided-iff = subst (λ (r : Run). Decided r ↔ (claim .needed ≤ steps-granted gs)) (sym read) (g .decided-iff);
+            exact = subst (Exact (text-grammar (x .reading)) frame reading) (sym (ap₂ kept read (s .words-are) ∙ kept-parts (here table frame reading gs)))
+                (condition-2 .matching text old table (w .weight) (w .answers) (x .reading) frame reading opened gs others);
           };
     }

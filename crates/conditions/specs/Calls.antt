@@ -8,12 +8,14 @@ use mathlib.Core.Logic.{_⊎_, _↔_}
 use mathlib.Core.List.{List, [], _∷_}
 use mathlib.Core.Option.{Option, none, some}
 use lib.ListN.{length, getD, set, drop}
+use Rattle.theory.specs.Grammar.{Grammar}
 use Rattle.layout.specs.Places.{table-words}
+use Rattle.layout.specs.Held.{Values}
 use Rattle.acts.specs.Acts.{bits-of}
 use Rattle.steps.specs.Steps.{undecided}
 use Rattle.runs.specs.Runs.{closed-run}
 use Rattle.saved.specs.Saved.{saved-bytes, encoded, restored}
-use Rattle.matcher.specs.Conditions.{Grant, own as own-grant, granted as steps-granted, kept, run-kept, reading-kept, Decided, here, Unbroken, Granted}
+use Rattle.matcher.specs.Conditions.{Grant, own, granted as steps-granted, kept, run-kept, reading-kept, Decided, here, Unbroken, Granted}
 use Rattle.songrafter.specs.Calls.{Admits, Opens, Grants}
 use Rattle.conditions.specs.Texts.{text-grammar, Admissible}
 use Rattle.conditions.specs.Refusals.{Exactly}
@@ -74,108 +76,62 @@ pub record Calls2 : Type 0 where
 
 -- ---- a kiosk's calls of songrafter_grant
 
--- what a call is handed: the kiosk's own table, frame, reading and run; or other ones (no reading, no run: the kiosk's own)
-pub data Buffers : Type 0 where
-  own : Buffers
-  other : (table frame : List ℕ) (reading run : Option (List ℕ)) → Buffers
-
--- a call, its answer, and what it left of the reading and the run that it was handed
-pub record Call : Type 0 where
-  pub buffers : Buffers
-  pub steps : ℕ
-  pub taken : List ℕ
-  pub number : ℕ
-  pub reading′ : List ℕ
-  pub run′ : List ℕ
-  pub taken′ : List ℕ
-
--- the array that a call is handed, where the kiosk has `mine`
+-- the array that a call is handed, where the kiosk has `mine` (no other: its own)
 abbrev pub handed : (mine : List ℕ) → Option (List ℕ) → List ℕ
 handed mine none = mine
 handed mine (some xs) = xs
 
--- what the kiosk then has: its own array changes only where it was handed over
+-- what the kiosk has after it: its own array changes only where it was handed over
 abbrev pub left : (mine : List ℕ) → Option (List ℕ) → (xs′ : List ℕ) → List ℕ
 left mine none xs′ = xs′
 left mine (some xs) xs′ = mine
 
-abbrev pub run-left : List ℕ → Buffers → Call → List ℕ
-run-left run own c = c .run′
-run-left run (other table frame r b) c = left run b (c .run′)
-
-abbrev pub reading-left : List ℕ → Buffers → Call → List ℕ
-reading-left reading own c = c .reading′
-reading-left reading (other table frame r b) c = left reading r (c .reading′)
-
--- the kiosk's run and reading after some calls
-unfoldable pub run-after : List ℕ → List Call → List ℕ
-run-after run [] = run
-run-after run (c ∷ cs) = run-after (run-left run (c .buffers) c) cs
-
-unfoldable pub reading-after : List ℕ → List Call → List ℕ
-reading-after reading [] = reading
-reading-after reading (c ∷ cs) = reading-after (reading-left reading (c .buffers) c) cs
-
--- the grants among them that are the kiosk's own
-abbrev pub also : Buffers → ℕ → List Grant → List Grant
-also own n gs = own-grant n ∷ gs
-also (other table frame r b) n gs = gs
-
-unfoldable pub own-grants : List Call → List Grant
-own-grants [] = []
-own-grants (c ∷ cs) = also (c .buffers) (c .steps) (own-grants cs)
-
-module _ (table frame : List ℕ) where
-  -- the call was answered as songrafter_grant promises. "The refused ones in the list are handed another table, frame or reading", or run
-  abbrev pub Promised : (run reading : List ℕ) → Buffers → Call → Type 0
-  Promised run reading own c = Grants table frame reading (c .reading′) run (c .run′) (c .taken) (c .taken′) (c .steps) (c .number)
-  Promised run reading (other t f r b) c =
-      Grants t f (handed reading r) (c .reading′) (handed run b) (c .run′) (c .taken) (c .taken′) (c .steps) (c .number) × (c .number ≡ 0 → ⊥)
-
-  -- calls one after the other, the run and the reading as the last one left them
-  unfoldable pub Made : (run reading : List ℕ) → List Call → Type 0
-  Made run reading [] = Unit {0}
-  Made run reading (c ∷ cs) = Promised run reading (c .buffers) c × Made (run-left run (c .buffers) c) (reading-left reading (c .buffers) c) cs
+-- Calls one after the other, of a kiosk with this table and frame, each answered as songrafter_grant promises: it has `run` and `reading` before
+-- them, `run′` and `reading′` after them, and its own grants among them are `gs`.
+pub data Kiosk (table frame : List ℕ) : (run reading : List ℕ) (gs : List Grant) (run′ reading′ : List ℕ) → Type 0 where
+  no-call : {run reading : List ℕ} → Kiosk table frame run reading [] run reading
+  -- its own table, frame, reading and run, as the calls before left them, and any `steps` and `taken`
+  own-call : {run reading run′ reading′ : List ℕ} {gs : List Grant} (reading₁ run₁ taken taken₁ : List ℕ) (steps number : ℕ)
+      → Grants table frame reading reading₁ run run₁ taken taken₁ steps number
+      → Kiosk table frame run₁ reading₁ gs run′ reading′ → Kiosk table frame run reading (own steps ∷ gs) run′ reading′
+  -- "The refused ones in the list are handed another table, frame or reading", or run
+  other-call : {run reading run′ reading′ : List ℕ} {gs : List Grant} (t f : List ℕ) (r b : Option (List ℕ)) (reading₁ run₁ taken taken₁ : List ℕ) (steps number : ℕ)
+      → Grants t f (handed reading r) reading₁ (handed run b) run₁ taken taken₁ steps number × (number ≡ 0 → ⊥)
+      → Kiosk table frame (left run b run₁) (left reading r reading₁) gs run′ reading′ → Kiosk table frame run reading gs run′ reading′
 
 -- ---- 2 and 3 of them
 
 -- "A grant handed the run's own table, frame and reading is never refused": taken[0] is then "the smaller of its grant and the steps still missing
 -- until decided", `needed` in all and `before` granted before. The refused ones "count 0 and change nothing".
-abbrev pub Counts : (needed before : ℕ) → (run reading : List ℕ) → Buffers → Call → Type 0
-Counts needed before run reading own c = (c .number ≡ 0) × (c .taken′ ≡ set (c .taken) 0 (min (c .steps) (needed - before)))
-Counts needed before run reading (other table frame r b) c = (c .taken′ ≡ set (c .taken) 0 0) × (c .run′ ≡ handed run b) × (c .reading′ ≡ handed reading r)
+unfoldable pub EachCounts : (needed before : ℕ) {table frame : List ℕ} (run reading : List ℕ) {gs : List Grant} {run′ reading′ : List ℕ} → Kiosk table frame run reading gs run′ reading′ → Type 0
+EachCounts needed before run reading no-call = Unit {0}
+EachCounts needed before run reading (own-call reading₁ run₁ taken taken₁ steps number g cs) =
+    (number ≡ 0) × (taken₁ ≡ set taken 0 (min steps (needed - before))) × EachCounts needed (before + steps) run₁ reading₁ cs
+EachCounts needed before run reading (other-call t f r b reading₁ run₁ taken taken₁ steps number g cs) =
+    (taken₁ ≡ set taken 0 0) × (run₁ ≡ handed run b) × (reading₁ ≡ handed reading r) × EachCounts needed before (left run b run₁) (left reading r reading₁) cs
 
-abbrev pub given : Buffers → ℕ → ℕ
-given own n = n
-given (other table frame r b) n = 0
-
-unfoldable pub EachCounts : (needed before : ℕ) → (run reading : List ℕ) → List Call → Type 0
-EachCounts needed before run reading [] = Unit {0}
-EachCounts needed before run reading (c ∷ cs) =
-    Counts needed before run reading (c .buffers) c × EachCounts needed (before + given (c .buffers) (c .steps)) (run-left run (c .buffers) c) (reading-left reading (c .buffers) c) cs
-
--- after a list of calls: the run's bytes and the reading are those that condition 3's claim speaks of (`matcher`, `Granted`, `Unbroken`), and what
--- `songrafter_verdict`, `_fields` and the others read in them is exact
-pub record Lived (weight : ℕ) (text table frame reading run : List ℕ) (x : Admissible text weight) (needed : ℕ) (cs : List Call) : Type 0 where
-  pub run-is : run-after run cs ≡ encoded (run-kept (here table frame reading (own-grants cs)))
-  pub read-back : restored (run-after run cs) ≡ run-kept (here table frame reading (own-grants cs))
-  pub reading-is : reading-after reading cs ≡ reading-kept (here table frame reading (own-grants cs))
-  pub granted : Granted table frame reading (own-grants cs) needed
-  pub unbroken : Unbroken table frame reading (own-grants cs)
+-- after the calls: the run's bytes and the reading are those that condition 3's claim speaks of (`matcher`, `Granted`, `Unbroken`), and what
+-- songrafter_verdict, songrafter_fields and the others read in them is exact
+pub record Lived (g : Grammar (Unit {0}) Values) (needed : ℕ) (table frame run reading : List ℕ) (gs : List Grant) (run′ reading′ : List ℕ) (cs : Kiosk table frame run reading gs run′ reading′) : Type 0 where
+  pub run-is : run′ ≡ encoded (run-kept (here table frame reading gs))
+  pub read-back : restored run′ ≡ run-kept (here table frame reading gs)
+  pub reading-is : reading′ ≡ reading-kept (here table frame reading gs)
+  pub granted : Granted table frame reading gs needed
+  pub unbroken : Unbroken table frame reading gs
   pub answers : EachCounts needed 0 run reading cs
   -- songrafter_verdict is match or no match exactly where so many steps were granted in all
-  pub decided-iff : Decided (restored (run-after run cs)) ↔ (needed ≤ steps-granted (own-grants cs))
+  pub decided-iff : Decided (restored run′) ↔ (needed ≤ steps-granted gs)
   -- "a decided run says match exactly when some derivation covers the whole frame, and its reading lists that derivation's fields"
-  pub exact : Exact (text-grammar (x .reading)) frame reading (kept (restored (run-after run cs)) (reading-after reading cs))
+  pub exact : Exact g frame reading (kept (restored run′) reading′)
 
--- the weight is answer[0] of songrafter_admit
+-- of a run as opened: `needed` is one number for all lists of calls, at most weight × (bits + 1) (`Claim`), and the weight is answer[0]
 pub record Life (text table answer answer′ frame reading run : List ℕ) : Type 0 where
   pub weight : ℕ
   pub weight-told : 1 ≤ length answer → getD answer′ 0 0 ≡ weight
   pub admissible : Admissible text weight
-  -- "decided within weight × (bits + 1) steps", one number for all lists (`needed`, `within-bound`)
   pub claim : Claim (text-grammar (admissible .reading)) weight table frame reading
-  pub calls : (cs : List Call) → Made table frame run reading cs → Lived weight text table frame reading run admissible (claim .needed) cs
+  pub calls : (gs : List Grant) (run′ reading′ : List ℕ) (cs : Kiosk table frame run reading gs run′ reading′)
+      → Lived (text-grammar (admissible .reading)) (claim .needed) table frame run reading gs run′ reading′ cs
 
 -- songrafter_admit answered 0 and wrote `table`; songrafter_open answered 0 for that table, a frame and a reading, and wrote `run` over `room`
 abbrev pub Calls3 : Type 0
