@@ -100,6 +100,7 @@ size_t songrafter_grant(const uint32_t *table, size_t table_len, const uint8_t *
 uint32_t songrafter_verdict(const uint8_t *run, size_t run_len);
 uint64_t songrafter_steps(const uint8_t *run, size_t run_len);
 uint64_t songrafter_fields(const uint8_t *run, size_t run_len);
+uint64_t songrafter_position(const uint8_t *run, size_t run_len);
 int64_t songrafter_value(const uint8_t *run, size_t run_len, size_t k);
 
 #ifdef __cplusplus

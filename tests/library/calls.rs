@@ -17,6 +17,7 @@ extern "C" {
     fn songrafter_verdict(run: *const u8, run_len: usize) -> u32;
     fn songrafter_steps(run: *const u8, run_len: usize) -> u64;
     fn songrafter_fields(run: *const u8, run_len: usize) -> u64;
+    fn songrafter_position(run: *const u8, run_len: usize) -> u64;
     fn songrafter_value(run: *const u8, run_len: usize, k: usize) -> i64;
 }
 
@@ -63,6 +64,10 @@ pub fn steps(run: &Guarded<u8>) -> u64 {
 
 pub fn fields(run: &Guarded<u8>) -> usize {
     unsafe { songrafter_fields(run.pointer(), run.length) as usize }
+}
+
+pub fn position(run: &Guarded<u8>) -> usize {
+    unsafe { songrafter_position(run.pointer(), run.length) as usize }
 }
 
 pub fn value(run: &Guarded<u8>, k: usize) -> i64 {

@@ -118,6 +118,7 @@ fn check_run(grammar: &Grammar, frame: &[u8], granted: u64, run: &Guarded<u8>, r
     same("verdict", calls::verdict(run), number(expected.verdict))?;
     same("steps", calls::steps(run), expected.steps)?;
     same("fields", calls::fields(run), expected.reading.len())?;
+    same("position", calls::position(run), expected.position)?;
     let written: Vec<u32> = expected.reading.iter().flat_map(|&(construct, bit)| [construct as u32, bit as u32]).collect();
     same("reading", &reading.values()[..written.len()], &written[..])?;
     same("words beyond", &reading.values()[written.len()..], &first[written.len()..])?;

@@ -5,3 +5,4 @@ pub mod Exactly
 pub mod Buffers
 pub mod OneAnswer
 pub mod Conditions
+pub mod Calls

@@ -1,3 +1,4 @@
 pub mod Texts
 pub mod Refusals
 pub mod Conditions
+pub mod Calls

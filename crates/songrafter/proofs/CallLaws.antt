@@ -2,7 +2,7 @@
 -- Assumes nothing.
 use Prim.Native.Nat.{ℕ, _≤_}
 use native.Mathlib.Omega.{arith}
-use mathlib.Core.Path.{_≡_, ap, _∙_}
+use mathlib.Core.Path.{_≡_, sym, ap, _∙_}
 use mathlib.Core.Bool.{Bool, true, false}
 use mathlib.Core.List.{List, [], _∷_}
 use lib.Dec.{eqb}
@@ -27,10 +27,10 @@ five-stores l l₀ l₁ l₂ l₃ l₄ a b c d e p₀ p₁ p₂ p₃ p₄ =
 
 -- a grant on a saved run: decoded, advanced, encoded, and the count of the steps taken put down
 pub grants-run : (table frame reading reading′ run run′ taken taken′ : List ℕ) (steps number count : ℕ) (r d : Run) (a : Answer)
-    → length run ≡ 2596 → r ≡ restored run → encoded r ≡ run → after d reading′ a ≡ grant-of (table-of table) frame reading r steps → run′ ≡ stored d run
+    → length run ≡ 2596 → length run′ ≡ length run → r ≡ restored run → encoded r ≡ run → restored run′ ≡ d → after d reading′ a ≡ grant-of (table-of table) frame reading r steps → run′ ≡ stored d run
     → count ≡ taken-of a → taken′ ≡ set taken 0 count → number ≡ number-of a
     → Grants table frame reading reading′ run run′ taken taken′ steps number
-grants-run table frame reading reading′ run run′ taken taken′ steps number count r d a full read whole-read grant wrote counted put answered =
+grants-run table frame reading reading′ run run′ taken taken′ steps number count r d a full kept read whole-read read-back grant wrote counted put answered =
     let told : number ≡ refusal-of (table-of table) frame reading r = answered ∙ (ap (λ (x : After). number-of (answer-in x)) grant ∙ refusal-told (table-of table) frame reading r steps) in
     let same : (refusal-of (table-of table) frame reading r ≡ 0 → ⊥) → Unchanged r reading (grant-of (table-of table) frame reading r steps) = refused (table-of table) frame reading r steps in
     let g : after d reading′ a ≡ granted table frame reading run steps = grant ∙ ap (λ (x : Run). grant-of (table-of table) frame reading x steps) (read ∙ restored-is run full) in
@@ -38,6 +38,8 @@ grants-run table frame reading reading′ run run′ taken taken′ steps number
       saved = λ h. (answered ∙ ap (λ (x : After). number-of (answer-in x)) g, ap reading-in g, (wrote ∙ stored-is d run full) ∙ ap (λ (x : After). encoded (run-in x)) g, put ∙ ap (set taken 0) (counted ∙ ap (λ (x : After). taken-of (answer-in x)) g));
       other = λ h. absurd (h full);
       refused = λ h. let u = same (λ z. h (told ∙ z)) in (ap reading-in grant ∙ u .1, wrote ∙ (stored-is d run full ∙ (ap encoded (ap run-in grant ∙ u .0) ∙ whole-read)));
+      run-length = kept;
+      read-back = λ h. (ap encoded (sym (read ∙ restored-is run full)) ∙ whole-read, read-back ∙ ap run-in g);
     }
 
 -- a run has 64 values, whatever the bytes

@@ -14,7 +14,7 @@ use Rattle.admission.specs.declared.Admission.{Admission}
 use Rattle.matcher.specs.Opening as opening
 use Rattle.matcher.specs.declared.Answer.{Answer}
 use Rattle.runs.specs.Runs as runs
-use Rattle.saved.specs.Saved.{saved-bytes, encoded, decoded}
+use Rattle.saved.specs.Saved.{saved-bytes, encoded, decoded, restored}
 
 -- ---- admission
 
@@ -50,6 +50,9 @@ pub record Opens (table frame reading run run′ : List ℕ) (number : ℕ) : Ty
   pub answered : opening.Answered table frame reading answer
   pub number-is : number ≡ number-with-room (opening.number-of answer) (length run)
   pub run-is : run′ ≡ pick (eqb (length run) saved-bytes) (encoded (opening.run-given answer)) run
+  pub run-length : length run′ ≡ length run
+  -- what is written is read as the run that it is
+  pub read-back : length run ≡ saved-bytes → restored run′ ≡ opening.run-given answer
 
 -- ---- granting: 21, then 24, also where the slice is not a saved run's; then neither run nor reading changes, byte by byte. The count of the
 -- steps taken is written where it fits
@@ -80,3 +83,6 @@ pub record Grants (table frame reading reading′ run run′ taken taken′ : Li
   pub saved : length run ≡ saved-bytes → GrantsRun table frame reading reading′ run run′ taken taken′ steps number
   pub other : (length run ≡ saved-bytes → ⊥) → GrantsNone frame reading reading′ run run′ taken taken′ number
   pub refused : (number ≡ 0 → ⊥) → (reading′ ≡ reading) × (run′ ≡ run)
+  pub run-length : length run′ ≡ length run
+  -- a saved run's bytes are all of it, and what is written is read as the run that it is
+  pub read-back : length run ≡ saved-bytes → (encoded (decoded run) ≡ run) × (restored run′ ≡ runs.run-in (granted table frame reading run steps))

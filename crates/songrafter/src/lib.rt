@@ -3,6 +3,8 @@
 use admission::Admission;
 use conflicts::Clash;
 use matcher::Answer;
+use runs::Granted;
+use runs::Run;
 ghost use mathlib.Core.Path.{_≡_};
 ghost use mathlib.Core.List.{[], _∷_};
 ghost use lib.ListN.{length, getD, set};
@@ -10,7 +12,8 @@ ghost use lib.Seq.{sets};
 ghost use lib.IntN.{pos};
 ghost use Rattle.admission.specs.Admitted.{number-of};
 ghost use Rattle.matcher.specs.Opening.{number-of as opening-number};
-ghost use Rattle.runs.specs.Runs.{number-of as grant-number, taken-of};
+ghost use Rattle.layout.specs.Places.{table-of};
+ghost use Rattle.runs.specs.Runs.{after, grant-of, number-of as grant-number, taken-of};
 ghost use Rattle.saved.specs.Saved.{restored};
 ghost use Rattle.songrafter.specs.Calls.{told-clash, told, Admits, number-with-room, Opens, no-run-number, Grants};
 
@@ -158,6 +161,20 @@ fn no_run(frame: &[u8], taken: &mut [u64]) -> usize
     24
 }
 
+// "The kiosk keeps one run and has it changed in place": here in a local, which `runs::grant` changes.
+fn grant_in_place(
+    table: &[u32],
+    frame: &[u8],
+    reading: &mut [u32],
+    mut run: Run,
+    steps: u64,
+) -> Granted
+    ensures { λ r. ⌜ after (r .run) (now (reading .exit)) (r .answer) ≡ grant-of (table-of (now (table .entry))) (now (frame .entry)) (now (reading .entry)) run steps ⌝ }
+{
+    let answer = runs::grant(table, frame, reading, &mut run, steps);
+    Granted { run, answer }
+}
+
 #[no_mangle]
 pub extern "C" fn songrafter_grant(
     table: &[u32],
@@ -172,7 +189,7 @@ pub extern "C" fn songrafter_grant(
     if run.len() != 2596 {
         return no_run(frame, taken);
     }
-    let done = runs::advance(table, frame, reading, saved::decode(run), steps);
+    let done = grant_in_place(table, frame, reading, saved::decode(run), steps);
     let after = done.run;
     let answer = done.answer;
     saved::encode(after, run);
@@ -201,6 +218,13 @@ pub extern "C" fn songrafter_fields(run: &[u8]) -> u64
     ensures { λ r. ⌜ r ≡ restored (now (run .entry)) .captures ⌝ }
 {
     saved::decode(run).captures
+}
+
+#[no_mangle]
+pub extern "C" fn songrafter_position(run: &[u8]) -> u64
+    ensures { λ r. ⌜ r ≡ restored (now (run .entry)) .position ⌝ }
+{
+    saved::decode(run).position
 }
 
 #[no_mangle]

@@ -10,23 +10,23 @@ use Rattle.songrafter.proofs.no_run.Reads as reads
 use Rattle.songrafter.proofs.no_run.Lts as lts
 use Rattle.songrafter.proofs.put_count.Reads as put-count-reads
 
--- src/lib.rt:154:5
+-- src/lib.rt:157:5
 put-count-requires : tie.Need-put-count-requires
 put-count-requires c κs = search needs
 
--- src/lib.rt:156:9
+-- src/lib.rt:159:9
 same-length : tie.Need-same-length
 same-length c = search needs
 
--- src/lib.rt:156:9
+-- src/lib.rt:159:9
 returns : tie.Need-returns
 returns c = (sym (ap (λ (b : Bool). pick b 21 24) (lt-ltb 256 (length (c .before .before .before .before .before .before .before .args .frame .now)) (c .if1 .taken))), c .before .before .before .put-count .ensures)
 
--- src/lib.rt:151:1
+-- src/lib.rt:154:1
 same-length-2 : tie.Need-same-length-2
 same-length-2 c = search needs
 
--- src/lib.rt:151:1
+-- src/lib.rt:154:1
 returns-2 : tie.Need-returns-2
 returns-2 c = (sym (ap (λ (b : Bool). pick b 21 24) (le-ltb 256 (length (c .before .before .before .before .before .before .before .args .frame .now)) (c .if1 .left))), c .before .before .before .put-count .ensures)
 

@@ -6,31 +6,31 @@ use Rattle.songrafter.proofs.put_five.Reads as reads
 use Rattle.songrafter.proofs.put_five.Lts as lts
 use Rattle.songrafter.proofs.put.Reads as put-reads
 
--- src/lib.rt:29:5
+-- src/lib.rt:32:5
 put-requires : tie.Need-put-requires
 put-requires c κs = search needs
 
--- src/lib.rt:30:5
+-- src/lib.rt:33:5
 put-requires-2 : tie.Need-put-requires-2
 put-requires-2 c κs = search needs
 
--- src/lib.rt:31:5
+-- src/lib.rt:34:5
 put-requires-3 : tie.Need-put-requires-3
 put-requires-3 c κs = search needs
 
--- src/lib.rt:32:5
+-- src/lib.rt:35:5
 put-requires-4 : tie.Need-put-requires-4
 put-requires-4 c κs = search needs
 
--- src/lib.rt:33:5
+-- src/lib.rt:36:5
 put-requires-5 : tie.Need-put-requires-5
 put-requires-5 c κs = search needs
 
--- src/lib.rt:26:1
+-- src/lib.rt:29:1
 same-length : tie.Need-same-length
 same-length c = search needs
 
--- src/lib.rt:26:1
+-- src/lib.rt:29:1
 returns : tie.Need-returns
 returns c = let a = c .before .before .before .before .before .before .before .before .before .before .before .before .before .before .before .before .before .before .before .before .before .args in five-stores (a .answer .now) _ _ _ _ _ (a .a) (a .b) (a .c) (a .d) (a .e) (c .before .before .before .before .before .before .before .before .before .before .before .before .before .before .before .before .before .before .put .ensures) (c .before .before .before .before .before .before .before .before .before .before .before .before .before .before .put2 .ensures) (c .before .before .before .before .before .before .before .before .before .before .put3 .ensures) (c .before .before .before .before .before .before .put4 .ensures) (c .before .before .put5 .ensures)
 

@@ -7,11 +7,11 @@ use Rattle.songrafter.proofs.songrafter_fields.Reads as reads
 use Rattle.songrafter.proofs.songrafter_fields.Lts as lts
 use Rattle.saved.proofs.decode.Reads as decode-reads
 
--- src/lib.rt:203:5
+-- src/lib.rt:220:5
 decode-requires : tie.Need-decode-requires
 decode-requires c κs = search needs
 
--- src/lib.rt:199:1
+-- src/lib.rt:216:1
 returns : tie.Need-returns
 returns c = ap (λ (r : Run). r .captures) (c .decode .ensures .0)
 

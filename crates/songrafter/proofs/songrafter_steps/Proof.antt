@@ -7,11 +7,11 @@ use Rattle.songrafter.proofs.songrafter_steps.Reads as reads
 use Rattle.songrafter.proofs.songrafter_steps.Lts as lts
 use Rattle.saved.proofs.decode.Reads as decode-reads
 
--- src/lib.rt:196:5
+-- src/lib.rt:213:5
 decode-requires : tie.Need-decode-requires
 decode-requires c κs = search needs
 
--- src/lib.rt:192:1
+-- src/lib.rt:209:1
 returns : tie.Need-returns
 returns c = ap (λ (r : Run). r .steps) (c .decode .ensures .0)
 

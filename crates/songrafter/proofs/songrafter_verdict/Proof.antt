@@ -7,11 +7,11 @@ use Rattle.songrafter.proofs.songrafter_verdict.Reads as reads
 use Rattle.songrafter.proofs.songrafter_verdict.Lts as lts
 use Rattle.saved.proofs.decode.Reads as decode-reads
 
--- src/lib.rt:189:5
+-- src/lib.rt:206:5
 decode-requires : tie.Need-decode-requires
 decode-requires c κs = search needs
 
--- src/lib.rt:185:1
+-- src/lib.rt:202:1
 returns : tie.Need-returns
 returns c = ap (λ (r : Run). r .verdict) (c .decode .ensures .0)
 

@@ -4,15 +4,15 @@ use Rattle.songrafter.proofs.with_room.Tie as tie
 use Rattle.songrafter.proofs.with_room.Reads as reads
 use Rattle.songrafter.proofs.with_room.Lts as lts
 
--- src/lib.rt:98:13
+-- src/lib.rt:101:13
 returns : tie.Need-returns
 returns c = simp (eq-eqb (c .before .before .args .number) 0 (c .before .if1 .taken), eq-eqb (c .before .before .args .room) 2596 (c .if2 .taken))
 
--- src/lib.rt:100:9
+-- src/lib.rt:103:9
 returns-2 : tie.Need-returns-2
 returns-2 c = simp (eq-eqb (c .before .before .args .number) 0 (c .before .if1 .taken), ne-eqb (c .before .before .args .room) 2596 (c .if2 .left))
 
--- src/lib.rt:93:1
+-- src/lib.rt:96:1
 returns-3 : tie.Need-returns-3
 returns-3 c = simp (ne-eqb (c .before .args .number) 0 (c .if1 .left))
 
