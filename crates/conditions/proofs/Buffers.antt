@@ -16,7 +16,7 @@ use Rattle.admission.specs.Admitted.{number-of, Refusal, RulesRefused, Answered
 use Rattle.admission.specs.declared.Admission.{Admission}
 use Rattle.runs.specs.Runs.{head-of, whole-of, fitting, After, after, run-in, reading-in, answer-in, after-steps, grant-of, number-of as grant-number, taken-of}
 use Rattle.runs.specs.declared.Run.{Run}
-use Rattle.runs.proofs.Grants.{unchanged}
+use Rattle.runs.proofs.Grants.{unchanged, grants-compose}
 use Rattle.runs.specs.declared.Answer.{Answer as GrantAnswer}
 use Rattle.matcher.specs.declared.Answer.{Answer}
 use Rattle.conditions.specs.Conditions.{TextAnswered, RunOpened, RunGranted, Condition1}
@@ -123,4 +123,4 @@ module _ (ws fs rs : List ℕ) (run : Run) (n : ℕ) where
       }
 
 pub condition-1 : Condition1
-condition-1 = record { admitting = text-answered; opening-runs = λ ws fs rs answer a. run-opened answer; granting = run-granted }
+condition-1 = record { admitting = text-answered; opening-runs = λ ws fs rs answer a. run-opened answer; granting = run-granted; adding = grants-compose }

@@ -18,9 +18,12 @@ use Rattle.conflicts.specs.declared.Clash.{Clash}
 use Rattle.admission.specs.Admitted.{number-of as text-number, Answers}
 use Rattle.admission.specs.declared.Admission.{Admission}
 use Rattle.runs.specs.Runs.{closed-run, After, run-in, reading-in, answer-in, grant-of, number-of, taken-of}
+use Rattle.runs.specs.Composing.{further}
 use Rattle.runs.specs.declared.Run.{Run}
 use Rattle.runs.specs.declared.Answer.{Answer as GrantAnswer}
-use Rattle.saved.specs.Saved.{saved-bytes, encoded, decoded, restored}
+use Rattle.runs.proofs.Grants.{grants-compose}
+use Rattle.saved.specs.Saved.{plain, saved-bytes, encoded, decoded, restored}
+use Rattle.saved.proofs.Bytes.{numbers-length}
 use Rattle.saved.proofs.Saving.{restored-is}
 use Rattle.matcher.specs.Opening.{Answered, Opened, run-given, number-of as opening-number}
 use Rattle.matcher.specs.declared.Answer.{Answer}
@@ -29,7 +32,7 @@ use Rattle.matcher.proofs.Answers.{answer-once}
 use Rattle.songrafter.specs.Calls.{told, Admits, number-with-room, Opens, granted, Grants}
 use Rattle.conditions.specs.Texts.{text-grammar}
 use Rattle.conditions.specs.Conditions.{Exact}
-use Rattle.conditions.specs.Calls.{AdmitLeaves, OpenLeaves, GrantLeaves, Calls1, OneOutcome, Calls2, handed, left, Kiosk, no-call, own-call, other-call, EachCounts, Calls3}
+use Rattle.conditions.specs.Calls.{AdmitLeaves, OpenLeaves, GrantLeaves, Calls1, OneOutcome, OneAndMany, Calls2, handed, left, Kiosk, no-call, own-call, other-call, EachCounts, Calls3}
 use Rattle.conditions.proofs.Buffers.{refused-number, condition-1}
 use Rattle.conditions.proofs.Tables.{text-table}
 use Rattle.conditions.proofs.OneAnswer.{one-answer}
@@ -206,6 +209,33 @@ grant-once table frame reading reading₁ reading₂ run run₁ run₂ taken tak
 
 pub one-outcome : OneOutcome
 one-outcome = record { admitting = admit-once; opening = open-once; granting = grant-once }
+
+-- ---- one grant and many
+
+pub one-and-many : OneAndMany
+unfolding decoded
+one-and-many table frame reading reading₁ reading₂ reading₃ run run₁ run₂ run₃ t t₁ u u₁ v v₁ m n a b c g h k = by (eqb (length run) 2596) refl
+  where
+    by : (s : Bool) → eqb (length run) 2596 ≡ s → (b ≡ c) × (run₂ ≡ run₃) × (reading₂ ≡ reading₃)
+    by true e =
+        let l : length run ≡ 2596 = eqb-true (length run) 2596 e in
+        let full : length run₁ ≡ 2596 = g .run-length ∙ l in
+        let y = h .saved full in
+        let z = k .saved l in
+        let read : decoded run₁ ≡ run-in (granted table frame reading run m) = sym (restored-is run₁ full) ∙ g .read-back l .1 in
+        let then : granted table frame reading₁ run₁ n ≡ further (table-of table) frame (granted table frame reading run m) n =
+        ap₂ (λ (r : Run) (rs : List ℕ). grant-of (table-of table) frame rs r n) read (g .saved l .1) in
+        let w = grants-compose (table-of table) frame reading (decoded run) m n (numbers-length plain 4 256 (drop 548 run), numbers-length plain 4 256 (drop 1572 run)) in (
+          y .0 ∙ ap (λ (x : After). number-of (answer-in x)) then ∙ w .number ∙ sym (z .0),
+          y .2 ∙ ap (λ (x : After). encoded (run-in x)) then ∙ ap encoded (w .run) ∙ sym (z .2),
+          y .1 ∙ ap reading-in then ∙ w .reading ∙ sym (z .1),
+        )
+    by false e =
+        let l : length run ≡ 2596 → ⊥ = eqb-false (length run) 2596 e in
+        let x = g .other l in
+        let y = h .other (λ z. l (sym (g .run-length) ∙ z)) in
+        let z = k .other l in
+        (y .0 ∙ sym (z .0), y .2 ∙ x .2 ∙ sym (z .2), y .1 ∙ x .1 ∙ sym (z .1))
 
 -- ---- 2
 

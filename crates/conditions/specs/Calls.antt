@@ -1,6 +1,6 @@
 -- The mission's three conditions, of the calls of a C program (`include/songrafter.h`): from what `songrafter_admit`, `songrafter_open` and
 -- `songrafter_grant` promise of any bytes and words, of any lengths (`Admits`, `Opens`, `Grants`). A name with ′ is what a call leaves of an array.
--- `proofs/Calls.antt` proves them: `calls-1`, `one-outcome`, `calls-2`, `calls-3`.
+-- `proofs/Calls.antt` proves them: `calls-1`, `one-outcome`, `one-and-many`, `calls-2`, `calls-3`.
 -- Assumes nothing.
 use Prim.Native.Nat.{ℕ, _+_, _*_, _-_, _≤_, min}
 use mathlib.Core.Path.{_≡_}
@@ -17,7 +17,7 @@ use Rattle.runs.specs.Runs.{closed-run}
 use Rattle.saved.specs.Saved.{saved-bytes, encoded, restored}
 use Rattle.matcher.specs.Conditions.{Grant, own, granted as steps-granted, kept, run-kept, reading-kept, Decided, here, Unbroken, Granted}
 use Rattle.songrafter.specs.Calls.{Admits, Opens, Grants}
-use Rattle.conditions.specs.Texts.{text-grammar, Admissible}
+use Rattle.conditions.specs.Texts.{rules-grammar, text-grammar, Admissible}
 use Rattle.conditions.specs.Refusals.{Exactly}
 use Rattle.conditions.specs.Conditions.{Exact, Claim}
 
@@ -64,6 +64,13 @@ pub record OneOutcome : Type 0 where
   pub granting : (table frame reading reading₁ reading₂ run run₁ run₂ taken taken₁ taken₂ : List ℕ) (steps m n : ℕ)
       → Grants table frame reading reading₁ run run₁ taken taken₁ steps m → Grants table frame reading reading₂ run run₂ taken taken₂ steps n
       → (m ≡ n) × (reading₁ ≡ reading₂) × (run₁ ≡ run₂) × (taken₁ ≡ taken₂)
+
+-- one call of songrafter_grant and many, over any bytes and words: m steps and then n leave the run, the reading and the number of m + n
+abbrev pub OneAndMany : Type 0
+OneAndMany =
+    (table frame reading reading₁ reading₂ reading₃ run run₁ run₂ run₃ t t₁ u u₁ v v₁ : List ℕ) (m n a b c : ℕ)
+    → Grants table frame reading reading₁ run run₁ t t₁ m a → Grants table frame reading₁ reading₂ run₁ run₂ u u₁ n b → Grants table frame reading reading₃ run run₃ v v₁ (m + n) c
+    → (b ≡ c) × (run₂ ≡ run₃) × (reading₂ ≡ reading₃)
 
 -- ---- 2. "A grammar is admitted exactly when document 01's rules admit it", and on its table a run is opened wherever it may be
 
@@ -129,7 +136,7 @@ pub record Life (text table answer answer′ frame reading run : List ℕ) : Typ
   pub weight : ℕ
   pub weight-told : 1 ≤ length answer → getD answer′ 0 0 ≡ weight
   pub admissible : Admissible text weight
-  pub claim : Claim (text-grammar (admissible .reading)) weight table frame reading
+  pub claim : Claim (rules-grammar (admissible .reading)) weight table frame reading
   pub calls : (gs : List Grant) (run′ reading′ : List ℕ) (cs : Kiosk table frame run reading gs run′ reading′)
       → Lived (text-grammar (admissible .reading)) (claim .needed) table frame run reading gs run′ reading′ cs
 

@@ -23,6 +23,7 @@ use Rattle.table.specs.Sound.{SoundTable}
 use Rattle.admission.specs.Admitted.{number-of, Answers}
 use Rattle.admission.specs.declared.Admission.{Admission}
 use Rattle.runs.specs.Runs.{After, run-in, reading-in, answer-in, grant-of, closed-run, number-of as grant-number, taken-of}
+use Rattle.runs.specs.Composing.{GrantsCompose}
 use Rattle.runs.specs.declared.Run.{Run}
 use Rattle.matcher.specs.Opening.{Answered, Opened, run-given, number-of as opening-number}
 use Rattle.matcher.specs.declared.Answer.{Answer}
@@ -61,6 +62,8 @@ pub record Condition1 : Type 0 where
   pub admitting : (text old new : List ℕ) (answer : Admission) → Answers text old new answer → TextAnswered old new answer
   pub opening-runs : (ws fs rs : List ℕ) (answer : Answer) → Answered ws fs rs answer → RunOpened answer
   pub granting : (ws fs rs : List ℕ) (run : Run) (n : ℕ) → RunGranted rs run (grant-of ws fs rs run n)
+  -- one grant and many: granting m steps and then n is granting m + n, refused or not (`runs`, `Composing`)
+  pub adding : GrantsCompose
 
 -- ---- the table of an admitted text
 

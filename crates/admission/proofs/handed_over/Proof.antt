@@ -22,17 +22,16 @@ same-length c = search needs
 
 -- src/lib.rt:150:1
 returns : tie.Need-returns
-returns c =
-    (
-      refl,
-      copied
+returns c = (
+  refl,
+  copied
       (c .before .before .before .before .before .before .before .before .args .answer)
       _
       _
       _
       (sym (c .before .before .before .before .before .is-admitted .ensures) ∙ c .before .before .before .before .if1 .taken)
       (c .before .before .copy .ensures),
-    )
+)
 
 -- src/lib.rt:150:1
 returns-2 : tie.Need-returns-2
