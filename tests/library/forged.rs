@@ -110,7 +110,7 @@ fn past_counts() {
 }
 
 // A table, right, damaged, short or random, and a frame.
-fn tables(random: &mut Random) -> (Guarded<u32>, Guarded<u8>) {
+pub fn tables(random: &mut Random) -> (Guarded<u32>, Guarded<u8>) {
     loop {
         let text = random_grammar::text(random);
         let Ok(grammar) = admit(&text) else { continue };
@@ -130,7 +130,7 @@ fn tables(random: &mut Random) -> (Guarded<u32>, Guarded<u8>) {
 }
 
 // Bytes of the run changed, or all of them; from a refused opening an open run is forged.
-fn forge(run: &mut Guarded<u8>, opened: usize, random: &mut Random) {
+pub fn forge(run: &mut Guarded<u8>, opened: usize, random: &mut Random) {
     let bytes = run.values_mut();
     if opened != 0 {
         bytes.fill(0);
