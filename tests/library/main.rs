@@ -9,6 +9,8 @@ mod forged;
 mod guarded;
 mod stack;
 mod vectors;
+mod words;
+mod words_terms;
 
 use std::path::Path;
 
