@@ -14,7 +14,7 @@ use Rattle.theory.specs.Machine.{state, position-of, captures-of, Verdict, unde
 use Rattle.theory.specs.Theorems.{step-bound, Derivable, Exact, ExactLocal, Decision}
 use Rattle.theory.specs.Scope.{Scope, localised, Lexical}
 use Rattle.theory.proofs.Theorems as Theory
-use Rattle.layout.specs.Held.{Values, opening, held}
+use Rattle.layout.specs.Held.{Context, first-context, Values, opening, held}
 use Rattle.acts.specs.Stored.{tests-of}
 use Rattle.acts.specs.Acts.{bits-of}
 use Rattle.steps.specs.Steps.{Whole, steps-of}
@@ -30,7 +30,7 @@ use Rattle.agreement.proofs.Fitting.{captures-held, position-held, valu
 both-ways : {A B C : Type 0} → A ↔ B → B ↔ C → A ↔ C
 both-ways x y = (λ a. y .0 (x .0 a), λ c. x .1 (y .1 c))
 
-module _ (ws : List ℕ) (widest : List ℤ) (weight rooms : Unit {0} → ℕ → ℕ) (r : Reliable ws widest weight rooms) (fs cs ps rs : List ℕ) (o : Opening fs cs ps rs) where
+module _ (ws : List ℕ) (widest : List ℤ) (weight rooms : Context → ℕ → ℕ) (r : Reliable ws widest weight rooms) (fs cs ps rs : List ℕ) (o : Opening fs cs ps rs) where
   abbrev w₀ : Whole
   w₀ = opening-of ws cs ps rs
 
@@ -49,7 +49,7 @@ module _ (ws : List ℕ) (widest : List ℤ) (weight rooms : Unit {0} → ℕ �
   -- it is decided within the bound, and counts each step until then
   pub record Decides : Type 0 where
     pub needed : ℕ
-    pub within-bound : needed ≤ weight tt opening * (bits-of fs + 1)
+    pub within-bound : needed ≤ weight first-context opening * (bits-of fs + 1)
     pub steps : (n : ℕ) → head-of (after n) .steps ≡ min n needed
     pub undecided-iff : (n : ℕ) → (head-of (after n) .verdict ≡ 0) ↔ (n < needed)
 
@@ -59,23 +59,23 @@ module _ (ws : List ℕ) (widest : List ℤ) (weight rooms : Unit {0} → ℕ �
       let d : Decision (held ws) (tests-of ws) weight s = Theory.bound (held ws) (tests-of ws) weight (r .hypotheses) (r .weighs) s in
       record {
         needed = d .needed;
-        within-bound = subst (λ (k : ℕ). d .needed ≤ weight tt opening * (k + 1)) (frame-length fs) (d .within-bound);
+        within-bound = subst (λ (k : ℕ). d .needed ≤ weight first-context opening * (k + 1)) (frame-length fs) (d .within-bound);
         steps = λ n. let x : taken-of (at n) - 0 ≡ min n (d .needed) = d .taken-min n in ap taken-of (agrees ws widest weight rooms r fs cs ps rs o n) ∙ omega arith;
         undecided-iff = λ n. both-ways (undecided-as (head-of (after n) .verdict)) (both-ways (same-verdict n undecided) (d .undecided-iff n));
       }
 
-  enough : (n : ℕ) → weight tt opening * (bits-of fs + 1) ≤ n → step-bound (held ws) (tests-of ws) weight s ≤ n
+  enough : (n : ℕ) → weight first-context opening * (bits-of fs + 1) ≤ n → step-bound (held ws) (tests-of ws) weight s ≤ n
   unfolding held
-  enough n l = subst (λ (k : ℕ). weight tt opening * (k + 1) ≤ n) (sym (frame-length fs)) l
+  enough n l = subst (λ (k : ℕ). weight first-context opening * (k + 1) ≤ n) (sym (frame-length fs)) l
 
   exact : Exact (held ws) (tests-of ws) weight
   exact = Theory.exact (held ws) (tests-of ws) weight (r .hypotheses) (r .weighs)
 
   -- match exactly where a derivation covers the frame, no match exactly where none does
-  pub match-iff : (n : ℕ) → weight tt opening * (bits-of fs + 1) ≤ n → (head-of (after n) .verdict ≡ 1) ↔ Derivable (held ws) s
+  pub match-iff : (n : ℕ) → weight first-context opening * (bits-of fs + 1) ≤ n → (head-of (after n) .verdict ≡ 1) ↔ Derivable (held ws) s
   match-iff n l = both-ways (matched-as (head-of (after n) .verdict)) (both-ways (same-verdict n matched) (exact .match-iff s n (enough n l)))
 
-  pub mismatch-iff : (n : ℕ) → weight tt opening * (bits-of fs + 1) ≤ n → (head-of (after n) .verdict ≡ 2) ↔ (Derivable (held ws) s → ⊥)
+  pub mismatch-iff : (n : ℕ) → weight first-context opening * (bits-of fs + 1) ≤ n → (head-of (after n) .verdict ≡ 2) ↔ (Derivable (held ws) s → ⊥)
   mismatch-iff n l = both-ways (unmatched-as (head-of (after n) .verdict) (few ws widest weight rooms r fs cs ps rs o n)) (both-ways (same-verdict n unmatched) (exact .mismatch-iff s n (enough n l)))
 
   -- with the derivation's fields in the reading, and past them the words as they were
@@ -107,14 +107,14 @@ module _ (ws : List ℕ) (widest : List ℤ) (weight rooms : Unit {0} → ℕ �
   match-end t v d n l = matched-run t v n (exact .match-end s t v d n l)
 
   -- the same of derivations whose variables are local to each opening of a rule, as document 01 has them
-  module _ {A : Type 0} (get : Values → ℕ → A) (scope : Scope) (fresh : ℕ → Unit {0} → Values → Values) (lexical : Lexical get scope fresh (held ws)) where
+  module _ {A : Type 0} (get : Values → ℕ → A) (scope : Scope) (fresh : ℕ → Context → Values → Values) (lexical : Lexical get scope fresh (held ws)) where
     local : ExactLocal (held ws) (tests-of ws) weight (localised scope fresh (held ws))
     local = Theory.exact-local (held ws) (tests-of ws) weight get scope fresh (r .hypotheses) (r .weighs) lexical
 
-    pub match-iff-local : (n : ℕ) → weight tt opening * (bits-of fs + 1) ≤ n → (head-of (after n) .verdict ≡ 1) ↔ Derivable (localised scope fresh (held ws)) s
+    pub match-iff-local : (n : ℕ) → weight first-context opening * (bits-of fs + 1) ≤ n → (head-of (after n) .verdict ≡ 1) ↔ Derivable (localised scope fresh (held ws)) s
     match-iff-local n l = both-ways (matched-as (head-of (after n) .verdict)) (both-ways (same-verdict n matched) (local .match-iff s n (enough n l)))
 
-    pub mismatch-iff-local : (n : ℕ) → weight tt opening * (bits-of fs + 1) ≤ n → (head-of (after n) .verdict ≡ 2) ↔ (Derivable (localised scope fresh (held ws)) s → ⊥)
+    pub mismatch-iff-local : (n : ℕ) → weight first-context opening * (bits-of fs + 1) ≤ n → (head-of (after n) .verdict ≡ 2) ↔ (Derivable (localised scope fresh (held ws)) s → ⊥)
     mismatch-iff-local n l = both-ways (unmatched-as (head-of (after n) .verdict) (few ws widest weight rooms r fs cs ps rs o n)) (both-ways (same-verdict n unmatched) (local .mismatch-iff s n (enough n l)))
 
     pub match-end-local : (t : Tree) (v : Values) → Derivation (localised scope fresh (held ws)) s t v → (n : ℕ) → tree-steps t ≤ n → (v′ : Values) × Derivation (held ws) s t v′ × Matched t v′ (after n)

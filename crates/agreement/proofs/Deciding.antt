@@ -22,7 +22,7 @@ use Rattle.theory.specs.Machine.{entry, state, Turn, fail, again, leave, turn, 
 use Rattle.theory.proofs.Turns.{decide}
 use Rattle.layout.specs.Places.{rule-word, rule-count}
 use Rattle.layout.specs.Constructs.{pick, both, constructAt}
-use Rattle.layout.specs.Held.{Values, HeldNode, terms-of, parts, isYes, passes-allowed, passes-static, passes-fixed, first-case, literal-bytes, bound, literal-node, range-node, uint-node, use-node, in-set, node-of, held}
+use Rattle.layout.specs.Held.{Context, first-context, Values, HeldNode, terms-of, parts, isYes, passes-allowed, passes-static, passes-fixed, first-case, literal-bytes, bound, literal-node, range-node, uint-node, use-node, in-set, node-of, held}
 use Rattle.layout.specs.declared.Construct.{Construct}
 use Rattle.layout.specs.declared.Passes.{Passes}
 use Rattle.acts.specs.Stored.{stored, prediction-at, follow-at, tests-of}
@@ -52,21 +52,21 @@ module _ (ws fs : List ℕ) (vs : List ℤ) (p i k : ℕ) (others : List HeldEnt
   abbrev pub done : Act → Option HeldState
   done Act.Broken = none
   done Act.Fail = none
-  done (Act.Enter b) = some (state (entry b tt 0 ∷ others) rest p vs rc)
-  done (Act.Members start end n) = some (state (entries tt (parts (end - start) ws start end) ++ others) rest p vs rc)
-  done (Act.Again b) = some (state (entry b tt 0 ∷ entry i tt (suc k) ∷ others) rest p vs rc)
+  done (Act.Enter b) = some (state (entry b first-context 0 ∷ others) rest p vs rc)
+  done (Act.Members start end n) = some (state (entries first-context (parts (end - start) ws start end) ++ others) rest p vs rc)
+  done (Act.Again b) = some (state (entry b first-context 0 ∷ entry i first-context (suc k) ∷ others) rest p vs rc)
   done Act.Leave = some (state others rest p vs rc)
   done (Act.Take width binder n) = some (state others (drop width rest) (p + width) (bound binder vs n) (rc ++ (record { construct = i; first-bit = p } ∷ [])))
 
   abbrev acted : HeldNode → Option HeldState
-  acted node = act (held ws) (tests-of ws) node i tt k others rest p vs rc
+  acted node = act (held ws) (tests-of ws) node i first-context k others rest p vs rc
 
   -- the theory's step on a node is this act
   pub record Does (node : HeldNode) (a : Act) : Type 0 where
     pub agrees : acted node ≡ done a
     pub members : Membered ws a
 
-  does-chosen : (node : HeldNode) (o : Option ℕ) → acted node ≡ elim o [ none ↦ none | some b ↦ some (state (entry b tt 0 ∷ others) rest p vs rc) ] → Does node (chosen-act o)
+  does-chosen : (node : HeldNode) (o : Option ℕ) → acted node ≡ elim o [ none ↦ none | some b ↦ some (state (entry b first-context 0 ∷ others) rest p vs rc) ] → Does node (chosen-act o)
   does-chosen node none e = record { agrees = e; members = tt }
   does-chosen node (some b) e = record { agrees = e; members = tt }
 
@@ -92,12 +92,12 @@ module _ (ws fs : List ℕ) (vs : List ℤ) (p i k : ℕ) (others : List HeldEnt
       let e : parts size ws (i + 1) (i + size) ≡ parts (i + size - (i + 1)) ws (i + 1) (i + size) = row-parts size (x .1) (omega arith) ∙ sym (row-parts (i + size - (i + 1)) (x .1) (omega arith)) in
       subst (Does (concatenation (parts size ws (i + 1) (i + size)))) (sym (x .2))
       (record {
-        agrees = ap (λ (is : List ℕ). some (state (entries tt is ++ others) rest p vs rc)) e;
+        agrees = ap (λ (is : List ℕ). some (state (entries first-context is ++ others) rest p vs rc)) e;
         members = (x .0, x .1, (let z : 0 + length (x .0) ≡ length (x .0) = omega arith in z));
       })
 
   does-turned : (node : HeldNode) (t : Turn)
-      → acted node ≡ elim t [ fail ↦ none | again ↦ some (state (entry (i + 1) tt 0 ∷ entry i tt (suc k) ∷ others) rest p vs rc) | leave ↦ some (state others rest p vs rc) ]
+      → acted node ≡ elim t [ fail ↦ none | again ↦ some (state (entry (i + 1) first-context 0 ∷ entry i first-context (suc k) ∷ others) rest p vs rc) | leave ↦ some (state others rest p vs rc) ]
       → Does node (turned (i + 1) t)
   does-turned node fail e = record { agrees = e; members = tt }
   does-turned node again e = record { agrees = e; members = tt }
@@ -124,8 +124,8 @@ module _ (ws fs : List ℕ) (vs : List ℤ) (p i k : ℕ) (others : List HeldEnt
       does-guarded (use-node ws r) (ltb r (rule-count ws)) (enter ws b) (does-guarded (use-node ws r) (in-table ws b) (Act.Enter b) (λ h. record { agrees = refl; members = tt }))
 
   -- a field: so many bits are left, and they are right
-  does-set : (w binder n : ℕ) (admits : Unit {0} → Values → Bits → Bool) (static : Bits → Bool) (binds : Unit {0} → Values → Bits → Values) (t : Tested)
-      → leb w (length rest) ≡ true → isYes t ≡ admits tt vs (take w rest) → bound binder vs n ≡ binds tt vs (take w rest) → Definite (by-set t w binder n)
+  does-set : (w binder n : ℕ) (admits : Context → Values → Bits → Bool) (static : Bits → Bool) (binds : Context → Values → Bits → Values) (t : Tested)
+      → leb w (length rest) ≡ true → isYes t ≡ admits first-context vs (take w rest) → bound binder vs n ≡ binds first-context vs (take w rest) → Definite (by-set t w binder n)
       → Does (field w admits static binds) (by-set t w binder n)
   unfolding act
   does-set w binder n admits static binds Tested.Yes l y b s =
@@ -139,7 +139,7 @@ module _ (ws fs : List ℕ) (vs : List ℤ) (p i k : ℕ) (others : List HeldEnt
   does-set w binder n admits static binds Tested.Malformed l y b s = absurd (s refl)
   does-set w binder n admits static binds Tested.Overflow l y b s = absurd (s refl)
 
-  does-short : (w : ℕ) (admits : Unit {0} → Values → Bits → Bool) (static : Bits → Bool) (binds : Unit {0} → Values → Bits → Values) → leb w (length rest) ≡ false → Does (field w admits static binds) Act.Fail
+  does-short : (w : ℕ) (admits : Context → Values → Bits → Bool) (static : Bits → Bool) (binds : Context → Values → Bits → Values) → leb w (length rest) ≡ false → Does (field w admits static binds) Act.Fail
   unfolding act
   does-short w admits static binds l = record { agrees = rw (l, act); members = tt }
 
@@ -147,8 +147,8 @@ module _ (ws fs : List ℕ) (vs : List ℤ) (p i k : ℕ) (others : List HeldEnt
     rest-length : length rest ≡ bits-of fs - p
     rest-length = length-drop p (frameBits fs) ∙ ap (_- p) (frame-length fs)
 
-    does-field : (w binder n : ℕ) (admits : Unit {0} → Values → Bits → Bool) (static : Bits → Bool) (binds : Unit {0} → Values → Bits → Values) (t : Tested)
-        → isYes t ≡ admits tt vs (take w rest) → bound binder vs n ≡ binds tt vs (take w rest) → Definite (pick (leb (p + w) (bits-of fs)) (by-set t w binder n) Act.Fail)
+    does-field : (w binder n : ℕ) (admits : Context → Values → Bits → Bool) (static : Bits → Bool) (binds : Context → Values → Bits → Values) (t : Tested)
+        → isYes t ≡ admits first-context vs (take w rest) → bound binder vs n ≡ binds first-context vs (take w rest) → Definite (pick (leb (p + w) (bits-of fs)) (by-set t w binder n) Act.Fail)
         → Does (field w admits static binds) (pick (leb (p + w) (bits-of fs)) (by-set t w binder n) Act.Fail)
     does-field w binder n admits static binds t y b s =
         elim (decide (leb (p + w) (bits-of fs))) [

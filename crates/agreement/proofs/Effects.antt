@@ -17,7 +17,7 @@ use Rattle.basis.proofs.Frames.{frame-length}
 use Rattle.theory.specs.Derivation.{Capture}
 use Rattle.theory.specs.Machine.{entry, state, Verdict, unmatched, verdict, run, entries}
 use Rattle.layout.specs.Constructs.{pick, both}
-use Rattle.layout.specs.Held.{Values, parts, bound}
+use Rattle.layout.specs.Held.{Context, first-context, Values, parts, bound}
 use Rattle.acts.specs.Acts.{bits-of, Doable}
 use Rattle.acts.specs.declared.Act.{Act}
 use Rattle.acts.proofs.Sizes.{both-true}
@@ -32,11 +32,11 @@ use Rattle.agreement.proofs.Deciding.{Membered, done}
 
 -- the verdict after a step
 verdict-rest : (fs : List ℕ) (p : ℕ) (vs : List ℤ) (rc : List Capture) (s : Bits) → drop p (frameBits fs) ≡ s → p ≤ bits-of fs
-    → verdict-as (pick (eqb p (bits-of fs)) 1 2) ≡ verdict {Context = Unit {0}} {Values = Values} (state [] s p vs rc)
+    → verdict-as (pick (eqb p (bits-of fs)) 1 2) ≡ verdict {Context = Context} {Values = Values} (state [] s p vs rc)
 unfolding verdict
 verdict-rest fs p vs rc s e l = by s (sym (ap length e) ∙ (length-drop p (frameBits fs) ∙ ap (_- p) (frame-length fs)))
   where
-    by : (s : Bits) → length s ≡ bits-of fs - p → verdict-as (pick (eqb p (bits-of fs)) 1 2) ≡ verdict {Context = Unit {0}} {Values = Values} (state [] s p vs rc)
+    by : (s : Bits) → length s ≡ bits-of fs - p → verdict-as (pick (eqb p (bits-of fs)) 1 2) ≡ verdict {Context = Context} {Values = Values} (state [] s p vs rc)
     by [] m = rw (eq-eqb p (bits-of fs) (omega arith))
     by (b ∷ s) m = rw (ne-eqb p (bits-of fs) (λ z. omega arith))
 
@@ -87,7 +87,7 @@ module _ (ws fs cs ps : List ℕ) (vs : List ℤ) (rs : List ℕ) (h : Head) (f 
       let z : n ≡ suc (n - 1) = omega arith in
       let lc : n - 1 < length cs = omega (arith, f .1, f .3) in
       let lp : n - 1 < length ps = omega (arith, f .1, f .4) in
-      went (set cs (n - 1) b) (set ps (n - 1) 0) vs rs n (h .position) (h .captures) (entry b tt 0 ∷ others) (recorded rs (h .captures)) (f .0)
+      went (set cs (n - 1) b) (set ps (n - 1) 0) vs rs n (h .position) (h .captures) (entry b first-context 0 ∷ others) (recorded rs (h .captures)) (f .0)
       (ap (pending (set cs (n - 1) b) (set ps (n - 1) 0)) z ∙ pending-top cs ps (n - 1) b 0 lc lp) refl
 
   does-leave : run-of fs (effect ws fs i k cs ps vs rs h Act.Leave) ≡ after σ (h .steps) (act-done Act.Leave)
@@ -106,9 +106,9 @@ module _ (ws fs cs ps : List ℕ) (vs : List ℤ) (rs : List ℕ) (h : Head) (f 
       let lp : n - 1 + length js ≤ length ps = omega (arith, f .4) in
       let q : parts (end - start) ws start end ≡ js = row-parts (end - start) (x .1) (omega arith) in
       rw t
-      (went (placed construct-put ws start end at cs) (placed passes-put ws start end at ps) vs rs at (h .position) (h .captures) (entries tt (parts (end - start) ws start end) ++ others) (recorded rs (h .captures)) (f .0)
+      (went (placed construct-put ws start end at cs) (placed passes-put ws start end at ps) vs rs at (h .position) (h .captures) (entries first-context (parts (end - start) ws start end) ++ others) (recorded rs (h .captures)) (f .0)
       (ap (λ (y : ℕ). pending (placed construct-put ws start end (n - 1 + y) cs) (placed passes-put ws start end (n - 1 + y) ps) (n - 1 + y)) e
-      ∙ (placed-pending (x .1) (n - 1) cs ps lc lp ∙ ap (λ (y : List ℕ). entries tt y ++ others) (sym q)))
+      ∙ (placed-pending (x .1) (n - 1) cs ps lc lp ∙ ap (λ (y : List ℕ). entries first-context y ++ others) (sym q)))
       refl)
 
   does-again : (b : ℕ) → Unbroken (again-done fs cs ps vs rs h k b) → run-of fs (again-done fs cs ps vs rs h k b) ≡ after σ (h .steps) (act-done (Act.Again b))
@@ -121,15 +121,15 @@ module _ (ws fs cs ps : List ℕ) (vs : List ℤ) (rs : List ℕ) (h : Head) (f 
       let lc : n < length cs = omega (arith, f .3) in
       let lp : n < length ps′ = omega (arith, f .4) in
       rw t
-      (went (set cs n b) (set ps′ n 0) vs rs (n + 1) (h .position) (h .captures) (entry b tt 0 ∷ entry i tt (suc k) ∷ others) (recorded rs (h .captures)) (f .0)
-      (ap (pending (set cs n b) (set ps′ n 0)) (add-one n) ∙ (pending-top cs ps′ n b 0 lc lp ∙ ap (λ (es : List HeldEntry). entry b tt 0 ∷ es) passed))
+      (went (set cs n b) (set ps′ n 0) vs rs (n + 1) (h .position) (h .captures) (entry b first-context 0 ∷ entry i first-context (suc k) ∷ others) (recorded rs (h .captures)) (f .0)
+      (ap (pending (set cs n b) (set ps′ n 0)) (add-one n) ∙ (pending-top cs ps′ n b 0 lc lp ∙ ap (λ (es : List HeldEntry). entry b first-context 0 ∷ es) passed))
       refl)
     where
       -- the repetition itself, one pass more
-      passed : pending cs (set ps (n - 1) (k + 1)) n ≡ entry i tt (suc k) ∷ others
+      passed : pending cs (set ps (n - 1) (k + 1)) n ≡ entry i first-context (suc k) ∷ others
       passed =
           pending-first cs (set ps (n - 1) (k + 1)) n some-entry
-          ∙ ap₂ (λ (x : ℕ) (es : List HeldEntry). entry i tt x ∷ es) (getD-set-same ps (n - 1) (k + 1) 0 (omega (arith, f .1, f .4)) ∙ add-one k)
+          ∙ ap₂ (λ (x : ℕ) (es : List HeldEntry). entry i first-context x ∷ es) (getD-set-same ps (n - 1) (k + 1) 0 (omega (arith, f .1, f .4)) ∙ add-one k)
           (pending-alike (n - 1) cs cs (set ps (n - 1) (k + 1)) ps (λ j l. refl) (alike-set (n - 1) ps (n - 1) (k + 1) (omega arith)))
 
   does-take : (width binder v : ℕ) → h .position + width ≤ bits-of fs → Unbroken (take-done fs cs ps vs rs h i width binder v)

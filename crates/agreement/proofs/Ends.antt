@@ -19,7 +19,7 @@ use Rattle.sizes.specs.declared.Sized.{Sized}
 use Rattle.theory.proofs.Turns.{decide}
 use Rattle.layout.specs.Places.{construct-word, construct-count, term-count}
 use Rattle.layout.specs.Constructs.{constructAt}
-use Rattle.layout.specs.Held.{term-words, terms-of}
+use Rattle.layout.specs.Held.{Context, term-words, terms-of}
 use Rattle.layout.specs.declared.Construct.{Construct}
 use Rattle.layout.specs.declared.Passes.{Passes}
 use Rattle.form.specs.Lists.{own-start, own-end, begins, after, after-condition, lists-begin, after-lists, lists-from}
@@ -109,7 +109,7 @@ some-counts widest ws start end h =
           let w : _≡_ {A = ℕ} 0 1 = cc in absurd (omega arith)
     ]
 
-module _ {ws : List ℕ} {widest : List ℤ} {weight rooms : Unit {0} → ℕ → ℕ} (r : Reliable ws widest weight rooms) (i : ℕ) (h : i < construct-count ws) where
+module _ {ws : List ℕ} {widest : List ℤ} {weight rooms : Context → ℕ → ℕ} (r : Reliable ws widest weight rooms) (i : ℕ) (h : i < construct-count ws) where
   ends : Ending ws i
   ends = each-ends ws (construct-count ws) 0 0 i (omega arith) (omega arith) (r .laid .lists)
 

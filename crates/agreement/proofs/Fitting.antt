@@ -17,7 +17,7 @@ use Rattle.theory.specs.Theorems.{Moment}
 use Rattle.theory.proofs.Theorems as Theory
 use Rattle.theory.proofs.Turns.{decide}
 use Rattle.structure.proofs.Facts.{lt-of-ne}
-use Rattle.layout.specs.Held.{held}
+use Rattle.layout.specs.Held.{Context, held}
 use Rattle.acts.specs.Stored.{tests-of}
 use Rattle.acts.specs.Acts.{bits-of}
 use Rattle.steps.specs.Steps.{Whole, whole, steps-of, Fits}
@@ -69,7 +69,7 @@ captures-count fs w = ap length (captures-held fs w) ∙ recorded-length (readin
 rest-count : (fs : List ℕ) (w : Whole) → length (rest-of (state-held fs w)) ≡ bits-of fs - head-of w .position
 rest-count fs (whole cs ps vs rs h) = length-drop (h .position) (frameBits fs) ∙ ap (_- h .position) (frame-length fs)
 
-module _ (ws : List ℕ) (widest : List ℤ) (weight rooms : Unit {0} → ℕ → ℕ) (r : Reliable ws widest weight rooms) (fs cs ps rs : List ℕ) (o : Opening fs cs ps rs) where
+module _ (ws : List ℕ) (widest : List ℤ) (weight rooms : Context → ℕ → ℕ) (r : Reliable ws widest weight rooms) (fs cs ps rs : List ℕ) (o : Opening fs cs ps rs) where
   abbrev w₀ : Whole
   w₀ = opening-of ws cs ps rs
 

@@ -11,7 +11,7 @@ use lib.IntN.{ℤ}
 use lib.ListN.{length, getD, length-append, length-map}
 use Rattle.theory.specs.Derivation.{Capture}
 use Rattle.theory.specs.Machine.{entry, pending-of, captures-of, Passes, state-of, entries, stepped}
-use Rattle.layout.specs.Held.{parts, held}
+use Rattle.layout.specs.Held.{Context, first-context, parts, held}
 use Rattle.acts.specs.Stored.{tests-of}
 use Rattle.acts.specs.Acts.{bits-of, actOf}
 use Rattle.acts.specs.declared.Act.{Act}
@@ -61,7 +61,7 @@ module _ (ws fs cs ps : List ℕ) (vs : List ℤ) (rs : List ℕ) (h : Head) whe
   effect-unbroken widest m (Act.Members start end n) s x p room words =
       let js : List ℕ = parts (end - start) ws start end in
       let e : js ≡ x .0 = row-parts (end - start) (x .1) (omega arith) in
-      let q : length (entries tt js ++ others) ≡ length js + (h .count - 1) = length-append (entries tt js) others ∙ ap₂ _+_ (length-map js (λ j. entry j tt 0)) (pending-length cs ps (h .count - 1)) in
+      let q : length (entries first-context js ++ others) ≡ length js + (h .count - 1) = length-append (entries first-context js) others ∙ ap₂ _+_ (length-map js (λ j. entry j first-context 0)) (pending-length cs ps (h .count - 1)) in
       let y : length js ≡ n = ap length e ∙ sym (x .2) in
       rw (le-leb (h .count + n) 257 (omega arith)) (verdict-unbroken fs (h .count - 1 + n) (h .position))
   effect-unbroken widest m (Act.Again b) s x p room words =
@@ -80,7 +80,7 @@ module _ (ws fs cs ps : List ℕ) (vs : List ℤ) (rs : List ℕ) (h : Head) whe
   step-is e b m l = rw (eq-eqb (h .verdict) 0 e, b, ne-eqb (h .count) 0 (λ z. omega arith), le-leb i 256 l)
 
   -- the theory's next state is steady, and where it has room the step is not broken
-  module _ (widest : List ℤ) {weight rooms : Unit {0} → ℕ → ℕ} (r : Reliable ws widest weight rooms) (f : Fits fs w) (e : h .verdict ≡ 0) (st : Steady ws widest (run-of fs w)) where
+  module _ (widest : List ℤ) {weight rooms : Context → ℕ → ℕ} (r : Reliable ws widest weight rooms) (f : Fits fs w) (e : h .verdict ≡ 0) (st : Steady ws widest (run-of fs w)) where
     some-entry : 0 < h .count
     some-entry = let z : 0 < length (pending cs ps (h .count)) = st .some-entry (rw e) in omega (arith, pending-length cs ps (h .count))
 

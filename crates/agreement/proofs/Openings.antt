@@ -17,7 +17,7 @@ use Rattle.theory.specs.Theorems.{Decision, Moment}
 use Rattle.theory.proofs.Theorems as Theory
 use Rattle.theory.proofs.Runs.{granted-sum}
 use Rattle.layout.specs.Places.{weight-of}
-use Rattle.layout.specs.Held.{opening, held}
+use Rattle.layout.specs.Held.{Context, first-context, opening, held}
 use Rattle.acts.specs.Stored.{tests-of}
 use Rattle.acts.specs.Acts.{bits-of}
 use Rattle.steps.specs.Steps.{Whole, whole, in-bound, step-of, steps-of, Fits}
@@ -52,7 +52,7 @@ opening-of ws cs ps rs = whole cs ps (held ws .values) rs opening-head
 pub opening-fits : (ws fs cs ps rs : List ℕ) → Opening fs cs ps rs → Fits fs (opening-of ws cs ps rs)
 opening-fits ws fs cs ps rs o = (omega arith, omega arith, omega arith, o .constructs, o .passes)
 
-module _ (ws : List ℕ) (widest : List ℤ) (weight rooms : Unit {0} → ℕ → ℕ) (r : Reliable ws widest weight rooms) (fs cs ps rs : List ℕ) (o : Opening fs cs ps rs) where
+module _ (ws : List ℕ) (widest : List ℤ) (weight rooms : Context → ℕ → ℕ) (r : Reliable ws widest weight rooms) (fs cs ps rs : List ℕ) (o : Opening fs cs ps rs) where
   abbrev w₀ : Whole
   w₀ = opening-of ws cs ps rs
 
@@ -65,7 +65,7 @@ module _ (ws : List ℕ) (widest : List ℤ) (weight rooms : Unit {0} → ℕ �
 
   opened-run : run-of fs w₀ ≡ opened (held ws) (tests-of ws) s
   unfolding pending recorded opened open-state held
-  opened-run = ap₂ (λ (i k : ℕ). run (state (entry i tt k ∷ []) s 0 (held ws .values) []) 0 undecided) (o .first) (o .none-begun)
+  opened-run = ap₂ (λ (i k : ℕ). run (state (entry i first-context k ∷ []) s 0 (held ws .values) []) 0 undecided) (o .first) (o .none-begun)
 
   abbrev fits : Fits fs w₀
   fits = opening-fits ws fs cs ps rs o
@@ -81,8 +81,8 @@ module _ (ws : List ℕ) (widest : List ℤ) (weight rooms : Unit {0} → ℕ �
       let d : Decision (held ws) (tests-of ws) weight s = Theory.bound (held ws) (tests-of ws) weight (r .hypotheses) (r .weighs) s in
       let l : n < d .needed = d .undecided-iff n .0 e in
       let t : taken-of (at n) - 0 ≡ min n (d .needed) = d .taken-min n in
-      let b : d .needed ≤ weight tt opening * (length s + 1) = d .within-bound in
-      let m : weight tt opening * (length s + 1) ≤ weight-of ws * (bits-of fs + 1) = mul-le-mul (r .weight-stored) (omega (arith, frame-length fs)) in
+      let b : d .needed ≤ weight first-context opening * (length s + 1) = d .within-bound in
+      let m : weight first-context opening * (length s + 1) ≤ weight-of ws * (bits-of fs + 1) = mul-le-mul (r .weight-stored) (omega (arith, frame-length fs)) in
       rw (le-leb (weight-of ws) 65535 (r .laid .counts .weight)) (lt-ltb (taken-of (at n)) (weight-of ws * (bits-of fs + 1)) (omega arith))
 
   moment : (n : ℕ) → Moment (held ws) (tests-of ws) weight s (state-of (at n))

@@ -7,6 +7,7 @@ use mathlib.Core.List.{List, [], _∷_, _++_}
 use lib.ListN.{length, getD, set, length-set, length-append}
 use lib.Seq.{getD-set-same, getD-set-other}
 use Rattle.theory.specs.Machine.{entry}
+use Rattle.layout.specs.Held.{first-context}
 use Rattle.agreement.specs.Runs.{pending, recorded}
 
 -- lists that agree up to n give the same entries, and the same fields
@@ -20,7 +21,7 @@ pub pending-alike : (n : ℕ) (cs cs′ ps ps′ : List ℕ) → Alike n cs cs�
 unfolding pending
 pending-alike zero cs cs′ ps ps′ a b = refl
 pending-alike (suc n) cs cs′ ps ps′ a b =
-    ap₂ _∷_ (ap₂ (λ (x y : ℕ). entry x tt y) (a n (omega arith)) (b n (omega arith)))
+    ap₂ _∷_ (ap₂ (λ (x y : ℕ). entry x first-context y) (a n (omega arith)) (b n (omega arith)))
     (pending-alike n cs cs′ ps ps′ (λ k l. a k (omega arith)) (λ k l. b k (omega arith)))
 
 pub recorded-alike : (n : ℕ) (rs rs′ : List ℕ) → Alike (2 * n) rs rs′ → recorded rs n ≡ recorded rs′ n
@@ -31,7 +32,7 @@ recorded-alike (suc n) rs rs′ a =
     (ap₂ (λ (x y : ℕ). record { construct = x; first-bit = y } ∷ []) (a (2 * n) (omega arith)) (a (2 * n + 1) (omega arith)))
 
 -- the first entry, and those after it
-pub pending-first : (cs ps : List ℕ) (n : ℕ) → 0 < n → pending cs ps n ≡ entry (getD cs (n - 1) 0) tt (getD ps (n - 1) 0) ∷ pending cs ps (n - 1)
+pub pending-first : (cs ps : List ℕ) (n : ℕ) → 0 < n → pending cs ps n ≡ entry (getD cs (n - 1) 0) first-context (getD ps (n - 1) 0) ∷ pending cs ps (n - 1)
 unfolding pending
 pending-first cs ps zero l = absurd (omega arith)
 pending-first cs ps (suc n) l = let z : suc n - 1 ≡ n = omega arith in rw z
@@ -47,10 +48,10 @@ recorded-length rs zero = refl
 recorded-length rs (suc n) = simp (length-append, recorded-length rs n) (omega arith)
 
 -- one entry written over the first, or put above it
-pub pending-top : (cs ps : List ℕ) (n i k : ℕ) → n < length cs → n < length ps → pending (set cs n i) (set ps n k) (suc n) ≡ entry i tt k ∷ pending cs ps n
+pub pending-top : (cs ps : List ℕ) (n i k : ℕ) → n < length cs → n < length ps → pending (set cs n i) (set ps n k) (suc n) ≡ entry i first-context k ∷ pending cs ps n
 unfolding pending
 pending-top cs ps n i k l m =
-    ap₂ _∷_ (ap₂ (λ (x y : ℕ). entry x tt y) (getD-set-same cs n i 0 l) (getD-set-same ps n k 0 m))
+    ap₂ _∷_ (ap₂ (λ (x y : ℕ). entry x first-context y) (getD-set-same cs n i 0 l) (getD-set-same ps n k 0 m))
     (pending-alike n (set cs n i) cs (set ps n k) ps (alike-set n cs n i (omega arith)) (alike-set n ps n k (omega arith)))
 
 -- one more field

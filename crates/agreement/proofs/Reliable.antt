@@ -19,7 +19,7 @@ use Rattle.theory.specs.Hypotheses.{Hypotheses}
 use Rattle.theory.specs.Weight.{Outweighs, Houses}
 use Rattle.layout.specs.Places.{construct-word, variable-word, construct-count, weight-of}
 use Rattle.layout.specs.Constructs.{both, constructAt}
-use Rattle.layout.specs.Held.{term-words, terms-of, opening, held}
+use Rattle.layout.specs.Held.{Context, first-context, term-words, terms-of, opening, held}
 use Rattle.layout.specs.declared.Construct.{Construct}
 use Rattle.layout.specs.declared.Passes.{Passes}
 use Rattle.form.specs.Parts.{parts-laid}
@@ -31,7 +31,7 @@ use Rattle.structure.proofs.Facts.{Laid}
 use Rattle.acts.specs.Stored.{tests-of}
 
 -- `widest` has the size of each variable, `weight` and `rooms` the weight and the room of each construct
-pub record Reliable (ws : List ℕ) (widest : List ℤ) (weight rooms : Unit {0} → ℕ → ℕ) : Type 0 where
+pub record Reliable (ws : List ℕ) (widest : List ℤ) (weight rooms : Context → ℕ → ℕ) : Type 0 where
   -- laid out as docs/TABLE.md says (`form`): constructs below the count are there, and so is all that they lead to
   pub laid : Laid ws
   -- refusal 8, "variables at their widest": 64 sizes, each the largest value of the variable's width
@@ -46,9 +46,9 @@ pub record Reliable (ws : List ℕ) (widest : List ℤ) (weight rooms : Unit {0}
       → (at : ℕ) → sizes Kind.Set widest start (terms-of ws start end) ≡ Sized.Exceeds at → ⊥
   -- refusal 7 gives weights and room (`weights`); stored weight = computed weight
   pub weighs : Outweighs (held ws) weight
-  pub weight-stored : weight tt opening ≤ weight-of ws
+  pub weight-stored : weight first-context opening ≤ weight-of ws
   pub houses : Houses (held ws) rooms
-  pub room-most : rooms tt opening ≤ 256
+  pub room-most : rooms first-context opening ≤ 256
   -- what the theory asks: 6, 7, 9, 10, and stored sets = computed sets
   pub hypotheses : Hypotheses (held ws) (tests-of ws)
 
@@ -56,7 +56,7 @@ pub record Reliable (ws : List ℕ) (widest : List ℤ) (weight rooms : Unit {0}
 formed-not : (y : Sized) → formed y ≡ true → y ≡ Sized.Malformed → ⊥
 formed-not y f e = let z : formed Sized.Malformed ≡ true = rw e at f in let w : _≡_ {A = ℕ} 0 1 = cc in omega arith
 
-module _ {ws : List ℕ} {widest : List ℤ} {weight rooms : Unit {0} → ℕ → ℕ} (r : Reliable ws widest weight rooms) where
+module _ {ws : List ℕ} {widest : List ℤ} {weight rooms : Context → ℕ → ℕ} (r : Reliable ws widest weight rooms) where
   -- before a binding values are 0, within every size
   pub zero-inside : Inside zero-values widest
   zero-inside =

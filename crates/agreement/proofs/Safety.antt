@@ -22,7 +22,7 @@ use Rattle.sizes.proofs.Theorems.{set-passes, condition-passes, counts-pass}
 use Rattle.theory.proofs.Turns.{decide}
 use Rattle.layout.specs.Places.{rule-word, construct-word, variable-word, rule-count, construct-count, variable-count, term-count}
 use Rattle.layout.specs.Constructs.{both, constructAt}
-use Rattle.layout.specs.Held.{size-of, term-words, terms-of, opening}
+use Rattle.layout.specs.Held.{Context, size-of, term-words, terms-of, opening}
 use Rattle.layout.specs.declared.Construct.{Construct}
 use Rattle.layout.specs.declared.Passes.{Passes}
 use Rattle.form.specs.Checks.{size-at}
@@ -76,7 +76,7 @@ module _ {A : Type 0} (P : A → Type 0) (visit : ℕ → A → A) (done broken 
         | inr e ↦ rw (e, walk) d
       ]
 
-module _ (ws : List ℕ) (widest : List ℤ) {weight rooms : Unit {0} → ℕ → ℕ} (r : Reliable ws widest weight rooms) (fs : List ℕ) (vs : List ℤ) (inside : Inside vs widest) (p : ℕ) where
+module _ (ws : List ℕ) (widest : List ℤ) {weight rooms : Context → ℕ → ℕ} (r : Reliable ws widest weight rooms) (fs : List ℕ) (vs : List ℤ) (inside : Inside vs widest) (p : ℕ) where
   abbrev Good : Act → Type 0
   Good = Safe ws widest
 

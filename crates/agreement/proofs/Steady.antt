@@ -18,7 +18,7 @@ use Rattle.theory.specs.Machine.{entry, state, pending-of, undecided, verdict, 
 use Rattle.theory.proofs.Turns.{decide}
 use Rattle.sizes.specs.Inside.{Below, Inside}
 use Rattle.layout.specs.Places.{construct-count}
-use Rattle.layout.specs.Held.{Values, parts, bound, held}
+use Rattle.layout.specs.Held.{Context, first-context, Values, parts, bound, held}
 use Rattle.acts.specs.Stored.{tests-of}
 use Rattle.acts.specs.declared.Act.{Act}
 use Rattle.agreement.specs.Runs.{HeldEntry, HeldState, HeldRun}
@@ -42,7 +42,7 @@ pub record Steady (ws : List ℕ) (widest : List ℤ) (r : HeldRun) : Type 0 whe
   pub some-entry : verdict-of r ≡ undecided → 0 < length (pending-of (state-of r))
 
 -- members of a construct whose end is in the table
-there-members : {ws : List ℕ} {end j : ℕ} {js : List ℕ} → Row ws end j js → end ≤ construct-count ws → (es : List HeldEntry) → There ws es → There ws (entries tt js ++ es)
+there-members : {ws : List ℕ} {end j : ℕ} {js : List ℕ} → Row ws end j js → end ≤ construct-count ws → (es : List HeldEntry) → There ws es → There ws (entries first-context js ++ es)
 there-members (Row.past l) h es t = t
 there-members (Row.part l z e r) h es t = (inr (omega arith), there-members r h es t)
 
@@ -88,7 +88,7 @@ module _ (ws : List ℕ) (widest : List ℤ) where
   steady-after fs vs p i k others rc σ n (Act.Take width binder c) here t v t₀ v₀ s m = went σ _ n t (bound-inside widest vs binder c v s)
 
   -- an opening has it
-  pub steady-opened : {weight rooms : Unit {0} → ℕ → ℕ} → Reliable ws widest weight rooms → (s : Bits) → Steady ws widest (opened (held ws) (tests-of ws) s)
+  pub steady-opened : {weight rooms : Context → ℕ → ℕ} → Reliable ws widest weight rooms → (s : Bits) → Steady ws widest (opened (held ws) (tests-of ws) s)
   unfolding opened open-state held
   steady-opened r s =
       record {

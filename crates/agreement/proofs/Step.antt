@@ -14,7 +14,7 @@ use Rattle.basis.specs.Bits.{frameBits}
 use Rattle.theory.specs.Derivation.{Capture}
 use Rattle.theory.specs.Machine.{entry, state, undecided, run, step, stepped}
 use Rattle.layout.specs.Constructs.{pick}
-use Rattle.layout.specs.Held.{held}
+use Rattle.layout.specs.Held.{first-context, held}
 use Rattle.acts.specs.Stored.{tests-of}
 use Rattle.acts.specs.Acts.{bits-of, actOf}
 use Rattle.acts.specs.declared.Act.{Act}
@@ -95,7 +95,7 @@ module _ (ws fs cs ps : List ℕ) (vs : List ℤ) (rs : List ℕ) (h : Head) whe
   unfolding step
   stepped-does l e m s =
       let d = does ws fs vs (h .position) i k others rc l s in
-      let q : pending cs ps (h .count) ≡ entry i tt k ∷ others = pending-first cs ps (h .count) m in
+      let q : pending cs ps (h .count) ≡ entry i first-context k ∷ others = pending-first cs ps (h .count) m in
       let x : step (held ws) (tests-of ws) (state-held fs w) ≡ done ws fs vs (h .position) i k others rc a =
       ap (λ (es : List HeldEntry). step (held ws) (tests-of ws) (state es (drop (h .position) (frameBits fs)) (h .position) vs rc)) q ∙ d .agrees in
       ap (λ (y : ℕ). stepped (held ws) (tests-of ws) (run (state-held fs w) (h .steps) (verdict-as y))) e

@@ -7,25 +7,25 @@ use lib.ListN.{getD, drop}
 use Rattle.basis.specs.Bits.{frameBits}
 use Rattle.theory.specs.Derivation.{Capture}
 use Rattle.theory.specs.Machine.{Entry, entry, State, state, Verdict, undecided, matched, unmatched, Run, run}
-use Rattle.layout.specs.Held.{Values}
+use Rattle.layout.specs.Held.{Context, first-context, Values}
 use Rattle.steps.specs.Steps.{Whole, whole}
 use Rattle.steps.specs.declared.Head.{Head}
 
 -- entries of the words' grammar carry nothing
 abbrev pub HeldEntry : Type 0
-HeldEntry = Entry (Unit {0})
+HeldEntry = Entry Context
 
 -- the theory's states and runs of such a grammar
 abbrev pub HeldState : Type 0
-HeldState = State (Unit {0}) Values
+HeldState = State Context Values
 
 abbrev pub HeldRun : Type 0
-HeldRun = Run (Unit {0}) Values
+HeldRun = Run Context Values
 
 -- the first n words of the two arrays as pending entries; the first entry stands last
 unfoldable pub pending : List ℕ → List ℕ → ℕ → List HeldEntry
 pending cs ps zero = []
-pending cs ps (suc n) = entry (getD cs n 0) tt (getD ps n 0) ∷ pending cs ps n
+pending cs ps (suc n) = entry (getD cs n 0) first-context (getD ps n 0) ∷ pending cs ps n
 
 -- "two words in the reading: construct number, first bit": the first n fields
 unfoldable pub recorded : List ℕ → ℕ → List Capture

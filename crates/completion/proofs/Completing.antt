@@ -14,7 +14,7 @@ use Rattle.lookahead_slices.specs.Narrow.{StandsAt}
 use Rattle.theory.specs.Lookahead.{Follow, Predicted}
 use Rattle.theory.specs.Weight.{Weighs, weigh}
 use Rattle.layout.specs.Places.{table-words, construct-count, weight-of}
-use Rattle.layout.specs.Held.{held, opening, use-node}
+use Rattle.layout.specs.Held.{Context, first-context, held, opening, use-node}
 use Rattle.acts.specs.Stored.{prediction-at, follow-at}
 use Rattle.structure.proofs.Facts.{Laid, facts}
 use Rattle.scoping.proofs.RuledLaw.{ruled}
@@ -31,12 +31,12 @@ use Rattle.soundness.proofs.PassedLocal.{sound-local}
 use Rattle.completion.specs.Completed.{SetsWritten}
 
 -- "grammar, as a use of its start rule": a weight is at least 1
-use-weighs : (ws : List ℕ) (w : Unit {0} → ℕ → ℕ) → 1 ≤ weigh w tt (use-node ws 0)
+use-weighs : (ws : List ℕ) (w : Context → ℕ → ℕ) → 1 ≤ weigh w first-context (use-node ws 0)
 unfolding weigh
 use-weighs ws w = omega arith
 
-weighs-some : (ws : List ℕ) (w : Unit {0} → ℕ → ℕ) → Weighs (held ws) w → 1 ≤ w tt opening
-weighs-some ws w k = let e : w tt opening ≡ weigh w tt (use-node ws 0) = k tt opening ∙ ap (weigh w tt) (node-opening ws opening refl) in omega (arith, e, use-weighs ws w)
+weighs-some : (ws : List ℕ) (w : Context → ℕ → ℕ) → Weighs (held ws) w → 1 ≤ w first-context opening
+weighs-some ws w k = let e : w first-context opening ≡ weigh w first-context (use-node ws 0) = k first-context opening ∙ ap (weigh w first-context) (node-opening ws opening refl) in omega (arith, e, use-weighs ws w)
 
 module _ (ws middle last follow prediction : List ℕ) (weight : ℕ) (j : Judged ws (Judgement.Passes weight)) (fs : FollowSets ws follow) (ps : PredictionSets ws prediction)
     (w : SetsWritten ws middle follow prediction (construct-count ws)) (e : last ≡ set middle 5 weight) where
@@ -48,9 +48,9 @@ module _ (ws middle last follow prediction : List ℕ) (weight : ℕ) (j : Judge
 
   some-weight : 1 ≤ weight
   some-weight =
-      let f : Unit {0} → ℕ → ℕ = λ c i. weight-at ws i in
+      let f : Context → ℕ → ℕ = λ c i. weight-at ws i in
       let k : Weighs (held ws) f = weights-exist ws (ruled ws (passed7 .laid-out)) (passed7 .acyclic) in
-      let q : f tt opening ≡ weight = j .1 f k in
+      let q : f first-context opening ≡ weight = j .1 f k in
       omega (arith, weighs-some ws f k, q)
 
   last-long : length last ≡ length ws

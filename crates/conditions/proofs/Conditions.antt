@@ -10,7 +10,7 @@ use Rattle.basis.specs.Bits.{Bits}
 use Rattle.theory.specs.Grammar.{Grammar}
 use Rattle.theory.specs.Derivation.{Tree, Derivation}
 use Rattle.layout.specs.Places.{table-of, weight-of}
-use Rattle.layout.specs.Held.{Values, held}
+use Rattle.layout.specs.Held.{Context, Values, held}
 use Rattle.acts.specs.Acts.{bits-of}
 use Rattle.admission.specs.Admitted.{Answers}
 use Rattle.admission.specs.declared.Admission.{Admission}
@@ -43,7 +43,7 @@ module _ (ws fs rs : List ℕ) (o : Opened ws fs rs) where
 matching : (text old table : List ℕ) (weight : ℕ) → Answers text old table (Admission.Admitted weight) → (x : Reading text)
     → (fs rs : List ℕ) → Opened table fs rs → (gs : List Grant) → OthersRefused table fs gs (start rs) → Exact (text-grammar x) fs rs (here table fs rs gs)
 matching text old table weight a x fs rs o gs r =
-    subst (λ (g : Grammar (Unit {0}) Values). Exact g fs rs (here table fs rs gs)) (same-grammar text old table weight a x) (exact table fs rs o gs r)
+    subst (λ (g : Grammar Context Values). Exact g fs rs (here table fs rs gs)) (same-grammar text old table weight a x) (exact table fs rs o gs r)
 
 -- one answer, of a sound table
 opens : (ws fs rs : List ℕ) (answer : Answer) → SoundTable ws → Answered ws fs rs answer → (answer ≡ Answer.Opened) ↔ ((length fs ≤ 256) × (2 * bits-of fs ≤ length rs))
@@ -57,10 +57,10 @@ condition-2 = record { admitting = exactly; opened = λ text old table weight a 
 
 pub at-most-one : AtMostOne
 at-most-one text old table weight a x =
-    subst (λ (g : Grammar (Unit {0}) Values). (s : Bits) (t t′ : Tree) (v v′ : Values) → Derivation g s t v → Derivation g s t′ v′ → t ≡ t′)
+    subst (λ (g : Grammar Context Values). (s : Bits) (t t′ : Tree) (v v′ : Values) → Derivation g s t v → Derivation g s t′ v′ → t ≡ t′)
     (same-grammar text old table weight a x) (table-at-most-one table (text-table text old table weight a .sound))
 
 pub condition-3 : Condition3
 condition-3 text old table weight a x fs rs o =
-    subst (λ (g : Grammar (Unit {0}) Values). Claim g weight table fs rs) (same-rules text old table weight a x)
+    subst (λ (g : Grammar Context Values). Claim g weight table fs rs) (same-rules text old table weight a x)
     (claim table fs rs o weight (text-table text old table weight a .weight-stored))

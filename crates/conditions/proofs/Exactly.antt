@@ -14,7 +14,7 @@ use Rattle.theory.specs.Grammar.{Grammar}
 use Rattle.theory.specs.Lookahead.{Predicted, LeastConflict}
 use Rattle.theory.specs.Weight.{Weighs}
 use Rattle.scoping.proofs.RuledLaw.{ruled}
-use Rattle.layout.specs.Held.{Values, held}
+use Rattle.layout.specs.Held.{Context, Values, held}
 use Rattle.weights.proofs.Heights.{weight-at}
 use Rattle.weights.proofs.Theorems.{weights-exist}
 use Rattle.table.specs.Judged.{Passed10}
@@ -63,7 +63,7 @@ module _ (text table : List ℕ) where
         (empty-body, refl, ((reading text table base h st (p .passed .passed .passed .passed), (q, marks st p q m, z)), below-9 text table base h st p))
     by-rule n place (RulesRefused.by-weight {st = st} p j w z) =
         let ws : List ℕ = words-of xs st in
-        let f : Unit {0} → ℕ → ℕ = λ c i. weight-at ws i in (
+        let f : Context → ℕ → ℕ = λ c i. weight-at ws i in (
           too-heavy,
           refl,
           (
@@ -100,10 +100,10 @@ module _ (text table : List ℕ) where
   -- ---- what an answer carries
 
   -- of a clash: the least window that is common in the grammar, and the branches that share it
-  abbrev Told-of : Grammar (Unit {0}) Values → ℕ → Clash → Type 0
+  abbrev Told-of : Grammar Context Values → ℕ → Clash → Type 0
   Told-of g i c = (x : Bits) × (window-in c ≡ some (window-number x)) × LeastConflict g i x × Sharing g i x c
 
-  two-have : (g : Grammar (Unit {0}) Values) (is : List ℕ) (x : Bits) (n first second : ℕ) → window-number x ≡ n → FirstHolders (Predicted g) is n first second → FirstTwo g is x first second
+  two-have : (g : Grammar Context Values) (is : List ℕ) (x : Bits) (n first second : ℕ) → window-number x ≡ n → FirstHolders (Predicted g) is n first second → FirstTwo g is x first second
   two-have g is x n first second e h =
       record {
         in-order = h .in-order;
@@ -152,7 +152,7 @@ module _ (text table : List ℕ) where
       let st : State = a .st in
       let b : Bounded (drop base text) st = a .passes .passed in
       let ws : List ℕ = words-of (drop base text) st in
-      let w : Unit {0} → ℕ → ℕ = λ c i. weight-at ws i in
+      let w : Context → ℕ → ℕ = λ c i. weight-at ws i in
       let e : Weighs (held ws) w = weights-of ws (a .passes .judged) in
       (n, refl, (reading text table base h st (b .passed .passed .passed .passed), (w, to-text text table base h st b (λ g. Weighs g w) e, a .passes .weighs w e)))
   weighed new (Admission.Refused n p) a z = absurd (omega (arith, z, refused-number text table new n p a .0))

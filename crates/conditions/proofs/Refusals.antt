@@ -11,7 +11,7 @@ use Rattle.theory.specs.Grammar.{Grammar}
 use Rattle.theory.specs.Lookahead.{EmptyBody}
 use Rattle.theory.specs.Weight.{Weighs}
 use Rattle.layout.specs.Places.{table-words}
-use Rattle.layout.specs.Held.{Values, held, opening}
+use Rattle.layout.specs.Held.{Context, first-context, Values, held, opening}
 use Rattle.rules.specs.Reaching.{Reaches}
 use Rattle.table.specs.Judged.{Passed9, Passed10}
 use Rattle.text.specs.Header.{header-of}
@@ -95,7 +95,7 @@ one-place text table too-large p q e f = both-read text TooLarge p q (λ b xs st
 one-place text table empty-body p q e f =
     both-read text EmptyBodies p q (λ b xs st x y. omega (arith, x .2, y .2, same-mark (x .0) (y .0) (x .1) (y .1))) e f
   where
-    same-mark : {g : Grammar (Unit {0}) Values} {st : State} (p q : ℕ) → LeastMark g st p → LeastMark g st q → p ≡ q
+    same-mark : {g : Grammar Context Values} {st : State} (p q : ℕ) → LeastMark g st p → LeastMark g st q → p ≡ q
     same-mark p q m n = omega (arith, m .mark, n .mark, m .least (n .construct) (n .there) (n .empty), n .least (m .construct) (m .there) (m .empty))
 one-place text table clashing p q e f =
     both-read text Clashes p q (λ b xs st x y. (let s : x .0 ≡ y .0 = least-same (HasConflict (meant xs st)) (x .0) (y .0) (x .1) (y .1) (x .2) (y .2) in let z = x .3 in let z′ = y .3 in cc)) e f
@@ -193,10 +193,10 @@ module _ (text table : List ℕ) where
         formed = p .passed .passed .passed .passed
 
         -- the words hold the text's grammar
-        pub to-text : (P : Grammar (Unit {0}) Values → Type 0) → P (held (words-of xs st)) → P (meant xs st)
+        pub to-text : (P : Grammar Context Values → Type 0) → P (held (words-of xs st)) → P (meant xs st)
         to-text P = subst P (words-hold xs st p fitting)
 
-        pub to-words : (P : Grammar (Unit {0}) Values → Type 0) → P (meant xs st) → P (held (words-of xs st))
+        pub to-words : (P : Grammar Context Values → Type 0) → P (meant xs st) → P (held (words-of xs st))
         to-words P = subst P (sym (words-hold xs st p fitting))
 
         pub below-10 : Passed9 (words-of xs st) → NoneBelow text table 10
@@ -212,4 +212,4 @@ module _ (text table : List ℕ) where
         pub below-12 : (weight : ℕ) → Passes xs st weight → NoneBelow text table 12
         below-12 weight j =
             below-next text table too-heavy (below-11 (j .judged))
-            (λ q e. (let x = read TooHeavy formed q e in let z : x .0 tt opening ≡ weight = j .weighs (x .0) (to-words (λ g. Weighs g (x .0)) (x .1)) in omega (arith, x .2, j .limited)))
+            (λ q e. (let x = read TooHeavy formed q e in let z : x .0 first-context opening ≡ weight = j .weighs (x .0) (to-words (λ g. Weighs g (x .0)) (x .1)) in omega (arith, x .2, j .limited)))

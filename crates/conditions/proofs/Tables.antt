@@ -9,7 +9,7 @@ use Rattle.theory.specs.Grammar.{Node, alternative, concatenation, repetition, 
 use Rattle.theory.specs.Scope.{local-node, localised}
 use Rattle.theory.specs.Weight.{Weighs}
 use Rattle.layout.specs.Places.{table-of}
-use Rattle.layout.specs.Held.{Values, held, opening}
+use Rattle.layout.specs.Held.{Context, first-context, Values, held, opening}
 use Rattle.scoping.specs.Scope.{scope-of, fresh}
 use Rattle.weights.proofs.Heights.{weight-at}
 use Rattle.acts.specs.Stored.{tests-of}
@@ -57,7 +57,7 @@ one-reading {text} x y =
 -- ---- of a scope, `localised` reads only which uses open a rule
 
 module _ (ws : List ℕ) where
-  node-localised : (i : ℕ) (n : Node (Unit {0}) Values) → local-node (scope-of ws) fresh i n ≡ local-node each-use fresh i n
+  node-localised : (i : ℕ) (n : Node Context Values) → local-node (scope-of ws) fresh i n ≡ local-node each-use fresh i n
   unfolding local-node
   node-localised i (alternative is) = refl
   node-localised i (concatenation is) = refl
@@ -67,7 +67,7 @@ module _ (ws : List ℕ) where
   node-localised i (field w admits static binds) = refl
   node-localised i eod = refl
 
-  localised-so : (g : Grammar (Unit {0}) Values) → localised (scope-of ws) fresh g ≡ localised each-use fresh g
+  localised-so : (g : Grammar Context Values) → localised (scope-of ws) fresh g ≡ localised each-use fresh g
   localised-so g = λ t. record { node = λ i. node-localised i (g .node i) t; start = g .start; context = g .context; values = g .values }
 
 -- ---- the words of an admitted text
@@ -92,14 +92,14 @@ module _ (text old new : List ℕ) (weight base : ℕ) (h : Headed text old base
   table-holds : held (table-of new) ≡ meant xs (p .st)
   table-holds = sym (held-local (p .table .same)) ∙ words-hold xs (p .st) (p .passes .passed) fitting
 
-  weights : (w : Unit {0} → ℕ → ℕ) → Weighs (meant xs (p .st)) w → w tt opening ≡ weight
-  weights w e = p .passes .weighs w (subst (λ (g : Grammar (Unit {0}) Values). Weighs g w) (sym (words-hold xs (p .st) (p .passes .passed) fitting)) e)
+  weights : (w : Context → ℕ → ℕ) → Weighs (meant xs (p .st)) w → w first-context opening ≡ weight
+  weights w e = p .passes .weighs w (subst (λ (g : Grammar Context Values). Weighs g w) (sym (words-hold xs (p .st) (p .passes .passed) fitting)) e)
 
   weigh-table : Weighs (held (table-of new)) (λ c i. weight-at (table-of new) i)
   weigh-table = weighed (p .table .sound)
 
   weigh-text : Weighs (meant xs (p .st)) (λ c i. weight-at (table-of new) i)
-  weigh-text = subst (λ (g : Grammar (Unit {0}) Values). Weighs g (λ c i. weight-at (table-of new) i)) table-holds weigh-table
+  weigh-text = subst (λ (g : Grammar Context Values). Weighs g (λ c i. weight-at (table-of new) i)) table-holds weigh-table
 
   table-is : TextTable text new weight
   table-is =
@@ -117,7 +117,7 @@ module _ (text old new : List ℕ) (weight base : ℕ) (h : Headed text old base
         weight-stored = sym (p .table .sound .weight (λ c i. weight-at (table-of new) i) weigh-table) ∙ weights (λ c i. weight-at (table-of new) i) weigh-text;
         weights = weights;
         weighable = (λ c i. weight-at (table-of new) i, weigh-text);
-        windows = (tests-of (table-of new), subst (λ (g : Grammar (Unit {0}) Values). Tells g (tests-of (table-of new))) table-holds (tells (trusted (table-of new) (p .table .sound) .hypotheses)));
+        windows = (tests-of (table-of new), subst (λ (g : Grammar Context Values). Tells g (tests-of (table-of new))) table-holds (tells (trusted (table-of new) (p .table .sound) .hypotheses)));
       }
 
 pub text-table : Tables

@@ -10,7 +10,7 @@ use mathlib.Core.Option.{Option, none, some}
 use lib.ListN.{length, getD, set, take, drop}
 use Rattle.theory.specs.Grammar.{Grammar}
 use Rattle.layout.specs.Places.{table-words}
-use Rattle.layout.specs.Held.{Values}
+use Rattle.layout.specs.Held.{Context, Values}
 use Rattle.acts.specs.Acts.{bits-of}
 use Rattle.steps.specs.Steps.{undecided}
 use Rattle.runs.specs.Runs.{closed-run}
@@ -124,7 +124,7 @@ EachCounts needed before run reading (other-call t f r b reading₁ run₁ taken
 
 -- after the calls: the run's bytes and the reading are those that condition 3's claim speaks of (`matcher`, `Granted`, `Unbroken`), and what
 -- songrafter_verdict, songrafter_fields and the others read in them is exact
-pub record Lived (g : Grammar (Unit {0}) Values) (needed : ℕ) (table frame run reading : List ℕ) (gs : List Grant) (run′ reading′ : List ℕ) (cs : Kiosk table frame run reading gs run′ reading′) : Type 0 where
+pub record Lived (g : Grammar Context Values) (needed : ℕ) (table frame run reading : List ℕ) (gs : List Grant) (run′ reading′ : List ℕ) (cs : Kiosk table frame run reading gs run′ reading′) : Type 0 where
   pub run-is : run′ ≡ encoded (run-kept (here table frame reading gs))
   pub read-back : restored run′ ≡ run-kept (here table frame reading gs)
   pub reading-is : reading′ ≡ reading-kept (here table frame reading gs)

@@ -15,7 +15,7 @@ use Rattle.theory.specs.Machine.{Tests}
 use Rattle.theory.specs.Theorems.{Derivable}
 use Rattle.theory.specs.Weight.{Weighs}
 use Rattle.layout.specs.Places.{table-words, table-of, weight-of}
-use Rattle.layout.specs.Held.{Values, held, opening}
+use Rattle.layout.specs.Held.{Context, first-context, Values, held, opening}
 use Rattle.acts.specs.Acts.{bits-of}
 use Rattle.steps.specs.Steps.{undecided, matched, unmatched}
 use Rattle.agreement.specs.Runs.{words-of}
@@ -74,8 +74,8 @@ pub record TextTable (text new : List ℕ) (weight : ℕ) : Type 0 where
   pub sound : SoundTable new
   pub holds : held (table-of new) ≡ rules-grammar (admissible .reading)
   pub weight-stored : weight-of (table-of new) ≡ weight
-  pub weights : (w : Unit {0} → ℕ → ℕ) → Weighs (rules-grammar (admissible .reading)) w → w tt opening ≡ weight
-  pub weighable : (w : Unit {0} → ℕ → ℕ) × Weighs (rules-grammar (admissible .reading)) w
+  pub weights : (w : Context → ℕ → ℕ) → Weighs (rules-grammar (admissible .reading)) w → w first-context opening ≡ weight
+  pub weighable : (w : Context → ℕ → ℕ) × Weighs (rules-grammar (admissible .reading)) w
   -- its windows can be told
   pub windows : (tests : Tests) × Tells (rules-grammar (admissible .reading)) tests
 
@@ -98,7 +98,7 @@ OneTable =
 -- whole frame, and its reading lists that derivation's fields."
 
 -- of the run and the reading `k` after some grants, a reading that was `rs` before
-pub record Exact (g : Grammar (Unit {0}) Values) (fs rs : List ℕ) (k : Kept) : Type 0 where
+pub record Exact (g : Grammar Context Values) (fs rs : List ℕ) (k : Kept) : Type 0 where
   pub match-iff : Decided (run-kept k) → (run-kept k .verdict ≡ matched) ↔ Derivable g (frameBits fs)
   pub no-match-iff : Decided (run-kept k) → (run-kept k .verdict ≡ unmatched) ↔ (Derivable g (frameBits fs) → ⊥)
   -- the fields' words, and the words beyond as they were
@@ -124,7 +124,7 @@ AtMostOne = (text old table : List ℕ) (weight : ℕ) → Answers text old tabl
     → (s : Bits) (t t′ : Tree) (v v′ : Values) → Derivation (text-grammar x) s t v → Derivation (text-grammar x) s t′ v′ → t ≡ t′
 
 -- of a run on a table, a frame and a reading; the table is that of a text with this grammar and weight
-pub record Claim (g : Grammar (Unit {0}) Values) (weight : ℕ) (ws fs rs : List ℕ) : Type 0 where
+pub record Claim (g : Grammar Context Values) (weight : ℕ) (ws fs rs : List ℕ) : Type 0 where
   pub needed : ℕ
   pub within-bound : needed ≤ weight * (bits-of fs + 1)
   -- run, reading and count are what the steps granted in all make of them (`matcher`, `Granted`)

@@ -12,7 +12,7 @@ use Rattle.theory.specs.Grammar.{alternative, Grammar, _∈_}
 use Rattle.theory.specs.Lookahead.{Predicted, Conflict, LeastConflict, EmptyBody}
 use Rattle.theory.specs.Weight.{Weighs}
 use Rattle.layout.specs.Places.{table-words}
-use Rattle.layout.specs.Held.{Values, opening}
+use Rattle.layout.specs.Held.{Context, first-context, Values, opening}
 use Rattle.rules.specs.Reaching.{Reaches}
 use Rattle.text.specs.Header.{header-of}
 use Rattle.text.specs.declared.Heading.{Heading}
@@ -57,11 +57,11 @@ number too-heavy = 11
 -- ---- 5 to 11, of what is read of the rules `xs`, which begin at `base`
 
 -- construct i has a clash, whichever its window is
-abbrev pub HasConflict : Grammar (Unit {0}) Values → ℕ → Type 0
+abbrev pub HasConflict : Grammar Context Values → ℕ → Type 0
 HasConflict g i = (x : Bits) × Conflict g i x
 
 -- "the repetition mark": the least among the constructs with such a body
-pub record LeastMark (g : Grammar (Unit {0}) Values) (st : State) (p : ℕ) : Type 0 where
+pub record LeastMark (g : Grammar Context Values) (st : State) (p : ℕ) : Type 0 where
   pub construct : ℕ
   pub there : construct < nodes-of st
   pub empty : EmptyBody g construct
@@ -95,23 +95,23 @@ module _ (base : ℕ) (xs : List ℕ) (st : State) (p : ℕ) where
 
   -- "weight over 65,535", at the "start rule"
   abbrev pub TooHeavy : Type 0
-  TooHeavy = (w : Unit {0} → ℕ → ℕ) × Weighs (meant xs st) w × (65535 < w tt opening) × (p ≡ base + named-at (rule-words st) 0)
+  TooHeavy = (w : Context → ℕ → ℕ) × Weighs (meant xs st) w × (65535 < w first-context opening) × (p ≡ base + named-at (rule-words st) 0)
 
 -- ---- what an answer carries beside its number and place
 
 -- "Weight: … grammar, as a use of its start rule": it is n
 abbrev pub Weight : (base : ℕ) → List ℕ → State → (n : ℕ) → Type 0
-Weight base xs st n = (w : Unit {0} → ℕ → ℕ) × Weighs (meant xs st) w × (w tt opening ≡ n)
+Weight base xs st n = (w : Context → ℕ → ℕ) × Weighs (meant xs st) w × (w first-context opening ≡ n)
 
 -- the first two of these branches, in text order, that have the window
-pub record FirstTwo (g : Grammar (Unit {0}) Values) (is : List ℕ) (x : Bits) (first second : ℕ) : Type 0 where
+pub record FirstTwo (g : Grammar Context Values) (is : List ℕ) (x : Bits) (first second : ℕ) : Type 0 where
   pub in-order : first < second
   pub first-has : (first ∈ is) × Predicted g first x
   pub second-has : (second ∈ is) × Predicted g second x
   pub others : (j : ℕ) → j ∈ is → Predicted g j x → (j ≡ first) ⊎ (second ≤ j)
 
 -- the branches that an answer names; a repetition's go and stop have no names
-abbrev pub Sharing : Grammar (Unit {0}) Values → ℕ → Bits → Clash → Type 0
+abbrev pub Sharing : Grammar Context Values → ℕ → Bits → Clash → Type 0
 Sharing g i x Clash.None = ⊥
 Sharing g i x (Clash.Branches window first second) = (is : List ℕ) × (g .node i ≡ alternative is) × FirstTwo g is x first second
 Sharing g i x (Clash.Passes window) = (is : List ℕ) → g .node i ≡ alternative is → ⊥

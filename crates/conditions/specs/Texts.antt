@@ -7,7 +7,7 @@ use mathlib.Core.List.{List, []}
 use lib.ListN.{length, drop}
 use Rattle.theory.specs.Grammar.{Grammar}
 use Rattle.theory.specs.Scope.{Scope, localised}
-use Rattle.layout.specs.Held.{Values}
+use Rattle.layout.specs.Held.{Context, Values}
 use Rattle.scoping.specs.Scope.{fresh}
 use Rattle.text.specs.Header.{header-of}
 use Rattle.text.specs.declared.Heading.{Heading}
@@ -26,11 +26,11 @@ pub record Reading (text : List ℕ) : Type 0 where
   pub formed : form (drop base text) ≡ right st
 
 -- the grammar that they mean (crate `meaning`)
-abbrev pub meant : List ℕ → State → Grammar (Unit {0}) Values
+abbrev pub meant : List ℕ → State → Grammar Context Values
 meant xs st = grammar-of xs (node-words st) (term-words st) (rule-words st) (nodes-of st) (rules-of st)
 
 -- that of a text: one value for each binder, as a run keeps them
-abbrev pub rules-grammar : {text : List ℕ} → Reading text → Grammar (Unit {0}) Values
+abbrev pub rules-grammar : {text : List ℕ} → Reading text → Grammar Context Values
 rules-grammar {text} x = meant (drop (x .base) text) (x .st)
 
 -- its sets, counts and cases mean what the trees mean whose postfix order its terms are (crates `meaning`, `trees`), at values for which no calculation
@@ -44,7 +44,7 @@ abbrev pub each-use : Scope
 each-use = record { sees = λ i. []; binds = λ i. []; opens-rule = λ i. true; enters-with = λ i. [] }
 
 -- the text's grammar: its rules as read, with variables local to a rule
-abbrev pub text-grammar : {text : List ℕ} → Reading text → Grammar (Unit {0}) Values
+abbrev pub text-grammar : {text : List ℕ} → Reading text → Grammar Context Values
 text-grammar x = localised each-use fresh (rules-grammar x)
 
 -- document 01's rules admit the text, with this weight: 1 to 8,192 bytes, header and form right, and the rules pass 5 to 11

@@ -13,7 +13,7 @@ use Rattle.theory.specs.Derivation.{construct}
 use Rattle.theory.specs.Lookahead.{First, Follow, Predicted, Continues, Conflict, EmptyBody}
 use Rattle.layout.specs.Places.{construct-count}
 use Rattle.layout.specs.Constructs.{constructAt}
-use Rattle.layout.specs.Held.{Values, HeldNode, held, node-of, passes-allowed, passes-static, passes-fixed}
+use Rattle.layout.specs.Held.{Context, Values, HeldNode, held, node-of, passes-allowed, passes-static, passes-fixed}
 use Rattle.layout.specs.declared.Construct.{Construct}
 use Rattle.layout.specs.declared.Passes.{Passes}
 use Rattle.structure.proofs.Facts.{Laid}
@@ -112,7 +112,7 @@ module _ (ws : List ℕ) (i : ℕ) where
   )
   branching F is e f (Clash.Passes window) h = absurd h
 
-  module _ {counts : Unit {0} → Values → Counts} {static : Counts} (b : ℕ) (e : held ws .node i ≡ repetition counts static false b) (A B : Bits → Type 0)
+  module _ {counts : Context → Values → Counts} {static : Counts} (b : ℕ) (e : held ws .node i ≡ repetition counts static false b) (A B : Bits → Type 0)
       (f : (x : Bits) → Common A B x ↔ (Continues (held ws) i b x × Follow (held ws) i x)) where
     turning : (r : Clash) → Turning A B r → Answered ws i r
     turning Clash.None h = none-by _ e (λ x c. h x (f x .1 c))

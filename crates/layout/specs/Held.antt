@@ -23,13 +23,21 @@ use Rattle.layout.specs.Constructs.{pick, both, constructAt}
 use Rattle.layout.specs.declared.Construct.{Construct}
 use Rattle.layout.specs.declared.Passes.{Passes}
 
--- the values of the 64 variables, 0 before a binding; entries carry nothing
+-- what a pending entry carries: nothing
+abbrev pub Context : Type 0
+Context = Unit {0}
+
+-- what the opening use carries
+abbrev pub first-context : Context
+first-context = tt
+
+-- the values of the 64 variables, 0 before a binding
 abbrev pub Values : Type 0
 Values = List ℤ
 
 -- a node of such a grammar
 abbrev pub HeldNode : Type 0
-HeldNode = Node (Unit {0}) Values
+HeldNode = Node Context Values
 
 -- the words of the terms
 abbrev pub term-words : List ℕ → List ℕ
@@ -176,12 +184,12 @@ abbrev pub opening : ℕ
 opening = 256
 
 -- the constructs by number and the opening use; "the rest 0"
-unfoldable pub held : List ℕ → Grammar (Unit {0}) Values
+unfoldable pub held : List ℕ → Grammar Context Values
 unfolding node-of
 held ws =
     record {
       node = λ i. pick (eqb i opening) (use-node ws 0) (node-of ws i (constructAt ws i));
       start = opening;
-      context = tt;
+      context = first-context;
       values = replicate 64 (pos 0);
     }

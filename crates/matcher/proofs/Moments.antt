@@ -17,7 +17,7 @@ use Rattle.theory.specs.Scope.{localised}
 use Rattle.theory.specs.Theorems.{Derivable}
 use Rattle.layout.specs.Places.{table-words, table-of, construct-count, weight-of}
 use Rattle.layout.specs.Constructs.{pick}
-use Rattle.layout.specs.Held.{Values, opening, held}
+use Rattle.layout.specs.Held.{Context, Values, opening, held}
 use Rattle.scoping.specs.Scope.{value-of, scope-of, fresh}
 use Rattle.weights.proofs.Heights.{weight-at}
 use Rattle.weights.proofs.Rooms.{rooms}
@@ -128,7 +128,7 @@ module _ (ws fs rs : List ℕ) (o : Opened ws fs rs) where
 
   -- ---- the derivations of the table's grammar
 
-  abbrev pub local : Grammar (Unit {0}) Values
+  abbrev pub local : Grammar Context Values
   local = localised (scope-of table) fresh (held table)
 
   module _ (m : ℕ) (decided : head-in (at m) .verdict ≡ 0 → ⊥) where

@@ -18,12 +18,12 @@ use Rattle.theory.specs.Derivation.{Capture}
 use Rattle.theory.specs.Hypotheses.{Static, Hypotheses}
 use Rattle.theory.specs.Machine.{Tests, entry, state, fail, again, leave, by-lookahead, turn, choose, act, step, undecided, matched, unmatched, verdict, run, stepped, opened, granted}
 use Rattle.theory.proofs.Turns.{decide}
-use Rattle.layout.specs.Held.{Values, HeldNode}
+use Rattle.layout.specs.Held.{Context, Values, HeldNode}
 use Rattle.agreement.specs.Runs.{HeldEntry, HeldState, HeldRun}
 use Rattle.matcher.specs.Windows.{Tells}
 
 -- what the theory asks of lookups is this
-pub tells : {g : Grammar (Unit {0}) Values} {tests : Tests} → Hypotheses g tests → Tells g tests
+pub tells : {g : Grammar Context Values} {tests : Tests} → Hypotheses g tests → Tells g tests
 tells h = record { branch = h .predicts-exact; go = h .continues-exact; stop = h .exits-exact }
 
 same-test : {A : Type 0} (a b : Bool) → (a ≡ true) ↔ A → (b ≡ true) ↔ A → a ≡ b
@@ -53,8 +53,8 @@ fixed-turn (within low more) one k a b c d =
       ]
     ]
 
-module _ (g : Grammar (Unit {0}) Values) (static : Static g) (a b : Tests) (x : Tells g a) (y : Tells g b) where
-  same-turn : (i k body : ℕ) (counts : Unit {0} → Values → Counts) (all : Counts) (fixed : Bool) → g .node i ≡ repetition counts all fixed body → (c : Unit {0}) (v : Values) (s : Bits)
+module _ (g : Grammar Context Values) (static : Static g) (a b : Tests) (x : Tells g a) (y : Tells g b) where
+  same-turn : (i k body : ℕ) (counts : Context → Values → Counts) (all : Counts) (fixed : Bool) → g .node i ≡ repetition counts all fixed body → (c : Context) (v : Values) (s : Bits)
       → turn (counts c v) k (a .continues i (lookahead s)) (a .exits i (lookahead s)) ≡ turn (counts c v) k (b .continues i (lookahead s)) (b .exits i (lookahead s))
   same-turn i k body counts all true q c v s = fixed-turn (counts c v) (static .fixed-once q c v) k _ _ _ _
   same-turn i k body counts all false q c v s =
@@ -63,7 +63,7 @@ module _ (g : Grammar (Unit {0}) Values) (static : Static g) (a b : Tests) (x : 
       (same-test (a .continues i (lookahead s)) (b .continues i (lookahead s)) (x .go q (lookahead s) l) (y .go q (lookahead s) l))
       (same-test (a .exits i (lookahead s)) (b .exits i (lookahead s)) (x .stop q (lookahead s) l) (y .stop q (lookahead s) l))
 
-  same-act : (n : HeldNode) (i : ℕ) → g .node i ≡ n → (c : Unit {0}) (k : ℕ) (others : List HeldEntry) (s : Bits) (p : ℕ) (v : Values) (cs : List Capture)
+  same-act : (n : HeldNode) (i : ℕ) → g .node i ≡ n → (c : Context) (k : ℕ) (others : List HeldEntry) (s : Bits) (p : ℕ) (v : Values) (cs : List Capture)
       → act g a n i c k others s p v cs ≡ act g b n i c k others s p v cs
   unfolding act
   same-act (alternative is) i q c k others s p v cs =

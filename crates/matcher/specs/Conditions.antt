@@ -14,7 +14,7 @@ use Rattle.theory.specs.Machine.{Tests, opened, granted as granted-steps}
 use Rattle.theory.specs.Scope.{localised}
 use Rattle.theory.specs.Theorems.{Derivable}
 use Rattle.layout.specs.Places.{table-of, weight-of}
-use Rattle.layout.specs.Held.{Values, held}
+use Rattle.layout.specs.Held.{Context, Values, held}
 use Rattle.scoping.specs.Scope.{scope-of, fresh}
 use Rattle.acts.specs.Acts.{bits-of}
 use Rattle.steps.specs.Steps.{undecided, matched, unmatched, broken, steps-of}
@@ -116,7 +116,7 @@ run-after ws fs (handing rs n ∷ hs) run = run-after ws fs hs (run-in (grant-of
 -- ---- what is claimed
 
 -- the grammar that a table holds: "Variables are local to a rule."
-abbrev pub grammar-of : List ℕ → Grammar (Unit {0}) Values
+abbrev pub grammar-of : List ℕ → Grammar Context Values
 grammar-of ws = localised (scope-of (table-of ws)) fresh (held (table-of ws))
 
 -- "the run as opened and the reading's words as they then were, whatever they were"
@@ -182,7 +182,7 @@ module _ (ws fs : List ℕ) (hs : List Handing) where
         → (run-in (further zs n) ≡ run-in (further zs′ n)) × (answer-in (further zs n) ≡ answer-in (further zs′ n))
 
 -- The run and its fields after the list are what document 01's steps (crate `theory`, `Machine`) make of a grammar, however its windows are looked up.
-pub record BySteps (g : Grammar (Unit {0}) Values) (ws fs rs : List ℕ) (gs : List Grant) : Type 0 where
+pub record BySteps (g : Grammar Context Values) (ws fs rs : List ℕ) (gs : List Grant) : Type 0 where
   -- of undecided, match and no match: of other verdicts the theory's machine knows nothing
   pub verdict : run-kept (here ws fs rs gs) .verdict ≤ unmatched
   pub made : (tests : Tests) → Tells g tests

@@ -15,7 +15,7 @@ use Rattle.text.proofs.Tests.{which}
 use Rattle.theory.specs.Grammar.{alternative, use-of}
 use Rattle.layout.specs.Places.{construct-word}
 use Rattle.layout.specs.Constructs.{pick, constructOf, constructAt}
-use Rattle.layout.specs.Held.{use-node, node-of, opening, held}
+use Rattle.layout.specs.Held.{first-context, use-node, node-of, opening, held}
 use Rattle.layout.specs.declared.Construct.{Construct}
 use Rattle.shapes.specs.Stored.{Stored}
 use Rattle.shapes.specs.Placed.{Placed}
@@ -54,4 +54,4 @@ module _ {xs ns ts rs : List ℕ} {n t b r : ℕ} (text : Readable xs ns ts rs n
 
   pub holds-text : held (encoded xs ns ts rs n r) ≡ grammar-of xs ns ts rs n r
   unfolding held grammar-of
-  holds-text = λ t. record { node = λ i. pick (eqb i opening) (opening-is t) (node-is i t); start = opening; context = tt; values = replicate 64 (pos 0) }
+  holds-text = λ t. record { node = λ i. pick (eqb i opening) (opening-is t) (node-is i t); start = opening; context = first-context; values = replicate 64 (pos 0) }

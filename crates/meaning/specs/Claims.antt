@@ -21,7 +21,7 @@ use Rattle.trees.specs.Postfix.{setTerms, conditionTerms, repeatTerms}
 use Rattle.theory.specs.Grammar.{_∈_, repetition, switch, field}
 use Rattle.theory.specs.Machine.{choose}
 use Rattle.layout.specs.Constructs.{pick}
-use Rattle.layout.specs.Held.{Values, HeldNode}
+use Rattle.layout.specs.Held.{Context, Values, HeldNode}
 use Rattle.naming.specs.Words.{node-word, kind-of, is-binder}
 use Rattle.encoding.specs.Numbers.{binders-before, width-of}
 use Rattle.meaning.specs.Meaning.{counted, parts-of, own-list, condition-list, is-default, grammar-of}
@@ -44,12 +44,12 @@ CountsFit list v = Fits (λ w. ofTally (counted Mode.Sizes w list)) v
 
 -- a node is a uint of this width with the set of this list; where it binds, it binds this variable
 pub record UintMeans (node : HeldNode) (width : ℕ) (list : List Term) (binds : Bool) (variable : ℕ) : Type 0 where
-  pub admits : Unit {0} → Values → Bits → Bool
+  pub admits : Context → Values → Bits → Bool
   pub static : Bits → Bool
   pub node-is : node ≡ field width admits static (λ c v bits. pick binds (set v variable (pos (value bits))) v)
   pub tree : ValueSet
   pub list-is : list ≡ setTerms tree
-  pub admitted : (c : Unit {0}) (v : Values) (bits : Bits) → ListFits Kind.Set list v → admits c v bits ≡ has v tree (pos (value bits))
+  pub admitted : (c : Context) (v : Values) (bits : Bits) → ListFits Kind.Set list v → admits c v bits ≡ has v tree (pos (value bits))
   -- "a set with a variable counting as `~`"
   pub at-first : (v : Values) (bits : Bits) → ListFits Kind.Set list v → static bits ≡ pick (hasVariable list) true (has v tree (pos (value bits)))
 
@@ -62,13 +62,13 @@ is-exact (spanning a b) = false
 
 -- a node is a repetition of this body with the counts of this list
 pub record CountsMean (node : HeldNode) (list : List Term) (body : ℕ) : Type 0 where
-  pub counts : Unit {0} → Values → Counts
+  pub counts : Context → Values → Counts
   pub static : Counts
   pub fixed : Bool
   pub node-is : node ≡ repetition counts static fixed body
   pub tree : Repeats
   pub list-is : list ≡ repeatTerms tree
-  pub allowed : (c : Unit {0}) (v : Values) → CountsFit list v → counts c v ≡ repeats v tree
+  pub allowed : (c : Context) (v : Values) → CountsFit list v → counts c v ≡ repeats v tree
   -- "counts with a variable allowing all"
   pub at-first : (v : Values) → CountsFit list v → static ≡ pick (hasVariable list) zero-or-more (repeats v tree)
   pub fixed-is : fixed ≡ is-exact tree
@@ -91,12 +91,12 @@ DefaultLast ns (c ∷ d ∷ cs) = (is-default ns c ≡ false) × DefaultLast ns 
 
 -- a node is a switch of these cases: "takes its first true case, else the default"
 pub record SwitchMeans (xs ns ts rs : List ℕ) (r : ℕ) (node : HeldNode) (cases : List ℕ) : Type 0 where
-  pub chosen : Unit {0} → Values → Option ℕ
+  pub chosen : Context → Values → Option ℕ
   pub node-is : node ≡ switch chosen cases
   pub default-last : DefaultLast ns cases
   pub guard : ℕ → Option Condition
   pub guards : (b : ℕ) → b ∈ cases → Guards xs ns ts rs r b (guard b)
-  pub takes : (c : Unit {0}) (v : Values) → ((b : ℕ) → b ∈ cases → is-default ns b ≡ false → ListFits Kind.Condition (condition-list xs ns ts rs r b) v)
+  pub takes : (c : Context) (v : Values) → ((b : ℕ) → b ∈ cases → is-default ns b ≡ false → ListFits Kind.Condition (condition-list xs ns ts rs r b) v)
       → chosen c v ≡ choose (λ b. met v (guard b)) cases
 
 -- Sets, counts and cases of what is read (n nodes, r rules) mean what the trees of document 01's forms mean (crate `trees`).

@@ -22,7 +22,7 @@ use Rattle.evaluation.specs.declared.Form.{Form}
 use Rattle.evaluation.specs.declared.Tally.{Tally}
 use Rattle.theory.specs.Grammar.{alternative, concatenation, repetition, switch, use-of, field, eod, Grammar}
 use Rattle.layout.specs.Constructs.{pick}
-use Rattle.layout.specs.Held.{Values, HeldNode, allowed, isYes, isExact, literal-node, range-node, opening}
+use Rattle.layout.specs.Held.{Context, first-context, Values, HeldNode, allowed, isYes, isExact, literal-node, range-node, opening}
 use Rattle.shapes.specs.TermShapes.{read-terms, rename-term}
 use Rattle.naming.specs.Words.{node-word, kind-of, place-of, is-binder, first-node}
 use Rattle.encoding.specs.Numbers.{rule-of, first-at, binders-before, variable-of, width-of}
@@ -137,12 +137,12 @@ module _ (xs ns ts rs : List ℕ) (r : ℕ) where
       (alternative [])))))))))
 
 -- "The first is the start rule": its opening use is number 256. Of n nodes no number from n on is one: nothing derives it.
-unfoldable pub grammar-of : (xs ns ts rs : List ℕ) → (n r : ℕ) → Grammar (Unit {0}) Values
+unfoldable pub grammar-of : (xs ns ts rs : List ℕ) → (n r : ℕ) → Grammar Context Values
 unfolding meant-node
 grammar-of xs ns ts rs n r =
     record {
       node = λ i. pick (eqb i opening) (opened rs 0) (pick (ltb i n) (meant-node xs ns ts rs r i) (alternative []));
       start = opening;
-      context = tt;
+      context = first-context;
       values = replicate 64 (pos 0);
     }

@@ -18,7 +18,7 @@ use Rattle.theory.proofs.Theorems.{local}
 use Rattle.theory.proofs.Turns.{decide}
 use Rattle.layout.specs.Places.{rule-count, construct-count}
 use Rattle.layout.specs.Constructs.{constructAt}
-use Rattle.layout.specs.Held.{Values, HeldNode, use-node, node-of, opening, held}
+use Rattle.layout.specs.Held.{Context, Values, HeldNode, use-node, node-of, opening, held}
 use Rattle.layout.specs.declared.Construct.{Construct}
 use Rattle.form.specs.Rules.{binder-of}
 use Rattle.form.specs.Laid.{laid}
@@ -41,7 +41,7 @@ Entered ws i (alternative is) = Unit {0}
 Entered ws i (concatenation is) = Unit {0}
 Entered ws i (repetition counts static fixed b) = Unit {0}
 Entered ws i (switch chosen is) = Unit {0}
-Entered ws i (use-of enters opens closes b) = (c : Unit {0}) (v v′ : Values) → Agree value-of (seen-at ws i) v v′ → Agree value-of (seen-at ws b) (opens c v) (fresh i c v′)
+Entered ws i (use-of enters opens closes b) = (c : Context) (v v′ : Values) → Agree value-of (seen-at ws i) v v′ → Agree value-of (seen-at ws b) (opens c v) (fresh i c v′)
 Entered ws i (field w admits static binds) = Unit {0}
 Entered ws i eod = Unit {0}
 

@@ -10,7 +10,7 @@ use lib.ListN.{length, getD, replicate}
 use Rattle.theory.specs.Scope.{Scope}
 use Rattle.layout.specs.Places.{rule-count}
 use Rattle.layout.specs.Constructs.{pick, both, constructAt}
-use Rattle.layout.specs.Held.{Values}
+use Rattle.layout.specs.Held.{Context, Values}
 use Rattle.form.specs.Rules.{body, rule-end, binder-of}
 
 -- "A run holds a position, a to-do list, variable values": the value of a name. Names are as a construct's words have them, 1 + the variable.
@@ -20,7 +20,7 @@ value-of v zero = pos (length v)
 value-of v (suc x) = getD v x (pos 0)
 
 -- "Variables are local to a rule": it opens with its variables all 0, whatever they are at its use, as a run opens with "the rest 0".
-abbrev pub fresh : ℕ → Unit {0} → Values → Values
+abbrev pub fresh : ℕ → Context → Values → Values
 fresh i c v = replicate (length v) (pos 0)
 
 -- what a construct of this binder word binds

@@ -9,7 +9,7 @@ use lib.ListN.{length, drop}
 use Rattle.theory.specs.Grammar.{Grammar}
 use Rattle.theory.specs.Weight.{Weighs}
 use Rattle.layout.specs.Places.{table-words}
-use Rattle.layout.specs.Held.{Values}
+use Rattle.layout.specs.Held.{Context, Values}
 use Rattle.parsing.specs.Store.{State}
 use Rattle.admission.specs.Admitted.{place-in, number-of, Headed, Answers}
 use Rattle.admission.specs.declared.Admission.{Admission}
@@ -69,7 +69,7 @@ module _ (rules : String) (st : State) (weight : ℕ) (p : Passing rules st weig
   admitted-as new (Admission.Admitted w) a e =
       let t : TextTable text new w = text-table text old new w a in
       let (f, h) = t .weighable in
-      ap Admission.Admitted (sym (t .weights f h) ∙ p .weighs f (subst (λ (g : Grammar (Unit {0}) Values). Weighs g f) (same-meant rules st (p .formed) (t .admissible .reading)) h))
+      ap Admission.Admitted (sym (t .weights f h) ∙ p .weighs f (subst (λ (g : Grammar Context Values). Weighs g f) (same-meant rules st (p .formed) (t .admissible .reading)) h))
   admitted-as new (Admission.Refused n q) a e = absurd (omega (arith, e, refused-number text old new n q a .0))
   admitted-as new (Admission.Conflict q construct clash) a e = absurd (omega arith)
 

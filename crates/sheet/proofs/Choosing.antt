@@ -25,7 +25,7 @@ use Rattle.theory.proofs.Inversion.{First-of, FirstBy, first-by, Keeps, follow-
 use Rattle.theory.proofs.Sheet.Sets.{Exactly, only-one, decides, apart, apart-true}
 use Rattle.theory.proofs.Sheet.Ones.{one, two, continuing, continues-ones}
 use Rattle.layout.specs.Constructs.{pick, both}
-use Rattle.layout.specs.Held.{Values, HeldNode, opening}
+use Rattle.layout.specs.Held.{Context, first-context, Values, HeldNode, opening}
 use Rattle.sheet.specs.Sheet.{K6}
 use Rattle.sheet.proofs.Computing.{rules-in, grammar}
 use Rattle.sheet.proofs.Words.{both-true}
@@ -51,7 +51,7 @@ every-one (suc n) test e (true ∷ bits) l =
 every-one (suc n) test e (false ∷ bits) l =
     every-one n (λ s. test (false ∷ s)) (both-true (every n (λ s. test (true ∷ s))) (every n (λ s. test (false ∷ s))) e .1) bits (omega arith)
 
-one-string : (h : Grammar (Unit {0}) Values) (i w : ℕ) (it : Bits) (admits : Unit {0} → Values → Bits → Bool) (static : Bits → Bool) (binds : Unit {0} → Values → Bits → Values)
+one-string : (h : Grammar Context Values) (i w : ℕ) (it : Bits) (admits : Context → Values → Bits → Bool) (static : Bits → Bool) (binds : Context → Values → Bits → Values)
     → h .node i ≡ field w admits static binds → length it ≡ w → static it ≡ true → every w (λ s. cond (static s) (same s it) true) ≡ true
     → Exactly (First-of h i) (lookahead it ∷ [])
 one-string h i w it admits static binds e l t a x = (there, λ m. subst (λ (n : HeldNode). First h (construct i n) x) (sym e) (First.of-field it l t (List·Memᴰ·eq-of-singleton m)))
@@ -64,7 +64,7 @@ one-string h i w it admits static binds e l t a x = (there, λ m. subst (λ (n :
 
 -- ---- FIRST
 
-abbrev g : Grammar (Unit {0}) Values
+abbrev g : Grammar Context Values
 g = grammar K6 state-K6
 
 first-one : Exactly (First-of g 2) (one ∷ [])
@@ -153,7 +153,7 @@ passing-K6 =
       bounded = bounded-K6;
       no-empty-body = filled-as (rules-in K6) state-K6 ((((tt, tt), field-first g 2 3), tt), tt);
       no-conflict = no-conflict;
-      weighs = λ w e. weigh-starred (w tt 256) (w tt 0) (w tt 1) (w tt 2) (w tt 3) (e tt 256) (e tt 0) (e tt 1) (e tt 2) (e tt 3);
+      weighs = λ w e. weigh-starred (w first-context 256) (w first-context 0) (w first-context 1) (w first-context 2) (w first-context 3) (e first-context 256) (e first-context 0) (e first-context 1) (e first-context 2) (e first-context 3);
       light = omega arith;
     }
 

@@ -6,7 +6,7 @@ use mathlib.Core.List.{List}
 use lib.ListN.{drop}
 use Rattle.theory.specs.Grammar.{Grammar}
 use Rattle.wholes.specs.Wholes.{bounded, equals}
-use Rattle.layout.specs.Held.{Values}
+use Rattle.layout.specs.Held.{Context, Values}
 use Rattle.text.specs.Header.{header-of}
 use Rattle.text.specs.declared.Heading.{Heading}
 use Rattle.parsing.specs.Form.{Outcome}
@@ -73,6 +73,6 @@ unfoldable pub sizes-in : String → State → Found
 unfolding rules-in bounded equals least-found atLeast between exactly span encoded first-of flat sum written first-at tallied run constructAt constructOf characters widest-from same-name countSizes sizes-sizes variableOf combined noted termAt termOf termsFrom span-end starts digits-at digits-value radix-at
 sizes-in rules st = fault-8 (rules-in rules) st
 
-unfoldable pub grammar : String → State → Grammar (Unit {0}) Values
+unfoldable pub grammar : String → State → Grammar Context Values
 unfolding rules-in bounded equals append-digits bitsOf frameBits same atLeast between exactly span first-of sum first-at condition membership run hasVariable characters first-true grammar-of meant-node parts-from same-name read-terms variableOf combined noted termOf span-end starts digits-at digits-value radix-at
 grammar rules st = meant (rules-in rules) st

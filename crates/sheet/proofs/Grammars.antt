@@ -17,7 +17,7 @@ use Rattle.theory.specs.Grammar.{alternative, concatenation, repetition, switch
 use Rattle.theory.specs.Derivation.{construct}
 use Rattle.theory.specs.Lookahead.{First, Conflict, EmptyBody}
 use Rattle.theory.proofs.Inversion.{first-by}
-use Rattle.layout.specs.Held.{Values, HeldNode, opening}
+use Rattle.layout.specs.Held.{Context, Values, HeldNode, opening}
 use Rattle.meaning.specs.Meaning.{opened, grammar-of}
 use Rattle.parsing.specs.Store.{State, rule-words, nodes-of}
 use Rattle.conditions.specs.Texts.{meant}
@@ -35,7 +35,7 @@ upto P (suc n) u i l = elim (decLt i n) [ yes m ↦ upto P n (u .0) i m | no m �
 -- ---- a property of each node: of the opening use, of each number that is none, and of each that is read
 
 module _ (xs : List ℕ) (st : State) where
-  abbrev pub g : Grammar (Unit {0}) Values
+  abbrev pub g : Grammar Context Values
   g = meant xs st
 
   no-node : (i : ℕ) → eqb i opening ≡ false → ltb i (nodes-of st) ≡ false → g .node i ≡ alternative []
@@ -75,7 +75,7 @@ Quiet (use-of enters opens closes b) = Unit {0}
 Quiet (field w admits static binds) = Unit {0}
 Quiet eod = Unit {0}
 
-pub quiet : (h : Grammar (Unit {0}) Values) (i : ℕ) (x : Bits) → Quiet (h .node i) → Conflict h i x → ⊥
+pub quiet : (h : Grammar Context Values) (i : ℕ) (x : Bits) → Quiet (h .node i) → Conflict h i x → ⊥
 quiet h i x q (Conflict.of-branches {a = a} e m n d p p′) = List·Memᴰ·not-nil (subst (λ (l : List ℕ). a ∈ l) (subst Quiet e q) m)
 quiet h i x q (Conflict.of-passes e c s) = false≢true (subst Quiet e q)
 
@@ -84,7 +84,7 @@ quiet-as xs st u i x = quiet (meant xs st) i x (each-node xs st (λ k n. Quiet n
 
 -- ---- no empty body
 
-abbrev pub NotEmpty : Grammar (Unit {0}) Values → HeldNode → Type 0
+abbrev pub NotEmpty : Grammar Context Values → HeldNode → Type 0
 NotEmpty h (alternative is) = Unit {0}
 NotEmpty h (concatenation is) = Unit {0}
 NotEmpty h (repetition counts static fixed b) = First h (construct b (h .node b)) [] → ⊥
@@ -93,7 +93,7 @@ NotEmpty h (use-of enters opens closes b) = Unit {0}
 NotEmpty h (field w admits static binds) = Unit {0}
 NotEmpty h eod = Unit {0}
 
-pub not-empty : (h : Grammar (Unit {0}) Values) (i : ℕ) → NotEmpty h (h .node i) → EmptyBody h i → ⊥
+pub not-empty : (h : Grammar Context Values) (i : ℕ) → NotEmpty h (h .node i) → EmptyBody h i → ⊥
 not-empty h i q (EmptyBody.empty-body e f) = subst (NotEmpty h) e q f
 
 pub filled-as : (xs : List ℕ) (st : State) → Upto (λ i. NotEmpty (meant xs st) (meant xs st .node i)) (nodes-of st) → (i : ℕ) → EmptyBody (meant xs st) i → ⊥
@@ -104,6 +104,6 @@ some-bits : (bits : Bits) (w : ℕ) → length bits ≡ suc w → [] ≡ lookahe
 some-bits [] w l e = omega arith
 some-bits (b ∷ bits) w l e = let z : _≡_ {A = ℕ} 0 1 = cc in omega arith
 
-pub field-first : (h : Grammar (Unit {0}) Values) (i w : ℕ) {admits : Unit {0} → Values → Bits → Bool} {static : Bits → Bool} {binds : Unit {0} → Values → Bits → Values}
+pub field-first : (h : Grammar Context Values) (i w : ℕ) {admits : Context → Values → Bits → Bool} {static : Bits → Bool} {binds : Context → Values → Bits → Values}
     → First h (construct i (field (suc w) admits static binds)) [] → ⊥
 field-first h i w f = let (bits, l, s, z) = first-by h f in some-bits bits w l z

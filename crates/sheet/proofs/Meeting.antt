@@ -11,7 +11,7 @@ use Rattle.theory.specs.Derivation.{Capture}
 use Rattle.theory.specs.Hypotheses.{Hypotheses}
 use Rattle.theory.specs.Machine.{Tests}
 use Rattle.layout.specs.Places.{table-of}
-use Rattle.layout.specs.Held.{Values, held}
+use Rattle.layout.specs.Held.{Context, Values, held}
 use Rattle.acts.specs.Stored.{tests-of}
 use Rattle.soundness.proofs.Trust.{trusted}
 use Rattle.agreement.specs.Runs.{words-of}
@@ -29,7 +29,7 @@ use Rattle.sheet.proofs.Admitting.{same-meant, admitted}
 use Rattle.sheet.proofs.Running.{Makes, ended}
 
 module _ (rules : String) (st : State) (weight : ℕ) (p : Passing rules st weight) where
-  abbrev g : Grammar (Unit {0}) Values
+  abbrev g : Grammar Context Values
   g = meant (rules-in rules) st
 
   -- whatever the table's sets are, if they are the grammar's
@@ -39,7 +39,7 @@ module _ (rules : String) (st : State) (weight : ℕ) (p : Passing rules st weig
       let e : answer ≡ Admission.Admitted weight = admitted rules st weight p old l new answer a in
       let t : TextTable (text-of rules) new weight = text-table (text-of rules) old new weight (subst (Answers (text-of rules) old new) e a) in
       let holds : held (table-of new) ≡ g = t .holds ∙ same-meant rules st (p .formed) (t .admissible .reading) in
-      let right : Hypotheses g (tests-of (table-of new)) = subst (λ (h : Grammar (Unit {0}) Values). Hypotheses h (tests-of (table-of new))) holds (trusted (table-of new) (t .sound .1) .hypotheses) in (
+      let right : Hypotheses g (tests-of (table-of new)) = subst (λ (h : Grammar Context Values). Hypotheses h (tests-of (table-of new))) holds (trusted (table-of new) (t .sound .1) .hypotheses) in (
         e,
         λ rs room. (
             let o : Opened new frame rs = (t .sound, short, room) in

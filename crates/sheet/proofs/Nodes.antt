@@ -8,7 +8,7 @@ use native.Mathlib.Omega.{arith}
 use Rattle.basis.specs.Bits.{Bits}
 use Rattle.theory.specs.Lookahead.{Conflict, EmptyBody}
 use Rattle.theory.specs.Weight.{Weighs, weigh, sum, largest}
-use Rattle.layout.specs.Held.{opening}
+use Rattle.layout.specs.Held.{Context, first-context, opening}
 use Rattle.parsing.specs.Store.{State}
 use Rattle.admission.specs.Admitted.{Bounded}
 use Rattle.conditions.specs.Texts.{meant}
@@ -25,7 +25,7 @@ pub record Passing (rules : String) (st : State) (weight : ℕ) : Type 0 where
   pub bounded : Bounded (rules-in rules) st
   pub no-empty-body : (i : ℕ) → EmptyBody (meant (rules-in rules) st) i → ⊥
   pub no-conflict : (i : ℕ) (x : Bits) → Conflict (meant (rules-in rules) st) i x → ⊥
-  pub weighs : (w : Unit {0} → ℕ → ℕ) → Weighs (meant (rules-in rules) st) w → w tt opening ≡ weight
+  pub weighs : (w : Context → ℕ → ℕ) → Weighs (meant (rules-in rules) st) w → w first-context opening ≡ weight
   pub light : weight ≤ 65535
 
 -- a concatenation of a field and `{n}` of another
@@ -40,7 +40,7 @@ passing-G =
       bounded = bounded-G;
       no-empty-body = filled-as (rules-in G) state-G ((((tt, tt), tt), field-first (grammar G state-G) 3 7), tt);
       no-conflict = quiet-as (rules-in G) state-G ((((tt, tt), tt), refl), tt);
-      weighs = λ w e. weigh-counted (w tt 256) (w tt 0) (w tt 1) (w tt 2) (w tt 3) (e tt 256) (e tt 0) (e tt 1) (e tt 2) (e tt 3);
+      weighs = λ w e. weigh-counted (w first-context 256) (w first-context 0) (w first-context 1) (w first-context 2) (w first-context 3) (e first-context 256) (e first-context 0) (e first-context 1) (e first-context 2) (e first-context 3);
       light = omega arith;
     }
 
@@ -52,7 +52,7 @@ passing-K9 =
       bounded = bounded-K9;
       no-empty-body = filled-as (rules-in K9) state-K9 ((((tt, tt), tt), field-first (grammar K9 state-K9) 3 7), tt);
       no-conflict = quiet-as (rules-in K9) state-K9 ((((tt, tt), tt), refl), tt);
-      weighs = λ w e. weigh-counted (w tt 256) (w tt 0) (w tt 1) (w tt 2) (w tt 3) (e tt 256) (e tt 0) (e tt 1) (e tt 2) (e tt 3);
+      weighs = λ w e. weigh-counted (w first-context 256) (w first-context 0) (w first-context 1) (w first-context 2) (w first-context 3) (e first-context 256) (e first-context 0) (e first-context 1) (e first-context 2) (e first-context 3);
       light = omega arith;
     }
 
@@ -68,6 +68,6 @@ passing-K10 =
       bounded = bounded-K10;
       no-empty-body = filled-as (rules-in K10) state-K10 (((((tt, tt), tt), tt), tt), tt);
       no-conflict = quiet-as (rules-in K10) state-K10 (((((tt, tt), tt), tt), tt), tt);
-      weighs = λ w e. weigh-switched (w tt 256) (w tt 0) (w tt 1) (w tt 2) (w tt 3) (w tt 4) (e tt 256) (e tt 0) (e tt 1) (e tt 2) (e tt 3) (e tt 4);
+      weighs = λ w e. weigh-switched (w first-context 256) (w first-context 0) (w first-context 1) (w first-context 2) (w first-context 3) (w first-context 4) (e first-context 256) (e first-context 0) (e first-context 1) (e first-context 2) (e first-context 3) (e first-context 4);
       light = omega arith;
     }

@@ -14,7 +14,7 @@ use Rattle.theory.specs.Grammar.{Grammar, _∈_}
 use Rattle.theory.specs.Derivation.{construct}
 use Rattle.theory.specs.Lookahead.{First, Follow, Predicted, Conflict, EmptyBody}
 use Rattle.theory.proofs.Sheet.Sets.{of-two, Exactly, literal-first, predicted-full}
-use Rattle.layout.specs.Held.{Values, held, literal-node}
+use Rattle.layout.specs.Held.{Context, Values, held, literal-node}
 use Rattle.conflicts.specs.Conflicts.{Conflicting, LeastWindow, Answered}
 use Rattle.conflicts.specs.declared.Clash.{Clash}
 use Rattle.table.specs.Judged.{Least}
@@ -47,7 +47,7 @@ says-K11 old new answer l a =
 
 -- ---- K8: `frame = ("A"?)*;`
 
-abbrev g₈ : Grammar (Unit {0}) Values
+abbrev g₈ : Grammar Context Values
 g₈ = grammar K8 state-K8
 
 empty-K8 : EmptyBody g₈ 0
@@ -71,7 +71,7 @@ says-K8 old new answer l a =
 
 -- ---- K5: `frame = "AB" | "AC";`
 
-abbrev g₅ : Grammar (Unit {0}) Values
+abbrev g₅ : Grammar Context Values
 g₅ = grammar K5 state-K5
 
 abbrev letter-A : Bits
@@ -105,14 +105,14 @@ module _ (ws : List ℕ) (holds : held ws ≡ g₅) (i : ℕ) (first : Least ws 
   first-is : i ≡ 0
   first-is =
       elim (decLt 0 i) [
-        | yes l ↦ absurd (first .before 0 l (letter-A, subst (λ (h : Grammar (Unit {0}) Values). Conflict h 0 letter-A) (sym holds) conflict-A))
+        | yes l ↦ absurd (first .before 0 l (letter-A, subst (λ (h : Grammar Context Values). Conflict h 0 letter-A) (sym holds) conflict-A))
         | no l ↦ (let z : i ≡ 0 = omega arith in z)
       ]
 
   window-of : (n : ℕ) → LeastWindow ws i n → n ≡ 321
   unfolding frameBits bitsOf append-digits
   window-of n (x, e, least) =
-      let c : Conflict g₅ 0 x = subst (λ (h : Grammar (Unit {0}) Values). Conflict h 0 x) holds (subst (λ (k : ℕ). Conflict (held ws) k x) first-is (least .common)) in
+      let c : Conflict g₅ 0 x = subst (λ (h : Grammar Context Values). Conflict h 0 x) holds (subst (λ (k : ℕ). Conflict (held ws) k x) first-is (least .common)) in
       sym e ∙ ap number (clash-A x c)
 
   window-is : (c : Clash) → Answered ws i c → window-in c ≡ some 321

@@ -11,7 +11,7 @@ use Rattle.theory.specs.Grammar.{Grammar}
 use Rattle.theory.specs.Derivation.{Capture}
 use Rattle.theory.specs.Machine.{Tests, captures-of, Verdict, matched, unmatched, verdict-of, state-of, taken-of, opened, granted}
 use Rattle.layout.specs.Places.{table-of}
-use Rattle.layout.specs.Held.{Values, held}
+use Rattle.layout.specs.Held.{Context, Values, held}
 use Rattle.measures.specs.Measures.{widest}
 use Rattle.weights.proofs.Heights.{weight-at}
 use Rattle.weights.proofs.Rooms.{rooms}
@@ -50,16 +50,16 @@ not-stored match e = omega arith
 not-stored no-match e = omega arith
 
 -- the theory's run after n steps, and what the sheet says of it
-abbrev pub made : Grammar (Unit {0}) Values → Tests → List ℕ → ℕ → HeldRun
+abbrev pub made : Grammar Context Values → Tests → List ℕ → ℕ → HeldRun
 made g tests fs n = granted g tests n (opened g tests (frameBits fs))
 
-pub record Makes (g : Grammar (Unit {0}) Values) (tests : Tests) (fs : List ℕ) (d : Said) (n : ℕ) (values : List ℕ) (cs : List Capture) : Type 0 where
+pub record Makes (g : Grammar Context Values) (tests : Tests) (fs : List ℕ) (d : Said) (n : ℕ) (values : List ℕ) (cs : List Capture) : Type 0 where
   pub verdict : verdict-of (made g tests fs n) ≡ said d
   pub steps : taken-of (made g tests fs n) ≡ n
   pub values-are : state-values (state-of (made g tests fs n)) ≡ map pos values ++ replicate (64 - length values) (pos 0)
   pub captures : captures-of (state-of (made g tests fs n)) ≡ cs
 
-pub makes : {g : Grammar (Unit {0}) Values} {tests : Tests} {fs : List ℕ} {d : Said} {n : ℕ} {values : List ℕ} {cs : List Capture}
+pub makes : {g : Grammar Context Values} {tests : Tests} {fs : List ℕ} {d : Said} {n : ℕ} {values : List ℕ} {cs : List Capture}
     → verdict-of (made g tests fs n) ≡ said d → taken-of (made g tests fs n) ≡ n
     → state-values (state-of (made g tests fs n)) ≡ map pos values ++ replicate (64 - length values) (pos 0) → captures-of (state-of (made g tests fs n)) ≡ cs
     → Makes g tests fs d n values cs
@@ -74,12 +74,12 @@ module _ (ws fs rs : List ℕ) (o : Opened ws fs rs) where
   unfolding held
   run-at n = agrees table (widest table) (λ c i. weight-at table i) (rooms table) (words ws fs rs o) fs (opened-run .constructs) (opened-run .passes) rs (begun ws fs rs o) n
 
-  module _ (g : Grammar (Unit {0}) Values) (holds : held table ≡ g) (d : Said) (n : ℕ) (values : List ℕ) (cs : List Capture) (m : Makes g (tests-of table) fs d n values cs) where
+  module _ (g : Grammar Context Values) (holds : held table ≡ g) (d : Said) (n : ℕ) (values : List ℕ) (cs : List Capture) (m : Makes g (tests-of table) fs d n values cs) where
     abbrev w : Whole
     w = at ws fs rs o n
 
     same-run : run-of fs w ≡ made g (tests-of table) fs n
-    same-run = run-at n ∙ ap (λ (h : Grammar (Unit {0}) Values). made h (tests-of table) fs n) holds
+    same-run = run-at n ∙ ap (λ (h : Grammar Context Values). made h (tests-of table) fs n) holds
 
     verdict-at : head-in w .verdict ≡ stored d
     verdict-at = stored-as (head-in w .verdict) d (fits-at ws fs rs o n .verdict) (ap verdict-of same-run ∙ m .verdict)

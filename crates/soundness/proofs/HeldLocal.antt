@@ -22,7 +22,7 @@ use Rattle.theory.specs.Grammar.{alternative, concatenation, repetition, switch
 use Rattle.theory.proofs.Turns.{decide}
 use Rattle.layout.specs.Places.{rule-word, variable-word, construct-word, terms-at}
 use Rattle.layout.specs.Constructs.{pick, constructAt}
-use Rattle.layout.specs.Held.{Values, term-words, size-of, parts, isYes, passes-allowed, passes-static, passes-fixed, first-case, literal-byte, literal-bytes, literal-node, bound, use-node, node-of, opening, held, allowed, isExact}
+use Rattle.layout.specs.Held.{first-context, Values, term-words, size-of, parts, isYes, passes-allowed, passes-static, passes-fixed, first-case, literal-byte, literal-bytes, literal-node, bound, use-node, node-of, opening, held, allowed, isExact}
 use Rattle.layout.specs.declared.Construct.{Construct}
 use Rattle.layout.specs.declared.Passes.{Passes}
 use Rattle.form.proofs.Decoded.{Fine, fine}
@@ -151,4 +151,4 @@ module _ {ws ws′ : List ℕ} (a : Alike ws ws′) where
   held-local =
       let nodes : (i : ℕ) → pick (eqb i opening) (use-node ws 0) (node-of ws i (constructAt ws i)) ≡ pick (eqb i opening) (use-node ws′ 0) (node-of ws′ i (constructAt ws′ i)) =
       λ i t. pick (eqb i opening) (use-same 0 (omega arith) t) ((node-same i (constructAt ws i) (fine ws i) ∙ ap (node-of ws′ i) (constructs-same i)) t) in
-      λ t. record { node = λ i. nodes i t; start = opening; context = tt; values = replicate 64 (pos 0) }
+      λ t. record { node = λ i. nodes i t; start = opening; context = first-context; values = replicate 64 (pos 0) }

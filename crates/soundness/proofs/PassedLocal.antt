@@ -15,7 +15,7 @@ use Rattle.theory.specs.Lookahead.{Follow, Predicted, Conflict, EmptyBody}
 use Rattle.theory.specs.Weight.{Weighs}
 use Rattle.layout.specs.Places.{construct-count, rule-count, weight-of}
 use Rattle.layout.specs.Constructs.{pick, constructAt}
-use Rattle.layout.specs.Held.{Values, held, opening}
+use Rattle.layout.specs.Held.{Context, first-context, Values, held, opening}
 use Rattle.layout.specs.declared.Construct.{Construct}
 use Rattle.layout.specs.declared.Passes.{Passes}
 use Rattle.form.specs.Checks.{either}
@@ -100,11 +100,11 @@ module _ {ws ws′ : List ℕ} (a : Alike ws ws′) where
 
   -- ---- what holds of the grammar
 
-  pub of-held : (P : Grammar (Unit {0}) Values → Type 0) → P (held ws) → P (held ws′)
+  pub of-held : (P : Grammar Context Values → Type 0) → P (held ws) → P (held ws′)
   of-held P = subst P (held-local a)
 
   pub weighing-local : (P : ℕ → Type 0) → Weighing ws P → Weighing ws′ P
-  weighing-local P = of-held (λ g. (weight : Unit {0} → ℕ → ℕ) → Weighs g weight → P (weight tt opening))
+  weighing-local P = of-held (λ g. (weight : Context → ℕ → ℕ) → Weighs g weight → P (weight first-context opening))
 
   -- ---- 5 to 10
 

@@ -11,7 +11,7 @@ use Rattle.basis.specs.Counts.{Counts}
 use Rattle.theory.specs.Grammar.{alternative, concatenation, repetition, switch, use-of, field, eod, _∈_}
 use Rattle.layout.specs.Places.{rule-count, construct-count}
 use Rattle.layout.specs.Constructs.{constructAt}
-use Rattle.layout.specs.Held.{Values, HeldNode, node-of, held}
+use Rattle.layout.specs.Held.{Context, Values, HeldNode, node-of, held}
 use Rattle.layout.specs.declared.Construct.{Construct}
 use Rattle.layout.specs.declared.Passes.{Passes}
 use Rattle.form.specs.Rules.{body}
@@ -65,7 +65,7 @@ module _ {ws : List ℕ} (l : Laid ws) where
         ]
       ]
 
-  pub repeating : (i b : ℕ) (counts : Unit {0} → Values → Counts) (static : Counts) (fixed : Bool) → held ws .node i ≡ repetition counts static fixed b → Repeating ws i b
+  pub repeating : (i b : ℕ) (counts : Context → Values → Counts) (static : Counts) (fixed : Bool) → held ws .node i ≡ repetition counts static fixed b → Repeating ws i b
   repeating i b counts static fixed e = subst (Repeated ws i) e (repeated i)
 
   below-there : (i b : ℕ) → ((i < construct-count ws) × PartOf ws i b) ⊎ ((r : ℕ) × (r < rule-count ws) × (b ≡ body ws r)) → b < construct-count ws
@@ -80,5 +80,5 @@ module _ {ws : List ℕ} (l : Laid ws) where
   branch-there i b is e m = below-there i b (below l i b (rw e m))
 
   -- and so is a repetition's body
-  pub body-there : (i b : ℕ) (counts : Unit {0} → Values → Counts) (static : Counts) (fixed : Bool) → held ws .node i ≡ repetition counts static fixed b → b < construct-count ws
+  pub body-there : (i b : ℕ) (counts : Context → Values → Counts) (static : Counts) (fixed : Bool) → held ws .node i ≡ repetition counts static fixed b → b < construct-count ws
   body-there i b counts static fixed e = below-there i b (below l i b (rw e refl))

@@ -14,7 +14,7 @@ use Rattle.sizes.specs.declared.Sized.{Sized}
 use Rattle.theory.specs.Weight.{Weighs, Outweighs, Houses}
 use Rattle.layout.specs.Places.{construct-word, variable-word, construct-count, weight-of}
 use Rattle.layout.specs.Constructs.{constructAt}
-use Rattle.layout.specs.Held.{terms-of, held, opening}
+use Rattle.layout.specs.Held.{first-context, terms-of, held, opening}
 use Rattle.layout.specs.declared.Construct.{Construct}
 use Rattle.layout.specs.declared.Passes.{Passes}
 use Rattle.form.specs.Checks.{either}
@@ -78,7 +78,7 @@ module _ {ws : List ℕ} (s : Sound ws) where
   pub housed : Houses (held ws) (rooms ws)
   housed = rooms-enough ws rules-lie none-recursive .0
 
-  pub room-most : rooms ws tt opening ≤ 256
+  pub room-most : rooms ws first-context opening ≤ 256
   room-most = rooms-enough ws rules-lie none-recursive .1
 
   pub reliable : Reliable ws (widest ws) (λ c i. weight-at ws i) (rooms ws)

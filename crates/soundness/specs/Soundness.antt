@@ -10,7 +10,7 @@ use Rattle.theory.specs.Hypotheses.{Static, Hypotheses}
 use Rattle.theory.specs.Weight.{Outweighs, Houses}
 use Rattle.theory.specs.Scope.{Lexical}
 use Rattle.layout.specs.Places.{weight-of}
-use Rattle.layout.specs.Held.{Values, held, opening}
+use Rattle.layout.specs.Held.{Context, first-context, Values, held, opening}
 use Rattle.scoping.specs.Scope.{value-of, fresh, scope-of}
 use Rattle.acts.specs.Stored.{tests-of}
 
@@ -23,13 +23,13 @@ pub record Trusted (ws : List ℕ) : Type 0 where
   -- 6 and 7: "Variables are local to a rule ...; uses stand in later members."
   pub lexical : Lexical value-of (scope-of ws) fresh (held ws)
   -- "Weight: ..." and 11: there are weights, and the table's is that "as a use of its start rule"
-  pub weight : Unit {0} → ℕ → ℕ
+  pub weight : Context → ℕ → ℕ
   pub outweighs : Outweighs (held ws) weight
-  pub weight-stored : weight tt opening ≡ weight-of ws
+  pub weight-stored : weight first-context opening ≡ weight-of ws
   -- 24, "the list is longer than 256": no run from an opening has more entries pending
-  pub rooms : Unit {0} → ℕ → ℕ
+  pub rooms : Context → ℕ → ℕ
   pub houses : Houses (held ws) rooms
-  pub room-most : rooms tt opening ≤ 256
+  pub room-most : rooms first-context opening ≤ 256
   -- 22, "two u32 words for each frame bit": a field takes at least one bit, so no bit has two captures
-  pub one-capture-a-bit : (i : ℕ) {w : ℕ} {admits : Unit {0} → Values → Bits → Bool} {static : Bits → Bool} {binds : Unit {0} → Values → Bits → Values}
+  pub one-capture-a-bit : (i : ℕ) {w : ℕ} {admits : Context → Values → Bits → Bool} {static : Bits → Bool} {binds : Context → Values → Bits → Values}
       → held ws .node i ≡ field w admits static binds → 1 ≤ w

@@ -15,7 +15,7 @@ use Rattle.theory.specs.Grammar.{alternative, concatenation, repetition, switch
 use Rattle.theory.proofs.Turns.{decide}
 use Rattle.layout.specs.Places.{word, rules-at, variables-at, constructs-at, terms-at, literals-at, sets-at, table-words, rule-count, construct-count, variable-count, term-count, construct-word}
 use Rattle.layout.specs.Constructs.{both, constructOf, constructAt}
-use Rattle.layout.specs.Held.{Values, HeldNode, literal-bytes, node-of, opening, held}
+use Rattle.layout.specs.Held.{Context, Values, HeldNode, literal-bytes, node-of, opening, held}
 use Rattle.layout.specs.declared.Construct.{Construct}
 use Rattle.form.specs.Checks.{all-zero}
 use Rattle.form.specs.Rules.{body}
@@ -59,11 +59,11 @@ pub kept : (ws : List ℕ) (i : ℕ) → Kept (held ws .node i)
 unfolding held
 kept ws i = picked Kept (eqb i opening) (λ e v v′. refl) (λ e. construct-kept ws i (constructAt ws i) (fine ws i))
 
-pub width-positive : (ws : List ℕ) (i : ℕ) {w : ℕ} {admits : Unit {0} → Values → Bits → Bool} {static : Bits → Bool} {binds : Unit {0} → Values → Bits → Values}
+pub width-positive : (ws : List ℕ) (i : ℕ) {w : ℕ} {admits : Context → Values → Bits → Bool} {static : Bits → Bool} {binds : Context → Values → Bits → Values}
     → held ws .node i ≡ field w admits static binds → 1 ≤ w
 width-positive ws i e = rw e at (kept ws i)
 
-pub values-stay : (ws : List ℕ) (i : ℕ) {b : ℕ} {enters : Unit {0} → Option (Unit {0})} {opens : Unit {0} → Values → Values} {closes : Values → Values → Values}
+pub values-stay : (ws : List ℕ) (i : ℕ) {b : ℕ} {enters : Context → Option Context} {opens : Context → Values → Values} {closes : Values → Values → Values}
     → held ws .node i ≡ use-of enters opens closes b → (v v′ : Values) → closes v v′ ≡ v′
 values-stay ws i e v v′ = (rw e at (kept ws i)) v v′
 

@@ -28,7 +28,7 @@ use Rattle.theory.specs.Hypotheses.{Static}
 use Rattle.theory.proofs.Turns.{decide}
 use Rattle.layout.specs.Places.{construct-word}
 use Rattle.layout.specs.Constructs.{constructAt}
-use Rattle.layout.specs.Held.{Values, HeldNode, term-words, terms-of, parts, allowed, isYes, passes-allowed, passes-static, isExact, passes-fixed, first-case, in-set, in-static-set, node-of, opening, held}
+use Rattle.layout.specs.Held.{Context, Values, HeldNode, term-words, terms-of, parts, allowed, isYes, passes-allowed, passes-static, isExact, passes-fixed, first-case, in-set, in-static-set, node-of, opening, held}
 use Rattle.layout.specs.declared.Construct.{Construct}
 use Rattle.layout.specs.declared.Passes.{Passes}
 use Rattle.form.proofs.Decoded.{picked}
@@ -39,11 +39,11 @@ abbrev StaticOf : HeldNode → Type 0
 StaticOf (alternative is) = Unit {0}
 StaticOf (concatenation is) = Unit {0}
 StaticOf (repetition counts static fixed b) =
-    ((c : Unit {0}) (v : Values) (k : ℕ) → Allows (counts c v) k → Allows static k)
-    × (fixed ≡ true → (c : Unit {0}) (v : Values) (j k : ℕ) → Allows (counts c v) j → Allows (counts c v) k → j ≡ k)
-StaticOf (switch chosen is) = (c : Unit {0}) (v : Values) (b : ℕ) → chosen c v ≡ some b → b ∈ is
+    ((c : Context) (v : Values) (k : ℕ) → Allows (counts c v) k → Allows static k)
+    × (fixed ≡ true → (c : Context) (v : Values) (j k : ℕ) → Allows (counts c v) j → Allows (counts c v) k → j ≡ k)
+StaticOf (switch chosen is) = (c : Context) (v : Values) (b : ℕ) → chosen c v ≡ some b → b ∈ is
 StaticOf (use-of enters opens closes b) = Unit {0}
-StaticOf (field w admits static binds) = (c : Unit {0}) (v : Values) (bits : Bits) → admits c v bits ≡ true → static bits ≡ true
+StaticOf (field w admits static binds) = (c : Context) (v : Values) (bits : Bits) → admits c v bits ≡ true → static bits ≡ true
 StaticOf eod = Unit {0}
 
 -- "a set with a variable counting as `~`"

@@ -10,7 +10,7 @@ use Rattle.basis.specs.Bits.{Bits}
 use Rattle.theory.specs.Grammar.{alternative, concatenation, repetition, switch, use-of, field, eod}
 use Rattle.theory.specs.Lookahead.{Conflict, EmptyBody}
 use Rattle.layout.specs.Places.{construct-count}
-use Rattle.layout.specs.Held.{HeldNode, held, node-of, opening}
+use Rattle.layout.specs.Held.{first-context, HeldNode, held, node-of, opening}
 use Rattle.structure.proofs.Facts.{Laid, facts}
 use Rattle.structure.proofs.NodeFacts.{missing-past}
 use Rattle.scoping.proofs.RuledLaw.{ruled}
@@ -93,10 +93,10 @@ module _ (ws : List ℕ) (p : Passed7 ws) (n : ℕ) (w : Weight ws n) where
   weighed weight k = w (ruled ws (p .laid-out)) (p .acyclic) weight k
 
   pub overweight : 65535 < n → Weighing ws (λ m. 65535 < m)
-  overweight h weight k = let e : n ≡ capped (weight tt opening) = weighed weight k in omega arith
+  overweight h weight k = let e : n ≡ capped (weight first-context opening) = weighed weight k in omega arith
 
   pub exact-weight : n ≤ 65535 → Weighing ws (λ m. m ≡ n)
-  exact-weight h weight k = let e : n ≡ capped (weight tt opening) = weighed weight k in omega arith
+  exact-weight h weight k = let e : n ≡ capped (weight first-context opening) = weighed weight k in omega arith
 
 -- ---- from the form to the whole
 

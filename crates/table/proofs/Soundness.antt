@@ -9,7 +9,7 @@ use Rattle.lookahead.specs.Sets.{Decides}
 use Rattle.theory.specs.Lookahead.{EmptyBody}
 use Rattle.theory.specs.Weight.{Weighs}
 use Rattle.layout.specs.Places.{construct-count, weight-of}
-use Rattle.layout.specs.Held.{held, opening}
+use Rattle.layout.specs.Held.{Context, held, opening}
 use Rattle.structure.proofs.Facts.{facts}
 use Rattle.scoping.proofs.RuledLaw.{ruled}
 use Rattle.weights.proofs.Heights.{weight-at}
@@ -21,7 +21,7 @@ use Rattle.table.specs.declared.Judgement.{Judgement}
 
 -- the one function that gives the weights
 module _ (ws : List ℕ) (p : Passed7 ws) where
-  abbrev weight-of-all : Unit {0} → ℕ → ℕ
+  abbrev weight-of-all : Context → ℕ → ℕ
   weight-of-all c i = weight-at ws i
 
   gives : Weighs (held ws) weight-of-all

@@ -7,7 +7,7 @@ use mathlib.Core.List.{List}
 use Rattle.theory.specs.Lookahead.{EmptyBody}
 use Rattle.theory.specs.Weight.{Weighs}
 use Rattle.layout.specs.Places.{construct-count}
-use Rattle.layout.specs.Held.{held, opening}
+use Rattle.layout.specs.Held.{Context, first-context, held, opening}
 use Rattle.form.specs.Laid.{laid}
 use Rattle.rules.specs.Reaching.{Reaches, Acyclic}
 use Rattle.measures.specs.Measures.{oversized}
@@ -40,7 +40,7 @@ Oversized ws i = oversized ws i ≡ true
 
 -- "Weight … grammar, as a use of its start rule": of every function that gives weights (there is exactly one where no rule reaches itself)
 abbrev pub Weighing : List ℕ → (ℕ → Type 0) → Type 0
-Weighing ws P = (weight : Unit {0} → ℕ → ℕ) → Weighs (held ws) weight → P (weight tt opening)
+Weighing ws P = (weight : Context → ℕ → ℕ) → Weighs (held ws) weight → P (weight first-context opening)
 
 module _ (ws : List ℕ) where
   -- laid out (5 and 6), and no "rule reaches itself" (7)

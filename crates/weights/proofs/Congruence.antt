@@ -7,7 +7,7 @@ use mathlib.Core.List.{List, [], _∷_}
 use mathlib.Core.Option.{none, some}
 use Rattle.theory.specs.Grammar.{alternative, concatenation, repetition, switch, use-of, field, eod}
 use Rattle.theory.specs.Weight.{sum, largest, weigh}
-use Rattle.layout.specs.Held.{HeldNode}
+use Rattle.layout.specs.Held.{Context, first-context, HeldNode}
 use Rattle.weights.proofs.Children.{All, Each}
 
 module _ (m : ℕ) where
@@ -34,8 +34,8 @@ module _ (m : ℕ) (f g : ℕ → ℕ) where
   largest-same [] a = refl
   largest-same (i ∷ is) a = larger m (f i) (g i) (largest f is) (largest g is) (a .0) (largest-same is (a .1))
 
-module _ (m : ℕ) (f g : Unit {0} → ℕ → ℕ) where
-  pub weigh-same : (n : HeldNode) → Each (λ k. min m (f tt k) ≡ min m (g tt k)) n → min m (weigh f tt n) ≡ min m (weigh g tt n)
+module _ (m : ℕ) (f g : Context → ℕ → ℕ) where
+  pub weigh-same : (n : HeldNode) → Each (λ k. min m (f first-context k) ≡ min m (g first-context k)) n → min m (weigh f first-context n) ≡ min m (weigh g first-context n)
   unfolding weigh
   weigh-same (alternative is) a = one-more m (largest (f tt) is) (largest (g tt) is) (largest-same m (f tt) (g tt) is a)
   weigh-same (concatenation is) a = one-more m (sum (f tt) is) (sum (g tt) is) (sum-same m (f tt) (g tt) is a)
@@ -43,7 +43,7 @@ module _ (m : ℕ) (f g : Unit {0} → ℕ → ℕ) where
   weigh-same (switch chosen is) a = one-more m (largest (f tt) is) (largest (g tt) is) (largest-same m (f tt) (g tt) is a)
   weigh-same (use-of enters opens closes b) a =
       elim (enters tt) as (λ o. min m (elim o [ none ↦ 1 | some c′ ↦ 1 + f c′ b ]) ≡ min m (elim o [ none ↦ 1 | some c′ ↦ 1 + g c′ b ]))
-      [ none ↦ refl | some c′ ↦ one-more m (f tt b) (g tt b) a ]
+      [ none ↦ refl | some c′ ↦ one-more m (f first-context b) (g first-context b) a ]
   weigh-same (field w admits static binds) a = refl
   weigh-same eod a = refl
 
@@ -61,8 +61,8 @@ each-map P Q f (field w admits static binds) a = tt
 each-map P Q f eod a = tt
 
 -- the same below a node, the same at the node
-pub weigh-equal : (f g : Unit {0} → ℕ → ℕ) (n : HeldNode) → Each (λ k. f tt k ≡ g tt k) n → weigh f tt n ≡ weigh g tt n
+pub weigh-equal : (f g : Context → ℕ → ℕ) (n : HeldNode) → Each (λ k. f first-context k ≡ g first-context k) n → weigh f first-context n ≡ weigh g first-context n
 weigh-equal f g n a =
-    let m = weigh f tt n + weigh g tt n in
-    let e : min m (weigh f tt n) ≡ min m (weigh g tt n) = weigh-same m f g n (each-map (λ k. f tt k ≡ g tt k) (λ k. min m (f tt k) ≡ min m (g tt k)) (λ k e. ap (min m) e) n a) in
+    let m = weigh f first-context n + weigh g first-context n in
+    let e : min m (weigh f first-context n) ≡ min m (weigh g first-context n) = weigh-same m f g n (each-map (λ k. f first-context k ≡ g first-context k) (λ k. min m (f first-context k) ≡ min m (g first-context k)) (λ k e. ap (min m) e) n a) in
     omega arith

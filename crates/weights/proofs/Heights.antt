@@ -11,7 +11,7 @@ use lib.Dec.{eqb}
 use Rattle.theory.specs.Weight.{weigh, Weighs}
 use Rattle.layout.specs.Places.{rule-count, construct-count}
 use Rattle.layout.specs.Constructs.{pick}
-use Rattle.layout.specs.Held.{size-of, held, opening}
+use Rattle.layout.specs.Held.{Context, first-context, size-of, held, opening}
 use Rattle.rules.specs.Reaching.{body-of, Acyclic}
 use Rattle.rules.proofs.Constructs.{size-within, missing-past}
 use Rattle.weights.specs.Ruled.{size-at, Ruled}
@@ -31,7 +31,7 @@ height ws i = size-at ws i + spread ws (rule-size ws) i
 unfoldable pub rounds : List ℕ → ℕ → ℕ → ℕ
 unfolding held
 rounds ws zero i = 0
-rounds ws (suc n) i = weigh (λ c j. rounds ws n j) tt (held ws .node i)
+rounds ws (suc n) i = weigh (λ c j. rounds ws n j) first-context (held ws .node i)
 
 -- rounds enough
 abbrev pub limit : List ℕ → ℕ
@@ -131,11 +131,11 @@ module _ (ws : List ℕ) (ruled : Ruled ws) (acyclic : Acyclic ws) where
   weighs c i = stands (limit ws) i (depth-most i)
 
   -- and no other function gives the weights
-  pub unique : (v w : Unit {0} → ℕ → ℕ) → Weighs (held ws) v → Weighs (held ws) w → (i : ℕ) → v tt i ≡ w tt i
+  pub unique : (v w : Context → ℕ → ℕ) → Weighs (held ws) v → Weighs (held ws) w → (i : ℕ) → v first-context i ≡ w first-context i
   unique v w a b i =
-      descend (λ n i. v tt i ≡ w tt i)
+      descend (λ n i. v first-context i ≡ w first-context i)
       (λ n i below.
-      a tt i
-      ∙ weigh-equal v w (held ws .node i) (each-map (λ k. (m : ℕ) × (n ≡ suc m) × (v tt k ≡ w tt k)) (λ k. v tt k ≡ w tt k) (λ k b. b .2) (held ws .node i) below)
-      ∙ sym (b tt i))
+      a first-context i
+      ∙ weigh-equal v w (held ws .node i) (each-map (λ k. (m : ℕ) × (n ≡ suc m) × (v first-context k ≡ w first-context k)) (λ k. v first-context k ≡ w first-context k) (λ k b. b .2) (held ws .node i) below)
+      ∙ sym (b first-context i))
       (limit ws) i (depth-most i)

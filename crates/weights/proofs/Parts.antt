@@ -11,7 +11,7 @@ use borrow.Author.Tests.{lt-ltb, le-ltb, eq-eqb, ne-eqb}
 use lib.ListN.{getD}
 use Rattle.theory.specs.Weight.{weigh}
 use Rattle.layout.specs.Constructs.{constructAt}
-use Rattle.layout.specs.Held.{parts, node-of}
+use Rattle.layout.specs.Held.{first-context, parts, node-of}
 use Rattle.layout.specs.declared.Construct.{Construct}
 use Rattle.rules.specs.Reaching.{body-of}
 use Rattle.weights.specs.Ruled.{size-at}
@@ -120,7 +120,7 @@ by-kind ws f i (Construct.Range low high) = 1
 by-kind ws f i (Construct.Uint width start end binder) = 1
 by-kind ws f i Construct.Eod = 1
 
-kind-weight : (ws : List ℕ) (f : ℕ → ℕ) (i : ℕ) (x : Construct) → weigh (λ c j. f j) tt (node-of ws i x) ≡ by-kind ws f i x
+kind-weight : (ws : List ℕ) (f : ℕ → ℕ) (i : ℕ) (x : Construct) → weigh (λ c j. f j) first-context (node-of ws i x) ≡ by-kind ws f i x
 unfolding weigh node-of gathered
 kind-weight ws f i Construct.Missing = refl
 kind-weight ws f i (Construct.Alternative size) = refl
@@ -134,7 +134,7 @@ kind-weight ws f i (Construct.Uint width start end binder) = refl
 kind-weight ws f i Construct.Eod = refl
 
 pub weighed-as : (ws xs : List ℕ) (i : ℕ) (x : Construct) → constructAt ws i ≡ x → capped (by-kind ws (λ j. getD xs j 0) i x) ≡ weighed ws xs i
-weighed-as ws xs i x e = ap capped (sym (kind-weight ws (λ j. getD xs j 0) i x) ∙ ap (λ (y : Construct). weigh (λ c j. getD xs j 0) tt (node-of ws i y)) (sym e))
+weighed-as ws xs i x e = ap capped (sym (kind-weight ws (λ j. getD xs j 0) i x) ∙ ap (λ (y : Construct). weigh (λ c j. getD xs j 0) first-context (node-of ws i y)) (sym e))
 
 -- a construct with parts
 pub parts-weighed : (ws xs : List ℕ) (i : ℕ) (x : Construct) (adds : Bool) (size end g r : ℕ) → constructAt ws i ≡ x

@@ -13,7 +13,7 @@ use lib.ListN.{length}
 use Rattle.theory.specs.Weight.{largest, members-room, room, Houses}
 use Rattle.layout.specs.Places.{rule-count, construct-count}
 use Rattle.layout.specs.Constructs.{pick, constructAt}
-use Rattle.layout.specs.Held.{size-of, parts, node-of, use-node, held, opening}
+use Rattle.layout.specs.Held.{Context, first-context, size-of, parts, node-of, use-node, held, opening}
 use Rattle.layout.specs.declared.Construct.{Construct}
 use Rattle.rules.specs.Reaching.{body-of, rule-end, Acyclic}
 use Rattle.weights.specs.Ruled.{size-at, Tiles, Filled, Ruled}
@@ -24,18 +24,18 @@ use Rattle.weights.proofs.Children.{All, Child, tiles-le, tiled, held-n
 use Rattle.weights.proofs.Heights.{rule-size, height, child-lower, start-there}
 
 -- room for construct i; the opening use has that of the start rule's body
-unfoldable pub rooms : List ℕ → Unit {0} → ℕ → ℕ
+unfoldable pub rooms : List ℕ → Context → ℕ → ℕ
 rooms ws c i = max 1 (pick (eqb i opening) (height ws (body-of ws 0)) (height ws i))
 
-rooms-of : (ws : List ℕ) (c : Unit {0}) (i : ℕ) → (i ≡ opening → ⊥) → rooms ws c i ≡ max 1 (height ws i)
+rooms-of : (ws : List ℕ) (c : Context) (i : ℕ) → (i ≡ opening → ⊥) → rooms ws c i ≡ max 1 (height ws i)
 unfolding rooms
 rooms-of ws c i h = rw (ne-eqb i opening h)
 
-rooms-opening : (ws : List ℕ) (c : Unit {0}) → rooms ws c opening ≡ max 1 (height ws (body-of ws 0))
+rooms-opening : (ws : List ℕ) (c : Context) → rooms ws c opening ≡ max 1 (height ws (body-of ws 0))
 unfolding rooms
 rooms-opening ws c = refl
 
-rooms-positive : (ws : List ℕ) (c : Unit {0}) (i : ℕ) → 1 ≤ rooms ws c i
+rooms-positive : (ws : List ℕ) (c : Context) (i : ℕ) → 1 ≤ rooms ws c i
 unfolding rooms
 rooms-positive ws c i = omega arith
 
@@ -77,7 +77,7 @@ module _ (ws : List ℕ) (ruled : Ruled ws) (acyclic : Acyclic ws) where
           let f : rule-end ws r ≡ construct-count ws = rw (le-ltb (r + 1) (rule-count ws) (omega arith)) refl in
           omega (arith, ruled .body-whole r (omega arith), sizes-before r (omega arith))
 
-  module _ (c : Unit {0}) (i : ℕ) (here : i < 256) where
+  module _ (c : Context) (i : ℕ) (here : i < 256) where
     -- a part has less room than its construct
     inside-most : (k : ℕ) → Child ws i k → rooms ws c k ≤ max 1 (height ws i)
     inside-most k ch = let l = child-lower ws ruled acyclic i k ch in omega (arith, l .0, rooms-of ws c k (λ e. omega (arith, l .1)))
@@ -111,17 +111,17 @@ module _ (ws : List ℕ) (ruled : Ruled ws) (acyclic : Acyclic ws) where
     housed (Construct.Uint width start end binder) e f = omega arith
     housed Construct.Eod e f = omega arith
 
-  housed-missing : (c : Unit {0}) (i : ℕ) → constructAt ws i ≡ Construct.Missing → room (rooms ws) c (node-of ws i (constructAt ws i)) ≤ max 1 (height ws i)
+  housed-missing : (c : Context) (i : ℕ) → constructAt ws i ≡ Construct.Missing → room (rooms ws) c (node-of ws i (constructAt ws i)) ≤ max 1 (height ws i)
   unfolding room node-of largest
   housed-missing c i e = rw (e, node-of) (omega arith)
 
-  housed-there : (c : Unit {0}) (i : ℕ) → room (rooms ws) c (node-of ws i (constructAt ws i)) ≤ max 1 (height ws i)
+  housed-there : (c : Context) (i : ℕ) → room (rooms ws) c (node-of ws i (constructAt ws i)) ≤ max 1 (height ws i)
   housed-there c i = elim (decLt i (construct-count ws)) [
     | yes h ↦ housed c i (omega (arith, ruled .constructs-most)) (constructAt ws i) refl (ruled .filled i h)
     | no h ↦ housed-missing c i (ruled .none-after i (omega arith))
   ]
 
-  housed-opening : (c : Unit {0}) → room (rooms ws) c (use-node ws 0) ≤ rooms ws c opening
+  housed-opening : (c : Context) → room (rooms ws) c (use-node ws 0) ≤ rooms ws c opening
   unfolding room
   housed-opening c = omega (arith, rooms-opening ws c, rooms-of ws c (body-of ws 0) (λ e. omega (arith, start-there ws ruled acyclic)))
 
@@ -134,6 +134,6 @@ module _ (ws : List ℕ) (ruled : Ruled ws) (acyclic : Acyclic ws) where
       go (no a) (no b) = let e : i ≡ opening = omega arith in rw (e, held-opening ws) (housed-opening c)
 
   -- "the list is longer than 256" never comes from an opening
-  pub opening-room : rooms ws tt opening ≤ 256
+  pub opening-room : rooms ws first-context opening ≤ 256
   opening-room =
-      omega (arith, rooms-opening ws tt, spread-body ws ruled acyclic (rule-size ws) 0 (omega (arith, ruled .some-rule)), sizes-all, ruled .constructs-most)
+      omega (arith, rooms-opening ws first-context, spread-body ws ruled acyclic (rule-size ws) 0 (omega (arith, ruled .some-rule)), sizes-all, ruled .constructs-most)

@@ -11,7 +11,7 @@ use lib.Seq.{getD-set-same, getD-set-other}
 use Rattle.theory.specs.Weight.{largest, weigh, Weighs}
 use Rattle.layout.specs.Places.{rule-count, construct-count}
 use Rattle.layout.specs.Constructs.{constructAt}
-use Rattle.layout.specs.Held.{node-of, held, opening}
+use Rattle.layout.specs.Held.{Context, first-context, node-of, held, opening}
 use Rattle.layout.specs.declared.Construct.{Construct}
 use Rattle.rules.specs.Reaching.{body-of, Acyclic}
 use Rattle.rules.proofs.Constructs.{size-within}
@@ -27,16 +27,16 @@ use Rattle.weights.proofs.Congruence.{weigh-same}
 abbrev rank : List ℕ → ℕ → ℕ
 rank ws i = spread ws (λ q. 1) i
 
-module _ (ws : List ℕ) (ruled : Ruled ws) (acyclic : Acyclic ws) (weight : Unit {0} → ℕ → ℕ) (weighs : Weighs (held ws) weight) where
+module _ (ws : List ℕ) (ruled : Ruled ws) (acyclic : Acyclic ws) (weight : Context → ℕ → ℕ) (weighs : Weighs (held ws) weight) where
   abbrev Right : List ℕ → ℕ → Type 0
-  Right xs i = getD xs i 0 ≡ capped (weight tt i)
+  Right xs i = getD xs i 0 ≡ capped (weight first-context i)
 
-  weight-node : (i : ℕ) → i < 256 → weight tt i ≡ weigh weight tt (node-of ws i (constructAt ws i))
-  weight-node i h = weighs tt i ∙ ap (weigh weight tt) (held-node ws i (λ e. omega arith))
+  weight-node : (i : ℕ) → i < 256 → weight first-context i ≡ weigh weight first-context (node-of ws i (constructAt ws i))
+  weight-node i h = weighs first-context i ∙ ap (weigh weight first-context) (held-node ws i (λ e. omega arith))
 
-  weight-missing : (i : ℕ) → i < 256 → construct-count ws ≤ i → weight tt i ≡ 1
+  weight-missing : (i : ℕ) → i < 256 → construct-count ws ≤ i → weight first-context i ≡ 1
   unfolding weigh node-of largest
-  weight-missing i h l = weight-node i h ∙ ap (λ (x : Construct). weigh weight tt (node-of ws i x)) (ruled .none-after i l)
+  weight-missing i h l = weight-node i h ∙ ap (λ (x : Construct). weigh weight first-context (node-of ws i x)) (ruled .none-after i l)
 
   -- during sweep n: constructs from m on are done
   pub record State (n m : ℕ) (xs : List ℕ) : Type 0 where
@@ -54,10 +54,10 @@ module _ (ws : List ℕ) (ruled : Ruled ws) (acyclic : Acyclic ws) (weight : Uni
         let b : body-of ws p < construct-count ws = ruled .body-there p l in
         subst (Right xs) (sym z) (state .before (body-of ws p) (omega (arith, ruled .constructs-most)) (omega (arith, spread-used ws ruled acyclic (λ q. 1) i p e l)))
 
-    weighed-right : rank ws i ≤ n → weighed ws xs i ≡ capped (weight tt i)
+    weighed-right : rank ws i ≤ n → weighed ws xs i ≡ capped (weight first-context i)
     weighed-right h =
         weigh-same 65536 (λ c j. getD xs j 0) weight (node-of ws i (constructAt ws i))
-        (children ws i (λ k. min 65536 (getD xs k 0) ≡ min 65536 (weight tt k)) (λ k c. let r : getD xs k 0 ≡ min 65536 (weight tt k) = child-right h k c in omega arith) ruled)
+        (children ws i (λ k. min 65536 (getD xs k 0) ≡ min 65536 (weight first-context k)) (λ k c. let r : getD xs k 0 ≡ min 65536 (weight first-context k) = child-right h k c in omega arith) ruled)
         ∙ ap capped (sym (weight-node i (omega (arith, ruled .constructs-most))))
 
     stored : (j : ℕ) → (j ≡ i → rank ws i ≤ n) → ((j ≡ i → ⊥) → Right xs j) → Right (set xs i (weighed ws xs i)) j
@@ -114,9 +114,9 @@ module _ (ws : List ℕ) (ruled : Ruled ws) (acyclic : Acyclic ws) (weight : Uni
   all-right : (i : ℕ) → i < 256 → Right (settled ws (construct-count ws) (rule-count ws + 1) (replicate 256 1)) i
   all-right i h = final .before i h (omega (arith, spread-most ws ruled (λ q. 1) i, total-ones (rule-count ws)))
 
-  weight-opening : weight tt opening ≡ 1 + weight tt (body-of ws 0)
+  weight-opening : weight first-context opening ≡ 1 + weight first-context (body-of ws 0)
   unfolding weigh
-  weight-opening = weighs tt opening ∙ ap (weigh weight tt) (held-opening ws)
+  weight-opening = weighs first-context opening ∙ ap (weigh weight first-context) (held-opening ws)
 
 -- the list that the function makes
 abbrev pub made : List ℕ → List ℕ
@@ -131,8 +131,8 @@ made-right ws ruled acyclic weight weighs i h =
 pub grammar-right : (ws : List ℕ) (n g : ℕ) → n ≡ getD (made ws) (body-of ws 0) 0 → g ≡ capped (1 + n) → Weight ws g
 grammar-right ws n g e f ruled acyclic weight weighs =
     let b : body-of ws 0 < construct-count ws = ruled .body-there 0 (omega (arith, ruled .some-rule)) in
-    let r : getD (made ws) (body-of ws 0) 0 ≡ capped (weight tt (body-of ws 0)) = made-right ws ruled acyclic weight weighs (body-of ws 0) (omega (arith, ruled .constructs-most)) in
-    let o : weight tt opening ≡ 1 + weight tt (body-of ws 0) = weight-opening ws ruled acyclic weight weighs in
+    let r : getD (made ws) (body-of ws 0) 0 ≡ capped (weight first-context (body-of ws 0)) = made-right ws ruled acyclic weight weighs (body-of ws 0) (omega (arith, ruled .constructs-most)) in
+    let o : weight first-context opening ≡ 1 + weight first-context (body-of ws 0) = weight-opening ws ruled acyclic weight weighs in
     omega arith
 
 pub made-all : (ws xs : List ℕ) (n k b g : ℕ) → xs ≡ settled ws n (k + 1) (replicate 256 1) → n ≡ min 256 (construct-count ws) → k ≡ min 64 (rule-count ws)

@@ -7,7 +7,7 @@ use mathlib.Core.Logic.{_↔_}
 use mathlib.Core.List.{List}
 use lib.ListN.{getD}
 use Rattle.theory.specs.Weight.{Weighs, Houses}
-use Rattle.layout.specs.Held.{held, opening}
+use Rattle.layout.specs.Held.{Context, first-context, held, opening}
 use Rattle.rules.specs.Reaching.{Acyclic}
 use Rattle.weights.specs.Ruled.{Ruled}
 use Rattle.weights.specs.Sweeps.{capped}
@@ -20,7 +20,7 @@ module _ (ws : List ℕ) (ruled : Ruled ws) (acyclic : Acyclic ws) where
   pub weights-exist : Weighs (held ws) (λ c i. weight-at ws i)
   weights-exist = weighs ws ruled acyclic
 
-  pub weights-unique : (v w : Unit {0} → ℕ → ℕ) → Weighs (held ws) v → Weighs (held ws) w → (i : ℕ) → v tt i ≡ w tt i
+  pub weights-unique : (v w : Context → ℕ → ℕ) → Weighs (held ws) v → Weighs (held ws) w → (i : ℕ) → v first-context i ≡ w first-context i
   weights-unique = unique ws ruled acyclic
 
   -- what the function's answer says of them
@@ -38,5 +38,5 @@ module _ (ws : List ℕ) (ruled : Ruled ws) (acyclic : Acyclic ws) where
   over-limit n a = (λ h. omega (arith, grammar-weight n a), λ h. omega (arith, grammar-weight n a))
 
   -- room for every entry, and at most 256 from an opening
-  pub rooms-enough : Houses (held ws) (rooms ws) × (rooms ws tt opening ≤ 256)
+  pub rooms-enough : Houses (held ws) (rooms ws) × (rooms ws first-context opening ≤ 256)
   rooms-enough = (houses ws ruled acyclic, opening-room ws ruled acyclic)

@@ -6,7 +6,7 @@ use mathlib.Core.List.{List}
 use lib.ListN.{getD, set}
 use Rattle.theory.specs.Weight.{sum, largest, weigh}
 use Rattle.layout.specs.Constructs.{constructAt}
-use Rattle.layout.specs.Held.{node-of}
+use Rattle.layout.specs.Held.{first-context, node-of}
 
 -- weights are kept up to 65,536, which stands for all that are over 65,535
 abbrev pub capped : ℕ → ℕ
@@ -14,7 +14,7 @@ capped n = min 65536 n
 
 -- the weight of construct i, given those in the list; past the list's end they are 0
 abbrev pub weighed : List ℕ → List ℕ → ℕ → ℕ
-weighed ws xs i = capped (weigh (λ c j. getD xs j 0) tt (node-of ws i (constructAt ws i)))
+weighed ws xs i = capped (weigh (λ c j. getD xs j 0) first-context (node-of ws i (constructAt ws i)))
 
 -- two weights, added or the larger of them
 abbrev pub joined : Bool → ℕ → ℕ → ℕ

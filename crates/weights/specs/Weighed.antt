@@ -6,15 +6,15 @@ use mathlib.Core.Path.{_≡_}
 use mathlib.Core.List.{List}
 use lib.ListN.{getD}
 use Rattle.theory.specs.Weight.{Weighs}
-use Rattle.layout.specs.Held.{held, opening}
+use Rattle.layout.specs.Held.{Context, first-context, held, opening}
 use Rattle.rules.specs.Reaching.{Acyclic}
 use Rattle.weights.specs.Ruled.{Ruled}
 use Rattle.weights.specs.Sweeps.{capped}
 
 -- the list has the weight of each construct, up to 65,536 (no more than one function gives the weights, and the laws say that one does)
 abbrev pub Weights : List ℕ → List ℕ → Type 0
-Weights ws xs = Ruled ws → Acyclic ws → (weight : Unit {0} → ℕ → ℕ) → Weighs (held ws) weight → (i : ℕ) → i < 256 → getD xs i 0 ≡ capped (weight tt i)
+Weights ws xs = Ruled ws → Acyclic ws → (weight : Context → ℕ → ℕ) → Weighs (held ws) weight → (i : ℕ) → i < 256 → getD xs i 0 ≡ capped (weight first-context i)
 
 -- the grammar's weight, up to 65,536
 abbrev pub Weight : List ℕ → ℕ → Type 0
-Weight ws n = Ruled ws → Acyclic ws → (weight : Unit {0} → ℕ → ℕ) → Weighs (held ws) weight → n ≡ capped (weight tt opening)
+Weight ws n = Ruled ws → Acyclic ws → (weight : Context → ℕ → ℕ) → Weighs (held ws) weight → n ≡ capped (weight first-context opening)
