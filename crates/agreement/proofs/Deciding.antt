@@ -126,7 +126,7 @@ module _ (ws fs : List ℕ) (vs : List ℤ) (p i k : ℕ) (others : List HeldEnt
   -- a field: so many bits are left, and they are right
   does-set : (w binder n : ℕ) (admits : Context → Values → Bits → Bool) (static : Bits → Bool) (binds : Context → Values → Bits → Values) (t : Tested)
       → leb w (length rest) ≡ true → isYes t ≡ admits first-context vs (take w rest) → bound binder vs n ≡ binds first-context vs (take w rest) → Definite (by-set t w binder n)
-      → Does (field w admits static binds) (by-set t w binder n)
+      → Does (field (λ bits. w) admits static binds) (by-set t w binder n)
   unfolding act
   does-set w binder n admits static binds Tested.Yes l y b s =
       record {
@@ -139,7 +139,7 @@ module _ (ws fs : List ℕ) (vs : List ℤ) (p i k : ℕ) (others : List HeldEnt
   does-set w binder n admits static binds Tested.Malformed l y b s = absurd (s refl)
   does-set w binder n admits static binds Tested.Overflow l y b s = absurd (s refl)
 
-  does-short : (w : ℕ) (admits : Context → Values → Bits → Bool) (static : Bits → Bool) (binds : Context → Values → Bits → Values) → leb w (length rest) ≡ false → Does (field w admits static binds) Act.Fail
+  does-short : (w : ℕ) (admits : Context → Values → Bits → Bool) (static : Bits → Bool) (binds : Context → Values → Bits → Values) → leb w (length rest) ≡ false → Does (field (λ bits. w) admits static binds) Act.Fail
   unfolding act
   does-short w admits static binds l = record { agrees = rw (l, act); members = tt }
 
@@ -149,7 +149,7 @@ module _ (ws fs : List ℕ) (vs : List ℤ) (p i k : ℕ) (others : List HeldEnt
 
     does-field : (w binder n : ℕ) (admits : Context → Values → Bits → Bool) (static : Bits → Bool) (binds : Context → Values → Bits → Values) (t : Tested)
         → isYes t ≡ admits first-context vs (take w rest) → bound binder vs n ≡ binds first-context vs (take w rest) → Definite (pick (leb (p + w) (bits-of fs)) (by-set t w binder n) Act.Fail)
-        → Does (field w admits static binds) (pick (leb (p + w) (bits-of fs)) (by-set t w binder n) Act.Fail)
+        → Does (field (λ bits. w) admits static binds) (pick (leb (p + w) (bits-of fs)) (by-set t w binder n) Act.Fail)
     does-field w binder n admits static binds t y b s =
         elim (decide (leb (p + w) (bits-of fs))) [
           | inl e ↦
@@ -169,7 +169,7 @@ module _ (ws fs : List ℕ) (vs : List ℤ) (p i k : ℕ) (others : List HeldEnt
         let z : p + 8 * 0 ≡ p = omega arith in
         let e : isYes (tested t) ≡ same (take (8 * n) rest) (frameBits bytes) = tested-yes t ∙ ap (λ (q : ℕ). same (take (8 * n) (drop q (frameBits fs))) (frameBits bytes)) z in
         let q : literal-act ws fs p i n ≡ pick (leb (p + 8 * n) (bits-of fs)) (by-set (tested t) (8 * n) 0 0) Act.Fail = ap (λ (a : Act). pick (leb (p + 8 * n) (bits-of fs)) a Act.Fail) (tested-set t (8 * n)) in
-        subst (λ (m : ℕ). Does (field (8 * m) (λ c v bits. same bits (frameBits bytes)) (λ bits. same bits (frameBits bytes)) (λ c v bits. v)) (literal-act ws fs p i n)) (sym (literal-long ws i 0 n))
+        subst (λ (m : ℕ). Does (field (λ bits. 8 * m) (λ c v bits. same bits (frameBits bytes)) (λ bits. same bits (frameBits bytes)) (λ c v bits. v)) (literal-act ws fs p i n)) (sym (literal-long ws i 0 n))
         (rw q (does-field (8 * n) 0 0 (λ c v bits. same bits (frameBits bytes)) (λ bits. same bits (frameBits bytes)) (λ c v bits. v) (tested t) e refl (rw q at s)))
 
     does-range : (low high : ℕ) → Definite (range-act fs p low high) → Does (range-node low high) (range-act fs p low high)

@@ -134,12 +134,12 @@ literal-bytes ws i k (suc n) = literal-byte ws i k ∷ literal-bytes ws i (k + 1
 
 -- "8 bits a character": these bits and no others
 abbrev pub literal-node : List ℕ → HeldNode
-literal-node bytes = field (8 * length bytes) (λ c v bits. same bits (frameBits bytes)) (λ bits. same bits (frameBits bytes)) (λ c v bits. v)
+literal-node bytes = field (λ bits. 8 * length bytes) (λ c v bits. same bits (frameBits bytes)) (λ bits. same bits (frameBits bytes)) (λ c v bits. v)
 
 -- "a range of one-character literals": 8 bits, a number from the one character to the other
 abbrev pub range-node : ℕ → ℕ → HeldNode
 range-node low high =
-    field 8 (λ c v bits. both (leb low (value bits)) (leb (value bits) high)) (λ bits. both (leb low (value bits)) (leb (value bits) high)) (λ c v bits. v)
+    field (λ bits. 8) (λ c v bits. both (leb low (value bits)) (leb (value bits) high)) (λ bits. both (leb low (value bits)) (leb (value bits) high)) (λ c v bits. v)
 
 -- the value is in the set of these terms
 abbrev pub in-set : List ℕ → ℕ → ℕ → Values → ℕ → Bool
@@ -157,7 +157,7 @@ bound (suc x) v n = set v x (pos n)
 -- "`uint(width, set)`, …, most significant bit first; `uint(width, var(name, set))` also binds the value"
 abbrev pub uint-node : List ℕ → ℕ → ℕ → ℕ → ℕ → HeldNode
 uint-node ws width start end binder =
-    field width (λ c v bits. in-set ws start end v (value bits)) (λ bits. in-static-set ws start end (value bits)) (λ c v bits. bound binder v (value bits))
+    field (λ bits. width) (λ c v bits. in-set ws start end v (value bits)) (λ bits. in-static-set ws start end (value bits)) (λ c v bits. bound binder v (value bits))
 
 -- ---- nodes
 

@@ -91,7 +91,7 @@ module _ (ws : List ℕ) (i s e : ℕ) (list : List Term) where
   uint-same width k binds is =
       let at : (v : Values) (n : ℕ) → membership v (pos n) s (terms (term-words ws) s e) ≡ membership v (pos n) 0 list =
       λ v n. same-membership v (pos n) s 0 (terms (term-words ws) s e) ∙ ap (membership v (pos n) 0) is in
-      λ t. field width (λ c v bits. isYes (at v (value bits) t)) (λ bits. pick (hasVariable (is t)) true (isYes (at [] (value bits) t))) (λ c v bits. binder-bound binds k v (value bits) t)
+      λ t. field (λ bits. width) (λ c v bits. isYes (at v (value bits) t)) (λ bits. pick (hasVariable (is t)) true (isYes (at [] (value bits) t))) (λ c v bits. binder-bound binds k v (value bits) t)
 
 -- the bytes from byte k on are the characters from there on
 bytes-same : (ws : List ℕ) (i : ℕ) (list : List ℕ) → ((k : ℕ) → k < length list → literal-byte ws i k ≡ getD list k 0) → (n k : ℕ) → k + n ≡ length list → literal-bytes ws i k n ≡ drop k list

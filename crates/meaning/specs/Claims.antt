@@ -46,7 +46,7 @@ CountsFit list v = Fits (λ w. ofTally (counted Mode.Sizes w list)) v
 pub record UintMeans (node : HeldNode) (width : ℕ) (list : List Term) (binds : Bool) (variable : ℕ) : Type 0 where
   pub admits : Context → Values → Bits → Bool
   pub static : Bits → Bool
-  pub node-is : node ≡ field width admits static (λ c v bits. pick binds (set v variable (pos (value bits))) v)
+  pub node-is : node ≡ field (λ bits. width) admits static (λ c v bits. pick binds (set v variable (pos (value bits))) v)
   pub tree : ValueSet
   pub list-is : list ≡ setTerms tree
   pub admitted : (c : Context) (v : Values) (bits : Bits) → ListFits Kind.Set list v → admits c v bits ≡ has v tree (pos (value bits))

@@ -84,7 +84,7 @@ in-static-set list n = pick (hasVariable list) true (in-set list [] n)
 -- "Values below 0 or above the width drop out silently": so many bits have no others. It may also bind the value.
 abbrev pub uint-node : (width : ℕ) → List Term → (binds : Bool) → (variable : ℕ) → HeldNode
 uint-node width list binds variable =
-    field width (λ c v bits. in-set list v (value bits)) (λ bits. in-static-set list (value bits)) (λ c v bits. pick binds (set v variable (pos (value bits))) v)
+    field (λ bits. width) (λ c v bits. in-set list v (value bits)) (λ bits. in-static-set list (value bits)) (λ c v bits. pick binds (set v variable (pos (value bits))) v)
 
 -- ---- rules: "a rule's name" stands for its body
 

@@ -96,16 +96,16 @@ module _ (low high : ℕ) (h : high < 128) where
   abbrev test : Bits → Bool
   test bits = both (leb low (value bits)) (leb (value bits) high)
 
-  pub range-strings : (x : Bits) → Numbered (256 + low) (257 + high) Any x ↔ Leading 8 test x
+  pub range-strings : (x : Bits) → Numbered (256 + low) (257 + high) Any x ↔ Leading (λ bits. 8) test x
   range-strings x = (to, back)
     where
-      to : Numbered (256 + low) (257 + high) Any x → Leading 8 test x
+      to : Numbered (256 + low) (257 + high) Any x → Leading (λ bits. 8) test x
       to q =
           let e : length x ≡ 8 = eight x (q .0) (omega (arith, q .1)) in
           let v : number x ≡ 256 + value x = number-eight x e in
           (x, e, both-true (leb low (value x)) (leb (value x) high) (le-leb low (value x) (omega (arith, q .1))) (le-leb (value x) high (omega (arith, q .2))), sym (lookahead-short x (omega arith)))
 
-      back : Leading 8 test x → Numbered (256 + low) (257 + high) Any x
+      back : Leading (λ bits. 8) test x → Numbered (256 + low) (257 + high) Any x
       back (bits, e, t, p) =
           let b : x ≡ bits = p ∙ lookahead-short bits (omega arith) in
           let l : length x ≡ 8 = ap length b ∙ e in
@@ -124,13 +124,13 @@ frame-first b bs = take-at (bitsOf 8 b) (frameBits bs) 8 (length-bitsOf 8 b)
 
 module _ (b : ℕ) (bs : List ℕ) where
   -- the strings of a literal: its first byte
-  literal-strings : (x : Bits) → ((length x ≤ 8) × (number x ≡ 256 + b % 256)) ↔ Leading (8 * length (b ∷ bs)) (λ bits. same bits (frameBits (b ∷ bs))) x
+  literal-strings : (x : Bits) → ((length x ≤ 8) × (number x ≡ 256 + b % 256)) ↔ Leading (λ bits. 8 * length (b ∷ bs)) (λ bits. same bits (frameBits (b ∷ bs))) x
   literal-strings x = (to, back)
     where
-      to : (length x ≤ 8) × (number x ≡ 256 + b % 256) → Leading (8 * length (b ∷ bs)) (λ bits. same bits (frameBits (b ∷ bs))) x
+      to : (length x ≤ 8) × (number x ≡ 256 + b % 256) → Leading (λ bits. 8 * length (b ∷ bs)) (λ bits. same bits (frameBits (b ∷ bs))) x
       to q = (frameBits (b ∷ bs), frame-length (b ∷ bs), same-refl (frameBits (b ∷ bs)), number-injective x (bitsOf 8 b) (q .1 ∙ sym (number-bitsOf 8 b)) ∙ sym (frame-first b bs))
 
-      back : Leading (8 * length (b ∷ bs)) (λ bits. same bits (frameBits (b ∷ bs))) x → (length x ≤ 8) × (number x ≡ 256 + b % 256)
+      back : Leading (λ bits. 8 * length (b ∷ bs)) (λ bits. same bits (frameBits (b ∷ bs))) x → (length x ≤ 8) × (number x ≡ 256 + b % 256)
       back (bits, l, t, p) =
           let e : x ≡ bitsOf 8 b = p ∙ ap lookahead (same-true bits (frameBits (b ∷ bs)) t) ∙ frame-first b bs in
           (subst (λ (s : Bits). length s ≤ 8) (sym p) (lookahead-length bits), ap number e ∙ number-bitsOf 8 b)
@@ -156,15 +156,15 @@ module _ (ws : List ℕ) (start end : ℕ) where
     abbrev count : ℕ
     count = 2 ^ min 8 width
 
-    pub uint-strings : (x : Bits) → Numbered count (count + count) (Led width (term-words ws) start end) x ↔ Leading width (λ bits. in-static-set ws start end (value bits)) x
+    pub uint-strings : (x : Bits) → Numbered count (count + count) (Led width (term-words ws) start end) x ↔ Leading (λ bits. width) (λ bits. in-static-set ws start end (value bits)) x
     uint-strings x = (to, back)
       where
-        to : Numbered count (count + count) (Led width (term-words ws) start end) x → Leading width (λ bits. in-static-set ws start end (value bits)) x
+        to : Numbered count (count + count) (Led width (term-words ws) start end) x → Leading (λ bits. width) (λ bits. in-static-set ws start end (value bits)) x
         to (l, lo, hi, (v, k)) =
             let e : value (bitsOf width v) ≡ v = value-bitsOf width v ∙ mod-eq-of-lt (k .less) in
             (bitsOf width v, length-bitsOf width v, ap (in-static-set ws start end) e ∙ static-admits v ∙ k .member, number-injective x (lookahead (bitsOf width v)) (sym (k .leading)))
 
-        back : Leading width (λ bits. in-static-set ws start end (value bits)) x → Numbered count (count + count) (Led width (term-words ws) start end) x
+        back : Leading (λ bits. width) (λ bits. in-static-set ws start end (value bits)) x → Numbered count (count + count) (Led width (term-words ws) start end) x
         back (bits, l, t, p) =
             let n : length x ≡ min 8 width = ap length p ∙ length-take 8 bits ∙ ap (min 8) l in
             let b : bitsOf width (value bits) ≡ bits = ap (λ (w : ℕ). bitsOf w (value bits)) (sym l) ∙ bitsOf-value bits in
@@ -210,7 +210,7 @@ module _ (ws : List ℕ) (i : ℕ) (h : i < 257) (r : Construct) (e : r ≡ cons
       let w : ℕ = word ws (literals-at + 8 * i + 0) in
       let b : ℕ = w / 1 % 256 in
       let q : b % 256 ≡ word ws (literals-at + 8 * i) % 256 = omega arith ∙ ap (λ (k : ℕ). word ws k % 256) (add-zero (literals-at + 8 * i)) in
-      subst (λ (k : ℕ). ((length x ≤ 8) × (number x ≡ 256 + k)) ↔ Leading (8 * length (b ∷ literal-bytes ws i 1 n)) (λ bits. same bits (frameBits (b ∷ literal-bytes ws i 1 n))) x) q (literal-strings b (literal-bytes ws i 1 n) x)
+      subst (λ (k : ℕ). ((length x ≤ 8) × (number x ≡ 256 + k)) ↔ Leading (λ bits. 8 * length (b ∷ literal-bytes ws i 1 n)) (λ bits. same bits (frameBits (b ∷ literal-bytes ws i 1 n))) x) q (literal-strings b (literal-bytes ws i 1 n) x)
 
   pub seed-literal : (n : ℕ) (w : ℕ) → r ≡ Construct.Literal n → 1 ≤ n → w ≡ word ws (literals-at + 8 * i)
       → Is out (λ (x : Bits). (length x ≤ 8) × (number x ≡ 256 + w % 256)) → Right

@@ -25,8 +25,8 @@ Members F [] x = x ≡ []
 Members F (m ∷ is) x = Joined (F m) (Members F is) x
 
 -- "the leading 8 bits (or all, if fewer) of each bit pattern it admits"
-abbrev pub Leading : ℕ → (Bits → Bool) → Bits → Type 0
-Leading w static x = (bits : Bits) × (length bits ≡ w) × (static bits ≡ true) × (x ≡ lookahead bits)
+abbrev pub Leading : (Bits → ℕ) → (Bits → Bool) → Bits → Type 0
+Leading w static x = (bits : Bits) × (length bits ≡ w bits) × (static bits ≡ true) × (x ≡ lookahead bits)
 
 module _ {Context Values : Type 0} where
   -- the strings of a node that has no parts

@@ -52,7 +52,7 @@ every-one (suc n) test e (false ∷ bits) l =
     every-one n (λ s. test (false ∷ s)) (both-true (every n (λ s. test (true ∷ s))) (every n (λ s. test (false ∷ s))) e .1) bits (omega arith)
 
 one-string : (h : Grammar Context Values) (i w : ℕ) (it : Bits) (admits : Context → Values → Bits → Bool) (static : Bits → Bool) (binds : Context → Values → Bits → Values)
-    → h .node i ≡ field w admits static binds → length it ≡ w → static it ≡ true → every w (λ s. cond (static s) (same s it) true) ≡ true
+    → h .node i ≡ field (λ bits. w) admits static binds → length it ≡ w → static it ≡ true → every w (λ s. cond (static s) (same s it) true) ≡ true
     → Exactly (First-of h i) (lookahead it ∷ [])
 one-string h i w it admits static binds e l t a x = (there, λ m. subst (λ (n : HeldNode). First h (construct i n) x) (sym e) (First.of-field it l t (List·Memᴰ·eq-of-singleton m)))
   where

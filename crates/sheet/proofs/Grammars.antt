@@ -105,5 +105,5 @@ some-bits [] w l e = omega arith
 some-bits (b ∷ bits) w l e = let z : _≡_ {A = ℕ} 0 1 = cc in omega arith
 
 pub field-first : (h : Grammar Context Values) (i w : ℕ) {admits : Context → Values → Bits → Bool} {static : Bits → Bool} {binds : Context → Values → Bits → Values}
-    → First h (construct i (field (suc w) admits static binds)) [] → ⊥
+    → First h (construct i (field (λ bits. suc w) admits static binds)) [] → ⊥
 field-first h i w f = let (bits, l, s, z) = first-by h f in some-bits bits w l z

@@ -141,7 +141,7 @@ module _ {ws ws′ : List ℕ} (a : Alike ws ws′) where
   node-same i (Construct.Range low high) f = refl
   node-same i (Construct.Uint width start end binder) f =
       ap (λ (w : List ℕ).
-      field width (λ c v bits. isYes (membership v (pos (value bits)) start (terms w start end)))
+      field (λ bits. width) (λ c v bits. isYes (membership v (pos (value bits)) start (terms w start end)))
       (λ bits. pick (hasVariable (terms w start end)) true (isYes (membership [] (pos (value bits)) start (terms w start end))))
       (λ c v bits. bound binder v (value bits))) terms-same
   node-same i Construct.Eod f = refl

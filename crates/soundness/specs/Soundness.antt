@@ -31,5 +31,5 @@ pub record Trusted (ws : List ℕ) : Type 0 where
   pub houses : Houses (held ws) rooms
   pub room-most : rooms first-context opening ≤ 256
   -- 22, "two u32 words for each frame bit": a field takes at least one bit, so no bit has two captures
-  pub one-capture-a-bit : (i : ℕ) {w : ℕ} {admits : Context → Values → Bits → Bool} {static : Bits → Bool} {binds : Context → Values → Bits → Values}
-      → held ws .node i ≡ field w admits static binds → 1 ≤ w
+  pub one-capture-a-bit : (i : ℕ) {w : Bits → ℕ} {admits : Context → Values → Bits → Bool} {static : Bits → Bool} {binds : Context → Values → Bits → Values}
+      → held ws .node i ≡ field w admits static binds → (s : Bits) → 1 ≤ w s

@@ -39,7 +39,7 @@ Kept (concatenation is) = Unit {0}
 Kept (repetition counts static fixed b) = Unit {0}
 Kept (switch chosen is) = Unit {0}
 Kept (use-of enters opens closes b) = (v v′ : Values) → closes v v′ ≡ v′
-Kept (field w admits static binds) = 1 ≤ w
+Kept (field w admits static binds) = (s : Bits) → 1 ≤ w s
 Kept eod = Unit {0}
 
 construct-kept : (ws : List ℕ) (i : ℕ) (c : Construct) → Fine i c → Kept (node-of ws i c)
@@ -50,18 +50,18 @@ construct-kept ws i (Construct.Concatenation size) w = tt
 construct-kept ws i (Construct.Repetition size p) w = tt
 construct-kept ws i (Construct.Switch size) w = tt
 construct-kept ws i (Construct.Use rule) w = λ v v′. refl
-construct-kept ws i (Construct.Literal n) w = let e : length (literal-bytes ws i 0 n) ≡ n = literal-long ws i 0 n in omega (arith, w .1)
-construct-kept ws i (Construct.Range low high) w = omega arith
-construct-kept ws i (Construct.Uint width start end binder) w = w .1
+construct-kept ws i (Construct.Literal n) w = λ s. let e : length (literal-bytes ws i 0 n) ≡ n = literal-long ws i 0 n in omega (arith, w .1)
+construct-kept ws i (Construct.Range low high) w = λ s. omega arith
+construct-kept ws i (Construct.Uint width start end binder) w = λ s. w .1
 construct-kept ws i Construct.Eod w = tt
 
 pub kept : (ws : List ℕ) (i : ℕ) → Kept (held ws .node i)
 unfolding held
 kept ws i = picked Kept (eqb i opening) (λ e v v′. refl) (λ e. construct-kept ws i (constructAt ws i) (fine ws i))
 
-pub width-positive : (ws : List ℕ) (i : ℕ) {w : ℕ} {admits : Context → Values → Bits → Bool} {static : Bits → Bool} {binds : Context → Values → Bits → Values}
-    → held ws .node i ≡ field w admits static binds → 1 ≤ w
-width-positive ws i e = rw e at (kept ws i)
+pub width-positive : (ws : List ℕ) (i : ℕ) {w : Bits → ℕ} {admits : Context → Values → Bits → Bool} {static : Bits → Bool} {binds : Context → Values → Bits → Values}
+    → held ws .node i ≡ field w admits static binds → (s : Bits) → 1 ≤ w s
+width-positive ws i e s = (rw e at (kept ws i)) s
 
 pub values-stay : (ws : List ℕ) (i : ℕ) {b : ℕ} {enters : Context → Option Context} {opens : Context → Values → Values} {closes : Values → Values → Values}
     → held ws .node i ≡ use-of enters opens closes b → (v v′ : Values) → closes v v′ ≡ v′

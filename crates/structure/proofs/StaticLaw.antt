@@ -1,14 +1,15 @@
 -- What is static covers what happens, in the grammar that any words hold.
 -- Assumes nothing.
-use Prim.Native.Nat.{ℕ, _+_, _-_}
+use Prim.Native.Nat.{ℕ, _+_, _-_, _≤_}
 use mathlib.Core.Path.{_≡_, refl, ap, _∙_}
 use mathlib.Core.Logic.{inl, inr}
 use mathlib.Core.Bool.{Bool, true, false}
-use mathlib.Core.List.{List, [], _∷_, List·Memᴰ·head, List·Memᴰ·tail}
+use mathlib.Core.List.{List, [], _∷_, _++_, List·Memᴰ·head, List·Memᴰ·tail}
 use mathlib.Core.Option.{some}
 use native.Mathlib.Omega.{arith}
 use lib.Dec.{ltb, eqb}
 use lib.IntN.{ℤ, pos, negsuc}
+use lib.ListN.{length, take}
 use Rattle.basis.specs.Bits.{Bits, value}
 use Rattle.basis.specs.Counts.{Allows, exactly}
 use Rattle.terms.specs.Numbers.{pick as choose}
@@ -43,7 +44,8 @@ StaticOf (repetition counts static fixed b) =
     × (fixed ≡ true → (c : Context) (v : Values) (j k : ℕ) → Allows (counts c v) j → Allows (counts c v) k → j ≡ k)
 StaticOf (switch chosen is) = (c : Context) (v : Values) (b : ℕ) → chosen c v ≡ some b → b ∈ is
 StaticOf (use-of enters opens closes b) = Unit {0}
-StaticOf (field w admits static binds) = (c : Context) (v : Values) (bits : Bits) → admits c v bits ≡ true → static bits ≡ true
+StaticOf (field w admits static binds) =
+    ((c : Context) (v : Values) (bits : Bits) → admits c v bits ≡ true → static bits ≡ true) × ((s r : Bits) → w s ≤ length s → w (take (w s) s ++ r) ≡ w s)
 StaticOf eod = Unit {0}
 
 -- "a set with a variable counting as `~`"
@@ -137,9 +139,9 @@ construct-static ws i (Construct.Concatenation size) = tt
 construct-static ws i (Construct.Repetition size p) = (λ c v k a. passes-covered ws p v k a, λ e c v j k x y. passes-once ws p e v j k x y)
 construct-static ws i (Construct.Switch size) = λ c v b e. case-listed ws v (parts size ws (i + 1) (i + size)) b e
 construct-static ws i (Construct.Use rule) = tt
-construct-static ws i (Construct.Literal length) = λ c v bits e. e
-construct-static ws i (Construct.Range low high) = λ c v bits e. e
-construct-static ws i (Construct.Uint width start end binder) = λ c v bits e. set-static ws start end v (value bits) e
+construct-static ws i (Construct.Literal length) = (λ c v bits e. e, λ s r l. refl)
+construct-static ws i (Construct.Range low high) = (λ c v bits e. e, λ s r l. refl)
+construct-static ws i (Construct.Uint width start end binder) = (λ c v bits e. set-static ws start end v (value bits) e, λ s r l. refl)
 construct-static ws i Construct.Eod = tt
 
 node-static : (ws : List ℕ) (i : ℕ) → StaticOf (held ws .node i)
@@ -149,7 +151,8 @@ node-static ws i = picked StaticOf (eqb i opening) (λ e. tt) (λ e. construct-s
 pub static : (ws : List ℕ) → Static (held ws)
 static ws =
     record {
-      bits-static = λ {i} e c v bits h. (rw e at (node-static ws i)) c v bits h;
+      bits-static = λ {i} e c v bits h. (rw e at (node-static ws i)) .0 c v bits h;
+      width-own = λ {i} e s r l. (rw e at (node-static ws i)) .1 s r l;
       counts-static = λ {i} e c v k h. (rw e at (node-static ws i)) .0 c v k h;
       fixed-once = λ {i} e c v j k x y. (rw e at (node-static ws i)) .1 refl c v j k x y;
       chosen-listed = λ {i} {b} e c v h. (rw e at (node-static ws i)) c v b h;

@@ -22,6 +22,7 @@ use Rattle.theory.specs.Derivation.{Tree, covered, Capture, captures, Sh
 use Rattle.theory.specs.Lookahead.{Follow, Predicted, Continues, Conflict}
 use Rattle.theory.specs.Machine.{Tests, Entry, entry, state, again, leave, turn, choose, entries, tree-steps}
 use Rattle.theory.specs.Hypotheses.{Hypotheses}
+use Rattle.theory.proofs.FieldWidths.{derived-width}
 use Rattle.theory.proofs.FirstTheorem.{first}
 use Rattle.theory.proofs.FollowTheorem.{After, next-follows, after-member, after-members, after-pass, derived-predicted}
 use Rattle.theory.proofs.Turns.{decide, turn-again, turn-leave}
@@ -118,9 +119,10 @@ module _ {Context Values : Type 0} (g : Grammar Context Values) (tests : Tests) 
       (arrive g tests (ap (λ (x : Values). after others t p r x cs) (sym (z ∙ h .values-stay q v v′)))
       (Path.next tt (Steps.step-use g tests q e) (follows-derivation d (Todo.one refl (Follow.of-rule q f)) others p cs)))
   follows-derivation (Derives.of-field {i} {w} {admits} {binds = binds} {c = c} {v = v} {s = s} {r = r} bits l e a z) (Todo.one q f) others p cs =
-      let front : take w s ≡ bits = ap (take w) e ∙ take-at bits r w l in
-      let back : drop w s ≡ r = ap (drop w) e ∙ drop-at bits r w l in
-      let long : leb w (length s) ≡ true = le-leb w (length s) (omega (arith, l, ap length e, length-append bits r)) in
+      let l : length bits ≡ w s = derived-width g (h .static) q bits r l e in
+      let front : take (w s) s ≡ bits = ap (take (w s)) e ∙ take-at bits r (w s) l in
+      let back : drop (w s) s ≡ r = ap (drop (w s)) e ∙ drop-at bits r (w s) l in
+      let long : leb (w s) (length s) ≡ true = le-leb (w s) (length s) (omega (arith, l, ap length e, length-append bits r)) in
       resize g tests (omega arith)
       (arrive g tests (rw (back, front, z, l))
       (Path.next tt (Steps.step-field g tests q long (ap (admits c v) front ∙ a)) Path.here))

@@ -72,12 +72,12 @@ module _ {Context Values : Type 0} (g : Grammar Context Values) (tests : Tests) 
     effect v τ (use-of enters opens closes b) q e =
         elim (given (enters c)) [ inl z ↦ never (rw (z, act) at e) | inr z ↦ is-effect (rw (z .1, act) at e) (Effect.replaces (Replaced.by-body (z .1)) refl) ]
     effect v τ (field w admits static binds) q e =
-        elim (decide (leb w (length s))) [
+        elim (decide (leb (w s) (length s))) [
           | inl z ↦
-              elim (decide (admits c v (take w s))) [
+              elim (decide (admits c v (take (w s) s))) [
                 | inl y ↦
                     is-effect (rw (z, y, act) at e)
-                    (Effect.takes w (h .width-positive q) refl (leb-true w (length s) z) refl (length-append cs (record { construct = i; first-bit = p } ∷ [])))
+                    (Effect.takes (w s) (h .width-positive q s) refl (leb-true (w s) (length s) z) refl (length-append cs (record { construct = i; first-bit = p } ∷ [])))
                 | inr y ↦ never (rw (z, y, act) at e)
               ]
           | inr z ↦ never (rw (z, act) at e)

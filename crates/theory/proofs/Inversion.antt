@@ -23,7 +23,7 @@ module _ {Context Values : Type 0} (g : Grammar Context Values) where
   FirstBy (construct i (repetition counts static fixed b)) x = (k : ℕ) × Allows static k × First g (passes b k) x
   FirstBy (construct i (switch chosen is)) x = (b : ℕ) × (b ∈ is) × First-of b x
   FirstBy (construct i (use-of enters opens closes b)) x = First-of b x
-  FirstBy (construct i (field w admits static binds)) x = (bits : Bits) × (length bits ≡ w) × (static bits ≡ true) × (x ≡ lookahead bits)
+  FirstBy (construct i (field w admits static binds)) x = (bits : Bits) × (length bits ≡ w bits) × (static bits ≡ true) × (x ≡ lookahead bits)
   FirstBy (construct i eod) x = x ≡ []
   FirstBy (members []) x = x ≡ []
   FirstBy (members (m ∷ is)) x = (y : Bits) × (z : Bits) × First-of m y × First g (members is) z × (x ≡ join y z)

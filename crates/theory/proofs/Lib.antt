@@ -1,4 +1,5 @@
 -- The proofs of the theorems in `specs/Theorems.antt`, a file for each; `Theorems` has them all.
+pub mod FieldWidths
 pub mod FirstTheorem
 pub mod FollowTheorem
 pub mod UniqueTheorem

@@ -4,9 +4,9 @@ use Prim.Native.Nat.{ℕ, _≤_}
 use mathlib.Core.Path.{_≡_, refl, subst}
 use mathlib.Core.Logic.{_↔_, _≢_}
 use mathlib.Core.Bool.{Bool, true, false}
-use mathlib.Core.List.{List, []}
+use mathlib.Core.List.{List, [], _++_}
 use mathlib.Core.Option.{some}
-use lib.ListN.{length}
+use lib.ListN.{length, take}
 use Rattle.basis.specs.Bits.{Bits}
 use Rattle.basis.specs.Counts.{Counts, Allows}
 use Rattle.theory.specs.Grammar.{Node, alternative, concatenation, repetition, switch, use-of, field, eod, Grammar, _∈_}
@@ -37,7 +37,8 @@ module _ {Context Values : Type 0} (g : Grammar Context Values) (tests : Tests) 
   Law i (repetition counts static fixed b) = Repeats i counts static fixed b
   Law i (switch chosen is) = (b : ℕ) (c : Context) (v : Values) → chosen c v ≡ some b → b ∈ is
   Law i (use-of enters opens closes b) = (v v′ : Values) → closes v v′ ≡ v′
-  Law i (field w admits static binds) = (1 ≤ w) × ((c : Context) (v : Values) (bits : Bits) → admits c v bits ≡ true → static bits ≡ true)
+  Law i (field w admits static binds) =
+      ((s : Bits) → 1 ≤ w s) × ((s r : Bits) → w s ≤ length s → w (take (w s) s ++ r) ≡ w s) × ((c : Context) (v : Values) (bits : Bits) → admits c v bits ≡ true → static bits ≡ true)
   Law i eod = Unit {0}
 
   module _ (law : (i : ℕ) → Law i (g .node i)) where
@@ -57,7 +58,8 @@ module _ {Context Values : Type 0} (g : Grammar Context Values) (tests : Tests) 
         record {
           static =
               record {
-                bits-static = λ {i} e. (at i e) .1;
+                bits-static = λ {i} e. (at i e) .2;
+                width-own = λ {i} e. (at i e) .1;
                 counts-static = λ {i} e. (at i e) .counts-static;
                 fixed-once = λ {i} e. (at i e) .fixed-once refl;
                 chosen-listed = λ {i} {b} e. (at i e) b;

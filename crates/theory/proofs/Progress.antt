@@ -22,6 +22,7 @@ use Rattle.theory.specs.Lookahead.{First, EmptyBody}
 use Rattle.theory.specs.Machine.{Tests, Entry, entry, State, state, Turn, fail, again, leave, turn, choose, entries, tree-steps, Passes}
 use Rattle.theory.specs.Weight.{sum, largest, weigh, Outweighs}
 use Rattle.theory.specs.Hypotheses.{Hypotheses}
+use Rattle.theory.proofs.FieldWidths.{taken-width}
 use Rattle.theory.proofs.FirstTheorem.{covers, first}
 use Rattle.theory.proofs.Weights.{weigh-positive}
 use Rattle.theory.proofs.Turns.{decide, Reached, reached-zero, reached-again, allowed-leave}
@@ -230,13 +231,14 @@ module _ {Context Values : Type 0} (g : Grammar Context Values) (tests : Tests) 
     whole (Repeats.stopped x) = Outcome.failed x
 
   -- a field's leaf
-  leaf-of : {i w : ℕ} {admits : Context → Values → Bits → Bool} {static : Bits → Bool} {binds : Context → Values → Bits → Values} (c : Context)
+  leaf-of : {i : ℕ} {w : Bits → ℕ} {admits : Context → Values → Bits → Bool} {static : Bits → Bool} {binds : Context → Values → Bits → Values} (c : Context)
       → g .node i ≡ field w admits static binds → (others : List (Entry Context)) (s : Bits) (p : ℕ) (v : Values) (cs : List Capture) → Passes others (suc p)
-      → leb w (length s) ≡ true → admits c v (take w s) ≡ true → Outcome (construct i (field w admits static binds)) (entry i c 0 ∷ []) 1 others c s p v cs
+      → leb (w s) (length s) ≡ true → admits c v (take (w s) s) ≡ true → Outcome (construct i (field w admits static binds)) (entry i c 0 ∷ []) 1 others c s p v cs
   unfolding tree-steps covered captures
   leaf-of {i} {w} {binds = binds} c q others s p v cs k l a =
-      let n : length (take w s) ≡ w = length-take-le w s (leb-true w (length s) l) in
-      Outcome.derived (Derives.of-field (take w s) n (sym (take-append-drop w s)) a refl)
+      let m : w s ≤ length s = leb-true (w s) (length s) l in
+      let n : length (take (w s) s) ≡ w s = length-take-le (w s) s m in
+      Outcome.derived (Derives.of-field (take (w s) s) (n ∙ sym (taken-width g (h .static) q s m)) (sym (take-append-drop (w s) s)) a refl)
       (arrive g tests (rw n) (Path.next (omega arith, k) (Steps.step-field g tests q l a) Path.here)) (omega arith)
 
   members-of : {i : ℕ} {is : List ℕ} {W : ℕ} {c : Context} {others : List (Entry Context)} {s : Bits} {p : ℕ} {v : Values} {cs : List Capture} → Passes others (suc p)
@@ -285,9 +287,9 @@ module _ {Context Values : Type 0} (g : Grammar Context Values) (tests : Tests) 
             (each (e .0) b (omega arith) others s p (opens c v) cs k))
       ]
   outcome each c i (field w admits static binds) q l others s p v cs k =
-      elim (decide (leb w (length s))) [
+      elim (decide (leb (w s) (length s))) [
         | inl t ↦
-            elim (decide (admits c v (take w s)))
+            elim (decide (admits c v (take (w s) s)))
             [ inl u ↦ leaf-of c q others s p v cs k t u | inr u ↦ Outcome.failed (at-once (omega arith, k) (Steps.fails-field g tests q t u) (omega arith)) ]
         | inr t ↦ Outcome.failed (at-once (omega arith, k) (Steps.fails-short g tests q t) (omega arith))
       ]

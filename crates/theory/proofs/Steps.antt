@@ -80,9 +80,9 @@ module _ {Context Values : Type 0} (g : Grammar Context Values) (tests : Tests) 
     unfolding act
     step-use q e = acts q (rw (e, act))
 
-    pub step-field : {w : ℕ} {admits : Context → Values → Bits → Bool} {static : Bits → Bool} {binds : Context → Values → Bits → Values}
-        → g .node i ≡ field w admits static binds → leb w (length s) ≡ true → admits c v (take w s) ≡ true
-        → Goes (state (entry i c k ∷ others) s p v cs) (state others (drop w s) (p + w) (binds c v (take w s)) (cs ++ (record { construct = i; first-bit = p } ∷ [])))
+    pub step-field : {w : Bits → ℕ} {admits : Context → Values → Bits → Bool} {static : Bits → Bool} {binds : Context → Values → Bits → Values}
+        → g .node i ≡ field w admits static binds → leb (w s) (length s) ≡ true → admits c v (take (w s) s) ≡ true
+        → Goes (state (entry i c k ∷ others) s p v cs) (state others (drop (w s) s) (p + w s) (binds c v (take (w s) s)) (cs ++ (record { construct = i; first-bit = p } ∷ [])))
     unfolding act
     step-field q l e = acts q (rw (l, e, act))
 
@@ -105,13 +105,13 @@ module _ {Context Values : Type 0} (g : Grammar Context Values) (tests : Tests) 
     unfolding act
     fails-use q e = halts q (rw (e, act))
 
-    pub fails-short : {w : ℕ} {admits : Context → Values → Bits → Bool} {static : Bits → Bool} {binds : Context → Values → Bits → Values}
-        → g .node i ≡ field w admits static binds → leb w (length s) ≡ false → Stuck (state (entry i c k ∷ others) s p v cs)
+    pub fails-short : {w : Bits → ℕ} {admits : Context → Values → Bits → Bool} {static : Bits → Bool} {binds : Context → Values → Bits → Values}
+        → g .node i ≡ field w admits static binds → leb (w s) (length s) ≡ false → Stuck (state (entry i c k ∷ others) s p v cs)
     unfolding act
     fails-short q l = halts q (rw (l, act))
 
-    pub fails-field : {w : ℕ} {admits : Context → Values → Bits → Bool} {static : Bits → Bool} {binds : Context → Values → Bits → Values}
-        → g .node i ≡ field w admits static binds → leb w (length s) ≡ true → admits c v (take w s) ≡ false → Stuck (state (entry i c k ∷ others) s p v cs)
+    pub fails-field : {w : Bits → ℕ} {admits : Context → Values → Bits → Bool} {static : Bits → Bool} {binds : Context → Values → Bits → Values}
+        → g .node i ≡ field w admits static binds → leb (w s) (length s) ≡ true → admits c v (take (w s) s) ≡ false → Stuck (state (entry i c k ∷ others) s p v cs)
     unfolding act
     fails-field q l e = halts q (rw (l, e, act))
 

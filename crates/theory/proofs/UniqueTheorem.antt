@@ -16,6 +16,7 @@ use Rattle.theory.specs.Grammar.{Node, Grammar, alternative, repetition,
 use Rattle.theory.specs.Derivation.{Tree, leaf, node, member, pass, Shape, construct, members, passes, Derives}
 use Rattle.theory.specs.Lookahead.{Follow, Continues, Conflict}
 use Rattle.theory.specs.Hypotheses.{Static}
+use Rattle.theory.proofs.FieldWidths.{derived-width}
 use Rattle.theory.proofs.FirstTheorem.{first}
 use Rattle.theory.proofs.FollowTheorem.{After, next-follows, after-member, after-members, after-pass, derived-predicted}
 
@@ -92,8 +93,8 @@ module _ {Context Values : Type 0} (g : Grammar Context Values) (h : Static g) (
   unique (Derives.of-use {i} {closes = closes} {v = v} e d z) (Twins.one q f f′) (Derives.of-use e′ d′ z′) =
       let x = unique d (Twins.one refl (Follow.of-rule q f) (Follow.of-rule q f′)) (in-context (same-some e e′) d′) in
       (ap (node i) (x .0), z ∙ (ap (closes v) (x .1) ∙ sym z′), x .2)
-  unique (Derives.of-field {i} {w} {binds = binds} {c = c} {v = v} bits l e a z) (Twins.one q f f′) (Derives.of-field bits′ l′ e′ a′ z′) =
-      let x = same-front w bits bits′ l e l′ e′ in
+  unique (Derives.of-field {i} {w} {binds = binds} {c = c} {v = v} {s = s} {r = r} bits l e a z) (Twins.one q f f′) (Derives.of-field {r = r′} bits′ l′ e′ a′ z′) =
+      let x = same-front (w s) bits bits′ (derived-width g h q bits r l e) e (derived-width g h q bits′ r′ l′ e′) e′ in
       (ap (leaf i) (x .0), z ∙ (ap (binds c v) (x .0) ∙ sym z′), x .1)
   unique Derives.of-eod (Twins.one q f f′) Derives.of-eod = (refl, refl, refl)
   unique Derives.no-members (Twins.several a a′) Derives.no-members = (refl, refl, refl)

@@ -82,8 +82,8 @@ pub data Derives {Context Values : Type 0} (g : Grammar Context Values) : Shape 
   of-use : {i b : ℕ} {enters : Context → Option Context} {opens : Context → Values → Values} {closes : Values → Values → Values} {t : Tree} {c c′ : Context} {v v′ v″ : Values} {s r : Bits}
       → enters c ≡ some c′ → Derives g (construct b (g .node b)) t c′ (opens c v) s v′ r → v″ ≡ closes v v′
       → Derives g (construct i (use-of enters opens closes b)) (node i t) c v s v″ r
-  of-field : {i w : ℕ} {admits : Context → Values → Bits → Bool} {static : Bits → Bool} {binds : Context → Values → Bits → Values} {c : Context} {v v′ : Values} {s r : Bits} (bits : Bits)
-      → length bits ≡ w → s ≡ bits ++ r → admits c v bits ≡ true → v′ ≡ binds c v bits
+  of-field : {i : ℕ} {w : Bits → ℕ} {admits : Context → Values → Bits → Bool} {static : Bits → Bool} {binds : Context → Values → Bits → Values} {c : Context} {v v′ : Values} {s r : Bits} (bits : Bits)
+      → length bits ≡ w bits → s ≡ bits ++ r → admits c v bits ≡ true → v′ ≡ binds c v bits
       → Derives g (construct i (field w admits static binds)) (leaf i bits) c v s v′ r
   of-eod : {i : ℕ} {c : Context} {v : Values} → Derives g (construct i eod) (end i) c v [] v []
   no-members : {c : Context} {v : Values} {s : Bits} → Derives g (members []) nil c v s v s

@@ -5,9 +5,9 @@ use Prim.Native.Nat.{ℕ, _≤_}
 use mathlib.Core.Path.{_≡_}
 use mathlib.Core.Logic.{_↔_}
 use mathlib.Core.Bool.{Bool, true, false}
-use mathlib.Core.List.{List}
+use mathlib.Core.List.{List, _++_}
 use mathlib.Core.Option.{Option, some}
-use lib.ListN.{length}
+use lib.ListN.{length, take}
 use Rattle.basis.specs.Bits.{Bits}
 use Rattle.basis.specs.Counts.{Counts, Allows}
 use Rattle.theory.specs.Grammar.{alternative, repetition, switch, use-of, field, Grammar, _∈_}
@@ -18,8 +18,11 @@ use Rattle.theory.specs.Machine.{Tests}
 -- What is static covers what happens: true of every grammar read from a text, by the way its nodes are made.
 pub record Static {Context Values : Type 0} (g : Grammar Context Values) : Type 0 where
   -- "a set with a variable counting as `~`"
-  pub bits-static : {i w : ℕ} {admits : Context → Values → Bits → Bool} {static : Bits → Bool} {binds : Context → Values → Bits → Values}
+  pub bits-static : {i : ℕ} {w : Bits → ℕ} {admits : Context → Values → Bits → Bool} {static : Bits → Bool} {binds : Context → Values → Bits → Values}
       → g .node i ≡ field w admits static binds → (c : Context) (v : Values) (bits : Bits) → admits c v bits ≡ true → static bits ≡ true
+  -- a field's own bits say how many they are, whatever comes after them (a number is the same of any bits)
+  pub width-own : {i : ℕ} {w : Bits → ℕ} {admits : Context → Values → Bits → Bool} {static : Bits → Bool} {binds : Context → Values → Bits → Values}
+      → g .node i ≡ field w admits static binds → (s r : Bits) → w s ≤ length s → w (take (w s) s ++ r) ≡ w s
   -- "counts with a variable allowing all"
   pub counts-static : {i b : ℕ} {counts : Context → Values → Counts} {static : Counts} {fixed : Bool}
       → g .node i ≡ repetition counts static fixed b → (c : Context) (v : Values) (k : ℕ) → Allows (counts c v) k → Allows static k
@@ -34,8 +37,8 @@ pub record Static {Context Values : Type 0} (g : Grammar Context Values) : Type 
 pub record Hypotheses {Context Values : Type 0} (g : Grammar Context Values) (tests : Tests) : Type 0 where
   pub static : Static g
   -- refusal 8: a width is at least 1; refusal 4: a literal has at least one character
-  pub width-positive : {i w : ℕ} {admits : Context → Values → Bits → Bool} {static : Bits → Bool} {binds : Context → Values → Bits → Values}
-      → g .node i ≡ field w admits static binds → 1 ≤ w
+  pub width-positive : {i : ℕ} {w : Bits → ℕ} {admits : Context → Values → Bits → Bool} {static : Bits → Bool} {binds : Context → Values → Bits → Values}
+      → g .node i ≡ field w admits static binds → (s : Bits) → 1 ≤ w s
   -- refusal 9: "repeated body has the empty first window"
   pub no-empty-body : (i : ℕ) → EmptyBody g i → ⊥
   -- refusal 10: a clash

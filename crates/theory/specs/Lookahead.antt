@@ -17,8 +17,8 @@ use Rattle.theory.specs.Derivation.{Shape, construct, members, passes}
 -- "First windows": of a construct, of members in a row, of so many passes
 pub data First {Context Values : Type 0} (g : Grammar Context Values) : Shape Context Values → Bits → Type 0 where
   -- "of a field, the leading 8 bits (or all, if fewer) of each bit pattern it admits, a set with a variable counting as `~`"
-  of-field : {i w : ℕ} {admits : Context → Values → Bits → Bool} {static : Bits → Bool} {binds : Context → Values → Bits → Values} {x : Bits} (bits : Bits)
-      → length bits ≡ w → static bits ≡ true → x ≡ lookahead bits → First g (construct i (field w admits static binds)) x
+  of-field : {i : ℕ} {w : Bits → ℕ} {admits : Context → Values → Bits → Bool} {static : Bits → Bool} {binds : Context → Values → Bits → Values} {x : Bits} (bits : Bits)
+      → length bits ≡ w bits → static bits ≡ true → x ≡ lookahead bits → First g (construct i (field w admits static binds)) x
   -- "of eod, the empty one"
   of-eod : {i : ℕ} → First g (construct i eod) []
   -- "of alternatives and switches, the union"

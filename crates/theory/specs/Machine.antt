@@ -92,10 +92,10 @@ module _ {Context Values : Type 0} (g : Grammar Context Values) (tests : Tests) 
       elim (enters c) [ none ↦ none | some c′ ↦ some (state (entry b c′ 0 ∷ others) s p (opens c v) cs) ]
   -- "compare, no match on a difference or too few bits; where they hold, all but eod write two words in the reading"
   act (field w admits static binds) i c k others s p v cs =
-      elim (leb w (length s)) [
+      elim (leb (w s) (length s)) [
         | true ↦
-            elim (admits c v (take w s))
-            [ true ↦ some (state others (drop w s) (p + w) (binds c v (take w s)) (cs ++ (record { construct = i; first-bit = p } ∷ []))) | false ↦ none ]
+            elim (admits c v (take (w s) s))
+            [ true ↦ some (state others (drop (w s) s) (p + w s) (binds c v (take (w s) s)) (cs ++ (record { construct = i; first-bit = p } ∷ []))) | false ↦ none ]
         | false ↦ none
       ]
   act eod i c k others [] p v cs = some (state others [] p v cs)

@@ -50,15 +50,15 @@ numbered opening neither listed i = elim (eqb i opening-number) [ true ↦ openi
 
 -- "a literal …; 8 bits a character"
 abbrev pub literal : List ℕ → SheetNode
-literal bytes = field (8 * length bytes) (λ c v bits. same bits (frameBits bytes)) (λ bits. same bits (frameBits bytes)) (λ c v bits. v)
+literal bytes = field (λ bits. 8 * length bytes) (λ c v bits. same bits (frameBits bytes)) (λ bits. same bits (frameBits bytes)) (λ c v bits. v)
 
 -- "`uint(width, set)`, …, most significant bit first", its set without variables
 abbrev pub uint : ℕ → (ℕ → Bool) → SheetNode
-uint width member = field width (λ c v bits. member (value bits)) (λ bits. member (value bits)) (λ c v bits. v)
+uint width member = field (λ bits. width) (λ c v bits. member (value bits)) (λ bits. member (value bits)) (λ c v bits. v)
 
 -- "`uint(width, var(name, set))` also binds the value": of the variable numbered x
 abbrev pub uint-var : ℕ → ℕ → (ℕ → Bool) → SheetNode
-uint-var x width member = field width (λ c v bits. member (value bits)) (λ bits. member (value bits)) (λ c v bits. bind v x (value bits))
+uint-var x width member = field (λ bits. width) (λ c v bits. member (value bits)) (λ bits. member (value bits)) (λ c v bits. bind v x (value bits))
 
 -- the set `~`
 abbrev pub any : ℕ → Bool

@@ -41,7 +41,7 @@ module _ {Context Values : Type 0} (g : Grammar Context Values) where
         → g .node i ≡ use-of enters opens closes b → (c : Context) (v : Values) → opens c v ≡ v
     pub closes-after : {i b : ℕ} {enters : Context → Option Context} {opens : Context → Values → Values} {closes : Values → Values → Values}
         → g .node i ≡ use-of enters opens closes b → (v v′ : Values) → closes v v′ ≡ v′
-    pub binds-so : {i w : ℕ} {admits : Context → Values → Bits → Bool} {static : Bits → Bool} {binds : Context → Values → Bits → Values}
+    pub binds-so : {i : ℕ} {w : Bits → ℕ} {admits : Context → Values → Bits → Bool} {static : Bits → Bool} {binds : Context → Values → Bits → Values}
         → g .node i ≡ field w admits static binds → (c : Context) (v : Values) (bits : Bits) → binds c v bits ≡ bind i v bits
 
   -- of every frame and every derivation of it

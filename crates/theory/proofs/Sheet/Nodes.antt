@@ -93,11 +93,11 @@ module _ (s : Sample) where
   pub top-right : (is : List ℕ) → scope-of s .binds 0 ≡ [] → scope-of s .sees 0 ≡ [] → Chain (scope-of s) (scope-of s .sees 0) is → Right s 0 (concatenation is)
   top-right is e z k = (tt, top-names (scope-of s) 0 is e z k)
 
-  pub field-right : (i w : ℕ) (p : Bits → Bool) → 1 ≤ w → scope-of s .binds i ≡ [] → Right s i (field w (λ c v bits. p bits) p (λ c v bits. v))
-  field-right i w p h e = ((h, λ c v bits q. q), field-names (scope-of s) i w p e)
+  pub field-right : (i w : ℕ) (p : Bits → Bool) → 1 ≤ w → scope-of s .binds i ≡ [] → Right s i (field (λ bits. w) (λ c v bits. p bits) p (λ c v bits. v))
+  field-right i w p h e = ((λ s. h, λ s r l. refl, λ c v bits q. q), field-names (scope-of s) i w p e)
 
   pub binder-right : (i x w : ℕ) (member : ℕ → Bool) → 1 ≤ w → scope-of s .binds i ≡ x ∷ [] → (x ∈ scope-of s .sees i → ⊥) → Right s i (uint-var x w member)
-  binder-right i x w member h e d = ((h, λ c v bits q. q), binder-names (scope-of s) i x w member e d)
+  binder-right i x w member h e d = ((λ s. h, λ s r l. refl, λ c v bits q. q), binder-names (scope-of s) i x w member e d)
 
   -- where n reads only what may be used there
   pub repeated-right : (n : Variables → ℤ) (i b w : ℕ) (member : ℕ → Bool) → grammar-of s .node b ≡ uint (suc w) member

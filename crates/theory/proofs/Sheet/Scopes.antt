@@ -81,7 +81,7 @@ module _ (scope : Scope) where
       is-it y m = List·Memᴰ·eq-of-singleton (subst (λ (l : List ℕ). y ∈ l) e m)
 
   -- a field without a binder
-  pub field-names : (i w : ℕ) (p : Bits → Bool) → scope .binds i ≡ [] → Names i (field w (λ c v bits. p bits) p (λ c v bits. v))
+  pub field-names : (i w : ℕ) (p : Bits → Bool) → scope .binds i ≡ [] → Names i (field (λ bits. w) (λ c v bits. p bits) p (λ c v bits. v))
   field-names i w p e = (
     (
       λ c v v′ bits a. refl,

@@ -86,7 +86,7 @@ decides ys e x = (λ t. (e x) .1 (one-of-true ys x t), λ s. one-of-listed ys x 
 
 -- FIRST of a literal
 pub literal-first : {Context Values : Type 0} (g : Grammar Context Values) (i : ℕ) (bytes : List ℕ) {admits : Context → Values → Bits → Bool} {binds : Context → Values → Bits → Values}
-    → g .node i ≡ field (8 * length bytes) admits (λ bits. same bits (frameBits bytes)) binds → Exactly (First-of g i) (lookahead (frameBits bytes) ∷ [])
+    → g .node i ≡ field (λ bits. 8 * length bytes) admits (λ bits. same bits (frameBits bytes)) binds → Exactly (First-of g i) (lookahead (frameBits bytes) ∷ [])
 literal-first g i bytes e x = (
   λ f. let (bits, l, s, q) = subst (λ (n : _). FirstBy g (construct i n) x) e (first-by g f) in List·Memᴰ·head (q ∙ ap lookahead (same-true bits (frameBits bytes) s)),
   λ m.
