@@ -12,7 +12,7 @@ use Rattle.basis.proofs.Frames.{frame-length}
 use Rattle.theory.specs.Derivation.{Tree, Capture, captures, Derivation}
 use Rattle.theory.specs.Machine.{state, position-of, captures-of, Verdict, undecided, matched, unmatched, run, verdict-of, state-of, taken-of, tree-steps, opened, granted, taken}
 use Rattle.theory.specs.Theorems.{step-bound, Derivable, Exact, ExactLocal, Decision}
-use Rattle.theory.specs.Scope.{Scope, localised, Lexical}
+use Rattle.theory.specs.Scope.{Store, Scope, localised, Lexical}
 use Rattle.theory.proofs.Theorems as Theory
 use Rattle.layout.specs.Held.{Context, first-context, Values, opening, held}
 use Rattle.acts.specs.Stored.{tests-of}
@@ -107,15 +107,15 @@ module _ (ws : List ℕ) (widest : List ℤ) (weight rooms : Context → ℕ →
   match-end t v d n l = matched-run t v n (exact .match-end s t v d n l)
 
   -- the same of derivations whose variables are local to each opening of a rule, as document 01 has them
-  module _ {A : Type 0} (get : Values → ℕ → A) (scope : Scope) (fresh : ℕ → Context → Values → Values) (lexical : Lexical get scope fresh (held ws)) where
-    local : ExactLocal (held ws) (tests-of ws) weight (localised scope fresh (held ws))
-    local = Theory.exact-local (held ws) (tests-of ws) weight get scope fresh (r .hypotheses) (r .weighs) lexical
+  module _ {Cell A R : Type 0} (store : Store Context Values Cell A R) (scope : Scope) (fresh : ℕ → Context → Values → Values) (lexical : Lexical store scope fresh (held ws)) where
+    local : ExactLocal (held ws) (tests-of ws) weight (store .reported) (localised store scope fresh (held ws))
+    local = Theory.exact-local (held ws) (tests-of ws) weight store scope fresh (r .hypotheses) (r .weighs) lexical
 
-    pub match-iff-local : (n : ℕ) → weight first-context opening * (bits-of fs + 1) ≤ n → (head-of (after n) .verdict ≡ 1) ↔ Derivable (localised scope fresh (held ws)) s
+    pub match-iff-local : (n : ℕ) → weight first-context opening * (bits-of fs + 1) ≤ n → (head-of (after n) .verdict ≡ 1) ↔ Derivable (localised store scope fresh (held ws)) s
     match-iff-local n l = both-ways (matched-as (head-of (after n) .verdict)) (both-ways (same-verdict n matched) (local .match-iff s n (enough n l)))
 
-    pub mismatch-iff-local : (n : ℕ) → weight first-context opening * (bits-of fs + 1) ≤ n → (head-of (after n) .verdict ≡ 2) ↔ (Derivable (localised scope fresh (held ws)) s → ⊥)
+    pub mismatch-iff-local : (n : ℕ) → weight first-context opening * (bits-of fs + 1) ≤ n → (head-of (after n) .verdict ≡ 2) ↔ (Derivable (localised store scope fresh (held ws)) s → ⊥)
     mismatch-iff-local n l = both-ways (unmatched-as (head-of (after n) .verdict) (few ws widest weight rooms r fs cs ps rs o n)) (both-ways (same-verdict n unmatched) (local .mismatch-iff s n (enough n l)))
 
-    pub match-end-local : (t : Tree) (v : Values) → Derivation (localised scope fresh (held ws)) s t v → (n : ℕ) → tree-steps t ≤ n → (v′ : Values) × Derivation (held ws) s t v′ × Matched t v′ (after n)
+    pub match-end-local : (t : Tree) (v : Values) → Derivation (localised store scope fresh (held ws)) s t v → (n : ℕ) → tree-steps t ≤ n → (v′ : Values) × Derivation (held ws) s t v′ × Matched t v′ (after n)
     match-end-local t v d n l = let x = local .match-end s t v d n l in (x .0, x .1, matched-run t (x .0) n (x .2))

@@ -10,7 +10,7 @@ use Rattle.theory.specs.Scope.{local-node, localised}
 use Rattle.theory.specs.Weight.{Weighs}
 use Rattle.layout.specs.Places.{table-of}
 use Rattle.layout.specs.Held.{Context, first-context, Values, held, opening}
-use Rattle.scoping.specs.Scope.{scope-of, fresh}
+use Rattle.scoping.specs.Scope.{store, scope-of, fresh}
 use Rattle.weights.proofs.Heights.{weight-at}
 use Rattle.acts.specs.Stored.{tests-of}
 use Rattle.soundness.proofs.HeldLocal.{held-local}
@@ -57,7 +57,7 @@ one-reading {text} x y =
 -- ---- of a scope, `localised` reads only which uses open a rule
 
 module _ (ws : List ℕ) where
-  node-localised : (i : ℕ) (n : Node Context Values) → local-node (scope-of ws) fresh i n ≡ local-node each-use fresh i n
+  node-localised : (i : ℕ) (n : Node Context Values) → local-node store (scope-of ws) fresh i n ≡ local-node store each-use fresh i n
   unfolding local-node
   node-localised i (alternative is) = refl
   node-localised i (concatenation is) = refl
@@ -67,7 +67,7 @@ module _ (ws : List ℕ) where
   node-localised i (field w admits static binds) = refl
   node-localised i eod = refl
 
-  localised-so : (g : Grammar Context Values) → localised (scope-of ws) fresh g ≡ localised each-use fresh g
+  localised-so : (g : Grammar Context Values) → localised store (scope-of ws) fresh g ≡ localised store each-use fresh g
   localised-so g = λ t. record { node = λ i. node-localised i (g .node i) t; start = g .start; context = g .context; values = g .values }
 
 -- ---- the words of an admitted text
@@ -132,4 +132,4 @@ same-rules text old new weight a x =
     t .holds ∙ ap₂ (λ (k : ℕ) (st : State). meant (drop k text) st) (s .0) (s .1)
 
 pub same-grammar : (text old new : List ℕ) (weight : ℕ) → Answers text old new (Admission.Admitted weight) → (x : Reading text) → grammar-of new ≡ text-grammar x
-same-grammar text old new weight a x = localised-so (table-of new) (held (table-of new)) ∙ ap (localised each-use fresh) (same-rules text old new weight a x)
+same-grammar text old new weight a x = localised-so (table-of new) (held (table-of new)) ∙ ap (localised store each-use fresh) (same-rules text old new weight a x)

@@ -8,7 +8,7 @@ use lib.ListN.{length, drop}
 use Rattle.theory.specs.Grammar.{Grammar}
 use Rattle.theory.specs.Scope.{Scope, localised}
 use Rattle.layout.specs.Held.{Context, Values}
-use Rattle.scoping.specs.Scope.{fresh}
+use Rattle.scoping.specs.Scope.{store, fresh}
 use Rattle.text.specs.Header.{header-of}
 use Rattle.text.specs.declared.Heading.{Heading}
 use Rattle.parsing.specs.Store.{State, node-words, term-words, rule-words, nodes-of, rules-of}
@@ -45,7 +45,7 @@ each-use = record { sees = λ i. []; binds = λ i. []; opens-rule = λ i. true; 
 
 -- the text's grammar: its rules as read, with variables local to a rule
 abbrev pub text-grammar : {text : List ℕ} → Reading text → Grammar Context Values
-text-grammar x = localised each-use fresh (rules-grammar x)
+text-grammar x = localised store each-use fresh (rules-grammar x)
 
 -- document 01's rules admit the text, with this weight: 1 to 8,192 bytes, header and form right, and the rules pass 5 to 11
 pub record Admissible (text : List ℕ) (weight : ℕ) : Type 0 where

@@ -12,7 +12,7 @@ use Rattle.theory.specs.Theorems.{Derivable}
 use Rattle.theory.proofs.Theorems.{exact-local}
 use Rattle.layout.specs.Places.{table-of}
 use Rattle.layout.specs.Held.{held}
-use Rattle.scoping.specs.Scope.{value-of, scope-of, fresh}
+use Rattle.scoping.specs.Scope.{store, scope-of, fresh}
 use Rattle.weights.proofs.Heights.{weight-at}
 use Rattle.acts.specs.Stored.{tests-of}
 use Rattle.soundness.proofs.Reliability.{reliable}
@@ -175,7 +175,7 @@ pub at-most-one : AtMostOne
 at-most-one ws s =
     let t : List ℕ = table-of ws in
     let r = reliable (s .1) in
-    exact-local (held t) (tests-of t) (λ c i. weight-at t i) value-of (scope-of t) fresh (r .hypotheses) (r .weighs) (trusted t (s .1) .lexical) .once
+    exact-local (held t) (tests-of t) (λ c i. weight-at t i) store (scope-of t) fresh (r .hypotheses) (r .weighs) (trusted t (s .1) .lexical) .once
 
 pub never-broken : NeverBroken
 never-broken = record { listed = unbroken; any-reading = any-reading }

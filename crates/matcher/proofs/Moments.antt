@@ -18,7 +18,7 @@ use Rattle.theory.specs.Theorems.{Derivable}
 use Rattle.layout.specs.Places.{table-words, table-of, construct-count, weight-of}
 use Rattle.layout.specs.Constructs.{pick}
 use Rattle.layout.specs.Held.{Context, Values, opening, held}
-use Rattle.scoping.specs.Scope.{value-of, scope-of, fresh}
+use Rattle.scoping.specs.Scope.{store, scope-of, fresh}
 use Rattle.weights.proofs.Heights.{weight-at}
 use Rattle.weights.proofs.Rooms.{rooms}
 use Rattle.measures.specs.Measures.{widest}
@@ -129,7 +129,7 @@ module _ (ws fs rs : List ℕ) (o : Opened ws fs rs) where
   -- ---- the derivations of the table's grammar
 
   abbrev pub local : Grammar Context Values
-  local = localised (scope-of table) fresh (held table)
+  local = localised store (scope-of table) fresh (held table)
 
   module _ (m : ℕ) (decided : head-in (at m) .verdict ≡ 0 → ⊥) where
     -- more steps than any run takes, which change nothing
@@ -140,13 +140,13 @@ module _ (ws fs rs : List ℕ) (o : Opened ws fs rs) where
     unfolding held
     match-at =
         subst (λ (w : Whole). (head-in w .verdict ≡ 1) ↔ Derivable local (frameBits fs)) (at-rest m more decided)
-        (match-iff-local table (widest table) (λ c i. weight-at table i) (rooms table) words fs (opened-run .constructs) (opened-run .passes) rs begun value-of (scope-of table) fresh (trusted table (o .0 .1) .lexical) (m + more) (omega arith))
+        (match-iff-local table (widest table) (λ c i. weight-at table i) (rooms table) words fs (opened-run .constructs) (opened-run .passes) rs begun store (scope-of table) fresh (trusted table (o .0 .1) .lexical) (m + more) (omega arith))
 
     pub no-match-at : (head-in (at m) .verdict ≡ 2) ↔ (Derivable local (frameBits fs) → ⊥)
     unfolding held
     no-match-at =
         subst (λ (w : Whole). (head-in w .verdict ≡ 2) ↔ (Derivable local (frameBits fs) → ⊥)) (at-rest m more decided)
-        (mismatch-iff-local table (widest table) (λ c i. weight-at table i) (rooms table) words fs (opened-run .constructs) (opened-run .passes) rs begun value-of (scope-of table) fresh (trusted table (o .0 .1) .lexical) (m + more) (omega arith))
+        (mismatch-iff-local table (widest table) (λ c i. weight-at table i) (rooms table) words fs (opened-run .constructs) (opened-run .passes) rs begun store (scope-of table) fresh (trusted table (o .0 .1) .lexical) (m + more) (omega arith))
 
     -- its fields are the reading's first words
     abbrev Listed : Tree → Whole → Type 0
@@ -155,5 +155,5 @@ module _ (ws fs rs : List ℕ) (o : Opened ws fs rs) where
     pub fields-at : (t : Tree) (v : Values) → Derivation local (frameBits fs) t v → Listed t (at m)
     unfolding held
     fields-at t v d =
-        let x = match-end-local table (widest table) (λ c i. weight-at table i) (rooms table) words fs (opened-run .constructs) (opened-run .passes) rs begun value-of (scope-of table) fresh (trusted table (o .0 .1) .lexical) t v d (m + tree-steps t) (omega arith) in
+        let x = match-end-local table (widest table) (λ c i. weight-at table i) (rooms table) words fs (opened-run .constructs) (opened-run .passes) rs begun store (scope-of table) fresh (trusted table (o .0 .1) .lexical) t v d (m + tree-steps t) (omega arith) in
         subst (Listed t) (at-rest m (tree-steps t) decided) (x .2 .fields, x .2 .reading)

@@ -15,7 +15,7 @@ use Rattle.theory.specs.Scope.{localised}
 use Rattle.theory.specs.Theorems.{Derivable}
 use Rattle.layout.specs.Places.{table-of, weight-of}
 use Rattle.layout.specs.Held.{Context, Values, held}
-use Rattle.scoping.specs.Scope.{scope-of, fresh}
+use Rattle.scoping.specs.Scope.{store, scope-of, fresh}
 use Rattle.acts.specs.Acts.{bits-of}
 use Rattle.steps.specs.Steps.{undecided, matched, unmatched, broken, steps-of}
 use Rattle.agreement.specs.Runs.{words-of, run-of}
@@ -117,7 +117,7 @@ run-after ws fs (handing rs n ∷ hs) run = run-after ws fs hs (run-in (grant-of
 
 -- the grammar that a table holds: "Variables are local to a rule."
 abbrev pub grammar-of : List ℕ → Grammar Context Values
-grammar-of ws = localised (scope-of (table-of ws)) fresh (held (table-of ws))
+grammar-of ws = localised store (scope-of (table-of ws)) fresh (held (table-of ws))
 
 -- "the run as opened and the reading's words as they then were, whatever they were"
 abbrev pub start : List ℕ → Kept

@@ -29,7 +29,7 @@ use Rattle.structure.proofs.RuleLaws.{rule-of, rule-fact}
 use Rattle.structure.proofs.Owners.{rule-holds}
 use Rattle.structure.proofs.NodeFacts.{use-names, missing-past, values-stay}
 use Rattle.structure.proofs.StaticLaw.{static}
-use Rattle.scoping.specs.Scope.{value-of, fresh, bound-by, bound-at, seen-at, scope-of}
+use Rattle.scoping.specs.Scope.{store, fresh, bound-by, bound-at, seen-at, scope-of}
 use Rattle.scoping.proofs.Seen.{seen-first}
 use Rattle.scoping.proofs.Levels.{stands}
 use Rattle.scoping.proofs.NodeScopes.{scoped-by}
@@ -41,7 +41,7 @@ Entered ws i (alternative is) = Unit {0}
 Entered ws i (concatenation is) = Unit {0}
 Entered ws i (repetition counts static fixed b) = Unit {0}
 Entered ws i (switch chosen is) = Unit {0}
-Entered ws i (use-of enters opens closes b) = (c : Context) (v v′ : Values) → Agree value-of (seen-at ws i) v v′ → Agree value-of (seen-at ws b) (opens c v) (fresh i c v′)
+Entered ws i (use-of enters opens closes b) = (c c′ : Context) (v v′ : Values) → Agree store c (seen-at ws i) v v′ → Agree store c′ (seen-at ws b) (opens c v) (fresh i c v′)
 Entered ws i (field w admits static binds) = Unit {0}
 Entered ws i eod = Unit {0}
 
@@ -49,11 +49,11 @@ module _ {ws : List ℕ} (l : Laid ws) where
   unbound : (i : ℕ) → construct-count ws ≤ i → bound-at ws i ≡ []
   unbound i past = ap (λ (c : Construct). bound-by (binder-of c)) (missing-past l i past)
 
-  scoped-outside : (i : ℕ) → construct-count ws ≤ i → Scoped value-of (scope-of ws) i (node-of ws i (constructAt ws i))
+  scoped-outside : (i : ℕ) → construct-count ws ≤ i → Scoped store (scope-of ws) i (node-of ws i (constructAt ws i))
   unfolding node-of
   scoped-outside i past = rw (missing-past l i past, node-of) (unbound i past, λ b m. absurd (List·Memᴰ·not-nil m))
 
-  scoped-construct : (i : ℕ) → Scoped value-of (scope-of ws) i (node-of ws i (constructAt ws i))
+  scoped-construct : (i : ℕ) → Scoped store (scope-of ws) i (node-of ws i (constructAt ws i))
   scoped-construct i =
       elim (decide (ltb i (construct-count ws))) [
         | inl t ↦
@@ -62,16 +62,16 @@ module _ {ws : List ℕ} (l : Laid ws) where
         | inr t ↦ scoped-outside i (ltb-false i (construct-count ws) t)
       ]
 
-  scoped : (i : ℕ) → Scoped value-of (scope-of ws) i (held ws .node i)
+  scoped : (i : ℕ) → Scoped store (scope-of ws) i (held ws .node i)
   unfolding held
   scoped i =
-      picked (Scoped value-of (scope-of ws) i) (eqb i opening)
-      (λ t. let e : i ≡ 256 = eqb-true i opening t in (unbound i (omega (arith, l .counts .constructs)), λ c v x h. refl))
+      picked (Scoped store (scope-of ws) i) (eqb i opening)
+      (λ t. let e : i ≡ 256 = eqb-true i opening t in (unbound i (omega (arith, l .counts .constructs)), λ c c′ v x z h. refl))
       (λ t. scoped-construct i)
 
   -- an opening leaves a rule its number of variables, which are all that its body sees
   enters : (i q : ℕ) → q < rule-count ws → Entered ws i (use-node ws q)
-  enters i q h c v v′ a x m =
+  enters i q h c c′ v v′ a x m =
       let e : x ≡ 0 = List·Memᴰ·eq-of-singleton (rw (seen-first l q h (rule-fact l q h .some-construct)) at m)
       in rw e (a 0 (List·Memᴰ·head refl) ∙ sym (ap pos (length-replicate (length v′) (pos 0))))
 
@@ -100,19 +100,22 @@ module _ {ws : List ℕ} (l : Laid ws) where
   unfolding held
   entered i = picked (Entered ws i) (eqb i opening) (λ e. enters i 0 (l .counts .some-rule)) (λ e. entered-construct i)
 
-  pub lexical-of : Acyclic ws → Lexical value-of (scope-of ws) fresh (held ws)
+  pub lexical-of : Acyclic ws → Lexical store (scope-of ws) fresh (held ws)
   lexical-of acyclic =
       record {
         scoped = scoped;
-        not-bound-again = not-again l acyclic;
+        not-bound-again = λ c i x m d. not-again l acyclic i x m d;
         values-stay = λ {i} e v v′. values-stay ws i e v v′;
-        entered = λ {i} e o c v v′ a. (rw e at (entered i)) c v v′ a;
+        entered = λ {i} e o c c′ v v′ z a. (rw e at (entered i)) c c′ v v′ a;
+        entered-reported = λ e o c v v′ a p. refl;
       }
 
-pub lexical : (ws : List ℕ) → laid ws ≡ true → Acyclic ws → Lexical value-of (scope-of ws) fresh (held ws)
+pub lexical : (ws : List ℕ) → laid ws ≡ true → Acyclic ws → Lexical store (scope-of ws) fresh (held ws)
 lexical ws h acyclic = lexical-of (facts ws h) acyclic
 
 -- so one value for each binder, as the machine keeps them, derives what document 01's local variables derive
 pub same-derivations : (ws : List ℕ) → laid ws ≡ true → Acyclic ws
-    → (s : Bits) (t : Tree) → ((v : Values) × Derivation (held ws) s t v) ↔ ((v : Values) × Derivation (localised (scope-of ws) fresh (held ws)) s t v)
-same-derivations ws h acyclic = local value-of (scope-of ws) fresh (held ws) (static ws) (lexical ws h acyclic)
+    → (s : Bits) (t : Tree) → ((v : Values) × Derivation (held ws) s t v) ↔ ((v : Values) × Derivation (localised store (scope-of ws) fresh (held ws)) s t v)
+same-derivations ws h acyclic s t =
+    let same = local store (scope-of ws) fresh (held ws) (static ws) (lexical ws h acyclic) s t tt in
+    (λ d. (let x = same .0 (d .0, d .1, refl) in (x .0, x .1)), λ d. (let x = same .1 (d .0, d .1, refl) in (x .0, x .1)))

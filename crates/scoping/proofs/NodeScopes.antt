@@ -16,7 +16,7 @@ use Rattle.theory.specs.Scope.{Agree, Scoped}
 use Rattle.theory.proofs.Turns.{decide}
 use Rattle.layout.specs.Places.{variable-word}
 use Rattle.layout.specs.Constructs.{constructAt}
-use Rattle.layout.specs.Held.{Values, size-of, parts, bound, first-case, node-of}
+use Rattle.layout.specs.Held.{first-context, Values, size-of, parts, bound, first-case, node-of}
 use Rattle.layout.specs.declared.Construct.{Construct}
 use Rattle.form.specs.Checks.{size-at}
 use Rattle.form.specs.Rules.{body, rule-end, binder-of}
@@ -26,7 +26,7 @@ use Rattle.structure.proofs.Owners.{part-within}
 use Rattle.structure.proofs.StaticLaw.{case-listed}
 use Rattle.structure.proofs.Binding.{Bound, Visible, bound-in, top-members}
 use Rattle.structure.proofs.Agreement.{Agreeing, set-agrees, passes-agree, condition-agrees, case-agrees, bound-length, bound-other, bound-own}
-use Rattle.scoping.specs.Scope.{value-of, bound-by, bound-at, seen-at, scope-of}
+use Rattle.scoping.specs.Scope.{value-of, store, bound-by, bound-at, seen-at, scope-of}
 use Rattle.scoping.proofs.Seen.{before-has, seen-in}
 use Rattle.scoping.proofs.Levels.{Stands, stands-within, member-stands, level, chain}
 
@@ -45,7 +45,7 @@ own-same x v v′ n e =
     ]
 
 -- of two sets of values that agree on xs, a binder's own too
-after-binder : (xs : List ℕ) (b : ℕ) (v v′ : Values) (n : ℕ) → length v ≡ length v′ → Agree value-of xs v v′ → Agree value-of (xs ++ bound-by b) (bound b v n) (bound b v′ n)
+after-binder : (xs : List ℕ) (b : ℕ) (v v′ : Values) (n : ℕ) → length v ≡ length v′ → Agree store first-context xs v v′ → Agree store first-context (xs ++ bound-by b) (bound b v n) (bound b v′ n)
 after-binder xs zero v v′ n e a x m = elim (List·Memᴰ·append-cases xs m) [ inl k ↦ a x k | inr k ↦ absurd (List·Memᴰ·not-nil k) ]
 after-binder xs (suc y) v v′ n e a zero m = ap pos (bound-length (suc y) v n ∙ e ∙ sym (bound-length (suc y) v′ n))
 after-binder xs (suc y) v v′ n e a (suc x) m =
@@ -77,7 +77,7 @@ module _ {ws : List ℕ} (l : Laid ws) where
       in let from : body ws r ≤ k = member-stands l r k (s .exists) (b .listed) .begins
       in rw (seen-in l r i (s .exists) (s .begins) (s .ends)) (List·Memᴰ·tail (before-has ws (body ws r) (suc y) i k from (p .earlier) own))
 
-  pub agreeing : (r i : ℕ) → Stands ws r i → (v v′ : Values) → Agree value-of (seen-at ws i) v v′ → Agreeing (Visible ws r i) v v′
+  pub agreeing : (r i : ℕ) → Stands ws r i → (v v′ : Values) → Agree store first-context (seen-at ws i) v v′ → Agreeing (Visible ws r i) v v′
   agreeing r i s v v′ a = record { lengths = length-same v v′ (a 0 (List·Memᴰ·head refl)); values = λ y p. a (suc y) (visible-seen r i y s p) }
 
 -- ---- a construct by what it is
@@ -86,7 +86,7 @@ own-of : (ws : List ℕ) (i : ℕ) (c : Construct) → constructAt ws i ≡ c �
 own-of ws i c e = ap (λ (d : Construct). bound-by (binder-of d)) e
 
 -- a field that binds nothing
-unbinding : (ws : List ℕ) (i : ℕ) → bound-at ws i ≡ [] → (v v′ : Values) → Agree value-of (seen-at ws i) v v′ → Agree value-of (seen-at ws i ++ bound-at ws i) v v′
+unbinding : (ws : List ℕ) (i : ℕ) → bound-at ws i ≡ [] → (v v′ : Values) → Agree store first-context (seen-at ws i) v v′ → Agree store first-context (seen-at ws i ++ bound-at ws i) v v′
 unbinding ws i e v v′ a x m = elim (List·Memᴰ·append-cases (seen-at ws i) m) [ inl k ↦ a x k | inr k ↦ absurd (List·Memᴰ·not-nil (rw e at k)) ]
 
 module _ {ws : List ℕ} (l : Laid ws) (r i : ℕ) (s : Stands ws r i) (whole : i + size-at ws i ≤ rule-end ws r 0) where
@@ -102,14 +102,14 @@ module _ {ws : List ℕ} (l : Laid ws) (r i : ℕ) (s : Stands ws r i) (whole : 
       in level l r i b s (rw e top) (own-of ws i c e ∙ ap bound-by none) (w .0) (w .1) (w .2)
 
   -- a switch takes its case by what it sees
-  choice : (c : Construct) → constructAt ws i ≡ c → top-members ws i c ≡ i ∷ [] → binder-of c ≡ 0 → (v v′ : Values) → Agree value-of (seen-at ws i) v v′
+  choice : (c : Construct) → constructAt ws i ≡ c → top-members ws i c ≡ i ∷ [] → binder-of c ≡ 0 → (v v′ : Values) → Agree store first-context (seen-at ws i) v v′
       → first-case ws v (parts-of ws i c) ≡ first-case ws v′ (parts-of ws i c)
   choice c e top none v v′ a =
       case-agrees ws v v′ (parts-of ws i c) (λ b m.
       let t : Stands ws r b = inside c e b m .2
       in condition-agrees l r b (t .exists) (t .begins) (t .ends) v v′ (agreeing l r b t v v′ (rw (same-seen c e top none b m) a)))
 
-  pub scoped-by : (c : Construct) → constructAt ws i ≡ c → Scoped value-of (scope-of ws) i (node-of ws i c)
+  pub scoped-by : (c : Construct) → constructAt ws i ≡ c → Scoped store (scope-of ws) i (node-of ws i c)
   unfolding node-of
   scoped-by Construct.Missing e = (own-of ws i Construct.Missing e, λ b m. absurd (List·Memᴰ·not-nil m))
   scoped-by (Construct.Alternative size) e = (own-of ws i (Construct.Alternative size) e, same-seen (Construct.Alternative size) e refl refl)
@@ -127,14 +127,15 @@ module _ {ws : List ℕ} (l : Laid ws) (r i : ℕ) (s : Stands ws r i) (whole : 
     λ c v b h. same-seen (Construct.Switch size) e refl refl b (case-listed ws v (parts size ws (i + 1) (i + size)) b h),
     λ c v v′ a. choice (Construct.Switch size) e refl refl v v′ a,
   )
-  scoped-by (Construct.Use rule) e = (own-of ws i (Construct.Use rule) e, λ c v x h. refl)
-  scoped-by (Construct.Literal n) e = (λ c v v′ bits a. refl, λ c v v′ bits a. unbinding ws i (own-of ws i (Construct.Literal n) e) v v′ a, λ c v bits x h. refl)
-  scoped-by (Construct.Range low high) e = (λ c v v′ bits a. refl, λ c v v′ bits a. unbinding ws i (own-of ws i (Construct.Range low high) e) v v′ a, λ c v bits x h. refl)
+  scoped-by (Construct.Use rule) e = (own-of ws i (Construct.Use rule) e, λ c c′ v x z h. refl)
+  scoped-by (Construct.Literal n) e = (λ c v v′ bits a. refl, λ c v v′ bits a. unbinding ws i (own-of ws i (Construct.Literal n) e) v v′ a, λ c v bits x h. refl, λ c v v′ bits p. refl)
+  scoped-by (Construct.Range low high) e = (λ c v v′ bits a. refl, λ c v v′ bits a. unbinding ws i (own-of ws i (Construct.Range low high) e) v v′ a, λ c v bits x h. refl, λ c v v′ bits p. refl)
   scoped-by (Construct.Uint width start end binder) e =
       let own : bound-at ws i ≡ bound-by binder = own-of ws i (Construct.Uint width start end binder) e
       in (
         λ c v v′ bits a. set-agrees l r i (s .exists) (s .begins) (s .ends) width start end binder e v v′ (agreeing l r i s v v′ a) (value bits),
         λ c v v′ bits a. rw own (after-binder (seen-at ws i) binder v v′ (value bits) (agreeing l r i s v v′ a .lengths) a),
-        λ c v bits x h. others-stay binder v (value bits) x (λ m. h (rw own m)),
+        λ c v bits x h. others-stay binder v (value bits) x (λ m. h x (rw own m) refl),
+        λ c v v′ bits p. refl,
       )
   scoped-by Construct.Eod e = own-of ws i Construct.Eod e

@@ -12,7 +12,7 @@ use Rattle.theory.specs.Scope.{MayBind}
 use Rattle.theory.proofs.Turns.{decide}
 use Rattle.layout.specs.Places.{construct-count, variable-word}
 use Rattle.layout.specs.Constructs.{constructAt}
-use Rattle.layout.specs.Held.{held}
+use Rattle.layout.specs.Held.{Context, held}
 use Rattle.form.specs.Checks.{size-at}
 use Rattle.form.specs.Rules.{body, rule-end, binder-of}
 use Rattle.rules.specs.Reaching.{Uses, Reaches, directly, through, Acyclic}
@@ -21,14 +21,14 @@ use Rattle.structure.proofs.Facts.{Laid}
 use Rattle.structure.proofs.RuleLaws.{rule-of, rule-fact}
 use Rattle.structure.proofs.Owners.{rule-holds}
 use Rattle.structure.proofs.Binding.{top-binder}
-use Rattle.scoping.specs.Scope.{value-of, bound-by, bound-at, bound-before, seen-at, scope-of}
+use Rattle.scoping.specs.Scope.{store, bound-by, bound-at, bound-before, seen-at, scope-of}
 use Rattle.scoping.proofs.RuledLaw.{ruled-of}
 use Rattle.scoping.proofs.Seen.{before-from, seen-in, seen-outside}
 use Rattle.scoping.proofs.Levels.{Stands, stands, stands-within, one-of}
 
 -- a construct, or something below it through the rules that it uses, binds the variable
-abbrev pub Below : List ℕ → ℕ → ℕ → Type 0
-Below ws i x = MayBind value-of (scope-of ws) (held ws) i x
+abbrev pub Below : List ℕ → Context → ℕ → ℕ → Type 0
+Below ws c i x = MayBind store (scope-of ws) (held ws) c i x
 
 -- a construct's name is 1 + its variable
 named : (n x : ℕ) → x ∈ bound-by n → (0 < n) × (n ≡ x)
@@ -36,14 +36,14 @@ named zero x m = absurd (List·Memᴰ·not-nil m)
 named (suc y) x m = (omega arith, sym (List·Memᴰ·eq-of-singleton m))
 
 -- nothing binds name 0
-pub no-zero : (ws : List ℕ) (i x : ℕ) → x ≡ 0 → Below ws i x → ⊥
-no-zero ws i x z (MayBind.itself m) = let n = named (binder-of (constructAt ws i)) x m in omega (arith, n .0, n .1)
-no-zero ws i x z (MayBind.entering m) = List·Memᴰ·not-nil m
+pub no-zero : (ws : List ℕ) {c : Context} (i x : ℕ) → x ≡ 0 → Below ws c i x → ⊥
+no-zero ws i x z (MayBind.itself {x = y} m e) = let n = named (binder-of (constructAt ws i)) y m in omega (arith, n .0, n .1, e)
+no-zero ws i x z (MayBind.entering e f m k) = List·Memᴰ·not-nil m
 no-zero ws i x z (MayBind.in-branch {b = b} e m d) = no-zero ws b x z d
 no-zero ws i x z (MayBind.in-member {m = b} e m d) = no-zero ws b x z d
 no-zero ws i x z (MayBind.in-body {b = b} e d) = no-zero ws b x z d
 no-zero ws i x z (MayBind.in-case {b = b} e m d) = no-zero ws b x z d
-no-zero ws i x z (MayBind.in-rule {b = b} e d) = no-zero ws b x z d
+no-zero ws i x z (MayBind.in-rule {b = b} e f d) = no-zero ws b x z d
 
 -- where x is bound below construct i of rule r: in rule r from i on, or in a rule that r reaches
 data Place (ws : List ℕ) (r i x : ℕ) : Type 0 where
@@ -79,14 +79,14 @@ module _ {ws : List ℕ} (l : Laid ws) where
       let h : i < construct-count ws = stands-within l r i s
       in held-children ws (ruled-of l) (Child ws i) i (λ e. let f : i ≡ 256 = e in absurd (omega (arith, l .counts .constructs))) (λ k c. c)
 
-  place : (r i x : ℕ) → Stands ws r i → i + size-at ws i ≤ rule-end ws r 0 → Below ws i x → Place ws r i x
-  place r i x s whole (MayBind.itself m) = behind i (omega arith) s m
-  place r i x s whole (MayBind.entering m) = absurd (List·Memᴰ·not-nil m)
+  place : {c : Context} (r i x : ℕ) → Stands ws r i → i + size-at ws i ≤ rule-end ws r 0 → Below ws c i x → Place ws r i x
+  place r i x s whole (MayBind.itself m e) = behind i (omega arith) s (subst (λ (y : ℕ). y ∈ bound-at ws i) (sym e) m)
+  place r i x s whole (MayBind.entering e f m k) = absurd (List·Memᴰ·not-nil m)
   place r i x s whole (MayBind.in-branch {b = b} {is = is} e m d) = below-child r i b x s whole (at-member (Child ws i) is b m (rw e at (children r i s))) (λ q t w. place q b x t w d)
   place r i x s whole (MayBind.in-member {m = b} {is = is} e m d) = below-child r i b x s whole (at-member (Child ws i) is b m (rw e at (children r i s))) (λ q t w. place q b x t w d)
   place r i x s whole (MayBind.in-body {b = b} e d) = below-child r i b x s whole (rw e at (children r i s)) (λ q t w. place q b x t w d)
   place r i x s whole (MayBind.in-case {b = b} {is = is} e m d) = below-child r i b x s whole (at-member (Child ws i) is b m (rw e at (children r i s))) (λ q t w. place q b x t w d)
-  place r i x s whole (MayBind.in-rule {b = b} e d) = below-child r i b x s whole (rw e at (children r i s)) (λ q t w. place q b x t w d)
+  place r i x s whole (MayBind.in-rule {b = b} e f d) = below-child r i b x s whole (rw e at (children r i s)) (λ q t w. place q b x t w d)
 
   -- a variable has one binder, which it names back
   one-binder : (j k x : ℕ) → j < construct-count ws → k < construct-count ws → x ∈ bound-at ws j → x ∈ bound-at ws k → j ≡ k
@@ -105,7 +105,7 @@ module _ {ws : List ℕ} (l : Laid ws) where
       in let f : r ≡ p = one-of l r p k (rw e at s) t
       in acyclic r (subst (λ (q : ℕ). Reaches ws r q) (sym f) d)
 
-  seen-once : (i x : ℕ) (h : i < construct-count ws) → Acyclic ws → x ∈ 0 ∷ bound-before ws (body ws (rule-of l i h .rule)) i → Below ws i x → ⊥
+  seen-once : {c : Context} (i x : ℕ) (h : i < construct-count ws) → Acyclic ws → x ∈ 0 ∷ bound-before ws (body ws (rule-of l i h .rule)) i → Below ws c i x → ⊥
   seen-once i x h acyclic (List·Memᴰ·head e) d = no-zero ws i x e d
   seen-once i x h acyclic (List·Memᴰ·tail m) d =
       let r : ℕ = rule-of l i h .rule
@@ -113,7 +113,7 @@ module _ {ws : List ℕ} (l : Laid ws) where
       in let b = before-from ws (body ws r) x i m
       in clash r i (b .binder) x acyclic (record { exists = s .exists; begins = b .from; ends = omega (arith, b .upto, s .ends) }) (b .upto) (b .binds) (place r i x s (rule-holds l i h) d)
 
-  pub not-again : Acyclic ws → (i x : ℕ) → x ∈ seen-at ws i → Below ws i x → ⊥
+  pub not-again : Acyclic ws → {c : Context} (i x : ℕ) → x ∈ seen-at ws i → Below ws c i x → ⊥
   not-again acyclic i x m d =
       elim (decide (ltb i (construct-count ws))) [
         | inl t ↦

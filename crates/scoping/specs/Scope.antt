@@ -1,4 +1,4 @@
--- Variables of the grammar that a table's words hold: `localised (scope-of ws) fresh (held ws)` (theory, `Scope`) is that grammar with document
+-- Variables of the grammar that a table's words hold: `localised store (scope-of ws) fresh (held ws)` (theory, `Scope`) is that grammar with document
 -- 01's local variables. Of a scope it takes `opens-rule` alone; the rest is what the law `lexical` says of well laid out words.
 -- Assumes nothing.
 use Prim.Native.Nat.{ℕ, zero, suc}
@@ -7,7 +7,7 @@ use mathlib.Core.List.{List, [], _∷_, _++_}
 use lib.Dec.{leb, ltb}
 use lib.IntN.{ℤ, pos}
 use lib.ListN.{length, getD, replicate}
-use Rattle.theory.specs.Scope.{Scope}
+use Rattle.theory.specs.Scope.{Store, one-level, Scope}
 use Rattle.layout.specs.Places.{rule-count}
 use Rattle.layout.specs.Constructs.{pick, both, constructAt}
 use Rattle.layout.specs.Held.{Context, Values}
@@ -18,6 +18,10 @@ use Rattle.form.specs.Rules.{body, rule-end, binder-of}
 abbrev pub value-of : Values → ℕ → ℤ
 value-of v zero = pos (length v)
 value-of v (suc x) = getD v x (pos 0)
+
+-- "Values stay as last bound": one value for each name, at whatever level
+abbrev pub store : Store Context Values ℕ ℤ (Unit {0})
+store = one-level value-of
 
 -- "Variables are local to a rule": it opens with its variables all 0, whatever they are at its use, as a run opens with "the rest 0".
 abbrev pub fresh : ℕ → Context → Values → Values

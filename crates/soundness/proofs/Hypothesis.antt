@@ -17,7 +17,7 @@ use Rattle.layout.specs.Held.{held}
 use Rattle.structure.proofs.Facts.{Laid, facts}
 use Rattle.structure.proofs.StaticLaw.{static}
 use Rattle.structure.proofs.NodeFacts.{width-positive, values-stay}
-use Rattle.scoping.specs.Scope.{value-of, fresh, scope-of}
+use Rattle.scoping.specs.Scope.{store, fresh, scope-of}
 use Rattle.scoping.proofs.LexicalLaw.{lexical}
 use Rattle.conflicts.proofs.Continuing.{continues-predicted}
 use Rattle.acts.specs.Stored.{stored, prediction-at, follow-at, tests-of}
@@ -29,7 +29,7 @@ module _ {ws : List ℕ} (s : Sound ws) where
   pub laid-of-sound : Laid ws
   laid-of-sound = facts ws (s .passed .passed .passed .passed .laid-out)
 
-  pub lexical-of-sound : Lexical value-of (scope-of ws) fresh (held ws)
+  pub lexical-of-sound : Lexical store (scope-of ws) fresh (held ws)
   lexical-of-sound = lexical ws (s .passed .passed .passed .passed .laid-out) (s .passed .passed .passed .passed .acyclic)
 
   -- what a step looks up, of a construct
@@ -55,7 +55,7 @@ module _ {ws : List ℕ} (s : Sound ws) where
         no-conflict = λ i x c. s .passed .no-conflict i (x, c);
         body-keeps-counts =
             λ {i} {b} {counts} {static = always} {fixed} {t} {c} {v} {v′} {s = before} {r = after} e d.
-            keeps-counts value-of (scope-of ws) fresh (held ws) (static ws) lexical-of-sound i b counts always fixed t c v v′ before after e d;
+            keeps-counts store (scope-of ws) fresh (held ws) (static ws) lexical-of-sound i b counts always fixed t c v v′ before after e d;
         values-stay = λ {i} e. values-stay ws i e;
         predicts-exact = λ {i} {b} {is} e m. predicts b (branch-there laid-of-sound i b is e m);
         continues-exact = λ {i} {b} {counts} {static = always} e. continues i b (repeating laid-of-sound i b counts always false e) (body-there laid-of-sound i b counts always false e);

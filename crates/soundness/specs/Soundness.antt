@@ -11,7 +11,7 @@ use Rattle.theory.specs.Weight.{Outweighs, Houses}
 use Rattle.theory.specs.Scope.{Lexical}
 use Rattle.layout.specs.Places.{weight-of}
 use Rattle.layout.specs.Held.{Context, first-context, Values, held, opening}
-use Rattle.scoping.specs.Scope.{value-of, fresh, scope-of}
+use Rattle.scoping.specs.Scope.{store, fresh, scope-of}
 use Rattle.acts.specs.Stored.{tests-of}
 
 -- each in the theory's own words; above it stands the rule of document 01 that gives it
@@ -21,7 +21,7 @@ pub record Trusted (ws : List ℕ) : Type 0 where
   -- 6, 7, 9, 10, and "Opening a run tries 23": no conflict, no empty body, and a step's lookups answer exactly by the grammar's sets
   pub hypotheses : Hypotheses (held ws) (tests-of ws)
   -- 6 and 7: "Variables are local to a rule ...; uses stand in later members."
-  pub lexical : Lexical value-of (scope-of ws) fresh (held ws)
+  pub lexical : Lexical store (scope-of ws) fresh (held ws)
   -- "Weight: ..." and 11: there are weights, and the table's is that "as a use of its start rule"
   pub weight : Context → ℕ → ℕ
   pub outweighs : Outweighs (held ws) weight

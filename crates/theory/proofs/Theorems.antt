@@ -24,7 +24,7 @@ use Rattle.theory.proofs.Progress.{Counted, passes-more}
 use Rattle.theory.proofs.Runs as Runs
 use Rattle.theory.proofs.Runs.{granted-decided, granted-sum}
 use Rattle.theory.proofs.Invariants as Invariants
-use Rattle.theory.specs.Scope.{Scope, localised}
+use Rattle.theory.specs.Scope.{Store, Scope, localised}
 use Rattle.theory.proofs.LocalTheorem as LocalProof
 use Rattle.theory.proofs.ValuesTheorem as ValuesProof
 use Rattle.theory.proofs.Decisions.{derivation-runs, Decided, decided}
@@ -40,10 +40,10 @@ module _ {Context Values : Type 0} (g : Grammar Context Values) where
   unique h n s t t′ v v′ d d′ = let x = UniqueProof.unique g h n d (Twins.one refl (Follow.of-start refl) (Follow.of-start refl)) d′ in (x .0, x .1)
 
   pub values : ValuesTheorem g
-  values bind plain s t v d = ValuesProof.replays g bind plain d refl
+  values s t v d = ValuesProof.replays g d refl
 
-pub local : {Context Values A : Type 0} (get : Values → ℕ → A) (scope : Scope) (fresh : ℕ → Context → Values → Values) (g : Grammar Context Values) → LocalTheorem get scope fresh g
-local get scope fresh g h lexical = LocalProof.same-trees get scope fresh g h lexical
+pub local : {Context Values Cell A R : Type 0} (store : Store Context Values Cell A R) (scope : Scope) (fresh : ℕ → Context → Values → Values) (g : Grammar Context Values) → LocalTheorem store scope fresh g
+local store scope fresh g h lexical = LocalProof.same-trees store scope fresh g h lexical
 
 module _ {Context Values : Type 0} (g : Grammar Context Values) (tests : Tests) where
   pub additive : AdditiveTheorem g tests
@@ -166,18 +166,18 @@ module _ {Context Values : Type 0} (g : Grammar Context Values) (tests : Tests) 
   pub room : (rooms : Context → ℕ → ℕ) → RoomTheorem g tests rooms
   room rooms h houses = Invariants.housed g tests h rooms houses
 
-  module _ (weight : Context → ℕ → ℕ) {A : Type 0} (get : Values → ℕ → A) (scope : Scope) (fresh : ℕ → Context → Values → Values) where
-    pub exact-local : ExactLocalTheorem g tests weight get scope fresh
+  module _ (weight : Context → ℕ → ℕ) {Cell A R : Type 0} (store : Store Context Values Cell A R) (scope : Scope) (fresh : ℕ → Context → Values → Values) where
+    pub exact-local : ExactLocalTheorem g tests weight store scope fresh
     exact-local h weighs lexical =
-        let same = local get scope fresh g (h .static) lexical in
+        let same = local store scope fresh g (h .static) lexical in
         let e = exact weight h weighs in
-        let there : (s : Bits) → Derivable g s → Derivable (localised scope fresh g) s = λ s d. (let x = same s (d .0) .0 (d .1, d .2) in (d .0, x .0, x .1)) in
-        let back : (s : Bits) → Derivable (localised scope fresh g) s → Derivable g s = λ s d. (let x = same s (d .0) .1 (d .1, d .2) in (d .0, x .0, x .1)) in
+        let there : (s : Bits) → Derivable g s → Derivable (localised store scope fresh g) s = λ s d. (let x = same s (d .0) (store .reported (d .1)) .0 (d .1, d .2, refl) in (d .0, x .0, x .1)) in
+        let back : (s : Bits) → Derivable (localised store scope fresh g) s → Derivable g s = λ s d. (let x = same s (d .0) (store .reported (d .1)) .1 (d .1, d .2, refl) in (d .0, x .0, x .1)) in
         record {
           match-iff = λ s n l. (λ x. there s (e .match-iff s n l .0 x), λ d. e .match-iff s n l .1 (back s d));
           mismatch-iff = λ s n l. (λ x d. e .mismatch-iff s n l .0 x (back s d), λ f. e .mismatch-iff s n l .1 (λ d. f (there s d)));
-          match-end = λ s t v d n l. (let x = same s t .1 (v, d) in (x .0, x .1, e .match-end s t (x .0) (x .1) n l));
+          match-end = λ s t v d n l. (let x = same s t (store .reported v) .1 (v, d, refl) in (x .0, x .1, e .match-end s t (x .0) (x .1) n l, x .2));
           once =
               λ s t t′ v v′ d d′.
-              let x = same s t .1 (v, d) in let y = same s t′ .1 (v′, d′) in unique g (h .static) (h .no-conflict) s t t′ (x .0) (y .0) (x .1) (y .1) .0;
+              let x = same s t (store .reported v) .1 (v, d, refl) in let y = same s t′ (store .reported v′) .1 (v′, d′, refl) in unique g (h .static) (h .no-conflict) s t t′ (x .0) (y .0) (x .1) (y .1) .0;
         }

@@ -6,7 +6,7 @@ use Prim.Native.Nat.{ℕ, zero, suc, _+_}
 use mathlib.Core.Path.{_≡_}
 use mathlib.Core.Bool.{Bool, true}
 use mathlib.Core.List.{List, [], _∷_, _++_}
-use mathlib.Core.Option.{Option, some}
+use mathlib.Core.Option.{Option, none, some}
 use lib.ListN.{length}
 use Rattle.basis.specs.Bits.{Bits}
 use Rattle.basis.specs.Counts.{Counts, Allows}
@@ -49,14 +49,34 @@ captures nil p = []
 captures (member t u) p = captures t p ++ captures u (p + length (covered t))
 captures (pass t u) p = captures t p ++ captures u (p + length (covered t))
 
--- The values after a tree, where `bind i v bits` are those after the field i: each field binds in turn ("Values stay as last bound").
-unfoldable pub replayed : {Values : Type 0} → (ℕ → Values → Bits → Values) → Tree → Values → Values
-replayed bind (leaf i bits) v = bind i v bits
-replayed bind (end i) v = v
-replayed bind (node i t) v = replayed bind t v
-replayed bind nil v = v
-replayed bind (member t u) v = replayed bind u (replayed bind t v)
-replayed bind (pass t u) v = replayed bind u (replayed bind t v)
+-- A tree replayed: the values after it, of those before it, where the fields bind in turn ("Values stay as last bound"). `leaf-after` is what
+-- a node makes of a field's bits, `node-after` what it makes of what is below it.
+unfoldable pub leaf-after : {Context Values : Type 0} → Node Context Values → Context → Values → Bits → Values
+leaf-after (alternative is) c v bits = v
+leaf-after (concatenation is) c v bits = v
+leaf-after (repetition counts static fixed b) c v bits = v
+leaf-after (switch chosen is) c v bits = v
+leaf-after (use-of enters opens closes b) c v bits = v
+leaf-after (field w admits static binds) c v bits = binds c v bits
+leaf-after eod c v bits = v
+
+unfoldable pub node-after : {Context Values : Type 0} → Node Context Values → (Context → Values → Values) → Context → Values → Values
+node-after (alternative is) below c v = below c v
+node-after (concatenation is) below c v = below c v
+node-after (repetition counts static fixed b) below c v = below c v
+node-after (switch chosen is) below c v = below c v
+node-after (use-of enters opens closes b) below c v = elim (enters c) [ none ↦ v | some c′ ↦ closes v (below c′ (opens c v)) ]
+node-after (field w admits static binds) below c v = below c v
+node-after eod below c v = below c v
+
+unfoldable pub replayed : {Context Values : Type 0} → Grammar Context Values → Tree → Context → Values → Values
+unfolding leaf-after node-after
+replayed g (leaf i bits) c v = leaf-after (g .node i) c v bits
+replayed g (end i) c v = v
+replayed g (node i t) c v = node-after (g .node i) (λ c v. replayed g t c v) c v
+replayed g nil c v = v
+replayed g (member t u) c v = replayed g u c (replayed g t c v)
+replayed g (pass t u) c v = replayed g u c (replayed g t c v)
 
 -- What is derived: a construct (with its node), the members of a concatenation, or so many passes of a body.
 pub data Shape (Context Values : Type 0) : Type 0 where

@@ -12,7 +12,7 @@ use Rattle.basis.specs.Bits.{Bits, bitsOf, value, frameBits, same}
 use Rattle.basis.specs.Counts.{from, within, exactly}
 use Rattle.theory.specs.Grammar.{Node, alternative, concatenation, repetition, switch, use-of, field, Grammar}
 use Rattle.theory.specs.Derivation.{Capture}
-use Rattle.theory.specs.Scope.{Scope, Lexical}
+use Rattle.theory.specs.Scope.{Store, one-level, Scope, Lexical}
 use Rattle.theory.specs.Hypotheses.{Hypotheses}
 use Rattle.theory.specs.Theorems.{Derivable}
 use Rattle.theory.specs.Weight.{Weighs, Houses}
@@ -25,6 +25,10 @@ Variables = ℕ → ℕ
 -- a variable's value
 abbrev pub get : Variables → ℕ → ℕ
 get v x = v x
+
+-- no rule reaches itself: one value for each variable
+abbrev pub store : Store (Unit {0}) Variables ℕ ℕ (Unit {0})
+store = one-level get
 
 -- the values with that of x changed
 abbrev pub bind : Variables → ℕ → ℕ → Variables
@@ -275,7 +279,7 @@ pub record Meets (s : Sample) : Type 0 where
   pub hypotheses : Hypotheses (grammar-of s) (s .tests)
   pub weighs : Weighs (grammar-of s) (λ c. weight-in s)
   pub houses : Houses (grammar-of s) (λ c. weight-in s)
-  pub lexical : Lexical get (scope-of s) fresh (grammar-of s)
+  pub lexical : Lexical store (scope-of s) fresh (grammar-of s)
 
 -- The sheet.
 

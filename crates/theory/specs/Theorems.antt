@@ -6,19 +6,17 @@
 use Prim.Native.Nat.{ℕ, _+_, _-_, _*_, _≤_, _<_, min}
 use mathlib.Core.Path.{_≡_}
 use mathlib.Core.Logic.{_↔_, _≢_}
-use mathlib.Core.Bool.{Bool}
 use mathlib.Core.List.{[], _++_}
-use mathlib.Core.Option.{Option}
 use lib.ListN.{length, drop}
 use Rattle.basis.specs.Bits.{Bits}
 use Rattle.basis.specs.Lookahead.{lookahead}
-use Rattle.theory.specs.Grammar.{Grammar, use-of, field}
+use Rattle.theory.specs.Grammar.{Grammar}
 use Rattle.theory.specs.Derivation.{Tree, covered, captures, replayed, construct, Derives, Derivation, Leaves}
 use Rattle.theory.specs.Lookahead.{First, Follow, Conflict}
 use Rattle.theory.specs.Machine.{Tests, State, state, Run, run, undecided, matched, unmatched, verdict-of, state-of, pending-of, rest-of, position-of, captures-of, Passes, tree-steps, opened, granted, taken}
 use Rattle.theory.specs.Weight.{Outweighs, Houses}
 use Rattle.theory.specs.Hypotheses.{Static, Hypotheses}
-use Rattle.theory.specs.Scope.{Scope, localised, Lexical}
+use Rattle.theory.specs.Scope.{Store, Scope, localised, Lexical}
 
 module _ {Context Values : Type 0} (g : Grammar Context Values) where
   -- First: a derivation over some bits puts the first 8 of them into FIRST.
@@ -35,28 +33,20 @@ module _ {Context Values : Type 0} (g : Grammar Context Values) where
   UniqueTheorem = Static g → ((i : ℕ) (x : Bits) → Conflict g i x → ⊥)
       → (s : Bits) (t t′ : Tree) (v v′ : Values) → Derivation g s t v → Derivation g s t′ v′ → (t ≡ t′) × (v ≡ v′)
 
-  -- Values: where a use passes the values on and a field binds as `bind` says, a derivation ends with the values last bound.
-  pub record Plain (bind : ℕ → Values → Bits → Values) : Type 0 where
-    pub opens-same : {i b : ℕ} {enters : Context → Option Context} {opens : Context → Values → Values} {closes : Values → Values → Values}
-        → g .node i ≡ use-of enters opens closes b → (c : Context) (v : Values) → opens c v ≡ v
-    pub closes-after : {i b : ℕ} {enters : Context → Option Context} {opens : Context → Values → Values} {closes : Values → Values → Values}
-        → g .node i ≡ use-of enters opens closes b → (v v′ : Values) → closes v v′ ≡ v′
-    pub binds-so : {i : ℕ} {w : Bits → ℕ} {admits : Context → Values → Bits → Bool} {static : Bits → Bool} {binds : Context → Values → Bits → Values}
-        → g .node i ≡ field w admits static binds → (c : Context) (v : Values) (bits : Bits) → binds c v bits ≡ bind i v bits
-
-  -- of every frame and every derivation of it
+  -- Values: a derivation ends with the values that its tree, replayed, makes.
   abbrev pub ValuesTheorem : Type 0
-  ValuesTheorem = (bind : ℕ → Values → Bits → Values) → Plain bind → (s : Bits) (t : Tree) (v : Values) → Derivation g s t v → v ≡ replayed bind t (g .values)
+  ValuesTheorem = (s : Bits) (t : Tree) (v : Values) → Derivation g s t v → v ≡ replayed g t (g .context) (g .values)
 
   -- some derivation covers the frame
   abbrev pub Derivable : Bits → Type 0
   Derivable s = (t : Tree) × (v : Values) × Derivation g s t v
 
--- Local: threading one value for each binder through a derivation gives the same trees as variables local to each opening of a rule.
--- `get` is a variable's value.
-abbrev pub LocalTheorem : {Context Values A : Type 0} → (Values → ℕ → A) → Scope → (ℕ → Context → Values → Values) → Grammar Context Values → Type 0
-LocalTheorem {Context} {Values} get scope fresh g = Static g → Lexical get scope fresh g
-    → (s : Bits) (t : Tree) → ((v : Values) × Derivation g s t v) ↔ ((v : Values) × Derivation (localised scope fresh g) s t v)
+-- Local: threading the values of a store through a derivation gives the same trees as variables local to each opening of a rule, and the
+-- same is reported.
+abbrev pub LocalTheorem : {Context Values Cell A R : Type 0} → Store Context Values Cell A R → Scope → (ℕ → Context → Values → Values) → Grammar Context Values → Type 0
+LocalTheorem {Context} {Values} {Cell} {A} {R} store scope fresh g = Static g → Lexical store scope fresh g
+    → (s : Bits) (t : Tree) (r : R)
+    → ((v : Values) × Derivation g s t v × (store .reported v ≡ r)) ↔ ((v : Values) × Derivation (localised store scope fresh g) s t v × (store .reported v ≡ r))
 
 module _ {Context Values : Type 0} (g : Grammar Context Values) (tests : Tests) where
   -- Additive: running m steps and then n is running m + n; a decided run takes none and changes nothing.
@@ -82,17 +72,18 @@ module _ {Context Values : Type 0} (g : Grammar Context Values) (tests : Tests) 
     abbrev pub ExactTheorem : Type 0
     ExactTheorem = Hypotheses g tests → Outweighs g weight → Exact
 
-    -- Exact, of derivations whose variables are local to each opening of a rule, as document 01 has them: the fields are the derivation's.
-    pub record ExactLocal (localised-g : Grammar Context Values) : Type 0 where
+    -- Exact, of derivations whose variables are local to each opening of a rule, as document 01 has them: the fields, and what is reported,
+    -- are the derivation's.
+    pub record ExactLocal {R : Type 0} (reported : Values → R) (localised-g : Grammar Context Values) : Type 0 where
       pub match-iff : (s : Bits) (n : ℕ) → step-bound s ≤ n → (verdict-of (granted g tests n (opened g tests s)) ≡ matched) ↔ Derivable localised-g s
       pub mismatch-iff : (s : Bits) (n : ℕ) → step-bound s ≤ n → (verdict-of (granted g tests n (opened g tests s)) ≡ unmatched) ↔ (Derivable localised-g s → ⊥)
       pub match-end : (s : Bits) (t : Tree) (v : Values) → Derivation localised-g s t v → (n : ℕ) → tree-steps t ≤ n
-          → (v′ : Values) × Derivation g s t v′ × (granted g tests n (opened g tests s) ≡ run (state [] [] (length s) v′ (captures t 0)) (tree-steps t) matched)
+          → (v′ : Values) × Derivation g s t v′ × (granted g tests n (opened g tests s) ≡ run (state [] [] (length s) v′ (captures t 0)) (tree-steps t) matched) × (reported v′ ≡ reported v)
       pub once : (s : Bits) (t t′ : Tree) (v v′ : Values) → Derivation localised-g s t v → Derivation localised-g s t′ v′ → t ≡ t′
 
     -- the same, where names keep to document 01's rules
-    abbrev pub ExactLocalTheorem : {A : Type 0} → (Values → ℕ → A) → Scope → (ℕ → Context → Values → Values) → Type 0
-    ExactLocalTheorem get scope fresh = Hypotheses g tests → Outweighs g weight → Lexical get scope fresh g → ExactLocal (localised scope fresh g)
+    abbrev pub ExactLocalTheorem : {Cell A R : Type 0} → Store Context Values Cell A R → Scope → (ℕ → Context → Values → Values) → Type 0
+    ExactLocalTheorem store scope fresh = Hypotheses g tests → Outweighs g weight → Lexical store scope fresh g → ExactLocal (store .reported) (localised store scope fresh g)
 
     -- Bound: decided within weight × (bits + 1) steps; the steps taken in all are the smaller of those granted and those needed.
     pub record Decision (s : Bits) : Type 0 where

@@ -20,7 +20,7 @@ use Rattle.theory.specs.Machine.{Tests}
 use Rattle.theory.specs.Scope.{Agree, Chain}
 use Rattle.theory.specs.Hypotheses.{Hypotheses}
 use Rattle.theory.specs.Weight.{weigh}
-use Rattle.theory.specs.Sheet.{get, Variables, SheetNode, SheetGrammar, uint, uint-var, repeated, starred, switch-on, one-of, Case, equals, first-true, bodies, nothing, opening-use, Sample, grammar-of, scope-of, weight-in, Meets}
+use Rattle.theory.specs.Sheet.{store, Variables, SheetNode, SheetGrammar, uint, uint-var, repeated, starred, switch-on, one-of, Case, equals, first-true, bodies, nothing, opening-use, Sample, grammar-of, scope-of, weight-in, Meets}
 use Rattle.theory.proofs.Turns.{decide}
 use Rattle.theory.proofs.Inversion.{First-of, FirstBy, first-by, BindsBy, binds-by}
 use Rattle.theory.proofs.NodeLaws.{Law, hypotheses}
@@ -101,7 +101,7 @@ module _ (s : Sample) where
 
   -- where n reads only what may be used there
   pub repeated-right : (n : Variables → ℤ) (i b w : ℕ) (member : ℕ → Bool) → grammar-of s .node b ≡ uint (suc w) member
-      → scope-of s .binds i ≡ [] → scope-of s .sees b ≡ scope-of s .sees i → ((v v′ : Variables) → Agree get (scope-of s .sees i) v v′ → n v ≡ n v′) → Right s i (repeated n b)
+      → scope-of s .binds i ≡ [] → scope-of s .sees b ≡ scope-of s .sees i → ((v v′ : Variables) → Agree store tt (scope-of s .sees i) v v′ → n v ≡ n v′) → Right s i (repeated n b)
   repeated-right n i b w member e z q reads = (
     repeated-law (grammar-of s) (s .tests) n i b w member e,
     repetition-names (scope-of s) i b (λ c v. exactly (n v)) (from 0) true z q (λ c v v′ a. ap exactly (reads v v′ a)),

@@ -15,7 +15,7 @@ use Rattle.basis.specs.Counts.{Counts}
 use Rattle.theory.specs.Grammar.{alternative, concatenation, repetition, switch, use-of, field, eod, _∈_}
 use Rattle.theory.specs.Hypotheses.{Hypotheses}
 use Rattle.theory.specs.Scope.{Scope, Agree, Chain, Scoped, MayBind, Lexical}
-use Rattle.theory.specs.Sheet.{get, Variables, SheetNode, SheetGrammar, bind, uint-var, nothing, opening-use, Sample, grammar-of, scope-of, fresh}
+use Rattle.theory.specs.Sheet.{store, Variables, SheetNode, SheetGrammar, bind, uint-var, nothing, opening-use, Sample, grammar-of, scope-of, fresh}
 use Rattle.theory.proofs.Turns.{decide}
 use Rattle.theory.proofs.Sheet.Numbers.{Listed, each, numbered-neither}
 
@@ -45,21 +45,21 @@ module _ (scope : Scope) where
 
   -- of a construct: its names, its parts', and it binds nothing that it sees
   abbrev pub Names : ℕ → SheetNode → Type 0
-  Names i n = Scoped get scope i n × PartsSee i n × ((x : ℕ) → x ∈ scope .sees i → x ∈ scope .binds i → ⊥)
+  Names i n = Scoped store scope i n × PartsSee i n × ((x : ℕ) → x ∈ scope .sees i → x ∈ scope .binds i → ⊥)
 
   -- so nothing below a construct binds what it sees
   module _ (g : SheetGrammar) (names : (i : ℕ) → Names i (g .node i)) (plain : (i x : ℕ) → x ∈ scope .enters-with i → ⊥) where
     pub parts : (i : ℕ) {n : SheetNode} → g .node i ≡ n → PartsSee i n
     parts i e = subst (PartsSee i) e (names i .1)
 
-    pub not-again : {i x : ℕ} → MayBind get scope g i x → x ∈ scope .sees i → ⊥
-    not-again (MayBind.itself {i = i} {x = x} m) s = names i .2 x s m
-    not-again (MayBind.entering {i = i} {x = x} m) s = plain i x m
-    not-again (MayBind.in-branch {i = i} {b = b} {x = x} e m d) s = not-again d (parts i e b m x s)
-    not-again (MayBind.in-member {i = i} {m = b} {x = x} e m d) s = not-again d (parts i e b m x s)
-    not-again (MayBind.in-body {i = i} {x = x} e d) s = not-again d (parts i e x s)
-    not-again (MayBind.in-case {i = i} {b = b} {x = x} e m d) s = not-again d (parts i e b m x s)
-    not-again (MayBind.in-rule {i = i} {x = x} e d) s = not-again d (parts i e .0 x s)
+    pub not-again : {c : Unit {0}} {i x : ℕ} → MayBind store scope g c i x → x ∈ scope .sees i → ⊥
+    not-again {x = x} (MayBind.itself {i = i} m l) s = names i .2 x s (subst (λ (z : ℕ). z ∈ scope .binds i) (sym l) m)
+    not-again (MayBind.entering {i = i} {x = x} e l m n) s = plain i x m
+    not-again {x = x} (MayBind.in-branch {i = i} {b = b} e m d) s = not-again d (parts i e b m x s)
+    not-again {x = x} (MayBind.in-member {i = i} {m = b} e m d) s = not-again d (parts i e b m x s)
+    not-again {x = x} (MayBind.in-body {i = i} e d) s = not-again d (parts i e x s)
+    not-again {x = x} (MayBind.in-case {i = i} {b = b} e m d) s = not-again d (parts i e b m x s)
+    not-again {x = x} (MayBind.in-rule {i = i} e l d) s = not-again d (parts i e .0 x s)
 
   nothing-bound : (i : ℕ) → scope .binds i ≡ [] → (x : ℕ) → x ∈ scope .sees i → x ∈ scope .binds i → ⊥
   nothing-bound i e x s m = List·Memᴰ·not-nil (subst (λ (l : List ℕ). x ∈ l) e m)
@@ -71,7 +71,8 @@ module _ (scope : Scope) where
       λ c v v′ bits a. refl,
       λ c v v′ bits a y m.
           elim (List·Memᴰ·append-cases (scope .sees i) m) [ inl k ↦ bind-same v v′ x (value bits) y (a y k) | inr k ↦ bind-new v v′ x (value bits) y (is-it y k) ],
-      λ c v bits y n. bind-other v x (value bits) y (λ q. n (subst (λ (l : List ℕ). y ∈ l) (sym e) (List·Memᴰ·head q))),
+      λ c v bits y n. bind-other v x (value bits) y (λ q. n y (subst (λ (l : List ℕ). y ∈ l) (sym e) (List·Memᴰ·head q)) refl),
+      λ c v v′ bits p. refl,
     ),
     tt,
     λ y s m. d (subst (λ (z : ℕ). z ∈ scope .sees i) (is-it y m) s),
@@ -87,13 +88,14 @@ module _ (scope : Scope) where
       λ c v v′ bits a. refl,
       λ c v v′ bits a y m. elim (List·Memᴰ·append-cases (scope .sees i) m) [ inl k ↦ a y k | inr k ↦ absurd (List·Memᴰ·not-nil (subst (λ (l : List ℕ). y ∈ l) e k)) ],
       λ c v bits y n. refl,
+      λ c v v′ bits p. refl,
     ),
     tt,
     nothing-bound i e,
   )
 
   pub repetition-names : (i b : ℕ) (counts : Unit {0} → Variables → Counts) (static : Counts) (fixed : Bool) → scope .binds i ≡ [] → scope .sees b ≡ scope .sees i
-      → ((c : Unit {0}) (v v′ : Variables) → Agree get (scope .sees i) v v′ → counts c v ≡ counts c v′) → Names i (repetition counts static fixed b)
+      → ((c : Unit {0}) (v v′ : Variables) → Agree store c (scope .sees i) v v′ → counts c v ≡ counts c v′) → Names i (repetition counts static fixed b)
   repetition-names i b counts static fixed e q a = ((e, q, a), λ x h. subst (λ (l : List ℕ). x ∈ l) (sym q) h, nothing-bound i e)
 
   -- an alternative or a switch, all of whose parts see what it sees
@@ -104,7 +106,7 @@ module _ (scope : Scope) where
   alternative-names i is e q = ((e, q), same-sight i is q, nothing-bound i e)
 
   pub switch-names : (i : ℕ) (chosen : Unit {0} → Variables → Option ℕ) (is : List ℕ) → scope .binds i ≡ [] → ((b : ℕ) → b ∈ is → scope .sees b ≡ scope .sees i)
-      → ((c : Unit {0}) (v : Variables) (b : ℕ) → chosen c v ≡ some b → b ∈ is) → ((c : Unit {0}) (v v′ : Variables) → Agree get (scope .sees i) v v′ → chosen c v ≡ chosen c v′)
+      → ((c : Unit {0}) (v : Variables) (b : ℕ) → chosen c v ≡ some b → b ∈ is) → ((c : Unit {0}) (v v′ : Variables) → Agree store c (scope .sees i) v v′ → chosen c v ≡ chosen c v′)
       → Names i (switch chosen is)
   switch-names i chosen is e q listed a = ((e, λ c v b z. q b (listed c v b z), a), same-sight i is q, nothing-bound i e)
 
@@ -114,20 +116,21 @@ module _ (scope : Scope) where
 
 -- names of a grammar, by its constructs
 pub lexical : (s : Sample) → Hypotheses (grammar-of s) (s .tests) → length (s .binds) ≡ length (s .constructs) → scope-of s .sees 0 ≡ []
-    → Listed (Names (scope-of s)) (s .constructs) → Lexical get (scope-of s) fresh (grammar-of s)
+    → Listed (Names (scope-of s)) (s .constructs) → Lexical store (scope-of s) fresh (grammar-of s)
 unfolding grammar-of scope-of
 lexical s hypotheses l z p =
     record {
       scoped = λ i. names i .0;
-      not-bound-again = λ i x m d. not-again (scope-of s) (grammar-of s) names no-parameters d m;
+      not-bound-again = λ c i x m d. not-again (scope-of s) (grammar-of s) names no-parameters d m;
       values-stay = λ {i} e. hypotheses .values-stay {i = i} e;
-      entered = λ {i} e o c v v′ a x m. absurd (List·Memᴰ·not-nil (subst (λ (l : List ℕ). x ∈ l) (parts (scope-of s) (grammar-of s) names no-parameters i e .1) m));
+      entered = λ {i} e o c c′ v v′ z a x m. absurd (List·Memᴰ·not-nil (subst (λ (l : List ℕ). x ∈ l) (parts (scope-of s) (grammar-of s) names no-parameters i e .1) m));
+      entered-reported = λ e o c v v′ a p. refl;
     }
   where
     names : (i : ℕ) → Names (scope-of s) i (grammar-of s .node i)
     names =
         each opening-use nothing (s .constructs) (Names (scope-of s))
-        ((refl, λ c v x n. refl), (λ x h. absurd (List·Memᴰ·not-nil h), z), λ x h. absurd (List·Memᴰ·not-nil h))
+        ((refl, λ c c′ v x e n. refl), (λ x h. absurd (List·Memᴰ·not-nil h), z), λ x h. absurd (List·Memᴰ·not-nil h))
         (λ i h. alternative-names (scope-of s) i [] (numbered-neither [] [] (s .binds) i (omega (arith, h .0), h .1)) (λ b m. absurd (List·Memᴰ·not-nil m)))
         p
 
