@@ -22,6 +22,7 @@ pub fn report(folder: &Path) {
         matching(name, text.as_bytes());
     }
     largest();
+    slowest_step();
 }
 
 fn seconds(mut turn: impl FnMut()) -> f64 {
@@ -120,6 +121,7 @@ fn largest() {
         ("200 uints of three items", format!("dogma_v1 utf-8\n\na = {};", (0..200).map(|i| format!("uint(32,{i}!{i}|{})", i + 1)).collect::<Vec<_>>().join("&"))),
         ("16 deep", format!("dogma_v1 utf-8\n\na = {}\"x\"{};", "(".repeat(16), "?)".repeat(16))),
         ("250 uses", format!("dogma_v1 utf-8\n\na = uint(8, var(n, ~)) & {};", (0..250).map(|_| "uint(8, n)").collect::<Vec<_>>().join("&"))),
+        ("64 rules, each after the one that uses it", late_rules()),
         ("8,000 bytes of comments", format!("dogma_v1 utf-8\n\n{}", "# comment\n".repeat(800))),
     ];
     for (name, text) in texts {
@@ -127,6 +129,39 @@ fn largest() {
         let mut table = Guarded::new(&[0; TABLE_WORDS]);
         let mut number = 0;
         let time = (0..5).map(|_| seconds(|| number = calls::admit(&lent, &mut table).number)).fold(f64::INFINITY, f64::min);
-        println!("library: {name}, {} bytes: answered {number} in {:.2} ms", lent.length, time * 1e3);
+        println!("library: {name}, {} bytes: answered {number} in {:.2} ms{}", lent.length, time * 1e3, opened(&table, number));
     }
+}
+
+// How long opening takes, on the table of an admitted text.
+fn opened(table: &Guarded<u32>, number: usize) -> String {
+    if number != 0 {
+        return String::new();
+    }
+    let (frame, reading, mut run) = (Guarded::new(&[]), Guarded::new(&[]), Guarded::new(&[0; RUN_BYTES]));
+    let time = (0..5).map(|_| seconds(|| assert_eq!(calls::open(table, &frame, &reading, &mut run), 0))).fold(f64::INFINITY, f64::min);
+    format!(", opened in {:.2} ms", time * 1e3)
+}
+
+// The worst text found: each rule is used by the one after it, so that its sets are known only one round later, and a round joins many sets.
+fn late_rules() -> String {
+    let parts = ["uint(1,1)"].into_iter().chain(std::iter::repeat_n("uint(1,~){8}", 94)).collect::<Vec<_>>().join("&");
+    let rules = (2..64).map(|i| format!("r{i}=r{};", i - 1)).collect::<String>();
+    format!("dogma_v1 utf-8\n\nr0=r63;r1={parts};{rules}")
+}
+
+// The slowest step found: a uint whose set is one product of 512 numbers.
+fn slowest_step() {
+    let text = format!("dogma_v1 utf-8\n\na = uint(8,0{})*;", "*0".repeat(511));
+    let frame = Guarded::new(&[0; 256]);
+    let mut table = Guarded::new(&[0; TABLE_WORDS]);
+    let mut reading = Guarded::new(&[0; 4096]);
+    let mut run = Guarded::new(&[0; RUN_BYTES]);
+    assert_eq!(calls::admit(&Guarded::new(text.as_bytes()), &mut table).number, 0);
+    let mut fields = || {
+        assert_eq!(calls::open(&table, &frame, &reading, &mut run), 0);
+        seconds(|| assert_eq!(calls::grant(&table, &frame, &mut reading, &mut run, u64::MAX).0, 0))
+    };
+    let time = (0..5).map(|_| fields()).fold(f64::INFINITY, f64::min);
+    println!("library: a step over a product of 512 numbers takes {:.1} microseconds", time * 1e6 / 256.0);
 }

@@ -43,6 +43,17 @@ pub fn open(table: &Guarded<u32>, frame: &Guarded<u8>, reading: &Guarded<u32>, r
     }
 }
 
+pub fn grant_into(
+    table: &Guarded<u32>, frame: &Guarded<u8>, reading: &mut Guarded<u32>, run: &mut Guarded<u8>, steps: u64, taken: &mut Guarded<u64>,
+) -> usize {
+    unsafe {
+        songrafter_grant(
+            table.pointer(), table.length, frame.pointer(), frame.length, reading.pointer_mut(), reading.length, run.pointer_mut(), run.length, steps,
+            taken.pointer_mut(), taken.length,
+        )
+    }
+}
+
 pub fn grant(table: &Guarded<u32>, frame: &Guarded<u8>, reading: &mut Guarded<u32>, run: &mut Guarded<u8>, steps: u64) -> (usize, u64) {
     let mut taken = [u64::MAX];
     let number = unsafe {

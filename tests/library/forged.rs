@@ -92,6 +92,7 @@ fn past_counts() {
         counted("a = uint(8, var(t, ~)) & \"A\"{t};", b"\x01A", 3, 0),
         counted("a = uint(8, var(t, ~)) & \"A\"{t};", b"\x01A", 4, 1),
         counted("a = uint(8, 1~8);", b"\x01", 4, 2),
+        ("a = uint(8, var(t, ~)) & \"A\"{t};".to_string(), b"A".to_vec(), vec![(3, 0)], entry(2, 0)),
         ("a = \"A\"*;".to_string(), b"A".to_vec(), vec![], entry(0, 9)),
     ];
     for (rules, frame, words, bytes) in cases {

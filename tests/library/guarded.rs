@@ -37,6 +37,11 @@ impl<T: Copy> Guarded<T> {
         }
     }
 
+    // No memory at all.
+    pub fn null() -> Guarded<T> {
+        Guarded { base: std::ptr::null_mut(), mapped: 0, start: std::ptr::null_mut(), length: 0 }
+    }
+
     pub fn pointer(&self) -> *const T {
         self.start
     }
@@ -56,6 +61,8 @@ impl<T: Copy> Guarded<T> {
 
 impl<T> Drop for Guarded<T> {
     fn drop(&mut self) {
-        unsafe { munmap(self.base, self.mapped) };
+        if self.mapped > 0 {
+            unsafe { munmap(self.base, self.mapped) };
+        }
     }
 }

@@ -1,4 +1,4 @@
-// Compares the compiled library with the reference implementation: `library vectors FOLDER`, `library extremes`, `library compare
+// Compares the compiled library with the reference implementation: `library vectors FOLDER`, `library extremes`, `library nulls`, `library compare
 // SEED TEXTS` (random and damaged texts, frames and grants), `library forged SEED RUNS` (forged tables and runs), `library bench FOLDER`, `library
 // stack FOLDER`. Every array that the library is lent ends where a page begins that nobody may touch, so that a read or write past it ends the program.
 mod bench;
@@ -7,6 +7,7 @@ mod compare;
 mod extremes;
 mod forged;
 mod guarded;
+mod nulls;
 mod stack;
 mod vectors;
 
@@ -18,10 +19,11 @@ fn main() {
         ["vectors", folder] => println!("library: {} texts as the vectors say", vectors::check(Path::new(folder))),
         ["compare", seed, texts] => compare::report(number(seed), number(texts)),
         ["extremes"] => extremes::report(),
+        ["nulls"] => nulls::report(),
         ["forged", seed, runs] => forged::report(number(seed), number(runs)),
         ["bench", folder] => bench::report(Path::new(folder)),
         ["stack", folder] => stack::report(Path::new(folder)),
-        _ => panic!("use: library vectors FOLDER | compare SEED TEXTS | extremes | forged SEED RUNS | bench FOLDER | stack FOLDER"),
+        _ => panic!("use: library vectors FOLDER | compare SEED TEXTS | extremes | nulls | forged SEED RUNS | bench FOLDER | stack FOLDER"),
     }
 }
 

@@ -91,7 +91,7 @@ fn calls_on(text: &[u8], random: &mut Random, [admit, open, grant, access]: &mut
         let mut run = Guarded::new(&[0; RUN_BYTES]);
         open.run(|| _ = calls::open(&table, &frame, &reading, &mut run));
         grant.run(|| _ = calls::grant(&table, &frame, &mut reading, &mut run, u64::MAX));
-        access.run(|| _ = (calls::verdict(&run), calls::steps(&run), calls::fields(&run), calls::value(&run, 63)));
+        access.run(|| _ = (calls::verdict(&run), calls::steps(&run), calls::fields(&run), calls::position(&run), calls::value(&run, 63)));
     }
 }
 

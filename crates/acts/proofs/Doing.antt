@@ -21,7 +21,7 @@ use Rattle.layout.specs.Constructs.{pick, both, constructAt}
 use Rattle.layout.specs.Held.{terms-of, size-of}
 use Rattle.layout.specs.declared.Construct.{Construct}
 use Rattle.acts.specs.Stored.{stored, prediction-at, follow-at}
-use Rattle.acts.specs.Acts.{in-table, whole-in-table, terms-in-table, binder-in-table, enter, open-rule, ahead-at, bits-of, walk, by-branch, branch-act, case-test, by-case, case-act, members-act, by-lookahead, choice-act, turn-act, counted, literal-holds, literal-act, range-act, by-set, bits-act, Fine, construct-act, actOf, part-count, Doable}
+use Rattle.acts.specs.Acts.{in-table, whole-in-table, terms-in-table, binder-in-table, known-values, enter, open-rule, ahead-at, bits-of, walk, by-branch, branch-act, case-test, by-case, case-act, members-act, by-lookahead, choice-act, turn-act, counted, literal-holds, literal-act, range-act, by-set, bits-act, Fine, construct-act, actOf, part-count, Doable}
 use Rattle.acts.specs.declared.Act.{Act}
 use Rattle.acts.proofs.Sizes.{both-true, construct-fine}
 
@@ -189,10 +189,11 @@ module _ (ws fs : List ℕ) (vs : List ℤ) (p : ℕ) where
       picked (both (terms-in-table ws end) (binder-in-table ws binder)) (bits-act ws fs vs p width start end binder) Act.Broken (λ e. uint-good width start end binder (f .0) (f .1) (f .2)) tt
   construct-good i k Construct.Eod f l = picked (eqb p (bits-of fs)) Act.Leave Act.Fail (λ e. tt) tt
 
-  pub doable : (i k : ℕ) → Good (actOf ws fs vs p i k)
-  unfolding actOf
-  doable i k =
-      let c : Construct = constructAt ws i in
-      picked (eqb i 256) (open-rule ws 0) (pick (whole-in-table ws i) (construct-act ws fs vs p i k c) Act.Broken) (λ e. open-good 0)
-      (picked (whole-in-table ws i) (construct-act ws fs vs p i k c) Act.Broken
-      (λ e. construct-good i k c (construct-fine ws i) (leb-true (i + size-of c) (construct-count ws) e)) tt)
+pub doable : (ws fs : List ℕ) (vs : List ℤ) (p i k : ℕ) → Doable ws fs p (actOf ws fs vs p i k)
+unfolding actOf
+doable ws fs vs p i k =
+    let us : List ℤ = known-values ws vs in
+    let c : Construct = constructAt ws i in
+    picked ws fs us p (eqb i 256) (open-rule ws 0) (pick (whole-in-table ws i) (construct-act ws fs us p i k c) Act.Broken) (λ e. open-good ws fs us p 0)
+    (picked ws fs us p (whole-in-table ws i) (construct-act ws fs us p i k c) Act.Broken
+    (λ e. construct-good ws fs us p i k c (construct-fine ws i) (leb-true (i + size-of c) (construct-count ws) e)) tt)

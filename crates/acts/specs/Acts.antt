@@ -41,6 +41,10 @@ terms-in-table ws end = leb end (term-count ws)
 abbrev pub binder-in-table : List ℕ → ℕ → Bool
 binder-in-table ws binder = leb binder (variable-count ws)
 
+-- the values of the table's variables: a use of another one is malformed
+abbrev pub known-values : List ℕ → List ℤ → List ℤ
+known-values ws vs = take (variable-count ws) vs
+
 -- a construct takes the entry's place
 abbrev pub enter : List ℕ → ℕ → Act
 enter ws i = pick (in-table ws i) (Act.Enter i) Act.Broken
@@ -196,7 +200,7 @@ construct-act ws fs vs p i k Construct.Eod = end-act fs p
 
 -- the opening use of the start rule has number 256
 unfoldable pub actOf : List ℕ → List ℕ → List ℤ → ℕ → ℕ → ℕ → Act
-actOf ws fs vs p i k = pick (eqb i 256) (open-rule ws 0) (pick (whole-in-table ws i) (construct-act ws fs vs p i k (constructAt ws i)) Act.Broken)
+actOf ws fs vs p i k = pick (eqb i 256) (open-rule ws 0) (pick (whole-in-table ws i) (construct-act ws fs (known-values ws vs) p i k (constructAt ws i)) Act.Broken)
 
 -- how many parts stand from number `start` up to number `end`
 abbrev pub part-count : List ℕ → ℕ → ℕ → ℕ

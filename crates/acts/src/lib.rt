@@ -8,7 +8,7 @@ ghost use Rattle.layout.specs.Constructs.{constructAt};
 ghost use Rattle.evaluation.specs.Meaning.{membership};
 ghost use Rattle.layout.specs.Held.{term-words, terms-of, size-of, literal-byte};
 ghost use Rattle.acts.specs.Stored.{stored as storedOf};
-ghost use Rattle.acts.specs.Acts.{in-table, enter as enterOf, open-rule, ahead-at, branch-act, case-test, case-act, members-act, choice-act, turn-act, counted as countedOf, literal-holds, literal-act, by-set, range-act, bits-act, uint-act, end-act, Fine, construct-act, actOf};
+ghost use Rattle.acts.specs.Acts.{in-table, known-values, enter as enterOf, open-rule, ahead-at, branch-act, case-test, case-act, members-act, choice-act, turn-act, counted as countedOf, literal-holds, literal-act, by-set, range-act, bits-act, uint-act, end-act, Fine, construct-act, actOf};
 use evaluation::Counted;
 use evaluation::Tested;
 use layout::Construct;
@@ -450,6 +450,26 @@ fn of_construct(
     }
 }
 
+// The same over the values of the table's variables alone.
+fn of_known(
+    table: &[u32],
+    frame: &[u8],
+    values: &[i64],
+    p: usize,
+    i: usize,
+    k: u64,
+    construct: Construct,
+) -> Act
+    requires { ⌜ (16384 ≤ length (now table)) × (i < 256) × (p ≤ 8 * length (now frame)) × (length (now frame) ≤ 256) × Fine i construct ⌝ }
+    ensures { λ r. ⌜ r ≡ construct-act (now (table .entry)) (now (frame .entry)) (known-values (now (table .entry)) (now (values .entry))) p i k construct ⌝ }
+{
+    let count = layout::word(table, 3);
+    if count < values.len() {
+        return of_construct(table, frame, &values[0..count], p, i, k, construct);
+    }
+    of_construct(table, frame, values, p, i, k, construct)
+}
+
 // What a step does with the entry (i, k) of a run at bit p: nothing is written.
 pub fn decide(table: &[u32], frame: &[u8], values: &[i64], p: usize, i: usize, k: u64) -> Act
     requires { ⌜ (16384 ≤ length (now table)) × (i ≤ 256) × (p ≤ 8 * length (now frame)) × (length (now frame) ≤ 256) ⌝ }
@@ -461,7 +481,7 @@ pub fn decide(table: &[u32], frame: &[u8], values: &[i64], p: usize, i: usize, k
     let construct = layout::construct_at(table, i);
     let end = i + layout::size_of(construct);
     if end <= layout::word(table, 2) {
-        return of_construct(table, frame, values, p, i, k, construct);
+        return of_known(table, frame, values, p, i, k, construct);
     }
     Act::Broken
 }

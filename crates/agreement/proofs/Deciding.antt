@@ -26,12 +26,13 @@ use Rattle.layout.specs.Held.{Values, HeldNode, terms-of, parts, isYes, passes-
 use Rattle.layout.specs.declared.Construct.{Construct}
 use Rattle.layout.specs.declared.Passes.{Passes}
 use Rattle.acts.specs.Stored.{stored, prediction-at, follow-at, tests-of}
-use Rattle.acts.specs.Acts.{in-table, whole-in-table, terms-in-table, binder-in-table, enter, open-rule, ahead-at, bits-of, branch-act, case-act, members-act, turn-act, counted, literal-holds, literal-act, range-act, by-set, bits-act, end-act, construct-act, actOf}
+use Rattle.acts.specs.Acts.{in-table, whole-in-table, terms-in-table, binder-in-table, known-values, enter, open-rule, ahead-at, bits-of, branch-act, case-act, members-act, turn-act, counted, literal-holds, literal-act, range-act, by-set, bits-act, end-act, construct-act, actOf}
 use Rattle.acts.specs.declared.Act.{Act}
 use Rattle.agreement.specs.Runs.{HeldEntry, HeldState}
 use Rattle.agreement.proofs.Answers.{branch-chosen, case-chosen, turned, turn-turned, counted-allowed, tested, tested-yes, tested-set}
 use Rattle.structure.proofs.NodeFacts.{literal-long}
 use Rattle.agreement.proofs.Walks.{Definite, chosen-act, Row, row-parts, row-of}
+use Rattle.agreement.proofs.Values.{act-same}
 
 -- members that are put are all the parts, counted
 abbrev pub Membered : List ℕ → Act → Type 0
@@ -211,7 +212,14 @@ module _ (ws fs : List ℕ) (vs : List ℤ) (p i k : ℕ) (others : List HeldEnt
     pub does : Definite (actOf ws fs vs p i k) → Does (held ws .node i) (actOf ws fs vs p i k)
     unfolding held actOf
     does s =
+        let c : Construct = constructAt ws i in
         elim (decide (eqb i 256)) [
           | inl e ↦ rw e (does-open 0 (rw e at s))
-          | inr e ↦ rw e (does-guarded (node-of ws i (constructAt ws i)) (whole-in-table ws i) (construct-act ws fs vs p i k (constructAt ws i)) (does-construct (constructAt ws i)) (rw e at s))
+          | inr e ↦ rw e (does-guarded (node-of ws i c) (whole-in-table ws i) (construct-act ws fs (known-values ws vs) p i k c) known (rw e at s))
         ]
+      where
+        -- over the table's own variables
+        known : Definite (construct-act ws fs (known-values ws vs) p i k (constructAt ws i)) → Does (node-of ws i (constructAt ws i)) (construct-act ws fs (known-values ws vs) p i k (constructAt ws i))
+        known d =
+            let e = act-same ws fs vs p i k (constructAt ws i) d in
+            subst (Does (node-of ws i (constructAt ws i))) (sym e) (does-construct (constructAt ws i) (subst Definite e d))

@@ -2,6 +2,7 @@
 pub mod Picks
 pub mod Pending
 pub mod Walks
+pub mod Values
 pub mod Placing
 pub mod Answers
 pub mod Deciding

@@ -31,13 +31,14 @@ use Rattle.structure.proofs.RuleLaws.{rule-of, rule-within}
 use Rattle.structure.proofs.Owners.{rule-holds}
 use Rattle.structure.proofs.NodeFacts.{present, use-names, body-exists}
 use Rattle.acts.specs.Stored.{stored, prediction-at, follow-at}
-use Rattle.acts.specs.Acts.{enter, open-rule, ahead-at, bits-of, walk, by-branch, branch-act, case-test, by-case, case-act, members-act, by-lookahead, choice-act, turn-act, counted, literal-holds, by-set, construct-act, actOf}
+use Rattle.acts.specs.Acts.{known-values, enter, open-rule, ahead-at, bits-of, walk, by-branch, branch-act, case-test, by-case, case-act, members-act, by-lookahead, choice-act, turn-act, counted, literal-holds, by-set, construct-act, actOf}
 use Rattle.acts.specs.declared.Act.{Act}
 use Rattle.agreement.proofs.Picks.{either-way}
 use Rattle.agreement.proofs.Walks.{Definite}
 use Rattle.agreement.proofs.Widths.{binder-width}
 use Rattle.agreement.proofs.Reliable.{Reliable, condition-answers, counts-answer, set-answers}
 use Rattle.agreement.proofs.Ends.{condition-ends, counts-end, set-ends}
+use Rattle.agreement.proofs.Values.{condition-known, set-known, counts-known}
 
 -- a binder's values: 1 + a variable whose size is at least the largest value of this width; 0 binds none
 abbrev pub Binds : List ℤ → ℕ → ℕ → Type 0
@@ -78,6 +79,9 @@ module _ {A : Type 0} (P : A → Type 0) (visit : ℕ → A → A) (done broken 
 module _ (ws : List ℕ) (widest : List ℤ) {weight rooms : Unit {0} → ℕ → ℕ} (r : Reliable ws widest weight rooms) (fs : List ℕ) (vs : List ℤ) (inside : Inside vs widest) (p : ℕ) where
   abbrev Good : Act → Type 0
   Good = Safe ws widest
+
+  abbrev us : List ℤ
+  us = known-values ws vs
 
   there : (end : ℕ) → end ≤ construct-count ws → (j : ℕ) → j < end → size-at ws j ≡ 0 → ⊥
   there end l j h z = sized (constructAt ws j) refl (fine ws j) z
@@ -125,20 +129,20 @@ module _ (ws : List ℕ) (widest : List ℤ) {weight rooms : Unit {0} → ℕ �
       visit i rest true m h = omega arith
       visit i rest false m h = h
 
-  case-safe : (j end : ℕ) → end ≤ construct-count ws → Good (case-act ws vs j end)
-  case-safe j end l = walk-holds Good (λ i rest. by-case (case-test ws vs i) i rest) Act.Fail Act.Broken ws end tt (there end l) (λ i rest m h. visit i rest (tested i (omega arith)) m h) (end - j) j
+  case-safe : (j end : ℕ) → end ≤ construct-count ws → Good (case-act ws us j end)
+  case-safe j end l = walk-holds Good (λ i rest. by-case (case-test ws us i) i rest) Act.Fail Act.Broken ws end tt (there end l) (λ i rest m h. visit i rest (tested i (omega arith)) m h) (end - j) j
     where
       -- a case's condition comes to an answer
-      tested : (i : ℕ) → i < construct-count ws → (case-test ws vs i ≡ Tested.No) ⊎ (case-test ws vs i ≡ Tested.Yes)
+      tested : (i : ℕ) → i < construct-count ws → (case-test ws us i ≡ Tested.No) ⊎ (case-test ws us i ≡ Tested.Yes)
       tested i h =
           elim (decide (ltb (construct-word ws i 6) (construct-word ws i 7))) [
             | inl t ↦
                 let l : construct-word ws i 6 < construct-word ws i 7 = ltb-true (construct-word ws i 6) (construct-word ws i 7) t in
-                rw (t, le-leb (construct-word ws i 7) (term-count ws) (condition-ends r i h l)) (condition-passes vs widest inside (construct-word ws i 6) (terms-of ws (construct-word ws i 6) (construct-word ws i 7)) (condition-answers r i h l))
+                rw (t, le-leb (construct-word ws i 7) (term-count ws) (condition-ends r i h l), condition-known (r .laid) vs i h) (condition-passes vs widest inside (construct-word ws i 6) (terms-of ws (construct-word ws i 6) (construct-word ws i 7)) (condition-answers r i h l))
             | inr t ↦ inr (rw t)
           ]
 
-      visit : (i : ℕ) (rest : Act) → (case-test ws vs i ≡ Tested.No) ⊎ (case-test ws vs i ≡ Tested.Yes) → i < end → Good rest → Good (by-case (case-test ws vs i) i rest)
+      visit : (i : ℕ) (rest : Act) → (case-test ws us i ≡ Tested.No) ⊎ (case-test ws us i ≡ Tested.Yes) → i < end → Good rest → Good (by-case (case-test ws us i) i rest)
       visit i rest (inl e) m h = rw e h
       visit i rest (inr e) m h = rw e (omega arith)
 
@@ -159,17 +163,17 @@ module _ (ws : List ℕ) (widest : List ℤ) {weight rooms : Unit {0} → ℕ �
   turn-safe n i k (Counts.within low more) l =
       either-way Good (ltb k low) l (either-way Good (leb (low + more) k) tt (choice-safe n i l))
 
-  counts-shown : (i n : ℕ) (q : Passes) → i < construct-count ws → constructAt ws i ≡ Construct.Repetition n q → (c : Counts) × (counted ws vs q ≡ shown c)
+  counts-shown : (i n : ℕ) (q : Passes) → i < construct-count ws → constructAt ws i ≡ Construct.Repetition n q → (c : Counts) × (counted ws us q ≡ shown c)
   counts-shown i n Passes.Optional h e = (within 0 1, refl)
   counts-shown i n Passes.Any h e = (from 0, refl)
   counts-shown i n Passes.Some h e = (from 1, refl)
-  counts-shown i n (Passes.Counted start end) h e = rw (le-leb end (term-count ws) (counts-end r i h n start end e)) (counts-pass vs widest inside (term-words ws) start end (counts-answer r i n start end h e))
+  counts-shown i n (Passes.Counted start end) h e = rw (le-leb end (term-count ws) (counts-end r i h n start end e), counts-known (r .laid) vs i h n start end e) (counts-pass vs widest inside (term-words ws) start end (counts-answer r i n start end h e))
 
   set-safe : (t : Tested) (width binder n : ℕ) → (t ≡ Tested.No) ⊎ (t ≡ Tested.Yes) → Binds widest binder n → Good (by-set t width binder n)
   set-safe t width binder n (inl e) b = rw e tt
   set-safe t width binder n (inr e) b = rw e b
 
-  construct-safe : (i k : ℕ) (c : Construct) → i < construct-count ws → constructAt ws i ≡ c → Good (construct-act ws fs vs p i k c)
+  construct-safe : (i k : ℕ) (c : Construct) → i < construct-count ws → constructAt ws i ≡ c → Good (construct-act ws fs us p i k c)
   construct-safe i k Construct.Missing h e = present (r .laid) i h e
   construct-safe i k (Construct.Alternative n) h e = branch-safe (ahead-at fs p) (i + 1) (i + n) (ends i n h (ap size-of e))
   construct-safe i k (Construct.Concatenation n) h e = members-safe (i + 1) (i + n) (ends i n h (ap size-of e))
@@ -187,10 +191,10 @@ module _ (ws : List ℕ) (widest : List ℤ) {weight rooms : Unit {0} → ℕ �
   construct-safe i k (Construct.Uint width start end binder) h e =
       let v = value (take width (drop p (frameBits fs))) in
       let l : v < 2 ^ width = value-take-less width (drop p (frameBits fs)) in
-      let t : Tested = membership vs (pos v) start (terms-of ws start end) in
+      let t : Tested = membership us (pos v) start (terms-of ws start end) in
       rw (le-leb end (term-count ws) (set-ends r i h width start end binder e), le-leb binder (variable-count ws) (binder-counted i width start end binder h e))
       (either-way Good (leb (p + width) (bits-of fs))
-      (set-safe t width binder v (set-passes vs widest inside (pos v) start (terms-of ws start end) (set-answers r i width start end binder h e))
+      (set-safe t width binder v (rw (set-known (r .laid) vs i h width start end binder e (pos v)) (set-passes vs widest inside (pos v) start (terms-of ws start end) (set-answers r i width start end binder h e)))
       (binds-within i width start end binder v h e l ((rw e at (fine ws i)) .2)))
       tt)
   construct-safe i k Construct.Eod h e = either-way Good (eqb p (bits-of fs)) tt tt

@@ -349,6 +349,14 @@ fn terms_past() {
     counted_g(b"no variable, a binder", 0, 5);
 }
 
+// A variable that is used and not counted.
+fn use_past() {
+    let mut table = [0u32; 16384];
+    bench_tables::g(&mut table);
+    bench_tables::put(&mut table, 3, 0);
+    three_ways(b"no variable, a use", &table, &[2, 65, 66], before(2));
+}
+
 // A pass more than the frame's bits and one.
 fn passed(name: &[u8], passes: u32) {
     let mut table = [0u32; 16384];
@@ -376,5 +384,6 @@ fn main() {
     body_past();
     case_past();
     terms_past();
+    use_past();
     passes_past();
 }

@@ -9,7 +9,7 @@ use Rattle.acts.proofs.decide.Statement.{statement}
 use Rattle.acts.proofs.decide.Tie as tie
 use Rattle.acts.proofs.decide.Reads as reads
 use Rattle.acts.proofs.decide.Lts as lts
-use Rattle.acts.proofs.of_construct.Reads as of-construct-reads
+use Rattle.acts.proofs.of_known.Reads as of-known-reads
 use Rattle.acts.proofs.open_rule.Reads as open-rule-reads
 use Rattle.layout.proofs.construct_at.Reads as construct-at-reads
 use Rattle.layout.proofs.size_of.Reads as size-of-reads
@@ -34,12 +34,12 @@ add-end c = (let few = size-small (c .before .before .before .before .before .ar
 word-requires : tie.Need-word-requires
 word-requires c κs = search needs
 
-of-construct-requires : tie.Need-of-construct-requires
-of-construct-requires c κs = (omega arith, omega arith, omega arith, omega arith, subst (Fine (c .before .before .before .before .before .before .before .args .i)) (sym (c .before .before .before .construct-at .ensures)) (construct-fine (c .before .before .before .before .before .before .before .args .table .now) (c .before .before .before .before .before .before .before .args .i)))
+of-known-requires : tie.Need-of-known-requires
+of-known-requires c κs = (omega arith, omega arith, omega arith, omega arith, subst (Fine (c .before .before .before .before .before .before .before .args .i)) (sym (c .before .before .before .construct-at .ensures)) (construct-fine (c .before .before .before .before .before .before .before .args .table .now) (c .before .before .before .before .before .before .before .args .i)))
 
 returns-2 : tie.Need-returns-2
 unfolding actOf
-returns-2 c = simp (ne-eqb _ _ (c .before .before .before .before .before .if1 .left), ← (c .before .before .before .before .construct-at .ensures), ← (c .before .before .before .size-of .ensures), ← (c .before .before .word .ensures .0), le-leb _ _ (c .before .if2 .taken)) (c .of-construct .ensures)
+returns-2 c = simp (ne-eqb _ _ (c .before .before .before .before .before .if1 .left), ← (c .before .before .before .before .construct-at .ensures), ← (c .before .before .before .size-of .ensures), ← (c .before .before .word .ensures .0), le-leb _ _ (c .before .if2 .taken)) (c .of-known .ensures)
 
 returns-3 : tie.Need-returns-3
 unfolding actOf
@@ -55,6 +55,6 @@ decide-spec =
     size-of-requires
     add-end
     word-requires
-    of-construct-requires
+    of-known-requires
     returns-2
     returns-3)
