@@ -8,7 +8,7 @@
  * - Arrays that a call writes to overlap no other array of that call.
  * - All memory is the caller's. Nothing is kept between calls: no allocation, no global state, no lock. So calls
  *   may run on several threads at once, as long as no array that one writes to is used by another.
- * - A call needs at most the stack that SONGRAFTER_STACK_… says below.
+ * - The stack has room for the bytes that SONGRAFTER_STACK_… names below (measured, not proved).
  *
  * The archive is for x86-64 (System V calling convention), and needs memcpy and memset of a C library, nothing else.
  */
@@ -31,11 +31,11 @@ extern "C" {
 #define SONGRAFTER_RUN_BYTES 2596u      /* a saved run */
 #define SONGRAFTER_VARIABLES 64u        /* values of a run */
 
-/* Stack, in bytes, that is enough for each call: more than the deepest text found took (`sh tests/figures`), and every
- * test of the library runs them on stacks of exactly this size. */
+/* Stack, in bytes, that is enough for each call: more than any text, table or run that was tried took (`sh
+ * tests/figures`); the tests run the calls on stacks of exactly this size, with an unmapped page below. */
 #define SONGRAFTER_STACK_ADMIT 204800u /* songrafter_admit */
-#define SONGRAFTER_STACK_OPEN 81920u   /* songrafter_open */
-#define SONGRAFTER_STACK_GRANT 16384u  /* songrafter_grant */
+#define SONGRAFTER_STACK_OPEN 65536u   /* songrafter_open */
+#define SONGRAFTER_STACK_GRANT 24576u  /* songrafter_grant */
 #define SONGRAFTER_STACK_ACCESS 8192u  /* songrafter_verdict and the others that read a saved run */
 
 /* Numbers of refusal. 0 is no refusal. */
@@ -49,7 +49,7 @@ enum {
     SONGRAFTER_NAME = 6,           /* name unknown, double, reserved, misplaced or of the wrong kind */
     SONGRAFTER_CYCLE = 7,          /* a rule reaches itself */
     SONGRAFTER_NUMBER = 8,         /* a number or width outside its limits, or a calculation that may pass 2^62 */
-    SONGRAFTER_EMPTY_BODY = 9,     /* a repeated body may take no bit */
+    SONGRAFTER_EMPTY_BODY = 9,     /* a repeated body has the empty first window */
     SONGRAFTER_CLASH = 10,         /* two ways go on with the same window */
     SONGRAFTER_WEIGHT = 11,        /* weight over 65,535 */
     SONGRAFTER_FRAME_LONG = 21,    /* frame over 256 bytes */
@@ -71,12 +71,12 @@ enum {
  * changes no word of the table. Of `answer`, what fits of five numbers is written:
  *   [0] the weight (0), or the place: bytes from the text's first (1 to 11);
  *   [1] for 10 the least common window (a 1 followed by its bits), else 0;
- *   [2] for 10 the construct, and [3], [4] the two branches that share the window, by number in text order;
+ *   [2] for 10 the construct, and [3], [4] the first two branches that share the window, by construct number;
  *       0 and 0 where a repetition's going on and stopping do; else 0. */
 size_t songrafter_admit(const uint8_t *text, size_t text_len, uint32_t *table, size_t table_len,
                         uint64_t *answer, size_t answer_len);
 
-/* Opens a run. Answers 0, or 23, 21, 22, tried in this order, or 24 where `run` is not 2,596 bytes. The run is
+/* Opens a run. Answers 0, or 23, 21, 22, tried in this order, then 24 where `run` is not 2,596 bytes. The run is
  * written into `run`, a closed one where the opening is refused; where `run` has another length nothing is. */
 size_t songrafter_open(const uint32_t *table, size_t table_len, const uint8_t *frame, size_t frame_len,
                        const uint32_t *reading, size_t reading_len, uint8_t *run, size_t run_len);
@@ -85,18 +85,19 @@ size_t songrafter_open(const uint32_t *table, size_t table_len, const uint8_t *f
  * reading (two words for each field: construct, first bit) and, where `taken_len` is not 0, the count of the steps
  * taken in taken[0], 0 where the grant is refused, are written. A run that is decided, closed or broken takes none.
  * A verdict means something only for a run that songrafter_open answered with 0, on this table and for this frame, with
- * run, table and frame kept as they were between two grants. Other ones are answered all the same, within the steps
- * that the table's weight allows and with no word written out of place; but over a changed table or frame, or of a
- * forged run, match, no match and broken say nothing. */
+ * table and frame kept as they were from then on, and the run as the grants left it. Other ones are answered all the
+ * same, within the steps that the table's weight allows and with no word written out of place; but over a changed table
+ * or frame, or of a forged run, match, no match and broken say nothing. */
 size_t songrafter_grant(const uint32_t *table, size_t table_len, const uint8_t *frame, size_t frame_len,
                         uint32_t *reading, size_t reading_len, uint8_t *run, size_t run_len, uint64_t steps,
                         uint64_t *taken, size_t taken_len);
 
 /* Of a saved run: its verdict, the steps that it has taken, the fields recorded in its reading, its position (the bits
  * read), and the value of variable k (0 from 64 on). They say what stands in the bytes, whatever that is; a slice that is
- * not 2,596 bytes is read as a closed run. Of a run that comes from outside ask songrafter_grant for 0 steps first: where
- * the run does not fit table, frame and reading it answers 24, and only where it answers 0 do the fields lie within the
- * reading (a loop up to songrafter_fields over a forged run reads past it) and do fields and values mean something. */
+ * not 2,596 bytes is read as a closed run. Of a run that comes from outside ask songrafter_grant for 0 steps first: it
+ * answers 24 where the run does not fit table, frame and reading (21 for a frame over 256 bytes), and only where it
+ * answers 0 is it sure that the fields lie within the reading (a loop up to songrafter_fields over a forged run may read
+ * past it). What fields and values mean is as songrafter_grant says of a verdict. */
 uint32_t songrafter_verdict(const uint8_t *run, size_t run_len);
 uint64_t songrafter_steps(const uint8_t *run, size_t run_len);
 uint64_t songrafter_fields(const uint8_t *run, size_t run_len);

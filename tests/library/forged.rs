@@ -1,6 +1,7 @@
-// Forged tables and runs: each is answered, what is refused changes nothing, and one grant ends as many grants do.
+// Forged tables and runs: each is answered as words.rs answers it, what is refused changes nothing, and one grant ends as many grants do.
 use crate::calls::{self, RUN_BYTES, TABLE_WORDS};
 use crate::guarded::Guarded;
+use crate::words::{Run, Words};
 use reference::grammar::admit;
 use reference::random::Random;
 use reference::{random_frame, random_grammar};
@@ -38,9 +39,18 @@ impl Case {
         }
     }
 
+    // By the second implementation.
+    fn expected(&self) -> Left {
+        let words = Words { table: &self.table.values()[..self.table.length.min(TABLE_WORDS)], frame: self.frame.values() };
+        let (mut run, mut reading) = (Run::from_bytes(&self.run), self.reading.clone());
+        let (number, taken) = words.grant(&mut reading, &mut run, self.steps);
+        Left { number, taken, run: run.to_bytes(), reading }
+    }
+
     // By one grant, by parts that chance makes and, the first few, by steps of one.
     fn ends_alike(&self, name: &str, random: &mut Random) -> Left {
         let one = self.granted(|left| left);
+        assert_eq!(one, self.expected(), "{name}: the second implementation ends otherwise");
         assert_eq!(one, self.granted(|left| 1 + random.below(left / 2 + 1)), "{name}: parts end otherwise than one grant");
         let mut single = 40;
         let by_ones = |left| {
@@ -75,7 +85,7 @@ pub fn report(seed: u64, runs: u64) {
             verdicts[calls::verdict(&Guarded::new(&left.run)) as usize] += 1;
         }
     }
-    println!("library: {runs} forged runs, answered {numbers:?}, verdicts from undecided to broken {verdicts:?}, one grant and many alike");
+    println!("library: {runs} forged runs, answered {numbers:?}, verdicts from undecided to broken {verdicts:?}, one grant, many and the second implementation alike");
 }
 
 // Tables that count fewer constructs, variables or terms than they hold, and a run that has passed more often than it may: broken, by one grant
@@ -110,7 +120,7 @@ fn past_counts() {
 }
 
 // A table, right, damaged, short or random, and a frame.
-fn tables(random: &mut Random) -> (Guarded<u32>, Guarded<u8>) {
+pub fn tables(random: &mut Random) -> (Guarded<u32>, Guarded<u8>) {
     loop {
         let text = random_grammar::text(random);
         let Ok(grammar) = admit(&text) else { continue };
@@ -130,7 +140,7 @@ fn tables(random: &mut Random) -> (Guarded<u32>, Guarded<u8>) {
 }
 
 // Bytes of the run changed, or all of them; from a refused opening an open run is forged.
-fn forge(run: &mut Guarded<u8>, opened: usize, random: &mut Random) {
+pub fn forge(run: &mut Guarded<u8>, opened: usize, random: &mut Random) {
     let bytes = run.values_mut();
     if opened != 0 {
         bytes.fill(0);

@@ -10,6 +10,8 @@ mod guarded;
 mod nulls;
 mod stack;
 mod vectors;
+mod words;
+mod words_terms;
 
 use std::path::Path;
 

@@ -2,6 +2,7 @@
 // touch, so that a call that needs more ends the program. How much of it was written to is told.
 use crate::calls::{self, RUN_BYTES, TABLE_WORDS};
 use crate::extremes;
+use crate::forged;
 use crate::guarded::Guarded;
 use crate::vectors::grammars;
 use reference::random::Random;
@@ -14,6 +15,7 @@ const PAGE: usize = 4096;
 const FRESH: u8 = 0xa5; // what a stack holds before a call
 const HEADER: &str = include_str!("../../include/songrafter.h");
 const RANDOM_TEXTS: u64 = 1000;
+const FORGED: u64 = 1000;
 
 extern "C" {
     fn mmap(address: *mut c_void, length: usize, protection: i32, flags: i32, file: i32, offset: i64) -> *mut c_void;
@@ -70,9 +72,24 @@ pub fn report(folder: &Path) {
     for (seed, text) in texts.iter().enumerate() {
         calls_on(text, &mut Random::new(seed as u64), &mut stacks);
     }
-    for stack in &stacks {
-        println!("library: {} is {}, and {} of it were used by the calls of {} texts", stack.name, stack.bytes, stack.used, texts.len());
+    for seed in 0..FORGED {
+        forged_calls(&mut Random::new(seed), &mut stacks);
     }
+    for stack in &stacks {
+        println!("library: {} is {}, and {} of it were used by the calls of {} texts and {FORGED} forged runs", stack.name, stack.bytes, stack.used, texts.len());
+    }
+}
+
+// An opening on a damaged table, and a grant to a damaged run.
+fn forged_calls(random: &mut Random, [_, open, grant, access]: &mut [Stack; 4]) {
+    let (table, frame) = forged::tables(random);
+    let mut reading = Guarded::new(&[0; 4096]);
+    let mut run = Guarded::new(&[0; RUN_BYTES]);
+    let mut opened = 0;
+    open.run(|| opened = calls::open(&table, &frame, &reading, &mut run));
+    forged::forge(&mut run, opened, random);
+    grant.run(|| _ = calls::grant(&table, &frame, &mut reading, &mut run, 3000));
+    access.run(|| _ = (calls::verdict(&run), calls::value(&run, 63)));
 }
 
 // The calls of a kiosk's life; where the text is refused, over a table of 0.

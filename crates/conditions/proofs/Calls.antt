@@ -9,8 +9,8 @@ use mathlib.Core.Option.{Option, none, some}
 use native.Mathlib.Omega.{arith}
 use borrow.Author.Tests.{eqb-true, eqb-false, eq-eqb, ne-eqb}
 use lib.Dec.{eqb, ltb}
-use lib.ListN.{length, getD, set, drop, length-set}
-use lib.Seq.{sets, length-sets, drop-set-lt}
+use lib.ListN.{length, getD, set, take, drop, length-set}
+use lib.Seq.{sets, length-sets, drop-set-lt, getD-set-same}
 use Rattle.layout.specs.Constructs.{pick}
 use Rattle.layout.specs.Places.{table-of}
 use Rattle.acts.specs.Acts.{bits-of}
@@ -21,7 +21,7 @@ use Rattle.runs.specs.Runs.{closed-run, After, run-in, reading-in, answer-in, g
 use Rattle.runs.specs.Composing.{further}
 use Rattle.runs.specs.declared.Run.{Run}
 use Rattle.runs.specs.declared.Answer.{Answer as GrantAnswer}
-use Rattle.runs.proofs.Grants.{grants-compose}
+use Rattle.runs.proofs.Grants.{refusal-told, grants-compose}
 use Rattle.saved.specs.Saved.{plain, saved-bytes, encoded, decoded, restored}
 use Rattle.saved.proofs.Bytes.{numbers-length}
 use Rattle.saved.proofs.Saving.{restored-is}
@@ -91,6 +91,12 @@ open-numbers Answer.SmallReading s = inr (inr (inl refl))
 open-numbers Answer.Opened true = inl refl
 open-numbers Answer.Opened false = inr (inr (inr (inr refl)))
 
+open-24 : (answer : Answer) → numbered-so answer true ≡ 24 → ⊥
+open-24 Answer.Unsound e = omega (arith, e)
+open-24 Answer.LongFrame e = omega (arith, e)
+open-24 Answer.SmallReading e = omega (arith, e)
+open-24 Answer.Opened e = omega (arith, e)
+
 open-refused : (answer : Answer) → (numbered-so answer true ≡ 0 → ⊥) → run-given answer ≡ closed-run
 open-refused Answer.Unsound h = refl
 open-refused Answer.LongFrame h = refl
@@ -119,6 +125,7 @@ module _ (table frame reading run run′ : List ℕ) (number : ℕ) (o : Opens t
         numbered = subst (λ (n : ℕ). (n ≡ 0) ⊎ (n ≡ 21) ⊎ (n ≡ 22) ⊎ (n ≡ 23) ⊎ (n ≡ 24)) (sym (o .number-is)) (open-numbers (o .answer) (eqb (length run) 2596));
         run-length = o .run-length;
         refused = λ h l. o .read-back l ∙ open-refused (o .answer) (λ e. h (o .number-is ∙ ap (numbered-so (o .answer)) (eq-eqb (length run) 2596 l) ∙ e));
+        other-only = λ e l. open-24 (o .answer) (sym (ap (numbered-so (o .answer)) (eq-eqb (length run) 2596 l)) ∙ sym (o .number-is) ∙ e);
         other-length = λ h. (λ e. h (zero-is e .1), o .run-is ∙ ap (λ (s : Bool). pick s (encoded (run-given (o .answer))) run) (ne-eqb (length run) 2596 h));
       }
 
@@ -150,6 +157,7 @@ module _ (table frame reading reading′ run run′ taken taken′ : List ℕ) (
             (s .2 ∙ ap encoded (u .0) ∙ b .0, s .1 ∙ u .1, s .3 ∙ ap (set taken 0) (u .2));
         run-length = g .run-length;
         beyond = (ap length (s .1) ∙ c .length-kept, subst (λ (r : Run). drop (2 * r .captures) reading′ ≡ drop (2 * r .captures) reading) (sym (b .1)) (ap (drop (2 * run-in x .captures)) (s .1) ∙ c .beyond));
+        before = subst (λ (r : Run). take (2 * r .captures) reading′ ≡ take (2 * r .captures) reading) (sym (restored-is run l)) (ap (take (2 * decoded run .captures)) (s .1) ∙ c .before);
         taken-beyond = count-beyond (taken-of (answer-in x)) (s .3);
       }
 
@@ -162,6 +170,7 @@ module _ (table frame reading reading′ run run′ taken taken′ : List ℕ) (
         at-rest = λ e. (s .2, s .1, s .3);
         run-length = g .run-length;
         beyond = (ap length (s .1), ap (drop (2 * restored run′ .captures)) (s .1));
+        before = ap (take (2 * restored run .captures)) (s .1);
         taken-beyond = count-beyond 0 (s .3);
       }
 
@@ -216,26 +225,42 @@ pub one-and-many : OneAndMany
 unfolding decoded
 one-and-many table frame reading reading₁ reading₂ reading₃ run run₁ run₂ run₃ t t₁ u u₁ v v₁ m n a b c g h k = by (eqb (length run) 2596) refl
   where
-    by : (s : Bool) → eqb (length run) 2596 ≡ s → (b ≡ c) × (run₂ ≡ run₃) × (reading₂ ≡ reading₃)
+    -- what is written where there is room is read there
+    written : (xs : List ℕ) (d : ℕ) (ys : List ℕ) → ys ≡ set xs 0 d → 1 ≤ length xs → getD ys 0 0 ≡ d
+    written xs d ys e l = ap (λ (zs : List ℕ). getD zs 0 0) e ∙ getD-set-same xs 0 d 0 (omega (arith, l))
+
+    by : (s : Bool) → eqb (length run) 2596 ≡ s
+        → (a ≡ c) × (b ≡ c) × (run₂ ≡ run₃) × (reading₂ ≡ reading₃) × (1 ≤ length t → 1 ≤ length u → 1 ≤ length v → getD t₁ 0 0 + getD u₁ 0 0 ≡ getD v₁ 0 0)
     by true e =
         let l : length run ≡ 2596 = eqb-true (length run) 2596 e in
         let full : length run₁ ≡ 2596 = g .run-length ∙ l in
+        let x = g .saved l in
         let y = h .saved full in
         let z = k .saved l in
+        let first = refusal-told (table-of table) frame reading (decoded run) m in
+        let whole = refusal-told (table-of table) frame reading (decoded run) (m + n) in
         let read : decoded run₁ ≡ run-in (granted table frame reading run m) = sym (restored-is run₁ full) ∙ g .read-back l .1 in
         let then : granted table frame reading₁ run₁ n ≡ further (table-of table) frame (granted table frame reading run m) n =
-        ap₂ (λ (r : Run) (rs : List ℕ). grant-of (table-of table) frame rs r n) read (g .saved l .1) in
+        ap₂ (λ (r : Run) (rs : List ℕ). grant-of (table-of table) frame rs r n) read (x .1) in
         let w = grants-compose (table-of table) frame reading (decoded run) m n (numbers-length plain 4 256 (drop 548 run), numbers-length plain 4 256 (drop 1572 run)) in (
-          y .0 ∙ ap (λ (x : After). number-of (answer-in x)) then ∙ w .number ∙ sym (z .0),
-          y .2 ∙ ap (λ (x : After). encoded (run-in x)) then ∙ ap encoded (w .run) ∙ sym (z .2),
+          x .0 ∙ first ∙ sym whole ∙ sym (z .0),
+          y .0 ∙ ap (λ (q : After). number-of (answer-in q)) then ∙ w .number ∙ sym (z .0),
+          y .2 ∙ ap (λ (q : After). encoded (run-in q)) then ∙ ap encoded (w .run) ∙ sym (z .2),
           y .1 ∙ ap reading-in then ∙ w .reading ∙ sym (z .1),
+          (λ p q r. ap₂ _+_ (written t _ t₁ (x .3) p) (written u _ u₁ (y .3) q ∙ ap (λ (s : After). taken-of (answer-in s)) then) ∙ w .taken ∙ sym (written v _ v₁ (z .3) r)),
         )
     by false e =
         let l : length run ≡ 2596 → ⊥ = eqb-false (length run) 2596 e in
         let x = g .other l in
         let y = h .other (λ z. l (sym (g .run-length) ∙ z)) in
         let z = k .other l in
-        (y .0 ∙ sym (z .0), y .2 ∙ x .2 ∙ sym (z .2), y .1 ∙ x .1 ∙ sym (z .1))
+        (
+          x .0 ∙ sym (z .0),
+          y .0 ∙ sym (z .0),
+          y .2 ∙ x .2 ∙ sym (z .2),
+          y .1 ∙ x .1 ∙ sym (z .1),
+          (λ p q r. ap₂ _+_ (written t 0 t₁ (x .3) p) (written u 0 u₁ (y .3) q) ∙ sym (written v 0 v₁ (z .3) r)),
+        )
 
 -- ---- 2
 

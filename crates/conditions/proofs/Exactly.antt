@@ -20,9 +20,7 @@ use Rattle.weights.proofs.Theorems.{weights-exist}
 use Rattle.table.specs.Judged.{Passed10}
 use Rattle.parsing.specs.Store.{State}
 use Rattle.admission.specs.Admitted.{number-of, place-in, window-in, words-of, Bounded, Headed, Refusal, RulesRefused, AnsweredRules, Answers, refused-early, by-rules, Clashes, LeastMark as TableMark}
-use Rattle.conflicts.specs.Windows.{HasNumber}
-use Rattle.conflicts.specs.Clashes.{FirstHolders}
-use Rattle.conflicts.specs.Conflicts.{Conflicting, Answered}
+use Rattle.conflicts.specs.Conflicts.{HasNumber, FirstHolders, Conflicting, Answered}
 use Rattle.conflicts.specs.declared.Clash.{Clash}
 use Rattle.admission.specs.declared.Admission.{Admission}
 use Rattle.conditions.specs.Texts.{meant}

@@ -7,7 +7,7 @@ use mathlib.Core.Path.{_≡_}
 use mathlib.Core.Logic.{_⊎_, _↔_}
 use mathlib.Core.List.{List, [], _∷_}
 use mathlib.Core.Option.{Option, none, some}
-use lib.ListN.{length, getD, set, drop}
+use lib.ListN.{length, getD, set, take, drop}
 use Rattle.theory.specs.Grammar.{Grammar}
 use Rattle.layout.specs.Places.{table-words}
 use Rattle.layout.specs.Held.{Values}
@@ -38,6 +38,7 @@ pub record OpenLeaves (run run′ : List ℕ) (number : ℕ) : Type 0 where
   pub run-length : length run′ ≡ length run
   pub refused : (number ≡ 0 → ⊥) → length run ≡ saved-bytes → restored run′ ≡ closed-run
   pub other-length : (length run ≡ saved-bytes → ⊥) → (number ≡ 0 → ⊥) × (run′ ≡ run)
+  pub other-only : number ≡ 24 → length run ≡ saved-bytes → ⊥
 
 -- songrafter_grant(table, frame, reading, run, steps, taken): 0, 21 or 24. Refused, "no step is taken and nothing changes"; nor does it of a run
 -- that is not undecided. "words beyond never change": past the fields recorded; of `taken` the first at most is written.
@@ -47,6 +48,8 @@ pub record GrantLeaves (reading reading′ run run′ taken taken′ : List ℕ)
   pub at-rest : (restored run .verdict ≡ undecided → ⊥) → (run′ ≡ run) × (reading′ ≡ reading) × (taken′ ≡ set taken 0 0)
   pub run-length : length run′ ≡ length run
   pub beyond : (length reading′ ≡ length reading) × (drop (2 * restored run′ .captures) reading′ ≡ drop (2 * restored run′ .captures) reading)
+  -- and so do the words of the fields recorded before
+  pub before : take (2 * restored run .captures) reading′ ≡ take (2 * restored run .captures) reading
   pub taken-beyond : (length taken′ ≡ length taken) × (drop 1 taken′ ≡ drop 1 taken)
 
 -- of all that may be handed to them
@@ -65,12 +68,14 @@ pub record OneOutcome : Type 0 where
       → Grants table frame reading reading₁ run run₁ taken taken₁ steps m → Grants table frame reading reading₂ run run₂ taken taken₂ steps n
       → (m ≡ n) × (reading₁ ≡ reading₂) × (run₁ ≡ run₂) × (taken₁ ≡ taken₂)
 
--- one call of songrafter_grant and many, over any bytes and words: m steps and then n leave the run, the reading and the number of m + n
+-- one call of songrafter_grant and many, over any bytes and words: m steps and then n leave the run, the reading and the number of m + n, and the
+-- steps taken add up
 abbrev pub OneAndMany : Type 0
 OneAndMany =
     (table frame reading reading₁ reading₂ reading₃ run run₁ run₂ run₃ t t₁ u u₁ v v₁ : List ℕ) (m n a b c : ℕ)
     → Grants table frame reading reading₁ run run₁ t t₁ m a → Grants table frame reading₁ reading₂ run₁ run₂ u u₁ n b → Grants table frame reading reading₃ run run₃ v v₁ (m + n) c
-    → (b ≡ c) × (run₂ ≡ run₃) × (reading₂ ≡ reading₃)
+    → (a ≡ c) × (b ≡ c) × (run₂ ≡ run₃) × (reading₂ ≡ reading₃)
+    × (1 ≤ length t → 1 ≤ length u → 1 ≤ length v → getD t₁ 0 0 + getD u₁ 0 0 ≡ getD v₁ 0 0)
 
 -- ---- 2. "A grammar is admitted exactly when document 01's rules admit it", and on its table a run is opened wherever it may be
 

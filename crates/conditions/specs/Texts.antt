@@ -33,7 +33,8 @@ meant xs st = grammar-of xs (node-words st) (term-words st) (rule-words st) (nod
 abbrev pub rules-grammar : {text : List ℕ} → Reading text → Grammar (Unit {0}) Values
 rules-grammar {text} x = meant (drop (x .base) text) (x .st)
 
--- its sets, counts and cases mean what document 01's forms mean (crates `meaning`, `trees`)
+-- its sets, counts and cases mean what the trees mean whose postfix order its terms are (crates `meaning`, `trees`), at values for which no calculation
+-- passes 2^62; that these are the trees of the text is in the definition of the form (`parsing`, `Form.feed`)
 abbrev pub FormsMeant : {text : List ℕ} → Reading text → Type 0
 FormsMeant {text} x =
     Meanings (drop (x .base) text) (node-words (x .st)) (term-words (x .st)) (rule-words (x .st)) (nodes-of (x .st)) (rules-of (x .st))

@@ -51,12 +51,12 @@ module _ (ws fs cs ps : List ℕ) (vs : List ℤ) (h : Head) (rs rs′ : List �
   abbrev Room : List ℕ → Type 0
   Room zs = 2 * (h .captures + (bits-of fs - h .position)) ≤ length zs
 
-  effect-alike : Room rs → Room rs′ → (i k : ℕ) (a : Act) → Doable fs (h .position) a → Alike (effect ws fs i k cs ps vs rs h a) (effect ws fs i k cs ps vs rs′ h a)
+  effect-alike : Room rs → Room rs′ → (i k : ℕ) (a : Act) → Doable ws fs (h .position) a → Alike (effect ws fs i k cs ps vs rs h a) (effect ws fs i k cs ps vs rs′ h a)
   effect-alike r r′ i k Act.Broken d = refl
   effect-alike r r′ i k Act.Fail d = refl
   effect-alike r r′ i k (Act.Enter b) d = refl
   effect-alike r r′ i k (Act.Members start end n) d = picked (leb (h .count + n) 257) _ _ _ _ refl refl
-  effect-alike r r′ i k (Act.Again b) d = picked (both (ltb (h .count) 256) (ltb k 4294967295)) _ _ _ _ refl refl
+  effect-alike r r′ i k (Act.Again b) d = picked (both (ltb (h .count) 256) (ltb k (bits-of fs + 1))) _ _ _ _ refl refl
   effect-alike r r′ i k Act.Leave d = refl
   effect-alike r r′ i k (Act.Take width binder n) d =
       rw (le-leb (2 * h .captures + 2) (length rs) (omega (arith, d .0, d .3)), le-leb (2 * h .captures + 2) (length rs′) (omega (arith, d .0, d .3))) refl

@@ -155,9 +155,12 @@ module _ (ws fs rs : List ℕ) (o : Opened ws fs rs) where
         not-below m n h = omega (arith, h)
 
     by-steps : BySteps (held (table-of ws)) ws fs rs gs
-    by-steps tests t =
+    by-steps =
         let h = trusted (table-of ws) (o .0 .1) .hypotheses in
-        ap (run-of fs) state ∙ (run-at ws fs rs o (granted gs) ∙ same-run (held (table-of ws)) (h .static) (tests-of (table-of ws)) tests (tells h) t (granted gs) (frameBits fs))
+        record {
+          verdict = few;
+          made = λ tests t. ap (run-of fs) state ∙ (run-at ws fs rs o (granted gs) ∙ same-run (held (table-of ws)) (h .static) (tests-of (table-of ws)) tests (tells h) t (granted gs) (frameBits fs));
+        }
 
   claim : Claim ws fs rs
   claim =

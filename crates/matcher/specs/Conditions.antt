@@ -182,9 +182,11 @@ module _ (ws fs : List ℕ) (hs : List Handing) where
         → (run-in (further zs n) ≡ run-in (further zs′ n)) × (answer-in (further zs n) ≡ answer-in (further zs′ n))
 
 -- The run and its fields after the list are what document 01's steps (crate `theory`, `Machine`) make of a grammar, however its windows are looked up.
-abbrev pub BySteps : Grammar (Unit {0}) Values → (ws fs rs : List ℕ) → List Grant → Type 0
-BySteps g ws fs rs gs = (tests : Tests) → Tells g tests
-    → run-of fs (whole-of (reading-kept (here ws fs rs gs)) (run-kept (here ws fs rs gs))) ≡ granted-steps g tests (granted gs) (opened g tests (frameBits fs))
+pub record BySteps (g : Grammar (Unit {0}) Values) (ws fs rs : List ℕ) (gs : List Grant) : Type 0 where
+  -- of undecided, match and no match: of other verdicts the theory's machine knows nothing
+  pub verdict : run-kept (here ws fs rs gs) .verdict ≤ unmatched
+  pub made : (tests : Tests) → Tells g tests
+      → run-of fs (whole-of (reading-kept (here ws fs rs gs)) (run-kept (here ws fs rs gs))) ≡ granted-steps g tests (granted gs) (opened g tests (frameBits fs))
 
 -- "a single claim about the whole list, not one for each grant"
 pub record Claim (ws fs rs : List ℕ) : Type 0 where

@@ -28,9 +28,6 @@ Unchanged run rs x = (run-in x ≡ run) × (reading-in x ≡ rs) × (taken-of (a
 pub made : (before : ℕ) (w : Whole) → whole-of (reading-in (after-steps before w)) (run-in (after-steps before w)) ≡ w
 made before (whole cs ps vs rs h) = refl
 
-pub steps-made : (before : ℕ) (w : Whole) → run-in (after-steps before w) .steps ≡ steps-in w
-steps-made before (whole cs ps vs rs h) = refl
-
 pub counted : (before : ℕ) (w : Whole) → taken-of (answer-in (after-steps before w)) ≡ steps-in w - before
 counted before (whole cs ps vs rs h) = refl
 

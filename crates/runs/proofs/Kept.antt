@@ -60,7 +60,7 @@ module _ (ws fs : List ℕ) (most : ℕ) where
 
 -- what fits, taken apart and put together
 module _ (ws fs : List ℕ) where
-  pub fitting-known : (cs ps : List ℕ) (vs : List ℤ) (rs : List ℕ) (h : Head) → fits ws fs (whole cs ps vs rs h) ≡ true → entries-fit ws (bits-of fs) cs ps (h .count) ≡ true
+  fitting-known : (cs ps : List ℕ) (vs : List ℤ) (rs : List ℕ) (h : Head) → fits ws fs (whole cs ps vs rs h) ≡ true → entries-fit ws (bits-of fs) cs ps (h .count) ≡ true
   fitting-known cs ps vs rs h e = sym (rest-fitting ws fs (length rs) cs ps h (fitting-rest ws fs (length rs) cs ps h e)) ∙ e
 
   put-together : (most : ℕ) (w : Whole) → 16384 ≤ length ws → Fits fs w → Roomy ws fs most w → Entries ws fs w → fits ws fs w ≡ true
