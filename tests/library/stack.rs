@@ -136,13 +136,14 @@ fn deep() -> Vec<Vec<u8>> {
     texts
 }
 
-// Many constructs, terms and rules.
+// Many constructs, members, terms and rules.
 fn large() -> Vec<Vec<u8>> {
-    let fields = (0..60).map(|i| format!("uint(8, {i}|{i}+1~{i}*2!7)&(uint(8,n)|uint(4,1)&uint(4,2))?")).collect::<Vec<_>>().join("&");
+    let fields = (0..42).map(|i| format!("uint(8, {i}|{i}+1~{i}*2!7)&(uint(8,n+1)&uint(4,1)&uint(4,2)){{n}}")).collect::<Vec<_>>().join("&");
     let chain = (1..63).map(|i| format!("r{i} = r{} & r{};", i + 1, i + 1)).collect::<String>();
     let bodies = [
         format!("a = uint(8, var(n, ~)) & {fields};"),
         format!("a = {};", (0..255).map(|i| format!("uint(8,{i})")).collect::<Vec<_>>().join("|")),
+        format!("a = {};", ["'x'"; 255].join("&")),
         format!("a = uint(32, {});", (0..512).map(|i| format!("{}", i * 3)).collect::<Vec<_>>().join("|")),
         format!("a = uint(32, {});", (0..128).map(|i| format!("{0}~{1}!{0}~{1}", i * 33554432u64, i * 33554432u64 + 99)).collect::<Vec<_>>().join("|")),
         format!("r0 = r1; {chain} r63 = uint(1, ~);"),

@@ -253,8 +253,7 @@ one-and-many table frame reading reading₁ reading₂ reading₃ run run₁ run
         let l : length run ≡ 2596 → ⊥ = eqb-false (length run) 2596 e in
         let x = g .other l in
         let y = h .other (λ z. l (sym (g .run-length) ∙ z)) in
-        let z = k .other l in
-        (
+        let z = k .other l in (
           x .0 ∙ sym (z .0),
           y .0 ∙ sym (z .0),
           y .2 ∙ x .2 ∙ sym (z .2),
