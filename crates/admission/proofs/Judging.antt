@@ -1,14 +1,17 @@
 -- From refusals 5, 6 and 8 passed to words that pass the judgement's first parts.
 -- Assumes nothing.
-use Prim.Native.Nat.{ℕ, _≤_}
+use Prim.Native.Nat.{ℕ, _+_, _≤_}
 use mathlib.Core.Path.{_≡_, refl, sym, subst, _∙_}
-use mathlib.Core.Bool.{true, false}
+use mathlib.Core.Bool.{true}
 use mathlib.Core.List.{List}
 use native.Mathlib.Omega.{arith}
 use lib.ListN.{length}
 use Rattle.theory.specs.Lookahead.{EmptyBody}
 use Rattle.layout.specs.Places.{construct-count}
 use Rattle.form.specs.Laid.{laid}
+use Rattle.sets.specs.Sets.{FirstSets}
+use Rattle.conflicts.specs.declared.Clash.{Clash}
+use Rattle.naming.specs.Words.{place-of, named-at}
 use Rattle.table.specs.Judged.{Passed8, Judged, Oversized}
 use Rattle.table.specs.declared.Judgement.{Judgement}
 use Rattle.completion.specs.Completed.{Completed}
@@ -16,7 +19,7 @@ use Rattle.parsing.specs.Store.{State, state, nodes-of}
 use Rattle.laying.specs.Context.{Readable}
 use Rattle.laying.proofs.LaidOut.{words-by-place, laid-out}
 use Rattle.admission.specs.Admitted.{words-of, Bounded}
-use Rattle.admission.specs.Late.{Marks, Late, empty-body, overweight, LaidFor, MarkFor, answer-for, Within}
+use Rattle.admission.specs.Late.{Marks, Late, LatePass, empty-body, overweight, Within}
 use Rattle.admission.specs.declared.Admission.{Admission}
 use Rattle.admission.proofs.Facts.{Facts, facts}
 use Rattle.admission.proofs.Extending.{numbers-right, widths-right, sizes-right}
@@ -54,48 +57,26 @@ passed-8 xs (state ns ts rs n t b r) p h =
 
 -- ---- the judgement's answers
 
--- the first three do not come
-module _ {ws : List ℕ} (p : Passed8 ws) where
-  never-unlaid : {A : Type 0} → Judged ws Judgement.Unlaid → A
-  never-unlaid e = let q : true ≡ false = sym (p .passed .laid-out) ∙ e in let z : _≡_ {A = ℕ} 0 1 = cc in absurd (omega arith)
+module _ (ns rs old new : List ℕ) (base : ℕ) where
+  -- 9 leaves the words as they were
+  pub kept : (first : List ℕ) → laid old ≡ true → FirstSets old first → new ≡ old → (laid new ≡ true) × FirstSets new first
+  kept first l f e = (subst (λ (ws : List ℕ). laid ws ≡ true) (sym e) l, subst (λ (ws : List ℕ). FirstSets ws first) (sym e) f)
 
-  never-recursive : {A : Type 0} (rule : ℕ) → Judged ws (Judgement.Recursive rule) → A
-  never-recursive rule e = absurd (p .passed .acyclic rule (e .1))
+  module _ (i mark : ℕ) (d : Judged old (Judgement.EmptyBody i)) (c : new ≡ old) (m : Marks ns new (construct-count new) mark) where
+    marked : Marks ns old (construct-count old) mark
+    marked = subst (λ (ws : List ℕ). Marks ns ws (construct-count ws) mark) c m
 
-  never-oversized : {A : Type 0} (i : ℕ) → Judged ws (Judgement.Oversized i) → A
-  never-oversized i e = absurd (p .sized i (e .1 .there) (e .1 .holds))
+    pub mark-within : Within ns rs → mark ≤ 8192
+    mark-within w = let f = marked .found i (d .1 .there) (d .1 .holds) in omega (arith, f .3, w .nodes (f .0) .1)
 
-module _ (ns rs old new : List ℕ) (base : ℕ) (p : Passed8 old) where
-  pub laid-for : (j : Judgement) → Completed old new j → LaidFor new j
-  laid-for Judgement.Unlaid c = tt
-  laid-for (Judgement.Recursive rule) c = tt
-  laid-for (Judgement.Oversized i) c = tt
-  laid-for (Judgement.EmptyBody i) c = subst (λ (l : List ℕ). laid l ≡ true) (sym c) (p .passed .laid-out)
-  laid-for (Judgement.Conflict i clash) c = tt
-  laid-for Judgement.Overweight c = tt
-  laid-for (Judgement.Passes weight) c = tt
+    pub late-body : (r : Admission) → r ≡ Admission.Refused 9 (base + mark) → Late ns rs base old new r
+    late-body r e = subst (Late ns rs base old new) (sym e) (empty-body (d .1 .there) (d .1 .holds) marked refl)
 
-  marked : (i mark : ℕ) → new ≡ old → MarkFor ns new mark (Judgement.EmptyBody i) → Marks ns old (construct-count old) mark
-  marked i mark c m = subst (λ (l : List ℕ). Marks ns l (construct-count l) mark) c m
+  pub late-conflict : (i : ℕ) (clash : Clash) → Judged old (Judgement.Conflict i clash) → (r : Admission) → r ≡ Admission.Conflict (base + place-of ns i) i clash → Late ns rs base old new r
+  late-conflict i clash d r e = subst (Late ns rs base old new) (sym e) (record { passed = d .0; first = d .1; answered = d .2; at = refl })
 
-  pub mark-within : Within ns rs → (j : Judgement) (mark : ℕ) → Judged old j → Completed old new j → MarkFor ns new mark j → mark ≤ 8192
-  mark-within w Judgement.Unlaid mark d c m = omega (arith, m)
-  mark-within w (Judgement.Recursive rule) mark d c m = omega (arith, m)
-  mark-within w (Judgement.Oversized i) mark d c m = omega (arith, m)
-  mark-within w (Judgement.EmptyBody i) mark d c m =
-      let f = marked i mark c m .found i (d .1 .there) (d .1 .holds) in omega (arith, f .3, w .nodes (f .0) .1)
-  mark-within w (Judgement.Conflict i clash) mark d c m = omega (arith, m)
-  mark-within w Judgement.Overweight mark d c m = omega (arith, m)
-  mark-within w (Judgement.Passes weight) mark d c m = omega (arith, m)
+  pub late-weight : Judged old Judgement.Overweight → (r : Admission) → r ≡ Admission.Refused 11 (base + named-at rs 0) → Late ns rs base old new r
+  late-weight d r e = subst (Late ns rs base old new) (sym e) (overweight (d .0) (d .1) refl)
 
-  pub late : (j : Judgement) (mark : ℕ) (r : Admission) → Judged old j → Completed old new j → MarkFor ns new mark j → r ≡ answer-for ns rs base mark j → Late ns rs base old new r
-  late Judgement.Unlaid mark r d c m e = never-unlaid p d
-  late (Judgement.Recursive rule) mark r d c m e = never-recursive p rule d
-  late (Judgement.Oversized i) mark r d c m e = never-oversized p i d
-  late (Judgement.EmptyBody i) mark r d c m e =
-      subst (Late ns rs base old new) (sym e) (empty-body (d .1 .there) (d .1 .holds) (marked i mark c m) refl)
-  late (Judgement.Conflict i clash) mark r d c m e =
-      subst (Late ns rs base old new) (sym e) (record { passed = d .0; first = d .1; answered = d .2; at = refl })
-  late Judgement.Overweight mark r d c m e = subst (Late ns rs base old new) (sym e) (overweight (d .0) (d .1) refl)
-  late (Judgement.Passes weight) mark r d c m e =
-      subst (Late ns rs base old new) (sym e) (record { judged = d .0; weighs = d .1; limited = d .2; sound = c .0; same = c .1 })
+  pub late-pass : (weight : ℕ) → Judged old (Judgement.Passes weight) → Completed old new (Judgement.Passes weight) → LatePass weight old new
+  late-pass weight d c = record { judged = d .0; weighs = d .1; limited = d .2; sound = c .0; same = c .1 }

@@ -10,9 +10,7 @@ use Rattle.layout.specs.Places.{construct-count}
 use Rattle.layout.specs.Held.{held}
 use Rattle.conflicts.specs.Conflicts.{Conflicting, Answered}
 use Rattle.conflicts.specs.declared.Clash.{Clash}
-use Rattle.form.specs.Laid.{laid}
-use Rattle.table.specs.declared.Judgement.{Judgement}
-use Rattle.table.specs.Judged.{number-of, Passed9, Passed10, Least, Weighing}
+use Rattle.table.specs.Judged.{Passed9, Passed10, Least, Weighing}
 use Rattle.table.specs.Sound.{Sound}
 use Rattle.soundness.specs.OneTable.{Alike}
 use Rattle.naming.specs.Words.{node-word, place-of, named-at}
@@ -65,35 +63,3 @@ HandedOver (Admission.Conflict place construct clash) words old new = new ≡ ol
 pub record Within (ns rs : List ℕ) : Type 0 where
   pub nodes : (i : ℕ) → (node-word ns i 2 ≤ 8192) × (node-word ns i 4 ≤ 8192)
   pub rules : (k : ℕ) → named-at rs k ≤ 8192
-
--- ---- by the judgement
-
--- the words are looked at again only where a body may be empty
-abbrev pub LaidFor : List ℕ → Judgement → Type 0
-LaidFor ws Judgement.Unlaid = Unit {0}
-LaidFor ws (Judgement.Recursive rule) = Unit {0}
-LaidFor ws (Judgement.Oversized construct) = Unit {0}
-LaidFor ws (Judgement.EmptyBody construct) = laid ws ≡ true
-LaidFor ws (Judgement.Conflict construct clash) = Unit {0}
-LaidFor ws Judgement.Overweight = Unit {0}
-LaidFor ws (Judgement.Passes weight) = Unit {0}
-
--- the least mark is looked for only where 9 is to be answered
-abbrev pub MarkFor : List ℕ → List ℕ → ℕ → Judgement → Type 0
-MarkFor ns ws mark Judgement.Unlaid = mark ≡ 0
-MarkFor ns ws mark (Judgement.Recursive rule) = mark ≡ 0
-MarkFor ns ws mark (Judgement.Oversized construct) = mark ≡ 0
-MarkFor ns ws mark (Judgement.EmptyBody construct) = Marks ns ws (construct-count ws) mark
-MarkFor ns ws mark (Judgement.Conflict construct clash) = mark ≡ 0
-MarkFor ns ws mark Judgement.Overweight = mark ≡ 0
-MarkFor ns ws mark (Judgement.Passes weight) = mark ≡ 0
-
--- the answer that a judgement becomes; the first three do not come to words that have passed up to 8
-abbrev pub answer-for : List ℕ → List ℕ → ℕ → ℕ → Judgement → Admission
-answer-for ns rs base mark Judgement.Unlaid = Admission.Refused 0 0
-answer-for ns rs base mark (Judgement.Recursive rule) = Admission.Refused 0 0
-answer-for ns rs base mark (Judgement.Oversized construct) = Admission.Refused 0 0
-answer-for ns rs base mark (Judgement.EmptyBody construct) = Admission.Refused (number-of (Judgement.EmptyBody construct)) (base + mark)
-answer-for ns rs base mark (Judgement.Conflict construct clash) = Admission.Conflict (base + place-of ns construct) construct clash
-answer-for ns rs base mark Judgement.Overweight = Admission.Refused (number-of Judgement.Overweight) (base + named-at rs 0)
-answer-for ns rs base mark (Judgement.Passes weight) = Admission.Admitted weight

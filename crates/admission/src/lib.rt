@@ -13,7 +13,7 @@ ghost use Rattle.table.specs.Judged.{Passed8};
 ghost use Rattle.parsing.specs.Cursors.{state-at};
 ghost use Rattle.naming.specs.Words.{node-word, place-of, named-at};
 ghost use Rattle.admission.specs.Admitted.{words-of, Right, Named, Straight, AnsweredRules, Answers};
-ghost use Rattle.admission.specs.Late.{LaidFor, MarkFor, answer-for, Late, is-admitted, HandedOver, Within};
+ghost use Rattle.admission.specs.Late.{Late, is-admitted, HandedOver, Within};
 
 mod copying;
 mod extents;
@@ -78,55 +78,20 @@ fn conflict(nodes: &[usize], base: usize, construct: usize, clash: Clash) -> Adm
     }
 }
 
-// Where a body may be empty, the least mark of such a repetition.
-fn mark_for(judgement: Judgement, words: &[u32], nodes: &[usize]) -> usize
-    requires { ⌜ LaidFor (now words) judgement × (length (now nodes) ≡ 2560) ⌝ }
-    ensures { λ r. ⌜ MarkFor (now (nodes .entry)) (now (words .entry)) r judgement ⌝ }
-{
-    match judgement {
-        Judgement::Unlaid => 0,
-        Judgement::Recursive { rule: _ } => 0,
-        Judgement::Oversized { construct: _ } => 0,
-        Judgement::EmptyBody { construct: _ } => marks::first_mark(words, nodes),
-        Judgement::Conflict {
-            construct: _,
-            clash: _,
-        } => 0,
-        Judgement::Overweight => 0,
-        Judgement::Passes { weight: _ } => 0,
-    }
-}
-
-// The answer to a judgement of words that pass 5 to 8: its first three answers do not come.
-fn answer_for(
-    judgement: Judgement,
-    nodes: &[usize],
-    rules: &[usize],
-    base: usize,
-    mark: usize,
-) -> Admission
-    requires { ⌜ (length (now nodes) ≡ 2560) × (length (now rules) ≡ 325) × (base ≤ 8192) × (mark ≤ 8192) × Within (now nodes) (now rules) ⌝ }
-    ensures { λ r. ⌜ r ≡ answer-for (now (nodes .entry)) (now (rules .entry)) base mark judgement ⌝ }
-{
-    match judgement {
-        Judgement::Unlaid => refused(0, 0, 0),
-        Judgement::Recursive { rule: _ } => refused(0, 0, 0),
-        Judgement::Oversized { construct: _ } => refused(0, 0, 0),
-        Judgement::EmptyBody { construct: _ } => refused(9, base, mark),
-        Judgement::Conflict { construct, clash } => conflict(nodes, base, construct, clash),
-        Judgement::Overweight => refused_at(11, base, rules, 0),
-        Judgement::Passes { weight } => Admission::Admitted { weight },
-    }
-}
-
 // 9 to 11, of words that pass 5 to 8.
 fn judged(nodes: &[usize], rules: &[usize], base: usize, words: &mut [u32]) -> Admission
     requires { ⌜ Passed8 (now words) × (length (now nodes) ≡ 2560) × (length (now rules) ≡ 325) × (base ≤ 8192) × Within (now nodes) (now rules) ⌝ }
     ensures { λ r. ⌜ Late (now (nodes .entry)) (now (rules .entry)) base (now (words .entry)) (now (words .exit)) r ⌝ }
 {
-    let judgement = completion::complete(words);
-    let mark = mark_for(judgement, words, nodes);
-    answer_for(judgement, nodes, rules, base, mark)
+    let mut first = [0u64; 2056];
+    match completion::complete(words, &mut first) {
+        Judgement::EmptyBody { construct: _ } => {
+            refused(9, base, marks::least_mark(words, &first, nodes))
+        }
+        Judgement::Conflict { construct, clash } => conflict(nodes, base, construct, clash),
+        Judgement::Overweight => refused_at(11, base, rules, 0),
+        Judgement::Passes { weight } => Admission::Admitted { weight },
+    }
 }
 
 fn is_admitted(answer: Admission) -> bool

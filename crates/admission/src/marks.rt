@@ -11,7 +11,7 @@ ghost use Rattle.form.specs.Laid.{laid as laidOf};
 ghost use Rattle.sets.specs.Sets.{FirstSets};
 ghost use Rattle.admission.specs.Late.{Marks};
 
-fn least_mark(table: &[u32], first: &[u64], nodes: &[usize]) -> usize
+pub fn least_mark(table: &[u32], first: &[u64], nodes: &[usize]) -> usize
     requires { ⌜ (laidOf (now table) ≡ true) × (length (now first) ≡ 2056) × FirstSets (now table) (now first) × (length (now nodes) ≡ 2560) ⌝ }
     ensures { λ r. ⌜ Marks (now (nodes .entry)) (now (table .entry)) (construct-count (now (table .entry))) r ⌝ }
 {
@@ -24,13 +24,4 @@ fn least_mark(table: &[u32], first: &[u64], nodes: &[usize]) -> usize
         i += 1;
     }
     least
-}
-
-pub fn first_mark(table: &[u32], nodes: &[usize]) -> usize
-    requires { ⌜ (laidOf (now table) ≡ true) × (length (now nodes) ≡ 2560) ⌝ }
-    ensures { λ r. ⌜ Marks (now (nodes .entry)) (now (table .entry)) (construct-count (now (table .entry))) r ⌝ }
-{
-    let mut first = [0u64; 2056];
-    sets::first::first(table, &mut first);
-    least_mark(table, &first, nodes)
 }

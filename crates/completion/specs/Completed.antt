@@ -22,9 +22,6 @@ pub record SetsWritten (old new follow prediction : List ℕ) (n : ℕ) : Type 0
 
 -- refused, the words are as they were; else the table is sound and holds the grammar that was judged, and "words past 16,384 are neither read nor changed"
 abbrev pub Completed : List ℕ → List ℕ → Judgement → Type 0
-Completed old new Judgement.Unlaid = new ≡ old
-Completed old new (Judgement.Recursive rule) = new ≡ old
-Completed old new (Judgement.Oversized construct) = new ≡ old
 Completed old new (Judgement.EmptyBody construct) = new ≡ old
 Completed old new (Judgement.Conflict construct clash) = new ≡ old
 Completed old new Judgement.Overweight = new ≡ old

@@ -3,7 +3,8 @@ ghost use mathlib.Core.Path.{_≡_};
 ghost use Prim.Native.Nat.{_≤_};
 ghost use lib.ListN.{length, set};
 ghost use Rattle.layout.specs.Places.{table-words};
-ghost use Rattle.table.specs.Judged.{Judged};
+ghost use Rattle.sets.specs.Sets.{FirstSets};
+ghost use Rattle.table.specs.Judged.{Passed8, Judged};
 ghost use Rattle.completion.specs.Completed.{SetsWritten, Completed};
 use layout::word;
 use lookahead_slices::family;
@@ -30,18 +31,16 @@ fn write_weight(table: &mut [u32], weight: usize)
     table[5] = weight as u32;
 }
 
-// Judges any words and completes those that pass. The weight's word and the sets' words may hold anything that is laid out.
-pub fn complete(table: &mut [u32]) -> Judgement
-    ensures { λ r. ⌜ Judged (now (table .entry)) r ⌝ }
+// Judges words that pass 5 to 8 and completes those that pass. The weight's word and the sets' words may hold anything that is laid out;
+// the FIRST sets are left in `first`.
+pub fn complete(table: &mut [u32], first: &mut [u64]) -> Judgement
+    requires { ⌜ Passed8 (now table) × (length (now first) ≡ 2056) ⌝ }
+    ensures { λ r. ⌜ Judged (now (table .entry)) r × FirstSets (now (table .entry)) (now (first .exit)) ⌝ }
     ensures { λ r. ⌜ Completed (now (table .entry)) (now (table .exit)) r ⌝ }
 {
-    let mut first = [0u64; 2056];
     let mut follow = [0u64; 2056];
     let mut prediction = [0u64; 2056];
-    match table::judge_into(table, &mut first, &mut follow, &mut prediction) {
-        Judgement::Unlaid => Judgement::Unlaid,
-        Judgement::Recursive { rule } => Judgement::Recursive { rule },
-        Judgement::Oversized { construct } => Judgement::Oversized { construct },
+    match table::judge(table, first, &mut follow, &mut prediction) {
         Judgement::EmptyBody { construct } => Judgement::EmptyBody { construct },
         Judgement::Conflict { construct, clash } => Judgement::Conflict { construct, clash },
         Judgement::Overweight => Judgement::Overweight,

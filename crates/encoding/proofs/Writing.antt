@@ -4,9 +4,10 @@ use Prim.Native.Nat.{ℕ, zero, suc, _+_, _*_, _-_, _<_}
 use mathlib.Core.Path.{_≡_, refl, sym, ap, ap₂, _∙_}
 use mathlib.Core.List.{List, [], _∷_, _++_, map}
 use native.Mathlib.Omega.{arith}
-use lib.ListN.{length, set, length-append}
+use lib.ListN.{length, getD, set, length-append}
 use lib.Seq.{length-sets}
 use Rattle.encoding.specs.Lists.{flat, narrow, written}
+use Rattle.encoding.specs.Encoded.{packed}
 
 -- a list's first word, then the rest
 pub written-cons : (ws : List ℕ) (k a : ℕ) (xs : List ℕ) → written ws k (a ∷ xs) ≡ written (set ws k (narrow a)) (k + 1) xs
@@ -68,3 +69,15 @@ unfolding flat
 flat-length w zero i f e = omega arith
 flat-length w (suc n) i f e =
     length-append (f i) (flat n (i + 1) f) ∙ ap₂ _+_ (e i) (flat-length w n (i + 1) f e) ∙ (let z : w + w * n ≡ w * suc n = omega arith in z)
+
+-- the same lists, one by one
+pub flat-same : (n i : ℕ) (f g : ℕ → List ℕ) → ((j : ℕ) → j < i + n → f j ≡ g j) → flat n i f ≡ flat n i g
+unfolding flat
+flat-same zero i f g h = refl
+flat-same (suc n) i f g h = ap₂ (λ (x y : List ℕ). x ++ y) (h i (omega arith)) (flat-same n (i + 1) f g (λ j l. h j (omega arith)))
+
+-- bytes that are the characters, four to a word
+pub bytes-same : (bytes cs : List ℕ) → ((k : ℕ) → k < 32 → getD bytes k 0 ≡ getD cs k 0) → flat 8 0 (λ (j : ℕ). packed bytes (4 * j) ∷ []) ≡ flat 8 0 (λ (j : ℕ). packed cs (4 * j) ∷ [])
+bytes-same bytes cs h =
+    flat-same 8 0 (λ j. packed bytes (4 * j) ∷ []) (λ j. packed cs (4 * j) ∷ [])
+    (λ j l. λ t. (h (4 * j) (omega arith) t + 256 * (h (4 * j + 1) (omega arith) t + 256 * (h (4 * j + 2) (omega arith) t + 256 * h (4 * j + 3) (omega arith) t))) ∷ [])

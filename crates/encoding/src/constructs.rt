@@ -9,8 +9,8 @@ use crate::put::put_four;
 use crate::put::put_one;
 use crate::put::put_three;
 use crate::put::put_two;
-use literals::character_at;
 use literals::count_at;
+use literals::spell;
 use naming::words::binder;
 use naming::words::node_word;
 use naming::words::term_word;
@@ -66,13 +66,30 @@ fn characters(text: &[u8], p: usize) -> usize
     0
 }
 
-fn character(text: &[u8], p: usize, k: usize) -> usize
-    ensures { λ r. ⌜ (r ≡ getD (characters-at (now (text .entry)) p) k 0) × (r < 256) ⌝ }
+// The bytes of the literal at p, over zeros.
+fn spelled(text: &[u8], p: usize, bytes: &mut [u8])
+    requires { ⌜ (length (now bytes) ≡ 32) × ((k : ℕ) → getD (now bytes) k 0 ≡ 0) ⌝ }
+    ensures { λ r. ⌜ ((k : ℕ) → k < 32 → getD (now (bytes .exit)) k 0 ≡ getD (characters-at (now (text .entry)) p) k 0) ⌝ }
 {
     if p < text.len() {
-        return character_at(text, p, k) as usize;
+        spell(text, p, bytes);
     }
-    0
+}
+
+fn byte(bytes: &[u8], k: usize) -> usize
+    requires { ⌜ k < length (now bytes) ⌝ }
+    ensures { λ r. ⌜ (r ≡ getD (now (bytes .entry)) k 0) × (r < 256) ⌝ }
+{
+    bytes[k] as usize
+}
+
+// The first character of the literal at p.
+fn character(text: &[u8], p: usize) -> usize
+    ensures { λ r. ⌜ r ≡ getD (characters-at (now (text .entry)) p) 0 0 ⌝ }
+{
+    let mut bytes = [0u8; 32];
+    spelled(text, p, &mut bytes);
+    byte(&bytes, 0)
 }
 
 // The operands of construct i; its own list begins at term `own`.
@@ -115,8 +132,8 @@ fn operands(
         put_four(
             table,
             k,
-            character(text, p, 0),
-            character(text, node_word(nodes, i, 3), 0),
+            character(text, p),
+            character(text, node_word(nodes, i, 3)),
             0,
             0,
         );
@@ -206,23 +223,23 @@ pub fn list(
     }
 }
 
-fn packed(text: &[u8], p: usize, k: usize) -> usize
-    requires { ⌜ k < 65536 ⌝ }
-    ensures { λ r. ⌜ r ≡ packedOf (characters-at (now (text .entry)) p) k ⌝ }
+fn packed(bytes: &[u8], k: usize) -> usize
+    requires { ⌜ (length (now bytes) ≡ 32) × (k + 4 ≤ 32) ⌝ }
+    ensures { λ r. ⌜ r ≡ packedOf (now (bytes .entry)) k ⌝ }
 {
-    let d = character(text, p, k + 3);
-    let c = character(text, p, k + 2) + 256 * d;
-    let b = character(text, p, k + 1) + 256 * c;
-    character(text, p, k) + 256 * b
+    let d = byte(bytes, k + 3);
+    let c = byte(bytes, k + 2) + 256 * d;
+    let b = byte(bytes, k + 1) + 256 * c;
+    byte(bytes, k) + 256 * b
 }
 
-fn bytes(text: &[u8], p: usize, k: usize, table: &mut [u32])
-    requires { ⌜ k < 65536 ⌝ }
-    ensures { λ r. ⌜ now (table .exit) ≡ written (now (table .entry)) k (flat 8 0 (λ (j : ℕ). packedOf (characters-at (now (text .entry)) p) (4 * j) ∷ [])) ⌝ }
+fn put_bytes(bytes: &[u8], k: usize, table: &mut [u32])
+    requires { ⌜ (length (now bytes) ≡ 32) × (k < 65536) ⌝ }
+    ensures { λ r. ⌜ now (table .exit) ≡ written (now (table .entry)) k (flat 8 0 (λ (j : ℕ). packedOf (now (bytes .entry)) (4 * j) ∷ [])) ⌝ }
 {
     let mut j = 0;
     while j < 8 {
-        put_one(table, k + j, packed(text, p, 4 * j));
+        put_one(table, k + j, packed(bytes, 4 * j));
         j += 1;
     }
 }
@@ -234,7 +251,9 @@ pub fn literal(text: &[u8], nodes: &[usize], i: usize, table: &mut [u32])
 {
     let k = 5696 + 8 * i;
     if node_word(nodes, i, 0) == 6 {
-        bytes(text, node_word(nodes, i, 2), k, table);
+        let mut bytes = [0u8; 32];
+        spelled(text, node_word(nodes, i, 2), &mut bytes);
+        put_bytes(&bytes, k, table);
         return;
     }
     put_four(table, k, 0, 0, 0, 0);

@@ -3,3 +3,4 @@ pub mod Reaches
 pub mod Sizes
 pub mod PieceLaws
 pub mod PieceFound
+pub mod Spelling

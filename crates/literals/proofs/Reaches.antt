@@ -1,17 +1,16 @@
 -- Laws of literals, as their loops go.
 -- Assumes nothing.
-use Prim.Native.Nat.{ℕ, suc, _+_, _-_, _≤_, _<_}
+use Prim.Native.Nat.{ℕ, _+_, _≤_, _<_}
 use mathlib.Core.Path.{_≡_, refl, ap, _∙_}
 use mathlib.Core.Logic.{⊎-elim}
 use mathlib.Core.Bool.{true, false}
 use mathlib.Core.List.{List, [], _∷_}
 use native.Mathlib.Omega.{arith}
-use borrow.Author.Tests.{eqb-true, eqb-false}
 use lib.Dec.{eqb}
 use lib.ListN.{length, getD, drop, drop-of-length-le}
 use Rattle.text.proofs.Runs.{next}
 use Rattle.text.proofs.Tests.{which}
-use Rattle.literals.specs.Literals.{between, part-after, stops, counted, reached, literal-reach, with-character, characters, is-found, value-of, left-after}
+use Rattle.literals.specs.Literals.{between, part-after, stops, counted, reached, literal-reach, with-character, characters}
 use Rattle.literals.specs.declared.Part.{Part}
 use Rattle.literals.specs.declared.Part.the-variants.{Start, Escape, Bracket, Digits, Character, Closed, Wrong}
 
@@ -95,46 +94,16 @@ reach-count quote p n i (b ∷ bs) =
     (reach-count quote (part-after p quote b) (counted n (part-after p quote b)) (i + 1) bs ∙ one-more n (part-after p quote b) (characters quote (part-after p quote b) bs)))
     (which (stops (part-after p quote b)))
 
--- ---- the character of a number
+-- ---- the characters, one byte after the other
 
-never : {A : Type 0} → false ≡ true → A
-never e = let z : _≡_ {A = ℕ} 0 1 = cc in absurd (omega arith)
+module _ (xs : List ℕ) (quote : ℕ) (p : Part) (i : ℕ) where
+  pub characters-turn : i < length xs → stops (part-after p quote (getD xs i 0)) ≡ false
+      → characters quote p (drop i xs) ≡ with-character (part-after p quote (getD xs i 0)) (characters quote (part-after p quote (getD xs i 0)) (drop (i + 1) xs))
+  characters-turn h e = ap (characters quote p) (next xs i h) ∙ characters-on quote p (getD xs i 0) (drop (i + 1) xs) e
 
-found-value : (p : Part) (left : ℕ) (cs : List ℕ) → is-found p left ≡ true → getD (with-character p cs) left 0 ≡ value-of p
-found-value Start left cs e = never e
-found-value Escape left cs e = never e
-found-value Bracket left cs e = never e
-found-value (Digits n) left cs e = never e
-found-value (Character c) left cs e = rw (eqb-true left 0 e)
-found-value Closed left cs e = never e
-found-value Wrong left cs e = never e
+  pub characters-stop : i < length xs → stops (part-after p quote (getD xs i 0)) ≡ true → characters quote p (drop i xs) ≡ []
+  characters-stop h e = ap (characters quote p) (next xs i h) ∙ characters-off quote p (getD xs i 0) (drop (i + 1) xs) e
 
-missed-value : (p : Part) (left : ℕ) (cs : List ℕ) → is-found p left ≡ false → getD (with-character p cs) left 0 ≡ getD cs (left-after p left) 0
-missed-value Start left cs e = refl
-missed-value Escape left cs e = refl
-missed-value Bracket left cs e = refl
-missed-value (Digits n) left cs e = refl
-missed-value (Character c) left cs e = let l : left ≡ suc (left - 1) = omega (arith, eqb-false left 0 e) in ap (λ (k : ℕ). getD (c ∷ cs) k 0) l
-missed-value Closed left cs e = refl
-missed-value Wrong left cs e = refl
-
-module _ (xs : List ℕ) (quote : ℕ) (p : Part) (left i : ℕ) where
-  pub character-found : i < length xs → stops (part-after p quote (getD xs i 0)) ≡ false → is-found (part-after p quote (getD xs i 0)) left ≡ true
-      → getD (characters quote p (drop i xs)) left 0 ≡ value-of (part-after p quote (getD xs i 0))
-  character-found h e f =
-      rw (next xs i h, characters-on quote p (getD xs i 0) (drop (i + 1) xs) e)
-      (found-value (part-after p quote (getD xs i 0)) left (characters quote (part-after p quote (getD xs i 0)) (drop (i + 1) xs)) f)
-
-  pub character-turn : i < length xs → stops (part-after p quote (getD xs i 0)) ≡ false → is-found (part-after p quote (getD xs i 0)) left ≡ false
-      → getD (characters quote p (drop i xs)) left 0
-      ≡ getD (characters quote (part-after p quote (getD xs i 0)) (drop (i + 1) xs)) (left-after (part-after p quote (getD xs i 0)) left) 0
-  character-turn h e f =
-      rw (next xs i h, characters-on quote p (getD xs i 0) (drop (i + 1) xs) e)
-      (missed-value (part-after p quote (getD xs i 0)) left (characters quote (part-after p quote (getD xs i 0)) (drop (i + 1) xs)) f)
-
-  pub character-stop : i < length xs → stops (part-after p quote (getD xs i 0)) ≡ true → getD (characters quote p (drop i xs)) left 0 ≡ 0
-  character-stop h e = rw (next xs i h, characters-off quote p (getD xs i 0) (drop (i + 1) xs) e)
-
-  pub character-out : length xs ≤ i → getD (characters quote p (drop i xs)) left 0 ≡ 0
+  pub characters-out : length xs ≤ i → characters quote p (drop i xs) ≡ []
   unfolding characters
-  character-out h = rw (drop-of-length-le xs h)
+  characters-out h = ap (characters quote p) (drop-of-length-le xs h)

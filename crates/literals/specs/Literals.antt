@@ -1,6 +1,6 @@
 -- Literals: "in `\"` or `'`: printable ASCII (20 to 7e), 1 to 32 characters, `\\`, `\"`, `\'`, and `\[hex]` up to 7f".
 -- Assumes nothing.
-use Prim.Native.Nat.{ℕ, _+_, _*_, _-_}
+use Prim.Native.Nat.{ℕ, _+_, _*_}
 use mathlib.Core.Bool.{Bool, true, false, cond, _&&_, _||_}
 use mathlib.Core.List.{List, [], _∷_}
 use lib.Dec.{leb, eqb}
@@ -113,18 +113,7 @@ characters quote p (b ∷ bs) =
 abbrev pub characters-at : List ℕ → ℕ → List ℕ
 characters-at xs i = characters (getD xs i 0) Start (drop (i + 1) xs)
 
--- ---- the character of a number: `left` more come before it
-
-abbrev pub is-found : Part → ℕ → Bool
-is-found Start left = false
-is-found Escape left = false
-is-found Bracket left = false
-is-found (Digits n) left = false
-is-found (Character c) left = eqb left 0
-is-found Closed left = false
-is-found Wrong left = false
-
--- the character that ended there
+-- the character that ended there; 0 where none did
 abbrev pub value-of : Part → ℕ
 value-of Start = 0
 value-of Escape = 0
@@ -133,13 +122,3 @@ value-of (Digits n) = 0
 value-of (Character c) = c
 value-of Closed = 0
 value-of Wrong = 0
-
--- how many are still to come before it
-abbrev pub left-after : Part → ℕ → ℕ
-left-after Start left = left
-left-after Escape left = left
-left-after Bracket left = left
-left-after (Digits n) left = left
-left-after (Character c) left = left - 1
-left-after Closed left = left
-left-after Wrong left = left

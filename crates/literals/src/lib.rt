@@ -4,9 +4,9 @@ use text::bytes::digit_value;
 use text::bytes::either;
 use text::bytes::printable;
 ghost use mathlib.Core.Path.{_≡_};
-ghost use Prim.Native.Nat.{_+_, _≤_, _<_};
-ghost use lib.ListN.{length, getD};
-ghost use Rattle.literals.specs.Literals.{is-quote, between as betweenOf, escaped as escapedOf, widened as widenedOf, part-after, stops as stopsOf, counted as countedOf, literal-at, is-closed, is-right, characters-at, is-found, value-of, left-after};
+ghost use Prim.Native.Nat.{ℕ, _+_, _≤_, _<_};
+ghost use lib.ListN.{length, getD, set};
+ghost use Rattle.literals.specs.Literals.{is-quote, between as betweenOf, escaped as escapedOf, widened as widenedOf, part-after, stops as stopsOf, counted as countedOf, literal-at, is-closed, is-right, characters-at, value-of};
 
 // How far a literal is read.
 pub enum Part {
@@ -209,20 +209,6 @@ pub fn count_at(text: &[u8], at: usize) -> usize
     reach(text, at).count
 }
 
-fn found(part: Part, left: usize) -> bool
-    ensures { λ r. ⌜ r ≡ is-found part left ⌝ }
-{
-    match part {
-        Part::Start => false,
-        Part::Escape => false,
-        Part::Bracket => false,
-        Part::Digits(_) => false,
-        Part::Character(_) => left == 0,
-        Part::Closed => false,
-        Part::Wrong => false,
-    }
-}
-
 fn value(part: Part) -> u8
     ensures { λ r. ⌜ r ≡ value-of part ⌝ }
 {
@@ -237,39 +223,30 @@ fn value(part: Part) -> u8
     }
 }
 
-fn passed(part: Part, left: usize) -> usize
-    ensures { λ r. ⌜ r ≡ left-after part left ⌝ }
+fn keep(bytes: &mut [u8], n: usize, b: u8)
+    ensures { λ r. ⌜ now (bytes .exit) ≡ set (now (bytes .entry)) n b ⌝ }
 {
-    match part {
-        Part::Start => left,
-        Part::Escape => left,
-        Part::Bracket => left,
-        Part::Digits(_) => left,
-        Part::Character(_) => { if left == 0 { 0 } else { left - 1 } }
-        Part::Closed => left,
-        Part::Wrong => left,
+    if n < bytes.len() {
+        bytes[n] = b;
     }
 }
 
-// The character of number k of the literal at `at`; 0 past the last.
-pub fn character_at(text: &[u8], at: usize, k: usize) -> u8
-    requires { ⌜ at < length (now text) ⌝ }
-    ensures { λ r. ⌜ r ≡ getD (characters-at (now (text .entry)) at) k 0 ⌝ }
+// The first 32 characters of the literal at `at`, over zeros. What is no character is kept as 0, where the next one goes.
+pub fn spell(text: &[u8], at: usize, bytes: &mut [u8])
+    requires { ⌜ (at < length (now text)) × (length (now bytes) ≡ 32) × ((k : ℕ) → getD (now bytes) k 0 ≡ 0) ⌝ }
+    ensures { λ r. ⌜ ((k : ℕ) → k < 32 → getD (now (bytes .exit)) k 0 ≡ getD (characters-at (now (text .entry)) at) k 0) ⌝ }
 {
     let quote = text[at];
     let mut part = Part::Start;
-    let mut left = k;
+    let mut n = 0;
     let mut i = at + 1;
     while i < text.len() {
         part = after(part, quote, text[i]);
         i += 1;
         if stops(part) {
-            return 0;
+            return;
         }
-        if found(part, left) {
-            return value(part);
-        }
-        left = passed(part, left);
+        keep(bytes, n, value(part));
+        n = counted(n, part);
     }
-    0
 }

@@ -33,7 +33,10 @@ fn show_answer(answer: Answer) {
 
 // Sets and weight are put in, where the words pass the judgement.
 fn complete(table: &mut [u32; 16384]) {
-    completion::complete(&mut table[..]);
+    let mut first = [0u64; 2056];
+    if table::formed(&table[..]) {
+        completion::complete(&mut table[..], &mut first);
+    }
 }
 
 fn show_run(run: Run) {

@@ -6,6 +6,10 @@ use mathlib.Core.Bool.{true, false, false≢true}
 use mathlib.Core.List.{List, [], List·Memᴰ·not-nil}
 use native.Mathlib.Omega.{arith}
 use native.Mathlib.Decide.{decLt, ℕ-discrete}
+use borrow.Author.Tests.{eqb-true, eq-eqb}
+use lib.Dec.{eqb}
+use Rattle.lookahead.specs.Sets.{Decides}
+use Rattle.rules.specs.Reaching.{Reaches}
 use Rattle.basis.specs.Bits.{Bits}
 use Rattle.theory.specs.Grammar.{alternative, concatenation, repetition, switch, use-of, field, eod}
 use Rattle.theory.specs.Lookahead.{Conflict, EmptyBody}
@@ -20,18 +24,8 @@ use Rattle.sets.proofs.HeldLaws.{node-inside, node-opening, node-past}
 use Rattle.measures.specs.Measures.{LeastOf}
 use Rattle.conflicts.specs.Conflicts.{Conflicting, Answered}
 use Rattle.conflicts.specs.declared.Clash.{Clash}
-use Rattle.table.specs.Judged.{Least, None, Oversized, Weighing, Passed7, Passed8, Passed9, Passed10, Judged}
-use Rattle.table.specs.Computed.{is-clash, is-passed, Formed, Computed}
-use Rattle.table.specs.declared.Judgement.{Judgement}
-use Rattle.sets.specs.Sets.{FollowSets, PredictionSets}
-
--- a search that stops before the end
-pub least-of : (ws : List ℕ) (P : ℕ → Type 0) (count i : ℕ) → count ≡ construct-count ws → LeastOf P (construct-count ws) i → i < count → Least ws P i
-least-of ws P count i e l h = let k : i < construct-count ws = omega arith in record { there = k; holds = l .holds k; before = l .before }
-
--- one that does not
-pub none-below : (ws : List ℕ) (P : ℕ → Type 0) (count i : ℕ) → count ≡ construct-count ws → LeastOf P (construct-count ws) i → count ≤ i → (j : ℕ) → j < construct-count ws → P j → ⊥
-none-below ws P count i e l h j k p = l .before j (omega (arith, l .most)) p
+use Rattle.table.specs.Judged.{Least, None, Oversized, Weighing, Passed7, Passed8, Passed9, Passed10}
+use Rattle.table.specs.Clashing.{is-clash}
 
 -- ---- past the constructs there is nothing that could
 
@@ -98,37 +92,25 @@ module _ (ws : List ℕ) (p : Passed7 ws) (n : ℕ) (w : Weight ws n) where
   pub exact-weight : n ≤ 65535 → Weighing ws (λ m. m ≡ n)
   exact-weight h weight k = let e : n ≡ capped (weight first-context opening) = weighed weight k in omega arith
 
--- ---- from the form to the whole
+-- ---- what is passed
 
-pub formed-passed : (ws : List ℕ) (r : Judgement) → Formed ws r → is-passed r ≡ true → Passed8 ws
-formed-passed ws Judgement.Unlaid f e = absurd (false≢true e)
-formed-passed ws (Judgement.Recursive rule) f e = absurd (false≢true e)
-formed-passed ws (Judgement.Oversized construct) f e = absurd (false≢true e)
-formed-passed ws (Judgement.EmptyBody construct) f e = absurd f
-formed-passed ws (Judgement.Conflict construct clash) f e = absurd f
-formed-passed ws Judgement.Overweight f e = absurd f
-formed-passed ws (Judgement.Passes weight) f e = f
+module _ (ws : List ℕ) where
+  -- a loop over the constructs that stops before the end
+  pub least-of : (P : ℕ → Type 0) (count i : ℕ) → count ≡ construct-count ws → i < count → P i → ((j : ℕ) → j < i → P j → ⊥) → Least ws P i
+  least-of P count i e h p b = record { there = omega arith; holds = p; before = b }
 
-pub formed-refused : (ws follow prediction : List ℕ) (r : Judgement) → Formed ws r → is-passed r ≡ false → Judged ws r × Computed ws follow prediction r
-formed-refused ws follow prediction Judgement.Unlaid f e = (f, tt)
-formed-refused ws follow prediction (Judgement.Recursive rule) f e = (f, tt)
-formed-refused ws follow prediction (Judgement.Oversized construct) f e = (f, tt)
-formed-refused ws follow prediction (Judgement.EmptyBody construct) f e = absurd f
-formed-refused ws follow prediction (Judgement.Conflict construct clash) f e = absurd f
-formed-refused ws follow prediction Judgement.Overweight f e = absurd f
-formed-refused ws follow prediction (Judgement.Passes weight) f e = absurd (false≢true (sym e))
+  -- 7 and 8 are decided
+  pub cyclic : (rule : ℕ) → Reaches ws rule rule → Decides false (Passed8 ws)
+  cyclic rule r = ((λ t. absurd (false≢true t)), (λ p. absurd (p .passed .acyclic rule r)))
 
-pub computed : (ws follow prediction : List ℕ) (r : Judgement) → FollowSets ws follow → PredictionSets ws prediction → Computed ws follow prediction r
-computed ws follow prediction Judgement.Unlaid f p = tt
-computed ws follow prediction (Judgement.Recursive rule) f p = tt
-computed ws follow prediction (Judgement.Oversized construct) f p = tt
-computed ws follow prediction (Judgement.EmptyBody construct) f p = tt
-computed ws follow prediction (Judgement.Conflict construct clash) f p = tt
-computed ws follow prediction Judgement.Overweight f p = tt
-computed ws follow prediction (Judgement.Passes weight) f p = (f, p)
+  pub sized : Passed7 ws → (count i : ℕ) → count ≡ construct-count ws → LeastOf (Oversized ws) (construct-count ws) i → Decides (eqb i count) (Passed8 ws)
+  sized p count i e l = (
+    λ t. record { passed = p; sized = λ j h. l .before j (omega (arith, eqb-true i count t)) },
+    λ q. eq-eqb i count (elim (decLt i count) [ yes h ↦ absurd (q .sized i (omega arith) (l .holds (omega arith))) | no h ↦ omega (arith, l .most) ]),
+  )
 
-pub passed9 : (ws : List ℕ) → Passed8 ws → (count i : ℕ) → count ≡ construct-count ws → LeastOf (EmptyBody (held ws)) (construct-count ws) i → count ≤ i → Passed9 ws
-passed9 ws p count i e l h = record { passed = p; no-empty-body = no-empty-bodies (facts ws (p .passed .laid-out)) (none-below ws (EmptyBody (held ws)) count i e l h) }
+  pub passed9 : Passed8 ws → (count i : ℕ) → count ≡ construct-count ws → ((j : ℕ) → j < i → EmptyBody (held ws) j → ⊥) → count ≤ i → Passed9 ws
+  passed9 p count i e l h = record { passed = p; no-empty-body = no-empty-bodies (facts ws (p .passed .laid-out)) (λ j k. l j (omega arith)) }
 
-pub passed10 : (ws : List ℕ) → Passed9 ws → (count i : ℕ) → count ≡ construct-count ws → LeastOf (Conflicting ws) (construct-count ws) i → count ≤ i → Passed10 ws
-passed10 ws p count i e l h = record { passed = p; no-conflict = no-conflicts (facts ws (p .passed .passed .laid-out)) (none-below ws (Conflicting ws) count i e l h) }
+  pub passed10 : Passed9 ws → (count i : ℕ) → count ≡ construct-count ws → ((j : ℕ) → j < i → Conflicting ws j → ⊥) → count ≤ i → Passed10 ws
+  passed10 p count i e l h = record { passed = p; no-conflict = no-conflicts (facts ws (p .passed .passed .laid-out)) (λ j k. l j (omega arith)) }

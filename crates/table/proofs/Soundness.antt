@@ -6,7 +6,6 @@ use mathlib.Core.Bool.{Bool, false, false≢true}
 use mathlib.Core.List.{List}
 use native.Mathlib.Omega.{arith}
 use Rattle.lookahead.specs.Sets.{Decides}
-use Rattle.theory.specs.Lookahead.{EmptyBody}
 use Rattle.theory.specs.Weight.{Weighs}
 use Rattle.layout.specs.Places.{construct-count, weight-of}
 use Rattle.layout.specs.Held.{Context, held, opening}
@@ -14,8 +13,8 @@ use Rattle.structure.proofs.Facts.{facts}
 use Rattle.scoping.proofs.RuledLaw.{ruled}
 use Rattle.weights.proofs.Heights.{weight-at}
 use Rattle.weights.proofs.Theorems.{weights-exist}
-use Rattle.table.specs.Judged.{Oversized, Passed7, Judged}
-use Rattle.table.specs.Computed.{is-passed}
+use Rattle.conflicts.specs.Conflicts.{Conflicting}
+use Rattle.table.specs.Judged.{Least, Passed7, Passed8, Judged}
 use Rattle.table.specs.Sound.{SetsStand, Sound}
 use Rattle.table.specs.declared.Judgement.{Judgement}
 
@@ -28,27 +27,33 @@ module _ (ws : List ℕ) (p : Passed7 ws) where
   gives = weights-exist ws (ruled ws (p .laid-out)) (p .acyclic)
 
 -- a sound table is refused by nothing
-refused : (ws : List ℕ) (r : Judgement) → Judged ws r → is-passed r ≡ false → Sound ws → ⊥
-refused ws Judgement.Unlaid j e s = false≢true (sym j ∙ s .passed .passed .passed .passed .laid-out)
-refused ws (Judgement.Recursive rule) j e s = s .passed .passed .passed .passed .acyclic rule (j .1)
-refused ws (Judgement.Oversized construct) j e s = s .passed .passed .passed .sized construct (j .1 .there) (j .1 .holds)
-refused ws (Judgement.EmptyBody construct) j e s = s .passed .passed .no-empty-body construct (j .1 .holds)
-refused ws (Judgement.Conflict construct clash) j e s = s .passed .no-conflict construct (j .1 .holds)
-refused ws Judgement.Overweight j e s =
-    let p = s .passed .passed .passed .passed in
-    let a : 65535 < weight-at ws opening = j .1 (weight-of-all ws p) (gives ws p) in
-    let b : weight-at ws opening ≡ weight-of ws = s .weight (weight-of-all ws p) (gives ws p) in
-    omega (arith, facts ws (p .laid-out) .counts .weight)
-refused ws (Judgement.Passes weight) j e s = false≢true (sym e)
+module _ (ws : List ℕ) where
+  unsound : (Sound ws → ⊥) → Decides false (Sound ws)
+  unsound n = ((λ t. absurd (false≢true t)), (λ s. absurd (n s)))
 
-pub unsound : (ws : List ℕ) (r : Judgement) → Judged ws r → is-passed r ≡ false → Decides false (Sound ws)
-unsound ws r j e = ((λ t. absurd (false≢true t)), (λ s. absurd (refused ws r j e s)))
+  pub unformed : (r : Bool) → r ≡ false → Decides r (Passed8 ws) → Decides false (Sound ws)
+  unformed r e d = unsound (λ s. false≢true (sym e ∙ d .1 (s .passed .passed .passed)))
+
+  pub empty-body : (i : ℕ) → Judged ws (Judgement.EmptyBody i) → Decides false (Sound ws)
+  empty-body i j = unsound (λ s. s .passed .passed .no-empty-body i (j .1 .holds))
+
+  pub conflict : (i : ℕ) → Least ws (Conflicting ws) i → Decides false (Sound ws)
+  conflict i l = unsound (λ s. s .passed .no-conflict i (l .holds))
+
+  pub overweight : Judged ws Judgement.Overweight → Decides false (Sound ws)
+  overweight j =
+      unsound
+      (λ s.
+      let p = s .passed .passed .passed .passed in
+      let a : 65535 < weight-at ws opening = j .1 (weight-of-all ws p) (gives ws p) in
+      let b : weight-at ws opening ≡ weight-of ws = s .weight (weight-of-all ws p) (gives ws p) in
+      omega (arith, facts ws (p .laid-out) .counts .weight))
 
 module _ (ws : List ℕ) (weight : ℕ) (j : Judged ws (Judgement.Passes weight)) where
   pub other-weight : (weight ≡ weight-of ws → ⊥) → Decides false (Sound ws)
   other-weight n =
       let p = j .0 .passed .passed .passed in
-      ((λ t. absurd (false≢true t)), (λ s. absurd (n (sym (j .1 (weight-of-all ws p) (gives ws p)) ∙ s .weight (weight-of-all ws p) (gives ws p)))))
+      unsound ws (λ s. n (sym (j .1 (weight-of-all ws p) (gives ws p)) ∙ s .weight (weight-of-all ws p) (gives ws p)))
 
   pub sound-iff : weight ≡ weight-of ws → (r : Bool) → Decides r ((i : ℕ) → i < construct-count ws → SetsStand ws i) → Decides r (Sound ws)
   sound-iff e r d = ((λ t. record { passed = j .0; weight = λ f k. j .1 f k ∙ e; sets = d .0 t }), (λ s. d .1 (s .sets)))

@@ -2,23 +2,20 @@
 -- Assumes nothing.
 use Prim.Native.Nat.{ℕ, _≤_, _<_}
 use mathlib.Core.Path.{_≡_}
-use mathlib.Core.Bool.{true, false}
+use mathlib.Core.Bool.{true}
 use mathlib.Core.List.{List}
 use Rattle.theory.specs.Lookahead.{EmptyBody}
 use Rattle.theory.specs.Weight.{Weighs}
 use Rattle.layout.specs.Places.{construct-count}
 use Rattle.layout.specs.Held.{Context, first-context, held, opening}
 use Rattle.form.specs.Laid.{laid}
-use Rattle.rules.specs.Reaching.{Reaches, Acyclic}
+use Rattle.rules.specs.Reaching.{Acyclic}
 use Rattle.measures.specs.Measures.{oversized}
 use Rattle.conflicts.specs.Conflicts.{Conflicting, Answered}
 use Rattle.table.specs.declared.Judgement.{Judgement}
 
--- this paper's number; 0 is none. Words that are not laid out are no table: "table not sound"
+-- this paper's number; 0 is none
 abbrev pub number-of : Judgement → ℕ
-number-of Judgement.Unlaid = 23
-number-of (Judgement.Recursive rule) = 7
-number-of (Judgement.Oversized construct) = 8
 number-of (Judgement.EmptyBody construct) = 9
 number-of (Judgement.Conflict construct clash) = 10
 number-of Judgement.Overweight = 11
@@ -63,12 +60,8 @@ module _ (ws : List ℕ) where
     pub passed : Passed9
     pub no-conflict : None (Conflicting ws)
 
-  -- the first of 5 to 11 that is given, or the weight
+  -- the first of 9 to 11 that is given, or the weight
   abbrev pub Judged : Judgement → Type 0
-  Judged Judgement.Unlaid = laid ws ≡ false
-  -- 7: "rule reaches itself", "first such rule"
-  Judged (Judgement.Recursive rule) = (laid ws ≡ true) × Reaches ws rule rule × ((q : ℕ) → q < rule → Reaches ws q q → ⊥)
-  Judged (Judgement.Oversized construct) = Passed7 × Least ws (Oversized ws) construct
   -- 9: "repeated body has the empty first window"
   Judged (Judgement.EmptyBody construct) = Passed8 × Least ws (EmptyBody (held ws)) construct
   -- 10: "clash; the answer carries the least common window"

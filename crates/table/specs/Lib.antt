@@ -1,3 +1,3 @@
 pub mod Judged
-pub mod Computed
+pub mod Clashing
 pub mod Sound

@@ -8,7 +8,8 @@ ghost use Rattle.layout.specs.Places.{construct-count};
 ghost use Rattle.sets.specs.Sets.{FollowSets, PredictionSets};
 ghost use Rattle.table.specs.Sound.{Sound, SoundTable, SetsStand};
 use crate::Judgement;
-use crate::judge_into;
+use crate::formed;
+use crate::judge;
 use layout::word;
 use lookahead_slices::family;
 use lookahead_slices::narrow;
@@ -45,13 +46,13 @@ fn all_stand(table: &[u32], follow: &[u64], prediction: &[u64]) -> bool
 fn sound_words(table: &[u32]) -> bool
     ensures { λ r. ⌜ Decides r (Sound (now (table .entry))) ⌝ }
 {
+    if !formed(table) {
+        return false;
+    }
     let mut first = [0u64; 2056];
     let mut follow = [0u64; 2056];
     let mut prediction = [0u64; 2056];
-    match judge_into(table, &mut first, &mut follow, &mut prediction) {
-        Judgement::Unlaid => false,
-        Judgement::Recursive { rule: _ } => false,
-        Judgement::Oversized { construct: _ } => false,
+    match judge(table, &mut first, &mut follow, &mut prediction) {
         Judgement::EmptyBody { construct: _ } => false,
         Judgement::Conflict {
             construct: _,

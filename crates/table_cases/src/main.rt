@@ -2,6 +2,7 @@
 // the table is still sound.
 use conflicts::Clash;
 use libc::STDOUT_FILENO;
+use rules::Recursion;
 use table::Judgement;
 
 fn text(bytes: &[u8]) {
@@ -31,9 +32,6 @@ fn show_clash(clash: Clash) {
 
 fn show_judgement(judgement: Judgement) {
     match judgement {
-        Judgement::Unlaid => text(b" not laid out"),
-        Judgement::Recursive { rule } => number(b" 7 at rule ", rule),
-        Judgement::Oversized { construct } => number(b" 8 at construct ", construct),
         Judgement::EmptyBody { construct } => number(b" 9 at construct ", construct),
         Judgement::Conflict { construct, clash } => {
             number(b" 10 at construct ", construct);
@@ -41,6 +39,27 @@ fn show_judgement(judgement: Judgement) {
         }
         Judgement::Overweight => text(b" 11"),
         Judgement::Passes { weight } => number(b" weight ", weight),
+    }
+}
+
+// What is wrong with words that do not pass 5 to 8.
+fn show_form(table: &[u32; 16384]) {
+    if form::laid(&table[..]) {
+        match rules::recursive_rule(&table[..]) {
+            Recursion::Rule(rule) => number(b" 7 at rule ", rule),
+            Recursion::None => number(b" 8 at construct ", measures::first_oversized(&table[..])),
+        }
+    } else {
+        text(b" not laid out");
+    }
+}
+
+fn judge(table: &mut [u32; 16384]) {
+    let mut first = [0u64; 2056];
+    if table::formed(&table[..]) {
+        show_judgement(completion::complete(&mut table[..], &mut first));
+    } else {
+        show_form(table);
     }
 }
 
@@ -78,7 +97,7 @@ fn changes(table: &mut [u32; 16384]) -> usize {
 
 fn show(name: &[u8], table: &mut [u32; 16384]) {
     text(name);
-    show_judgement(completion::complete(&mut table[..]));
+    judge(table);
     if table::sound::sound(&table[..]) {
         number(b"; sound, and still with ", changes(table));
         text(b" of 16384 words one more");

@@ -39,10 +39,14 @@ fn number(rules: &[u8], at: usize) {
 fn literal(rules: &[u8], at: usize) {
     text(b"literal");
     if at < rules.len() {
+        let mut bytes = [0u8; 32];
+        literals::spell(rules, at, &mut bytes);
         let n = literals::count_at(rules, at);
-        for k in 0..n {
-            text(b" ");
-            natural(literals::character_at(rules, at, k) as u64);
+        for k in 0..32 {
+            if k < n {
+                text(b" ");
+                natural(bytes[k] as u64);
+            }
         }
     }
 }

@@ -1,34 +1,88 @@
-use Rattle.admission.proofs.Judging.{laid-for, mark-within, late}
+use mathlib.Core.Path.{subst}
+use Rattle.table.specs.Judged.{Judged}
+use Rattle.completion.specs.Completed.{Completed}
+use Rattle.admission.proofs.Judging.{kept, mark-within, late-body, late-conflict, late-weight, late-pass}
 use borrow.Author.Needs.{needs}
 use Rattle.admission.proofs.judged.Statement.{statement}
 use Rattle.admission.proofs.judged.Tie as tie
-use Rattle.admission.proofs.judged.Reads as reads
-use Rattle.admission.proofs.judged.Lts as lts
-use Rattle.admission.proofs.answer_for.Reads as answer-for-reads
-use Rattle.admission.proofs.mark_for.Reads as mark-for-reads
-use Rattle.completion.proofs.complete.Reads as complete-reads
 
--- src/lib.rt:111:9
+slice-aggregate-complete : tie.Need-slice-aggregate-complete
+slice-aggregate-complete c = search needs
+
 complete-requires : tie.Need-complete-requires
 complete-requires c κs = search needs
 
--- src/lib.rt:112:9
-mark-for-requires : tie.Need-mark-for-requires
-mark-for-requires c κs = (laid-for (c .before .before .before .before .before .before .before .before .args .nodes .now) (c .before .before .before .before .before .before .before .before .args .rules .now) (c .before .before .before .before .before .before .before .before .args .words .now) _ (c .before .before .before .before .before .before .before .before .args .base) (c .before .before .before .before .before .before .before .before .pre .0) (c .before .before .before .complete .result) (c .before .before .before .complete .ensures .1), c .before .before .before .before .before .before .before .before .pre .1)
+enum-told : tie.Need-enum-told
+enum-told c = search needs
 
--- src/lib.rt:113:5
-answer-for-requires : tie.Need-answer-for-requires
-answer-for-requires c κs = (c .before .before .before .before .before .before .before .before .before .pre .1, c .before .before .before .before .before .before .before .before .before .pre .2, c .before .before .before .before .before .before .before .before .before .pre .3, mark-within (c .before .before .before .before .before .before .before .before .before .args .nodes .now) (c .before .before .before .before .before .before .before .before .before .args .rules .now) (c .before .before .before .before .before .before .before .before .before .args .words .now) _ (c .before .before .before .before .before .before .before .before .before .args .base) (c .before .before .before .before .before .before .before .before .before .pre .0) (c .before .before .before .before .before .before .before .before .before .pre .4) (c .before .before .before .before .complete .result) (c .mark-for .result) (c .before .before .before .before .complete .ensures .0) (c .before .before .before .before .complete .ensures .1) (c .mark-for .ensures), c .before .before .before .before .before .before .before .before .before .pre .4)
+slice-aggregate-least-mark : tie.Need-slice-aggregate-least-mark
+slice-aggregate-least-mark c = search needs
 
--- src/lib.rt:107:1
+least-mark-requires : tie.Need-least-mark-requires
+least-mark-requires c κs = let s = c .before .before .before .before .before .before .before .before .before .before .before .before .before in let ns = s .args .nodes .now in let rs = s .args .rules .now in let old = s .args .words .now in let k = c .before .before .before .before .before .before .before .complete in let new = k .last .0 in let t = c .before .before .enum-told .given .1 in let q = kept ns rs old new (s .args .base) (k .last .1 .0) (s .pre .0 .passed .laid-out) (k .ensures .0 .1) (subst (Completed old new) t (k .ensures .1)) in (q .0, k .kept .1 .0, q .1, s .pre .1)
+
+refused-requires : tie.Need-refused-requires
+refused-requires c κs = let s = c .before .before .before .before .before .before .before .before .before .before .before .before .before .before in let ns = s .args .nodes .now in let rs = s .args .rules .now in let old = s .args .words .now in let k = c .before .before .before .before .before .before .before .before .complete in let new = k .last .0 in let t = c .before .before .before .enum-told .given .1 in (s .pre .3, mark-within ns rs old new (s .args .base) _ (c .least-mark .result) (subst (Judged old) t (k .ensures .0 .0)) (subst (Completed old new) t (k .ensures .1)) (c .least-mark .ensures) (s .pre .4))
+
+enum-known-construct : tie.Need-enum-known-construct
+enum-known-construct c = search needs
+
+conflict-requires : tie.Need-conflict-requires
+conflict-requires c κs = search needs
+
+enum-told-2 : tie.Need-enum-told-2
+enum-told-2 c = search needs
+
+refused-at-requires : tie.Need-refused-at-requires
+refused-at-requires c κs = search needs
+
+enum-known-weight : tie.Need-enum-known-weight
+enum-known-weight c = search needs
+
 same-length : tie.Need-same-length
 same-length c = search needs
 
--- src/lib.rt:107:1
 returns : tie.Need-returns
-returns c = late (c .before .before .before .before .before .before .before .before .before .before .args .nodes .now) (c .before .before .before .before .before .before .before .before .before .before .args .rules .now) (c .before .before .before .before .before .before .before .before .before .before .args .words .now) _ (c .before .before .before .before .before .before .before .before .before .before .args .base) (c .before .before .before .before .before .before .before .before .before .before .pre .0) (c .before .before .before .before .before .complete .result) (c .before .mark-for .result) (c .answer-for .result) (c .before .before .before .before .before .complete .ensures .0) (c .before .before .before .before .before .complete .ensures .1) (c .before .mark-for .ensures) (c .answer-for .ensures)
+returns c = let s = c .before .before .before .before .before .before .before .before .before .before .before .before .before .before .before in let ns = s .args .nodes .now in let rs = s .args .rules .now in let old = s .args .words .now in let k = c .before .before .before .before .before .before .before .before .before .complete in let new = k .last .0 in let t = c .before .before .before .before .enum-told .given .1 in late-body ns rs old new (s .args .base) _ (c .before .least-mark .result) (subst (Judged old) t (k .ensures .0 .0)) (subst (Completed old new) t (k .ensures .1)) (c .before .least-mark .ensures) (c .refused .result) (c .refused .ensures)
+
+same-length-2 : tie.Need-same-length-2
+same-length-2 c = search needs
+
+returns-2 : tie.Need-returns-2
+returns-2 c = let s = c .before .before .before .before .before .before .before .before .before .before .before .before .before in let ns = s .args .nodes .now in let rs = s .args .rules .now in let old = s .args .words .now in let k = c .before .before .before .before .before .before .before .complete in let new = k .last .0 in let t = c .before .before .construct .given .1 in late-conflict ns rs old new (s .args .base) _ _ (subst (Judged old) t (k .ensures .0 .0)) (c .conflict .result) (c .conflict .ensures)
+
+same-length-3 : tie.Need-same-length-3
+same-length-3 c = search needs
+
+returns-3 : tie.Need-returns-3
+returns-3 c = let s = c .before .before .before .before .before .before .before .before .before .before .before .before in let ns = s .args .nodes .now in let rs = s .args .rules .now in let old = s .args .words .now in let k = c .before .before .before .before .before .before .complete in let new = k .last .0 in let t = c .before .enum-told2 .given .1 in late-weight ns rs old new (s .args .base) (subst (Judged old) t (k .ensures .0 .0)) (c .refused-at .result) (c .refused-at .ensures)
+
+same-length-4 : tie.Need-same-length-4
+same-length-4 c = search needs
+
+returns-4 : tie.Need-returns-4
+returns-4 c = let s = c .before .before .before .before .before .before .before .before .before .before .before .before in let ns = s .args .nodes .now in let rs = s .args .rules .now in let old = s .args .words .now in let k = c .before .before .before .before .before .before .complete in let new = k .last .0 in let t = c .before .weight .given .1 in late-pass ns rs old new (s .args .base) _ (subst (Judged old) t (k .ensures .0 .0)) (subst (Completed old new) t (k .ensures .1))
 
 pub judged-spec : {M : Type 1} → statement M
 judged-spec =
     tie.close
-    (tie.spec complete-requires mark-for-requires answer-for-requires same-length returns)
+    (tie.spec
+    slice-aggregate-complete
+    complete-requires
+    enum-told
+    slice-aggregate-least-mark
+    least-mark-requires
+    refused-requires
+    enum-known-construct
+    conflict-requires
+    enum-told-2
+    refused-at-requires
+    enum-known-weight
+    same-length
+    returns
+    same-length-2
+    returns-2
+    same-length-3
+    returns-3
+    same-length-4
+    returns-4)

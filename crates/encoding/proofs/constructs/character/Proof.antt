@@ -1,20 +1,26 @@
+use mathlib.Core.Path.{_∙_}
 use native.Mathlib.Omega.{arith}
+use Rattle.literals.proofs.Spelling.{zeros}
 use borrow.Author.Needs.{needs}
-use Rattle.encoding.proofs.Past.{characters-past}
 use Rattle.encoding.proofs.constructs.character.Statement.{statement}
 use Rattle.encoding.proofs.constructs.character.Tie as tie
 
-character-at-requires : tie.Need-character-at-requires
-character-at-requires c κs = search needs
+slice-aggregate-spelled : tie.Need-slice-aggregate-spelled
+slice-aggregate-spelled c = search needs
 
-cast-result : tie.Need-cast-result
-cast-result c = search needs
+spelled-requires : tie.Need-spelled-requires
+spelled-requires c κs = (search needs, zeros 32)
+
+slice-aggregate-byte : tie.Need-slice-aggregate-byte
+slice-aggregate-byte c = search needs
+
+byte-requires : tie.Need-byte-requires
+byte-requires c κs = search needs
 
 returns : tie.Need-returns
-returns c = search needs
-
-returns-2 : tie.Need-returns-2
-returns-2 c = (simp (characters-past (c .before .before .args .text .now) (c .before .before .args .p) (c .if1 .left)), omega arith)
+returns c = c .byte .ensures .0 ∙ c .before .before .before .spelled .ensures 0 (omega arith)
 
 pub character-spec : {M : Type 1} → statement M
-character-spec = tie.close (tie.spec character-at-requires cast-result returns returns-2)
+character-spec =
+    tie.close
+    (tie.spec slice-aggregate-spelled spelled-requires slice-aggregate-byte byte-requires returns)

@@ -1,9 +1,12 @@
 use Prim.Native.Nat.{_+_, _*_}
-use mathlib.Core.Path.{refl}
+use mathlib.Core.Path.{refl, ap, _∙_}
 use mathlib.Core.List.{[], _∷_}
 use borrow.Author.Tests.{eq-eqb, ne-eqb}
+use Rattle.literals.specs.Literals.{characters-at}
+use Rattle.encoding.specs.Lists.{written}
+use Rattle.encoding.proofs.Writing.{written-next, bytes-same}
+use Rattle.literals.proofs.Spelling.{zeros}
 use borrow.Author.Needs.{needs}
-use Rattle.encoding.proofs.Writing.{written-next}
 use Rattle.encoding.proofs.constructs.literal.Statement.{statement}
 use Rattle.encoding.proofs.constructs.literal.Tie as tie
 
@@ -19,14 +22,23 @@ node-word-requires c κs = search needs
 node-word-requires-2 : tie.Need-node-word-requires-2
 node-word-requires-2 c κs = search needs
 
-bytes-requires : tie.Need-bytes-requires
-bytes-requires c κs = search needs
+slice-aggregate-spelled : tie.Need-slice-aggregate-spelled
+slice-aggregate-spelled c = search needs
+
+spelled-requires : tie.Need-spelled-requires
+spelled-requires c κs = (search needs, zeros 32)
+
+slice-aggregate-put-bytes : tie.Need-slice-aggregate-put-bytes
+slice-aggregate-put-bytes c = search needs
+
+put-bytes-requires : tie.Need-put-bytes-requires
+put-bytes-requires c κs = search needs
 
 same-length : tie.Need-same-length
 same-length c = search needs
 
 returns : tie.Need-returns
-returns c = simp (← c .before .before .before .before .before .before .node-word .ensures, eq-eqb _ _ (c .before .before .before .before .before .if1 .taken), c .before .before .bytes .ensures, c .before .before .before .before .node-word2 .ensures)
+returns c = let s = c .before .before .before .before .before .before .before .before .before .before .before .before .before .before in let e = c .before .before .before .before .before .before .spelled in simp (← c .before .before .before .before .before .before .before .before .before .before .node-word .ensures, eq-eqb _ _ (c .before .before .before .before .before .before .before .before .before .if1 .taken), ← c .before .before .before .before .before .before .before .before .node-word2 .ensures) (c .before .before .put-bytes .ensures ∙ ap (written (s .args .table .now) (5696 + 8 * s .args .i)) (bytes-same (e .last .1 .1 .0) (characters-at (s .args .text .now) (c .before .before .before .before .before .before .before .before .node-word2 .result)) (e .ensures)))
 
 put-four-requires : tie.Need-put-four-requires
 put-four-requires c κs = search needs
@@ -51,7 +63,10 @@ literal-spec =
     add-k
     node-word-requires
     node-word-requires-2
-    bytes-requires
+    slice-aggregate-spelled
+    spelled-requires
+    slice-aggregate-put-bytes
+    put-bytes-requires
     same-length
     returns
     put-four-requires

@@ -75,7 +75,7 @@ same-length-4 : tie.Need-same-length-4
 same-length-4 c = search needs
 
 returns-4 : tie.Need-returns-4
-returns-4 c = simp (← c .before .before .before .before .before .before .before .before .before .before .before .before .before .node-word .ensures, ne-eqb _ _ (c .before .before .before .before .before .before .before .before .before .before .if1 .left), ne-eqb _ _ (c .before .before .before .before .before .before .before .before .before .if2 .left), ne-eqb _ _ (c .before .before .before .before .before .before .before .before .if3 .left), eq-eqb _ _ (c .before .before .before .before .before .before .before .if4 .taken), c .before .before .put-four4 .ensures, c .before .before .before .character2 .ensures .0, c .before .before .before .before .node-word4 .ensures, c .before .before .before .before .before .character .ensures .0, c .before .before .before .before .before .before .before .before .before .before .before .before .node-word2 .ensures)
+returns-4 c = simp (← c .before .before .before .before .before .before .before .before .before .before .before .before .before .node-word .ensures, ne-eqb _ _ (c .before .before .before .before .before .before .before .before .before .before .if1 .left), ne-eqb _ _ (c .before .before .before .before .before .before .before .before .before .if2 .left), ne-eqb _ _ (c .before .before .before .before .before .before .before .before .if3 .left), eq-eqb _ _ (c .before .before .before .before .before .before .before .if4 .taken), c .before .before .put-four4 .ensures, c .before .before .before .character2 .ensures, c .before .before .before .before .node-word4 .ensures, c .before .before .before .before .before .character .ensures, c .before .before .before .before .before .before .before .before .before .before .before .before .node-word2 .ensures)
 
 width-requires : tie.Need-width-requires
 width-requires c κs = search needs

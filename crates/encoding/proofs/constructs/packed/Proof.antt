@@ -4,17 +4,17 @@ use borrow.Author.Needs.{needs}
 use Rattle.encoding.proofs.constructs.packed.Statement.{statement}
 use Rattle.encoding.proofs.constructs.packed.Tie as tie
 
-add-character : tie.Need-add-character
-add-character c = search needs
+add-byte : tie.Need-add-byte
+add-byte c = search needs
 
-character-requires : tie.Need-character-requires
-character-requires c κs = search needs
+byte-requires : tie.Need-byte-requires
+byte-requires c κs = search needs
 
-add-character-2 : tie.Need-add-character-2
-add-character-2 c = search needs
+add-byte-2 : tie.Need-add-byte-2
+add-byte-2 c = search needs
 
-character-requires-2 : tie.Need-character-requires-2
-character-requires-2 c κs = search needs
+byte-requires-2 : tie.Need-byte-requires-2
+byte-requires-2 c κs = search needs
 
 mul-c : tie.Need-mul-c
 mul-c c = search needs
@@ -22,11 +22,11 @@ mul-c c = search needs
 add-c : tie.Need-add-c
 add-c c = search needs
 
-add-character-3 : tie.Need-add-character-3
-add-character-3 c = search needs
+add-byte-3 : tie.Need-add-byte-3
+add-byte-3 c = search needs
 
-character-requires-3 : tie.Need-character-requires-3
-character-requires-3 c κs = search needs
+byte-requires-3 : tie.Need-byte-requires-3
+byte-requires-3 c κs = search needs
 
 mul-b : tie.Need-mul-b
 mul-b c = search needs
@@ -34,8 +34,8 @@ mul-b c = search needs
 add-b : tie.Need-add-b
 add-b c = search needs
 
-character-requires-4 : tie.Need-character-requires-4
-character-requires-4 c κs = search needs
+byte-requires-4 : tie.Need-byte-requires-4
+byte-requires-4 c κs = search needs
 
 mul-result : tie.Need-mul-result
 mul-result c = search needs
@@ -50,17 +50,17 @@ pub packed-spec : {M : Type 1} → statement M
 packed-spec =
     tie.close
     (tie.spec
-    add-character
-    character-requires
-    add-character-2
-    character-requires-2
+    add-byte
+    byte-requires
+    add-byte-2
+    byte-requires-2
     mul-c
     add-c
-    add-character-3
-    character-requires-3
+    add-byte-3
+    byte-requires-3
     mul-b
     add-b
-    character-requires-4
+    byte-requires-4
     mul-result
     add-result
     returns)

@@ -3,18 +3,17 @@ use mathlib.Core.Path.{refl, ap, _∙_}
 use mathlib.Core.List.{[], _∷_}
 use native.Mathlib.Omega.{arith}
 use borrow.Author.Needs.{needs}
-use Rattle.literals.specs.Literals.{characters-at}
 use Rattle.encoding.specs.Lists.{written}
 use Rattle.encoding.specs.Encoded.{packed}
 use Rattle.encoding.proofs.Writing.{Writing, writing-start, writing-turn, writing-end, one-less}
-use Rattle.encoding.proofs.constructs.bytes.Statement.{statement}
-use Rattle.encoding.proofs.constructs.bytes.Tie as tie
+use Rattle.encoding.proofs.constructs.put_bytes.Statement.{statement}
+use Rattle.encoding.proofs.constructs.put_bytes.Tie as tie
 
 abbrev Inv-loop : tie.InvT-loop
-Inv-loop text p k table₀ j₀ table j = (j ≤ 8) × Writing table₀ k 8 0 (λ (m : ℕ). packed (characters-at text p) (4 * m) ∷ []) table (k + j) (8 - j) j
+Inv-loop bytes k table₀ j₀ table j = (j ≤ 8) × Writing table₀ k 8 0 (λ (m : ℕ). packed bytes (4 * m) ∷ []) table (k + j) (8 - j) j
 
 abbrev μ-loop : tie.MeasureT-loop
-μ-loop text p k table₀ j₀ table j = 8 - j
+μ-loop bytes k table₀ j₀ table j = 8 - j
 
 loop-holds : tie.Need-loop-holds Inv-loop μ-loop
 loop-holds c = ((let z : 0 ≤ 8 = omega arith in z), writing-start (omega arith) refl refl)
@@ -26,7 +25,7 @@ mul-packed : tie.Need-mul-packed Inv-loop μ-loop
 mul-packed c = omega arith
 
 packed-requires : tie.Need-packed-requires Inv-loop μ-loop
-packed-requires c κs = omega arith
+packed-requires c κs = (c .before .before .before .before .before .pre .0, omega (arith, c .before .loop-test .taken))
 
 put-one-requires : tie.Need-put-one-requires Inv-loop μ-loop
 put-one-requires c κs = search needs
@@ -46,8 +45,8 @@ same-length c = c .before .loop .inv .1 .same
 returns : tie.Need-returns Inv-loop μ-loop
 returns c = writing-end (c .before .loop .inv .1) (omega arith)
 
-pub bytes-spec : {M : Type 1} → statement M
-bytes-spec =
+pub put-bytes-spec : {M : Type 1} → statement M
+put-bytes-spec =
     tie.close
     (tie.spec
     Inv-loop
