@@ -35,6 +35,11 @@ fn number(rules: &[u8], at: usize) {
     }
 }
 
+fn character(c: u8) {
+    text(b" ");
+    natural(c as u64);
+}
+
 // A literal with its characters.
 fn literal(rules: &[u8], at: usize) {
     text(b"literal");
@@ -44,8 +49,7 @@ fn literal(rules: &[u8], at: usize) {
         let n = literals::count_at(rules, at);
         for k in 0..32 {
             if k < n {
-                text(b" ");
-                natural(bytes[k] as u64);
+                character(bytes[k]);
             }
         }
     }

@@ -6,10 +6,10 @@ use Rattle.text_cases.proofs.literal.Statement.{statement}
 use Rattle.text_cases.proofs.literal.Tie as tie
 
 abbrev Inv-loop : tie.InvT-loop
-Inv-loop rules at bytes n k₀ t7 k = Unit
+Inv-loop rules at bytes n k₀ k = Unit
 
 abbrev μ-loop : tie.MeasureT-loop
-μ-loop rules at bytes n k₀ t7 k = 32 - k
+μ-loop rules at bytes n k₀ k = 32 - k
 
 slice-aggregate-text : tie.Need-slice-aggregate-text Inv-loop μ-loop
 slice-aggregate-text c = search needs
@@ -29,20 +29,11 @@ count-at-requires c κs = search needs
 loop-holds : tie.Need-loop-holds Inv-loop μ-loop
 loop-holds c = tt
 
-slice-aggregate-text-2 : tie.Need-slice-aggregate-text-2 Inv-loop μ-loop
-slice-aggregate-text-2 c = search needs
+array-read-character : tie.Need-array-read-character Inv-loop μ-loop
+array-read-character c = search needs
 
-text-requires-2 : tie.Need-text-requires-2 Inv-loop μ-loop
-text-requires-2 c κs = search needs
-
-array-read-natural : tie.Need-array-read-natural Inv-loop μ-loop
-array-read-natural c = search needs
-
-cast-natural : tie.Need-cast-natural Inv-loop μ-loop
-cast-natural c = search needs
-
-natural-requires : tie.Need-natural-requires Inv-loop μ-loop
-natural-requires c κs = search needs
+character-requires : tie.Need-character-requires Inv-loop μ-loop
+character-requires c κs = search needs
 
 add-k : tie.Need-add-k Inv-loop μ-loop
 add-k c = omega arith
@@ -71,11 +62,8 @@ literal-spec =
     spell-requires
     count-at-requires
     loop-holds
-    slice-aggregate-text-2
-    text-requires-2
-    array-read-natural
-    cast-natural
-    natural-requires
+    array-read-character
+    character-requires
     add-k
     loop-less
     loop-again
