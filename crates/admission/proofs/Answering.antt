@@ -6,11 +6,11 @@ use mathlib.Core.List.{List}
 use native.Mathlib.Omega.{arith}
 use lib.ListN.{length}
 use Rattle.theory.specs.Lookahead.{EmptyBody}
-use Rattle.layout.specs.Places.{construct-count}
-use Rattle.layout.specs.Held.{held}
-use Rattle.table.specs.Sound.{Sound}
-use Rattle.soundness.specs.OneTable.{Alike}
-use Rattle.parsing.specs.Store.{State, node-words, rule-words, nodes-of}
+use Rattle.table_layout.specs.Places.{construct-count}
+use Rattle.table_layout.specs.Held.{held}
+use Rattle.table_judge.specs.Sound.{Sound}
+use Rattle.table_hypotheses.specs.OneTable.{Alike}
+use Rattle.text_parsing.specs.Store.{State, node-words, rule-words, nodes-of}
 use Rattle.admission.specs.Admitted.{words-of, Bounded, LeastMark, RulesRefused, by-empty-body, by-weight, AnsweredRules}
 use Rattle.admission.specs.Late.{Marks, LateRefused, empty-body, overweight, Late, HandedOver}
 use Rattle.admission.specs.declared.Admission.{Admission}

@@ -9,15 +9,15 @@ use native.Mathlib.Omega.{arith}
 use borrow.Author.Tests.{eq-eqb, eqb-true, leb-true, ltb-false}
 use lib.Dec.{leb, ltb, eqb}
 use lib.ListN.{length}
-use Rattle.sizes.specs.declared.Sized.{Sized}
-use Rattle.layout.specs.Constructs.{constructAt}
-use Rattle.measures.specs.Measures.{condition-size, own-size, exceeds, oversized}
-use Rattle.shapes.specs.NodeShapes.{tree, Holds, literal-tree, range-tree, use-tree, eod-tree, uint-tree, marked-tree, counted-tree, chain-tree, switch-tree}
-use Rattle.naming.specs.Words.{node-word, term-word, kind-of}
-use Rattle.encoding.specs.Numbers.{width-of, condition-start, own-start}
-use Rattle.laying.specs.Context.{Nodes}
-use Rattle.laying.proofs.Sums.{side}
-use Rattle.laying.proofs.Standing.{number-inside}
+use Rattle.term_sizes.specs.declared.Sized.{Sized}
+use Rattle.table_layout.specs.Constructs.{constructAt}
+use Rattle.table_sizes.specs.Measures.{condition-size, own-size, exceeds, oversized}
+use Rattle.text_shapes.specs.NodeShapes.{tree, Holds, literal-tree, range-tree, use-tree, eod-tree, uint-tree, marked-tree, counted-tree, chain-tree, switch-tree}
+use Rattle.text_names.specs.Words.{node-word, term-word, kind-of}
+use Rattle.text_encoding.specs.Numbers.{width-of, condition-start, own-start}
+use Rattle.text_wellformed.specs.Context.{Nodes}
+use Rattle.text_wellformed.proofs.Sums.{side}
+use Rattle.text_wellformed.proofs.Standing.{number-inside}
 use Rattle.admission.specs.Extents.{lesser, found-if, least-found, width-found, number-found, origin-after, list-found, node-found, refusal-8}
 use Rattle.admission.specs.declared.Found.{Found}
 
@@ -67,7 +67,7 @@ or-on true b z = refl
 or-on false b (inl z) = never (sym z)
 or-on false b (inr z) = z
 
-either-off : (a b : Bool) → a ≡ false → b ≡ false → Rattle.form.specs.Checks.either a b ≡ true → ⊥
+either-off : (a b : Bool) → a ≡ false → b ≡ false → Rattle.table_wellformed.specs.Checks.either a b ≡ true → ⊥
 either-off true b p q e = never p
 either-off false b p q e = never (sym e ∙ q)
 

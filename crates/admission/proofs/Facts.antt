@@ -7,22 +7,22 @@ use mathlib.Core.Bool.{false}
 use mathlib.Core.List.{List, [], _∷_}
 use native.Mathlib.Omega.{arith}
 use lib.ListN.{length, getD, List·getD-eq-default, length-replicate}
-use Rattle.parsing.specs.Terminals.{sights-from}
-use Rattle.parsing.specs.Store.{State, state, node-words, term-words, rule-words, nodes-of, terms-of, binders-of, rules-of}
-use Rattle.parsing.specs.Symbols.{rules}
-use Rattle.parsing.specs.Form.{right, run}
-use Rattle.syntax.specs.Rules.{form-of}
-use Rattle.shapes.specs.Placed.{Placed}
-use Rattle.shapes.proofs.Shaped.{blank, Shaped, shaped}
-use Rattle.shapes.proofs.Places.{placed}
-use Rattle.phrases.proofs.Derived.{derived}
-use Rattle.shapes.proofs.Growth.{Grows, phrases-grow}
-use Rattle.naming.specs.Words.{node-word, term-word, named-at}
-use Rattle.encoding.specs.Numbers.{condition-start}
-use Rattle.laying.proofs.LimitLaws.{limits}
-use Rattle.laying.proofs.Sums.{side}
-use Rattle.laying.proofs.StoredFacts.{quiet-of}
-use Rattle.laying.proofs.Totals.{terms-of-rules}
+use Rattle.text_parsing.specs.Terminals.{sights-from}
+use Rattle.text_parsing.specs.Store.{State, state, node-words, term-words, rule-words, nodes-of, terms-of, binders-of, rules-of}
+use Rattle.text_parsing.specs.Symbols.{rules}
+use Rattle.text_parsing.specs.Form.{right, run}
+use Rattle.text_syntax.specs.Rules.{form-of}
+use Rattle.text_shapes.specs.Placed.{Placed}
+use Rattle.text_shapes.proofs.Shaped.{blank, Shaped, shaped}
+use Rattle.text_shapes.proofs.Places.{placed}
+use Rattle.text_productions.proofs.Derived.{derived}
+use Rattle.text_shapes.proofs.Growth.{Grows, phrases-grow}
+use Rattle.text_names.specs.Words.{node-word, term-word, named-at}
+use Rattle.text_encoding.specs.Numbers.{condition-start}
+use Rattle.text_wellformed.proofs.LimitLaws.{limits}
+use Rattle.text_wellformed.proofs.Sums.{side}
+use Rattle.text_wellformed.proofs.StoredFacts.{quiet-of}
+use Rattle.text_wellformed.proofs.Totals.{terms-of-rules}
 use Rattle.admission.specs.Admitted.{Right, Limited}
 use Rattle.admission.specs.Late.{Within}
 

@@ -8,9 +8,9 @@ use native.Mathlib.Omega.{arith}
 use lib.Dec.{eqb}
 use lib.ListN.{length, take, drop, length-drop}
 use lib.Seq.{take-all}
-use Rattle.layout.specs.Places.{table-words}
-use Rattle.text.specs.Header.{in-front, lines, content, is-first-line, is-header-line, header-lines-of, first-of, header-of}
-use Rattle.text.specs.declared.Heading.{Heading}
+use Rattle.table_layout.specs.Places.{table-words}
+use Rattle.text_header.specs.Header.{in-front, lines, content, is-first-line, is-header-line, header-lines-of, first-of, header-of}
+use Rattle.text_header.specs.declared.Heading.{Heading}
 use Rattle.admission.specs.Admitted.{AnsweredRules, wrong-header, Answers, refused-early, by-rules}
 use Rattle.admission.specs.declared.Admission.{Admission}
 

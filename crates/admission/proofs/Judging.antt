@@ -7,17 +7,17 @@ use mathlib.Core.List.{List}
 use native.Mathlib.Omega.{arith}
 use lib.ListN.{length}
 use Rattle.theory.specs.Lookahead.{EmptyBody}
-use Rattle.layout.specs.Places.{construct-count}
-use Rattle.form.specs.Laid.{laid}
-use Rattle.sets.specs.Sets.{FirstSets}
-use Rattle.conflicts.specs.declared.Clash.{Clash}
-use Rattle.naming.specs.Words.{place-of, named-at}
-use Rattle.table.specs.Judged.{Passed8, Judged, Oversized}
-use Rattle.table.specs.declared.Judgement.{Judgement}
-use Rattle.completion.specs.Completed.{Completed}
-use Rattle.parsing.specs.Store.{State, state, nodes-of}
-use Rattle.laying.specs.Context.{Readable}
-use Rattle.laying.proofs.LaidOut.{words-by-place, laid-out}
+use Rattle.table_layout.specs.Places.{construct-count}
+use Rattle.table_wellformed.specs.Laid.{laid}
+use Rattle.table_first_follow.specs.Sets.{FirstSets}
+use Rattle.table_conflicts.specs.declared.Clash.{Clash}
+use Rattle.text_names.specs.Words.{place-of, named-at}
+use Rattle.table_judge.specs.Judged.{Passed8, Judged, Oversized}
+use Rattle.table_judge.specs.declared.Judgement.{Judgement}
+use Rattle.table_fill.specs.Completed.{Completed}
+use Rattle.text_parsing.specs.Store.{State, state, nodes-of}
+use Rattle.text_wellformed.specs.Context.{Readable}
+use Rattle.text_wellformed.proofs.LaidOut.{words-by-place, laid-out}
 use Rattle.admission.specs.Admitted.{words-of, Bounded}
 use Rattle.admission.specs.Late.{Marks, Late, LatePass, empty-body, overweight, Within}
 use Rattle.admission.specs.declared.Admission.{Admission}

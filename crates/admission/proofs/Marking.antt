@@ -9,9 +9,9 @@ use native.Mathlib.Omega.{arith}
 use native.Mathlib.Decide.{decLe}
 use borrow.Author.Count.{below-none, below-more}
 use Rattle.theory.specs.Lookahead.{EmptyBody}
-use Rattle.layout.specs.Held.{held}
-use Rattle.naming.specs.Counting.{nowhere, place-if}
-use Rattle.naming.specs.Words.{node-word}
+use Rattle.table_layout.specs.Held.{held}
+use Rattle.text_names.specs.Counting.{nowhere, place-if}
+use Rattle.text_names.specs.Words.{node-word}
 use Rattle.admission.specs.Late.{Marks}
 
 module _ (ns ws : List ℕ) where

@@ -7,10 +7,10 @@ use mathlib.Core.Bool.{Bool, true, false, cond, _&&_}
 use mathlib.Core.List.{List}
 use native.Mathlib.Omega.{arith}
 use lib.Dec.{eqb}
-use Rattle.naming.specs.Counting.{nowhere, place-if, least-of}
-use Rattle.naming.specs.Words.{node-word, term-word, kind-of, place-of, bound-at, is-binder, is-use, named-at, first-node, last-node}
-use Rattle.naming.specs.Limits.{limit-place, passed-in}
-use Rattle.naming.specs.Names.{rule-fault, use-fault, binder-fault, variable-fault, name-place, term-place, list-place, node-place, nodes-place, rule-place}
+use Rattle.text_names.specs.Counting.{nowhere, place-if, least-of}
+use Rattle.text_names.specs.Words.{node-word, term-word, kind-of, place-of, bound-at, is-binder, is-use, named-at, first-node, last-node}
+use Rattle.text_names.specs.Limits.{limit-place, passed-in}
+use Rattle.text_names.specs.Names.{rule-fault, use-fault, binder-fault, variable-fault, name-place, term-place, list-place, node-place, nodes-place, rule-place}
 use Rattle.admission.specs.Late.{Within}
 
 abbrev pub Spot : ℕ → Type 0
@@ -38,7 +38,7 @@ module _ (xs ns ts rs : List ℕ) (r : ℕ) (w : Within ns rs) (terms : (t : ℕ
   limit-spot : (k : ℕ) → Spot (limit-place rs k)
   limit-spot k = spot-if (passed-in rs k) (named-at rs k) (w .rules k)
 
-  pub limits-spot : Spot (Rattle.naming.specs.Limits.refusal-5 rs r)
+  pub limits-spot : Spot (Rattle.text_names.specs.Limits.refusal-5 rs r)
   limits-spot = least-spot (r - 0) 0 (limit-place rs) limit-spot
 
   name-spot : (a e i : ℕ) → Spot (name-place xs ns rs r a e i)
@@ -60,7 +60,7 @@ module _ (xs ns ts rs : List ℕ) (r : ℕ) (w : Within ns rs) (terms : (t : ℕ
       both-spots (place-if (rule-fault xs rs k) (named-at rs k)) (nodes-place xs ns ts rs r (first-node rs k) (last-node rs k)) (spot-if (rule-fault xs rs k) (named-at rs k) (w .rules k))
       (least-spot (last-node rs k - first-node rs k) (first-node rs k) (node-place xs ns ts rs r (first-node rs k) (last-node rs k)) (node-spot (first-node rs k) (last-node rs k)))
 
-  pub names-spot : Spot (Rattle.naming.specs.Names.refusal-6 xs ns ts rs r)
+  pub names-spot : Spot (Rattle.text_names.specs.Names.refusal-6 xs ns ts rs r)
   names-spot = least-spot (r - 0) 0 (rule-place xs ns ts rs r) rule-spot
 
 pub some-spot : (p : ℕ) → Spot p → p < nowhere → p ≤ 8192

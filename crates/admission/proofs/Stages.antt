@@ -9,21 +9,21 @@ use native.Mathlib.Omega.{arith}
 use borrow.Author.Tests.{eq-eqb, ne-eqb}
 use lib.Dec.{eqb}
 use lib.ListN.{length, length-replicate}
-use Rattle.rules.specs.Reaching.{Found}
-use Rattle.rules.specs.declared.Recursion.{Recursion}
-use Rattle.table.specs.Judged.{Passed8}
-use Rattle.parsing.specs.Store.{State, node-words, term-words, rule-words, nodes-of, terms-of, rules-of}
-use Rattle.parsing.specs.Form.{refused}
-use Rattle.parsing.specs.Cursors.{state-at}
-use Rattle.parsing.specs.declared.Cursor.{Cursor}
-use Rattle.syntax.specs.Rules.{form-of, outcome-of}
-use Rattle.shapes.proofs.Places.{refused-inside}
-use Rattle.naming.specs.Counting.{nowhere}
-use Rattle.naming.specs.Words.{named-at}
-use Rattle.encoding.specs.Numbers.{condition-start}
-use Rattle.encoding.specs.Encoded.{encoded}
-use Rattle.laying.proofs.Areas.{written-length}
-use Rattle.laying.proofs.NodeFacts.{nodes-of-rules}
+use Rattle.table_reach.specs.Reaching.{Found}
+use Rattle.table_reach.specs.declared.Recursion.{Recursion}
+use Rattle.table_judge.specs.Judged.{Passed8}
+use Rattle.text_parsing.specs.Store.{State, node-words, term-words, rule-words, nodes-of, terms-of, rules-of}
+use Rattle.text_parsing.specs.Form.{refused}
+use Rattle.text_parsing.specs.Cursors.{state-at}
+use Rattle.text_parsing.specs.declared.Cursor.{Cursor}
+use Rattle.text_syntax.specs.Rules.{form-of, outcome-of}
+use Rattle.text_shapes.proofs.Places.{refused-inside}
+use Rattle.text_names.specs.Counting.{nowhere}
+use Rattle.text_names.specs.Words.{named-at}
+use Rattle.text_encoding.specs.Numbers.{condition-start}
+use Rattle.text_encoding.specs.Encoded.{encoded}
+use Rattle.text_wellformed.proofs.Areas.{written-length}
+use Rattle.text_wellformed.proofs.NodeFacts.{nodes-of-rules}
 use Rattle.admission.specs.Admitted.{form, words-of, fault-5, fault-6, fault-8, Right, Limited, Named, Straight, Bounded, RulesRefused, by-limit, by-name, by-cycle}
 use Rattle.admission.specs.Late.{Within}
 use Rattle.admission.specs.declared.Found as places
@@ -50,7 +50,7 @@ module _ (xs : List ℕ) (st : State) (h : length xs ≤ 8192) where
 
   -- 5 and 6: of a fault
   module _ (b : Basics xs st) where
-    terms-placed : (t : ℕ) → Rattle.naming.specs.Words.term-word (term-words st) t 2 ≤ 8192
+    terms-placed : (t : ℕ) → Rattle.text_names.specs.Words.term-word (term-words st) t 2 ≤ 8192
     terms-placed t = term-within xs st b h t 2 (inl refl)
 
     pub place-5 : fault-5 st < nowhere → fault-5 st ≤ 8192

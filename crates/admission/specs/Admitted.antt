@@ -8,24 +8,24 @@ use mathlib.Core.List.{List}
 use mathlib.Core.Option.{Option, none, some}
 use lib.ListN.{length, drop, replicate}
 use Rattle.theory.specs.Lookahead.{EmptyBody}
-use Rattle.layout.specs.Places.{table-words, table-of}
-use Rattle.layout.specs.Held.{held}
-use Rattle.rules.specs.Reaching.{Reaches, Acyclic}
-use Rattle.conflicts.specs.Conflicts.{Conflicting, Answered}
-use Rattle.conflicts.specs.declared.Clash.{Clash}
-use Rattle.table.specs.Judged.{Passed9, Passed10, Least, Weighing}
-use Rattle.table.specs.Sound.{Sound}
-use Rattle.soundness.specs.OneTable.{Alike}
-use Rattle.text.specs.Header.{header-of}
-use Rattle.text.specs.declared.Heading.{Heading}
-use Rattle.parsing.specs.Store.{State, node-words, term-words, rule-words, nodes-of, terms-of, rules-of}
-use Rattle.parsing.specs.Form.{Outcome, right, refused}
-use Rattle.syntax.specs.Rules.{form-of}
-use Rattle.naming.specs.Counting.{nowhere}
-use Rattle.naming.specs.Words.{node-word, place-of, named-at}
-use Rattle.naming.specs.Limits.{refusal-5}
-use Rattle.naming.specs.Names.{refusal-6}
-use Rattle.encoding.specs.Encoded.{encoded}
+use Rattle.table_layout.specs.Places.{table-words, table-of}
+use Rattle.table_layout.specs.Held.{held}
+use Rattle.table_reach.specs.Reaching.{Reaches, Acyclic}
+use Rattle.table_conflicts.specs.Conflicts.{Conflicting, Answered}
+use Rattle.table_conflicts.specs.declared.Clash.{Clash}
+use Rattle.table_judge.specs.Judged.{Passed9, Passed10, Least, Weighing}
+use Rattle.table_judge.specs.Sound.{Sound}
+use Rattle.table_hypotheses.specs.OneTable.{Alike}
+use Rattle.text_header.specs.Header.{header-of}
+use Rattle.text_header.specs.declared.Heading.{Heading}
+use Rattle.text_parsing.specs.Store.{State, node-words, term-words, rule-words, nodes-of, terms-of, rules-of}
+use Rattle.text_parsing.specs.Form.{Outcome, right, refused}
+use Rattle.text_syntax.specs.Rules.{form-of}
+use Rattle.text_names.specs.Counting.{nowhere}
+use Rattle.text_names.specs.Words.{node-word, place-of, named-at}
+use Rattle.text_names.specs.Limits.{refusal-5}
+use Rattle.text_names.specs.Names.{refusal-6}
+use Rattle.text_encoding.specs.Encoded.{encoded}
 use Rattle.admission.specs.Extents.{refusal-8}
 use Rattle.admission.specs.declared.Admission.{Admission}
 use Rattle.admission.specs.declared.Found.{Found}

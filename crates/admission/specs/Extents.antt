@@ -5,11 +5,11 @@ use Prim.Native.Nat.{ℕ, zero, suc, _+_, _-_, min}
 use mathlib.Core.Bool.{Bool, cond, not, _&&_, _||_}
 use mathlib.Core.List.{List}
 use lib.Dec.{leb, ltb, eqb}
-use Rattle.sizes.specs.declared.Sized.{Sized}
-use Rattle.layout.specs.Constructs.{constructAt}
-use Rattle.measures.specs.Measures.{condition-size, own-size}
-use Rattle.naming.specs.Words.{node-word, term-word, kind-of}
-use Rattle.encoding.specs.Numbers.{width-of, condition-start, own-start}
+use Rattle.term_sizes.specs.declared.Sized.{Sized}
+use Rattle.table_layout.specs.Constructs.{constructAt}
+use Rattle.table_sizes.specs.Measures.{condition-size, own-size}
+use Rattle.text_names.specs.Words.{node-word, term-word, kind-of}
+use Rattle.text_encoding.specs.Numbers.{width-of, condition-start, own-start}
 use Rattle.admission.specs.declared.Found.{Found}
 
 -- the lesser of two places, where there are any

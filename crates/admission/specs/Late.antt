@@ -6,14 +6,14 @@ use mathlib.Core.Bool.{Bool, true, false}
 use mathlib.Core.List.{List}
 use lib.ListN.{length, take, drop}
 use Rattle.theory.specs.Lookahead.{EmptyBody}
-use Rattle.layout.specs.Places.{construct-count}
-use Rattle.layout.specs.Held.{held}
-use Rattle.conflicts.specs.Conflicts.{Conflicting, Answered}
-use Rattle.conflicts.specs.declared.Clash.{Clash}
-use Rattle.table.specs.Judged.{Passed9, Passed10, Least, Weighing}
-use Rattle.table.specs.Sound.{Sound}
-use Rattle.soundness.specs.OneTable.{Alike}
-use Rattle.naming.specs.Words.{node-word, place-of, named-at}
+use Rattle.table_layout.specs.Places.{construct-count}
+use Rattle.table_layout.specs.Held.{held}
+use Rattle.table_conflicts.specs.Conflicts.{Conflicting, Answered}
+use Rattle.table_conflicts.specs.declared.Clash.{Clash}
+use Rattle.table_judge.specs.Judged.{Passed9, Passed10, Least, Weighing}
+use Rattle.table_judge.specs.Sound.{Sound}
+use Rattle.table_hypotheses.specs.OneTable.{Alike}
+use Rattle.text_names.specs.Words.{node-word, place-of, named-at}
 use Rattle.admission.specs.declared.Admission.{Admission}
 
 -- p is the least mark of the constructs with a body that may be empty, where there is one

@@ -1,22 +1,22 @@
 // Refusal 8: the least place of a width, a number or a calculation outside its limits.
 use crate::Found;
-use encoding::numbers::condition_length;
-use encoding::numbers::own_length;
-use encoding::numbers::width;
-use naming::words::min;
-use naming::words::node_word;
-use naming::words::not;
-use naming::words::term_word;
-use sizes::Sized;
-use text::bytes::both;
-use text::bytes::either;
+use term_sizes::Sized;
+use text_encoding::numbers::condition_length;
+use text_encoding::numbers::own_length;
+use text_encoding::numbers::width;
+use text_header::bytes::both;
+use text_header::bytes::either;
+use text_names::words::min;
+use text_names::words::node_word;
+use text_names::words::not;
+use text_names::words::term_word;
 ghost use mathlib.Core.Path.{_≡_};
 ghost use Prim.Native.Nat.{ℕ, _+_, _-_, _≤_, _<_};
 ghost use lib.ListN.{length};
-ghost use Rattle.layout.specs.Constructs.{constructAt};
-ghost use Rattle.measures.specs.Measures.{widest as widestOf, condition-size, own-size};
-ghost use Rattle.naming.specs.Words.{node-word};
-ghost use Rattle.encoding.specs.Numbers.{condition-start, own-start};
+ghost use Rattle.table_layout.specs.Constructs.{constructAt};
+ghost use Rattle.table_sizes.specs.Measures.{widest as widestOf, condition-size, own-size};
+ghost use Rattle.text_names.specs.Words.{node-word};
+ghost use Rattle.text_encoding.specs.Numbers.{condition-start, own-start};
 ghost use Rattle.admission.specs.Extents.{lesser as lesserOf, found-if, least-found, width-found, number-found, origin-after, list-found, node-found, refusal-8};
 
 fn lesser(a: Found, b: Found) -> Found
@@ -69,7 +69,7 @@ fn term_after(terms: &[usize], f: usize, at: usize, start: usize) -> usize
     requires { ⌜ length (now terms) ≡ 4096 ⌝ }
     ensures { λ r. ⌜ r ≡ origin-after (now (terms .entry)) f at start ⌝ }
 {
-    let t = encoding::numbers::less(at, start);
+    let t = text_encoding::numbers::less(at, start);
     if f < 1024 {
         if t < 1024 {
             return term_word(terms, f + t, 3);
@@ -107,13 +107,13 @@ fn node_found(
         terms,
         node_word(nodes, i, 8),
         q,
-        measures::condition_sizes(table, widest, i),
+        table_sizes::condition_sizes(table, widest, i),
     );
     let own = list_found(
         terms,
         node_word(nodes, i, 5),
         q + condition_length(nodes, i),
-        measures::own_sizes(table, widest, i),
+        table_sizes::own_sizes(table, widest, i),
     );
     lesser(width_found(text, nodes, i), lesser(tested, own))
 }
@@ -164,7 +164,7 @@ pub fn first_oversized(
     requires { ⌜ (length (now nodes) ≡ 2560) × (length (now terms) ≡ 4096) × (16384 ≤ length (now table)) × (n ≤ 256) × (condition-start (now nodes) n ≤ 1024) ⌝ }
     ensures { λ r. ⌜ r ≡ refusal-8 (now (text .entry)) (now (nodes .entry)) (now (terms .entry)) (now (table .entry)) n t ⌝ }
 {
-    let widest = measures::widest(table).sizes;
+    let widest = table_sizes::widest(table).sizes;
     let numbers = numbers_found(terms, t);
     lesser(numbers, nodes_found(text, nodes, terms, n, table, &widest))
 }

@@ -1,17 +1,17 @@
 // Admission of a grammar's text: refusals 1 to 11 in order, or the table of its grammar.
-use conflicts::Clash;
-use naming::words::node_word;
-use naming::words::rule_word;
-use parsing::Cursor;
-use rules::Recursion;
-use table::Judgement;
-use text::Heading;
+use table_conflicts::Clash;
+use table_judge::Judgement;
+use table_reach::Recursion;
+use text_header::Heading;
+use text_names::words::node_word;
+use text_names::words::rule_word;
+use text_parsing::Cursor;
 ghost use mathlib.Core.Path.{_≡_};
 ghost use Prim.Native.Nat.{ℕ, _+_, _≤_, _<_};
 ghost use lib.ListN.{length, drop};
-ghost use Rattle.table.specs.Judged.{Passed8};
-ghost use Rattle.parsing.specs.Cursors.{state-at};
-ghost use Rattle.naming.specs.Words.{node-word, place-of, named-at};
+ghost use Rattle.table_judge.specs.Judged.{Passed8};
+ghost use Rattle.text_parsing.specs.Cursors.{state-at};
+ghost use Rattle.text_names.specs.Words.{node-word, place-of, named-at};
 ghost use Rattle.admission.specs.Admitted.{words-of, Right, Named, Straight, AnsweredRules, Answers};
 ghost use Rattle.admission.specs.Late.{Late, is-admitted, HandedOver, Within};
 
@@ -84,7 +84,7 @@ fn judged(nodes: &[usize], rules: &[usize], base: usize, words: &mut [u32]) -> A
     ensures { λ r. ⌜ Late (now (nodes .entry)) (now (rules .entry)) base (now (words .entry)) (now (words .exit)) r ⌝ }
 {
     let mut first = [0u64; 2056];
-    match completion::complete(words, &mut first) {
+    match table_fill::complete(words, &mut first) {
         Judgement::EmptyBody { construct: _ } => {
             refused(9, base, marks::least_mark(words, &first, nodes))
         }
@@ -159,8 +159,8 @@ fn admit_read(
     ensures { λ r. ⌜ AnsweredRules (now (text .entry)) base (now (table .entry)) (now (table .exit)) r ⌝ }
 {
     let mut words = [0u32; 16384];
-    encoding::areas::encode(text, nodes, terms, rules, c.nodes, c.rules, &mut words);
-    match rules::recursive_rule(&words) {
+    text_encoding::areas::encode(text, nodes, terms, rules, c.nodes, c.rules, &mut words);
+    match table_reach::recursive_rule(&words) {
         Recursion::Rule(rule) => refused_at(7, base, rules, rule),
         Recursion::None => admit_words(text, nodes, terms, rules, c, base, &mut words, table),
     }
@@ -179,11 +179,11 @@ fn admit_checked(
     requires { ⌜ Right (now text) (state-at c (now nodes) (now terms) (now rules)) × (length (now text) ≤ 8192) × (base ≤ 8192) × (16384 ≤ length (now table)) ⌝ }
     ensures { λ r. ⌜ AnsweredRules (now (text .entry)) base (now (table .entry)) (now (table .exit)) r ⌝ }
 {
-    let past = naming::limits::first_past(rules, c.rules);
+    let past = text_names::limits::first_past(rules, c.rules);
     if past < 18446744073709551615 {
         return refused(5, base, past);
     }
-    let wrong = naming::places::first_fault(text, nodes, terms, rules, c.rules);
+    let wrong = text_names::places::first_fault(text, nodes, terms, rules, c.rules);
     if wrong < 18446744073709551615 {
         return refused(6, base, wrong);
     }
@@ -198,7 +198,7 @@ fn admit_rules(text: &[u8], base: usize, table: &mut [u32]) -> Admission
     let mut nodes = [0usize; 2560];
     let mut terms = [0usize; 4096];
     let mut rules = [0usize; 325];
-    let c = syntax::rules::read(text, &mut nodes, &mut terms, &mut rules);
+    let c = text_syntax::rules::read(text, &mut nodes, &mut terms, &mut rules);
     if c.code == 0 {
         return refused(4, base, c.start);
     }
@@ -226,7 +226,7 @@ pub fn admit(text: &[u8], table: &mut [u32]) -> Admission
     if 8192 < text.len() {
         return refused(2, 0, 0);
     }
-    match text::header::header(text) {
+    match text_header::header::header(text) {
         Heading::Wrong(place) => refused(3, 0, place),
         Heading::Rules(base) => admit_from(text, base, table),
     }

@@ -1,14 +1,14 @@
 // The bench program: reads kiosk.dogma, then frames from standard input, each a line of hexadecimal, and prints the answers (document 01).
 use admission::Admission;
-use hexadecimal::Line;
+use bench_hexadecimal::Line;
 use libc::STDIN_FILENO;
 use libc::STDOUT_FILENO;
-use matcher::Answer;
-use runs::Run;
+use run_grants::Run;
+use run_matcher::Answer;
 ghost use mathlib.Core.Path.{_≡_};
 ghost use Prim.Native.Nat.{_+_, _*_, _≤_};
 ghost use lib.ListN.{length};
-ghost use Rattle.matcher.specs.Opening.{number-of};
+ghost use Rattle.run_matcher.specs.Opening.{number-of};
 ghost use Rattle.bench.specs.Weights.{Light};
 
 // The characters held after a piece of the input.
@@ -75,7 +75,7 @@ fn show_run(weight: usize, bytes: usize, run: Run)
 fn grant(table: &[u32], frame: &[u8], reading: &mut [u32], run: Run, weight: usize)
     requires { ⌜ (weight ≤ 65535) × (length (now frame) ≤ 256) ⌝ }
 {
-    let granted = runs::advance(table, frame, reading, run, 18446744073709551615);
+    let granted = run_grants::advance(table, frame, reading, run, 18446744073709551615);
     show_run(weight, frame.len(), granted.run);
 }
 
@@ -94,7 +94,7 @@ fn refusal(answer: Answer) -> u64
 fn play(table: &[u32], frame: &[u8], reading: &mut [u32], weight: usize)
     requires { ⌜ (weight ≤ 65535) × (length (now frame) ≤ 256) ⌝ }
 {
-    let opening = matcher::open(table, frame, reading);
+    let opening = run_matcher::open(table, frame, reading);
     let answer = opening.answer;
     let n = refusal(answer);
     if 0 < n {
@@ -117,17 +117,17 @@ fn decoded(table: &[u32; 16384], weight: usize, line: &[u8], n: usize)
     requires { ⌜ (weight ≤ 65535) × (length (now line) ≤ 512) × (n ≤ 256) ⌝ }
 {
     let mut bytes = [0u8; 256];
-    hexadecimal::decode(line, &mut bytes);
+    bench_hexadecimal::decode(line, &mut bytes);
     framed(table, weight, &bytes, n);
 }
 
 fn answered(table: &[u32; 16384], weight: usize, line: &[u8])
     requires { ⌜ weight ≤ 65535 ⌝ }
 {
-    let kind = hexadecimal::classify(line);
+    let kind = bench_hexadecimal::classify(line);
     match kind {
-        Line::TooLong => refused(hexadecimal::number(kind)),
-        Line::NoFrame => refused(hexadecimal::number(kind)),
+        Line::TooLong => refused(bench_hexadecimal::number(kind)),
+        Line::NoFrame => refused(bench_hexadecimal::number(kind)),
         Line::Frame(n) => decoded(table, weight, line, n),
     }
 }
@@ -136,7 +136,7 @@ fn answered(table: &[u32; 16384], weight: usize, line: &[u8])
 fn ended(table: &[u32; 16384], weight: usize, line: &[u8], held: usize)
     requires { ⌜ (weight ≤ 65535) × (held ≤ length (now line)) ⌝ }
 {
-    answered(table, weight, text::header::content(&line[0..held]));
+    answered(table, weight, text_header::header::content(&line[0..held]));
 }
 
 // A last line without LF is one if it has a byte.

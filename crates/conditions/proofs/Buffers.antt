@@ -8,17 +8,17 @@ use mathlib.Core.List.{List}
 use native.Mathlib.Omega.{arith}
 use lib.Dec.{leb}
 use lib.ListN.{length, take, drop}
-use Rattle.layout.specs.Places.{table-words}
-use Rattle.layout.specs.Constructs.{pick}
-use Rattle.steps.specs.Steps.{Whole, whole, steps-of}
-use Rattle.agreement.proofs.Readings.{Recorded, steps-record}
+use Rattle.table_layout.specs.Places.{table-words}
+use Rattle.table_layout.specs.Constructs.{pick}
+use Rattle.run_steps.specs.Steps.{Whole, whole, steps-of}
+use Rattle.run_refinement.proofs.Readings.{Recorded, steps-record}
 use Rattle.admission.specs.Admitted.{number-of, Refusal, RulesRefused, AnsweredRules, Answers, refused-early, by-rules}
 use Rattle.admission.specs.declared.Admission.{Admission}
-use Rattle.runs.specs.Runs.{head-of, whole-of, fitting, After, after, run-in, reading-in, answer-in, after-steps, grant-of, number-of as grant-number, taken-of}
-use Rattle.runs.specs.declared.Run.{Run}
-use Rattle.runs.proofs.Grants.{unchanged, grants-compose}
-use Rattle.runs.specs.declared.Answer.{Answer as GrantAnswer}
-use Rattle.matcher.specs.declared.Answer.{Answer}
+use Rattle.run_grants.specs.Runs.{head-of, whole-of, fitting, After, after, run-in, reading-in, answer-in, after-steps, grant-of, number-of as grant-number, taken-of}
+use Rattle.run_grants.specs.declared.Run.{Run}
+use Rattle.run_grants.proofs.Grants.{unchanged, grants-compose}
+use Rattle.run_grants.specs.declared.Answer.{Answer as GrantAnswer}
+use Rattle.run_matcher.specs.declared.Answer.{Answer}
 use Rattle.conditions.specs.Conditions.{TextAnswered, RunOpened, RunGranted, Condition1}
 
 -- ---- texts

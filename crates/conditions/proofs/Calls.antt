@@ -11,24 +11,24 @@ use borrow.Author.Tests.{eqb-true, eqb-false, eq-eqb, ne-eqb}
 use lib.Dec.{eqb, ltb}
 use lib.ListN.{length, getD, set, take, drop, length-set}
 use lib.Seq.{sets, length-sets, drop-set-lt, getD-set-same}
-use Rattle.layout.specs.Constructs.{pick}
-use Rattle.layout.specs.Places.{table-of}
-use Rattle.acts.specs.Acts.{bits-of}
-use Rattle.conflicts.specs.declared.Clash.{Clash}
+use Rattle.table_layout.specs.Constructs.{pick}
+use Rattle.table_layout.specs.Places.{table-of}
+use Rattle.run_actions.specs.Acts.{bits-of}
+use Rattle.table_conflicts.specs.declared.Clash.{Clash}
 use Rattle.admission.specs.Admitted.{number-of as text-number, Answers}
 use Rattle.admission.specs.declared.Admission.{Admission}
-use Rattle.runs.specs.Runs.{closed-run, After, run-in, reading-in, answer-in, grant-of, number-of, taken-of}
-use Rattle.runs.specs.Composing.{further}
-use Rattle.runs.specs.declared.Run.{Run}
-use Rattle.runs.specs.declared.Answer.{Answer as GrantAnswer}
-use Rattle.runs.proofs.Grants.{refusal-told, grants-compose}
-use Rattle.saved.specs.Saved.{plain, saved-bytes, encoded, decoded, restored}
-use Rattle.saved.proofs.Bytes.{numbers-length}
-use Rattle.saved.proofs.Saving.{restored-is}
-use Rattle.matcher.specs.Opening.{Answered, Opened, run-given, number-of as opening-number}
-use Rattle.matcher.specs.declared.Answer.{Answer}
-use Rattle.matcher.specs.Conditions.{Grant, own, Kept, granted as steps-granted, kept, run-kept, reading-kept, Decided, start, here, call, next, after-grants, OthersRefused, EachCounts as GrantsCount}
-use Rattle.matcher.proofs.Answers.{answer-once}
+use Rattle.run_grants.specs.Runs.{closed-run, After, run-in, reading-in, answer-in, grant-of, number-of, taken-of}
+use Rattle.run_grants.specs.Composing.{further}
+use Rattle.run_grants.specs.declared.Run.{Run}
+use Rattle.run_grants.specs.declared.Answer.{Answer as GrantAnswer}
+use Rattle.run_grants.proofs.Grants.{refusal-told, grants-compose}
+use Rattle.run_saved.specs.Saved.{plain, saved-bytes, encoded, decoded, restored}
+use Rattle.run_saved.proofs.Bytes.{numbers-length}
+use Rattle.run_saved.proofs.Saving.{restored-is}
+use Rattle.run_matcher.specs.Opening.{Answered, Opened, run-given, number-of as opening-number}
+use Rattle.run_matcher.specs.declared.Answer.{Answer}
+use Rattle.run_matcher.specs.Conditions.{Grant, own, Kept, granted as steps-granted, kept, run-kept, reading-kept, Decided, start, here, call, next, after-grants, OthersRefused, EachCounts as GrantsCount}
+use Rattle.run_matcher.proofs.Answers.{answer-once}
 use Rattle.songrafter.specs.Calls.{told, Admits, number-with-room, Opens, granted, Grants}
 use Rattle.conditions.specs.Texts.{text-grammar}
 use Rattle.conditions.specs.Conditions.{Exact}

@@ -1,4 +1,4 @@
--- Conditions 2 and 3, from `matcher`'s of the table: its grammar is the text's, and its weight is the admitted one.
+-- Conditions 2 and 3, from `run_matcher`'s of the table: its grammar is the text's, and its weight is the admitted one.
 -- Assumes nothing.
 use Prim.Native.Nat.{ℕ, _+_, _*_, _≤_}
 use mathlib.Core.Path.{_≡_, refl, subst}
@@ -9,16 +9,16 @@ use lib.ListN.{length}
 use Rattle.basis.specs.Bits.{Bits}
 use Rattle.theory.specs.Grammar.{Grammar}
 use Rattle.theory.specs.Derivation.{Tree, Derivation}
-use Rattle.layout.specs.Places.{table-of, weight-of}
-use Rattle.layout.specs.Held.{Context, Values, held}
-use Rattle.acts.specs.Acts.{bits-of}
+use Rattle.table_layout.specs.Places.{table-of, weight-of}
+use Rattle.table_layout.specs.Held.{Context, Values, held}
+use Rattle.run_actions.specs.Acts.{bits-of}
 use Rattle.admission.specs.Admitted.{Answers}
 use Rattle.admission.specs.declared.Admission.{Admission}
-use Rattle.table.specs.Sound.{SoundTable}
-use Rattle.matcher.specs.Opening.{Answered, Opened}
-use Rattle.matcher.specs.declared.Answer.{Answer}
-use Rattle.matcher.specs.Conditions.{Grant, OthersRefused, start, here, grammar-of}
-use Rattle.matcher.proofs.Conditions.{condition-2 as table-condition-2, condition-3 as table-condition-3, at-most-one as table-at-most-one, never-broken}
+use Rattle.table_judge.specs.Sound.{SoundTable}
+use Rattle.run_matcher.specs.Opening.{Answered, Opened}
+use Rattle.run_matcher.specs.declared.Answer.{Answer}
+use Rattle.run_matcher.specs.Conditions.{Grant, OthersRefused, start, here, grammar-of}
+use Rattle.run_matcher.proofs.Conditions.{condition-2 as table-condition-2, condition-3 as table-condition-3, at-most-one as table-at-most-one, never-broken}
 use Rattle.conditions.specs.Texts.{Reading, text-grammar}
 use Rattle.conditions.specs.Conditions.{Exact, AtMostOne, Claim, Condition2, Condition3}
 use Rattle.conditions.proofs.Exactly.{exactly}

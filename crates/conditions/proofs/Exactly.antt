@@ -13,15 +13,15 @@ use Rattle.basis.proofs.Numbers.{number-injective}
 use Rattle.theory.specs.Grammar.{Grammar}
 use Rattle.theory.specs.Lookahead.{Predicted, LeastConflict}
 use Rattle.theory.specs.Weight.{Weighs}
-use Rattle.scoping.proofs.RuledLaw.{ruled}
-use Rattle.layout.specs.Held.{Context, Values, held}
-use Rattle.weights.proofs.Heights.{weight-at}
-use Rattle.weights.proofs.Theorems.{weights-exist}
-use Rattle.table.specs.Judged.{Passed10}
-use Rattle.parsing.specs.Store.{State}
+use Rattle.table_scope.proofs.RuledLaw.{ruled}
+use Rattle.table_layout.specs.Held.{Context, Values, held}
+use Rattle.table_weights.proofs.Heights.{weight-at}
+use Rattle.table_weights.proofs.Theorems.{weights-exist}
+use Rattle.table_judge.specs.Judged.{Passed10}
+use Rattle.text_parsing.specs.Store.{State}
 use Rattle.admission.specs.Admitted.{number-of, place-in, window-in, words-of, Bounded, Headed, Refusal, RulesRefused, AnsweredRules, Answers, refused-early, by-rules, Clashes, LeastMark as TableMark}
-use Rattle.conflicts.specs.Conflicts.{HasNumber, FirstHolders, Conflicting, Answered}
-use Rattle.conflicts.specs.declared.Clash.{Clash}
+use Rattle.table_conflicts.specs.Conflicts.{HasNumber, FirstHolders, Conflicting, Answered}
+use Rattle.table_conflicts.specs.declared.Clash.{Clash}
 use Rattle.admission.specs.declared.Admission.{Admission}
 use Rattle.conditions.specs.Texts.{meant}
 use Rattle.conditions.specs.Refusals.{Row, short-table, wrong-size, wrong-header, wrong-form, past-limit, wrong-name, recursive, too-large, empty-body, clashing, too-heavy, number, HasConflict, LeastMark, Weight, FirstTwo, Sharing, Clashed, Read, NoneBelow, First, Exactly}

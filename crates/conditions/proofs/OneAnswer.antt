@@ -8,17 +8,17 @@ use native.Mathlib.Omega.{arith}
 use lib.ListN.{length, drop, length-take, take-append-drop}
 use Rattle.theory.specs.Grammar.{alternative, concatenation, repetition, switch, use-of, field, eod}
 use Rattle.theory.specs.Lookahead.{Predicted}
-use Rattle.layout.specs.Places.{table-words, table-of}
-use Rattle.layout.specs.Held.{HeldNode, held}
-use Rattle.conflicts.specs.Conflicts.{FirstHolders, Conflicting, LeastWindow, FirstTwo, Answered}
-use Rattle.conflicts.specs.declared.Clash.{Clash}
-use Rattle.table.specs.Judged.{Least}
-use Rattle.sets.specs.Rules.{Family}
-use Rattle.weights.proofs.Heights.{weight-at}
-use Rattle.soundness.specs.OneTable.{Alike}
-use Rattle.soundness.proofs.SameSets.{alike-equal}
-use Rattle.parsing.specs.Store.{State}
-use Rattle.text.specs.Header.{header-of}
+use Rattle.table_layout.specs.Places.{table-words, table-of}
+use Rattle.table_layout.specs.Held.{HeldNode, held}
+use Rattle.table_conflicts.specs.Conflicts.{FirstHolders, Conflicting, LeastWindow, FirstTwo, Answered}
+use Rattle.table_conflicts.specs.declared.Clash.{Clash}
+use Rattle.table_judge.specs.Judged.{Least}
+use Rattle.table_first_follow.specs.Rules.{Family}
+use Rattle.table_weights.proofs.Heights.{weight-at}
+use Rattle.table_hypotheses.specs.OneTable.{Alike}
+use Rattle.table_hypotheses.proofs.SameSets.{alike-equal}
+use Rattle.text_parsing.specs.Store.{State}
+use Rattle.text_header.specs.Header.{header-of}
 use Rattle.admission.specs.Admitted.{place-in, number-of, form, words-of, Passes, Tabled, RulesPass, Headed, Clashes, Answers, refused-early, by-rules}
 use Rattle.admission.specs.declared.Admission.{Admission}
 use Rattle.conditions.specs.Refusals.{Row, short-table, wrong-size, wrong-header, wrong-form, past-limit, wrong-name, recursive, too-large, empty-body, clashing, too-heavy, number, Fits, NoneBelow}

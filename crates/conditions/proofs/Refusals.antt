@@ -10,14 +10,14 @@ use lib.ListN.{length, drop, getD, length-drop}
 use Rattle.theory.specs.Grammar.{Grammar}
 use Rattle.theory.specs.Lookahead.{EmptyBody}
 use Rattle.theory.specs.Weight.{Weighs}
-use Rattle.layout.specs.Places.{table-words}
-use Rattle.layout.specs.Held.{Context, first-context, Values, held, opening}
-use Rattle.rules.specs.Reaching.{Reaches}
-use Rattle.table.specs.Judged.{Passed9, Passed10}
-use Rattle.text.specs.Header.{header-of}
-use Rattle.text.specs.declared.Heading.{Heading}
-use Rattle.parsing.specs.Store.{State}
-use Rattle.parsing.specs.Form.{Outcome, right, refused}
+use Rattle.table_layout.specs.Places.{table-words}
+use Rattle.table_layout.specs.Held.{Context, first-context, Values, held, opening}
+use Rattle.table_reach.specs.Reaching.{Reaches}
+use Rattle.table_judge.specs.Judged.{Passed9, Passed10}
+use Rattle.text_header.specs.Header.{header-of}
+use Rattle.text_header.specs.declared.Heading.{Heading}
+use Rattle.text_parsing.specs.Store.{State}
+use Rattle.text_parsing.specs.Form.{Outcome, right, refused}
 use Rattle.admission.specs.Admitted.{form, words-of, fault-8, Right, Limited, Named, Straight, Bounded, Passes, Headed}
 use Rattle.admission.specs.declared.Found.{Found}
 use Rattle.conditions.specs.Texts.{Reading, meant}

@@ -8,28 +8,28 @@ use lib.ListN.{length, drop, length-drop}
 use Rattle.theory.specs.Grammar.{Node, alternative, concatenation, repetition, switch, use-of, field, eod, Grammar}
 use Rattle.theory.specs.Scope.{local-node, localised}
 use Rattle.theory.specs.Weight.{Weighs}
-use Rattle.layout.specs.Places.{table-of}
-use Rattle.layout.specs.Held.{Context, first-context, Values, held, opening}
-use Rattle.scoping.specs.Scope.{store, scope-of, fresh}
-use Rattle.weights.proofs.Heights.{weight-at}
-use Rattle.acts.specs.Stored.{tests-of}
-use Rattle.soundness.proofs.HeldLocal.{held-local}
-use Rattle.soundness.proofs.Reliability.{weighed}
-use Rattle.soundness.proofs.Trust.{trusted}
-use Rattle.text.specs.Header.{header-of}
-use Rattle.text.specs.declared.Heading.{Heading}
-use Rattle.parsing.specs.Store.{State, state, node-words, term-words, rule-words, nodes-of, rules-of}
-use Rattle.parsing.specs.Form.{Outcome, right, refused}
+use Rattle.table_layout.specs.Places.{table-of}
+use Rattle.table_layout.specs.Held.{Context, first-context, Values, held, opening}
+use Rattle.table_scope.specs.Scope.{store, scope-of, fresh}
+use Rattle.table_weights.proofs.Heights.{weight-at}
+use Rattle.run_actions.specs.Stored.{tests-of}
+use Rattle.table_hypotheses.proofs.HeldLocal.{held-local}
+use Rattle.table_hypotheses.proofs.Reliability.{weighed}
+use Rattle.table_hypotheses.proofs.Trust.{trusted}
+use Rattle.text_header.specs.Header.{header-of}
+use Rattle.text_header.specs.declared.Heading.{Heading}
+use Rattle.text_parsing.specs.Store.{State, state, node-words, term-words, rule-words, nodes-of, rules-of}
+use Rattle.text_parsing.specs.Form.{Outcome, right, refused}
 use Rattle.admission.specs.Admitted.{form, words-of, Bounded, Headed, RulesPass, Answers, refused-early, by-rules}
 use Rattle.admission.specs.declared.Admission.{Admission}
 use Rattle.admission.proofs.Facts.{facts}
 use Rattle.admission.proofs.Judging.{readable}
-use Rattle.meaning.specs.Claims.{Meanings}
-use Rattle.meaning.proofs.Holding.{holds-text}
-use Rattle.meaning.proofs.Trees.{meanings}
-use Rattle.matcher.specs.Windows.{Tells}
-use Rattle.matcher.specs.Conditions.{grammar-of}
-use Rattle.matcher.proofs.Telling.{tells}
+use Rattle.text_meaning.specs.Claims.{Meanings}
+use Rattle.text_meaning.proofs.Holding.{holds-text}
+use Rattle.text_meaning.proofs.Trees.{meanings}
+use Rattle.run_matcher.specs.Windows.{Tells}
+use Rattle.run_matcher.specs.Conditions.{grammar-of}
+use Rattle.run_matcher.proofs.Telling.{tells}
 use Rattle.conditions.specs.Texts.{Reading, meant, rules-grammar, each-use, text-grammar}
 use Rattle.conditions.specs.Conditions.{TextTable, Tables}
 

@@ -9,13 +9,13 @@ use mathlib.Core.List.{List, [], _∷_}
 use mathlib.Core.Option.{Option, none, some}
 use lib.ListN.{length, getD, set, take, drop}
 use Rattle.theory.specs.Grammar.{Grammar}
-use Rattle.layout.specs.Places.{table-words}
-use Rattle.layout.specs.Held.{Context, Values}
-use Rattle.acts.specs.Acts.{bits-of}
-use Rattle.steps.specs.Steps.{undecided}
-use Rattle.runs.specs.Runs.{closed-run}
-use Rattle.saved.specs.Saved.{saved-bytes, encoded, restored}
-use Rattle.matcher.specs.Conditions.{Grant, own, granted as steps-granted, kept, run-kept, reading-kept, Decided, here, Unbroken, Granted}
+use Rattle.table_layout.specs.Places.{table-words}
+use Rattle.table_layout.specs.Held.{Context, Values}
+use Rattle.run_actions.specs.Acts.{bits-of}
+use Rattle.run_steps.specs.Steps.{undecided}
+use Rattle.run_grants.specs.Runs.{closed-run}
+use Rattle.run_saved.specs.Saved.{saved-bytes, encoded, restored}
+use Rattle.run_matcher.specs.Conditions.{Grant, own, granted as steps-granted, kept, run-kept, reading-kept, Decided, here, Unbroken, Granted}
 use Rattle.songrafter.specs.Calls.{Admits, Opens, Grants}
 use Rattle.conditions.specs.Texts.{rules-grammar, text-grammar, Admissible}
 use Rattle.conditions.specs.Refusals.{Exactly}
@@ -122,7 +122,7 @@ EachCounts needed before run reading (own-call reading₁ run₁ taken taken₁ 
 EachCounts needed before run reading (other-call t f r b reading₁ run₁ taken taken₁ steps number g cs) =
     (taken₁ ≡ set taken 0 0) × (run₁ ≡ handed run b) × (reading₁ ≡ handed reading r) × EachCounts needed before (left run b run₁) (left reading r reading₁) cs
 
--- after the calls: the run's bytes and the reading are those that condition 3's claim speaks of (`matcher`, `Granted`, `Unbroken`), and what
+-- after the calls: the run's bytes and the reading are those that condition 3's claim speaks of (`run_matcher`, `Granted`, `Unbroken`), and what
 -- songrafter_verdict, songrafter_fields and the others read in them is exact
 pub record Lived (g : Grammar Context Values) (needed : ℕ) (table frame run reading : List ℕ) (gs : List Grant) (run′ reading′ : List ℕ) (cs : Kiosk table frame run reading gs run′ reading′) : Type 0 where
   pub run-is : run′ ≡ encoded (run-kept (here table frame reading gs))

@@ -1,5 +1,5 @@
--- The mission's three conditions, of what the calls promise: `Answers` (`admission::admit`), `Answered` and `run-given` (`matcher::open`),
--- `grant-of` (`runs::advance`, `runs::grant`). They stand at the end of each part, and are proved: `Condition1` by `condition-1`
+-- The mission's three conditions, of what the calls promise: `Answers` (`admission::admit`), `Answered` and `run-given` (`run_matcher::open`),
+-- `grant-of` (`run_grants::advance`, `run_grants::grant`). They stand at the end of each part, and are proved: `Condition1` by `condition-1`
 -- (`proofs/Buffers.antt`), `Tables` by `text-table` (`proofs/Tables.antt`), `OneAnswer` and `OneTable` by `one-answer` and `one-table`
 -- (`proofs/OneAnswer.antt`), `Condition2`, `AtMostOne` and `Condition3` by `condition-2`, `at-most-one` and `condition-3` (`proofs/Conditions.antt`).
 -- Assumes nothing.
@@ -14,21 +14,21 @@ use Rattle.theory.specs.Derivation.{Tree, captures, Derivation}
 use Rattle.theory.specs.Machine.{Tests}
 use Rattle.theory.specs.Theorems.{Derivable}
 use Rattle.theory.specs.Weight.{Weighs}
-use Rattle.layout.specs.Places.{table-words, table-of, weight-of}
-use Rattle.layout.specs.Held.{Context, first-context, Values, held, opening}
-use Rattle.acts.specs.Acts.{bits-of}
-use Rattle.steps.specs.Steps.{undecided, matched, unmatched}
-use Rattle.agreement.specs.Runs.{words-of}
-use Rattle.table.specs.Sound.{SoundTable}
+use Rattle.table_layout.specs.Places.{table-words, table-of, weight-of}
+use Rattle.table_layout.specs.Held.{Context, first-context, Values, held, opening}
+use Rattle.run_actions.specs.Acts.{bits-of}
+use Rattle.run_steps.specs.Steps.{undecided, matched, unmatched}
+use Rattle.run_refinement.specs.Runs.{words-of}
+use Rattle.table_judge.specs.Sound.{SoundTable}
 use Rattle.admission.specs.Admitted.{number-of, Answers}
 use Rattle.admission.specs.declared.Admission.{Admission}
-use Rattle.runs.specs.Runs.{After, run-in, reading-in, answer-in, grant-of, closed-run, number-of as grant-number, taken-of}
-use Rattle.runs.specs.Composing.{GrantsCompose}
-use Rattle.runs.specs.declared.Run.{Run}
-use Rattle.matcher.specs.Opening.{Answered, Opened, run-given, number-of as opening-number}
-use Rattle.matcher.specs.declared.Answer.{Answer}
-use Rattle.matcher.specs.Windows.{Tells}
-use Rattle.matcher.specs.Conditions.{Grant, Kept, run-kept, reading-kept, OthersRefused, start, Decided, here, Unbroken, Granted, BySteps, Handing, AnyReading}
+use Rattle.run_grants.specs.Runs.{After, run-in, reading-in, answer-in, grant-of, closed-run, number-of as grant-number, taken-of}
+use Rattle.run_grants.specs.Composing.{GrantsCompose}
+use Rattle.run_grants.specs.declared.Run.{Run}
+use Rattle.run_matcher.specs.Opening.{Answered, Opened, run-given, number-of as opening-number}
+use Rattle.run_matcher.specs.declared.Answer.{Answer}
+use Rattle.run_matcher.specs.Windows.{Tells}
+use Rattle.run_matcher.specs.Conditions.{Grant, Kept, run-kept, reading-kept, OthersRefused, start, Decided, here, Unbroken, Granted, BySteps, Handing, AnyReading}
 use Rattle.conditions.specs.Refusals.{Exactly}
 use Rattle.conditions.specs.Texts.{Reading, rules-grammar, FormsMeant, text-grammar, Admissible}
 
@@ -62,7 +62,7 @@ pub record Condition1 : Type 0 where
   pub admitting : (text old new : List ℕ) (answer : Admission) → Answers text old new answer → TextAnswered old new answer
   pub opening-runs : (ws fs rs : List ℕ) (answer : Answer) → Answered ws fs rs answer → RunOpened answer
   pub granting : (ws fs rs : List ℕ) (run : Run) (n : ℕ) → RunGranted rs run (grant-of ws fs rs run n)
-  -- one grant and many: granting m steps and then n is granting m + n, refused or not (`runs`, `Composing`)
+  -- one grant and many: granting m steps and then n is granting m + n, refused or not (`run_grants`, `Composing`)
   pub adding : GrantsCompose
 
 -- ---- the table of an admitted text
@@ -127,13 +127,13 @@ AtMostOne = (text old table : List ℕ) (weight : ℕ) → Answers text old tabl
 pub record Claim (g : Grammar Context Values) (weight : ℕ) (ws fs rs : List ℕ) : Type 0 where
   pub needed : ℕ
   pub within-bound : needed ≤ weight * (bits-of fs + 1)
-  -- run, reading and count are what the steps granted in all make of them (`matcher`, `Granted`)
+  -- run, reading and count are what the steps granted in all make of them (`run_matcher`, `Granted`)
   pub granting : (gs : List Grant) → OthersRefused ws fs gs (start rs) → Granted ws fs rs gs needed
   -- and these are document 01's steps on the text's grammar (`theory`, `Machine`)
   pub by-steps : (gs : List Grant) → OthersRefused ws fs gs (start rs) → BySteps g ws fs rs gs
   -- never broken, and a grant of its own table, frame and reading is never refused
   pub unbroken : (gs : List Grant) → OthersRefused ws fs gs (start rs) → Unbroken ws fs rs gs
-  -- nor is it ever broken by grants of its own table and frame with any readings (`matcher`, `AnyReading`)
+  -- nor is it ever broken by grants of its own table and frame with any readings (`run_matcher`, `AnyReading`)
   pub any-reading : (hs : List Handing) → AnyReading ws fs hs rs
 
 -- of every text that is admitted, and every frame and reading on which its table opens a run

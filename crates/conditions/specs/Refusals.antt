@@ -11,17 +11,17 @@ use Rattle.basis.specs.Lookahead.{number as window-number}
 use Rattle.theory.specs.Grammar.{alternative, Grammar, _∈_}
 use Rattle.theory.specs.Lookahead.{Predicted, Conflict, LeastConflict, EmptyBody}
 use Rattle.theory.specs.Weight.{Weighs}
-use Rattle.layout.specs.Places.{table-words}
-use Rattle.layout.specs.Held.{Context, first-context, Values, opening}
-use Rattle.rules.specs.Reaching.{Reaches}
-use Rattle.text.specs.Header.{header-of}
-use Rattle.text.specs.declared.Heading.{Heading}
-use Rattle.parsing.specs.Store.{State, node-words, rule-words, nodes-of}
-use Rattle.parsing.specs.Form.{refused}
-use Rattle.naming.specs.Counting.{nowhere}
-use Rattle.naming.specs.Words.{node-word, place-of, named-at}
+use Rattle.table_layout.specs.Places.{table-words}
+use Rattle.table_layout.specs.Held.{Context, first-context, Values, opening}
+use Rattle.table_reach.specs.Reaching.{Reaches}
+use Rattle.text_header.specs.Header.{header-of}
+use Rattle.text_header.specs.declared.Heading.{Heading}
+use Rattle.text_parsing.specs.Store.{State, node-words, rule-words, nodes-of}
+use Rattle.text_parsing.specs.Form.{refused}
+use Rattle.text_names.specs.Counting.{nowhere}
+use Rattle.text_names.specs.Words.{node-word, place-of, named-at}
 use Rattle.admission.specs.Admitted.{number-of, place-in, window-in, form, words-of, fault-5, fault-6, fault-8}
-use Rattle.conflicts.specs.declared.Clash.{Clash}
+use Rattle.table_conflicts.specs.declared.Clash.{Clash}
 use Rattle.admission.specs.declared.Admission.{Admission}
 use Rattle.admission.specs.declared.Found.{Found}
 use Rattle.conditions.specs.Texts.{Reading, meant}

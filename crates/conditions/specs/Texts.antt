@@ -7,15 +7,15 @@ use mathlib.Core.List.{List, []}
 use lib.ListN.{length, drop}
 use Rattle.theory.specs.Grammar.{Grammar}
 use Rattle.theory.specs.Scope.{Scope, localised}
-use Rattle.layout.specs.Held.{Context, Values}
-use Rattle.scoping.specs.Scope.{store, fresh}
-use Rattle.text.specs.Header.{header-of}
-use Rattle.text.specs.declared.Heading.{Heading}
-use Rattle.parsing.specs.Store.{State, node-words, term-words, rule-words, nodes-of, rules-of}
-use Rattle.parsing.specs.Form.{right}
+use Rattle.table_layout.specs.Held.{Context, Values}
+use Rattle.table_scope.specs.Scope.{store, fresh}
+use Rattle.text_header.specs.Header.{header-of}
+use Rattle.text_header.specs.declared.Heading.{Heading}
+use Rattle.text_parsing.specs.Store.{State, node-words, term-words, rule-words, nodes-of, rules-of}
+use Rattle.text_parsing.specs.Form.{right}
 use Rattle.admission.specs.Admitted.{form, Passes}
-use Rattle.meaning.specs.Meaning.{grammar-of}
-use Rattle.meaning.specs.Claims.{Meanings}
+use Rattle.text_meaning.specs.Meaning.{grammar-of}
+use Rattle.text_meaning.specs.Claims.{Meanings}
 
 -- A text with a right header and rules of the right form: where its rules begin, and the nodes, terms and rules that are read of them. Both are
 -- values of functions of the text, so a text has at most one (`one-reading`).
@@ -25,7 +25,7 @@ pub record Reading (text : List ℕ) : Type 0 where
   pub header : header-of text ≡ Heading.Rules base
   pub formed : form (drop base text) ≡ right st
 
--- the grammar that they mean (crate `meaning`)
+-- the grammar that they mean (crate `text_meaning`)
 abbrev pub meant : List ℕ → State → Grammar Context Values
 meant xs st = grammar-of xs (node-words st) (term-words st) (rule-words st) (nodes-of st) (rules-of st)
 
@@ -33,8 +33,8 @@ meant xs st = grammar-of xs (node-words st) (term-words st) (rule-words st) (nod
 abbrev pub rules-grammar : {text : List ℕ} → Reading text → Grammar Context Values
 rules-grammar {text} x = meant (drop (x .base) text) (x .st)
 
--- its sets, counts and cases mean what the trees mean whose postfix order its terms are (crates `meaning`, `trees`), at values for which no calculation
--- passes 2^62; that these are the trees of the text is in the definition of the form (`parsing`, `Form.feed`)
+-- its sets, counts and cases mean what the trees mean whose postfix order its terms are (crates `text_meaning`, `term_trees`), at values for which no calculation
+-- passes 2^62; that these are the trees of the text is in the definition of the form (`text_parsing`, `Form.feed`)
 abbrev pub FormsMeant : {text : List ℕ} → Reading text → Type 0
 FormsMeant {text} x =
     Meanings (drop (x .base) text) (node-words (x .st)) (term-words (x .st)) (rule-words (x .st)) (nodes-of (x .st)) (rules-of (x .st))

@@ -3,7 +3,7 @@
 use Prim.Native.Nat.{ℕ, _*_}
 use mathlib.Core.Bool.{Bool, cond, _||_}
 use lib.Dec.{leb, eqb}
-use Rattle.wording.specs.declared.quoting.Part.{Part}
+use Rattle.report_wording.specs.declared.quoting.Part.{Part}
 
 -- a literal, a range or a uint
 abbrev pub is-field : ℕ → Bool

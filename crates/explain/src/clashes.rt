@@ -1,16 +1,16 @@
 // A clash: what shares which bits, and what to change.
 use crate::names::rule_at;
-use conflicts::Clash;
-use locating::Located;
-use locating::Query;
-use locating::locate;
-use parsing::terminals::look;
-use wording::lines;
-use wording::quoting::Part;
-use wording::quoting::end_of;
-use wording::quoting::quote;
-use wording::windows;
-use wording::writing::say;
+use report_places::Located;
+use report_places::Query;
+use report_places::locate;
+use report_wording::lines;
+use report_wording::quoting::Part;
+use report_wording::quoting::end_of;
+use report_wording::quoting::quote;
+use report_wording::windows;
+use report_wording::writing::say;
+use table_conflicts::Clash;
+use text_parsing::terminals::look;
 ghost use mathlib.Core.Path.{_≡_};
 ghost use Rattle.explain.specs.Report.{part-of};
 
@@ -92,9 +92,9 @@ fn branch(grammar: &[u8], construct: usize) {
 
 fn change_branches(window: usize) {
     if window < 2 {
-        advice::clashes::ends();
+        report_advice::clashes::ends();
     } else {
-        advice::clashes::begins();
+        report_advice::clashes::begins();
     }
 }
 
@@ -121,7 +121,7 @@ fn after(grammar: &[u8], end: usize) {
         after_member(grammar, look(grammar, sight.end).start);
         return;
     }
-    advice::clashes::after_rule();
+    report_advice::clashes::after_rule();
 }
 
 fn passes(grammar: &[u8], at: usize, window: usize) {
@@ -132,7 +132,7 @@ fn passes(grammar: &[u8], at: usize, window: usize) {
     after(grammar, end_of(grammar, at, Part::Member));
     say(b"Going on and stopping both admit");
     windows::window(window);
-    advice::clashes::passes();
+    report_advice::clashes::passes();
 }
 
 fn explained(grammar: &[u8], at: usize, clash: Clash) {

@@ -1,13 +1,13 @@
 // An admitted grammar: its numbers, and its fields in order.
-use locating::Located;
-use locating::Query;
-use locating::locate;
-use text::bytes::either;
-use wording::lines;
-use wording::quoting::Part;
-use wording::quoting::quote;
-use wording::writing::number;
-use wording::writing::say;
+use report_places::Located;
+use report_places::Query;
+use report_places::locate;
+use report_wording::lines;
+use report_wording::quoting::Part;
+use report_wording::quoting::quote;
+use report_wording::writing::number;
+use report_wording::writing::say;
+use text_header::bytes::either;
 ghost use mathlib.Core.Path.{_≡_};
 ghost use Rattle.explain.specs.Report.{is-field, bound-of};
 

@@ -1,23 +1,23 @@
 // Refusal 5: which limit is passed. More than one may be, in the same rule.
-use locating::Located;
-use locating::Query;
-use locating::locate;
+use report_places::Located;
+use report_places::Query;
+use report_places::locate;
 
 fn more(rules: usize, constructs: usize) {
     if 64 < rules {
-        advice::limits::rules();
+        report_advice::limits::rules();
     }
     if 256 < constructs {
-        advice::limits::constructs();
+        report_advice::limits::constructs();
     }
 }
 
 fn within(terms: usize, variables: usize) {
     if 1024 < terms {
-        advice::limits::terms();
+        report_advice::limits::terms();
     }
     if 64 < variables {
-        advice::limits::variables();
+        report_advice::limits::variables();
     }
 }
 

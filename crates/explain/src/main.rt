@@ -7,7 +7,7 @@ mod limits;
 mod names;
 mod refusals;
 
-use wording::writing::say;
+use report_wording::writing::say;
 
 fn answered(grammar: &[u8], answer: Admission) {
     match answer {

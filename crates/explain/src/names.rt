@@ -1,16 +1,16 @@
 // Refusal 6: a name that is unknown, double, reserved, misplaced or of the wrong kind.
-use locating::Fault;
-use locating::Located;
-use locating::Query;
-use locating::locate;
-use text::Class;
-use text::spans::span;
-use tokens::names::reserved;
-use wording::lines;
-use wording::quoting::Part;
-use wording::quoting::quote;
-use wording::quoting::token;
-use wording::writing::say;
+use report_places::Fault;
+use report_places::Located;
+use report_places::Query;
+use report_places::locate;
+use report_wording::lines;
+use report_wording::quoting::Part;
+use report_wording::quoting::quote;
+use report_wording::quoting::token;
+use report_wording::writing::say;
+use text_header::Class;
+use text_header::spans::span;
+use text_tokens::names::reserved;
 
 fn is_reserved(grammar: &[u8], start: usize, end: usize) -> bool {
     if start <= end {
@@ -31,53 +31,53 @@ pub fn rule_at(grammar: &[u8], at: usize) {
 }
 
 fn double(grammar: &[u8], at: usize) {
-    advice::names::double();
+    report_advice::names::double();
     rule_at(grammar, at);
-    advice::names::change_double();
+    report_advice::names::change_double();
 }
 
 fn variable(grammar: &[u8], at: usize) {
-    advice::names::variable();
+    report_advice::names::variable();
     lines::shown(grammar, at);
-    advice::names::change_variable();
+    report_advice::names::change_variable();
 }
 
 fn twice(grammar: &[u8], at: usize) {
-    advice::names::twice();
+    report_advice::names::twice();
     lines::shown(grammar, at);
-    advice::names::change_twice();
+    report_advice::names::change_twice();
 }
 
 fn later(grammar: &[u8], at: usize) {
-    advice::names::later();
+    report_advice::names::later();
     lines::shown(grammar, at);
-    advice::names::change_later();
+    report_advice::names::change_later();
 }
 
 fn rule(grammar: &[u8], at: usize) {
-    advice::names::rule();
+    report_advice::names::rule();
     rule_at(grammar, at);
-    advice::names::change_unbound();
+    report_advice::names::change_unbound();
 }
 
 fn elsewhere(grammar: &[u8], at: usize) {
-    advice::names::elsewhere();
+    report_advice::names::elsewhere();
     lines::shown(grammar, at);
-    advice::names::change_elsewhere();
+    report_advice::names::change_elsewhere();
 }
 
 fn no_variable() {
-    advice::names::no_variable();
-    advice::names::change_unbound();
+    report_advice::names::no_variable();
+    report_advice::names::change_unbound();
 }
 
 fn told(grammar: &[u8], fault: Fault) {
     match fault {
         Fault::Double(at) => double(grammar, at),
-        Fault::NoRule => advice::names::no_rule(),
+        Fault::NoRule => report_advice::names::no_rule(),
         Fault::Variable(at) => variable(grammar, at),
         Fault::Twice(at) => twice(grammar, at),
-        Fault::Misplaced => advice::names::misplaced(),
+        Fault::Misplaced => report_advice::names::misplaced(),
         Fault::Later(at) => later(grammar, at),
         Fault::Rule(at) => rule(grammar, at),
         Fault::Elsewhere(at) => elsewhere(grammar, at),
@@ -87,7 +87,7 @@ fn told(grammar: &[u8], fault: Fault) {
 
 fn fault_at(grammar: &[u8], at: usize, end: usize) {
     if is_reserved(grammar, at, end) {
-        advice::names::reserved();
+        report_advice::names::reserved();
         return;
     }
     match locate(grammar, Query::Name(at)) {

@@ -1,23 +1,23 @@
 // Refusals 1 to 9 and 11: what each means, and what to change.
 use crate::limits;
 use crate::names;
-use wording::lines;
-use wording::writing::number;
+use report_wording::lines;
+use report_wording::writing::number;
 
 fn late(grammar: &[u8], n: usize, at: usize) {
     match n {
-        7 => advice::rest::recursive(grammar, at),
-        8 => advice::rest::extent(grammar, at),
-        9 => advice::rest::empty_body(),
-        11 => advice::rest::weight(),
-        _ => advice::rest::table(),
+        7 => report_advice::rest::recursive(grammar, at),
+        8 => report_advice::rest::extent(grammar, at),
+        9 => report_advice::rest::empty_body(),
+        11 => report_advice::rest::weight(),
+        _ => report_advice::rest::table(),
     }
 }
 
 fn explained(grammar: &[u8], n: usize, at: usize) {
     match n {
-        3 => advice::header::wrong(grammar, at),
-        4 => advice::form::wrong(grammar, at),
+        3 => report_advice::header::wrong(grammar, at),
+        4 => report_advice::form::wrong(grammar, at),
         5 => limits::passed(grammar, at),
         6 => names::fault(grammar, at),
         _ => late(grammar, n, at),
@@ -26,9 +26,9 @@ fn explained(grammar: &[u8], n: usize, at: usize) {
 
 pub fn refused(grammar: &[u8], n: usize, at: usize) {
     number(b"refused, number ", n);
-    advice::titles::title(n);
+    report_advice::titles::title(n);
     if n == 2 {
-        advice::header::size(grammar);
+        report_advice::header::size(grammar);
         return;
     }
     lines::shown(grammar, at);

@@ -13,7 +13,7 @@ use lib.ListN.{length, getD}
 use Rattle.basis.specs.Bits.{Bits, bitsOf, append-digits, same}
 use Rattle.basis.specs.Lookahead.{lookahead, join}
 use Rattle.basis.proofs.Strings.{same-true}
-use Rattle.text.proofs.Tests.{which}
+use Rattle.text_header.proofs.Tests.{which}
 use Rattle.theory.specs.Grammar.{alternative, concatenation, repetition, switch, use-of, field, eod, Grammar}
 use Rattle.theory.specs.Derivation.{construct, members}
 use Rattle.theory.specs.Lookahead.{First, Follow, Continues, Conflict}
@@ -24,8 +24,8 @@ use Rattle.theory.specs.Weight.{weigh, sum}
 use Rattle.theory.proofs.Inversion.{First-of, FirstBy, first-by, Keeps, follow-least}
 use Rattle.theory.proofs.Sheet.Sets.{Exactly, only-one, decides, apart, apart-true}
 use Rattle.theory.proofs.Sheet.Ones.{one, two, continuing, continues-ones}
-use Rattle.layout.specs.Constructs.{pick, both}
-use Rattle.layout.specs.Held.{Context, first-context, Values, HeldNode, opening}
+use Rattle.table_layout.specs.Constructs.{pick, both}
+use Rattle.table_layout.specs.Held.{Context, first-context, Values, HeldNode, opening}
 use Rattle.sheet.specs.Sheet.{K6}
 use Rattle.sheet.proofs.Computing.{rules-in, grammar}
 use Rattle.sheet.proofs.Words.{both-true}

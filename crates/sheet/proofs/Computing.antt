@@ -5,12 +5,12 @@ use Prim.Native.String.{String}
 use mathlib.Core.List.{List}
 use lib.ListN.{drop}
 use Rattle.theory.specs.Grammar.{Grammar}
-use Rattle.wholes.specs.Wholes.{bounded, equals}
-use Rattle.layout.specs.Held.{Context, Values}
-use Rattle.text.specs.Header.{header-of}
-use Rattle.text.specs.declared.Heading.{Heading}
-use Rattle.parsing.specs.Form.{Outcome}
-use Rattle.parsing.specs.Store.{State}
+use Rattle.term_integers.specs.Wholes.{bounded, equals}
+use Rattle.table_layout.specs.Held.{Context, Values}
+use Rattle.text_header.specs.Header.{header-of}
+use Rattle.text_header.specs.declared.Heading.{Heading}
+use Rattle.text_parsing.specs.Form.{Outcome}
+use Rattle.text_parsing.specs.Store.{State}
 use Rattle.admission.specs.Admitted.{form, words-of, fault-5, fault-6, fault-8}
 use Rattle.admission.specs.declared.Found.{Found}
 use Rattle.conditions.specs.Texts.{meant}
@@ -18,32 +18,32 @@ use Rattle.sheet.specs.Sheet.{text-of}
 use Rattle.admission.specs.Extents.{least-found}
 use Rattle.basis.specs.Bits.{append-digits, bitsOf, frameBits, same}
 use Rattle.basis.specs.Counts.{atLeast, between, exactly, span}
-use Rattle.encoding.specs.Encoded.{encoded}
-use Rattle.encoding.specs.Lists.{first-of, flat, sum, written}
-use Rattle.encoding.specs.Numbers.{first-at}
-use Rattle.evaluation.specs.Counts.{tallied}
-use Rattle.evaluation.specs.Meaning.{condition, membership, run}
-use Rattle.evaluation.specs.Variables.{hasVariable}
-use Rattle.layout.specs.Constructs.{constructAt, constructOf}
-use Rattle.literals.specs.Literals.{characters, literal-reach}
-use Rattle.meaning.specs.Meaning.{first-true, grammar-of, meant-node, parts-from}
-use Rattle.measures.specs.Measures.{widest-from}
-use Rattle.naming.specs.Counting.{any-of, least-of}
-use Rattle.naming.specs.Names.{is-reserved, same-name}
-use Rattle.parsing.specs.Form.{atom-begins, feed, item-begins, operand-begins, primary-begins, run as parsing-run, test-begins}
-use Rattle.parsing.specs.Store.{over, put-condition, put-node, put-rule, put-single, put-term, put-words, room}
-use Rattle.parsing.specs.Terminals.{literal-code, name-code, seen, sight-of, sights}
-use Rattle.shapes.specs.TermShapes.{read-terms}
-use Rattle.sizes.specs.Sizes.{countSizes, sizes as sizes-sizes}
-use Rattle.syntax.specs.Rules.{form-of}
-use Rattle.terms.specs.Steps.{variableOf}
-use Rattle.terms.specs.Tests.{combined, noted}
-use Rattle.terms.specs.Words.{termAt, termOf, termsFrom}
-use Rattle.text.specs.Header.{content, header-lines-of, is-first-line, is-header-line, lines}
-use Rattle.text.specs.Spans.{span-end, starts}
-use Rattle.tokens.specs.Names.{word-number}
-use Rattle.tokens.specs.Numbers.{digits-at, digits-value, number-end-of, radix-at}
-use Rattle.tokens.specs.Tokens.{gap-end, literal-token, name-token, number-token, sign-token, token-begun, token-of}
+use Rattle.text_encoding.specs.Encoded.{encoded}
+use Rattle.text_encoding.specs.Lists.{first-of, flat, sum, written}
+use Rattle.text_encoding.specs.Numbers.{first-at}
+use Rattle.term_evaluation.specs.Counts.{tallied}
+use Rattle.term_evaluation.specs.Meaning.{condition, membership, run}
+use Rattle.term_evaluation.specs.Variables.{hasVariable}
+use Rattle.table_layout.specs.Constructs.{constructAt, constructOf}
+use Rattle.text_literals.specs.Literals.{characters, literal-reach}
+use Rattle.text_meaning.specs.Meaning.{first-true, grammar-of, meant-node, parts-from}
+use Rattle.table_sizes.specs.Measures.{widest-from}
+use Rattle.text_names.specs.Counting.{any-of, least-of}
+use Rattle.text_names.specs.Names.{is-reserved, same-name}
+use Rattle.text_parsing.specs.Form.{atom-begins, feed, item-begins, operand-begins, primary-begins, run as parsing-run, test-begins}
+use Rattle.text_parsing.specs.Store.{over, put-condition, put-node, put-rule, put-single, put-term, put-words, room}
+use Rattle.text_parsing.specs.Terminals.{literal-code, name-code, seen, sight-of, sights}
+use Rattle.text_shapes.specs.TermShapes.{read-terms}
+use Rattle.term_sizes.specs.Sizes.{countSizes, sizes as sizes-sizes}
+use Rattle.text_syntax.specs.Rules.{form-of}
+use Rattle.term_words.specs.Steps.{variableOf}
+use Rattle.term_words.specs.Tests.{combined, noted}
+use Rattle.term_words.specs.Words.{termAt, termOf, termsFrom}
+use Rattle.text_header.specs.Header.{content, header-lines-of, is-first-line, is-header-line, lines}
+use Rattle.text_header.specs.Spans.{span-end, starts}
+use Rattle.text_tokens.specs.Names.{word-number}
+use Rattle.text_tokens.specs.Numbers.{digits-at, digits-value, number-end-of, radix-at}
+use Rattle.text_tokens.specs.Tokens.{gap-end, literal-token, name-token, number-token, sign-token, token-begun, token-of}
 
 unfoldable pub heading : String → Heading
 unfolding text-of content header-lines-of is-first-line is-header-line lines span-end starts

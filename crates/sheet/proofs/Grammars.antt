@@ -10,16 +10,16 @@ use native.Mathlib.Decide.{decLt}
 use borrow.Author.Tests.{ltb-true, ltb-false, eqb-true}
 use lib.Dec.{ltb, eqb}
 use lib.ListN.{length}
-use Rattle.text.proofs.Tests.{which}
+use Rattle.text_header.proofs.Tests.{which}
 use Rattle.basis.specs.Bits.{Bits}
 use Rattle.basis.specs.Lookahead.{lookahead}
 use Rattle.theory.specs.Grammar.{alternative, concatenation, repetition, switch, use-of, field, eod, Grammar, _∈_}
 use Rattle.theory.specs.Derivation.{construct}
 use Rattle.theory.specs.Lookahead.{First, Conflict, EmptyBody}
 use Rattle.theory.proofs.Inversion.{first-by}
-use Rattle.layout.specs.Held.{Context, Values, HeldNode, opening}
-use Rattle.meaning.specs.Meaning.{opened, grammar-of}
-use Rattle.parsing.specs.Store.{State, rule-words, nodes-of}
+use Rattle.table_layout.specs.Held.{Context, Values, HeldNode, opening}
+use Rattle.text_meaning.specs.Meaning.{opened, grammar-of}
+use Rattle.text_parsing.specs.Store.{State, rule-words, nodes-of}
 use Rattle.conditions.specs.Texts.{meant}
 
 -- ---- a property of each number below n

@@ -10,15 +10,15 @@ use Rattle.theory.specs.Grammar.{Grammar}
 use Rattle.theory.specs.Derivation.{Capture}
 use Rattle.theory.specs.Hypotheses.{Hypotheses}
 use Rattle.theory.specs.Machine.{Tests}
-use Rattle.layout.specs.Places.{table-of}
-use Rattle.layout.specs.Held.{Context, Values, held}
-use Rattle.acts.specs.Stored.{tests-of}
-use Rattle.soundness.proofs.Trust.{trusted}
-use Rattle.agreement.specs.Runs.{words-of}
-use Rattle.parsing.specs.Store.{State}
+use Rattle.table_layout.specs.Places.{table-of}
+use Rattle.table_layout.specs.Held.{Context, Values, held}
+use Rattle.run_actions.specs.Stored.{tests-of}
+use Rattle.table_hypotheses.proofs.Trust.{trusted}
+use Rattle.run_refinement.specs.Runs.{words-of}
+use Rattle.text_parsing.specs.Store.{State}
 use Rattle.admission.specs.Admitted.{Answers}
 use Rattle.admission.specs.declared.Admission.{Admission}
-use Rattle.matcher.specs.Opening.{Opened}
+use Rattle.run_matcher.specs.Opening.{Opened}
 use Rattle.conditions.specs.Texts.{meant}
 use Rattle.conditions.specs.Conditions.{TextTable}
 use Rattle.conditions.proofs.Tables.{text-table}

@@ -8,8 +8,8 @@ use native.Mathlib.Omega.{arith}
 use Rattle.basis.specs.Bits.{Bits}
 use Rattle.theory.specs.Lookahead.{Conflict, EmptyBody}
 use Rattle.theory.specs.Weight.{Weighs, weigh, sum, largest}
-use Rattle.layout.specs.Held.{Context, first-context, opening}
-use Rattle.parsing.specs.Store.{State}
+use Rattle.table_layout.specs.Held.{Context, first-context, opening}
+use Rattle.text_parsing.specs.Store.{State}
 use Rattle.admission.specs.Admitted.{Bounded}
 use Rattle.conditions.specs.Texts.{meant}
 use Rattle.sheet.specs.Sheet.{G, K9, K10}

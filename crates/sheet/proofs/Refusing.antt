@@ -14,12 +14,12 @@ use Rattle.theory.specs.Grammar.{Grammar, _∈_}
 use Rattle.theory.specs.Derivation.{construct}
 use Rattle.theory.specs.Lookahead.{First, Follow, Predicted, Conflict, EmptyBody}
 use Rattle.theory.proofs.Sheet.Sets.{of-two, Exactly, literal-first, predicted-full}
-use Rattle.layout.specs.Held.{Context, Values, held, literal-node}
-use Rattle.conflicts.specs.Conflicts.{Conflicting, LeastWindow, Answered}
-use Rattle.conflicts.specs.declared.Clash.{Clash}
-use Rattle.table.specs.Judged.{Least}
-use Rattle.parsing.specs.Store.{node-words}
-use Rattle.naming.specs.Words.{node-word}
+use Rattle.table_layout.specs.Held.{Context, Values, held, literal-node}
+use Rattle.table_conflicts.specs.Conflicts.{Conflicting, LeastWindow, Answered}
+use Rattle.table_conflicts.specs.declared.Clash.{Clash}
+use Rattle.table_judge.specs.Judged.{Least}
+use Rattle.text_parsing.specs.Store.{node-words}
+use Rattle.text_names.specs.Words.{node-word}
 use Rattle.admission.specs.Admitted.{window-in, place-in, number-of, words-of, Headed, Answers, refused-early, by-rules}
 use Rattle.admission.specs.declared.Admission.{Admission}
 use Rattle.conditions.specs.Texts.{Reading}

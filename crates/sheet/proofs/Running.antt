@@ -10,25 +10,25 @@ use Rattle.basis.specs.Bits.{frameBits}
 use Rattle.theory.specs.Grammar.{Grammar}
 use Rattle.theory.specs.Derivation.{Capture}
 use Rattle.theory.specs.Machine.{Tests, captures-of, Verdict, matched, unmatched, verdict-of, state-of, taken-of, opened, granted}
-use Rattle.layout.specs.Places.{table-of}
-use Rattle.layout.specs.Held.{Context, Values, held}
-use Rattle.measures.specs.Measures.{widest}
-use Rattle.weights.proofs.Heights.{weight-at}
-use Rattle.weights.proofs.Rooms.{rooms}
-use Rattle.acts.specs.Stored.{tests-of}
-use Rattle.steps.specs.Steps.{Whole}
-use Rattle.agreement.specs.Runs.{HeldRun, recorded, words-of, verdict-as, head-of as head-in, values-of, reading-of, run-of}
-use Rattle.agreement.proofs.Pending.{recorded-length}
-use Rattle.agreement.proofs.Verdicts.{matched-as, unmatched-as}
-use Rattle.agreement.proofs.Readings.{reading-is}
-use Rattle.agreement.proofs.Steady.{state-values}
-use Rattle.agreement.proofs.Openings.{opening-fits}
-use Rattle.agreement.proofs.Fitting.{captures-held, values-held, agrees}
-use Rattle.runs.specs.Runs.{whole-of, opened-run}
-use Rattle.matcher.specs.Opening.{Opened}
-use Rattle.matcher.specs.Conditions.{Grant, granted as granted-in, run-kept, reading-kept, OthersRefused, start, here}
-use Rattle.matcher.proofs.Moments.{words, begun, at, fits-at, at-rest}
-use Rattle.matcher.proofs.Conditions.{condition-3}
+use Rattle.table_layout.specs.Places.{table-of}
+use Rattle.table_layout.specs.Held.{Context, Values, held}
+use Rattle.table_sizes.specs.Measures.{widest}
+use Rattle.table_weights.proofs.Heights.{weight-at}
+use Rattle.table_weights.proofs.Rooms.{rooms}
+use Rattle.run_actions.specs.Stored.{tests-of}
+use Rattle.run_steps.specs.Steps.{Whole}
+use Rattle.run_refinement.specs.Runs.{HeldRun, recorded, words-of, verdict-as, head-of as head-in, values-of, reading-of, run-of}
+use Rattle.run_refinement.proofs.Pending.{recorded-length}
+use Rattle.run_refinement.proofs.Verdicts.{matched-as, unmatched-as}
+use Rattle.run_refinement.proofs.Readings.{reading-is}
+use Rattle.run_refinement.proofs.Steady.{state-values}
+use Rattle.run_refinement.proofs.Openings.{opening-fits}
+use Rattle.run_refinement.proofs.Fitting.{captures-held, values-held, agrees}
+use Rattle.run_grants.specs.Runs.{whole-of, opened-run}
+use Rattle.run_matcher.specs.Opening.{Opened}
+use Rattle.run_matcher.specs.Conditions.{Grant, granted as granted-in, run-kept, reading-kept, OthersRefused, start, here}
+use Rattle.run_matcher.proofs.Moments.{words, begun, at, fits-at, at-rest}
+use Rattle.run_matcher.proofs.Conditions.{condition-3}
 use Rattle.sheet.specs.Sheet.{Verdict as Said, match, no-match, stored, Ended}
 
 abbrev pub said : Said → Verdict

@@ -10,7 +10,7 @@ use Rattle.theory.specs.Derivation.{Capture}
 use Rattle.theory.specs.Hypotheses.{Hypotheses}
 use Rattle.theory.specs.Machine.{Tests, opened, granted}
 use Rattle.theory.specs.Sheet.{one-of}
-use Rattle.agreement.specs.Runs.{words-of}
+use Rattle.run_refinement.specs.Runs.{words-of}
 use Rattle.sheet.specs.Sheet.{K6, Verdict, Says, Each, rows}
 use Rattle.sheet.proofs.Computing.{grammar}
 use Rattle.sheet.proofs.Texts.{state-G, state-K6, state-K9, state-K10}

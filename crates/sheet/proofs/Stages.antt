@@ -9,13 +9,13 @@ use mathlib.Core.List.{List}
 use native.Mathlib.Omega.{arith}
 use native.Mathlib.Decide.{decLt}
 use lib.ListN.{length}
-use Rattle.text.proofs.Tests.{which}
-use Rattle.layout.specs.Places.{rule-count}
-use Rattle.layout.specs.Constructs.{constructAt}
-use Rattle.layout.specs.declared.Construct.{Construct}
-use Rattle.rules.specs.Reaching.{Uses, Reaches, directly, through, Acyclic, rule-end}
-use Rattle.parsing.specs.Store.{State}
-use Rattle.naming.specs.Counting.{nowhere}
+use Rattle.text_header.proofs.Tests.{which}
+use Rattle.table_layout.specs.Places.{rule-count}
+use Rattle.table_layout.specs.Constructs.{constructAt}
+use Rattle.table_layout.specs.declared.Construct.{Construct}
+use Rattle.table_reach.specs.Reaching.{Uses, Reaches, directly, through, Acyclic, rule-end}
+use Rattle.text_parsing.specs.Store.{State}
+use Rattle.text_names.specs.Counting.{nowhere}
 use Rattle.admission.specs.Admitted.{Named, Bounded, words-of}
 use Rattle.admission.specs.declared.Found.{Found}
 use Rattle.sheet.specs.Sheet.{G, K5, K6, K8, K9, K10, K11}

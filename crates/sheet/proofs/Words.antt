@@ -8,11 +8,11 @@ use mathlib.Core.List.{List, [], _∷_}
 use borrow.Author.Tests.{eqb-true}
 use lib.Dec.{eqb}
 use lib.ListN.{length}
-use Rattle.layout.specs.Constructs.{both}
-use Rattle.text.specs.Header.{header-of}
-use Rattle.text.specs.declared.Heading.{Heading}
-use Rattle.parsing.specs.Form.{Outcome, right, refused}
-use Rattle.parsing.specs.Store.{State, state}
+use Rattle.table_layout.specs.Constructs.{both}
+use Rattle.text_header.specs.Header.{header-of}
+use Rattle.text_header.specs.declared.Heading.{Heading}
+use Rattle.text_parsing.specs.Form.{Outcome, right, refused}
+use Rattle.text_parsing.specs.Store.{State, state}
 use Rattle.admission.specs.Admitted.{form}
 use Rattle.sheet.specs.Sheet.{text-of}
 use Rattle.sheet.proofs.Computing.{heading, rules-in, read}

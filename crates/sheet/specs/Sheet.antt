@@ -1,5 +1,5 @@
 -- Document 01's bench sheet, K1 to K11: a table from text to answer, steps, values and reading. `Says` is what is claimed of a row, from the promises of
--- `admission::admit`, `matcher::open` and `runs::grant`; `sheet` (`proofs/Sheet.antt`) proves it of every row.
+-- `admission::admit`, `run_matcher::open` and `run_grants::grant`; `sheet` (`proofs/Sheet.antt`) proves it of every row.
 -- Assumes nothing.
 use Prim.Native.Nat.{ℕ, _+_, _*_, _-_, _≤_}
 use Prim.Native.Char.{code}
@@ -9,12 +9,12 @@ use mathlib.Core.List.{List, [], _∷_, _++_, map}
 use mathlib.Core.Option.{some}
 use lib.IntN.{pos}
 use lib.ListN.{length, drop, replicate}
-use Rattle.layout.specs.Places.{table-words}
-use Rattle.acts.specs.Acts.{bits-of}
+use Rattle.table_layout.specs.Places.{table-words}
+use Rattle.run_actions.specs.Acts.{bits-of}
 use Rattle.admission.specs.Admitted.{window-in, Answers}
 use Rattle.admission.specs.declared.Admission.{Admission}
-use Rattle.matcher.specs.Opening.{Opened}
-use Rattle.matcher.specs.Conditions.{Grant, granted, Kept, run-kept, reading-kept, OthersRefused, start, here}
+use Rattle.run_matcher.specs.Opening.{Opened}
+use Rattle.run_matcher.specs.Conditions.{Grant, granted, Kept, run-kept, reading-kept, OthersRefused, start, here}
 
 -- ---- texts: "Each text is `dogma_v1 utf-8`, LF, LF, then the rules from byte 16."
 

@@ -9,15 +9,15 @@ use lib.Dec.{eqb}
 use lib.IntN.{pos}
 use lib.ListN.{length, getD, set, drop, length-replicate, List·getD-eq-default}
 use lib.Seq.{sets}
-use Rattle.layout.specs.Constructs.{pick}
-use Rattle.layout.specs.Places.{table-of}
-use Rattle.runs.specs.Runs.{After, after, grant-of, closed-run, run-in, reading-in, answer-in, number-of, taken-of, refusal-of}
-use Rattle.runs.specs.declared.Run.{Run}
-use Rattle.runs.specs.declared.Answer.{Answer}
-use Rattle.runs.proofs.Grants.{Unchanged, refusal-told, refused}
-use Rattle.saved.specs.Saved.{whole, encoded, decoded, restored, stored}
-use Rattle.saved.proofs.Bytes.{numbers-length}
-use Rattle.saved.proofs.Saving.{restored-is, stored-is}
+use Rattle.table_layout.specs.Constructs.{pick}
+use Rattle.table_layout.specs.Places.{table-of}
+use Rattle.run_grants.specs.Runs.{After, after, grant-of, closed-run, run-in, reading-in, answer-in, number-of, taken-of, refusal-of}
+use Rattle.run_grants.specs.declared.Run.{Run}
+use Rattle.run_grants.specs.declared.Answer.{Answer}
+use Rattle.run_grants.proofs.Grants.{Unchanged, refusal-told, refused}
+use Rattle.run_saved.specs.Saved.{whole, encoded, decoded, restored, stored}
+use Rattle.run_saved.proofs.Bytes.{numbers-length}
+use Rattle.run_saved.proofs.Saving.{restored-is, stored-is}
 use Rattle.songrafter.specs.Calls.{granted, Grants}
 
 -- five stores, one after the other

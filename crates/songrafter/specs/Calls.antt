@@ -6,15 +6,15 @@ use mathlib.Core.List.{List, [], _∷_}
 use lib.Dec.{ltb, eqb}
 use lib.ListN.{length, set}
 use lib.Seq.{sets}
-use Rattle.conflicts.specs.declared.Clash.{Clash}
-use Rattle.layout.specs.Constructs.{pick}
-use Rattle.layout.specs.Places.{table-of}
+use Rattle.table_conflicts.specs.declared.Clash.{Clash}
+use Rattle.table_layout.specs.Constructs.{pick}
+use Rattle.table_layout.specs.Places.{table-of}
 use Rattle.admission.specs.Admitted as admitted
 use Rattle.admission.specs.declared.Admission.{Admission}
-use Rattle.matcher.specs.Opening as opening
-use Rattle.matcher.specs.declared.Answer.{Answer}
-use Rattle.runs.specs.Runs as runs
-use Rattle.saved.specs.Saved.{saved-bytes, encoded, decoded, restored}
+use Rattle.run_matcher.specs.Opening as opening
+use Rattle.run_matcher.specs.declared.Answer.{Answer}
+use Rattle.run_grants.specs.Runs as runs
+use Rattle.run_saved.specs.Saved.{saved-bytes, encoded, decoded, restored}
 
 -- ---- admission
 

@@ -1,20 +1,20 @@
 // The calls of a C program: numbers and slices, each a pointer with a length. Nothing is trusted: any bytes and words, of any lengths, are
 // answered or refused by document 01's numbers. include/songrafter.h says the same in C.
 use admission::Admission;
-use conflicts::Clash;
-use matcher::Answer;
-use runs::Granted;
-use runs::Run;
+use run_grants::Granted;
+use run_grants::Run;
+use run_matcher::Answer;
+use table_conflicts::Clash;
 ghost use mathlib.Core.Path.{_≡_};
 ghost use mathlib.Core.List.{[], _∷_};
 ghost use lib.ListN.{length, getD, set};
 ghost use lib.Seq.{sets};
 ghost use lib.IntN.{pos};
 ghost use Rattle.admission.specs.Admitted.{number-of};
-ghost use Rattle.matcher.specs.Opening.{number-of as opening-number};
-ghost use Rattle.layout.specs.Places.{table-of};
-ghost use Rattle.runs.specs.Runs.{after, grant-of, number-of as grant-number, taken-of};
-ghost use Rattle.saved.specs.Saved.{restored};
+ghost use Rattle.run_matcher.specs.Opening.{number-of as opening-number};
+ghost use Rattle.table_layout.specs.Places.{table-of};
+ghost use Rattle.run_grants.specs.Runs.{after, grant-of, number-of as grant-number, taken-of};
+ghost use Rattle.run_saved.specs.Saved.{restored};
 ghost use Rattle.songrafter.specs.Calls.{told-clash, told, Admits, number-with-room, Opens, no-run-number, Grants};
 
 // A number of an answer, where it fits.
@@ -114,31 +114,31 @@ pub extern "C" fn songrafter_open(
 ) -> usize
     ensures { λ r. ⌜ Opens (now (table .entry)) (now (frame .entry)) (now (reading .entry)) (now (run .entry)) (now (run .exit)) r ⌝ }
 {
-    let opening = matcher::open(table, frame, reading);
+    let opening = run_matcher::open(table, frame, reading);
     let answer = opening.answer;
     let opened = opening.run;
     let room = run.len();
-    saved::encode(opened, run);
+    run_saved::encode(opened, run);
     with_room(opening_number(answer), room)
 }
 
-fn grant_number(answer: runs::Answer) -> usize
+fn grant_number(answer: run_grants::Answer) -> usize
     ensures { λ r. ⌜ r ≡ grant-number answer ⌝ }
 {
     match answer {
-        runs::Answer::LongFrame => 21,
-        runs::Answer::Unfit => 24,
-        runs::Answer::Taken(_) => 0,
+        run_grants::Answer::LongFrame => 21,
+        run_grants::Answer::Unfit => 24,
+        run_grants::Answer::Taken(_) => 0,
     }
 }
 
-fn steps_taken(answer: runs::Answer) -> u64
+fn steps_taken(answer: run_grants::Answer) -> u64
     ensures { λ r. ⌜ r ≡ taken-of answer ⌝ }
 {
     match answer {
-        runs::Answer::LongFrame => 0,
-        runs::Answer::Unfit => 0,
-        runs::Answer::Taken(n) => n,
+        run_grants::Answer::LongFrame => 0,
+        run_grants::Answer::Unfit => 0,
+        run_grants::Answer::Taken(n) => n,
     }
 }
 
@@ -161,7 +161,7 @@ fn no_run(frame: &[u8], taken: &mut [u64]) -> usize
     24
 }
 
-// "The kiosk keeps one run and has it changed in place": here in a local, which `runs::grant` changes.
+// "The kiosk keeps one run and has it changed in place": here in a local, which `run_grants::grant` changes.
 fn grant_in_place(
     table: &[u32],
     frame: &[u8],
@@ -171,7 +171,7 @@ fn grant_in_place(
 ) -> Granted
     ensures { λ r. ⌜ after (r .run) (now (reading .exit)) (r .answer) ≡ grant-of (table-of (now (table .entry))) (now (frame .entry)) (now (reading .entry)) run steps ⌝ }
 {
-    let answer = runs::grant(table, frame, reading, &mut run, steps);
+    let answer = run_grants::grant(table, frame, reading, &mut run, steps);
     Granted { run, answer }
 }
 
@@ -189,10 +189,10 @@ pub extern "C" fn songrafter_grant(
     if run.len() != 2596 {
         return no_run(frame, taken);
     }
-    let done = grant_in_place(table, frame, reading, saved::decode(run), steps);
+    let done = grant_in_place(table, frame, reading, run_saved::decode(run), steps);
     let after = done.run;
     let answer = done.answer;
-    saved::encode(after, run);
+    run_saved::encode(after, run);
     let count = steps_taken(answer);
     put_count(taken, count);
     grant_number(answer)
@@ -203,35 +203,35 @@ pub extern "C" fn songrafter_grant(
 pub extern "C" fn songrafter_verdict(run: &[u8]) -> u32
     ensures { λ r. ⌜ r ≡ restored (now (run .entry)) .verdict ⌝ }
 {
-    saved::decode(run).verdict
+    run_saved::decode(run).verdict
 }
 
 #[no_mangle]
 pub extern "C" fn songrafter_steps(run: &[u8]) -> u64
     ensures { λ r. ⌜ r ≡ restored (now (run .entry)) .steps ⌝ }
 {
-    saved::decode(run).steps
+    run_saved::decode(run).steps
 }
 
 #[no_mangle]
 pub extern "C" fn songrafter_fields(run: &[u8]) -> u64
     ensures { λ r. ⌜ r ≡ restored (now (run .entry)) .captures ⌝ }
 {
-    saved::decode(run).captures
+    run_saved::decode(run).captures
 }
 
 #[no_mangle]
 pub extern "C" fn songrafter_position(run: &[u8]) -> u64
     ensures { λ r. ⌜ r ≡ restored (now (run .entry)) .position ⌝ }
 {
-    saved::decode(run).position
+    run_saved::decode(run).position
 }
 
 #[no_mangle]
 pub extern "C" fn songrafter_value(run: &[u8], k: usize) -> i64
     ensures { λ r. ⌜ r ≡ getD (restored (now (run .entry)) .values) k (pos 0) ⌝ }
 {
-    let values = saved::decode(run).values;
+    let values = run_saved::decode(run).values;
     if k < 64 {
         return values[k];
     }

@@ -10,7 +10,7 @@ use Rattle.admission.proofs.admit.Reads as reads
 use Rattle.admission.proofs.admit.Lts as lts
 use Rattle.admission.proofs.admit_from.Reads as admit-from-reads
 use Rattle.admission.proofs.refused.Reads as refused-reads
-use Rattle.text.proofs.header.header.Reads as header-reads
+use Rattle.text_header.proofs.header.header.Reads as header-reads
 
 -- src/lib.rt:251:9
 refused-requires : tie.Need-refused-requires

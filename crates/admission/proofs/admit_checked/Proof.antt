@@ -1,8 +1,8 @@
 use Prim.Native.Nat.{ℕ, _+_, _<_, _≤_}
 use mathlib.Core.Path.{refl, sym, ap, subst, _∙_}
 use native.Mathlib.Omega.{arith}
-use Rattle.parsing.specs.Cursors.{state-at}
-use Rattle.naming.specs.Counting.{nowhere}
+use Rattle.text_parsing.specs.Cursors.{state-at}
+use Rattle.text_names.specs.Counting.{nowhere}
 use Rattle.admission.specs.declared.Admission.{Admission}
 use Rattle.admission.specs.Admitted.{AnsweredRules}
 use Rattle.admission.proofs.Facts.{basics}
@@ -14,8 +14,8 @@ use Rattle.admission.proofs.admit_checked.Reads as reads
 use Rattle.admission.proofs.admit_checked.Lts as lts
 use Rattle.admission.proofs.admit_read.Reads as admit-read-reads
 use Rattle.admission.proofs.refused.Reads as refused-reads
-use Rattle.naming.proofs.limits.first_past.Reads as first-past-reads
-use Rattle.naming.proofs.places.first_fault.Reads as first-fault-reads
+use Rattle.text_names.proofs.limits.first_past.Reads as first-past-reads
+use Rattle.text_names.proofs.places.first_fault.Reads as first-fault-reads
 
 -- src/lib.rt:212:9
 first-past-requires : tie.Need-first-past-requires

@@ -1,5 +1,5 @@
 use mathlib.Core.Path.{refl, sym, subst}
-use Rattle.parsing.specs.Cursors.{state-at}
+use Rattle.text_parsing.specs.Cursors.{state-at}
 use Rattle.admission.specs.Admitted.{AnsweredRules}
 use Rattle.admission.proofs.Stages.{encodable, rule-placed, straight, cyclic}
 use borrow.Author.Needs.{needs}
@@ -9,8 +9,8 @@ use Rattle.admission.proofs.admit_read.Reads as reads
 use Rattle.admission.proofs.admit_read.Lts as lts
 use Rattle.admission.proofs.admit_words.Reads as admit-words-reads
 use Rattle.admission.proofs.refused_at.Reads as refused-at-reads
-use Rattle.encoding.proofs.areas.encode.Reads as encode-reads
-use Rattle.rules.proofs.recursive_rule.Reads as recursive-rule-reads
+use Rattle.text_encoding.proofs.areas.encode.Reads as encode-reads
+use Rattle.table_reach.proofs.recursive_rule.Reads as recursive-rule-reads
 
 -- src/lib.rt:192:74
 slice-aggregate-encode : tie.Need-slice-aggregate-encode

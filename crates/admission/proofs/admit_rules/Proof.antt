@@ -1,6 +1,6 @@
 use mathlib.Core.Path.{refl, sym, subst}
-use Rattle.parsing.specs.Cursors.{state-at}
-use Rattle.shapes.proofs.Shaped.{blank}
+use Rattle.text_parsing.specs.Cursors.{state-at}
+use Rattle.text_shapes.proofs.Shaped.{blank}
 use Rattle.admission.specs.Admitted.{AnsweredRules, by-form}
 use Rattle.admission.proofs.Facts.{basics}
 use Rattle.admission.proofs.Stages.{formed, not-formed, form-place}
@@ -11,7 +11,7 @@ use Rattle.admission.proofs.admit_rules.Reads as reads
 use Rattle.admission.proofs.admit_rules.Lts as lts
 use Rattle.admission.proofs.admit_checked.Reads as admit-checked-reads
 use Rattle.admission.proofs.refused.Reads as refused-reads
-use Rattle.syntax.proofs.rules.read.Reads as read-reads
+use Rattle.text_syntax.proofs.rules.read.Reads as read-reads
 
 -- src/lib.rt:231:9
 read-requires : tie.Need-read-requires

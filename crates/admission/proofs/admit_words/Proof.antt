@@ -4,7 +4,7 @@ use mathlib.Core.Path.{refl, sym, ap, subst, _∙_}
 use mathlib.Core.List.{List}
 use native.Mathlib.Omega.{arith}
 use lib.ListN.{length}
-use Rattle.parsing.specs.Cursors.{state-at}
+use Rattle.text_parsing.specs.Cursors.{state-at}
 use Rattle.admission.specs.Admitted.{by-size}
 use Rattle.admission.specs.Extents.{refusal-8}
 use Rattle.admission.proofs.Stages.{encodable, long-words, place-8, bounded, judgeable}

@@ -1,6 +1,6 @@
 use mathlib.Core.Path.{subst}
-use Rattle.table.specs.Judged.{Judged}
-use Rattle.completion.specs.Completed.{Completed}
+use Rattle.table_judge.specs.Judged.{Judged}
+use Rattle.table_fill.specs.Completed.{Completed}
 use Rattle.admission.proofs.Judging.{kept, mark-within, late-body, late-conflict, late-weight, late-pass}
 use borrow.Author.Needs.{needs}
 use Rattle.admission.proofs.judged.Statement.{statement}

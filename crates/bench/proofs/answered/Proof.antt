@@ -1,5 +1,5 @@
 use mathlib.Core.Path.{sym, subst, _∙_}
-use Rattle.hexadecimal.proofs.Decoding.{Short, short}
+use Rattle.bench_hexadecimal.proofs.Decoding.{Short, short}
 use borrow.Author.Needs.{needs}
 use Rattle.bench.proofs.answered.Statement.{statement}
 use Rattle.bench.proofs.answered.Tie as tie

@@ -1,4 +1,4 @@
--- `grant_in_place` meets its contract: a walk of its MIR. The run is copied into a local, which is lent to `runs::grant` for a lifetime that is
+-- `grant_in_place` meets its contract: a walk of its MIR. The run is copied into a local, which is lent to `run_grants::grant` for a lifetime that is
 -- made for the call; once that is over the local is the run as `grant` left it, and is handed back with the answer.
 -- All that is known of `grant` is that it meets its contract.
 -- Assumes nothing.
@@ -46,21 +46,21 @@ use denote.Triple.Clauses.{ensured, lasts}
 use denote.Triple.Table.{entered, cited}
 use denote.Triple.Walked.{says, Stays, stay-none, stay-none-slice, gave-slice, walkOf, goes-none, goes-none-slice, goes-gave-slice, Walks, ends-at, walked, walk-meets}
 use denote.Exit.{yes}
-use Rattle.layout.specs.Places.{table-of}
-use Rattle.runs.specs.Runs.{after, grant-of}
-use Rattle.runs.specs.declared.Run.{Run}
-use Rattle.runs.specs.declared.Answer.{Answer}
-use Rattle.runs.specs.declared.Granted.{Granted}
-use Rattle.runs.proofs.Run as T
-use Rattle.runs.proofs.Run.Laws as T′
-use Rattle.runs.proofs.Granted as G
-use Rattle.runs.proofs.Granted.Laws as G′
-use Rattle.runs.proofs.Answer as N
-use Rattle.runs.proofs.Answer.Laws as N′
-use Rattle.runs.proofs.grant as grant
-use Rattle.runs.proofs.grant.Symbol as grant-def
-use Rattle.runs.proofs.grant.Symbol.{name as #runs·grant}
-use Rattle.runs.proofs.grant.Met as grant-thm
+use Rattle.table_layout.specs.Places.{table-of}
+use Rattle.run_grants.specs.Runs.{after, grant-of}
+use Rattle.run_grants.specs.declared.Run.{Run}
+use Rattle.run_grants.specs.declared.Answer.{Answer}
+use Rattle.run_grants.specs.declared.Granted.{Granted}
+use Rattle.run_grants.proofs.Run as T
+use Rattle.run_grants.proofs.Run.Laws as T′
+use Rattle.run_grants.proofs.Granted as G
+use Rattle.run_grants.proofs.Granted.Laws as G′
+use Rattle.run_grants.proofs.Answer as N
+use Rattle.run_grants.proofs.Answer.Laws as N′
+use Rattle.run_grants.proofs.grant as grant
+use Rattle.run_grants.proofs.grant.Symbol as grant-def
+use Rattle.run_grants.proofs.grant.Symbol.{name as #runs·grant}
+use Rattle.run_grants.proofs.grant.Met as grant-thm
 use Rattle.songrafter.proofs.grant_in_place.Key.{name as #songrafter·grant-in-place}
 use Rattle.songrafter.proofs.grant_in_place as grant-in-place
 use Rattle.songrafter.proofs.grant_in_place.Statement as stated

@@ -2,7 +2,7 @@ use mathlib.Core.Path.{sym, ap}
 use mathlib.Core.Bool.{Bool}
 use borrow.Author.Tests.{lt-ltb, le-ltb}
 use lib.ListN.{length}
-use Rattle.layout.specs.Constructs.{pick}
+use Rattle.table_layout.specs.Constructs.{pick}
 use borrow.Author.Needs.{needs}
 use Rattle.songrafter.proofs.no_run.Statement.{statement}
 use Rattle.songrafter.proofs.no_run.Tie as tie

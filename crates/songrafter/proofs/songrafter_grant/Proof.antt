@@ -7,8 +7,8 @@ use Rattle.songrafter.proofs.songrafter_grant.Statement.{statement}
 use Rattle.songrafter.proofs.songrafter_grant.Tie as tie
 use Rattle.songrafter.proofs.songrafter_grant.Reads as reads
 use Rattle.songrafter.proofs.songrafter_grant.Lts as lts
-use Rattle.saved.proofs.decode.Reads as decode-reads
-use Rattle.saved.proofs.encode.Reads as encode-reads
+use Rattle.run_saved.proofs.decode.Reads as decode-reads
+use Rattle.run_saved.proofs.encode.Reads as encode-reads
 use Rattle.songrafter.proofs.grant_in_place.Reads as grant-in-place-reads
 use Rattle.songrafter.proofs.grant_number.Reads as grant-number-reads
 use Rattle.songrafter.proofs.no_run.Reads as no-run-reads

@@ -1,8 +1,8 @@
 use Prim.Native.Nat.{ℕ}
 use mathlib.Core.Path.{ap, _∙_}
 use lib.ListN.{length}
-use Rattle.runs.specs.declared.Run.{Run}
-use Rattle.saved.specs.Saved.{stored}
+use Rattle.run_grants.specs.declared.Run.{Run}
+use Rattle.run_saved.specs.Saved.{stored}
 use Rattle.songrafter.specs.Calls.{number-with-room}
 use borrow.Author.Needs.{needs}
 use borrow.Author.Tests.{eq-eqb}
@@ -10,8 +10,8 @@ use Rattle.songrafter.proofs.songrafter_open.Statement.{statement}
 use Rattle.songrafter.proofs.songrafter_open.Tie as tie
 use Rattle.songrafter.proofs.songrafter_open.Reads as reads
 use Rattle.songrafter.proofs.songrafter_open.Lts as lts
-use Rattle.matcher.proofs.open.Reads as open-reads
-use Rattle.saved.proofs.encode.Reads as encode-reads
+use Rattle.run_matcher.proofs.open.Reads as open-reads
+use Rattle.run_saved.proofs.encode.Reads as encode-reads
 use Rattle.songrafter.proofs.opening_number.Reads as opening-number-reads
 use Rattle.songrafter.proofs.with_room.Reads as with-room-reads
 

@@ -1,11 +1,11 @@
 use mathlib.Core.Path.{ap}
-use Rattle.runs.specs.declared.Run.{Run}
+use Rattle.run_grants.specs.declared.Run.{Run}
 use borrow.Author.Needs.{needs}
 use Rattle.songrafter.proofs.songrafter_position.Statement.{statement}
 use Rattle.songrafter.proofs.songrafter_position.Tie as tie
 use Rattle.songrafter.proofs.songrafter_position.Reads as reads
 use Rattle.songrafter.proofs.songrafter_position.Lts as lts
-use Rattle.saved.proofs.decode.Reads as decode-reads
+use Rattle.run_saved.proofs.decode.Reads as decode-reads
 
 -- src/lib.rt:227:5
 decode-requires : tie.Need-decode-requires

@@ -1,15 +1,15 @@
 use mathlib.Core.Path.{sym, ap, _∙_}
 use lib.IntN.{pos}
 use lib.ListN.{getD}
-use Rattle.wholes.proofs.Laws.{back}
-use Rattle.runs.specs.declared.Run.{Run}
+use Rattle.term_integers.proofs.Laws.{back}
+use Rattle.run_grants.specs.declared.Run.{Run}
 use Rattle.songrafter.proofs.CallLaws.{values-end}
 use borrow.Author.Needs.{needs}
 use Rattle.songrafter.proofs.songrafter_value.Statement.{statement}
 use Rattle.songrafter.proofs.songrafter_value.Tie as tie
 use Rattle.songrafter.proofs.songrafter_value.Reads as reads
 use Rattle.songrafter.proofs.songrafter_value.Lts as lts
-use Rattle.saved.proofs.decode.Reads as decode-reads
+use Rattle.run_saved.proofs.decode.Reads as decode-reads
 
 -- src/lib.rt:234:18
 decode-requires : tie.Need-decode-requires

@@ -1,11 +1,11 @@
 use mathlib.Core.Path.{ap}
-use Rattle.runs.specs.declared.Run.{Run}
+use Rattle.run_grants.specs.declared.Run.{Run}
 use borrow.Author.Needs.{needs}
 use Rattle.songrafter.proofs.songrafter_verdict.Statement.{statement}
 use Rattle.songrafter.proofs.songrafter_verdict.Tie as tie
 use Rattle.songrafter.proofs.songrafter_verdict.Reads as reads
 use Rattle.songrafter.proofs.songrafter_verdict.Lts as lts
-use Rattle.saved.proofs.decode.Reads as decode-reads
+use Rattle.run_saved.proofs.decode.Reads as decode-reads
 
 -- src/lib.rt:206:5
 decode-requires : tie.Need-decode-requires

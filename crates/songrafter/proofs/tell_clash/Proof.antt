@@ -1,6 +1,6 @@
 use mathlib.Core.Path.{sym, ap, _∙_}
 use lib.Seq.{sets}
-use Rattle.conflicts.specs.declared.Clash.{Clash}
+use Rattle.table_conflicts.specs.declared.Clash.{Clash}
 use Rattle.songrafter.specs.Calls.{told-clash}
 use borrow.Author.Needs.{needs}
 use Rattle.songrafter.proofs.tell_clash.Statement.{statement}

@@ -1,8 +1,8 @@
 -- `admission::extents::node_found` meets its contract. Assumes nothing.
 use native.Mathlib.Omega.{arith}
 use borrow.Author.Needs.{needs}
-use Rattle.encoding.specs.Numbers.{lists-length}
-use Rattle.encoding.proofs.Sums.{sum-next}
+use Rattle.text_encoding.specs.Numbers.{lists-length}
+use Rattle.text_encoding.proofs.Sums.{sum-next}
 use Rattle.admission.proofs.extents.node_found.Statement.{statement}
 use Rattle.admission.proofs.extents.node_found.Tie as tie
 

@@ -3,8 +3,8 @@ use Prim.Native.Nat.{_+_, _-_, _≤_}
 use mathlib.Core.Path.{_≡_, ap₂}
 use native.Mathlib.Omega.{arith}
 use borrow.Author.Needs.{needs}
-use Rattle.encoding.specs.Numbers.{lists-length, condition-start}
-use Rattle.encoding.proofs.Sums.{sum-none, sum-turn, sum-holds, sum-grows}
+use Rattle.text_encoding.specs.Numbers.{lists-length, condition-start}
+use Rattle.text_encoding.proofs.Sums.{sum-none, sum-turn, sum-holds, sum-grows}
 use Rattle.admission.specs.Extents.{node-found}
 use Rattle.admission.proofs.Leasts.{LeastYet, yet-start, yet-turn, yet-end}
 use Rattle.admission.proofs.extents.nodes_found.Statement.{statement}

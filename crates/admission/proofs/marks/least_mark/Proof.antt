@@ -3,9 +3,9 @@ use Prim.Native.Nat.{_+_, _*_, _-_, _≤_}
 use mathlib.Core.Path.{_≡_, _∙_}
 use native.Mathlib.Omega.{arith}
 use borrow.Author.Needs.{needs}
-use Rattle.layout.specs.Places.{construct-count}
-use Rattle.structure.proofs.Facts.{facts}
-use Rattle.conflicts.proofs.Meaning.{empty-iff}
+use Rattle.table_layout.specs.Places.{construct-count}
+use Rattle.table_structure.proofs.Facts.{facts}
+use Rattle.table_conflicts.proofs.Meaning.{empty-iff}
 use Rattle.admission.proofs.Marking.{Marking, marking-start, marking-turn, marking-end}
 use Rattle.admission.proofs.marks.least_mark.Statement.{statement}
 use Rattle.admission.proofs.marks.least_mark.Tie as tie

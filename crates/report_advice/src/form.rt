@@ -1,0 +1,316 @@
+// Refusal 4: a token that cannot stand where it does.
+use report_wording::quoting::mark;
+use report_wording::quoting::token;
+use report_wording::walking::Context;
+use report_wording::walking::before;
+use report_wording::writing::hexadecimal;
+use report_wording::writing::say;
+use text_header::Heading;
+use text_header::bytes::both;
+use text_header::bytes::either;
+use text_header::bytes::letter;
+use text_header::spans::byte_at;
+use text_literals::quote;
+use text_parsing::terminals::look;
+ghost use mathlib.Core.Path.{_≡_};
+ghost use Rattle.report_advice.specs.Codes.{begins-item, ends-item, is-literal, is-ranging, in-field, in-set, is-joining};
+
+fn literal() {
+    say(b"This literal is wrong. A literal has 1 to 32 characters of printable\n");
+    say(b"ASCII, and is closed on its line by the quote that opened it. A\n");
+    say(b"backslash stands only in \\\\ \\\" \\' and \\[hex], from \\[0] to \\[7f].\n");
+    say(b"What to change: close it, shorten it, or write a byte that cannot be\n");
+    say(b"typed as \\[hex]: a line feed is \\[0a]. For bytes from 80 to ff write\n");
+    say(b"uint(8, 0x80).\n");
+}
+
+fn long_name() {
+    say(b"This name has more than 32 bytes.\n");
+    say(b"What to change: shorten it here and wherever it is used.\n");
+}
+
+fn stray(b: u8) {
+    hexadecimal(b"This byte (hexadecimal ", b as usize, 2);
+    say(b") means nothing in the rules.\n");
+    say(b"What to change: take it out, or put it into a comment (from # to the\n");
+    say(b"line's end). Rules are plain ASCII, and quotes are \" or '.\n");
+}
+
+fn no_token(grammar: &[u8], at: usize) {
+    let b = byte_at(grammar, at);
+    if quote(b) {
+        literal();
+        return;
+    }
+    if letter(b) {
+        long_name();
+        return;
+    }
+    stray(b);
+}
+
+fn no_rule() {
+    say(b"The text ends here and has no rule.\n");
+    say(b"What to change: write at least one rule after the empty line:\n");
+    say(b"    name = expression ;\n");
+}
+
+fn unfinished() {
+    say(b"The text ends here in the middle of a rule. A rule is written\n");
+    say(b"    name = expression ;\n");
+    say(b"What to change: finish the rule. Is its ; missing, or a ) or ]?\n");
+}
+
+// Outside of brackets a `;` ends a rule; in front of all rules stands as much as one.
+fn end(seen: Context) {
+    if both(seen.depth == 0, seen.last == 59) {
+        no_rule();
+        return;
+    }
+    unfinished();
+}
+
+fn repetition() {
+    say(b"A repetition (?, *, + or {..}) stands after an item, and an item\n");
+    say(b"takes only one. In a calculation + and * stand between two numbers.\n");
+    say(b"What to change: put what is repeated in front of it; for a second\n");
+    say(b"repetition put parentheses around the first, as in (\"A\"{2})?.\n");
+}
+
+fn deep() {
+    say(b"Parentheses and brackets, those of uint and var too, go at most 16\n");
+    say(b"deep. This is the 17th.\n");
+    say(b"What to change: write what stands in them as a rule of its own.\n");
+}
+
+fn equals() {
+    say(b"After a rule's name comes =. A rule is written\n");
+    say(b"    name = expression ;\n");
+    say(b"What to change: put = here. Or is a ; one too many in front of it?\n");
+}
+
+fn field() {
+    say(b"A field is written uint(width, set): the width is one number from 1\n");
+    say(b"to 32, then come a comma and a set, as in\n");
+    say(b"    uint(8, 0~9 | 20)     uint(8, ~)     uint(8, var(n, 1~8))\n");
+    say(b"What to change: write the field so.\n");
+}
+
+fn set() {
+    say(b"After the comma comes a set: numbers and ranges with | between them,\n");
+    say(b"as in 1 | 5~9 | 20~, or ~ for every value. Parentheses stand only\n");
+    say(b"after !, as in ~ ! (1 | 2).\n");
+    say(b"What to change: write the set so.\n");
+}
+
+fn range() {
+    say(b"A range goes from one literal of a single character to another, as\n");
+    say(b"in 'a'~'z'.\n");
+    say(b"What to change: put a single character on each side. For numbers\n");
+    say(b"write uint(8, 1~5).\n");
+}
+
+fn switch() {
+    say(b"A switch begins with a case that has a condition; the default, which\n");
+    say(b"has none, comes last:\n");
+    say(b"    [n = 1: \"A\"; n = 2: \"B\"; : \"C\";]\n");
+    say(b"What to change: write the switch so.\n");
+}
+
+fn mixed() {
+    say(b"Comparisons are joined all by & or all by |. A set takes only |, and\n");
+    say(b"counts {..} neither.\n");
+    say(b"What to change: put parentheses around one group of comparisons, as\n");
+    say(b"in [n = 1 | (n > 3 & n < 9): \"A\";].\n");
+}
+
+fn number() {
+    say(b"A number stands only in a uint, in counts {..} and in conditions.\n");
+    say(b"What to change: write the text in quotes, as in \"5\", or a field, as\n");
+    say(b"in uint(8, 5).\n");
+}
+
+fn item() {
+    say(b"What to change: put & (then) or | (or) between two items; between two\n");
+    say(b"numbers | or the sign of a calculation. Or is the ; of the rule before\n");
+    say(b"it missing? Every rule is name = expression ;.\n");
+}
+
+fn call() {
+    say(b"No ( comes after a name. Only uint(..) is written so, and var(..)\n");
+    say(b"right after the comma of a uint.\n");
+    say(b"What to change: is uint or var misspelt? Or is & (then) or | (or)\n");
+    say(b"missing in front of the ( ?\n");
+}
+
+fn rule_start() {
+    say(b"The name of a rule must stand here. A rule is written\n");
+    say(b"    name = expression ;\n");
+    say(b"What to change: is a ; one too many in front of it?\n");
+}
+
+fn sign() {
+    say(b"What to change: look at what stands in front of it: something is\n");
+    say(b"missing there, or is one too many. Is each ( [ { closed, and in its\n");
+    say(b"own rule? Every rule is name = expression ;.\n");
+}
+
+// Names, numbers, literals, and what opens an item.
+fn begins_item(code: usize) -> bool
+    ensures { λ r. ⌜ r ≡ begins-item code ⌝ }
+{
+    either(
+        both(1 <= code, code <= 3),
+        either(both(6 <= code, code <= 9), either(code == 40, code == 91)),
+    )
+}
+
+// A name, a number, a literal, a closing bracket.
+fn ends_item(code: usize) -> bool
+    ensures { λ r. ⌜ r ≡ ends-item code ⌝ }
+{
+    either(
+        either(both(1 <= code, code <= 3), code == 7),
+        either(
+            code == 9,
+            either(code == 41, either(code == 93, code == 125)),
+        ),
+    )
+}
+
+fn literal_code(code: usize) -> bool
+    ensures { λ r. ⌜ r ≡ is-literal code ⌝ }
+{
+    either(code == 3, code == 9)
+}
+
+fn ranging(code: usize, last: usize) -> bool
+    ensures { λ r. ⌜ r ≡ is-ranging code last ⌝ }
+{
+    either(
+        both(code == 126, literal_code(last)),
+        both(last == 126, literal_code(code)),
+    )
+}
+
+// `uint(`, or `uint(` and a width.
+fn in_field(third: usize, second: usize, last: usize) -> bool
+    ensures { λ r. ⌜ r ≡ in-field third second last ⌝ }
+{
+    either(
+        both(second == 6, last == 40),
+        both(third == 6, both(second == 40, last == 2)),
+    )
+}
+
+// A width and a comma; a variable's name and a comma.
+fn in_set(second: usize, last: usize) -> bool
+    ensures { λ r. ⌜ r ≡ in-set second last ⌝ }
+{
+    both(last == 44, either(second == 2, second == 1))
+}
+
+fn joins(code: usize) -> bool
+    ensures { λ r. ⌜ r ≡ is-joining code ⌝ }
+{
+    either(code == 38, code == 124)
+}
+
+fn general(code: usize, last: usize) {
+    if mark(code) {
+        repetition();
+        return;
+    }
+    if both(joins(code), ends_item(last)) {
+        mixed();
+        return;
+    }
+    if both(code == 40, last == 1) {
+        call();
+        return;
+    }
+    if both(begins_item(code), ends_item(last)) {
+        item();
+        return;
+    }
+    if code == 2 {
+        number();
+        return;
+    }
+    sign();
+}
+
+fn bracketed(code: usize, seen: Context) {
+    if in_field(seen.third, seen.second, seen.last) {
+        field();
+        return;
+    }
+    if in_set(seen.second, seen.last) {
+        set();
+        return;
+    }
+    if seen.last == 91 {
+        switch();
+        return;
+    }
+    general(code, seen.last);
+}
+
+fn misplaced(code: usize, seen: Context) {
+    if ranging(code, seen.last) {
+        range();
+        return;
+    }
+    bracketed(code, seen);
+}
+
+// Outside of brackets: after a `;`, and after that and a name.
+fn outside(code: usize, seen: Context) {
+    if seen.last == 59 {
+        rule_start();
+        return;
+    }
+    if both(seen.second == 59, seen.last == 1) {
+        equals();
+        return;
+    }
+    misplaced(code, seen);
+}
+
+fn opened(code: usize, seen: Context) {
+    if both(16 <= seen.depth, either(code == 40, code == 91)) {
+        deep();
+        return;
+    }
+    if seen.depth == 0 {
+        outside(code, seen);
+        return;
+    }
+    misplaced(code, seen);
+}
+
+fn standing(grammar: &[u8], at: usize, code: usize, seen: Context) {
+    if code == 5 {
+        end(seen);
+        return;
+    }
+    say(b"This cannot stand here:  ");
+    token(grammar, at);
+    say(b"\n");
+    opened(code, seen);
+}
+
+fn form_at(grammar: &[u8], base: usize, at: usize, code: usize) {
+    if code == 4 {
+        no_token(grammar, at);
+        return;
+    }
+    standing(grammar, at, code, before(grammar, base, at));
+}
+
+pub fn wrong(grammar: &[u8], at: usize) {
+    match text_header::header::header(grammar) {
+        Heading::Rules(base) => form_at(grammar, base, at, look(grammar, at).code),
+        Heading::Wrong(_) => {}
+    }
+}

@@ -1,0 +1,83 @@
+// Refusal 6: what is wrong with a name, after the name itself is said.
+use report_wording::writing::say;
+
+pub fn reserved() {
+    say(b" is a reserved word and cannot be a name.\n");
+    say(b"What to change: choose another name, here and wherever it is used.\n");
+    say(b"(A field is written uint(8, ~), its variable var(name, set) inside\n");
+    say(b"of uint, the frame's end eod.)\n");
+}
+
+pub fn double() {
+    say(b" is already the name of a rule:\n");
+}
+
+pub fn change_double() {
+    say(b"What to change: give one of the two rules another name, or take one out.\n");
+}
+
+pub fn no_rule() {
+    say(b" belongs to no rule.\n");
+    say(b"What to change: write the rule's name as the rule itself has it, in\n");
+    say(b"the same letter case; or add a rule of this name:\n");
+    say(b"    name = expression ;\n");
+}
+
+pub fn variable() {
+    say(b" is a variable in this rule, and a rule must stand here. It is bound at\n");
+}
+
+pub fn change_variable() {
+    say(b"What to change: a variable's value is used in a set, a count or a\n");
+    say(b"condition, as in \"A\"{n}. If a rule of the same name is meant, give\n");
+    say(b"the variable another name: it hides the rule.\n");
+}
+
+pub fn twice() {
+    say(b" is bound twice in this rule. It is already bound at\n");
+}
+
+pub fn change_twice() {
+    say(b"What to change: give one of the two variables another name.\n");
+}
+
+pub fn misplaced() {
+    say(b" cannot be bound here.\n");
+    say(b"What to change: a field with var(..) must be a member of the rule\n");
+    say(b"itself, outside of alternatives, parentheses, repetitions and\n");
+    say(b"switches. What binds a variable can be a rule of its own, as in\n");
+    say(b"    frame = card | mailer;\n");
+    say(b"    mailer = \"M\" & uint(8, var(n, ~)) & uint(8, ~){n};\n");
+}
+
+pub fn later() {
+    say(b" has no value yet here: it is a variable that is bound only at\n");
+}
+
+pub fn change_later() {
+    say(b"What to change: use it in a member that comes after the field that\n");
+    say(b"binds it. The field's own set cannot use it.\n");
+}
+
+pub fn rule() {
+    say(b" is a rule, and a variable or a number must stand here. The rule is\n");
+}
+
+pub fn elsewhere() {
+    say(b" is a variable of another rule only. It is bound at\n");
+}
+
+pub fn change_elsewhere() {
+    say(b"What to change: a variable can be used only in the rule that binds\n");
+    say(b"it. Bring the field that binds it and what uses it into one rule.\n");
+}
+
+pub fn no_variable() {
+    say(b" is no variable of this rule.\n");
+}
+
+pub fn change_unbound() {
+    say(b"What to change: write the variable's name as var(..) has it, in the\n");
+    say(b"same letter case; or bind it in an earlier member of this rule, as in\n");
+    say(b"    uint(8, var(n, ~)) & \"A\"{n}\n");
+}

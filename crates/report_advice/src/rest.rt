@@ -1,0 +1,70 @@
+// Refusals 1, 7, 8, 9 and 11.
+use report_wording::quoting::token;
+use report_wording::writing::say;
+use text_parsing::terminals::look;
+
+pub fn recursive(grammar: &[u8], at: usize) {
+    say(b"This rule reaches itself: it uses its own name, or a rule that leads\n");
+    say(b"back to it.\n");
+    say(b"What to change: write what is repeated with *, + or {n}, and let\n");
+    say(b"nothing lead back to the rule ");
+    token(grammar, at);
+    say(b".\n");
+}
+
+fn large_number() {
+    say(b"This number is too large: a number is at most 4294967295.\n");
+    say(b"What to change: write a smaller number.\n");
+}
+
+fn width() {
+    say(b"The width of a uint is a number of bits from 1 to 32.\n");
+    say(b"What to change: write such a width. A wider field is two, as in\n");
+    say(b"uint(32, ~) & uint(8, ~).\n");
+}
+
+fn calculation() {
+    say(b"This calculation can become too large: with every variable at its\n");
+    say(b"largest value, no part of it may pass 2^62 (about 4.6 times 10^18).\n");
+    say(b"What to change: multiply smaller numbers, or bind the variable by a\n");
+    say(b"uint of fewer bits.\n");
+}
+
+// 8: only a width is followed by a comma.
+pub fn extent(grammar: &[u8], at: usize) {
+    let sight = look(grammar, at);
+    let next = look(grammar, sight.end).code;
+    if next == 44 {
+        width();
+        return;
+    }
+    if 4294967295 < sight.value {
+        large_number();
+        return;
+    }
+    calculation();
+}
+
+pub fn empty_body() {
+    say(b"What this sign repeats can take no bits at all, so nobody could say\n");
+    say(b"how many passes there were.\n");
+    say(b"What to change: let each pass take at least one bit. Take away the\n");
+    say(b"?, * or {0~..} inside of it, or this sign. Where a rule is repeated,\n");
+    say(b"look into the rule. eod alone cannot be repeated.\n");
+}
+
+pub fn weight() {
+    say(b"The grammar is too heavy: its weight is over 65535, so a frame could\n");
+    say(b"take too many steps. A field weighs 1; a use of a rule 1 more than\n");
+    say(b"the rule; a concatenation 1 more than its members together; an\n");
+    say(b"alternative or a switch 1 more than its heaviest branch; a repetition\n");
+    say(b"twice what is repeated, and 1.\n");
+    say(b"What to change: put fewer repetitions inside of each other, and use\n");
+    say(b"heavy rules in fewer places.\n");
+}
+
+pub fn table() {
+    say(b"The room for the table is too small. This is a fault of the program,\n");
+    say(b"and not of the grammar.\n");
+    say(b"What to change: nothing in the grammar. Lend at least 16384 words.\n");
+}

@@ -1,0 +1,193 @@
+// What a grammar's text has at a construct, a rule or a name: the facts of the report.
+use faults::first_rule;
+use faults::from;
+use faults::name_fault;
+use faults::rule_number;
+use text_header::Heading;
+use text_names::words::node_word;
+use text_names::words::rule_word;
+ghost use mathlib.Core.Path.{_≡_};
+ghost use Prim.Native.Nat.{ℕ, _+_, _-_, _≤_};
+ghost use lib.ListN.{length, drop};
+ghost use Rattle.text_names.specs.Words.{node-word, place-of, kind-of};
+ghost use Rattle.admission.specs.Admitted.{form};
+ghost use Rattle.report_places.specs.Faults.{from-base, rule-number, first-rule, name-fault};
+ghost use Rattle.report_places.specs.Located.{totals-of, answered, located-in, located};
+
+mod faults;
+
+// A construct by its number; the rule that a place lies in; the rule that has the name at a place; what is wrong with the name at a place.
+pub enum Query {
+    Construct(usize),
+    Rule(usize),
+    Definition(usize),
+    Name(usize),
+}
+
+// What is wrong with a name that is not reserved. Numbers are places.
+pub enum Fault {
+    // A rule's name, which a rule above has.
+    Double(usize),
+    // Used as a rule: there is none of that name; or it is a variable, bound there.
+    NoRule,
+    Variable(usize),
+    // Bound: for the second time in its rule; or where nothing may be bound.
+    Twice(usize),
+    Misplaced,
+    // Used as a variable: bound in its rule, but not before; a rule's name; bound in another rule; none of these.
+    Later(usize),
+    Rule(usize),
+    Elsewhere(usize),
+    NoVariable,
+}
+
+// A construct's first byte in the whole text, its kind (6 literal, 7 range, 8 uint, 9 eod; the others as in `text_parsing`), and how many
+// constructs the text has. How many rules, constructs, terms and variables there are up to a rule's end. A rule's place. Nothing, where
+// the header or the form of the rules is wrong.
+pub enum Located {
+    Construct {
+        place: usize,
+        kind: usize,
+        count: usize,
+    },
+    Rule {
+        rules: usize,
+        constructs: usize,
+        terms: usize,
+        variables: usize,
+    },
+    Definition(usize),
+    Name(Fault),
+    Nothing,
+}
+
+fn construct(nodes: &[usize], base: usize, i: usize, count: usize) -> Located
+    requires { ⌜ (length (now nodes) ≡ 2560) × (base ≤ 8192) × ((k : ℕ) → node-word (now nodes) k 2 ≤ 8192) ⌝ }
+    ensures { λ r. ⌜ r ≡ Located.Construct (base + place-of (now (nodes .entry)) i) (kind-of (now (nodes .entry)) i) count ⌝ }
+{
+    let place = node_word(nodes, i, 2);
+    let kind = node_word(nodes, i, 0);
+    Located::Construct {
+        place: base + place,
+        kind,
+        count,
+    }
+}
+
+// Up to the end of rule k.
+fn totals(rules: &[usize], k: usize) -> Located
+    requires { ⌜ (length (now rules) ≡ 325) × (k ≤ 64) ⌝ }
+    ensures { λ r. ⌜ r ≡ totals-of (now (rules .entry)) k ⌝ }
+{
+    let constructs = rule_word(rules, k, 2);
+    let terms = rule_word(rules, k, 3);
+    let variables = rule_word(rules, k, 4);
+    Located::Rule {
+        rules: k + 1,
+        constructs,
+        terms,
+        variables,
+    }
+}
+
+fn rule(rules: &[usize], count: usize, p: usize) -> Located
+    requires { ⌜ length (now rules) ≡ 325 ⌝ }
+    ensures { λ r. ⌜ r ≡ totals-of (now (rules .entry)) (rule-number (now (rules .entry)) count p) ⌝ }
+{
+    totals(rules, rule_number(rules, count, p))
+}
+
+fn definition(text: &[u8], rules: &[usize], base: usize, count: usize, p: usize) -> Located
+    requires { ⌜ length (now rules) ≡ 325 ⌝ }
+    ensures { λ r. ⌜ r ≡ Located.Definition (from-base base (first-rule (now (text .entry)) (now (rules .entry)) count p)) ⌝ }
+{
+    Located::Definition(from(base, first_rule(text, rules, count, p)))
+}
+
+fn name(
+    text: &[u8],
+    nodes: &[usize],
+    rules: &[usize],
+    base: usize,
+    constructs: usize,
+    count: usize,
+    p: usize,
+) -> Located
+    requires { ⌜ (length (now nodes) ≡ 2560) × (length (now rules) ≡ 325) ⌝ }
+    ensures { λ r. ⌜ r ≡ Located.Name (name-fault (now (text .entry)) (now (nodes .entry)) (now (rules .entry)) base constructs count p) ⌝ }
+{
+    Located::Name(name_fault(text, nodes, rules, base, constructs, count, p))
+}
+
+fn inside(base: usize, at: usize) -> usize
+    ensures { λ r. ⌜ r ≡ at - base ⌝ }
+{
+    if base <= at {
+        return at - base;
+    }
+    0
+}
+
+fn answer(
+    text: &[u8],
+    nodes: &[usize],
+    rules: &[usize],
+    base: usize,
+    constructs: usize,
+    count: usize,
+    query: Query,
+) -> Located
+    requires { ⌜ (length (now nodes) ≡ 2560) × (length (now rules) ≡ 325) × (base ≤ 8192) × ((k : ℕ) → node-word (now nodes) k 2 ≤ 8192) ⌝ }
+    ensures { λ r. ⌜ r ≡ answered (now (text .entry)) (now (nodes .entry)) (now (rules .entry)) base constructs count query ⌝ }
+{
+    match query {
+        Query::Construct(i) => construct(nodes, base, i, constructs),
+        Query::Rule(at) => rule(rules, count, inside(base, at)),
+        Query::Definition(at) => definition(text, rules, base, count, inside(base, at)),
+        Query::Name(at) => name(
+            text,
+            nodes,
+            rules,
+            base,
+            constructs,
+            count,
+            inside(base, at),
+        ),
+    }
+}
+
+// Of the text that follows the empty line; `base` is its place in the whole text.
+fn locate_rules(text: &[u8], base: usize, query: Query) -> Located
+    requires { ⌜ (length (now text) ≤ 8192) × (base ≤ 8192) ⌝ }
+    ensures { λ r. ⌜ r ≡ located-in (now (text .entry)) base query (form (now (text .entry))) ⌝ }
+{
+    let mut nodes = [0usize; 2560];
+    let mut terms = [0usize; 4096];
+    let mut rules = [0usize; 325];
+    let c = text_syntax::rules::read(text, &mut nodes, &mut terms, &mut rules);
+    if c.code == 0 {
+        return Located::Nothing;
+    }
+    answer(text, &nodes, &rules, base, c.nodes, c.rules, query)
+}
+
+// The rules begin at `base`.
+fn locate_from(text: &[u8], base: usize, query: Query) -> Located
+    requires { ⌜ (base ≤ length (now text)) × (length (now text) ≤ 8192) ⌝ }
+    ensures { λ r. ⌜ r ≡ located-in (drop base (now (text .entry))) base query (form (drop base (now (text .entry)))) ⌝ }
+{
+    locate_rules(&text[base..], base, query)
+}
+
+// The answer for any bytes.
+pub fn locate(text: &[u8], query: Query) -> Located
+    ensures { λ r. ⌜ r ≡ located (now (text .entry)) query ⌝ }
+{
+    if 8192 < text.len() {
+        return Located::Nothing;
+    }
+    match text_header::header::header(text) {
+        Heading::Wrong(_) => Located::Nothing,
+        Heading::Rules(base) => locate_from(text, base, query),
+    }
+}

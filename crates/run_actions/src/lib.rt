@@ -1,0 +1,487 @@
+// What a step does with the first entry of a run's list, decided by reading alone.
+ghost use mathlib.Core.Path.{_≡_};
+ghost use Prim.Native.Nat.{ℕ, _+_, _*_, _^_, _≤_, _<_};
+ghost use lib.IntN.{pos};
+ghost use lib.ListN.{length, take, drop};
+ghost use Rattle.basis.specs.Bits.{value, frameBits};
+ghost use Rattle.table_layout.specs.Constructs.{constructAt};
+ghost use Rattle.term_evaluation.specs.Meaning.{membership};
+ghost use Rattle.table_layout.specs.Held.{term-words, terms-of, size-of, literal-byte};
+ghost use Rattle.run_actions.specs.Stored.{stored as storedOf};
+ghost use Rattle.run_actions.specs.Acts.{in-table, known-values, enter as enterOf, open-rule, ahead-at, branch-act, case-test, case-act, members-act, choice-act, turn-act, counted as countedOf, literal-holds, literal-act, by-set, range-act, bits-act, uint-act, end-act, Fine, construct-act, actOf};
+use table_layout::Construct;
+use table_layout::Passes;
+use term_evaluation::Counted;
+use term_evaluation::Tested;
+use term_integers::power;
+
+// What a step is to do.
+pub enum Act {
+    // Something in the table is missing or against its layout, or a calculation leaves 2^62.
+    Broken,
+    // No match.
+    Fail,
+    // The construct takes the entry's place.
+    Enter {
+        construct: usize,
+    },
+    // The parts from `start` up to `end`, `count` of them, take the entry's place.
+    Members {
+        start: usize,
+        end: usize,
+        count: usize,
+    },
+    // The body is done, and the entry again with one pass more.
+    Again {
+        body: usize,
+    },
+    // The entry is done.
+    Leave,
+    // A field of `width` bits holds; `value` goes to the variable `binder` - 1, where there is one.
+    Take {
+        width: usize,
+        binder: usize,
+        value: u64,
+    },
+}
+
+// Whether the string with number n is in the set whose words begin at `base`.
+fn stored(table: &[u32], base: usize, n: u64) -> bool
+    requires { ⌜ (base < 16384) × (n < 512) ⌝ }
+    ensures { λ r. ⌜ r ≡ storedOf (now (table .entry)) base n ⌝ }
+{
+    let at = (n / 32) as usize;
+    let w = table_layout::word(table, base + at) as u64;
+    w / power(n % 32) % 2 == 1
+}
+
+// How many constructs construct j is; a missing one is none.
+pub fn size_at(table: &[u32], j: usize) -> usize
+    ensures { λ r. ⌜ (r ≡ size-of (constructAt (now (table .entry)) j)) × (r ≤ 256) ⌝ }
+{
+    table_layout::size_of(table_layout::construct_at(table, j))
+}
+
+// The first branch whose prediction set holds what comes next, number n.
+fn branch(table: &[u32], n: u64, start: usize, end: usize) -> Act
+    requires { ⌜ (n < 512) × (end ≤ 256) ⌝ }
+    ensures { λ r. ⌜ r ≡ branch-act (now (table .entry)) n start end ⌝ }
+{
+    let mut j = start;
+    while j < end {
+        if stored(table, 7744 + 32 * j, n) {
+            return Act::Enter { construct: j };
+        }
+        let step = size_at(table, j);
+        if step == 0 {
+            return Act::Broken;
+        }
+        j += step;
+    }
+    Act::Fail
+}
+
+// The words of the terms.
+fn terms(table: &[u32]) -> &[u32]
+    requires { ⌜ 16384 ≤ length (now table) ⌝ }
+    ensures { λ r. ⌜ now r ≡ term-words (now (table .entry)) ⌝ }
+{
+    &table[2624..5696]
+}
+
+// Whether the case j of a switch is to be taken; one without a condition is the default.
+fn case_holds(table: &[u32], values: &[i64], j: usize) -> Tested
+    requires { ⌜ (16384 ≤ length (now table)) × (j < 256) ⌝ }
+    ensures { λ r. ⌜ r ≡ case-test (now (table .entry)) (now (values .entry)) j ⌝ }
+{
+    let start = table_layout::word(table, 576 + 8 * j + 6);
+    let end = table_layout::word(table, 576 + 8 * j + 7);
+    if start < end {
+        if table_layout::word(table, 4) < end {
+            return Tested::Malformed;
+        }
+        return term_evaluation::satisfied(terms(table), start, end, values);
+    }
+    Tested::Yes
+}
+
+// The first case to be taken.
+fn case(table: &[u32], values: &[i64], start: usize, end: usize) -> Act
+    requires { ⌜ (16384 ≤ length (now table)) × (end ≤ 256) ⌝ }
+    ensures { λ r. ⌜ r ≡ case-act (now (table .entry)) (now (values .entry)) start end ⌝ }
+{
+    let mut j = start;
+    while j < end {
+        match case_holds(table, values, j) {
+            Tested::Yes => {
+                return Act::Enter { construct: j };
+            }
+            Tested::No => {}
+            Tested::Malformed => {
+                return Act::Broken;
+            }
+            Tested::Overflow => {
+                return Act::Broken;
+            }
+        }
+        let step = size_at(table, j);
+        if step == 0 {
+            return Act::Broken;
+        }
+        j += step;
+    }
+    Act::Fail
+}
+
+// The members of a concatenation, counted.
+fn members(table: &[u32], start: usize, end: usize) -> Act
+    requires { ⌜ end ≤ 256 ⌝ }
+    ensures { λ r. ⌜ r ≡ members-act (now (table .entry)) start end ⌝ }
+{
+    let mut count = 0;
+    let mut j = start;
+    while j < end {
+        let step = size_at(table, j);
+        if step == 0 {
+            return Act::Broken;
+        }
+        count += 1;
+        j += step;
+    }
+    Act::Members { start, end, count }
+}
+
+// A construct takes the entry's place, if the table has it.
+fn enter(table: &[u32], i: usize) -> Act
+    ensures { λ r. ⌜ r ≡ enterOf (now (table .entry)) i ⌝ }
+{
+    if i < 256 {
+        if i < table_layout::word(table, 2) {
+            return Act::Enter { construct: i };
+        }
+    }
+    Act::Broken
+}
+
+// A rule's use becomes its body, where there is such a rule.
+fn open_rule(table: &[u32], rule: usize) -> Act
+    requires { ⌜ rule < 64 ⌝ }
+    ensures { λ r. ⌜ r ≡ open-rule (now (table .entry)) rule ⌝ }
+{
+    if rule < table_layout::word(table, 1) {
+        return enter(table, table_layout::word(table, 64 + 4 * rule));
+    }
+    Act::Broken
+}
+
+// Lookahead is asked only where the counts leave a choice.
+fn choice(table: &[u32], n: u64, i: usize) -> Act
+    requires { ⌜ (n < 512) × (i < 255) ⌝ }
+    ensures { λ r. ⌜ r ≡ choice-act (now (table .entry)) n i ⌝ }
+{
+    if stored(table, 7744 + 32 * (i + 1), n) {
+        return Act::Again { body: i + 1 };
+    }
+    if stored(table, 7744 + 32 * i + 16, n) {
+        return Act::Leave;
+    }
+    Act::Fail
+}
+
+// How many passes the terms from `start` up to `end` allow, if the table has them.
+fn counts_of(table: &[u32], values: &[i64], start: usize, end: usize) -> Counted
+    requires { ⌜ 16384 ≤ length (now table) ⌝ }
+    ensures { λ r. ⌜ r ≡ countedOf (now (table .entry)) (now (values .entry)) (Passes.Counted start end) ⌝ }
+{
+    if table_layout::word(table, 4) < end {
+        return Counted::Malformed;
+    }
+    term_evaluation::counts::count(terms(table), start, end, values)
+}
+
+fn counts(table: &[u32], values: &[i64], passes: Passes) -> Counted
+    requires { ⌜ 16384 ≤ length (now table) ⌝ }
+    ensures { λ r. ⌜ r ≡ countedOf (now (table .entry)) (now (values .entry)) passes ⌝ }
+{
+    match passes {
+        Passes::Optional => Counted::Within { low: 0, more: 1 },
+        Passes::Any => Counted::From { low: 0 },
+        Passes::Some => Counted::From { low: 1 },
+        Passes::Counted { start, end } => counts_of(table, values, start, end),
+    }
+}
+
+// What a repetition with k passes begun does.
+fn turn(table: &[u32], frame: &[u8], p: usize, i: usize, k: u64, counts: Counted) -> Act
+    requires { ⌜ (i < 255) × (p ≤ 8 * length (now frame)) × (length (now frame) ≤ 256) ⌝ }
+    ensures { λ r. ⌜ r ≡ turn-act (now (table .entry)) (ahead-at (now (frame .entry)) p) i k counts ⌝ }
+{
+    match counts {
+        Counted::None => Act::Fail,
+        Counted::From { low } => {
+            if k < low {
+                return Act::Again { body: i + 1 };
+            }
+            choice(table, ahead(frame, p), i)
+        }
+        Counted::Within { low, more } => {
+            if k < low {
+                return Act::Again { body: i + 1 };
+            }
+            if more <= k - low {
+                return Act::Leave;
+            }
+            choice(table, ahead(frame, p), i)
+        }
+        Counted::Malformed => Act::Broken,
+        Counted::Overflow => Act::Broken,
+    }
+}
+
+// The number of what comes next, which is below 512.
+fn ahead(frame: &[u8], p: usize) -> u64
+    requires { ⌜ (p ≤ 8 * length (now frame)) × (length (now frame) ≤ 256) ⌝ }
+    ensures { λ r. ⌜ (r ≡ ahead-at (now (frame .entry)) p) × (r < 512) ⌝ }
+{
+    run_frame::ahead(frame, p)
+}
+
+// Byte k of the literal of construct i.
+fn literal_byte(table: &[u32], i: usize, k: usize) -> u64
+    requires { ⌜ (i < 256) × (k < 32) ⌝ }
+    ensures { λ r. ⌜ (r ≡ literal-byte (now (table .entry)) i k) × (r < 256) ⌝ }
+{
+    let w = table_layout::word(table, 5696 + 8 * i + k / 4) as u64;
+    let place = (k % 4) as u64;
+    w / power(8 * place) % 256
+}
+
+// Whether the n bytes of a literal stand at bit p.
+fn literal_holds(table: &[u32], frame: &[u8], p: usize, i: usize, n: usize) -> bool
+    requires { ⌜ (p + 8 * n ≤ 8 * length (now frame)) × (length (now frame) ≤ 256) × (i < 256) × (n ≤ 32) ⌝ }
+    ensures { λ r. ⌜ r ≡ literal-holds (now (table .entry)) (now (frame .entry)) p i 0 n ⌝ }
+{
+    let mut k = 0;
+    while k < n {
+        let want = literal_byte(table, i, k);
+        if run_frame::bits(frame, p + 8 * k, 8) != want {
+            return false;
+        }
+        k += 1;
+    }
+    true
+}
+
+fn literal(table: &[u32], frame: &[u8], p: usize, i: usize, n: usize) -> Act
+    requires { ⌜ (p ≤ 8 * length (now frame)) × (length (now frame) ≤ 256) × (i < 256) × (n ≤ 32) ⌝ }
+    ensures { λ r. ⌜ r ≡ literal-act (now (table .entry)) (now (frame .entry)) p i n ⌝ }
+{
+    if p + 8 * n <= 8 * frame.len() {
+        if literal_holds(table, frame, p, i, n) {
+            return Act::Take {
+                width: 8 * n,
+                binder: 0,
+                value: 0,
+            };
+        }
+    }
+    Act::Fail
+}
+
+fn range(frame: &[u8], p: usize, low: usize, high: usize) -> Act
+    requires { ⌜ (p ≤ 8 * length (now frame)) × (length (now frame) ≤ 256) ⌝ }
+    ensures { λ r. ⌜ r ≡ range-act (now (frame .entry)) p low high ⌝ }
+{
+    if p + 8 <= 8 * frame.len() {
+        let v = run_frame::bits(frame, p, 8) as usize;
+        if low <= v {
+            if v <= high {
+                return Act::Take {
+                    width: 8,
+                    binder: 0,
+                    value: 0,
+                };
+            }
+        }
+    }
+    Act::Fail
+}
+
+// A uint whose set and variable the table has.
+fn uint(
+    table: &[u32],
+    frame: &[u8],
+    values: &[i64],
+    p: usize,
+    width: usize,
+    start: usize,
+    end: usize,
+    binder: usize,
+) -> Act
+    requires { ⌜ (16384 ≤ length (now table)) × (p ≤ 8 * length (now frame)) × (length (now frame) ≤ 256) × (width ≤ 32) ⌝ }
+    ensures { λ r. ⌜ r ≡ uint-act (now (table .entry)) (now (frame .entry)) (now (values .entry)) p width start end binder ⌝ }
+{
+    if table_layout::word(table, 4) < end {
+        return Act::Broken;
+    }
+    if table_layout::word(table, 3) < binder {
+        return Act::Broken;
+    }
+    bits(table, frame, values, p, width, start, end, binder)
+}
+
+fn bits(
+    table: &[u32],
+    frame: &[u8],
+    values: &[i64],
+    p: usize,
+    width: usize,
+    start: usize,
+    end: usize,
+    binder: usize,
+) -> Act
+    requires { ⌜ (16384 ≤ length (now table)) × (p ≤ 8 * length (now frame)) × (length (now frame) ≤ 256) × (width ≤ 32) ⌝ }
+    ensures { λ r. ⌜ r ≡ bits-act (now (table .entry)) (now (frame .entry)) (now (values .entry)) p width start end binder ⌝ }
+{
+    if p + width <= 8 * frame.len() {
+        let value = run_frame::bits(frame, p, width);
+        return by_set(
+            set_holds(table, values, start, end, value),
+            width,
+            binder,
+            value,
+        );
+    }
+    Act::Fail
+}
+
+// Whether a field's value is in the set of these terms.
+fn set_holds(table: &[u32], values: &[i64], start: usize, end: usize, value: u64) -> Tested
+    requires { ⌜ (16384 ≤ length (now table)) × (value < 4294967296) ⌝ }
+    ensures { λ r. ⌜ r ≡ membership (now (values .entry)) (pos value) start (terms-of (now (table .entry)) start end) ⌝ }
+{
+    term_evaluation::contains(terms(table), start, end, values, whole(value))
+}
+
+pub fn whole(n: u64) -> i64
+    requires { ⌜ n < 4294967296 ⌝ }
+    ensures { λ r. ⌜ r ≡ pos n ⌝ }
+{
+    term_integers::signed(n)
+}
+
+fn by_set(tested: Tested, width: usize, binder: usize, value: u64) -> Act
+    ensures { λ r. ⌜ r ≡ by-set tested width binder value ⌝ }
+{
+    match tested {
+        Tested::Yes => Act::Take {
+            width,
+            binder,
+            value,
+        },
+        Tested::No => Act::Fail,
+        Tested::Malformed => Act::Broken,
+        Tested::Overflow => Act::Broken,
+    }
+}
+
+// A repetition's first step or another.
+fn repeat(
+    table: &[u32],
+    frame: &[u8],
+    values: &[i64],
+    p: usize,
+    i: usize,
+    k: u64,
+    passes: Passes,
+) -> Act
+    requires { ⌜ (16384 ≤ length (now table)) × (i < 255) × (p ≤ 8 * length (now frame)) × (length (now frame) ≤ 256) ⌝ }
+    ensures { λ r. ⌜ r ≡ turn-act (now (table .entry)) (ahead-at (now (frame .entry)) p) i k (countedOf (now (table .entry)) (now (values .entry)) passes) ⌝ }
+{
+    turn(table, frame, p, i, k, counts(table, values, passes))
+}
+
+fn end(frame: &[u8], p: usize) -> Act
+    requires { ⌜ length (now frame) ≤ 256 ⌝ }
+    ensures { λ r. ⌜ r ≡ end-act (now (frame .entry)) p ⌝ }
+{
+    if p == 8 * frame.len() {
+        return Act::Leave;
+    }
+    Act::Fail
+}
+
+fn alternative(table: &[u32], frame: &[u8], p: usize, i: usize, size: usize) -> Act
+    requires { ⌜ (i + size ≤ 256) × (p ≤ 8 * length (now frame)) × (length (now frame) ≤ 256) ⌝ }
+    ensures { λ r. ⌜ r ≡ branch-act (now (table .entry)) (ahead-at (now (frame .entry)) p) (i + 1) (i + size) ⌝ }
+{
+    branch(table, ahead(frame, p), i + 1, i + size)
+}
+
+// What a construct's entry does, the construct being known.
+fn of_construct(
+    table: &[u32],
+    frame: &[u8],
+    values: &[i64],
+    p: usize,
+    i: usize,
+    k: u64,
+    construct: Construct,
+) -> Act
+    requires { ⌜ (16384 ≤ length (now table)) × (i < 256) × (p ≤ 8 * length (now frame)) × (length (now frame) ≤ 256) × Fine i construct ⌝ }
+    ensures { λ r. ⌜ r ≡ construct-act (now (table .entry)) (now (frame .entry)) (now (values .entry)) p i k construct ⌝ }
+{
+    match construct {
+        Construct::Missing => Act::Broken,
+        Construct::Alternative { size } => alternative(table, frame, p, i, size),
+        Construct::Concatenation { size } => members(table, i + 1, i + size),
+        Construct::Repetition { size: _, passes } => repeat(table, frame, values, p, i, k, passes),
+        Construct::Switch { size } => case(table, values, i + 1, i + size),
+        Construct::Use { rule } => open_rule(table, rule),
+        Construct::Literal { length } => literal(table, frame, p, i, length),
+        Construct::Range { low, high } => range(frame, p, low, high),
+        Construct::Uint {
+            width,
+            start,
+            end,
+            binder,
+        } => uint(table, frame, values, p, width, start, end, binder),
+        Construct::Eod => end(frame, p),
+    }
+}
+
+// The same over the values of the table's variables alone.
+fn of_known(
+    table: &[u32],
+    frame: &[u8],
+    values: &[i64],
+    p: usize,
+    i: usize,
+    k: u64,
+    construct: Construct,
+) -> Act
+    requires { ⌜ (16384 ≤ length (now table)) × (i < 256) × (p ≤ 8 * length (now frame)) × (length (now frame) ≤ 256) × Fine i construct ⌝ }
+    ensures { λ r. ⌜ r ≡ construct-act (now (table .entry)) (now (frame .entry)) (known-values (now (table .entry)) (now (values .entry))) p i k construct ⌝ }
+{
+    let count = table_layout::word(table, 3);
+    if count < values.len() {
+        return of_construct(table, frame, &values[0..count], p, i, k, construct);
+    }
+    of_construct(table, frame, values, p, i, k, construct)
+}
+
+// What a step does with the entry (i, k) of a run at bit p: nothing is written.
+pub fn decide(table: &[u32], frame: &[u8], values: &[i64], p: usize, i: usize, k: u64) -> Act
+    requires { ⌜ (16384 ≤ length (now table)) × (i ≤ 256) × (p ≤ 8 * length (now frame)) × (length (now frame) ≤ 256) ⌝ }
+    ensures { λ r. ⌜ r ≡ actOf (now (table .entry)) (now (frame .entry)) (now (values .entry)) p i k ⌝ }
+{
+    if i == 256 {
+        return open_rule(table, 0);
+    }
+    let construct = table_layout::construct_at(table, i);
+    let end = i + table_layout::size_of(construct);
+    if end <= table_layout::word(table, 2) {
+        return of_known(table, frame, values, p, i, k, construct);
+    }
+    Act::Broken
+}

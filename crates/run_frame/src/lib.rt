@@ -1,0 +1,53 @@
+// A frame's bits, most significant first, read by whole bytes.
+ghost use mathlib.Core.Path.{_≡_};
+ghost use Prim.Native.Nat.{ℕ, _+_, _*_, _≤_, _<_, _^_};
+ghost use lib.ListN.{length, take, drop};
+ghost use Rattle.basis.specs.Bits.{value, frameBits};
+ghost use Rattle.basis.specs.Lookahead.{lookahead, number};
+ghost use Rattle.basis.proofs.Frames.{bytes-value};
+use term_integers::power;
+
+fn wide(x: u8) -> u64
+    ensures { λ r. ⌜ (r ≡ x) × (r < 256) ⌝ }
+{
+    x as u64
+}
+
+// n bytes from byte q on, as one number.
+fn bytes(frame: &[u8], q: usize, n: usize) -> u64
+    requires { ⌜ (q + n ≤ length (now frame)) × (n ≤ 5) ⌝ }
+    ensures { λ r. ⌜ (r ≡ bytes-value (now (frame .entry)) q n) × (r < 2 ^ (8 * n)) ⌝ }
+{
+    let mut sum: u64 = 0;
+    let mut i = 0;
+    while i < n {
+        sum = sum * 256 + wide(frame[q + i]);
+        i += 1;
+    }
+    sum
+}
+
+// w bits from bit p on, at most 32, as a number.
+pub fn bits(frame: &[u8], p: usize, w: usize) -> u64
+    requires { ⌜ (p + w ≤ 8 * length (now frame)) × (w ≤ 32) × (length (now frame) ≤ 256) ⌝ }
+    ensures { λ r. ⌜ (r ≡ value (take w (drop p (frameBits (now (frame .entry)))))) × (r < 2 ^ w) ⌝ }
+{
+    let q = p / 8;
+    let r = p % 8;
+    let n = (r + w + 7) / 8;
+    let y = bytes(frame, q, n);
+    let below = 8 * n - r;
+    (y % power(below as u64)) / power((below - w) as u64)
+}
+
+// The number of what comes next at bit p (document 01's window).
+pub fn ahead(frame: &[u8], p: usize) -> u64
+    requires { ⌜ (p ≤ 8 * length (now frame)) × (length (now frame) ≤ 256) ⌝ }
+    ensures { λ r. ⌜ r ≡ number (lookahead (drop p (frameBits (now (frame .entry))))) ⌝ }
+{
+    let left = 8 * frame.len() - p;
+    if left < 8 {
+        return power(left as u64) + bits(frame, p, left);
+    }
+    256 + bits(frame, p, 8)
+}

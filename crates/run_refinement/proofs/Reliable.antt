@@ -1,0 +1,90 @@
+-- What must hold of words so that no run from an opening breaks; and that then every list of terms comes to an answer.
+-- Assumes nothing.
+use Prim.Native.Nat.{ℕ, _+_, _-_, _^_, _≤_, _<_, min}
+use native.Mathlib.Omega.{arith}
+use borrow.Author.Tests.{lt-ltb}
+use mathlib.Core.Path.{_≡_, sym, _∙_}
+use mathlib.Core.Bool.{Bool, true, false}
+use mathlib.Core.List.{List}
+use lib.Dec.{eqb}
+use lib.IntN.{ℤ, pos}
+use lib.ListN.{length, getD, length-replicate, getD-replicate}
+use Rattle.term_words.specs.declared.Kind.{Kind}
+use Rattle.term_evaluation.specs.declared.Counted.{Counted}
+use Rattle.term_sizes.specs.Sizes.{sizes, countSizes}
+use Rattle.term_sizes.specs.declared.Sized.{Sized}
+use Rattle.term_sizes.specs.Inside.{Inside}
+use Rattle.term_sizes.proofs.Forms.{list-passes, counts-passes}
+use Rattle.theory.specs.Hypotheses.{Hypotheses}
+use Rattle.theory.specs.Weight.{Outweighs, Houses}
+use Rattle.table_layout.specs.Places.{construct-word, variable-word, construct-count, weight-of}
+use Rattle.table_layout.specs.Constructs.{both, constructAt}
+use Rattle.table_layout.specs.Held.{Context, first-context, term-words, terms-of, opening, held}
+use Rattle.table_layout.specs.declared.Construct.{Construct}
+use Rattle.table_layout.specs.declared.Passes.{Passes}
+use Rattle.table_wellformed.specs.Parts.{parts-laid}
+use Rattle.table_wellformed.specs.Lists.{formed, zero-values, list-formed, counts-formed}
+use Rattle.table_wellformed.specs.Rules.{named-back}
+use Rattle.table_wellformed.specs.Laid.{operands-zero, second-part, construct-end, passes-laid}
+use Rattle.table_wellformed.proofs.Walks.{both-first, both-second}
+use Rattle.table_structure.proofs.Facts.{Laid}
+use Rattle.run_actions.specs.Stored.{tests-of}
+
+-- `widest` has the size of each variable, `weight` and `rooms` the weight and the room of each construct
+pub record Reliable (ws : List ℕ) (widest : List ℤ) (weight rooms : Context → ℕ → ℕ) : Type 0 where
+  -- laid out as docs/TABLE.md says (`table_wellformed`): constructs below the count are there, and so is all that they lead to
+  pub laid : Laid ws
+  -- refusal 8, "variables at their widest": 64 sizes, each the largest value of the variable's width
+  pub variables : length widest ≡ 64
+  pub each-widest : (x : ℕ) → x < 64 → getD widest x (pos 0) ≡ pos (2 ^ min 32 (variable-word ws x 1) - 1)
+  -- refusal 8: no list of terms has a size past 2^62 (that none is malformed is in `laid`)
+  pub conditions-within : (i : ℕ) → i < construct-count ws → construct-word ws i 6 < construct-word ws i 7
+      → (at : ℕ) → sizes Kind.Condition widest (construct-word ws i 6) (terms-of ws (construct-word ws i 6) (construct-word ws i 7)) ≡ Sized.Exceeds at → ⊥
+  pub counts-within : (i n start end : ℕ) → i < construct-count ws → constructAt ws i ≡ Construct.Repetition n (Passes.Counted start end)
+      → (at : ℕ) → countSizes widest (term-words ws) start end ≡ Sized.Exceeds at → ⊥
+  pub sets-within : (i width start end binder : ℕ) → i < construct-count ws → constructAt ws i ≡ Construct.Uint width start end binder
+      → (at : ℕ) → sizes Kind.Set widest start (terms-of ws start end) ≡ Sized.Exceeds at → ⊥
+  -- refusal 7 gives weights and room (`table_weights`); stored weight = computed weight
+  pub weighs : Outweighs (held ws) weight
+  pub weight-stored : weight first-context opening ≤ weight-of ws
+  pub houses : Houses (held ws) rooms
+  pub room-most : rooms first-context opening ≤ 256
+  -- what the theory asks: 6, 7, 9, 10, and stored sets = computed sets
+  pub hypotheses : Hypotheses (held ws) (tests-of ws)
+
+-- a list that is formed is not malformed
+formed-not : (y : Sized) → formed y ≡ true → y ≡ Sized.Malformed → ⊥
+formed-not y f e = let z : formed Sized.Malformed ≡ true = rw e at f in let w : _≡_ {A = ℕ} 0 1 = cc in omega arith
+
+module _ {ws : List ℕ} {widest : List ℤ} {weight rooms : Context → ℕ → ℕ} (r : Reliable ws widest weight rooms) where
+  -- before a binding values are 0, within every size
+  pub zero-inside : Inside zero-values widest
+  zero-inside =
+      record {
+        same = length-replicate 64 (pos 0) ∙ sym (r .variables);
+        each =
+            λ k l.
+            let m : k < 64 = omega (arith, r .variables) in
+            rw (getD-replicate 64 k (pos 0) (pos 0) m) record { size = 2 ^ min 32 (variable-word ws k 1) - 1; is = r .each-widest k m; le = omega arith };
+      }
+
+  -- so every list comes to an answer
+  pub condition-answers : (i : ℕ) → i < construct-count ws → construct-word ws i 6 < construct-word ws i 7
+      → sizes Kind.Condition widest (construct-word ws i 6) (terms-of ws (construct-word ws i 6) (construct-word ws i 7)) ≡ Sized.Passes
+  condition-answers i h l =
+      let f : list-formed Kind.Condition ws (construct-word ws i 6) (construct-word ws i 7) ≡ true = rw (lt-ltb (construct-word ws i 6) (construct-word ws i 7) l) at (r .laid .condition i h) in
+      list-passes zero-values widest zero-inside Kind.Condition (construct-word ws i 6) (terms-of ws (construct-word ws i 6) (construct-word ws i 7)) (formed-not _ f) (r .conditions-within i h l)
+
+  pub counts-answer : (i n start end : ℕ) → i < construct-count ws → constructAt ws i ≡ Construct.Repetition n (Passes.Counted start end) → countSizes widest (term-words ws) start end ≡ Sized.Passes
+  counts-answer i n start end h e =
+      let P : Bool = passes-laid ws i (Passes.Counted start end) in
+      let S : Bool = both (eqb (second-part ws i) (construct-end ws i)) (parts-laid ws false (i + 1) (construct-end ws i)) in
+      let k : both P S ≡ true = rw e at (r .laid .kind i h) in
+      let f : counts-formed ws start end ≡ true = both-second (operands-zero ws i 5) (counts-formed ws start end) (both-first P S k) in
+      counts-passes zero-values widest zero-inside (term-words ws) start end (formed-not _ f) (r .counts-within i n start end h e)
+
+  pub set-answers : (i width start end binder : ℕ) → i < construct-count ws → constructAt ws i ≡ Construct.Uint width start end binder → sizes Kind.Set widest start (terms-of ws start end) ≡ Sized.Passes
+  set-answers i width start end binder h e =
+      let k : both (named-back ws i binder) (list-formed Kind.Set ws start end) ≡ true = rw e at (r .laid .kind i h) in
+      let f : list-formed Kind.Set ws start end ≡ true = both-second (named-back ws i binder) (list-formed Kind.Set ws start end) k in
+      list-passes zero-values widest zero-inside Kind.Set start (terms-of ws start end) (formed-not _ f) (r .sets-within i width start end binder h e)

@@ -1,0 +1,86 @@
+-- A variable's width is that of its binder, so the values that a binder gives are at most the variable's largest.
+-- Assumes nothing.
+use Prim.Native.Nat.{ℕ, suc, _-_, _≤_, _<_}
+use native.Mathlib.Omega.{arith}
+use borrow.Author.Tests.{leb-true, eqb-true, ne-eqb}
+use mathlib.Core.Path.{_≡_, refl, sym, _∙_, ap}
+use mathlib.Core.Bool.{Bool, true}
+use mathlib.Core.List.{List}
+use lib.Dec.{leb, ltb, eqb}
+use Rattle.term_words.specs.declared.Kind.{Kind}
+use Rattle.table_layout.specs.Places.{construct-word, variable-word, construct-count, variable-count}
+use Rattle.table_layout.specs.Constructs.{pick, both, branches, listed, repetitionOf, innerOf, leafOf, constructOf, constructAt}
+use Rattle.table_layout.specs.declared.Construct.{Construct}
+use Rattle.table_layout.specs.declared.Passes.{Passes}
+use Rattle.table_wellformed.specs.Lists.{list-formed}
+use Rattle.table_wellformed.specs.Rules.{named-back}
+use Rattle.table_wellformed.proofs.Walks.{both-first, both-second}
+use Rattle.table_structure.proofs.Facts.{Laid}
+use Rattle.run_refinement.proofs.Picks.{either-way}
+use Rattle.table_structure.proofs.Binding.{bound-in, variable-of}
+
+-- a uint's width is its first operand
+abbrev HasWidth : ℕ → Construct → Type 0
+HasWidth a Construct.Missing = Unit {0}
+HasWidth a (Construct.Alternative size) = Unit {0}
+HasWidth a (Construct.Concatenation size) = Unit {0}
+HasWidth a (Construct.Repetition size passes) = Unit {0}
+HasWidth a (Construct.Switch size) = Unit {0}
+HasWidth a (Construct.Use rule) = Unit {0}
+HasWidth a (Construct.Literal length) = Unit {0}
+HasWidth a (Construct.Range low high) = Unit {0}
+HasWidth a (Construct.Uint width start end binder) = a ≡ width
+HasWidth a Construct.Eod = Unit {0}
+
+inner-width : (x kind size a b c : ℕ) → HasWidth x (innerOf kind size a b c)
+inner-width x kind size a b c =
+    either-way (HasWidth x) (eqb kind 1) tt (either-way (HasWidth x) (eqb kind 2) tt (either-way (HasWidth x) (eqb kind 3) repeated tt))
+  where
+    counted : HasWidth x (pick (both (eqb a 4) (listed b c)) (Construct.Repetition size (Passes.Counted b c)) Construct.Missing)
+    counted = either-way (HasWidth x) (both (eqb a 4) (listed b c)) tt tt
+
+    repeated : HasWidth x (repetitionOf size a b c)
+    repeated = either-way (HasWidth x) (eqb a 1) tt (either-way (HasWidth x) (eqb a 2) tt (either-way (HasWidth x) (eqb a 3) tt counted))
+
+leaf-width : (kind a b c d : ℕ) → HasWidth a (leafOf kind a b c d)
+leaf-width kind a b c d =
+    either-way (HasWidth a) (eqb kind 5) (either-way (HasWidth a) (ltb a 64) tt tt)
+    (either-way (HasWidth a) (eqb kind 6) (either-way (HasWidth a) (both (leb 1 a) (leb a 32)) tt tt)
+    (either-way (HasWidth a) (eqb kind 7) (either-way (HasWidth a) (both (ltb a 128) (ltb b 128)) tt tt)
+    (either-way (HasWidth a) (eqb kind 8) (either-way (HasWidth a) (both (both (leb 1 a) (leb a 32)) (both (listed b c) (leb d 64))) refl tt)
+    (either-way (HasWidth a) (eqb kind 9) tt tt))))
+
+construct-width : (ws : List ℕ) (i : ℕ) → HasWidth (construct-word ws i 2) (constructAt ws i)
+unfolding constructAt constructOf
+construct-width ws i =
+    let x : ℕ = construct-word ws i 2 in
+    let kind : ℕ = construct-word ws i 0 in
+    let size : ℕ = construct-word ws i 1 in
+    either-way (HasWidth x) (ltb i 256)
+    (either-way (HasWidth x) (both (leb 1 kind) (leb kind 4))
+    (either-way (HasWidth x) (branches i size) (inner-width x kind size x (construct-word ws i 3) (construct-word ws i 4)) tt)
+    (either-way (HasWidth x) (eqb size 1) (leaf-width kind x (construct-word ws i 3) (construct-word ws i 4) (construct-word ws i 5)) tt))
+    tt
+
+-- a binder's variable, and its width
+pub record Binder (ws : List ℕ) (x width : ℕ) : Type 0 where
+  pub known : x < 64
+  pub counted : suc x ≤ variable-count ws
+  pub width-is : variable-word ws x 1 ≡ width
+
+pub binder-width : {ws : List ℕ} → Laid ws → (i width start end x : ℕ) → i < construct-count ws → constructAt ws i ≡ Construct.Uint width start end (suc x) → Binder ws x width
+binder-width {ws} l i width start end x h e =
+    let N : Bool = named-back ws i (suc x) in
+    let both-laid : both N (list-formed Kind.Set ws start end) ≡ true = rw e at (l .kind i h) in
+    let named : both (leb (suc x) (variable-count ws)) (eqb (variable-word ws (suc x - 1) 0) i) ≡ true = rw (ne-eqb (suc x) 0 (λ z. omega arith)) at (both-first N (list-formed Kind.Set ws start end) both-laid) in
+    let few : suc x ≤ variable-count ws = leb-true (suc x) (variable-count ws) (both-first (leb (suc x) (variable-count ws)) (eqb (variable-word ws (suc x - 1) 0) i) named) in
+    let z : suc x - 1 ≡ x = omega arith in
+    let place : variable-word ws x 0 ≡ i = sym (ap (λ (y : ℕ). variable-word ws y 0) z) ∙ eqb-true (variable-word ws (suc x - 1) 0) i (both-second (leb (suc x) (variable-count ws)) (eqb (variable-word ws (suc x - 1) 0) i) named) in
+    let o = variable-of l x (omega arith) in
+    let b = bound-in l (o .rule) x (o .exists) (o .begins) (o .ends) in
+    let w : construct-word ws i 2 ≡ width = rw e at (construct-width ws i) in
+    record {
+      known = omega (arith, l .counts .variables);
+      counted = few;
+      width-is = b .width ∙ (ap (λ (y : ℕ). construct-word ws y 2) place ∙ w);
+    }

@@ -1,0 +1,26 @@
+-- What the bound of condition 3 leaves of a count of steps.
+-- Assumes nothing.
+use Prim.Native.Nat.{ℕ, _+_, _*_, _≤_, _<_}
+use native.Mathlib.Nat.{mul-le-mul}
+use native.Mathlib.Omega.{arith}
+use borrow.Author.Tests.{leb-true, ltb-true}
+use mathlib.Core.Path.{_≡_, refl}
+use mathlib.Core.Bool.{Bool, true, false, false≢true}
+use mathlib.Core.List.{List}
+use lib.Dec.{leb, ltb}
+use lib.ListN.{length}
+use Rattle.table_layout.specs.Places.{weight-of}
+use Rattle.table_layout.specs.Constructs.{pick}
+use Rattle.run_actions.specs.Acts.{bits-of}
+use Rattle.run_steps.specs.Steps.{in-bound}
+
+-- a count of steps within the bound may be raised
+pub bound-small : (ws fs : List ℕ) (n : ℕ) → in-bound ws fs n ≡ true → length fs ≤ 256 → n < 18446744073709551615
+bound-small ws fs n h l = within (leb (weight-of ws) 65535) refl h
+  where
+    within : (t : Bool) → leb (weight-of ws) 65535 ≡ t → pick t (ltb n (weight-of ws * (bits-of fs + 1))) false ≡ true → n < 18446744073709551615
+    within true e k =
+        let w : weight-of ws * (bits-of fs + 1) ≤ 65535 * 2049 = mul-le-mul {m₂ = 2049} (leb-true (weight-of ws) 65535 e) (omega arith) in
+        let m : n < weight-of ws * (bits-of fs + 1) = ltb-true n (weight-of ws * (bits-of fs + 1)) k in
+        omega arith
+    within false e k = absurd (false≢true k)

@@ -1,0 +1,187 @@
+// Refusals 9 and 10 over a table's words: repeated bodies that may be empty, and conflicts (01's clashes) with their least window.
+ghost use mathlib.Core.Path.{_≡_};
+ghost use Prim.Native.Nat.{_+_, _-_, _≤_, _<_};
+ghost use lib.ListN.{length};
+ghost use Rattle.table_layout.specs.Constructs.{constructAt};
+ghost use Rattle.table_layout.specs.Held.{isExact, passes-fixed};
+ghost use Rattle.term_evaluation.specs.Counts.{formOf};
+ghost use Rattle.lookahead.specs.Sets.{Decides};
+ghost use Rattle.table_first_follow.specs.Rounds.{strings};
+ghost use Rattle.table_first_follow.specs.Parts.{siblings};
+ghost use Rattle.table_first_follow.proofs.HeldLaws.{Fine};
+ghost use Rattle.table_conflicts.specs.Clashes.{Branching, Turning, Repeating, ClashOf, EmptyAt};
+use table_first_follow::parts::set_of;
+use table_layout::Construct;
+use table_layout::Passes;
+use table_layout::construct_at;
+use table_wellformed::lists::term_words;
+use term_words::Term;
+use term_words::decode::term_at;
+
+mod windows;
+
+// A conflict of one construct, with the number of its least window: two branches of an alternative, or continue and exit of a repetition.
+pub enum Clash {
+    None,
+    Branches {
+        window: usize,
+        first: usize,
+        second: usize,
+    },
+    Passes {
+        window: usize,
+    },
+}
+
+// Whether counts with this last term are written `{n}`.
+fn exact(last: Term) -> bool
+    ensures { λ r. ⌜ r ≡ isExact (formOf last) ⌝ }
+{
+    match last {
+        Term::Range => false,
+        Term::From => false,
+        Term::UpTo => false,
+        Term::Part(_) => true,
+        Term::Single(_) => true,
+        Term::All => true,
+        Term::Or => true,
+        Term::Except => true,
+        Term::And => true,
+        Term::Compare(_) => true,
+        Term::Bad => true,
+    }
+}
+
+fn before(end: usize) -> usize
+    ensures { λ r. ⌜ r ≡ end - 1 ⌝ }
+{
+    if 0 < end {
+        return end - 1;
+    }
+    0
+}
+
+// Whether a repetition is written `{n}`.
+fn fixed(table: &[u32], passes: Passes) -> bool
+    requires { ⌜ 16384 ≤ length (now table) ⌝ }
+    ensures { λ r. ⌜ r ≡ passes-fixed (now (table .entry)) passes ⌝ }
+{
+    match passes {
+        Passes::Optional => false,
+        Passes::Any => false,
+        Passes::Some => false,
+        Passes::Counted { start: _, end } => exact(term_at(term_words(table), before(end))),
+    }
+}
+
+// The parts from `start` up to `end` are an alternative's branches.
+fn branches(table: &[u32], prediction: &[u64], start: usize, end: usize) -> Clash
+    requires { ⌜ (length (now prediction) ≡ 2056) × (end ≤ 256) ⌝ }
+    ensures { λ r. ⌜ Branching (strings (now (prediction .entry))) (siblings (now (table .entry)) start end) r ⌝ }
+{
+    let window = windows::least_shared(table, prediction, start, end);
+    if window == 0 {
+        return Clash::None;
+    }
+    let first = windows::holder(table, prediction, start, end, 0, window);
+    let second = windows::holder(table, prediction, start, end, first + 1, window);
+    Clash::Branches {
+        window,
+        first,
+        second,
+    }
+}
+
+// A repetition continues by its body's prediction set, and exits by its FOLLOW set.
+fn turns(follow: &[u64], prediction: &[u64], i: usize) -> Clash
+    requires { ⌜ (length (now follow) ≡ 2056) × (length (now prediction) ≡ 2056) × (i < 256) ⌝ }
+    ensures { λ r. ⌜ Turning (strings (now (prediction .entry)) (i + 1)) (strings (now (follow .entry)) i) r ⌝ }
+{
+    let window = windows::shared(set_of(prediction, i + 1), set_of(follow, i));
+    if window == 0 {
+        return Clash::None;
+    }
+    Clash::Passes { window }
+}
+
+fn unfixed(follow: &[u64], prediction: &[u64], i: usize, fixed: bool) -> Clash
+    requires { ⌜ (length (now follow) ≡ 2056) × (length (now prediction) ≡ 2056) × (i < 256) ⌝ }
+    ensures { λ r. ⌜ Repeating fixed (strings (now (prediction .entry)) (i + 1)) (strings (now (follow .entry)) i) r ⌝ }
+{
+    if fixed {
+        return Clash::None;
+    }
+    turns(follow, prediction, i)
+}
+
+fn clash_of(
+    table: &[u32],
+    follow: &[u64],
+    prediction: &[u64],
+    i: usize,
+    construct: Construct,
+) -> Clash
+    requires { ⌜ (16384 ≤ length (now table)) × (length (now follow) ≡ 2056) × (length (now prediction) ≡ 2056) × (i < 256) × Fine i construct ⌝ }
+    ensures { λ r. ⌜ ClashOf (now (table .entry)) (strings (now (follow .entry))) (strings (now (prediction .entry))) i construct r ⌝ }
+{
+    match construct {
+        Construct::Missing => Clash::None,
+        Construct::Alternative { size } => branches(table, prediction, i + 1, i + size),
+        Construct::Concatenation { size: _ } => Clash::None,
+        Construct::Repetition { size: _, passes } => {
+            unfixed(follow, prediction, i, fixed(table, passes))
+        }
+        Construct::Switch { size: _ } => Clash::None,
+        Construct::Use { rule: _ } => Clash::None,
+        Construct::Literal { length: _ } => Clash::None,
+        Construct::Range { low: _, high: _ } => Clash::None,
+        Construct::Uint {
+            width: _,
+            start: _,
+            end: _,
+            binder: _,
+        } => Clash::None,
+        Construct::Eod => Clash::None,
+    }
+}
+
+// The conflict of construct i, if it has one.
+pub fn conflict(table: &[u32], follow: &[u64], prediction: &[u64], i: usize) -> Clash
+    requires { ⌜ (16384 ≤ length (now table)) × (length (now follow) ≡ 2056) × (length (now prediction) ≡ 2056) × (i < 256) ⌝ }
+    ensures { λ r. ⌜ ClashOf (now (table .entry)) (strings (now (follow .entry))) (strings (now (prediction .entry))) i (constructAt (now (table .entry)) i) r ⌝ }
+{
+    clash_of(table, follow, prediction, i, construct_at(table, i))
+}
+
+fn may_be_empty(first: &[u64], i: usize, construct: Construct) -> bool
+    requires { ⌜ (length (now first) ≡ 2056) × (i < 256) ⌝ }
+    ensures { λ r. ⌜ Decides r (EmptyAt (strings (now (first .entry))) i construct) ⌝ }
+{
+    match construct {
+        Construct::Missing => false,
+        Construct::Alternative { size: _ } => false,
+        Construct::Concatenation { size: _ } => false,
+        Construct::Repetition { size: _, passes: _ } => {
+            lookahead::has_empty_string(set_of(first, i + 1))
+        }
+        Construct::Switch { size: _ } => false,
+        Construct::Use { rule: _ } => false,
+        Construct::Literal { length: _ } => false,
+        Construct::Range { low: _, high: _ } => false,
+        Construct::Uint {
+            width: _,
+            start: _,
+            end: _,
+            binder: _,
+        } => false,
+        Construct::Eod => false,
+    }
+}
+
+// Whether construct i is a repetition whose body may be empty (01's empty first window).
+pub fn empty_body(table: &[u32], first: &[u64], i: usize) -> bool
+    requires { ⌜ (length (now first) ≡ 2056) × (i < 256) ⌝ }
+    ensures { λ r. ⌜ Decides r (EmptyAt (strings (now (first .entry))) i (constructAt (now (table .entry)) i)) ⌝ }
+{
+    may_be_empty(first, i, construct_at(table, i))
+}

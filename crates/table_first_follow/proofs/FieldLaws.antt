@@ -1,0 +1,236 @@
+-- The FIRST sets of fields, from the numbers of their strings.
+-- Assumes nothing.
+use Prim.Native.Nat.{ℕ, zero, suc, _+_, _-_, _*_, _/_, _%_, _^_, _≤_, _<_, min, max}
+use mathlib.Core.Path.{_≡_, refl, sym, ap, _∙_, subst}
+use mathlib.Core.Bool.{Bool, true, false}
+use mathlib.Core.Logic.{inl, inr, _↔_}
+use mathlib.Core.List.{List, [], _∷_}
+use native.Mathlib.Omega.{arith}
+use native.Mathlib.Decide.{ℕ-discrete, decLt}
+use native.Mathlib.Nat.{mod-eq-of-lt, add-zero}
+use borrow.Author.Tests.{le-leb, leb-true}
+use lib.Dec.{leb}
+use lib.IntN.{pos}
+use lib.ListN.{length, length-take}
+use lib.Seq.{take-at}
+use lib.Pow.{pow-mono}
+use Rattle.basis.specs.Bits.{Bits, bitsOf, value, frameBits, same}
+use Rattle.basis.specs.Lookahead.{lookahead, number}
+use Rattle.basis.proofs.Frames.{frame-length}
+use Rattle.basis.proofs.Strings.{same-refl, same-true}
+use Rattle.basis.proofs.Numbers.{number-value, number-ge, number-lt, number-injective, number-bitsOf}
+use Rattle.basis.proofs.Values.{length-bitsOf, value-bitsOf, value-less, bitsOf-value}
+use Rattle.basis.proofs.Joins.{lookahead-length, lookahead-short}
+use Rattle.lookahead.specs.Sets.{Has, Is, Union}
+use Rattle.lookahead.proofs.PassLaws.{is-map, no-pass}
+use Rattle.table_layout.specs.Places.{word, literals-at}
+use Rattle.table_layout.specs.Constructs.{pick, both, constructAt}
+use Rattle.table_layout.specs.Held.{held, node-of, HeldNode, literal-bytes, in-static-set, term-words, terms-of, isYes}
+use Rattle.table_layout.specs.declared.Construct.{Construct}
+use Rattle.term_evaluation.specs.Meaning.{membership}
+use Rattle.term_evaluation.specs.Variables.{hasVariable}
+use Rattle.term_evaluation.specs.declared.Tested.{Tested}
+use Rattle.term_prefixes.specs.Prefixes.{admits}
+use Rattle.term_membership.specs.Members.{holds}
+use Rattle.term_membership.specs.Members as Members
+use Rattle.term_words.specs.Numbers as Numbers
+use Rattle.table_first_follow.specs.Rules.{Seeded, Leading}
+use Rattle.table_first_follow.specs.Fields.{Numbered, Any, Led}
+use Rattle.table_first_follow.proofs.HeldLaws.{node-inside, node-opening, missing}
+
+-- ---- strings gathered by their numbers
+
+module _ (low : ℕ) (P : ℕ → Type 0) where
+  pub numbered-none : (n : ℕ) (out : List ℕ) → n ≡ low → Is out (λ (x : Bits). ⊥) → Is out (Numbered low n P)
+  numbered-none n out e s = is-map out (λ (x : Bits). ⊥) (Numbered low n P) (λ x. ((λ z. absurd z), (λ h. omega (arith, h .1, h .2)))) s
+
+  pub numbered-hit : (n : ℕ) (out one next : List ℕ) → low ≤ n → P n → Is out (Numbered low n P) → Is one (λ (x : Bits). (length x ≤ 8) × (number x ≡ n))
+      → Is next (Union (Has out) (Has one)) → Is next (Numbered low (n + 1) P)
+  numbered-hit n out one next l p s o u = is-map next (Union (Has out) (Has one)) (Numbered low (n + 1) P) (λ x. (to x, back x)) u
+    where
+      to : (x : Bits) → Union (Has out) (Has one) x → Numbered low (n + 1) P x
+      to x (inl h) = let q = s .strings x .0 h in (q .0, q .1, omega (arith, q .2), q .3)
+      to x (inr h) = let q = o .strings x .0 h in (q .0, omega (arith, q .1), omega (arith, q .1), subst P (sym (q .1)) p)
+
+      back : (x : Bits) → Numbered low (n + 1) P x → Union (Has out) (Has one) x
+      back x q = elim (ℕ-discrete (number x) n) [
+        | yes e ↦ inr (o .strings x .1 (q .0, e))
+        | no e ↦ inl (s .strings x .1 (q .0, q .1, omega (arith, q .2, e), q .3))
+      ]
+
+  pub numbered-miss : (n : ℕ) (out : List ℕ) → (P n → ⊥) → Is out (Numbered low n P) → Is out (Numbered low (n + 1) P)
+  numbered-miss n out f s = is-map out (Numbered low n P) (Numbered low (n + 1) P) (λ x. (
+    (λ q. (q .0, q .1, omega (arith, q .2), q .3)),
+    (λ q. elim (ℕ-discrete (number x) n) [ yes e ↦ absurd (f (subst P e (q .3))) | no e ↦ (q .0, q .1, omega (arith, q .2, e), q .3) ]),
+  )) s
+
+  -- at the end, where there may have been no number
+  pub numbered-end : (n high : ℕ) (out : List ℕ) → high ≤ n → n ≤ max low high → Is out (Numbered low n P) → Is out (Numbered low high P)
+  numbered-end n high out h l s = is-map out (Numbered low n P) (Numbered low high P) (λ x. (
+    (λ q. (q .0, q .1, omega (arith, q .1, q .2), q .3)),
+    (λ q. (q .0, q .1, omega (arith, q .2), q .3)),
+  )) s
+
+-- ---- a field of 8 bits and more
+
+number-eight : (x : Bits) → length x ≡ 8 → number x ≡ 256 + value x
+number-eight x e = number-value x ∙ ap (λ (k : ℕ). 2 ^ k + value x) e
+
+eight : (x : Bits) → length x ≤ 8 → 256 ≤ number x → length x ≡ 8
+eight x h g = elim (decLt (length x) 8) [
+  | yes l ↦ let p : 2 ^ suc (length x) ≤ 2 ^ 8 = pow-mono {i = suc (length x)} {j = 8} (omega arith) in absurd (omega (arith, number-lt x))
+  | no l ↦ omega arith
+]
+
+-- ---- ranges
+
+both-true : (a b : Bool) → a ≡ true → b ≡ true → both a b ≡ true
+both-true true b p q = q
+both-true false b p q = p
+
+both-parts : (a b : Bool) → both a b ≡ true → (a ≡ true) × (b ≡ true)
+both-parts true b e = (refl, e)
+both-parts false b e = let z : _≡_ {A = ℕ} 0 1 = cc in absurd (omega arith)
+
+module _ (low high : ℕ) (h : high < 128) where
+  abbrev test : Bits → Bool
+  test bits = both (leb low (value bits)) (leb (value bits) high)
+
+  pub range-strings : (x : Bits) → Numbered (256 + low) (257 + high) Any x ↔ Leading (λ bits. 8) test x
+  range-strings x = (to, back)
+    where
+      to : Numbered (256 + low) (257 + high) Any x → Leading (λ bits. 8) test x
+      to q =
+          let e : length x ≡ 8 = eight x (q .0) (omega (arith, q .1)) in
+          let v : number x ≡ 256 + value x = number-eight x e in
+          (x, e, both-true (leb low (value x)) (leb (value x) high) (le-leb low (value x) (omega (arith, q .1))) (le-leb (value x) high (omega (arith, q .2))), sym (lookahead-short x (omega arith)))
+
+      back : Leading (λ bits. 8) test x → Numbered (256 + low) (257 + high) Any x
+      back (bits, e, t, p) =
+          let b : x ≡ bits = p ∙ lookahead-short bits (omega arith) in
+          let l : length x ≡ 8 = ap length b ∙ e in
+          let v : number x ≡ 256 + value x = number-eight x l in
+          let w : value x ≡ value bits = ap value b in
+          let u = both-parts (leb low (value bits)) (leb (value bits) high) t in
+          let u0 : low ≤ value bits = leb-true low (value bits) (u .0) in
+          let u1 : value bits ≤ high = leb-true (value bits) high (u .1) in
+          (omega arith, omega arith, omega arith, tt)
+
+-- ---- literals
+
+frame-first : (b : ℕ) (bs : List ℕ) → lookahead (frameBits (b ∷ bs)) ≡ bitsOf 8 b
+unfolding frameBits
+frame-first b bs = take-at (bitsOf 8 b) (frameBits bs) 8 (length-bitsOf 8 b)
+
+module _ (b : ℕ) (bs : List ℕ) where
+  -- the strings of a literal: its first byte
+  literal-strings : (x : Bits) → ((length x ≤ 8) × (number x ≡ 256 + b % 256)) ↔ Leading (λ bits. 8 * length (b ∷ bs)) (λ bits. same bits (frameBits (b ∷ bs))) x
+  literal-strings x = (to, back)
+    where
+      to : (length x ≤ 8) × (number x ≡ 256 + b % 256) → Leading (λ bits. 8 * length (b ∷ bs)) (λ bits. same bits (frameBits (b ∷ bs))) x
+      to q = (frameBits (b ∷ bs), frame-length (b ∷ bs), same-refl (frameBits (b ∷ bs)), number-injective x (bitsOf 8 b) (q .1 ∙ sym (number-bitsOf 8 b)) ∙ sym (frame-first b bs))
+
+      back : Leading (λ bits. 8 * length (b ∷ bs)) (λ bits. same bits (frameBits (b ∷ bs))) x → (length x ≤ 8) × (number x ≡ 256 + b % 256)
+      back (bits, l, t, p) =
+          let e : x ≡ bitsOf 8 b = p ∙ ap lookahead (same-true bits (frameBits (b ∷ bs)) t) ∙ frame-first b bs in
+          (subst (λ (s : Bits). length s ≤ 8) (sym p) (lookahead-length bits), ap number e ∙ number-bitsOf 8 b)
+
+-- ---- uints
+
+yes-same : (t : Tested) → isYes t ≡ Members.isYes t
+yes-same Tested.No = refl
+yes-same Tested.Yes = refl
+yes-same Tested.Malformed = refl
+yes-same Tested.Overflow = refl
+
+pick-same : (b : Bool) (x y : Bool) → x ≡ y → pick b true x ≡ Numbers.pick b true y
+pick-same true x y e = refl
+pick-same false x y e = e
+
+module _ (ws : List ℕ) (start end : ℕ) where
+  static-admits : (n : ℕ) → in-static-set ws start end n ≡ admits start (terms-of ws start end) (pos n)
+  unfolding admits holds
+  static-admits n = pick-same (hasVariable (terms-of ws start end)) _ _ (yes-same (membership [] (pos n) start (terms-of ws start end)))
+
+  module _ (width : ℕ) where
+    abbrev count : ℕ
+    count = 2 ^ min 8 width
+
+    pub uint-strings : (x : Bits) → Numbered count (count + count) (Led width (term-words ws) start end) x ↔ Leading (λ bits. width) (λ bits. in-static-set ws start end (value bits)) x
+    uint-strings x = (to, back)
+      where
+        to : Numbered count (count + count) (Led width (term-words ws) start end) x → Leading (λ bits. width) (λ bits. in-static-set ws start end (value bits)) x
+        to (l, lo, hi, (v, k)) =
+            let e : value (bitsOf width v) ≡ v = value-bitsOf width v ∙ mod-eq-of-lt (k .less) in
+            (bitsOf width v, length-bitsOf width v, ap (in-static-set ws start end) e ∙ static-admits v ∙ k .member, number-injective x (lookahead (bitsOf width v)) (sym (k .leading)))
+
+        back : Leading (λ bits. width) (λ bits. in-static-set ws start end (value bits)) x → Numbered count (count + count) (Led width (term-words ws) start end) x
+        back (bits, l, t, p) =
+            let n : length x ≡ min 8 width = ap length p ∙ length-take 8 bits ∙ ap (min 8) l in
+            let b : bitsOf width (value bits) ≡ bits = ap (λ (w : ℕ). bitsOf w (value bits)) (sym l) ∙ bitsOf-value bits in
+            let g : count ≤ number x = subst (λ (k : ℕ). 2 ^ k ≤ number x) n (number-ge x) in
+            let u : number x < 2 ^ suc (min 8 width) = subst (λ (k : ℕ). number x < 2 ^ suc k) n (number-lt x) in (
+              omega arith,
+              g,
+              omega arith,
+              (
+                value bits,
+                record {
+                  less = subst (λ (w : ℕ). value bits < 2 ^ w) l (value-less bits);
+                  member = sym (static-admits (value bits)) ∙ t;
+                  leading = ap (λ (s : Bits). number (lookahead s)) b ∙ ap number (sym p);
+                },
+              ),
+            )
+
+-- ---- a construct's seed
+
+module _ (ws : List ℕ) (i : ℕ) (h : i < 257) (r : Construct) (e : r ≡ constructAt ws i) (out : List ℕ) where
+  abbrev Right : Type 0
+  Right = Is out (Seeded (held ws .node i))
+
+  -- the opening use has none, as a construct that is missing
+  pub seed-placed : (c : Construct) → r ≡ c → Is out (Seeded (node-of ws i c)) → Right
+  unfolding node-of
+  seed-placed c p s = elim (decLt i 256) [
+    | yes l ↦ subst (λ (n : HeldNode). Is out (Seeded n)) (sym (node-inside ws i l ∙ ap (node-of ws i) (sym e ∙ p))) s
+    | no l ↦
+        subst (λ (n : HeldNode). Is out (Seeded n)) (sym (node-opening ws i (omega arith)))
+        (subst (λ (k : Construct). Is out (Seeded (node-of ws i k))) (sym p ∙ e ∙ missing ws i (omega arith)) s)
+  ]
+
+  pub seed-none : (c : Construct) → r ≡ c → ((x : Bits) → Seeded (node-of ws i c) x → ⊥) → Is out (λ (x : Bits). ⊥) → Right
+  seed-none c p f s = seed-placed c p (is-map out (λ (x : Bits). ⊥) (Seeded (node-of ws i c)) (λ x. ((λ z. absurd z), f x)) s)
+
+  literal-shape : (n : ℕ) → 1 ≤ n
+      → (x : Bits) → ((length x ≤ 8) × (number x ≡ 256 + word ws (literals-at + 8 * i) % 256)) ↔ Seeded (node-of ws i (Construct.Literal n)) x
+  unfolding node-of literal-bytes
+  literal-shape zero l x = absurd (omega arith)
+  literal-shape (suc n) l x =
+      let w : ℕ = word ws (literals-at + 8 * i + 0) in
+      let b : ℕ = w / 1 % 256 in
+      let q : b % 256 ≡ word ws (literals-at + 8 * i) % 256 = omega arith ∙ ap (λ (k : ℕ). word ws k % 256) (add-zero (literals-at + 8 * i)) in
+      subst (λ (k : ℕ). ((length x ≤ 8) × (number x ≡ 256 + k)) ↔ Leading (λ bits. 8 * length (b ∷ literal-bytes ws i 1 n)) (λ bits. same bits (frameBits (b ∷ literal-bytes ws i 1 n))) x) q (literal-strings b (literal-bytes ws i 1 n) x)
+
+  pub seed-literal : (n : ℕ) (w : ℕ) → r ≡ Construct.Literal n → 1 ≤ n → w ≡ word ws (literals-at + 8 * i)
+      → Is out (λ (x : Bits). (length x ≤ 8) × (number x ≡ 256 + w % 256)) → Right
+  seed-literal n w p l q s =
+      seed-placed (Construct.Literal n) p
+      (is-map out (λ (x : Bits). (length x ≤ 8) × (number x ≡ 256 + word ws (literals-at + 8 * i) % 256)) (Seeded (node-of ws i (Construct.Literal n))) (literal-shape n l)
+      (subst (λ (v : ℕ). Is out (λ (x : Bits). (length x ≤ 8) × (number x ≡ 256 + v % 256))) q s))
+
+  pub seed-range : (low high : ℕ) → r ≡ Construct.Range low high → high < 128 → Is out (Numbered (256 + low) (257 + high) Any) → Right
+  unfolding node-of
+  seed-range low high p l s = seed-placed (Construct.Range low high) p (is-map out (Numbered (256 + low) (257 + high) Any) (Seeded (node-of ws i (Construct.Range low high))) (range-strings low high l) s)
+
+  pub seed-uint : (width start end binder : ℕ) → r ≡ Construct.Uint width start end binder
+      → Is out (Numbered (2 ^ min 8 width) (2 ^ min 8 width + 2 ^ min 8 width) (Led width (term-words ws) start end)) → Right
+  unfolding node-of
+  seed-uint width start end binder p s =
+      seed-placed (Construct.Uint width start end binder) p
+      (is-map out (Numbered (2 ^ min 8 width) (2 ^ min 8 width + 2 ^ min 8 width) (Led width (term-words ws) start end)) (Seeded (node-of ws i (Construct.Uint width start end binder)))
+      (uint-strings ws start end width) s)
+
+  pub seed-eod : r ≡ Construct.Eod → Is out (λ (x : Bits). (length x ≤ 8) × (number x ≡ 1)) → Right
+  unfolding node-of
+  seed-eod p s = seed-placed Construct.Eod p (no-pass (λ (x : Bits). ⊥) out s)

@@ -1,0 +1,93 @@
+// The parts of a construct: its first is the next number, and each is as far after the one before as that one is large.
+ghost use mathlib.Core.Path.{_≡_};
+ghost use Prim.Native.Nat.{_≤_};
+ghost use lib.ListN.{length, take};
+ghost use Rattle.lookahead.specs.Sets.{Has, Is};
+ghost use Rattle.table_layout.specs.Constructs.{constructAt};
+ghost use Rattle.table_layout.specs.Held.{size-of as sizeOf};
+ghost use Rattle.table_first_follow.specs.Rounds.{strings, either-of as eitherOf};
+ghost use Rattle.table_first_follow.specs.Parts.{siblings, Combined, Neutral, Gathered};
+use lookahead::Set;
+use table_layout::Construct;
+use table_layout::construct_at;
+
+pub fn size_at(table: &[u32], i: usize) -> usize
+    ensures { λ r. ⌜ (r ≡ sizeOf (constructAt (now (table .entry)) i)) × (r ≤ 256) ⌝ }
+{
+    table_layout::size_of(construct_at(table, i))
+}
+
+// Set i of a family in the one form of a set; a number past the family's has none.
+pub fn set_of(family: &[u64], i: usize) -> Set
+    requires { ⌜ length (now family) ≡ 2056 ⌝ }
+    ensures { λ r. ⌜ Is (r .words) (strings (now (family .entry)) i) ⌝ }
+{
+    if i < 257 {
+        return lookahead::union(
+            lookahead::empty(),
+            lookahead_slices::family::load(family, i),
+        );
+    }
+    lookahead::empty()
+}
+
+fn neutral(joined: bool) -> Set
+    ensures { λ r. ⌜ Is (r .words) (Neutral joined) ⌝ }
+{
+    if joined {
+        return lookahead::single(1);
+    }
+    lookahead::empty()
+}
+
+fn combine(joined: bool, a: Set, b: Set) -> Set
+    ensures { λ r. ⌜ Is (r .words) (Combined joined (Has (a .words)) (Has (b .words))) ⌝ }
+{
+    if joined {
+        return lookahead::join(a, b);
+    }
+    lookahead::union(a, b)
+}
+
+// The sets of the parts from `start` up to `end`, all joined or all united.
+pub fn gather(table: &[u32], family: &[u64], start: usize, end: usize, joined: bool) -> Set
+    requires { ⌜ (length (now family) ≡ 2056) × (end ≤ 256) ⌝ }
+    ensures { λ r. ⌜ Is (r .words) (Gathered joined (strings (now (family .entry))) (siblings (now (table .entry)) start end)) ⌝ }
+{
+    let mut out = neutral(joined);
+    let mut at = start;
+    while at < end {
+        out = combine(joined, out, set_of(family, at));
+        let size = size_at(table, at);
+        if size == 0 {
+            return out;
+        }
+        at += size;
+    }
+    out
+}
+
+// The numbers of the parts from `start` up to `end`; how many there are.
+pub fn places(table: &[u32], start: usize, end: usize, out: &mut [usize]) -> usize
+    requires { ⌜ (length (now out) ≡ 256) × (end ≤ 256) ⌝ }
+    ensures { λ r. ⌜ (take r (now (out .exit)) ≡ siblings (now (table .entry)) start end) × (r ≤ 256) ⌝ }
+{
+    let mut n = 0;
+    let mut at = start;
+    while at < end {
+        out[n] = at;
+        n += 1;
+        let size = size_at(table, at);
+        if size == 0 {
+            return n;
+        }
+        at += size;
+    }
+    n
+}
+
+pub fn either(a: bool, b: bool) -> bool
+    ensures { λ r. ⌜ r ≡ eitherOf a b ⌝ }
+{
+    if a { true } else { b }
+}

@@ -1,0 +1,142 @@
+-- What the judgement passes is read from the words below the sets, and not from the weight: words that were judged may be given their weight
+-- and their sets.
+-- Assumes nothing.
+use Prim.Native.Nat.{ℕ, zero, suc, _+_, _≤_, _<_}
+use mathlib.Core.Path.{_≡_, refl, sym, subst, ap, _∙_}
+use mathlib.Core.List.{List, _∷_}
+use native.Mathlib.Omega.{arith}
+use lib.Dec.{ltb}
+use Rattle.term_words.specs.Words.{terms}
+use Rattle.term_words.specs.declared.Kind.{Kind}
+use Rattle.term_sizes.specs.Sizes.{sizes, countSizes}
+use Rattle.term_sizes.specs.declared.Sized.{Sized}
+use Rattle.theory.specs.Grammar.{Grammar}
+use Rattle.theory.specs.Lookahead.{Follow, Predicted, Conflict, EmptyBody}
+use Rattle.theory.specs.Weight.{Weighs}
+use Rattle.table_layout.specs.Places.{construct-count, rule-count, weight-of}
+use Rattle.table_layout.specs.Constructs.{pick, constructAt}
+use Rattle.table_layout.specs.Held.{Context, first-context, Values, held, opening}
+use Rattle.table_layout.specs.declared.Construct.{Construct}
+use Rattle.table_layout.specs.declared.Passes.{Passes}
+use Rattle.table_wellformed.specs.Checks.{either}
+use Rattle.table_structure.proofs.Facts.{Laid, facts}
+use Rattle.table_reach.specs.Reaching.{Uses, Reaches, Acyclic}
+use Rattle.table_sizes.specs.Measures.{largest, widest-from, widest, condition-size, counts-size, own-size, exceeds, oversized}
+use Rattle.run_actions.specs.Stored.{prediction-at, follow-at}
+use Rattle.table_judge.specs.Judged.{Weighing, Passed10}
+use Rattle.table_judge.specs.Sound.{Stands, Sound}
+use Rattle.table_hypotheses.specs.OneTable.{Alike, Ended}
+use Rattle.table_hypotheses.proofs.HeldLocal.{construct-words, rule-words, variable-words, constructs-same, terms-same, held-local}
+use Rattle.table_hypotheses.proofs.LaidLocal.{header-same}
+use Rattle.table_hypotheses.proofs.RulesLocal.{rule-end-same, laid-local}
+
+pub alike-back : {ws ws′ : List ℕ} → Alike ws ws′ → Alike ws′ ws
+alike-back a = record { long = a .long′; long′ = a .long; same = λ k h e. sym (a .same k h e) }
+
+module _ {ws ws′ : List ℕ} (a : Alike ws ws′) where
+  pub count-same : construct-count ws ≡ construct-count ws′
+  count-same = header-same a 2 (omega arith)
+
+  -- ---- 7
+
+  module _ (l : Laid ws) where
+    uses-back : (r q : ℕ) → Uses ws′ r q → Uses ws r q
+    uses-back r q u =
+        let rules : rule-count ws ≡ rule-count ws′ = header-same a 1 (omega arith) in
+        let h : r < rule-count ws = omega (arith, u .rule) in
+        record {
+          at = u .at;
+          rule = h;
+          from = omega (arith, u .from, rule-words a r 0 (omega (arith, l .counts .rules)) (omega arith));
+          upto = omega (arith, u .upto, rule-end-same a l r 0 (omega arith));
+          used = constructs-same a (u .at) ∙ u .used;
+        }
+
+    reaches-back : {r q : ℕ} → Reaches ws′ r q → Reaches ws r q
+    reaches-back {r} {q} (Reaches.directly u) = Reaches.directly (uses-back r q u)
+    reaches-back {r} (Reaches.through {p = p} u s) = Reaches.through (uses-back r p u) (reaches-back s)
+
+    pub acyclic-local : Acyclic ws → Acyclic ws′
+    acyclic-local none r s = none r (reaches-back s)
+
+  -- ---- 8
+
+  widest-same : (n x : ℕ) → x + n ≤ 64 → widest-from n ws x ≡ widest-from n ws′ x
+  unfolding widest-from
+  widest-same zero x h = refl
+  widest-same (suc n) x h = λ t. largest (variable-words a x 1 (omega arith) (omega arith) t) ∷ widest-same n (x + 1) (omega arith) t
+
+  pub widest-local : widest ws ≡ widest ws′
+  widest-local = widest-same 64 0 (omega arith)
+
+  condition-size-same : (i : ℕ) → i < 256 → condition-size ws i ≡ condition-size ws′ i
+  condition-size-same i h =
+      let from = construct-words a i 6 h (omega arith) in
+      let upto = construct-words a i 7 h (omega arith) in
+      λ t. pick (ltb (from t) (upto t)) (sizes Kind.Condition (widest-local t) (from t) (terms (terms-same a t) (from t) (upto t))) Sized.Passes
+
+  counts-size-same : (p : Passes) → counts-size ws p ≡ counts-size ws′ p
+  counts-size-same Passes.Optional = refl
+  counts-size-same Passes.Any = refl
+  counts-size-same Passes.Some = refl
+  counts-size-same (Passes.Counted start end) = λ t. countSizes (widest-local t) (terms-same a t) start end
+
+  own-size-same : (c : Construct) → own-size ws c ≡ own-size ws′ c
+  own-size-same Construct.Missing = refl
+  own-size-same (Construct.Alternative size) = refl
+  own-size-same (Construct.Concatenation size) = refl
+  own-size-same (Construct.Repetition size p) = counts-size-same p
+  own-size-same (Construct.Switch size) = refl
+  own-size-same (Construct.Use rule) = refl
+  own-size-same (Construct.Literal length) = refl
+  own-size-same (Construct.Range low high) = refl
+  own-size-same (Construct.Uint width start end binder) = λ t. sizes Kind.Set (widest-local t) start (terms (terms-same a t) start end)
+  own-size-same Construct.Eod = refl
+
+  pub oversized-local : (i : ℕ) → i < 256 → oversized ws i ≡ oversized ws′ i
+  oversized-local i h =
+      let own : own-size ws (constructAt ws i) ≡ own-size ws′ (constructAt ws′ i) = own-size-same (constructAt ws i) ∙ ap (own-size ws′) (constructs-same a i) in
+      λ t. either (exceeds (condition-size-same i h t)) (exceeds (own t))
+
+  -- ---- what holds of the grammar
+
+  pub of-held : (P : Grammar Context Values → Type 0) → P (held ws) → P (held ws′)
+  of-held P = subst P (held-local a)
+
+  pub weighing-local : (P : ℕ → Type 0) → Weighing ws P → Weighing ws′ P
+  weighing-local P = of-held (λ g. (weight : Context → ℕ → ℕ) → Weighs g weight → P (weight first-context opening))
+
+  -- ---- 5 to 10
+
+  pub passed-local : Ended ws′ → Passed10 ws → Passed10 ws′
+  passed-local e p =
+      let seven = p .passed .passed .passed in
+      let l : Laid ws = facts ws (seven .laid-out) in
+      record {
+        passed =
+            record {
+              passed =
+                  record {
+                    passed = record { laid-out = laid-local a e (seven .laid-out); acyclic = acyclic-local l (seven .acyclic) };
+                    sized = λ i h o. p .passed .passed .sized i (omega (arith, count-same)) (oversized-local i (omega (arith, count-same, l .counts .constructs)) ∙ o);
+                  };
+              no-empty-body = of-held (λ g. (i : ℕ) → EmptyBody g i → ⊥) (p .passed .no-empty-body);
+            };
+        no-conflict = of-held (λ g. (i : ℕ) → ((x : _) × Conflict g i x) → ⊥) (p .no-conflict);
+      }
+
+  -- Words that pass, given the weight and the sets of their grammar, are sound.
+  pub sound-local : Ended ws′ → Passed10 ws → Weighing ws (λ n. n ≡ weight-of ws′)
+      → ((i : ℕ) → i < construct-count ws → Stands ws′ (prediction-at i) (Predicted (held ws) i) × Stands ws′ (follow-at i) (Follow (held ws) i)) → Sound ws′
+  sound-local e p w s =
+      record {
+        passed = passed-local e p;
+        weight = weighing-local (λ n. n ≡ weight-of ws′) w;
+        sets =
+            λ i h.
+            let both = s i (omega (arith, count-same)) in
+            record {
+              prediction = of-held (λ g. Stands ws′ (prediction-at i) (Predicted g i)) (both .0);
+              follow = of-held (λ g. Stands ws′ (follow-at i) (Follow g i)) (both .1);
+            };
+      }

@@ -1,0 +1,271 @@
+// The words of a table (docs/TABLE.md): where things stand, and what they say. Any words may arrive.
+ghost use mathlib.Core.Path.{_≡_};
+ghost use Prim.Native.Nat.{ℕ, _+_, _*_, _<_};
+ghost use Rattle.table_layout.specs.Held.{size-of};
+ghost use Rattle.table_layout.specs.Places.{word as wordAt};
+ghost use Rattle.table_layout.specs.Constructs.{branches as branchesOf, listed as listedOf, repetitionOf, innerOf, uintOf, literalOf, rangeOf, leafOf, withoutParts, constructOf, constructAt};
+
+// How often a repetition's body is passed: `?`, `*`, `+`, or the counts of the terms from `start` up to `end`.
+pub enum Passes {
+    Optional,
+    Any,
+    Some,
+    Counted { start: usize, end: usize },
+}
+
+// A construct as its words have it. `size` counts the construct and all below it.
+pub enum Construct {
+    Missing,
+    Alternative {
+        size: usize,
+    },
+    Concatenation {
+        size: usize,
+    },
+    Repetition {
+        size: usize,
+        passes: Passes,
+    },
+    Switch {
+        size: usize,
+    },
+    Use {
+        rule: usize,
+    },
+    Literal {
+        length: usize,
+    },
+    Range {
+        low: usize,
+        high: usize,
+    },
+    Uint {
+        width: usize,
+        start: usize,
+        end: usize,
+        binder: usize,
+    },
+    Eod,
+}
+
+fn wide(x: u32) -> usize
+    ensures { λ r. ⌜ (r ≡ x) × (r < 4294967296) ⌝ }
+{
+    x as usize
+}
+
+// A word of the table; past its end there is none, read as 0.
+pub fn word(table: &[u32], k: usize) -> usize
+    ensures { λ r. ⌜ (r ≡ wordAt (now (table .entry)) k) × (r < 4294967296) ⌝ }
+{
+    if k < table.len() {
+        return wide(table[k]);
+    }
+    0
+}
+
+fn branches(i: usize, size: usize) -> bool
+    requires { ⌜ i < 256 ⌝ }
+    ensures { λ r. ⌜ r ≡ branchesOf i size ⌝ }
+{
+    if size < 2 {
+        return false;
+    }
+    if 256 < size {
+        return false;
+    }
+    i + size <= 256
+}
+
+fn listed(start: usize, end: usize) -> bool
+    ensures { λ r. ⌜ r ≡ listedOf start end ⌝ }
+{
+    if end < start {
+        return false;
+    }
+    end <= 1024
+}
+
+fn repetition(size: usize, how: usize, start: usize, end: usize) -> Construct
+    ensures { λ r. ⌜ r ≡ repetitionOf size how start end ⌝ }
+{
+    if how == 1 {
+        return Construct::Repetition {
+            size,
+            passes: Passes::Optional,
+        };
+    }
+    if how == 2 {
+        return Construct::Repetition {
+            size,
+            passes: Passes::Any,
+        };
+    }
+    if how == 3 {
+        return Construct::Repetition {
+            size,
+            passes: Passes::Some,
+        };
+    }
+    if how == 4 {
+        if listed(start, end) {
+            return Construct::Repetition {
+                size,
+                passes: Passes::Counted { start, end },
+            };
+        }
+    }
+    Construct::Missing
+}
+
+fn inner(kind: usize, size: usize, a: usize, b: usize, c: usize) -> Construct
+    ensures { λ r. ⌜ r ≡ innerOf kind size a b c ⌝ }
+{
+    if kind == 1 {
+        return Construct::Alternative { size };
+    }
+    if kind == 2 {
+        return Construct::Concatenation { size };
+    }
+    if kind == 3 {
+        return repetition(size, a, b, c);
+    }
+    Construct::Switch { size }
+}
+
+fn uint(width: usize, start: usize, end: usize, binder: usize) -> Construct
+    ensures { λ r. ⌜ r ≡ uintOf width start end binder ⌝ }
+{
+    if width < 1 {
+        return Construct::Missing;
+    }
+    if 32 < width {
+        return Construct::Missing;
+    }
+    if listed(start, end) {
+        if binder <= 64 {
+            return Construct::Uint {
+                width,
+                start,
+                end,
+                binder,
+            };
+        }
+    }
+    Construct::Missing
+}
+
+fn literal(length: usize) -> Construct
+    ensures { λ r. ⌜ r ≡ literalOf length ⌝ }
+{
+    if length < 1 {
+        return Construct::Missing;
+    }
+    if 32 < length {
+        return Construct::Missing;
+    }
+    Construct::Literal { length }
+}
+
+fn range(low: usize, high: usize) -> Construct
+    ensures { λ r. ⌜ r ≡ rangeOf low high ⌝ }
+{
+    if 128 <= low {
+        return Construct::Missing;
+    }
+    if 128 <= high {
+        return Construct::Missing;
+    }
+    Construct::Range { low, high }
+}
+
+fn leaf(kind: usize, a: usize, b: usize, c: usize, d: usize) -> Construct
+    ensures { λ r. ⌜ r ≡ leafOf kind a b c d ⌝ }
+{
+    if kind == 5 {
+        if a < 64 {
+            return Construct::Use { rule: a };
+        }
+        return Construct::Missing;
+    }
+    if kind == 6 {
+        return literal(a);
+    }
+    if kind == 7 {
+        return range(a, b);
+    }
+    if kind == 8 {
+        return uint(a, b, c, d);
+    }
+    if kind == 9 {
+        return Construct::Eod;
+    }
+    Construct::Missing
+}
+
+fn decoded(i: usize, kind: usize, size: usize, a: usize, b: usize, c: usize, d: usize) -> Construct
+    requires { ⌜ i < 256 ⌝ }
+    ensures { λ r. ⌜ r ≡ constructOf i kind size a b c d ⌝ }
+{
+    if kind < 1 {
+        return without_parts(kind, size, a, b, c, d);
+    }
+    if 4 < kind {
+        return without_parts(kind, size, a, b, c, d);
+    }
+    if branches(i, size) {
+        return inner(kind, size, a, b, c);
+    }
+    Construct::Missing
+}
+
+fn without_parts(kind: usize, size: usize, a: usize, b: usize, c: usize, d: usize) -> Construct
+    ensures { λ r. ⌜ r ≡ withoutParts kind size a b c d ⌝ }
+{
+    if size == 1 {
+        return leaf(kind, a, b, c, d);
+    }
+    Construct::Missing
+}
+
+// Construct i.
+pub fn construct_at(table: &[u32], i: usize) -> Construct
+    ensures { λ r. ⌜ r ≡ constructAt (now (table .entry)) i ⌝ }
+{
+    if 256 <= i {
+        return Construct::Missing;
+    }
+    let at = 576 + 8 * i;
+    decoded(
+        i,
+        word(table, at),
+        word(table, at + 1),
+        word(table, at + 2),
+        word(table, at + 3),
+        word(table, at + 4),
+        word(table, at + 5),
+    )
+}
+
+// How many constructs a construct is; a missing one is none.
+pub fn size_of(construct: Construct) -> usize
+    ensures { λ r. ⌜ r ≡ size-of construct ⌝ }
+{
+    match construct {
+        Construct::Missing => 0,
+        Construct::Alternative { size } => size,
+        Construct::Concatenation { size } => size,
+        Construct::Repetition { size, passes: _ } => size,
+        Construct::Switch { size } => size,
+        Construct::Use { rule: _ } => 1,
+        Construct::Literal { length: _ } => 1,
+        Construct::Range { low: _, high: _ } => 1,
+        Construct::Uint {
+            width: _,
+            start: _,
+            end: _,
+            binder: _,
+        } => 1,
+        Construct::Eod => 1,
+    }
+}

@@ -1,0 +1,40 @@
+-- Refusal 7: "rule reaches itself", at the "first such rule". Every written use counts, also under `{0}` and in rules that nothing uses.
+-- Assumes nothing.
+use Prim.Native.Nat.{ℕ, _+_, _<_, _≤_}
+use mathlib.Core.Path.{_≡_}
+use mathlib.Core.List.{List}
+use lib.Dec.{ltb}
+use Rattle.table_layout.specs.Places.{rule-word, rule-count, construct-count}
+use Rattle.table_layout.specs.Constructs.{pick, constructAt}
+use Rattle.table_layout.specs.declared.Construct.{Construct}
+use Rattle.table_reach.specs.declared.Recursion.{Recursion}
+
+-- the construct that is rule r's body
+abbrev pub body-of : List ℕ → ℕ → ℕ
+body-of ws r = rule-word ws r 0
+
+-- where the constructs of rule r end: at the next rule's body, or at the last construct
+abbrev pub rule-end : List ℕ → ℕ → ℕ
+rule-end ws r = pick (ltb (r + 1) (rule-count ws)) (body-of ws (r + 1)) (construct-count ws)
+
+-- some construct of rule r is a use of rule q
+pub record Uses (ws : List ℕ) (r q : ℕ) : Type 0 where
+  pub at : ℕ
+  pub rule : r < rule-count ws
+  pub from : body-of ws r ≤ at
+  pub upto : at < rule-end ws r
+  pub used : constructAt ws at ≡ Construct.Use q
+
+-- rule r uses rule q, or a rule that reaches it
+pub data Reaches (ws : List ℕ) : ℕ → ℕ → Type 0 where
+  directly : {r q : ℕ} → Uses ws r q → Reaches ws r q
+  through : {r p q : ℕ} → Uses ws r p → Reaches ws p q → Reaches ws r q
+
+-- no rule reaches itself
+abbrev pub Acyclic : List ℕ → Type 0
+Acyclic ws = (r : ℕ) → Reaches ws r r → ⊥
+
+-- what an answer says: refusal 7 is given exactly where there is a rule, and that is the first
+abbrev pub Found : List ℕ → Recursion → Type 0
+Found ws Recursion.None = Acyclic ws
+Found ws (Recursion.Rule r) = Reaches ws r r × ((q : ℕ) → q < r → Reaches ws q q → ⊥)

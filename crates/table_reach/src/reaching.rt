@@ -1,0 +1,152 @@
+// Which rules reach which: row r is a word whose bit q says whether rule r reaches rule q.
+ghost use mathlib.Core.Path.{_≡_};
+ghost use Prim.Native.Nat.{ℕ, _<_, max, min};
+ghost use lib.Dec.{eqb};
+ghost use lib.ListN.{length};
+ghost use Rattle.table_layout.specs.Constructs.{pick};
+ghost use Rattle.lookahead.specs.Sets.{bit};
+ghost use Rattle.table_reach.specs.Reaching.{rule-end};
+ghost use Rattle.table_reach.specs.Closure.{used-rule, uses-between, uses, closure, Matrix, Mended, Diagonal};
+use super::Recursion;
+use super::at_most;
+use table_layout::Construct;
+use table_layout::construct_at;
+use table_layout::word;
+
+// Whether the row has a bit.
+fn has(row: u64, q: usize) -> bool
+    requires { ⌜ q < 64 ⌝ }
+    ensures { λ r. ⌜ r ≡ eqb (bit row q) 1 ⌝ }
+{
+    (row >> q) % 2 == 1
+}
+
+// The rule that a construct uses; 64 where it uses none.
+fn rule_used(construct: Construct) -> usize
+    ensures { λ r. ⌜ r ≡ used-rule construct ⌝ }
+{
+    match construct {
+        Construct::Missing => 64,
+        Construct::Alternative { size: _ } => 64,
+        Construct::Concatenation { size: _ } => 64,
+        Construct::Repetition { size: _, passes: _ } => 64,
+        Construct::Switch { size: _ } => 64,
+        Construct::Use { rule } => rule,
+        Construct::Literal { length: _ } => 64,
+        Construct::Range { low: _, high: _ } => 64,
+        Construct::Uint {
+            width: _,
+            start: _,
+            end: _,
+            binder: _,
+        } => 64,
+        Construct::Eod => 64,
+    }
+}
+
+// The row with the use of a rule.
+fn with_use(row: u64, rule: usize) -> u64
+    ensures { λ r. ⌜ ((q : ℕ) → q < 64 → bit r q ≡ max (bit row q) (pick (eqb rule q) 1 0)) ⌝ }
+{
+    if rule < 64 {
+        return row | (1u64 << rule);
+    }
+    row
+}
+
+fn row_between(table: &[u32], first: usize, end: usize) -> u64
+    ensures { λ r. ⌜ ((q : ℕ) → q < 64 → bit r q ≡ uses-between (now (table .entry)) first end q) ⌝ }
+{
+    let mut row = 0u64;
+    let mut i = first;
+    while i < end {
+        row = with_use(row, rule_used(construct_at(table, i)));
+        i += 1;
+    }
+    row
+}
+
+// Where the constructs of rule r end.
+fn end_of(table: &[u32], r: usize) -> usize
+    requires { ⌜ r < 64 ⌝ }
+    ensures { λ n. ⌜ n ≡ rule-end (now (table .entry)) r ⌝ }
+{
+    if r + 1 < word(table, 1) {
+        return word(table, 64 + 4 * (r + 1));
+    }
+    word(table, 2)
+}
+
+fn row_of(table: &[u32], r: usize) -> u64
+    requires { ⌜ r < 64 ⌝ }
+    ensures { λ row. ⌜ ((q : ℕ) → q < 64 → bit row q ≡ uses (now (table .entry)) r q) ⌝ }
+{
+    if word(table, 1) <= r {
+        return 0;
+    }
+    row_between(
+        table,
+        word(table, 64 + 4 * r),
+        at_most(256, end_of(table, r)),
+    )
+}
+
+// The uses of every rule.
+pub fn fill(table: &[u32], rows: &mut [u64; 64])
+    requires { ⌜ length (now rows) ≡ 64 ⌝ }
+    ensures { λ r. ⌜ Matrix (now (rows .exit)) (uses (now (table .entry))) ⌝ }
+{
+    let mut r = 0;
+    while r < 64 {
+        rows[r] = row_of(table, r);
+        r += 1;
+    }
+}
+
+// A row that reaches k reaches all that row k, `via`, reaches.
+fn mended(row: u64, via: u64, k: usize) -> u64
+    requires { ⌜ k < 64 ⌝ }
+    ensures { λ r. ⌜ ((q : ℕ) → bit r q ≡ max (bit row q) (min (bit row k) (bit via q))) ⌝ }
+{
+    if has(row, k) {
+        return row | via;
+    }
+    row
+}
+
+fn through(rows: &mut [u64; 64], via: u64, k: usize)
+    requires { ⌜ (length (now rows) ≡ 64) × (k < 64) ⌝ }
+    ensures { λ r. ⌜ Mended (now (rows .entry)) (now (rows .exit)) via k 64 ⌝ }
+{
+    let mut i = 0;
+    while i < 64 {
+        rows[i] = mended(rows[i], via, k);
+        i += 1;
+    }
+}
+
+// Warshall's closure, in place.
+pub fn close(rows: &mut [u64; 64])
+    requires { ⌜ length (now rows) ≡ 64 ⌝ }
+    ensures { λ r. ⌜ ((u : ℕ → ℕ → ℕ) → Matrix (now (rows .entry)) u → Matrix (now (rows .exit)) (closure u 64)) ⌝ }
+{
+    let mut k = 0;
+    while k < 64 {
+        let via = rows[k];
+        through(rows, via, k);
+        k += 1;
+    }
+}
+
+pub fn first_on_diagonal(rows: &[u64; 64]) -> Recursion
+    ensures { λ r. ⌜ Diagonal (now (rows .entry)) r ⌝ }
+{
+    let mut r = 0;
+    while r < 64 {
+        if has(rows[r], r) {
+            return Recursion::Rule(r);
+        }
+        r += 1;
+    }
+    Recursion::None
+}

@@ -1,0 +1,73 @@
+-- Refusal 8 over a table's words: "a calculation, or part of one, whose size may pass 2^62 (variables at their widest, sizes added and
+-- multiplied)".
+-- Assumes nothing.
+use Prim.Native.Nat.{ℕ, zero, suc, _+_, _-_, _^_, _≤_, _<_, min}
+use mathlib.Core.Bool.{Bool, true, false}
+use mathlib.Core.List.{List, [], _∷_}
+use lib.Dec.{ltb}
+use lib.IntN.{ℤ, pos}
+use Rattle.term_words.specs.declared.Kind.{Kind}
+use Rattle.term_sizes.specs.Sizes.{sizes, countSizes}
+use Rattle.term_sizes.specs.declared.Sized.{Sized}
+use Rattle.table_layout.specs.Places.{variable-word, construct-word}
+use Rattle.table_layout.specs.Constructs.{pick, constructAt}
+use Rattle.table_layout.specs.Held.{term-words, terms-of}
+use Rattle.table_layout.specs.declared.Construct.{Construct}
+use Rattle.table_layout.specs.declared.Passes.{Passes}
+use Rattle.table_wellformed.specs.Checks.{either}
+
+-- "variables at their widest": the largest number of a width, which is at most 32
+abbrev pub largest : ℕ → ℤ
+largest width = pos (2 ^ min 32 width - 1)
+
+-- n variables from x on
+unfoldable pub widest-from : ℕ → List ℕ → ℕ → List ℤ
+widest-from zero ws x = []
+widest-from (suc n) ws x = largest (variable-word ws x 1) ∷ widest-from n ws (x + 1)
+
+-- the 64 variables
+abbrev pub widest : List ℕ → List ℤ
+widest ws = widest-from 64 ws 0
+
+-- the sizes in a construct's condition, where it has one
+abbrev pub condition-size : List ℕ → ℕ → Sized
+condition-size ws i =
+    pick (ltb (construct-word ws i 6) (construct-word ws i 7))
+    (sizes Kind.Condition (widest ws) (construct-word ws i 6) (terms-of ws (construct-word ws i 6) (construct-word ws i 7)))
+    Sized.Passes
+
+-- the sizes in counts; `?`, `*` and `+` have no calculation
+abbrev pub counts-size : List ℕ → Passes → Sized
+counts-size ws Passes.Optional = Sized.Passes
+counts-size ws Passes.Any = Sized.Passes
+counts-size ws Passes.Some = Sized.Passes
+counts-size ws (Passes.Counted start end) = countSizes (widest ws) (term-words ws) start end
+
+-- the sizes in its own list: the counts of `{…}`, the set of a uint
+abbrev pub own-size : List ℕ → Construct → Sized
+own-size ws Construct.Missing = Sized.Passes
+own-size ws (Construct.Alternative size) = Sized.Passes
+own-size ws (Construct.Concatenation size) = Sized.Passes
+own-size ws (Construct.Repetition size passes) = counts-size ws passes
+own-size ws (Construct.Switch size) = Sized.Passes
+own-size ws (Construct.Use rule) = Sized.Passes
+own-size ws (Construct.Literal length) = Sized.Passes
+own-size ws (Construct.Range low high) = Sized.Passes
+own-size ws (Construct.Uint width start end binder) = sizes Kind.Set (widest ws) start (terms-of ws start end)
+own-size ws Construct.Eod = Sized.Passes
+
+-- a calculation "whose size may pass 2^62"
+abbrev pub exceeds : Sized → Bool
+exceeds Sized.Passes = false
+exceeds Sized.Malformed = false
+exceeds (Sized.Exceeds at) = true
+
+-- construct i has a calculation whose size may pass 2^62
+abbrev pub oversized : List ℕ → ℕ → Bool
+oversized ws i = either (exceeds (condition-size ws i)) (exceeds (own-size ws (constructAt ws i)))
+
+-- the least of n numbers with the property; n where none has it
+pub record LeastOf (P : ℕ → Type 0) (n r : ℕ) : Type 0 where
+  pub most : r ≤ n
+  pub holds : r < n → P r
+  pub before : (j : ℕ) → j < r → P j → ⊥

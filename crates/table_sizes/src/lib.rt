@@ -1,0 +1,150 @@
+// Refusal 8 over a table's words: which lists of terms have sizes that may pass 2^62, with every variable at its widest.
+ghost use mathlib.Core.Path.{_≡_};
+ghost use mathlib.Core.Bool.{true};
+ghost use Prim.Native.Nat.{ℕ, _≤_, _<_};
+ghost use lib.ListN.{length};
+ghost use Rattle.table_layout.specs.Places.{construct-count};
+ghost use Rattle.table_layout.specs.Constructs.{constructAt};
+ghost use Rattle.table_sizes.specs.Measures.{largest as largestOf, widest as widestOf, condition-size, counts-size, own-size, exceeds as exceedsOf, oversized as oversizedOf, LeastOf};
+use table_layout::Construct;
+use table_layout::Passes;
+use table_layout::construct_at;
+use table_layout::word;
+use table_wellformed::checks::construct_word;
+use table_wellformed::checks::either;
+use table_wellformed::checks::variable_word;
+use table_wellformed::lists::term_words;
+use term_integers::power;
+use term_integers::signed;
+use term_sizes::Sized;
+use term_sizes::measure;
+use term_sizes::measure_counts;
+use term_words::Kind;
+
+// The largest number of a width.
+fn largest(width: usize) -> i64
+    ensures { λ r. ⌜ r ≡ largestOf width ⌝ }
+{
+    if width < 32 {
+        return signed(power(width as u64) - 1);
+    }
+    signed(4294967295)
+}
+
+// The size of each variable.
+pub struct Extents {
+    pub sizes: [i64; 64],
+}
+
+pub fn widest(table: &[u32]) -> Extents
+    ensures { λ r. ⌜ r .sizes ≡ widestOf (now (table .entry)) ⌝ }
+{
+    let mut sizes = [0i64; 64];
+    let mut x = 0;
+    while x < 64 {
+        sizes[x] = largest(variable_word(table, x, 1));
+        x += 1;
+    }
+    Extents { sizes }
+}
+
+// The sizes in a construct's condition.
+pub fn condition_sizes(table: &[u32], widest: &[i64; 64], i: usize) -> Sized
+    requires { ⌜ (16384 ≤ length (now table)) × (i ≤ 4294967296) × (now widest ≡ widestOf (now table)) ⌝ }
+    ensures { λ r. ⌜ r ≡ condition-size (now (table .entry)) i ⌝ }
+{
+    let start = construct_word(table, i, 6);
+    let end = construct_word(table, i, 7);
+    if start < end {
+        return measure(Kind::Condition, term_words(table), start, end, widest);
+    }
+    Sized::Passes
+}
+
+fn counts_sizes(table: &[u32], widest: &[i64; 64], passes: Passes) -> Sized
+    requires { ⌜ (16384 ≤ length (now table)) × (now widest ≡ widestOf (now table)) ⌝ }
+    ensures { λ r. ⌜ r ≡ counts-size (now (table .entry)) passes ⌝ }
+{
+    match passes {
+        Passes::Optional => Sized::Passes,
+        Passes::Any => Sized::Passes,
+        Passes::Some => Sized::Passes,
+        Passes::Counted { start, end } => measure_counts(term_words(table), start, end, widest),
+    }
+}
+
+fn list_sizes(table: &[u32], widest: &[i64; 64], construct: Construct) -> Sized
+    requires { ⌜ (16384 ≤ length (now table)) × (now widest ≡ widestOf (now table)) ⌝ }
+    ensures { λ r. ⌜ r ≡ own-size (now (table .entry)) construct ⌝ }
+{
+    match construct {
+        Construct::Missing => Sized::Passes,
+        Construct::Alternative { size: _ } => Sized::Passes,
+        Construct::Concatenation { size: _ } => Sized::Passes,
+        Construct::Repetition { size: _, passes } => counts_sizes(table, widest, passes),
+        Construct::Switch { size: _ } => Sized::Passes,
+        Construct::Use { rule: _ } => Sized::Passes,
+        Construct::Literal { length: _ } => Sized::Passes,
+        Construct::Range { low: _, high: _ } => Sized::Passes,
+        Construct::Uint {
+            width: _,
+            start,
+            end,
+            binder: _,
+        } => measure(Kind::Set, term_words(table), start, end, widest),
+        Construct::Eod => Sized::Passes,
+    }
+}
+
+// The sizes in its own list of terms.
+pub fn own_sizes(table: &[u32], widest: &[i64; 64], i: usize) -> Sized
+    requires { ⌜ (16384 ≤ length (now table)) × (now widest ≡ widestOf (now table)) ⌝ }
+    ensures { λ r. ⌜ r ≡ own-size (now (table .entry)) (constructAt (now (table .entry)) i) ⌝ }
+{
+    list_sizes(table, widest, construct_at(table, i))
+}
+
+fn exceeds(sized: Sized) -> bool
+    ensures { λ r. ⌜ r ≡ exceedsOf sized ⌝ }
+{
+    match sized {
+        Sized::Passes => false,
+        Sized::Malformed => false,
+        Sized::Exceeds(_) => true,
+    }
+}
+
+// Whether a size in one of its lists may pass 2^62.
+fn oversized(table: &[u32], widest: &[i64; 64], i: usize) -> bool
+    requires { ⌜ (16384 ≤ length (now table)) × (i ≤ 4294967296) × (now widest ≡ widestOf (now table)) ⌝ }
+    ensures { λ r. ⌜ r ≡ oversizedOf (now (table .entry)) i ⌝ }
+{
+    either(
+        exceeds(condition_sizes(table, widest, i)),
+        exceeds(own_sizes(table, widest, i)),
+    )
+}
+
+// The first construct with such a size; their number where there is none.
+pub fn first_oversized(table: &[u32]) -> usize
+    requires { ⌜ 16384 ≤ length (now table) ⌝ }
+    ensures { λ r. ⌜ LeastOf (λ (i : ℕ). oversizedOf (now (table .entry)) i ≡ true) (construct-count (now (table .entry))) r ⌝ }
+{
+    let sizes = widest(table).sizes;
+    search(table, &sizes)
+}
+
+fn search(table: &[u32], widest: &[i64; 64]) -> usize
+    requires { ⌜ (16384 ≤ length (now table)) × (now widest ≡ widestOf (now table)) ⌝ }
+    ensures { λ r. ⌜ LeastOf (λ (i : ℕ). oversizedOf (now (table .entry)) i ≡ true) (construct-count (now (table .entry))) r ⌝ }
+{
+    let count = word(table, 2);
+    let mut i = 0;
+    while i < count {
+        if oversized(table, widest, i) {
+            return i;
+        }
+        i += 1;
+    }
+    count
+}

@@ -1,0 +1,42 @@
+-- What of a table whose rules lie well, and of which none reaches itself, the theory asks: weights and room.
+-- Assumes nothing.
+use Prim.Native.Nat.{ℕ, _≤_, _<_}
+use native.Mathlib.Omega.{arith}
+use mathlib.Core.Path.{_≡_}
+use mathlib.Core.Logic.{_↔_}
+use mathlib.Core.List.{List}
+use lib.ListN.{getD}
+use Rattle.theory.specs.Weight.{Weighs, Houses}
+use Rattle.table_layout.specs.Held.{Context, first-context, held, opening}
+use Rattle.table_reach.specs.Reaching.{Acyclic}
+use Rattle.table_weights.specs.Ruled.{Ruled}
+use Rattle.table_weights.specs.Sweeps.{capped}
+use Rattle.table_weights.specs.Weighed.{Weights, Weight}
+use Rattle.table_weights.proofs.Heights.{weight-at, weighs, unique}
+use Rattle.table_weights.proofs.Rooms.{rooms, houses, opening-room}
+
+module _ (ws : List ℕ) (ruled : Ruled ws) (acyclic : Acyclic ws) where
+  -- there are weights, and no others
+  pub weights-exist : Weighs (held ws) (λ c i. weight-at ws i)
+  weights-exist = weighs ws ruled acyclic
+
+  pub weights-unique : (v w : Context → ℕ → ℕ) → Weighs (held ws) v → Weighs (held ws) w → (i : ℕ) → v first-context i ≡ w first-context i
+  weights-unique = unique ws ruled acyclic
+
+  -- what the function's answer says of them
+  pub entry-weight : (xs : List ℕ) → Weights ws xs → (i : ℕ) → i < 256 → getD xs i 0 ≡ capped (weight-at ws i)
+  entry-weight xs a = a ruled acyclic (λ c i. weight-at ws i) weights-exist
+
+  pub grammar-weight : (n : ℕ) → Weight ws n → n ≡ capped (weight-at ws opening)
+  grammar-weight n a = a ruled acyclic (λ c i. weight-at ws i) weights-exist
+
+  -- refusal 11: "weight over 65,535"
+  pub within-limit : (n : ℕ) → Weight ws n → n ≤ 65535 → n ≡ weight-at ws opening
+  within-limit n a h = omega (arith, grammar-weight n a)
+
+  pub over-limit : (n : ℕ) → Weight ws n → (65535 < n) ↔ (65535 < weight-at ws opening)
+  over-limit n a = (λ h. omega (arith, grammar-weight n a), λ h. omega (arith, grammar-weight n a))
+
+  -- room for every entry, and at most 256 from an opening
+  pub rooms-enough : Houses (held ws) (rooms ws) × (rooms ws first-context opening ≤ 256)
+  rooms-enough = (houses ws ruled acyclic, opening-room ws ruled acyclic)

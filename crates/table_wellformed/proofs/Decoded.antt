@@ -1,0 +1,114 @@
+-- What holds of a construct whatever its words: its size leaves it within the 256, and its operands are within their limits.
+-- Assumes nothing.
+use Prim.Native.Nat.{ℕ, _+_, _-_, _≤_, _<_}
+use mathlib.Core.Path.{_≡_, refl}
+use mathlib.Core.Bool.{Bool, true, false}
+use mathlib.Core.List.{List}
+use native.Mathlib.Omega.{arith}
+use borrow.Author.Tests.{ltb-true, leb-true}
+use lib.Dec.{leb, ltb, eqb}
+use Rattle.table_layout.specs.Places.{construct-word}
+use Rattle.table_layout.specs.Constructs.{pick, both, branches, listed, innerOf, uintOf, leafOf, constructOf, constructAt}
+use Rattle.table_layout.specs.Held.{size-of}
+use Rattle.table_layout.specs.declared.Construct.{Construct}
+use Rattle.table_wellformed.specs.Checks.{size-at}
+use Rattle.table_wellformed.proofs.Walks.{both-first, both-second}
+
+-- what holds of both choices, each where it is taken, holds of the choice
+pub picked : {A : Type 0} (P : A → Type 0) (b : Bool) {x y : A} → (b ≡ true → P x) → (b ≡ false → P y) → P (pick b x y)
+picked P true f g = f refl
+picked P false f g = g refl
+
+-- what the words of construct i are where they say something
+abbrev pub Fine : ℕ → Construct → Type 0
+Fine i Construct.Missing = Unit {0}
+Fine i (Construct.Alternative size) = (2 ≤ size) × (i + size ≤ 256)
+Fine i (Construct.Concatenation size) = (2 ≤ size) × (i + size ≤ 256)
+Fine i (Construct.Repetition size passes) = (2 ≤ size) × (i + size ≤ 256)
+Fine i (Construct.Switch size) = (2 ≤ size) × (i + size ≤ 256)
+Fine i (Construct.Use rule) = (i < 256) × (rule < 64)
+Fine i (Construct.Literal length) = (i < 256) × (1 ≤ length) × (length ≤ 32)
+Fine i (Construct.Range low high) = (i < 256) × (low < 128) × (high < 128)
+Fine i (Construct.Uint width start end binder) = (i < 256) × (1 ≤ width) × (width ≤ 32) × (start ≤ end) × (end ≤ 1024) × (binder ≤ 64)
+Fine i Construct.Eod = i < 256
+
+inner-fine : (i kind size a b c : ℕ) → (2 ≤ size) × (i + size ≤ 256) → Fine i (innerOf kind size a b c)
+inner-fine i kind size a b c h =
+    picked (Fine i) (eqb kind 1) (λ e. h) (λ e.
+    picked (Fine i) (eqb kind 2) (λ e. h) (λ e.
+    picked (Fine i) (eqb kind 3)
+    (λ e.
+    picked (Fine i) (eqb a 1) (λ e. h) (λ e.
+    picked (Fine i) (eqb a 2) (λ e. h) (λ e.
+    picked (Fine i) (eqb a 3) (λ e. h) (λ e.
+    picked (Fine i) (both (eqb a 4) (listed b c)) (λ e. h) (λ e. tt)))))
+    (λ e. h)))
+
+uint-fine : (i a b c d : ℕ) → i < 256 → Fine i (uintOf a b c d)
+uint-fine i a b c d h =
+    let W : Bool = both (leb 1 a) (leb a 32)
+    in let L : Bool = listed b c
+    in picked (Fine i) (both W (both L (leb d 64)))
+    (λ e.
+    let w : W ≡ true = both-first W (both L (leb d 64)) e
+    in let l : L ≡ true = both-first L (leb d 64) (both-second W (both L (leb d 64)) e)
+    in (h, leb-true 1 a (both-first (leb 1 a) (leb a 32) w), leb-true a 32 (both-second (leb 1 a) (leb a 32) w), leb-true b c (both-first (leb b c) (leb c 1024) l), leb-true c 1024 (both-second (leb b c) (leb c 1024) l), leb-true d 64 (both-second L (leb d 64) (both-second W (both L (leb d 64)) e))))
+    (λ e. tt)
+
+leaf-fine : (i kind a b c d : ℕ) → i < 256 → Fine i (leafOf kind a b c d)
+leaf-fine i kind a b c d h =
+    picked (Fine i) (eqb kind 5) (λ e. picked (Fine i) (ltb a 64) (λ e. (h, ltb-true a 64 e)) (λ e. tt)) (λ e.
+    picked (Fine i) (eqb kind 6)
+    (λ e. picked (Fine i) (both (leb 1 a) (leb a 32)) (λ e. (h, leb-true 1 a (both-first (leb 1 a) (leb a 32) e), leb-true a 32 (both-second (leb 1 a) (leb a 32) e))) (λ e. tt))
+    (λ e.
+    picked (Fine i) (eqb kind 7)
+    (λ e. picked (Fine i) (both (ltb a 128) (ltb b 128)) (λ e. (h, ltb-true a 128 (both-first (ltb a 128) (ltb b 128) e), ltb-true b 128 (both-second (ltb a 128) (ltb b 128) e))) (λ e. tt))
+    (λ e.
+    picked (Fine i) (eqb kind 8) (λ e. uint-fine i a b c d h) (λ e.
+    picked (Fine i) (eqb kind 9) (λ e. h) (λ e. tt)))))
+
+pub fine : (ws : List ℕ) (i : ℕ) → Fine i (constructAt ws i)
+unfolding constructAt constructOf
+fine ws i =
+    picked (Fine i) (ltb i 256)
+    (λ h.
+    picked (Fine i) (both (leb 1 kind) (leb kind 4))
+    (λ e.
+    picked (Fine i) (branches i size)
+    (λ e. inner-fine i kind size a b c (leb-true 2 size (both-first (leb 2 size) (leb (i + size) 256) e), leb-true (i + size) 256 (both-second (leb 2 size) (leb (i + size) 256) e)))
+    (λ e. tt))
+    (λ e. picked (Fine i) (eqb size 1) (λ e. leaf-fine i kind a b c d (ltb-true i 256 h)) (λ e. tt)))
+    (λ h. tt)
+  where
+    kind : ℕ
+    kind = construct-word ws i 0
+
+    size : ℕ
+    size = construct-word ws i 1
+
+    a : ℕ
+    a = construct-word ws i 2
+
+    b : ℕ
+    b = construct-word ws i 3
+
+    c : ℕ
+    c = construct-word ws i 4
+
+    d : ℕ
+    d = construct-word ws i 5
+
+fine-size : (i : ℕ) (c : Construct) → Fine i c → size-of c ≤ 256 - i
+fine-size i Construct.Missing f = omega arith
+fine-size i (Construct.Alternative size) f = omega (arith, f .1)
+fine-size i (Construct.Concatenation size) f = omega (arith, f .1)
+fine-size i (Construct.Repetition size passes) f = omega (arith, f .1)
+fine-size i (Construct.Switch size) f = omega (arith, f .1)
+fine-size i (Construct.Use rule) f = omega (arith, f .0)
+fine-size i (Construct.Literal length) f = omega (arith, f .0)
+fine-size i (Construct.Range low high) f = omega (arith, f .0)
+fine-size i (Construct.Uint width start end binder) f = omega (arith, f .0)
+fine-size i Construct.Eod f = omega arith
+
+pub size-fits : (ws : List ℕ) (i : ℕ) → size-at ws i ≤ 256 - i
+size-fits ws i = fine-size i (constructAt ws i) (fine ws i)

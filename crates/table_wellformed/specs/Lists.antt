@@ -1,0 +1,126 @@
+-- The lists of terms: each stands where the one before it ends, and is well formed for its kind.
+-- Assumes nothing.
+use Prim.Native.Nat.{ℕ, zero, suc, _+_, _*_, _-_}
+use mathlib.Core.Bool.{Bool, true, false}
+use mathlib.Core.List.{List}
+use lib.Dec.{ltb, eqb}
+use lib.IntN.{ℤ, pos}
+use lib.ListN.{replicate}
+use Rattle.term_words.specs.Words.{terms}
+use Rattle.term_words.specs.declared.Kind.{Kind}
+use Rattle.term_sizes.specs.Sizes.{sizes, countSizes}
+use Rattle.term_sizes.specs.declared.Sized.{Sized}
+use Rattle.table_layout.specs.Places.{word, terms-at, construct-count, term-count, construct-word}
+use Rattle.table_layout.specs.Constructs.{pick, both, constructAt}
+use Rattle.table_layout.specs.Held.{term-words}
+use Rattle.table_layout.specs.declared.Construct.{Construct}
+use Rattle.table_layout.specs.declared.Passes.{Passes}
+use Rattle.table_wellformed.specs.Checks.{either, limited}
+
+-- ---- a construct's own list: the counts of `{…}`, the set of a uint; 0, 0 where it has none
+
+-- of counts: from
+abbrev pub counts-start : Passes → ℕ
+counts-start Passes.Optional = 0
+counts-start Passes.Any = 0
+counts-start Passes.Some = 0
+counts-start (Passes.Counted start end) = start
+
+-- and up to
+abbrev pub counts-end : Passes → ℕ
+counts-end Passes.Optional = 0
+counts-end Passes.Any = 0
+counts-end Passes.Some = 0
+counts-end (Passes.Counted start end) = end
+
+-- of any construct: from
+abbrev pub own-start : Construct → ℕ
+own-start Construct.Missing = 0
+own-start (Construct.Alternative size) = 0
+own-start (Construct.Concatenation size) = 0
+own-start (Construct.Repetition size passes) = counts-start passes
+own-start (Construct.Switch size) = 0
+own-start (Construct.Use rule) = 0
+own-start (Construct.Literal length) = 0
+own-start (Construct.Range low high) = 0
+own-start (Construct.Uint width start end binder) = start
+own-start Construct.Eod = 0
+
+-- and up to
+abbrev pub own-end : Construct → ℕ
+own-end Construct.Missing = 0
+own-end (Construct.Alternative size) = 0
+own-end (Construct.Concatenation size) = 0
+own-end (Construct.Repetition size passes) = counts-end passes
+own-end (Construct.Switch size) = 0
+own-end (Construct.Use rule) = 0
+own-end (Construct.Literal length) = 0
+own-end (Construct.Range low high) = 0
+own-end (Construct.Uint width start end binder) = end
+own-end Construct.Eod = 0
+
+-- ---- "one list after the other with nothing between"
+
+-- a list from `start` up to `end`, where there is one, begins at p
+abbrev pub begins : ℕ → ℕ → ℕ → Bool
+begins p start end = pick (ltb start end) (eqb start p) true
+
+-- where the next list is to begin
+abbrev pub after : ℕ → ℕ → ℕ → ℕ
+after p start end = pick (ltb start end) end p
+
+-- where the own list of construct i is to begin, if its condition is to begin at p
+abbrev pub after-condition : List ℕ → ℕ → ℕ → ℕ
+after-condition ws i p = after p (construct-word ws i 6) (construct-word ws i 7)
+
+-- the lists of construct i: its condition's, then its own
+abbrev pub lists-begin : List ℕ → ℕ → ℕ → Bool
+lists-begin ws i p =
+    both (begins p (construct-word ws i 6) (construct-word ws i 7)) (begins (after-condition ws i p) (own-start (constructAt ws i)) (own-end (constructAt ws i)))
+
+-- and where the lists of the next construct are
+abbrev pub after-lists : List ℕ → ℕ → ℕ → ℕ
+after-lists ws i p = after (after-condition ws i p) (own-start (constructAt ws i)) (own-end (constructAt ws i))
+
+-- those of n constructs from i on, the first at p, the last up to the number of terms
+unfoldable pub lists-from : ℕ → List ℕ → ℕ → ℕ → Bool
+lists-from zero ws i p = eqb p (term-count ws)
+lists-from (suc n) ws i p = elim (lists-begin ws i p) [ true ↦ lists-from n ws (i + 1) (after-lists ws i p) | false ↦ false ]
+
+-- the lists of all constructs
+abbrev pub lists-laid : List ℕ → Bool
+lists-laid ws = lists-from (construct-count ws) ws 0 0
+
+-- ---- each well formed for its kind; that its sizes stay within 2^62 is refusal 8, and asked elsewhere
+
+abbrev pub formed : Sized → Bool
+formed Sized.Passes = true
+formed Sized.Malformed = false
+formed (Sized.Exceeds at) = true
+
+-- a list's form does not depend on the values: 64 variables, all 0
+abbrev pub zero-values : List ℤ
+zero-values = replicate 64 (pos 0)
+
+-- a set or a condition
+abbrev pub list-formed : Kind → List ℕ → ℕ → ℕ → Bool
+list-formed kind ws start end = formed (sizes kind zero-values start (terms (term-words ws) start end))
+
+-- the counts of `{…}`
+abbrev pub counts-formed : List ℕ → ℕ → ℕ → Bool
+counts-formed ws start end = formed (countSizes zero-values (term-words ws) start end)
+
+-- the condition of construct i, where it has one
+abbrev pub condition-formed : List ℕ → ℕ → Bool
+condition-formed ws i =
+    pick (ltb (construct-word ws i 6) (construct-word ws i 7)) (list-formed Kind.Condition ws (construct-word ws i 6) (construct-word ws i 7)) true
+
+-- ---- a term's three words: a number and a variable's use have a low word, nothing has a high one ("to 4,294,967,295")
+
+-- the tags of a number and of a variable's use, also where they are an item `a` of a set
+abbrev pub has-low : ℕ → Bool
+has-low tag = either (limited 1 tag 2) (limited 33 tag 34)
+
+-- what a term's tag gives no meaning to is 0
+abbrev pub term-laid : List ℕ → ℕ → Bool
+term-laid ws t = both (either (has-low (word ws (terms-at + 3 * t))) (eqb (word ws (terms-at + 3 * t + 1)) 0)) (eqb (word ws (terms-at + 3 * t + 2)) 0)

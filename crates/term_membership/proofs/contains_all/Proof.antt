@@ -1,0 +1,91 @@
+use Prim.Native.Nat.{_-_}
+use mathlib.Core.Path.{sym, ap, _∙_}
+use native.Mathlib.Omega.{arith}
+use borrow.Author.Needs.{needs}
+use Rattle.term_words.specs.declared.Term.{Term}
+use Rattle.term_membership.specs.Effects.{turnOf}
+use Rattle.term_membership.proofs.Members.{Underway, begins, goes-on, goes-off, goes-out}
+use Rattle.term_membership.proofs.contains_all.Statement.{statement}
+use Rattle.term_membership.proofs.contains_all.Tie as tie
+
+abbrev Inv-loop : tie.InvT-loop
+Inv-loop words start end variables values truths₀ numbers₀ at₀ truths numbers at = Underway variables words start end values at numbers truths
+
+abbrev μ-loop : tie.MeasureT-loop
+μ-loop words start end variables values truths₀ numbers₀ at₀ truths numbers at = end - at
+
+loop-holds : tie.Need-loop-holds Inv-loop μ-loop
+loop-holds c = begins (c .before .args .variables .now) (c .before .args .words .now) (c .before .args .start) (c .before .args .end) (c .before .args .values .now)
+
+term-at-requires : tie.Need-term-at-requires Inv-loop μ-loop
+term-at-requires c κs = search needs
+
+turn-requires : tie.Need-turn-requires Inv-loop μ-loop
+turn-requires c κs = search needs
+
+enum-known-next : tie.Need-enum-known-next Inv-loop μ-loop
+enum-known-next c = search needs
+
+apply-all-requires : tie.Need-apply-all-requires Inv-loop μ-loop
+apply-all-requires c κs = c .before .before .before .before .before .before .before .loop .inv .all
+
+enum-told : tie.Need-enum-told Inv-loop μ-loop
+enum-told c = search needs
+
+nothing-requires : tie.Need-nothing-requires Inv-loop μ-loop
+nothing-requires c κs = search needs
+
+returns : tie.Need-returns Inv-loop μ-loop
+returns c =
+    let a = c .before .before .before .before .before .before .before .before .args in
+    let l = c .before .before .before .before .before .before .loop in
+    λ j h.
+    goes-off (a .variables .now) (a .words .now) (a .start) (a .end) (a .values .now) (l .at) (l .numbers) (l .truths) (l .inv) (c .before .before .before .before .before .loop-test .taken)
+    (sym (c .before .enum-told .given .1) ∙ c .before .before .before .turn .ensures ∙ ap (λ (x : Term). turnOf (a .variables .now) x (l .numbers)) (c .before .before .before .before .term-at .ensures)) j h
+    ∙ c .nothing .ensures j h
+
+add-at : tie.Need-add-at Inv-loop μ-loop
+add-at c = omega arith
+
+loop-less : tie.Need-loop-less Inv-loop μ-loop
+loop-less c = omega arith
+
+loop-again : tie.Need-loop-again Inv-loop μ-loop
+loop-again c =
+    let a = c .before .before .before .before .before .before .before .before .before .before .args in
+    let l = c .before .before .before .before .before .before .before .before .loop in
+    goes-on (a .variables .now) (a .words .now) (a .start) (a .end) (a .values .now) (l .at) (l .numbers) (l .truths) (l .inv) (c .before .before .before .before .before .before .before .loop-test .taken)
+    (c .before .before .before .next .given .0 .0) (c .before .before .before .next .given .0 .1 .0)
+    (sym (c .before .before .before .next .given .1) ∙ c .before .before .before .before .before .turn .ensures ∙ ap (λ (x : Term). turnOf (a .variables .now) x (l .numbers)) (c .before .before .before .before .before .before .term-at .ensures))
+    (c .apply-all .last .1 .1 .0) (c .apply-all .ensures)
+
+ended-requires : tie.Need-ended-requires Inv-loop μ-loop
+ended-requires c κs = search needs
+
+returns-2 : tie.Need-returns-2 Inv-loop μ-loop
+returns-2 c =
+    let a = c .before .before .before .before .args in
+    let l = c .before .before .loop in
+    λ j h.
+    goes-out (a .variables .now) (a .words .now) (a .start) (a .end) (a .values .now) (l .at) (l .numbers) (l .truths) (l .inv) (c .before .loop-test .left) j h
+    ∙ c .ended .ensures j h
+
+pub contains-all-spec : {M : Type 1} → statement M
+contains-all-spec =
+    tie.close
+    (tie.spec
+    Inv-loop
+    μ-loop
+    loop-holds
+    term-at-requires
+    turn-requires
+    enum-known-next
+    apply-all-requires
+    enum-told
+    nothing-requires
+    returns
+    add-at
+    loop-less
+    loop-again
+    ended-requires
+    returns-2)

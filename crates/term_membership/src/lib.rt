@@ -1,0 +1,81 @@
+// Whether each of 64 values is in a set. One pass over the set's terms serves them all: what is read from the words is read once for 64.
+pub mod effects;
+mod truths;
+
+use crate::effects::turn;
+use crate::truths::apply_all;
+use term_words::Numbers;
+use term_words::decode::term_at;
+ghost use mathlib.Core.Path.{_≡_};
+ghost use Prim.Native.Nat.{ℕ, _<_};
+ghost use mathlib.Core.Bool.{false};
+ghost use lib.Dec.{eqb};
+ghost use lib.IntN.{pos};
+ghost use lib.ListN.{getD};
+ghost use Rattle.term_words.specs.Words.{terms};
+ghost use Rattle.term_membership.specs.Members.{holds};
+ghost use Rattle.term_membership.specs.Batches.{ends};
+
+// What a term does to the tests that wait: nothing, a test of the value, or two tests become one. Values are natural numbers; `Within` has its first
+// value and the first after its last.
+pub enum Effect {
+    None,
+    Within(u64, u64),
+    From(u64),
+    Or,
+    Except,
+}
+
+// The numbers that wait after a term, and its effect; or no value is in the set.
+pub enum Turn {
+    On(Numbers, Effect),
+    Off,
+}
+
+// No value.
+fn nothing() -> [u64; 64]
+    ensures { λ r. ⌜ ((j : ℕ) → j < 64 → false ≡ eqb (getD r j 0) 3) ⌝ }
+{
+    [0; 64]
+}
+
+// A list's end: one test and no number.
+fn ended(numbers: Numbers, truths: [u64; 64]) -> [u64; 64]
+    ensures { λ r. ⌜ ((j : ℕ) → j < 64 → ends numbers (getD truths j 0) ≡ eqb (getD r j 0) 3) ⌝ }
+{
+    match numbers {
+        Numbers::Zero => truths,
+        Numbers::One(_) => nothing(),
+        Numbers::Two(_, _) => nothing(),
+        Numbers::Three(_, _, _) => nothing(),
+        Numbers::Four(_, _, _, _) => nothing(),
+    }
+}
+
+// 3 for each value that is in the set of the terms from `start` up to `end`, another number for each that is not.
+pub fn contains_all(
+    words: &[u32],
+    start: usize,
+    end: usize,
+    variables: &[i64],
+    values: &[u64; 64],
+) -> [u64; 64]
+    ensures { λ r. ⌜ ((j : ℕ) → j < 64 → holds (now (variables .entry)) start (terms (now (words .entry)) start end) (pos (getD (now (values .entry)) j 0)) ≡ eqb (getD r j 0) 3) ⌝ }
+{
+    let mut truths = [1u64; 64];
+    let mut numbers = Numbers::Zero;
+    let mut at = start;
+    while at < end {
+        match turn(variables, term_at(words, at), numbers) {
+            Turn::On(next, effect) => {
+                apply_all(effect, values, &mut truths);
+                numbers = next;
+            }
+            Turn::Off => {
+                return nothing();
+            }
+        }
+        at += 1;
+    }
+    ended(numbers, truths)
+}

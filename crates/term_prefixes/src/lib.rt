@@ -1,0 +1,81 @@
+// Which leading bits the values of a set have. A set changes only at the first value of an item and at the first after it, so that few values
+// are tried: these, and the least of each window. They are tried 64 at a time.
+mod marks;
+mod tries;
+
+use crate::marks::hidden;
+use crate::marks::least_values;
+use crate::marks::settle;
+use crate::tries::try_changes;
+use term_evaluation::variables::has_variable;
+use term_integers::power;
+ghost use mathlib.Core.List.{List};
+ghost use Prim.Native.Nat.{ℕ, _≤_, _<_};
+ghost use Rattle.term_words.specs.Words.{terms};
+ghost use Rattle.term_words.specs.declared.Term.{Term};
+ghost use Rattle.term_membership.specs.Members.{holds};
+ghost use Rattle.term_prefixes.specs.Prefixes.{Tells, Told, ToldBy};
+
+// The values that wait to be tried, the first `waiting` of these, and the windows that are marked so far.
+pub struct Tried {
+    values: [u64; 64],
+    waiting: usize,
+    marks: [u8; 256],
+}
+
+// The windows of a set.
+fn windows_of(words: &[u32], start: usize, end: usize, variables: &[i64], width: u32) -> [u8; 256]
+    requires { ⌜ width ≤ 62 ⌝ }
+    ensures { λ r. ⌜ ToldBy width (holds (now (variables .entry)) start (terms (now (words .entry)) start end)) r ⌝ }
+{
+    let mut least = [0u8; 256];
+    least_values(words, start, end, variables, width, &mut least);
+    let last = try_changes(
+        words,
+        start,
+        end,
+        variables,
+        width,
+        Tried {
+            values: [0; 64],
+            waiting: 0,
+            marks: least,
+        },
+    );
+    let values = last.values;
+    let mut marks = last.marks;
+    settle(words, start, end, variables, width, &values, &mut marks);
+    marks
+}
+
+// A mark for each first window of a field of a width with a set, at its leading bits; a set with a variable counts as `~`. No field is wider
+// than 62 bits.
+pub fn first_windows(words: &[u32], start: usize, end: usize, width: u32) -> [u8; 256]
+    ensures { λ r. ⌜ (width ≤ 62 → Told width start (terms (now (words .entry)) start end) r) ⌝ }
+{
+    if 62 < width {
+        return [0; 256];
+    }
+    if has_variable(words, start, end) {
+        return [1; 256];
+    }
+    let none = [0i64; 1];
+    windows_of(words, start, end, &none[0..0], width)
+}
+
+// Whether the window of a number is marked.
+pub fn leads(marks: &[u8; 256], width: u32, number: u64) -> bool
+    requires { ⌜ width ≤ 62 ⌝ }
+    ensures { λ r. ⌜ ((i : ℕ) (xs : List Term) → Told width i xs (now (marks .entry)) → Tells width i xs number r) ⌝ }
+{
+    let shift = hidden(width);
+    let strings = power((width - shift) as u64);
+    if number < strings {
+        return false;
+    }
+    let leading = number - strings;
+    if strings <= leading {
+        return false;
+    }
+    0 < marks[leading as usize]
+}

@@ -1,0 +1,42 @@
+use mathlib.Core.Path.{sym, ap, _∙_}
+use borrow.Author.Needs.{needs}
+use lib.IntN.{ℤ}
+use Rattle.term_integers.proofs.Laws.{read₂}
+use Rattle.term_words.specs.Steps.{binary}
+use Rattle.term_words.specs.Numbers.{bounded, differenceOf, kept}
+use Rattle.term_words.proofs.step.reduce.Statement.{statement}
+use Rattle.term_words.proofs.step.reduce.Tie as tie
+
+pair-requires : tie.Need-pair-requires
+pair-requires c κs = search needs
+
+enum-known-rest : tie.Need-enum-known-rest
+enum-known-rest c = search needs
+
+difference-requires : tie.Need-difference-requires
+difference-requires c κs = search needs
+
+keep-requires : tie.Need-keep-requires
+keep-requires c κs = search needs
+
+enum-told : tie.Need-enum-told
+enum-told c = search needs
+
+returns : tie.Need-returns
+returns c =
+    c .keep .ensures ∙ ap (kept (c .before .before .before .rest .given .0 .0)) (read₂ (λ (x y : ℤ). bounded ((differenceOf (c .before .before .before .before .before .before .args .mode)) x y)) (c .before .before .before .rest .given .0 .1 .0) (c .before .before .before .rest .given .0 .1 .1 .0) (c .before .before .known-told .given .1 .0 .1) (c .before .before .known-told .given .1 .1 .0 .1) (c .before .difference .ensures)) ∙ ap (binary (differenceOf (c .before .before .before .before .before .before .args .mode))) (sym (c .before .before .before .rest .given .1) ∙ c .before .before .before .before .before .pair .ensures)
+
+returns-2 : tie.Need-returns-2
+returns-2 c = search needs
+
+pub reduce-spec : {M : Type 1} → statement M
+reduce-spec =
+    tie.close
+    (tie.spec
+    pair-requires
+    enum-known-rest
+    difference-requires
+    keep-requires
+    enum-told
+    returns
+    returns-2)

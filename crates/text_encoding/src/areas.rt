@@ -1,0 +1,200 @@
+// The areas of a table, and the whole.
+use crate::constructs::construct;
+use crate::constructs::list;
+use crate::constructs::literal;
+use crate::numbers::binders_before;
+use crate::numbers::condition_length;
+use crate::numbers::first_at;
+use crate::numbers::less;
+use crate::numbers::own_length;
+use crate::numbers::width;
+use crate::put::put_four;
+use crate::put::put_three;
+use text_names::words::binder;
+use text_names::words::node_word;
+use text_names::words::rule_word;
+ghost use mathlib.Core.Path.{_≡_};
+ghost use mathlib.Core.List.{List};
+ghost use Prim.Native.Nat.{ℕ, _+_, _*_, _≤_, _<_};
+ghost use lib.ListN.{length, replicate};
+ghost use Rattle.text_encoding.specs.Lists.{flat, written};
+ghost use Rattle.text_encoding.specs.Numbers.{binders-before as binders-beforeOf, condition-start};
+ghost use Rattle.text_encoding.specs.Encoded.{header-words, rule-words, variable-words, construct-words, two-lists, lists-words, literal-words, encoded};
+
+// Where the terms of construct n begin: how many there are before it.
+fn terms_before(nodes: &[usize], n: usize) -> usize
+    requires { ⌜ (length (now nodes) ≡ 2560) × (condition-start (now nodes) n ≤ 1024) ⌝ }
+    ensures { λ r. ⌜ r ≡ condition-start (now (nodes .entry)) n ⌝ }
+{
+    let mut q = 0;
+    let mut i = 0;
+    while i < n {
+        q += condition_length(nodes, i) + own_length(nodes, i);
+        i += 1;
+    }
+    q
+}
+
+fn put_header(nodes: &[usize], n: usize, r: usize, table: &mut [u32])
+    requires { ⌜ (length (now nodes) ≡ 2560) × (condition-start (now nodes) n ≤ 1024) ⌝ }
+    ensures { λ _. ⌜ now (table .exit) ≡ written (now (table .entry)) 0 (header-words (now (nodes .entry)) n r) ⌝ }
+{
+    put_three(table, 0, 1399811687, r, n);
+    put_three(
+        table,
+        3,
+        binders_before(nodes, n),
+        terms_before(nodes, n),
+        1,
+    );
+}
+
+fn put_rules(nodes: &[usize], rules: &[usize], r: usize, table: &mut [u32])
+    requires { ⌜ (length (now nodes) ≡ 2560) × (length (now rules) ≡ 325) × (r ≤ 64) ⌝ }
+    ensures { λ _. ⌜ now (table .exit) ≡ written (now (table .entry)) 64 (flat r 0 (rule-words (now (nodes .entry)) (now (rules .entry)))) ⌝ }
+{
+    let mut k = 0;
+    while k < r {
+        let first = rule_word(rules, k, 1);
+        let before = binders_before(nodes, first);
+        let after = binders_before(nodes, rule_word(rules, k, 2));
+        put_four(table, 64 + 4 * k, first, before, less(after, before), 0);
+        k += 1;
+    }
+}
+
+// The variable that node i binds, if it binds one, as variable x. Answers the number of the next.
+fn put_variable(text: &[u8], nodes: &[usize], i: usize, x: usize, table: &mut [u32]) -> usize
+    requires { ⌜ (length (now nodes) ≡ 2560) × (i < 256) × (x ≡ binders-beforeOf (now nodes) i) ⌝ }
+    ensures { λ r. ⌜ (now (table .exit) ≡ written (now (table .entry)) (320 + 4 * x) (variable-words (now (text .entry)) (now (nodes .entry)) i)) × (r ≡ binders-beforeOf (now (nodes .entry)) (i + 1)) ⌝ }
+{
+    if binder(nodes, i) {
+        put_four(table, 320 + 4 * x, i, width(text, nodes, i), 0, 0);
+        return x + 1;
+    }
+    x
+}
+
+fn put_variables(text: &[u8], nodes: &[usize], n: usize, table: &mut [u32])
+    requires { ⌜ (length (now nodes) ≡ 2560) × (n ≤ 256) ⌝ }
+    ensures { λ _. ⌜ now (table .exit) ≡ written (now (table .entry)) 320 (flat n 0 (variable-words (now (text .entry)) (now (nodes .entry)))) ⌝ }
+{
+    let mut x = 0;
+    let mut i = 0;
+    while i < n {
+        x = put_variable(text, nodes, i, x, table);
+        i += 1;
+    }
+}
+
+fn put_constructs(
+    text: &[u8],
+    nodes: &[usize],
+    rules: &[usize],
+    n: usize,
+    r: usize,
+    table: &mut [u32],
+)
+    requires { ⌜ (length (now nodes) ≡ 2560) × (length (now rules) ≡ 325) × (n ≤ 256) × (condition-start (now nodes) n ≤ 1024) ⌝ }
+    ensures { λ _. ⌜ now (table .exit) ≡ written (now (table .entry)) 576 (flat n 0 (construct-words (now (text .entry)) (now (nodes .entry)) (now (rules .entry)) r)) ⌝ }
+{
+    let mut q = 0;
+    let mut i = 0;
+    while i < n {
+        construct(text, nodes, rules, r, i, q, table);
+        q += condition_length(nodes, i) + own_length(nodes, i);
+        i += 1;
+    }
+}
+
+// The two lists of construct i, from the table's term q on.
+fn put_lists(
+    text: &[u8],
+    nodes: &[usize],
+    terms: &[usize],
+    a: usize,
+    i: usize,
+    q: usize,
+    table: &mut [u32],
+)
+    requires { ⌜ (length (now nodes) ≡ 2560) × (length (now terms) ≡ 4096) × (a ≤ i) × (q ≡ condition-start (now nodes) i) × (condition-start (now nodes) (i + 1) ≤ 1024) ⌝ }
+    ensures { λ _. ⌜ now (table .exit) ≡ written (now (table .entry)) (2624 + 3 * q) (two-lists (now (text .entry)) (now (nodes .entry)) (now (terms .entry)) a i) ⌝ }
+{
+    let n = condition_length(nodes, i);
+    list(
+        text,
+        nodes,
+        terms,
+        a,
+        i,
+        node_word(nodes, i, 8),
+        n,
+        q,
+        table,
+    );
+    let m = own_length(nodes, i);
+    list(
+        text,
+        nodes,
+        terms,
+        a,
+        i,
+        node_word(nodes, i, 5),
+        m,
+        q + n,
+        table,
+    );
+}
+
+fn put_terms(
+    text: &[u8],
+    nodes: &[usize],
+    terms: &[usize],
+    rules: &[usize],
+    n: usize,
+    r: usize,
+    table: &mut [u32],
+)
+    requires { ⌜ (length (now nodes) ≡ 2560) × (length (now terms) ≡ 4096) × (length (now rules) ≡ 325) × (n ≤ 256) × (condition-start (now nodes) n ≤ 1024) ⌝ }
+    ensures { λ _. ⌜ now (table .exit) ≡ written (now (table .entry)) 2624 (flat n 0 (lists-words (now (text .entry)) (now (nodes .entry)) (now (terms .entry)) (now (rules .entry)) r)) ⌝ }
+{
+    let mut q = 0;
+    let mut i = 0;
+    while i < n {
+        put_lists(text, nodes, terms, first_at(rules, r, i), i, q, table);
+        q += condition_length(nodes, i) + own_length(nodes, i);
+        i += 1;
+    }
+}
+
+fn put_literals(text: &[u8], nodes: &[usize], n: usize, table: &mut [u32])
+    requires { ⌜ (length (now nodes) ≡ 2560) × (n ≤ 256) ⌝ }
+    ensures { λ _. ⌜ now (table .exit) ≡ written (now (table .entry)) 5696 (flat n 0 (literal-words (now (text .entry)) (now (nodes .entry)))) ⌝ }
+{
+    let mut i = 0;
+    while i < n {
+        literal(text, nodes, i, table);
+        i += 1;
+    }
+}
+
+// The table's words of n nodes in r rules, written over zeros.
+pub fn encode(
+    text: &[u8],
+    nodes: &[usize],
+    terms: &[usize],
+    rules: &[usize],
+    n: usize,
+    r: usize,
+    table: &mut [u32],
+)
+    requires { ⌜ (length (now nodes) ≡ 2560) × (length (now terms) ≡ 4096) × (length (now rules) ≡ 325) × (n ≤ 256) × (r ≤ 64) × (condition-start (now nodes) n ≤ 1024) × (now table ≡ replicate 16384 0) ⌝ }
+    ensures { λ _. ⌜ now (table .exit) ≡ encoded (now (text .entry)) (now (nodes .entry)) (now (terms .entry)) (now (rules .entry)) n r ⌝ }
+{
+    put_header(nodes, n, r, table);
+    put_rules(nodes, rules, r, table);
+    put_variables(text, nodes, n, table);
+    put_constructs(text, nodes, rules, n, r, table);
+    put_terms(text, nodes, terms, rules, n, r, table);
+    put_literals(text, nodes, n, table);
+}

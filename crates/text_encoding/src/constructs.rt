@@ -1,0 +1,261 @@
+// The words of one construct, and of the terms and the bytes that it has.
+use crate::numbers::binders_before;
+use crate::numbers::condition_length;
+use crate::numbers::own_length;
+use crate::numbers::rule_number;
+use crate::numbers::variable_number;
+use crate::numbers::width;
+use crate::put::put_four;
+use crate::put::put_one;
+use crate::put::put_three;
+use crate::put::put_two;
+use text_literals::count_at;
+use text_literals::spell;
+use text_names::words::binder;
+use text_names::words::node_word;
+use text_names::words::term_word;
+use text_names::words::variable;
+ghost use mathlib.Core.Path.{_≡_};
+ghost use mathlib.Core.Bool.{cond};
+ghost use mathlib.Core.List.{[], _∷_};
+ghost use Prim.Native.Nat.{ℕ, _+_, _*_, _≤_, _<_};
+ghost use lib.ListN.{length, getD};
+ghost use Rattle.text_literals.specs.Literals.{characters-at};
+ghost use Rattle.text_names.specs.Words.{kind-of, is-binder};
+ghost use Rattle.text_encoding.specs.Lists.{flat, written};
+ghost use Rattle.text_encoding.specs.Numbers.{binders-before as binders-beforeOf, condition-start, own-start, condition-length as condition-lengthOf};
+ghost use Rattle.text_encoding.specs.Encoded.{start-word, end-word, operands as operandsOf, construct-words, term-words, list-words, packed as packedOf, literal-words};
+
+fn start_word(start: usize, n: usize) -> usize
+    ensures { λ r. ⌜ r ≡ start-word start n ⌝ }
+{
+    if 0 < n {
+        return start;
+    }
+    0
+}
+
+fn end_word(start: usize, n: usize) -> usize
+    requires { ⌜ start + n ≤ 1024 ⌝ }
+    ensures { λ r. ⌜ r ≡ end-word start n ⌝ }
+{
+    if 0 < n {
+        return start + n;
+    }
+    0
+}
+
+// 1 + the variable that a uint binds, or 0.
+fn binder_word(nodes: &[usize], i: usize) -> usize
+    requires { ⌜ (length (now nodes) ≡ 2560) × (i < 256) ⌝ }
+    ensures { λ r. ⌜ r ≡ cond (is-binder (now (nodes .entry)) i) (binders-beforeOf (now (nodes .entry)) i + 1) 0 ⌝ }
+{
+    if binder(nodes, i) {
+        return binders_before(nodes, i) + 1;
+    }
+    0
+}
+
+// How many characters the literal at p has.
+fn characters(text: &[u8], p: usize) -> usize
+    ensures { λ r. ⌜ r ≡ length (characters-at (now (text .entry)) p) ⌝ }
+{
+    if p < text.len() {
+        return count_at(text, p);
+    }
+    0
+}
+
+// The bytes of the literal at p, over zeros.
+fn spelled(text: &[u8], p: usize, bytes: &mut [u8])
+    requires { ⌜ (length (now bytes) ≡ 32) × ((k : ℕ) → getD (now bytes) k 0 ≡ 0) ⌝ }
+    ensures { λ r. ⌜ ((k : ℕ) → k < 32 → getD (now (bytes .exit)) k 0 ≡ getD (characters-at (now (text .entry)) p) k 0) ⌝ }
+{
+    if p < text.len() {
+        spell(text, p, bytes);
+    }
+}
+
+fn byte(bytes: &[u8], k: usize) -> usize
+    requires { ⌜ k < length (now bytes) ⌝ }
+    ensures { λ r. ⌜ (r ≡ getD (now (bytes .entry)) k 0) × (r < 256) ⌝ }
+{
+    bytes[k] as usize
+}
+
+// The first character of the literal at p.
+fn character(text: &[u8], p: usize) -> usize
+    ensures { λ r. ⌜ r ≡ getD (characters-at (now (text .entry)) p) 0 0 ⌝ }
+{
+    let mut bytes = [0u8; 32];
+    spelled(text, p, &mut bytes);
+    byte(&bytes, 0)
+}
+
+// The operands of construct i; its own list begins at term `own`.
+fn operands(
+    text: &[u8],
+    nodes: &[usize],
+    rules: &[usize],
+    count: usize,
+    i: usize,
+    own: usize,
+    k: usize,
+    table: &mut [u32],
+)
+    requires { ⌜ (length (now nodes) ≡ 2560) × (length (now rules) ≡ 325) × (i < 256) × (own ≡ own-start (now nodes) i) × (condition-start (now nodes) (i + 1) ≤ 1024) × (k < 65536) ⌝ }
+    ensures { λ r. ⌜ now (table .exit) ≡ written (now (table .entry)) k (operandsOf (now (text .entry)) (now (nodes .entry)) (now (rules .entry)) count i (kind-of (now (nodes .entry)) i)) ⌝ }
+{
+    let kind = node_word(nodes, i, 0);
+    let p = node_word(nodes, i, 2);
+    let n = own_length(nodes, i);
+    if kind == 3 {
+        put_four(
+            table,
+            k,
+            node_word(nodes, i, 3),
+            start_word(own, n),
+            end_word(own, n),
+            0,
+        );
+        return;
+    }
+    if kind == 5 {
+        put_four(table, k, rule_number(text, rules, count, p), 0, 0, 0);
+        return;
+    }
+    if kind == 6 {
+        put_four(table, k, characters(text, p), 0, 0, 0);
+        return;
+    }
+    if kind == 7 {
+        put_four(
+            table,
+            k,
+            character(text, p),
+            character(text, node_word(nodes, i, 3)),
+            0,
+            0,
+        );
+        return;
+    }
+    if kind == 8 {
+        put_four(
+            table,
+            k,
+            width(text, nodes, i),
+            start_word(own, n),
+            end_word(own, n),
+            binder_word(nodes, i),
+        );
+        return;
+    }
+    put_four(table, k, 0, 0, 0, 0);
+}
+
+// Construct i, whose lists begin at term `start`.
+pub fn construct(
+    text: &[u8],
+    nodes: &[usize],
+    rules: &[usize],
+    count: usize,
+    i: usize,
+    start: usize,
+    table: &mut [u32],
+)
+    requires { ⌜ (length (now nodes) ≡ 2560) × (length (now rules) ≡ 325) × (i < 256) × (start ≡ condition-start (now nodes) i) × (condition-start (now nodes) (i + 1) ≤ 1024) ⌝ }
+    ensures { λ r. ⌜ now (table .exit) ≡ written (now (table .entry)) (576 + 8 * i) (construct-words (now (text .entry)) (now (nodes .entry)) (now (rules .entry)) count i) ⌝ }
+{
+    let k = 576 + 8 * i;
+    let n = condition_length(nodes, i);
+    put_two(table, k, node_word(nodes, i, 0), node_word(nodes, i, 1));
+    operands(text, nodes, rules, count, i, start + n, k + 2, table);
+    put_two(table, k + 6, start_word(start, n), end_word(start, n));
+}
+
+fn term(
+    text: &[u8],
+    nodes: &[usize],
+    terms: &[usize],
+    a: usize,
+    i: usize,
+    t: usize,
+    k: usize,
+    table: &mut [u32],
+)
+    requires { ⌜ (length (now nodes) ≡ 2560) × (length (now terms) ≡ 4096) × (a ≤ i) × (k < 65536) ⌝ }
+    ensures { λ r. ⌜ now (table .exit) ≡ written (now (table .entry)) k (term-words (now (text .entry)) (now (nodes .entry)) (now (terms .entry)) a i t) ⌝ }
+{
+    let tag = term_word(terms, t, 0);
+    if variable(tag) {
+        put_three(
+            table,
+            k,
+            tag,
+            variable_number(text, nodes, a, i, term_word(terms, t, 2)),
+            0,
+        );
+        return;
+    }
+    let value = term_word(terms, t, 1);
+    put_three(table, k, tag, value, value / 4294967296);
+}
+
+// n terms from term t on, to the table's terms from number q on.
+pub fn list(
+    text: &[u8],
+    nodes: &[usize],
+    terms: &[usize],
+    a: usize,
+    i: usize,
+    t: usize,
+    n: usize,
+    q: usize,
+    table: &mut [u32],
+)
+    requires { ⌜ (length (now nodes) ≡ 2560) × (length (now terms) ≡ 4096) × (a ≤ i) × (q + n ≤ 1024) × (t + n ≤ 18446744073709551615) ⌝ }
+    ensures { λ r. ⌜ now (table .exit) ≡ written (now (table .entry)) (2624 + 3 * q) (list-words (now (text .entry)) (now (nodes .entry)) (now (terms .entry)) a i t n) ⌝ }
+{
+    let mut j = 0;
+    while j < n {
+        term(text, nodes, terms, a, i, t + j, 2624 + 3 * (q + j), table);
+        j += 1;
+    }
+}
+
+fn packed(bytes: &[u8], k: usize) -> usize
+    requires { ⌜ (length (now bytes) ≡ 32) × (k + 4 ≤ 32) ⌝ }
+    ensures { λ r. ⌜ r ≡ packedOf (now (bytes .entry)) k ⌝ }
+{
+    let d = byte(bytes, k + 3);
+    let c = byte(bytes, k + 2) + 256 * d;
+    let b = byte(bytes, k + 1) + 256 * c;
+    byte(bytes, k) + 256 * b
+}
+
+fn put_bytes(bytes: &[u8], k: usize, table: &mut [u32])
+    requires { ⌜ (length (now bytes) ≡ 32) × (k < 65536) ⌝ }
+    ensures { λ r. ⌜ now (table .exit) ≡ written (now (table .entry)) k (flat 8 0 (λ (j : ℕ). packedOf (now (bytes .entry)) (4 * j) ∷ [])) ⌝ }
+{
+    let mut j = 0;
+    while j < 8 {
+        put_one(table, k + j, packed(bytes, 4 * j));
+        j += 1;
+    }
+}
+
+// The bytes of construct i; the table has zeros there.
+pub fn literal(text: &[u8], nodes: &[usize], i: usize, table: &mut [u32])
+    requires { ⌜ (length (now nodes) ≡ 2560) × (i < 256) ⌝ }
+    ensures { λ r. ⌜ now (table .exit) ≡ written (now (table .entry)) (5696 + 8 * i) (literal-words (now (text .entry)) (now (nodes .entry)) i) ⌝ }
+{
+    let k = 5696 + 8 * i;
+    if node_word(nodes, i, 0) == 6 {
+        let mut bytes = [0u8; 32];
+        spelled(text, node_word(nodes, i, 2), &mut bytes);
+        put_bytes(&bytes, k, table);
+        return;
+    }
+    put_four(table, k, 0, 0, 0, 0);
+    put_four(table, k + 4, 0, 0, 0, 0);
+}

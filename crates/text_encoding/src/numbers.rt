@@ -1,0 +1,127 @@
+// Numbers of rules, variables and terms.
+use text_names::names::binds;
+use text_names::names::same;
+use text_names::words::binder;
+use text_names::words::min;
+use text_names::words::node_word;
+use text_names::words::rule_word;
+use text_tokens::numbers::number_at;
+ghost use mathlib.Core.Path.{_≡_};
+ghost use Prim.Native.Nat.{ℕ, _+_, _-_, _≤_, _<_};
+ghost use lib.ListN.{length};
+ghost use Rattle.text_encoding.specs.Lists.{sum};
+ghost use Rattle.text_encoding.specs.Numbers.{rule-of, first-at as first-atOf, binds-one, binders-before as binders-beforeOf, binder-of, variable-of, width-of, condition-length as condition-lengthOf, own-length as own-lengthOf};
+
+// n without m, 0 where m is more.
+pub fn less(n: usize, m: usize) -> usize
+    ensures { λ r. ⌜ r ≡ n - m ⌝ }
+{
+    if n < m {
+        return 0;
+    }
+    n - m
+}
+
+// The first of `count` rules with the name at p; `count` where none has it.
+pub fn rule_number(text: &[u8], rules: &[usize], count: usize, p: usize) -> usize
+    requires { ⌜ length (now rules) ≡ 325 ⌝ }
+    ensures { λ r. ⌜ r ≡ rule-of (now (text .entry)) (now (rules .entry)) count p ⌝ }
+{
+    let mut j = 0;
+    while j < count {
+        if same(text, rule_word(rules, j, 0), p) {
+            return j;
+        }
+        j += 1;
+    }
+    j
+}
+
+// The first node of the rule that node i is in.
+pub fn first_at(rules: &[usize], count: usize, i: usize) -> usize
+    requires { ⌜ length (now rules) ≡ 325 ⌝ }
+    ensures { λ r. ⌜ (r ≡ first-atOf (now (rules .entry)) count i) × (r ≤ i) ⌝ }
+{
+    let mut k = count;
+    while 0 < k {
+        k -= 1;
+        let first = rule_word(rules, k, 1);
+        if first <= i {
+            return first;
+        }
+    }
+    0
+}
+
+fn binds_one(nodes: &[usize], j: usize) -> usize
+    requires { ⌜ length (now nodes) ≡ 2560 ⌝ }
+    ensures { λ r. ⌜ (r ≡ binds-one (now (nodes .entry)) j) × (r ≤ 1) ⌝ }
+{
+    if binder(nodes, j) {
+        return 1;
+    }
+    0
+}
+
+// How many binders stand before node i.
+pub fn binders_before(nodes: &[usize], i: usize) -> usize
+    requires { ⌜ length (now nodes) ≡ 2560 ⌝ }
+    ensures { λ r. ⌜ (r ≡ binders-beforeOf (now (nodes .entry)) i) × (r ≤ i) ⌝ }
+{
+    let mut n = 0;
+    let mut j = 0;
+    while j < i {
+        n += binds_one(nodes, j);
+        j += 1;
+    }
+    n
+}
+
+// The first node from a up to i that binds the name at p; i where none does.
+fn binder_of(text: &[u8], nodes: &[usize], a: usize, i: usize, p: usize) -> usize
+    requires { ⌜ (length (now nodes) ≡ 2560) × (a ≤ i) ⌝ }
+    ensures { λ r. ⌜ r ≡ binder-of (now (text .entry)) (now (nodes .entry)) a i p ⌝ }
+{
+    let mut j = a;
+    while j < i {
+        if binds(text, nodes, p, j) {
+            return j;
+        }
+        j += 1;
+    }
+    j
+}
+
+// The variable that the name at p is in node i of a rule whose first node is a.
+pub fn variable_number(text: &[u8], nodes: &[usize], a: usize, i: usize, p: usize) -> usize
+    requires { ⌜ (length (now nodes) ≡ 2560) × (a ≤ i) ⌝ }
+    ensures { λ r. ⌜ r ≡ variable-of (now (text .entry)) (now (nodes .entry)) a i p ⌝ }
+{
+    binders_before(nodes, binder_of(text, nodes, a, i, p))
+}
+
+// A uint's width, at most 33.
+pub fn width(text: &[u8], nodes: &[usize], i: usize) -> usize
+    requires { ⌜ length (now nodes) ≡ 2560 ⌝ }
+    ensures { λ r. ⌜ r ≡ width-of (now (text .entry)) (now (nodes .entry)) i ⌝ }
+{
+    let p = node_word(nodes, i, 3);
+    if p < text.len() {
+        return min(33, number_at(text, p) as usize);
+    }
+    0
+}
+
+pub fn condition_length(nodes: &[usize], i: usize) -> usize
+    requires { ⌜ length (now nodes) ≡ 2560 ⌝ }
+    ensures { λ r. ⌜ r ≡ condition-lengthOf (now (nodes .entry)) i ⌝ }
+{
+    less(node_word(nodes, i, 9), node_word(nodes, i, 8))
+}
+
+pub fn own_length(nodes: &[usize], i: usize) -> usize
+    requires { ⌜ length (now nodes) ≡ 2560 ⌝ }
+    ensures { λ r. ⌜ r ≡ own-lengthOf (now (nodes .entry)) i ⌝ }
+{
+    less(node_word(nodes, i, 6), node_word(nodes, i, 5))
+}

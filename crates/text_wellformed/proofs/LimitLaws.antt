@@ -1,0 +1,94 @@
+-- A right text that refusal 5 lets pass is within the limits: the last rule has the totals, and no rule's are past a limit.
+-- Assumes nothing.
+use Prim.Native.Nat.{ℕ, _+_, _-_, _≤_, _<_}
+use mathlib.Core.Path.{_≡_, refl, sym, subst, _∙_}
+use mathlib.Core.Logic.{⊎-elim}
+use mathlib.Core.Bool.{Bool, true, false, _||_}
+use mathlib.Core.List.{List, [], _∷_}
+use native.Mathlib.Omega.{arith}
+use borrow.Author.Tests.{leb-true, leb-false, ltb-false, le-leb}
+use lib.Dec.{leb, ltb}
+use lib.ListN.{length, length-replicate}
+use Rattle.text_header.proofs.Tests.{which, picked}
+use Rattle.text_parsing.specs.Terminals.{sights-from}
+use Rattle.text_parsing.specs.Symbols.{rules}
+use Rattle.text_parsing.specs.Store.{State, state, nodes-of, terms-of, binders-of, rules-of, rule-words, counted, close-rule}
+use Rattle.text_parsing.specs.Form.{right, run}
+use Rattle.text_productions.specs.Phrases.{Phrases, nothing, then, no-rule, a-rule, ruled, terminal}
+use Rattle.text_productions.proofs.Derived.{derived}
+use Rattle.text_shapes.proofs.StoreLaws.{rule-at}
+use Rattle.text_shapes.proofs.Growth.{phrases-grow}
+use Rattle.text_shapes.proofs.Shaped.{blank}
+use Rattle.text_shapes.proofs.Places.{placed}
+use Rattle.text_names.specs.Counting.{nowhere}
+use Rattle.text_names.specs.Words.{rule-word, named-at}
+use Rattle.text_names.specs.Limits.{passed-in, refusal-5}
+use Rattle.text_wellformed.proofs.LeastLaws.{faults-clear}
+
+-- ---- the last rule
+
+-- the last rule has the totals
+record Totals (st : State) : Type 0 where
+  some : 1 ≤ rules-of st
+  nodes : rule-word (rule-words st) (rules-of st - 1) 2 ≡ nodes-of st
+  terms : rule-word (rule-words st) (rules-of st - 1) 3 ≡ terms-of st
+  binders : rule-word (rule-words st) (rules-of st - 1) 4 ≡ binders-of st
+
+under : (limit n : ℕ) → counted limit n ≤ limit → n < limit
+under limit n = picked (λ (k : ℕ). k ≤ limit → n < limit) (leb n limit) (λ z h. omega arith) (λ z h. absurd (omega (arith, leb-false n limit z)))
+
+closed-totals : (p i : ℕ) (a : State) → length (rule-words a) ≡ 325 → rules-of (close-rule p i a) ≤ 64 → Totals (close-rule p i a)
+closed-totals p i (state ns ts rs n t b r) l h =
+    let k : r < 64 = under 64 r h in
+    let z : r + 1 - 1 ≡ r = omega arith in
+    rw (le-leb r 64 (omega arith))
+    (record {
+      some = omega arith;
+      nodes = rw z (rule-at rs r p i n t b (omega arith) l 2 (omega arith));
+      terms = rw z (rule-at rs r p i n t b (omega arith) l 3 (omega arith));
+      binders = rw z (rule-at rs r p i n t b (omega arith) l 4 (omega arith));
+    })
+
+-- after a rule nothing more is read but rules
+last-rule : {xs : List ℕ} {any : Bool} {a b : State} → Phrases xs (rules any ∷ []) a b → length (rule-words a) ≡ 325 → rules-of b ≤ 64 → (any ≡ true → Totals a) → Totals b
+last-rule (then no-rule nothing nothing) l m h = h refl
+last-rule (then (a-rule v n p i) (then terminal nothing (then x y (then (ruled {p = q} {i = k} {a = c} {b = d} e) nothing r))) nothing) l m h =
+    last-rule r (phrases-grow (then x y (then (ruled e) nothing nothing)) .rule-length ∙ l) m
+    (λ z. subst Totals (sym e) (closed-totals q k c (phrases-grow (then x y nothing) .rule-length ∙ l) (subst (λ (s : State). rules-of s ≤ 64) e (omega (arith, phrases-grow r .rules)))))
+
+-- ---- no total is past its limit
+
+either-first : (a b : Bool) → (a || b) ≡ false → a ≡ false
+either-first true b e = e
+either-first false b e = refl
+
+either-second : (a b : Bool) → (a || b) ≡ false → b ≡ false
+either-second true b e = let z : _≡_ {A = ℕ} 0 1 = cc in absurd (omega arith)
+either-second false b e = e
+
+record Within (rs : List ℕ) (k : ℕ) : Type 0 where
+  rules : k < 64
+  nodes : rule-word rs k 2 ≤ 256
+  terms : rule-word rs k 3 ≤ 1024
+  binders : rule-word rs k 4 ≤ 64
+
+within : (rs : List ℕ) (k : ℕ) → passed-in rs k ≡ false → Within rs k
+within rs k e =
+    let f = either-second (leb 64 k) _ e in
+    let g = either-second (ltb 256 (rule-word rs k 2)) _ f in
+    record {
+      rules = leb-false 64 k (either-first (leb 64 k) _ e);
+      nodes = ltb-false 256 (rule-word rs k 2) (either-first (ltb 256 (rule-word rs k 2)) _ f);
+      terms = ltb-false 1024 (rule-word rs k 3) (either-first (ltb 1024 (rule-word rs k 3)) _ g);
+      binders = ltb-false 64 (rule-word rs k 4) (either-second (ltb 1024 (rule-word rs k 3)) _ g);
+    }
+
+pub limits : (xs ns ts rs : List ℕ) (n t b r : ℕ) → run (sights-from xs 0) blank (rules false ∷ []) ≡ right (state ns ts rs n t b r) → length xs ≤ 8192 → refusal-5 rs r ≡ nowhere → (n ≤ 256) × (t ≤ 1024) × (b ≤ 64) × (r ≤ 64)
+limits xs ns ts rs n t b r e short clear =
+    let each : (k : ℕ) → k < r → k < 65 → Within rs k =
+    λ k g h. within rs k (faults-clear 0 r (passed-in rs) (named-at rs) clear k (omega arith) g (omega (arith, placed xs ns ts rs n t b r e .rules k h)))
+    in let many : r ≤ 64 = ⊎-elim (λ z. leb-true r 64 z) (λ z. absurd (omega (arith, each 64 (leb-false r 64 z) (omega arith) .rules))) (which (leb r 64))
+    in let total : Totals (state ns ts rs n t b r) =
+    last-rule (derived xs blank (state ns ts rs n t b r) e) (length-replicate {A = ℕ} 325 0) many (λ z. let y : _≡_ {A = ℕ} 0 1 = cc in absurd (omega arith))
+    in let last : Within rs (r - 1) = each (r - 1) (omega (arith, total .some)) (omega arith)
+    in (omega (arith, total .nodes, last .nodes), omega (arith, total .terms, last .terms), omega (arith, total .binders, last .binders), many)

@@ -1,0 +1,92 @@
+-- A list of the table's terms is the list that was read, each variable under its number.
+-- Assumes nothing.
+use Prim.Native.Nat.{ℕ, zero, suc, _+_, _*_, _-_, _/_, min, _≤_, _<_}
+use mathlib.Core.Path.{_≡_, refl, sym, ap, ap₂, subst, _∙_}
+use mathlib.Core.Logic.{_⊎_}
+use mathlib.Core.Bool.{true, cond}
+use mathlib.Core.List.{List, _∷_, map}
+use native.Mathlib.Omega.{arith}
+use borrow.Author.Tests.{lt-ltb}
+use lib.ListN.{length, getD, drop, length-take, length-drop}
+use lib.Seq.{getD-take, getD-drop}
+use Rattle.term_words.specs.Words.{termOf, termAt, termsFrom, terms}
+use Rattle.term_words.specs.declared.Term.{Term}
+use Rattle.table_layout.specs.Places.{word}
+use Rattle.table_layout.specs.Held
+use Rattle.text_shapes.specs.TermShapes.{read-term, read-terms, rename-term}
+use Rattle.text_names.specs.Words.{term-word, is-use}
+use Rattle.text_encoding.specs.Lists.{narrow}
+use Rattle.text_encoding.specs.Numbers.{variable-of}
+use Rattle.text_encoding.specs.Encoded.{term-words}
+use Rattle.text_wellformed.proofs.TermsKnown.{KnownTerm, AllKnown, term-back}
+
+-- ---- the table's words of a term
+
+module _ (ws : List ℕ) (many : length ws ≡ 16384) where
+  table-length : length (Held.term-words ws) ≡ 3072
+  table-length = length-take 3072 (drop 2624 ws) ∙ ap (min 3072) (length-drop 2624 ws) ∙ ap (λ (n : ℕ). min 3072 (n - 2624)) many
+
+  table-word : (k j p : ℕ) → k < 1024 → j < 3 → p ≡ k * 3 + j → getD (Held.term-words ws) p 0 ≡ word ws (2624 + 3 * k + j)
+  table-word k j p h l z = let m : p < 3072 = omega arith in getD-take 3072 (drop 2624 ws) p 0 m ∙ getD-drop 2624 ws p 0 ∙ ap (λ (q : ℕ). getD ws q 0) (omega arith)
+
+  pub table-term : (k : ℕ) → k < 1024 → termAt (Held.term-words ws) k ≡ termOf (word ws (2624 + 3 * k + 0)) (word ws (2624 + 3 * k + 1)) (word ws (2624 + 3 * k + 2))
+  unfolding termAt
+  table-term k h =
+      let l : k < length (Held.term-words ws) / 3 = rw table-length (omega arith)
+      in rw (lt-ltb k (length (Held.term-words ws) / 3) l, table-word k 0 (k * 3) h (omega arith) (omega arith), table-word k 1 (k * 3 + 1) h (omega arith) refl, table-word k 2 (k * 3 + 2) h (omega arith) refl)
+
+-- ---- a list of node i, in a rule whose first node is a: n terms from term f of those read, in the table from term s on
+
+pub record Listed (xs ns ts ws : List ℕ) (a i s f n : ℕ) : Type 0 where
+  pub many : length ws ≡ 16384
+  pub fits : s + n ≤ 1024
+  pub at : (m j : ℕ) → m < n → j < 3 → word ws (2624 + 3 * (s + m) + j) ≡ narrow (getD (term-words xs ns ts a i (f + m)) j 0)
+  pub numbers : (m : ℕ) → m < n → (term-word ts (f + m) 0 ≡ 1) ⊎ (term-word ts (f + m) 0 ≡ 33) → term-word ts (f + m) 1 < 4294967296
+  pub small : (m : ℕ) → m < n → is-use (term-word ts (f + m) 0) ≡ true → variable-of xs ns a i (term-word ts (f + m) 2) < 64
+
+-- the number of a variable, cut where a name is no variable's
+abbrev pub cut-variable : (xs ns : List ℕ) (a i p : ℕ) → ℕ
+cut-variable xs ns a i p = min 63 (variable-of xs ns a i p)
+
+-- a term that was read, by its words
+abbrev pub by-words : List ℕ → ℕ → Term
+by-words ts q = termOf (term-word ts q 0) (cond (is-use (term-word ts q 0)) (term-word ts q 2) (term-word ts q 1)) 0
+
+pub read-by-words : (ts : List ℕ) (q : ℕ) → by-words ts q ≡ read-term ts q
+read-by-words ts q = let z : 4 * q + 0 ≡ 4 * q = omega arith in ap (λ (w : ℕ). termOf (getD ts w 0) (cond (is-use (getD ts w 0)) (term-word ts q 2) (term-word ts q 1)) 0) z
+
+pub known-at : (ts : List ℕ) (n f m : ℕ) → AllKnown (read-terms ts f n) → m < n → KnownTerm (read-term ts (f + m))
+unfolding read-terms
+known-at ts zero f m k h = absurd (omega arith)
+known-at ts (suc n) f zero k h = let z : f + 0 ≡ f = omega arith in subst (λ (q : ℕ). KnownTerm (read-term ts q)) (sym z) (k .0)
+known-at ts (suc n) f (suc m) k h = let z : f + 1 + m ≡ f + suc m = omega arith in subst (λ (q : ℕ). KnownTerm (read-term ts q)) z (known-at ts n (f + 1) m (k .1) (omega arith))
+
+terms-renamed : (T ts : List ℕ) (g : ℕ → ℕ) (n s f : ℕ) → ((m : ℕ) → m < n → termAt T (s + m) ≡ rename-term g (read-term ts (f + m))) → termsFrom T s n ≡ map (rename-term g) (read-terms ts f n)
+unfolding termsFrom read-terms
+terms-renamed T ts g zero s f h = refl
+terms-renamed T ts g (suc n) s f h =
+    let y : s ≡ s + 0 = omega arith
+    in let z : f + 0 ≡ f = omega arith
+    in ap₂ (λ (x : Term) (L : List Term). x ∷ L) (ap (termAt T) y ∙ h 0 (omega arith) ∙ ap (λ (q : ℕ). rename-term g (read-term ts q)) z)
+    (terms-renamed T ts g n (s + 1) (f + 1)
+    (λ m l. ap (termAt T) (let w : s + 1 + m ≡ s + suc m = omega arith in w) ∙ h (suc m) (omega arith) ∙ ap (λ (q : ℕ). rename-term g (read-term ts q)) (let w : f + suc m ≡ f + 1 + m = omega arith in w)))
+
+module _ {xs ns ts ws : List ℕ} {a i s f n : ℕ} (l : Listed xs ns ts ws a i s f n) where
+  -- under any numbers that are the variables' own below 64
+  module _ (g : ℕ → ℕ) (same : (p : ℕ) → variable-of xs ns a i p < 64 → variable-of xs ns a i p ≡ g p) where
+    pub term-named : (m : ℕ) → m < n → KnownTerm (read-term ts (f + m)) → termAt (Held.term-words ws) (s + m) ≡ rename-term g (read-term ts (f + m))
+    term-named m h k =
+        table-term ws (l .many) (s + m) (omega (arith, l .fits))
+        ∙ rw (l .at m 0 h (omega arith), l .at m 1 h (omega arith), l .at m 2 h (omega arith), ← read-by-words ts (f + m))
+        (term-back g (is-use (term-word ts (f + m) 0)) (term-word ts (f + m) 0) (term-word ts (f + m) 1) (term-word ts (f + m) 2) (variable-of xs ns a i (term-word ts (f + m) 2)) refl (rw (read-by-words ts (f + m)) k) (l .numbers m h) (λ e. (same (term-word ts (f + m) 2) (l .small m h e), omega (arith, l .small m h e))))
+
+    pub terms-named : AllKnown (read-terms ts f n) → terms (Held.term-words ws) s (s + n) ≡ map (rename-term g) (read-terms ts f n)
+    terms-named k =
+        let z : s + n - s ≡ n = omega arith
+        in rw z (terms-renamed (Held.term-words ws) ts g n s f (λ m h. term-named m h (known-at ts n f m k h)))
+
+  pub term-listed : (m : ℕ) → m < n → KnownTerm (read-term ts (f + m)) → termAt (Held.term-words ws) (s + m) ≡ rename-term (cut-variable xs ns a i) (read-term ts (f + m))
+  term-listed = term-named (cut-variable xs ns a i) (λ p h. omega arith)
+
+  pub terms-listed : AllKnown (read-terms ts f n) → terms (Held.term-words ws) s (s + n) ≡ map (rename-term (cut-variable xs ns a i)) (read-terms ts f n)
+  terms-listed = terms-named (cut-variable xs ns a i) (λ p h. omega arith)

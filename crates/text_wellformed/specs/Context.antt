@@ -1,0 +1,84 @@
+-- What is known of a text that has passed 5 and 6 and the widths and numbers of 8, and of the words that are encoded from it.
+-- Assumes nothing.
+use Prim.Native.Nat.{ℕ, _+_, _*_, _≤_, _<_}
+use mathlib.Core.Path.{_≡_}
+use mathlib.Core.Logic.{_⊎_}
+use mathlib.Core.Bool.{true}
+use mathlib.Core.List.{List}
+use lib.ListN.{length, getD}
+use Rattle.table_layout.specs.Places.{word}
+use Rattle.text_shapes.specs.NodeShapes.{Unconditioned, Conditioned, tree, Holds, Rules}
+use Rattle.text_names.specs.Counting.{nowhere}
+use Rattle.text_names.specs.Words.{node-word, term-word, kind-of, is-binder}
+use Rattle.text_names.specs.Names.{refusal-6}
+use Rattle.text_encoding.specs.Lists.{narrow}
+use Rattle.text_encoding.specs.Numbers.{first-at, binders-before, width-of, condition-length, own-length, condition-start, own-start}
+use Rattle.text_encoding.specs.Encoded.{rule-words, variable-words, construct-words, term-words, literal-words}
+
+-- what is read: shaped as its form has it, within 5's limits, with the names that 6 asks for and the widths and numbers that 8 does
+pub record Readable (xs ns ts rs : List ℕ) (n t b r : ℕ) : Type 0 where
+  pub rules : Rules xs ns ts rs r n t b 0 0 0 0
+  pub some : 1 ≤ r
+  pub node-length : length ns ≡ 2560
+  pub term-length : length ts ≡ 4096
+  pub rule-length : length rs ≡ 325
+  pub nodes-limit : n ≤ 256
+  pub terms-limit : t ≤ 1024
+  pub binders-limit : b ≤ 64
+  pub rules-limit : r ≤ 64
+  pub short : length xs ≤ 8192
+  pub named : refusal-6 xs ns ts rs r ≡ nowhere
+  pub widths : (i : ℕ) → i < n → kind-of ns i ≡ 8 → (1 ≤ width-of xs ns i) × (width-of xs ns i ≤ 32)
+  pub numbers : (k : ℕ) → k < t → (term-word ts k 0 ≡ 1) ⊎ (term-word ts k 0 ≡ 33) → term-word ts k 1 < 4294967296
+
+-- the words by place
+pub record Words (xs ns ts rs : List ℕ) (n r : ℕ) (ws : List ℕ) : Type 0 where
+  pub many : length ws ≡ 16384
+  pub mark-is : word ws 0 ≡ 1399811687
+  pub rules-are : word ws 1 ≡ r
+  pub constructs-are : word ws 2 ≡ n
+  pub variables-are : word ws 3 ≡ binders-before ns n
+  pub terms-are : word ws 4 ≡ condition-start ns n
+  pub weight-is : word ws 5 ≡ 1
+  pub header-rest : (k : ℕ) → 6 ≤ k → k < 64 → word ws k ≡ 0
+  pub rule-at : (k j : ℕ) → k < r → j < 4 → word ws (64 + 4 * k + j) ≡ narrow (getD (rule-words ns rs k) j 0)
+  pub rules-rest : (k : ℕ) → 64 + 4 * r ≤ k → k < 320 → word ws k ≡ 0
+  pub variable-at : (i j : ℕ) → i < n → is-binder ns i ≡ true → j < 4 → word ws (320 + 4 * binders-before ns i + j) ≡ narrow (getD (variable-words xs ns i) j 0)
+  pub variables-rest : (k : ℕ) → 320 + 4 * binders-before ns n ≤ k → k < 576 → word ws k ≡ 0
+  pub construct-at : (i j : ℕ) → i < n → j < 8 → word ws (576 + 8 * i + j) ≡ narrow (getD (construct-words xs ns rs r i) j 0)
+  pub constructs-rest : (k : ℕ) → 576 + 8 * n ≤ k → k < 2624 → word ws k ≡ 0
+  pub condition-term : (i m j : ℕ) → i < n → m < condition-length ns i → j < 3 → word ws (2624 + 3 * (condition-start ns i + m) + j) ≡ narrow (getD (term-words xs ns ts (first-at rs r i) i (node-word ns i 8 + m)) j 0)
+  pub own-term : (i m j : ℕ) → i < n → m < own-length ns i → j < 3 → word ws (2624 + 3 * (own-start ns i + m) + j) ≡ narrow (getD (term-words xs ns ts (first-at rs r i) i (node-word ns i 5 + m)) j 0)
+  pub terms-rest : (k : ℕ) → 2624 + 3 * condition-start ns n ≤ k → k < 5696 → word ws k ≡ 0
+  pub literal-at : (i j : ℕ) → i < n → j < 8 → word ws (5696 + 8 * i + j) ≡ narrow (getD (literal-words xs ns i) j 0)
+  pub literals-rest : (k : ℕ) → 5696 + 8 * n ≤ k → k < 16384 → word ws k ≡ 0
+
+-- ---- node by node
+
+-- a node other than a counted repetition or a uint has no list of its own
+abbrev pub QuietAt : List ℕ → ℕ → Type 0
+QuietAt ns i = (kind-of ns i ≡ 8 → ⊥) → ((kind-of ns i ≡ 3) × (node-word ns i 3 ≡ 4) → ⊥) → own-length ns i ≡ 0
+
+-- all of n nodes are so
+abbrev pub Quiet : List ℕ → ℕ → Type 0
+Quiet ns n = (i : ℕ) → i < n → QuietAt ns i
+
+-- a tree begins at node i
+pub record TreeAt (xs ns ts : List ℕ) (n t i : ℕ) : Type 0 where
+  pub end : ℕ
+  pub first : ℕ
+  pub last : ℕ
+  pub count : ℕ
+  pub within : end ≤ n
+  pub terms-within : last ≤ t
+  pub holds : Holds xs ns ts tree i end first last count
+
+-- node i is a case with a condition, or not
+pub data ConditionAt (ns ts : List ℕ) (t i : ℕ) : Type 0 where
+  without : Unconditioned ns i → ConditionAt ns ts t i
+  with-one : {f h : ℕ} → Conditioned ns ts i f h → h ≤ t → ConditionAt ns ts t i
+
+-- every node begins a tree, with a condition or without
+pub record Nodes (xs ns ts : List ℕ) (n t : ℕ) : Type 0 where
+  pub trees : (i : ℕ) → i < n → TreeAt xs ns ts n t i
+  pub conditions : (i : ℕ) → i < n → ConditionAt ns ts t i
