@@ -1,10 +1,10 @@
 use borrow.Author.Needs.{needs}
 use native.Mathlib.Omega.{arith}
 use Prim.Native.Nat.{_≤_, _-_}
-use Rattle.case_grants.proofs.show_reading.Statement.{statement}
-use Rattle.case_grants.proofs.show_reading.Tie as tie
-use Rattle.case_grants.proofs.show_reading.Reads as reads
-use Rattle.case_grants.proofs.show_reading.Lts as lts
+use Rattle.case_run.proofs.granting.show_reading.Statement.{statement}
+use Rattle.case_run.proofs.granting.show_reading.Tie as tie
+use Rattle.case_run.proofs.granting.show_reading.Reads as reads
+use Rattle.case_run.proofs.granting.show_reading.Lts as lts
 use Rattle.case_grants.proofs.show_capture.Reads as show-capture-reads
 
 abbrev Inv-loop : tie.InvT-loop

@@ -1,8 +1,8 @@
--- `case_reach::chain` is safe and ends: the counter stays within the rules. Assumes nothing.
+-- `case_form::reach::chain` is safe and ends: the counter stays within the rules. Assumes nothing.
 use Prim.Native.Nat.{_-_, _≤_}
 use borrow.Author.Needs.{needs}
-use Rattle.case_reach.proofs.chain.Statement.{statement}
-use Rattle.case_reach.proofs.chain.Tie as tie
+use Rattle.case_form.proofs.reach.chain.Statement.{statement}
+use Rattle.case_form.proofs.reach.chain.Tie as tie
 
 abbrev Inv-loop : tie.InvT-loop
 Inv-loop rules table₀ r₀ t4 t5 table r = r ≤ 63

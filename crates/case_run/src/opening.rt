@@ -1,26 +1,9 @@
 // Openings on the bench sheet's tables, completed; then openings that are refused.
-use libc::STDOUT_FILENO;
+use crate::printing::number;
+use crate::printing::show_verdict;
+use crate::printing::text;
 use run_grants::Run;
 use run_matcher::Answer;
-
-fn text(bytes: &[u8]) {
-    io::write_all(STDOUT_FILENO, bytes);
-}
-
-fn number(n: u64) {
-    io::print_decimal(STDOUT_FILENO, n);
-}
-
-fn show_verdict(v: u32) {
-    match v {
-        0 => text(b"undecided"),
-        1 => text(b"match"),
-        2 => text(b"no match"),
-        3 => text(b"closed"),
-        4 => text(b"broken"),
-        _ => text(b"unknown"),
-    }
-}
 
 fn show_answer(answer: Answer) {
     match answer {
@@ -129,7 +112,7 @@ fn sheet_9_10() {
     row(b"K10 03", &table10, 16384, &[3], 512);
 }
 
-fn main() {
+pub fn openings() {
     sheet_g();
     sheet_5_6();
     sheet_9_10();

@@ -1,8 +1,8 @@
 use Prim.Native.Nat.{_≤_, _-_}
 use native.Mathlib.Omega.{arith}
 use borrow.Author.Needs.{needs}
-use Rattle.case_wellformed.proofs.changes.Statement.{statement}
-use Rattle.case_wellformed.proofs.changes.Tie as tie
+use Rattle.case_form.proofs.form.changes.Statement.{statement}
+use Rattle.case_form.proofs.form.changes.Tie as tie
 
 abbrev Inv-loop : tie.InvT-loop
 Inv-loop table₀ still₀ k₀ table still k = k ≤ 16384

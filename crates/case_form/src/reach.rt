@@ -1,10 +1,7 @@
 // Rules that reach themselves and weights, over small tables laid out by hand.
-use libc::STDOUT_FILENO;
+use crate::printing::number;
+use crate::printing::text;
 use table_reach::Recursion;
-
-fn line(text: &[u8]) {
-    io::write_all(STDOUT_FILENO, text);
-}
 
 fn header(table: &mut [u32; 2624], rules: u32, constructs: u32) {
     table[1] = rules;
@@ -27,19 +24,17 @@ fn construct(table: &mut [u32; 2624], i: usize, kind: u32, size: u32, operand: u
 
 // What the table's rules come to.
 fn report(name: &[u8], table: &[u32; 2624]) {
-    line(name);
+    text(name);
     match table_reach::recursive_rule(table) {
         Recursion::Rule(r) => {
-            line(b": reaches itself: rule ");
-            io::print_decimal(STDOUT_FILENO, r as u64);
+            number(b": reaches itself: rule ", r);
         }
         Recursion::None => {
-            line(b": weight ");
             let weighing = table_weights::weigh(table);
-            io::print_decimal(STDOUT_FILENO, weighing.grammar as u64);
+            number(b": weight ", weighing.grammar as usize);
         }
     }
-    line(b"\n");
+    text(b"\n");
 }
 
 // frame = uint(8, var(len, 1~8)) & uint(8, ~){len};
@@ -96,12 +91,11 @@ fn chain(rules: usize) {
             header(&mut table, rules as u32, 3 * (rules as u32) - 2);
         }
     }
-    line(b"rules ");
-    io::print_decimal(STDOUT_FILENO, rules as u64);
+    number(b"rules ", rules);
     report(b", each used twice by the one before", &table);
 }
 
-fn main() {
+pub fn small_tables() {
     bench_g();
     bench_k11();
     later_cycle();

@@ -1,10 +1,10 @@
 use borrow.Author.Needs.{needs}
 use native.Mathlib.Omega.{arith}
 use Prim.Native.Nat.{_≤_, _-_}
-use Rattle.case_grants.proofs.play.Statement.{statement}
-use Rattle.case_grants.proofs.play.Tie as tie
-use Rattle.case_grants.proofs.play.Reads as reads
-use Rattle.case_grants.proofs.play.Lts as lts
+use Rattle.case_run.proofs.granting.play.Statement.{statement}
+use Rattle.case_run.proofs.granting.play.Tie as tie
+use Rattle.case_run.proofs.granting.play.Reads as reads
+use Rattle.case_run.proofs.granting.play.Lts as lts
 use Rattle.case_grants.proofs.grant.Reads as grant-reads
 use Rattle.case_grants.proofs.in_turn.Reads as in-turn-reads
 use Rattle.case_grants.proofs.show_run.Reads as show-run-reads

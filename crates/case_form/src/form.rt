@@ -1,10 +1,7 @@
 // Asks of tables of the bench sheet's grammars, their sets left 0, whether they are laid out right; then the same of each table with one
 // word changed.
-use libc::STDOUT_FILENO;
-
-fn text(bytes: &[u8]) {
-    io::write_all(STDOUT_FILENO, bytes);
-}
+use crate::printing::number;
+use crate::printing::text;
 
 // How many words can be one more, and leave the table laid out.
 fn changes(table: &mut [u32; 16384]) -> u64 {
@@ -46,11 +43,11 @@ fn show(name: &[u8], table: &mut [u32; 16384]) {
         text(b" not laid out, but with ");
     }
     let still = changes(table);
-    io::print_decimal(STDOUT_FILENO, still);
+    number(b"", still as usize);
     text(b" of 16384 words one more\n");
 }
 
-fn main() {
+pub fn words_changed() {
     let mut table = [0u32; 16384];
     show(b"nothing:", &mut table);
     case_tables::g(&mut table);

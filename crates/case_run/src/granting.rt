@@ -1,27 +1,10 @@
 // Runs of the bench sheet's tables over their frames, by grants of 2^64 - 1, of 1, and of 0 and 3 in turn; then saved runs, tables, frames
 // and readings of which each is refused or broken for another reason; then forged runs and tables, which end alike by one grant and by many.
-use libc::STDOUT_FILENO;
+use crate::printing::number;
+use crate::printing::show_verdict;
+use crate::printing::text;
 use run_grants::Answer;
 use run_grants::Run;
-
-fn text(bytes: &[u8]) {
-    io::write_all(STDOUT_FILENO, bytes);
-}
-
-fn number(n: u64) {
-    io::print_decimal(STDOUT_FILENO, n);
-}
-
-fn show_verdict(v: u32) {
-    match v {
-        0 => text(b"undecided"),
-        1 => text(b"match"),
-        2 => text(b"no match"),
-        3 => text(b"closed"),
-        4 => text(b"broken"),
-        _ => text(b"unknown"),
-    }
-}
 
 fn show_answer(answer: Answer) {
     match answer {
@@ -372,7 +355,7 @@ fn passes_past() {
     passed(b"9 passes of 8 bits", 9);
 }
 
-fn main() {
+pub fn grants() {
     sheet();
     bounds();
     positions();

@@ -1,6 +1,6 @@
 use borrow.Author.Needs.{needs}
-use Rattle.case_matcher.proofs.complete.Statement.{statement}
-use Rattle.case_matcher.proofs.complete.Tie as tie
+use Rattle.case_run.proofs.opening.complete.Statement.{statement}
+use Rattle.case_run.proofs.opening.complete.Tie as tie
 
 formed-requires : tie.Need-formed-requires
 formed-requires c κs = search needs
