@@ -100,14 +100,11 @@ sub-header c = search needs
 header-requires : tie.Need-header-requires Inv-loop μ-loop
 header-requires c κs = search needs
 
-slice-aggregate-line : tie.Need-slice-aggregate-line Inv-loop μ-loop
-slice-aggregate-line c = search needs
+slice-aggregate-number : tie.Need-slice-aggregate-number Inv-loop μ-loop
+slice-aggregate-number c = search needs
 
-line-requires : tie.Need-line-requires Inv-loop μ-loop
-line-requires c κs = search needs
-
-print-decimal-requires : tie.Need-print-decimal-requires Inv-loop μ-loop
-print-decimal-requires c κs = search needs
+number-requires : tie.Need-number-requires Inv-loop μ-loop
+number-requires c κs = search needs
 
 slice-aggregate-report : tie.Need-slice-aggregate-report Inv-loop μ-loop
 slice-aggregate-report c = search needs
@@ -154,9 +151,8 @@ chain-spec =
     mul-header
     sub-header
     header-requires
-    slice-aggregate-line
-    line-requires
-    print-decimal-requires
+    slice-aggregate-number
+    number-requires
     slice-aggregate-report
     report-requires
     returns)

@@ -5,9 +5,9 @@ use Rattle.case_run.proofs.granting.play.Statement.{statement}
 use Rattle.case_run.proofs.granting.play.Tie as tie
 use Rattle.case_run.proofs.granting.play.Reads as reads
 use Rattle.case_run.proofs.granting.play.Lts as lts
-use Rattle.case_grants.proofs.grant.Reads as grant-reads
-use Rattle.case_grants.proofs.in_turn.Reads as in-turn-reads
-use Rattle.case_grants.proofs.show_run.Reads as show-run-reads
+use Rattle.case_run.proofs.granting.grant.Reads as grant-reads
+use Rattle.case_run.proofs.granting.in_turn.Reads as in-turn-reads
+use Rattle.case_run.proofs.granting.show_run.Reads as show-run-reads
 
 abbrev Inv-loop : tie.InvT-loop
 Inv-loop table frame even odd reading₀ run₀ grants₀ reading run grants = grants ≤ 1000

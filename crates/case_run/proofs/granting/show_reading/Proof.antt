@@ -5,7 +5,7 @@ use Rattle.case_run.proofs.granting.show_reading.Statement.{statement}
 use Rattle.case_run.proofs.granting.show_reading.Tie as tie
 use Rattle.case_run.proofs.granting.show_reading.Reads as reads
 use Rattle.case_run.proofs.granting.show_reading.Lts as lts
-use Rattle.case_grants.proofs.show_capture.Reads as show-capture-reads
+use Rattle.case_run.proofs.granting.show_capture.Reads as show-capture-reads
 
 abbrev Inv-loop : tie.InvT-loop
 Inv-loop reading captures k₀ k = k ≤ 256
