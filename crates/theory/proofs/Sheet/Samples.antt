@@ -1,5 +1,5 @@
--- Grammars of document 01's bench sheet as the theory has them, the sets that their runs look up, and what the sheet says of their frames.
--- They show that the hypotheses can be met, and that the machine gives the sheet's answers.
+-- Grammars of document 01's bench sheet as the theory has them, the sets that their runs look up, and what the sheet says of their frames: a witness, which
+-- nobody needs to believe, that the hypotheses can be met. Edits of the definitions are tried on it in seconds; crate `sheet` proves the rows of texts.
 -- Assumes nothing.
 use Prim.Native.Nat.{ℕ, zero, suc, _+_, _*_}
 use mathlib.Core.Bool.{Bool, true, false, _&&_}
