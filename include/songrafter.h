@@ -38,7 +38,7 @@ extern "C" {
 #define SONGRAFTER_STACK_GRANT 24576u  /* songrafter_grant */
 #define SONGRAFTER_STACK_ACCESS 8192u  /* songrafter_verdict and the others that read a saved run */
 
-/* Numbers of refusal. 0 is no refusal. */
+/* Numbers of refusal. 0 is no refusal. docs/GRAMMAR.md has an example and a mend for each. */
 enum {
     SONGRAFTER_OK = 0,
     SONGRAFTER_TABLE_SHORT = 1,    /* table shorter than 16,384 words */
@@ -49,8 +49,8 @@ enum {
     SONGRAFTER_NAME = 6,           /* name unknown, double, reserved, misplaced or of the wrong kind */
     SONGRAFTER_CYCLE = 7,          /* a rule reaches itself */
     SONGRAFTER_NUMBER = 8,         /* a number or width outside its limits, or a calculation that may pass 2^62 */
-    SONGRAFTER_EMPTY_BODY = 9,     /* a repeated body has the empty first window */
-    SONGRAFTER_CLASH = 10,         /* two ways go on with the same window */
+    SONGRAFTER_EMPTY_BODY = 9,     /* what is repeated may take no bits */
+    SONGRAFTER_CLASH = 10,         /* the next 8 bits do not tell which of two ways to go */
     SONGRAFTER_WEIGHT = 11,        /* weight over 65,535 */
     SONGRAFTER_FRAME_LONG = 21,    /* frame over 256 bytes */
     SONGRAFTER_READING_SMALL = 22, /* reading under two words for each frame bit */
@@ -70,7 +70,8 @@ enum {
 /* Reads a grammar. Answers 0 and writes its table into the first 16,384 words, or a number from 1 to 11 and
  * changes no word of the table. Of `answer`, what fits of five numbers is written:
  *   [0] the weight (0), or the place: bytes from the text's first (1 to 11);
- *   [1] for 10 the least common window (a 1 followed by its bits), else 0;
+ *   [1] for 10 the least window that both ways admit, else 0: the bits that come next, 8 or fewer where the frame
+ *       ends, read as a number behind a 1 (byte 41 is 321);
  *   [2] for 10 the construct, and [3], [4] the first two branches that share the window, by construct number;
  *       0 and 0 where a repetition's going on and stopping do; else 0. */
 size_t songrafter_admit(const uint8_t *text, size_t text_len, uint32_t *table, size_t table_len,
