@@ -80,13 +80,17 @@ end-of (quoted l) = l .end
 end-of (stray s) = s .end
 end-of (finish p) = p
 
+-- the number that it is, and as the reader keeps it
+abbrev pub value-in : Lexeme → ℕ
+value-in (sign kind s) = 0
+value-in (word n) = 0
+value-in (numeral n) = n .value
+value-in (quoted l) = 0
+value-in (stray s) = 0
+value-in (finish p) = 0
+
 abbrev pub value-of : Lexeme → ℕ
-value-of (sign kind s) = 0
-value-of (word n) = 0
-value-of (numeral n) = capped (n .value)
-value-of (quoted l) = 0
-value-of (stray s) = 0
-value-of (finish p) = 0
+value-of x = capped (value-in x)
 
 -- the terminal that a token with a code is
 abbrev pub seen-with : Lexeme → ℕ → Sight

@@ -1,2 +1,6 @@
 -- Laws.
 pub mod Classified
+pub mod Rests
+pub mod Words
+pub mod Parts
+pub mod Leading
