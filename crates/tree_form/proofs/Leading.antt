@@ -26,7 +26,7 @@ use Rattle.tree_form.proofs.Parts.{first-place, operand-place, atom-pla
 
 -- ---- the shortest rest of each part
 
-no-where : Sign
+abbrev pub no-where : Sign
 no-where = record { start = 0; end = 0 }
 
 abbrev no-name : Name
@@ -111,7 +111,7 @@ pub record Other (x : Lexeme) (ks : List Symbol) : Type 0 where
 -- it is taken, and what waits then has these rests; or the text ends; or it cannot stand there
 pub data Leads (x : Lexeme) (st : State) (ks : List Symbol) : Fed → Type 0 where
   goes : {st′ : State} {ks′ : List Symbol} (back : Rests ks′ → Rests ks) → ((r : Rests ks′) → spell-all ks (back r) ≡ x ∷ spell-all ks′ r) → ((r : Rests ks′) → store-all ks (back r) st ≡ store-all ks′ r st′) → Ground ks′ → (Room ks → Room ks′ ⊎ Other x ks) → Leads x st ks (go st′ ks′)
-  ends : {st′ : State} (r : Rests ks) → spell-all ks r ≡ x ∷ [] → store-all ks r st ≡ st′ → Leads x st ks (done st′)
+  ends : {st′ : State} (r : Rests ks) → x ≡ finish (place-of x) → spell-all ks r ≡ x ∷ [] → store-all ks r st ≡ st′ → Leads x st ks (done st′)
   faults : Leads x st ks fault
 
 -- what waits is made of other parts, which wait in its place
@@ -121,25 +121,40 @@ pub record Turns (x : Lexeme) (a : State) (ks : List Symbol) (b : State) (js : L
   pub stores : (r : Rests js) → first-place (spell-all js r) ≡ place-of x → store-all ks (back r) a ≡ store-all js r b
   pub room : Room ks → Room js
 
-pub turned : {x : Lexeme} {a b : State} {ks js : List Symbol} {f : Fed} → Turns x a ks b js → Leads x b js f → Leads x a ks f
+unfoldable pub turned : {x : Lexeme} {a b : State} {ks js : List Symbol} {f : Fed} → Turns x a ks b js → Leads x b js f → Leads x a ks f
 turned T (goes back s t g m) =
     goes (λ r. T .back (back r)) (λ r. T .spells (back r) ∙ s r) (λ r. T .stores (back r) (ap first-place (s r)) ∙ t r) g
     (λ h. ⊎-elim (λ n. inl n) (λ o. inr (record { rests = T .back (o .rests); after = o .after; spells = T .spells (o .rests) ∙ o .spells })) (m (T .room h)))
-turned T (ends r s t) = ends (T .back r) (T .spells r ∙ s) (T .stores r (ap first-place s) ∙ t)
+turned T (ends r q s t) = ends (T .back r) q (T .spells r ∙ s) (T .stores r (ap first-place s) ∙ t)
 turned T faults = faults
 
 -- one way or the other, by a test
-pub by-test : {x : Lexeme} {st : State} {ks : List Symbol} (t : Bool) {a b : Fed} → (t ≡ true → Leads x st ks a) → (t ≡ false → Leads x st ks b) → Leads x st ks (elim t [ true ↦ a | false ↦ b ])
+unfoldable pub by-test : {x : Lexeme} {st : State} {ks : List Symbol} (t : Bool) {a b : Fed} → (t ≡ true → Leads x st ks a) → (t ≡ false → Leads x st ks b) → Leads x st ks (elim t [ true ↦ a | false ↦ b ])
 by-test true f g = f refl
 by-test false f g = g refl
 
 -- the same of `cond`
-pub by-cond : {x : Lexeme} {st : State} {ks : List Symbol} (t : Bool) {a b : Fed} → (t ≡ true → Leads x st ks a) → (t ≡ false → Leads x st ks b) → Leads x st ks (cond t a b)
+unfoldable pub by-cond : {x : Lexeme} {st : State} {ks : List Symbol} (t : Bool) {a b : Fed} → (t ≡ true → Leads x st ks a) → (t ≡ false → Leads x st ks b) → Leads x st ks (cond t a b)
 by-cond true f g = f refl
 by-cond false f g = g refl
 
+-- the same of tags
+unfoldable pub by-tag : {x : Lexeme} {st : State} {ks : List Symbol} (F : ℕ → Fed) (t : Bool) {m n : ℕ} → (t ≡ true → Leads x st ks (F m)) → (t ≡ false → Leads x st ks (F n)) → Leads x st ks (F (cond t m n))
+by-tag F true f g = f refl
+by-tag F false f g = g refl
+
+-- what comes of a tag
+abbrev pub summing : Sight → State → ℕ → List Symbol → ℕ → Fed
+summing s st o ks n = elim (eqb n 0) [ true ↦ feed s st ks | false ↦ go st (Symbol.operand o ∷ Symbol.factors o ∷ Symbol.sign n (s .start) o ∷ Symbol.summands o ∷ ks) ]
+
+abbrev pub comparing : Sight → State → List Symbol → ℕ → Fed
+comparing s st ks n = elim (eqb n 0) [ true ↦ fault | false ↦ go st (Symbol.calculation ∷ Symbol.sign n (s .start) 0 ∷ ks) ]
+
+abbrev pub marking : Sight → (p i : ℕ) → State → List Symbol → ℕ → Fed
+marking s p i st ks n = elim (eqb n 0) [ true ↦ feed s st ks | false ↦ go (insert 3 p i n (s .start) 0 0 0 st) ks ]
+
 -- taken as what it is
-takes : {x y : Lexeme} {st st′ : State} {ks ks′ : List Symbol} → x ≡ y → (back : Rests ks′ → Rests ks) → ((r : Rests ks′) → spell-all ks (back r) ≡ y ∷ spell-all ks′ r) → ((r : Rests ks′) → store-all ks (back r) st ≡ store-all ks′ r st′) → Ground ks′ → (Room ks → Room ks′) → Leads x st ks (go st′ ks′)
+unfoldable pub takes : {x y : Lexeme} {st st′ : State} {ks ks′ : List Symbol} → x ≡ y → (back : Rests ks′ → Rests ks) → ((r : Rests ks′) → spell-all ks (back r) ≡ y ∷ spell-all ks′ r) → ((r : Rests ks′) → store-all ks (back r) st ≡ store-all ks′ r st′) → Ground ks′ → (Room ks → Room ks′) → Leads x st ks (go st′ ks′)
 takes {ks′ = ks′} q back s t g m = goes back (λ r. s r ∙ ap (λ (z : Lexeme). z ∷ spell-all ks′ r) (sym q)) t g (λ h. inl (m h))
 
 -- ---- parts that are made of others, or of nothing
@@ -263,70 +278,70 @@ case-begun x st d p i ks = record { back = λ r. (more-cases (cases-from (r .0) 
 -- ---- a token of a code
 
 module _ (x : Lexeme) (next : Bool) (c : ℕ) (e : code x next ≡ c) where
-  sign-is : (k : ℕ) → leb 10 k ≡ true → eqb c k ≡ true → x ≡ sign (kind-of k) (sign-in x)
+  pub sign-is : (k : ℕ) → leb 10 k ≡ true → eqb c k ≡ true → x ≡ sign (kind-of k) (sign-in x)
   sign-is k l t = is-sign x next k (e ∙ eqb-true c k t) l
 
   -- it is a name where it has one of these codes
-  named-as : (k : ℕ) → name-like k ≡ true → eqb c k ≡ true → name-like c ≡ true
+  pub named-as : (k : ℕ) → name-like k ≡ true → eqb c k ≡ true → name-like c ≡ true
   named-as k n t = subst (λ (v : ℕ). name-like v ≡ true) (sym (eqb-true c k t)) n
 
-  primary-leads : (o : ℕ) (st : State) (ks : List Symbol) → Ground ks → Leads x st (Symbol.primary o ∷ ks) (primary-begins o (seen-with x c) st ks)
+  unfoldable pub primary-leads : (o : ℕ) (st : State) (ks : List Symbol) → Ground ks → Leads x st (Symbol.primary o ∷ ks) (primary-begins o (seen-with x c) st ks)
   unfolding primary-begins spell-primary spell-operand spell-factors spell-product spell-summands spell-calculation spell-item spell-set spell-counts spell-tests spell-mark spell spell-rules start-of-primary start-of-operand start-of-product store-primary store-operand store-factors store-product store-summands store-calculation store-item store-set store-counts store-tests start-of store-mark store stored spell-upper spell-reach spell-exception spell-excluded spell-choices spell-links spell-joined spell-marked spell-members spell-branches spell-character spell-field spell-cases spell-more-rules store-upper store-item-reach store-counts-reach store-exception store-excluded store-choices store-links store-joined store-marked store-members store-branches store-character store-fields store-cases store-more-rules
   primary-leads o st ks g =
       by-test (eqb c 2) (λ t. takes (is-number x next c e t) (λ r. (number (number-in x), r)) (λ r. refl) (λ r. refl) g (λ m. m)) (λ u. 
       by-test (name-like c) (λ n. takes (is-name x next c e n) (λ r. (variable (name-in x), r)) (λ r. refl) (λ r. refl) g (λ m. m)) (λ n. faults))
 
-  operand-leads : (o : ℕ) (st : State) (ks : List Symbol) → Ground ks → Leads x st (Symbol.operand o ∷ ks) (operand-begins o (seen-with x c) st ks)
+  unfoldable pub operand-leads : (o : ℕ) (st : State) (ks : List Symbol) → Ground ks → Leads x st (Symbol.operand o ∷ ks) (operand-begins o (seen-with x c) st ks)
   unfolding operand-begins spell-primary spell-operand spell-factors spell-product spell-summands spell-calculation spell-item spell-set spell-counts spell-tests spell-mark spell spell-rules start-of-primary start-of-operand start-of-product store-primary store-operand store-factors store-product store-summands store-calculation store-item store-set store-counts store-tests start-of store-mark store stored spell-upper spell-reach spell-exception spell-excluded spell-choices spell-links spell-joined spell-marked spell-members spell-branches spell-character spell-field spell-cases spell-more-rules store-upper store-item-reach store-counts-reach store-exception store-excluded store-choices store-links store-joined store-marked store-members store-branches store-character store-fields store-cases store-more-rules
   operand-leads o st ks g =
       by-test (eqb c 45) (λ t. takes (sign-is 45 refl t) (λ r. (opposite (sign-in x) (r .0), r .1 .1)) (λ r. refl) (λ r. refl) g (λ m. m)) (λ u. turned (no-minus x st o ks) (primary-leads o st ks g))
 
-  calculation-leads : (st : State) (ks : List Symbol) → Ground ks → Leads x st (Symbol.calculation ∷ ks) (calculation-begins (seen-with x c) st ks)
+  unfoldable pub calculation-leads : (st : State) (ks : List Symbol) → Ground ks → Leads x st (Symbol.calculation ∷ ks) (calculation-begins (seen-with x c) st ks)
   unfolding operand-begins
   calculation-leads st ks g =
       turned (summed x st ks) (operand-leads (place-of x) st (Symbol.factors (place-of x) ∷ Symbol.summands (place-of x) ∷ ks) g)
 
-  item-leads : (st : State) (ks : List Symbol) → Ground ks → Leads x st (Symbol.item ∷ ks) (item-begins (seen-with x c) st ks)
+  unfoldable pub item-leads : (st : State) (ks : List Symbol) → Ground ks → Leads x st (Symbol.item ∷ ks) (item-begins (seen-with x c) st ks)
   unfolding item-begins
   item-leads st ks g =
       by-test (eqb c 126) (λ t. takes (sign-is 126 refl t) (λ r. (opened-item (sign-in x) (r .0), r .1)) (λ r. opened-item-spells (sign-in x) (r .0) (spell-all ks (r .1))) (λ r. ap (store-all ks (r .1)) (opened-item-stores (sign-in x) (r .0) st)) g (λ m. m)) (λ u. turned (item-begun x st ks) (calculation-leads st (Symbol.item-tail ∷ ks) g))
 
-  choice-leads : (d : ℕ) (st : State) (ks : List Symbol) → Ground ks → Leads x st (Symbol.alternative d ∷ ks) (item-begins (seen-with x c) st (Symbol.exception d ∷ ks))
+  unfoldable pub choice-leads : (d : ℕ) (st : State) (ks : List Symbol) → Ground ks → Leads x st (Symbol.alternative d ∷ ks) (item-begins (seen-with x c) st (Symbol.exception d ∷ ks))
   unfolding item-begins
   choice-leads d st ks g =
       turned (one-choice x st d ks) (item-leads st (Symbol.exception d ∷ ks) g)
 
-  set-leads : (d : ℕ) (st : State) (ks : List Symbol) → Ground ks → Leads x st (Symbol.value-set d ∷ ks) (item-begins (seen-with x c) st (Symbol.exception d ∷ Symbol.alternatives d ∷ ks))
+  unfoldable pub set-leads : (d : ℕ) (st : State) (ks : List Symbol) → Ground ks → Leads x st (Symbol.value-set d ∷ ks) (item-begins (seen-with x c) st (Symbol.exception d ∷ Symbol.alternatives d ∷ ks))
   unfolding item-begins
   set-leads d st ks g =
       turned (set-begun x st d ks) (choice-leads d st (Symbol.alternatives d ∷ ks) g)
 
-  test-leads : (d : ℕ) (st : State) (ks : List Symbol) → Ground ks → Leads x st (Symbol.test d ∷ ks) (test-begins d (seen-with x c) st ks)
+  unfoldable pub test-leads : (d : ℕ) (st : State) (ks : List Symbol) → Ground ks → Leads x st (Symbol.test d ∷ ks) (test-begins d (seen-with x c) st ks)
   unfolding test-begins spell-primary spell-operand spell-factors spell-product spell-summands spell-calculation spell-item spell-set spell-counts spell-tests spell-mark spell spell-rules start-of-primary start-of-operand start-of-product store-primary store-operand store-factors store-product store-summands store-calculation store-item store-set store-counts store-tests start-of store-mark store stored spell-upper spell-reach spell-exception spell-excluded spell-choices spell-links spell-joined spell-marked spell-members spell-branches spell-character spell-field spell-cases spell-more-rules store-upper store-item-reach store-counts-reach store-exception store-excluded store-choices store-links store-joined store-marked store-members store-branches store-character store-fields store-cases store-more-rules
   test-leads d st ks g =
       by-test (eqb c 40) (λ t. by-cond (ltb d 16) (λ l. takes (sign-is 40 refl t) (λ r. (test-group (ltb-true d 16 l) (sign-in x) (r .0) (r .1 .0), r .1 .1)) (λ r. refl) (λ r. refl) (refl, g) (λ m. m)) (λ l. faults)) (λ u. turned (compared x st d ks) (calculation-leads st (Symbol.comparison ∷ ks) g))
 
-  condition-leads : (d : ℕ) (st : State) (ks : List Symbol) → Ground ks → Leads x st (Symbol.condition d ∷ ks) (test-begins d (seen-with x c) st (Symbol.joined d ∷ ks))
+  unfoldable pub condition-leads : (d : ℕ) (st : State) (ks : List Symbol) → Ground ks → Leads x st (Symbol.condition d ∷ ks) (test-begins d (seen-with x c) st (Symbol.joined d ∷ ks))
   unfolding test-begins
   condition-leads d st ks g =
       turned (condition-begun x st d ks) (test-leads d st (Symbol.joined d ∷ ks) g)
 
   -- `uint` where nothing can be opened is a rule's name by itself
-  use-instead : (d : ℕ) (ks : List Symbol) → Ground ks → eqb c 6 ≡ true → Room ks → Other x (Symbol.atom d ∷ ks)
+  pub use-instead : (d : ℕ) (ks : List Symbol) → Ground ks → eqb c 6 ≡ true → Room ks → Other x (Symbol.atom d ∷ ks)
   unfolding spell
   use-instead d ks g t m =
       let n : name-like c ≡ true = named-as 6 refl t
       in let f : eqb c 7 ≡ false = subst (λ (v : ℕ). eqb v 7 ≡ false) (sym (eqb-true c 6 t)) refl
       in record { rests = (rule-use (name-in x) (is-other x next c e n f), shortest ks g m); after = spell-all ks (shortest ks g m); spells = ap (λ (z : Lexeme). z ∷ spell-all ks (shortest ks g m)) (sym (is-name x next c e n)) }
 
-  field-leads : (d : ℕ) (st : State) (ks : List Symbol) → Ground ks → eqb c 6 ≡ true → Leads x st (Symbol.atom d ∷ ks) (go st (Symbol.paren d ∷ Symbol.width (d + 1) (place-of x) ∷ ks))
+  unfoldable pub field-leads : (d : ℕ) (st : State) (ks : List Symbol) → Ground ks → eqb c 6 ≡ true → Leads x st (Symbol.atom d ∷ ks) (go st (Symbol.paren d ∷ Symbol.width (d + 1) (place-of x) ∷ ks))
   field-leads d st ks g t =
       goes {ks′ = Symbol.paren d ∷ Symbol.width (d + 1) (place-of x) ∷ ks} (λ r. (field-from (r .0 .0) (sign-in x) (r .0 .1) (r .1 .0 .0) (r .1 .0 .1) (r .1 .0 .2), r .1 .1))
       (λ r. field-from-spells (r .0 .0) (sign-in x) (r .0 .1) (r .1 .0 .0) (r .1 .0 .1) (r .1 .0 .2) (spell-all ks (r .1 .1)) ∙ ap (λ (z : Lexeme). z ∷ sign Kind.OpenParen (r .0 .1) ∷ numeral (r .1 .0 .0) ∷ sign Kind.Comma (r .1 .0 .1) ∷ spell-field (r .1 .0 .2) (spell-all ks (r .1 .1))) (sym (is-uint x next c e t)))
       (λ r. ap (store-all ks (r .1 .1)) (field-from-stores (r .0 .0) (sign-in x) (r .0 .1) (r .1 .0 .0) (r .1 .0 .1) (r .1 .0 .2) st))
       g (λ m. ⊎-elim (λ l. inl (ltb-true d 16 l, m)) (λ l. inr (use-instead d ks g t m)) (which (ltb d 16)))
 
-  switch-leads : (d : ℕ) (st : State) (ks : List Symbol) → Ground ks → eqb c 91 ≡ true → d < 16 → Leads x st (Symbol.atom d ∷ ks) (go st (Symbol.condition (d + 1) ∷ Symbol.colon (d + 1) (terms-of st) ∷ Symbol.cases (d + 1) (place-of x) (nodes-of st) ∷ ks))
+  unfoldable pub switch-leads : (d : ℕ) (st : State) (ks : List Symbol) → Ground ks → eqb c 91 ≡ true → d < 16 → Leads x st (Symbol.atom d ∷ ks) (go st (Symbol.condition (d + 1) ∷ Symbol.colon (d + 1) (terms-of st) ∷ Symbol.cases (d + 1) (place-of x) (nodes-of st) ∷ ks))
   unfolding spell-primary spell-operand spell-factors spell-product spell-summands spell-calculation spell-item spell-set spell-counts spell-tests spell-mark spell spell-rules start-of-primary start-of-operand start-of-product store-primary store-operand store-factors store-product store-summands store-calculation store-item store-set store-counts store-tests start-of store-mark store stored spell-upper spell-reach spell-exception spell-excluded spell-choices spell-links spell-joined spell-marked spell-members spell-branches spell-character spell-field spell-cases spell-more-rules store-upper store-item-reach store-counts-reach store-exception store-excluded store-choices store-links store-joined store-marked store-members store-branches store-character store-fields store-cases store-more-rules
   switch-leads d st ks g t l =
       takes (sign-is 91 refl t) (λ r. (switch l (sign-in x) (cases-from (r .0) (r .1 .0 .0) (r .1 .0 .1) (r .1 .0 .2) (r .1 .1 .0)) (closing (r .1 .1 .0)), r .1 .1 .1))
@@ -334,7 +349,7 @@ module _ (x : Lexeme) (next : Bool) (c : ℕ) (e : code x next ≡ c) where
       (λ r. ap (store-all ks (r .1 .1 .1)) (cases-from-stores (r .0) (r .1 .0 .0) (r .1 .0 .1) (r .1 .0 .2) (r .1 .1 .0) (place-of x) (nodes-of st) st))
       g (λ m. m)
 
-  atom-leads : (d : ℕ) (st : State) (ks : List Symbol) → Ground ks → Leads x st (Symbol.atom d ∷ ks) (atom-begins d (seen-with x c) st ks)
+  unfoldable pub atom-leads : (d : ℕ) (st : State) (ks : List Symbol) → Ground ks → Leads x st (Symbol.atom d ∷ ks) (atom-begins d (seen-with x c) st ks)
   unfolding atom-begins spell-primary spell-operand spell-factors spell-product spell-summands spell-calculation spell-item spell-set spell-counts spell-tests spell-mark spell spell-rules start-of-primary start-of-operand start-of-product store-primary store-operand store-factors store-product store-summands store-calculation store-item store-set store-counts store-tests start-of store-mark store stored spell-upper spell-reach spell-exception spell-excluded spell-choices spell-links spell-joined spell-marked spell-members spell-branches spell-character spell-field spell-cases spell-more-rules store-upper store-item-reach store-counts-reach store-exception store-excluded store-choices store-links store-joined store-marked store-members store-branches store-character store-fields store-cases store-more-rules
   atom-leads d st ks g =
       by-cond (eqb c 3) (λ t. takes (is-literal x next c e t) (λ r. (literal (literal-in x), r)) (λ r. refl) (λ r. refl) g (λ m. m))
@@ -346,71 +361,62 @@ module _ (x : Lexeme) (next : Bool) (c : ℕ) (e : code x next ≡ c) where
       (λ u5. by-cond (eqb c 91) (λ t. by-cond (ltb d 16) (λ l. switch-leads d st ks g t (ltb-true d 16 l)) (λ l. faults))
       (λ u6. faults)))))))
 
-  factor-leads : (d : ℕ) (st : State) (ks : List Symbol) → Ground ks → Leads x st (Symbol.factor d ∷ ks) (atom-begins d (seen-with x c) st (Symbol.marked (place-of x) (nodes-of st) ∷ ks))
+  unfoldable pub factor-leads : (d : ℕ) (st : State) (ks : List Symbol) → Ground ks → Leads x st (Symbol.factor d ∷ ks) (atom-begins d (seen-with x c) st (Symbol.marked (place-of x) (nodes-of st) ∷ ks))
   unfolding atom-begins
   factor-leads d st ks g =
       turned (factor-begun x st d ks) (atom-leads d st (Symbol.marked (place-of x) (nodes-of st) ∷ ks) g)
 
-  concatenation-leads : (d : ℕ) (st : State) (ks : List Symbol) → Ground ks → Leads x st (Symbol.concatenation d ∷ ks) (atom-begins d (seen-with x c) st (Symbol.marked (place-of x) (nodes-of st) ∷ Symbol.members d (place-of x) (nodes-of st) false ∷ ks))
+  unfoldable pub concatenation-leads : (d : ℕ) (st : State) (ks : List Symbol) → Ground ks → Leads x st (Symbol.concatenation d ∷ ks) (atom-begins d (seen-with x c) st (Symbol.marked (place-of x) (nodes-of st) ∷ Symbol.members d (place-of x) (nodes-of st) false ∷ ks))
   unfolding atom-begins
   concatenation-leads d st ks g =
       turned (concatenation-begun x st d ks) (factor-leads d st (Symbol.members d (place-of x) (nodes-of st) false ∷ ks) g)
 
   -- signs that have tags
-  summand-leads : (o : ℕ) (st : State) (ks : List Symbol) → Ground ks → Leads x st ks (feed (seen-with x c) st ks) → Leads x st (Symbol.summands o ∷ ks) (feed (seen-with x c) st (Symbol.summands o ∷ ks))
+  unfoldable pub summand-leads : (o : ℕ) (st : State) (ks : List Symbol) → Ground ks → Leads x st ks (feed (seen-with x c) st ks) → Leads x st (Symbol.summands o ∷ ks) (feed (seen-with x c) st (Symbol.summands o ∷ ks))
   unfolding feed spell-primary spell-operand spell-factors spell-product spell-summands spell-calculation spell-item spell-set spell-counts spell-tests spell-mark spell spell-rules start-of-primary start-of-operand start-of-product store-primary store-operand store-factors store-product store-summands store-calculation store-item store-set store-counts store-tests start-of store-mark store stored spell-upper spell-reach spell-exception spell-excluded spell-choices spell-links spell-joined spell-marked spell-members spell-branches spell-character spell-field spell-cases spell-more-rules store-upper store-item-reach store-counts-reach store-exception store-excluded store-choices store-links store-joined store-marked store-members store-branches store-character store-fields store-cases store-more-rules
   summand-leads o st ks g h =
-      picked P (eqb c 43) (λ t. takes (sign-is 43 refl t) (λ r. (plus (sign-in x) (product (r .0) (r .1 .0)) (r .1 .1 .1 .0), r .1 .1 .1 .1)) (λ r. refl) (λ r. refl) g (λ m. m))
-      (λ u. picked P (eqb c 45) (λ t. takes (sign-is 45 refl t) (λ r. (minus (sign-in x) (product (r .0) (r .1 .0)) (r .1 .1 .1 .0), r .1 .1 .1 .1)) (λ r. refl) (λ r. refl) g (λ m. m)) (λ v. turned (summands-end x st o ks) h))
-    where
-      P : ℕ → Type 0
-      P n = Leads x st (Symbol.summands o ∷ ks) (elim (eqb n 0) [ true ↦ feed (seen-with x c) st ks | false ↦ go st (Symbol.operand o ∷ Symbol.factors o ∷ Symbol.sign n (place-of x) o ∷ Symbol.summands o ∷ ks) ])
+      by-tag (summing (seen-with x c) st o ks) (eqb c 43) (λ t. takes (sign-is 43 refl t) (λ r. (plus (sign-in x) (product (r .0) (r .1 .0)) (r .1 .1 .1 .0), r .1 .1 .1 .1)) (λ r. refl) (λ r. refl) g (λ m. m))
+      (λ u. by-tag (summing (seen-with x c) st o ks) (eqb c 45) (λ t. takes (sign-is 45 refl t) (λ r. (minus (sign-in x) (product (r .0) (r .1 .0)) (r .1 .1 .1 .0), r .1 .1 .1 .1)) (λ r. refl) (λ r. refl) g (λ m. m)) (λ v. turned (summands-end x st o ks) h))
 
-  comparison-leads : (st : State) (ks : List Symbol) → Ground ks → Leads x st (Symbol.comparison ∷ ks) (feed (seen-with x c) st (Symbol.comparison ∷ ks))
+  unfoldable pub comparison-leads : (st : State) (ks : List Symbol) → Ground ks → Leads x st (Symbol.comparison ∷ ks) (feed (seen-with x c) st (Symbol.comparison ∷ ks))
   unfolding feed spell-primary spell-operand spell-factors spell-product spell-summands spell-calculation spell-item spell-set spell-counts spell-tests spell-mark spell spell-rules start-of-primary start-of-operand start-of-product store-primary store-operand store-factors store-product store-summands store-calculation store-item store-set store-counts store-tests start-of store-mark store stored spell-upper spell-reach spell-exception spell-excluded spell-choices spell-links spell-joined spell-marked spell-members spell-branches spell-character spell-field spell-cases spell-more-rules store-upper store-item-reach store-counts-reach store-exception store-excluded store-choices store-links store-joined store-marked store-members store-branches store-character store-fields store-cases store-more-rules
   comparison-leads st ks g =
-      picked P (eqb c 61) (λ t. takes (sign-is 61 refl t) (λ r. ((equal, sign-in x, r .0), r .1 .1)) (λ r. refl) (λ r. refl) g (λ m. m))
-      (λ u61. picked P (eqb c 161) (λ t. takes (sign-is 161 refl t) (λ r. ((unequal, sign-in x, r .0), r .1 .1)) (λ r. refl) (λ r. refl) g (λ m. m))
-      (λ u161. picked P (eqb c 60) (λ t. takes (sign-is 60 refl t) (λ r. ((less, sign-in x, r .0), r .1 .1)) (λ r. refl) (λ r. refl) g (λ m. m))
-      (λ u60. picked P (eqb c 188) (λ t. takes (sign-is 188 refl t) (λ r. ((at-most-as, sign-in x, r .0), r .1 .1)) (λ r. refl) (λ r. refl) g (λ m. m))
-      (λ u188. picked P (eqb c 62) (λ t. takes (sign-is 62 refl t) (λ r. ((greater, sign-in x, r .0), r .1 .1)) (λ r. refl) (λ r. refl) g (λ m. m))
-      (λ u62. picked P (eqb c 190) (λ t. takes (sign-is 190 refl t) (λ r. ((at-least-as, sign-in x, r .0), r .1 .1)) (λ r. refl) (λ r. refl) g (λ m. m))
+      by-tag (comparing (seen-with x c) st ks) (eqb c 61) (λ t. takes (sign-is 61 refl t) (λ r. ((equal, sign-in x, r .0), r .1 .1)) (λ r. refl) (λ r. refl) g (λ m. m))
+      (λ u61. by-tag (comparing (seen-with x c) st ks) (eqb c 161) (λ t. takes (sign-is 161 refl t) (λ r. ((unequal, sign-in x, r .0), r .1 .1)) (λ r. refl) (λ r. refl) g (λ m. m))
+      (λ u161. by-tag (comparing (seen-with x c) st ks) (eqb c 60) (λ t. takes (sign-is 60 refl t) (λ r. ((less, sign-in x, r .0), r .1 .1)) (λ r. refl) (λ r. refl) g (λ m. m))
+      (λ u60. by-tag (comparing (seen-with x c) st ks) (eqb c 188) (λ t. takes (sign-is 188 refl t) (λ r. ((at-most-as, sign-in x, r .0), r .1 .1)) (λ r. refl) (λ r. refl) g (λ m. m))
+      (λ u188. by-tag (comparing (seen-with x c) st ks) (eqb c 62) (λ t. takes (sign-is 62 refl t) (λ r. ((greater, sign-in x, r .0), r .1 .1)) (λ r. refl) (λ r. refl) g (λ m. m))
+      (λ u62. by-tag (comparing (seen-with x c) st ks) (eqb c 190) (λ t. takes (sign-is 190 refl t) (λ r. ((at-least-as, sign-in x, r .0), r .1 .1)) (λ r. refl) (λ r. refl) g (λ m. m))
       (λ u190. faults))))))
-    where
-      P : ℕ → Type 0
-      P n = Leads x st (Symbol.comparison ∷ ks) (elim (eqb n 0) [ true ↦ fault | false ↦ go st (Symbol.calculation ∷ Symbol.sign n (place-of x) 0 ∷ ks) ])
 
-  mark-leads : (p i : ℕ) (st : State) (ks : List Symbol) → Ground ks → Leads x st ks (feed (seen-with x c) st ks) → Leads x st (Symbol.marked p i ∷ ks) (elim (eqb (mark-of c) 0) [ true ↦ feed (seen-with x c) st ks | false ↦ go (insert 3 p i (mark-of c) (place-of x) 0 0 0 st) ks ])
+  unfoldable pub mark-leads : (p i : ℕ) (st : State) (ks : List Symbol) → Ground ks → Leads x st ks (feed (seen-with x c) st ks) → Leads x st (Symbol.marked p i ∷ ks) (elim (eqb (mark-of c) 0) [ true ↦ feed (seen-with x c) st ks | false ↦ go (insert 3 p i (mark-of c) (place-of x) 0 0 0 st) ks ])
   unfolding spell-primary spell-operand spell-factors spell-product spell-summands spell-calculation spell-item spell-set spell-counts spell-tests spell-mark spell spell-rules start-of-primary start-of-operand start-of-product store-primary store-operand store-factors store-product store-summands store-calculation store-item store-set store-counts store-tests start-of store-mark store stored spell-upper spell-reach spell-exception spell-excluded spell-choices spell-links spell-joined spell-marked spell-members spell-branches spell-character spell-field spell-cases spell-more-rules store-upper store-item-reach store-counts-reach store-exception store-excluded store-choices store-links store-joined store-marked store-members store-branches store-character store-fields store-cases store-more-rules
   mark-leads p i st ks g h =
-      picked P (eqb c 63) (λ t. takes (sign-is 63 refl t) (λ r. (a-mark (optional (sign-in x)), r)) (λ r. refl) (λ r. refl) g (λ m. m))
-      (λ u63. picked P (eqb c 42) (λ t. takes (sign-is 42 refl t) (λ r. (a-mark (any-number (sign-in x)), r)) (λ r. refl) (λ r. refl) g (λ m. m))
-      (λ u42. picked P (eqb c 43) (λ t. takes (sign-is 43 refl t) (λ r. (a-mark (one-or-more (sign-in x)), r)) (λ r. refl) (λ r. refl) g (λ m. m))
+      by-tag (marking (seen-with x c) p i st ks) (eqb c 63) (λ t. takes (sign-is 63 refl t) (λ r. (a-mark (optional (sign-in x)), r)) (λ r. refl) (λ r. refl) g (λ m. m))
+      (λ u63. by-tag (marking (seen-with x c) p i st ks) (eqb c 42) (λ t. takes (sign-is 42 refl t) (λ r. (a-mark (any-number (sign-in x)), r)) (λ r. refl) (λ r. refl) g (λ m. m))
+      (λ u42. by-tag (marking (seen-with x c) p i st ks) (eqb c 43) (λ t. takes (sign-is 43 refl t) (λ r. (a-mark (one-or-more (sign-in x)), r)) (λ r. refl) (λ r. refl) g (λ m. m))
       (λ u43. turned (mark-end x st p i ks) h)))
-    where
-      P : ℕ → Type 0
-      P n = Leads x st (Symbol.marked p i ∷ ks) (elim (eqb n 0) [ true ↦ feed (seen-with x c) st ks | false ↦ go (insert 3 p i n (place-of x) 0 0 0 st) ks ])
 
   -- `var` where nothing can be opened is a variable by itself
-  variable-instead : (d p v : ℕ) (ks : List Symbol) → Ground ks → eqb c 8 ≡ true → Room ks → Other x (Symbol.field-set d p v ∷ ks)
+  pub variable-instead : (d p v : ℕ) (ks : List Symbol) → Ground ks → eqb c 8 ≡ true → Room ks → Other x (Symbol.field-set d p v ∷ ks)
   unfolding spell-primary spell-operand spell-factors spell-product spell-summands spell-calculation spell-item spell-set spell-counts spell-tests spell-mark spell spell-rules start-of-primary start-of-operand start-of-product store-primary store-operand store-factors store-product store-summands store-calculation store-item store-set store-counts store-tests start-of store-mark store stored spell-upper spell-reach spell-exception spell-excluded spell-choices spell-links spell-joined spell-marked spell-members spell-branches spell-character spell-field spell-cases spell-more-rules store-upper store-item-reach store-counts-reach store-exception store-excluded store-choices store-links store-joined store-marked store-members store-branches store-character store-fields store-cases store-more-rules
   variable-instead d p v ks g t m =
       let n : name-like c ≡ true = named-as 8 refl t
       in record { rests = (plain-set (last-choice (item (only (sum (product (plain (variable (name-in x))) no-factor) no-summand)))) no-where, shortest ks g m); after = sign Kind.CloseParen no-where ∷ spell-all ks (shortest ks g m); spells = ap (λ (z : Lexeme). z ∷ sign Kind.CloseParen no-where ∷ spell-all ks (shortest ks g m)) (sym (is-name x next c e n)) }
 
-  binder-leads : (d p v : ℕ) (st : State) (ks : List Symbol) → Ground ks → eqb c 8 ≡ true → Leads x st (Symbol.field-set d p v ∷ ks) (go st (Symbol.paren d ∷ Symbol.bound-name (d + 1) p v ∷ ks))
+  unfoldable pub binder-leads : (d p v : ℕ) (st : State) (ks : List Symbol) → Ground ks → eqb c 8 ≡ true → Leads x st (Symbol.field-set d p v ∷ ks) (go st (Symbol.paren d ∷ Symbol.bound-name (d + 1) p v ∷ ks))
   unfolding spell-primary spell-operand spell-factors spell-product spell-summands spell-calculation spell-item spell-set spell-counts spell-tests spell-mark spell spell-rules start-of-primary start-of-operand start-of-product store-primary store-operand store-factors store-product store-summands store-calculation store-item store-set store-counts store-tests start-of store-mark store stored spell-upper spell-reach spell-exception spell-excluded spell-choices spell-links spell-joined spell-marked spell-members spell-branches spell-character spell-field spell-cases spell-more-rules store-upper store-item-reach store-counts-reach store-exception store-excluded store-choices store-links store-joined store-marked store-members store-branches store-character store-fields store-cases store-more-rules
   binder-leads d p v st ks g t =
       goes {ks′ = Symbol.paren d ∷ Symbol.bound-name (d + 1) p v ∷ ks} (λ r. (bound-set (r .0 .0) (sign-in x) (r .0 .1) (r .1 .0 .0) (r .1 .0 .1) (r .1 .0 .2) (r .1 .0 .3) (r .1 .0 .4), r .1 .1))
       (λ r. ap (λ (z : Lexeme). z ∷ spell-all (Symbol.paren d ∷ Symbol.bound-name (d + 1) p v ∷ ks) r) (sym (is-var x next c e t)))
       (λ r. refl) g (λ m. ⊎-elim (λ l. inl (ltb-true d 16 l, m)) (λ l. inr (variable-instead d p v ks g t m)) (which (ltb d 16)))
 
-  end-leads : (any : Bool) (st : State) → any ≡ true → eqb c 5 ≡ true → Leads x st (Symbol.rules any ∷ []) (done st)
+  unfoldable pub end-leads : (any : Bool) (st : State) → any ≡ true → eqb c 5 ≡ true → Leads x st (Symbol.rules any ∷ []) (done st)
   unfolding spell-primary spell-operand spell-factors spell-product spell-summands spell-calculation spell-item spell-set spell-counts spell-tests spell-mark spell spell-rules start-of-primary start-of-operand start-of-product store-primary store-operand store-factors store-product store-summands store-calculation store-item store-set store-counts store-tests start-of store-mark store stored spell-upper spell-reach spell-exception spell-excluded spell-choices spell-links spell-joined spell-marked spell-members spell-branches spell-character spell-field spell-cases spell-more-rules store-upper store-item-reach store-counts-reach store-exception store-excluded store-choices store-links store-joined store-marked store-members store-branches store-character store-fields store-cases store-more-rules
-  end-leads true st a t = ends (no-rule (place-of x), tt) (ap (λ (z : Lexeme). z ∷ []) (sym (is-end x next c e t))) refl
+  end-leads true st a t = ends (no-rule (place-of x), tt) (is-end x next c e t) (ap (λ (z : Lexeme). z ∷ []) (sym (is-end x next c e t))) refl
   end-leads false st a t = let z : _≡_ {A = ℕ} 0 1 = cc in absurd (omega arith)
 
-  pub fed : (st : State) (ks : List Symbol) → Ground ks → Leads x st ks (feed (seen-with x c) st ks)
+  unfoldable pub fed : (st : State) (ks : List Symbol) → Ground ks → Leads x st ks (feed (seen-with x c) st ks)
   unfolding feed spell-primary spell-operand spell-factors spell-product spell-summands spell-calculation spell-item spell-set spell-counts spell-tests spell-mark spell spell-rules start-of-primary start-of-operand start-of-product store-primary store-operand store-factors store-product store-summands store-calculation store-item store-set store-counts store-tests start-of store-mark store stored spell-upper spell-reach spell-exception spell-excluded spell-choices spell-links spell-joined spell-marked spell-members spell-branches spell-character spell-field spell-cases spell-more-rules store-upper store-item-reach store-counts-reach store-exception store-excluded store-choices store-links store-joined store-marked store-members store-branches store-character store-fields store-cases store-more-rules
   fed st [] g = faults
   fed st (Symbol.want k ∷ ks) g = by-test (eqb c k) (λ t. takes (sign-is k (g .0) t) (λ r. (sign-in x, r)) (λ r. refl) (λ r. refl) (g .1) (λ m. m)) (λ u. faults)

@@ -4,3 +4,5 @@ pub mod Rests
 pub mod Words
 pub mod Parts
 pub mod Leading
+pub mod Reading
+pub mod Skips
