@@ -12,7 +12,7 @@ use Rattle.text_tokens.specs.declared.Kind.{Kind}
 use Rattle.text_parsing.specs.Terminals.{begins, name-like, begin-like}
 use Rattle.text_parsing.specs.Store.{State, nodes-of, terms-of, add, single, insert, leaf, bind}
 use Rattle.text_parsing.specs.Symbols.{Symbol}
-use Rattle.text_parsing.specs.Form.{Fed, chained}
+use Rattle.text_parsing.specs.Form.{Fed, chained, feed, primary-begins, operand-begins, item-begins, test-begins, atom-begins}
 use Rattle.tree.specs.Lexemes.{Sign, Name, Number, Literal, Lexeme, sign, word, numeral, quoted, finish, place-of}
 use Rattle.tree.specs.Tree.{Primary, number, variable, Operand, plain, opposite, Factors, no-factor, times, Product, product, Summands, no-summand, plus, minus, Calculation, sum, Item, everything, only, between, from, up-to, SetPart, whole, choice, Choices, item, item-but-item, item-but-set, last-choice, or-choices, Counts, exactly, at-least, at-most, span, Comparison, equal, unequal, less, at-most-as, greater, at-least-as, TestPart, tests, test, conjuncts, disjuncts, Tests, compare, test-group, one-test, all-of, any-of, last-conjunct, and-conjuncts, last-disjunct, or-disjuncts, Mark, optional, any-number, one-or-more, counted, eod-word, Single, Part, expression, concatenation, factor, atom, cases, Tree, literal, range, field, binder, rule-use, eod, group, switch, last-case, case-default, case-cases, once, repeated, last-member, and-members, last-branch, or-branches, Rule, rule, Rules, last-rule, and-rules}
 use Rattle.tree.specs.Spelling.{uint-word, var-word, spelled-as, spell-primary, spell-operand, spell-factors, spell-product, spell-summands, spell-calculation, spell-item, spell-set, spell-counts, comparison-sign, spell-tests, spell-mark, spell, spell-rule, spell-rules, spelled}
@@ -148,4 +148,81 @@ pub past-chain : (k tag d : ℕ) (l : leb 10 k ≡ true) (w : List Lexeme) {ks :
 unfolding turned by-test by-cond by-tag takes fed primary-leads operand-leads calculation-leads item-leads choice-leads set-leads test-leads condition-leads field-leads switch-leads atom-leads factor-leads concatenation-leads summand-leads comparison-leads mark-leads binder-leads end-leads parse after
 past-chain k tag d l [] f0 h = record { read = λ st. nowhere (h .read st) }
 past-chain k tag d l (y ∷ w) {ks} {g} f0 h = record { read = λ st. test-off _ _ _ _ f0 (λ u. turning _ (chain-end y st k tag d ks) (fed y (opens w) (code y (opens w)) refl _ ks g) (h .read _)) }
+
+-- ---- parts that are made of others
+
+pub begin-operand : (o : ℕ) (w : List Lexeme) {ks : List Symbol} {g : Ground ks} {a : Primary} {r : Rests ks} → Not 45 w → Reads w (Symbol.primary o ∷ ks) g (a, r) → Reads w (Symbol.operand o ∷ ks) g (plain a, r)
+unfolding turned by-test by-cond by-tag takes fed primary-leads operand-leads calculation-leads item-leads choice-leads set-leads test-leads condition-leads field-leads switch-leads atom-leads factor-leads concatenation-leads summand-leads comparison-leads mark-leads binder-leads end-leads parse after feed primary-begins operand-begins item-begins test-begins atom-begins
+begin-operand o [] f0 h = record { read = λ st. nowhere (h .read st) }
+begin-operand o (y ∷ w) {ks} {g} f0 h = record { read = λ st. test-off _ _ _ _ f0 (λ u0. turning (λ st′ ks′ g′. parse w st′ ks′ g′) (no-minus y st o ks) (fed y (opens w) (code y (opens w)) refl st (Symbol.primary o ∷ ks) g) (h .read st)) }
+
+pub begin-calculation : (w : List Lexeme) {ks : List Symbol} {g : Ground ks} {a : Operand} {b : Factors} {c : Summands} {r : Rests ks} → ((o : ℕ) → Reads w (Symbol.operand o ∷ Symbol.factors o ∷ Symbol.summands o ∷ ks) g (a, (b, (c, r)))) → Reads w (Symbol.calculation ∷ ks) g (sum (product a b) c, r)
+unfolding turned by-test by-cond by-tag takes fed primary-leads operand-leads calculation-leads item-leads choice-leads set-leads test-leads condition-leads field-leads switch-leads atom-leads factor-leads concatenation-leads summand-leads comparison-leads mark-leads binder-leads end-leads parse after feed primary-begins operand-begins item-begins test-begins atom-begins
+begin-calculation [] h = record { read = λ st. nowhere ((h 0) .read st) }
+begin-calculation (y ∷ w) {ks} {g} h = record { read = λ st. turning (λ st′ ks′ g′. parse w st′ ks′ g′) (summed y st ks) (fed y (opens w) (code y (opens w)) refl st (Symbol.operand (place-of y) ∷ Symbol.factors (place-of y) ∷ Symbol.summands (place-of y) ∷ ks) g) ((h (place-of y)) .read st) }
+
+pub begin-item : (w : List Lexeme) {ks : List Symbol} {g : Ground ks} {a : Calculation} {u : Reach} {r : Rests ks} → Not 126 w → Reads w (Symbol.calculation ∷ Symbol.item-tail ∷ ks) g (a, (u, r)) → Reads w (Symbol.item ∷ ks) g (item-from a u, r)
+unfolding turned by-test by-cond by-tag takes fed primary-leads operand-leads calculation-leads item-leads choice-leads set-leads test-leads condition-leads field-leads switch-leads atom-leads factor-leads concatenation-leads summand-leads comparison-leads mark-leads binder-leads end-leads parse after feed primary-begins operand-begins item-begins test-begins atom-begins
+begin-item [] f0 h = record { read = λ st. nowhere (h .read st) }
+begin-item (y ∷ w) {ks} {g} f0 h = record { read = λ st. test-off _ _ _ _ f0 (λ u0. turning (λ st′ ks′ g′. parse w st′ ks′ g′) (item-begun y st ks) (fed y (opens w) (code y (opens w)) refl st (Symbol.calculation ∷ Symbol.item-tail ∷ ks) g) (h .read st)) }
+
+pub begin-upper : (some none p : ℕ) (w : List Lexeme) {ks : List Symbol} {g : Ground ks} {a : Calculation} {r : Rests ks} → begin-like (head-code w) ≡ true → Reads w (Symbol.calculation ∷ Symbol.sign some p 0 ∷ ks) g (a, (tt, r)) → Reads w (Symbol.bound some none p ∷ ks) g (an-upper a, r)
+unfolding turned by-test by-cond by-tag takes fed primary-leads operand-leads calculation-leads item-leads choice-leads set-leads test-leads condition-leads field-leads switch-leads atom-leads factor-leads concatenation-leads summand-leads comparison-leads mark-leads binder-leads end-leads parse after feed primary-begins operand-begins item-begins test-begins atom-begins
+begin-upper some none p [] f0 h = record { read = λ st. nowhere (h .read st) }
+begin-upper some none p (y ∷ w) {ks} {g} f0 h = record { read = λ st. test-on _ _ _ _ f0 (λ u0. turning (λ st′ ks′ g′. parse w st′ ks′ g′) (upper y st some none p ks) (fed y (opens w) (code y (opens w)) refl st (Symbol.calculation ∷ Symbol.sign some p 0 ∷ ks) g) (h .read st)) }
+
+pub begin-excluded : (d : ℕ) (w : List Lexeme) {ks : List Symbol} {g : Ground ks} {a : Item} {r : Rests ks} → Not 40 w → Reads w (Symbol.item ∷ ks) g (a, r) → Reads w (Symbol.excluded d ∷ ks) g (excluded-item a, r)
+unfolding turned by-test by-cond by-tag takes fed primary-leads operand-leads calculation-leads item-leads choice-leads set-leads test-leads condition-leads field-leads switch-leads atom-leads factor-leads concatenation-leads summand-leads comparison-leads mark-leads binder-leads end-leads parse after feed primary-begins operand-begins item-begins test-begins atom-begins
+begin-excluded d [] f0 h = record { read = λ st. nowhere (h .read st) }
+begin-excluded d (y ∷ w) {ks} {g} f0 h = record { read = λ st. test-off _ _ _ _ f0 (λ u0. turning (λ st′ ks′ g′. parse w st′ ks′ g′) (excluded-one y st d ks) (fed y (opens w) (code y (opens w)) refl st (Symbol.item ∷ ks) g) (h .read st)) }
+
+pub begin-choice : (d : ℕ) (w : List Lexeme) {ks : List Symbol} {g : Ground ks} {i : Item} {u : Exception d} {r : Rests ks} → Reads w (Symbol.item ∷ Symbol.exception d ∷ ks) g (i, (u, r)) → Reads w (Symbol.alternative d ∷ ks) g (choice-from i u, r)
+unfolding turned by-test by-cond by-tag takes fed primary-leads operand-leads calculation-leads item-leads choice-leads set-leads test-leads condition-leads field-leads switch-leads atom-leads factor-leads concatenation-leads summand-leads comparison-leads mark-leads binder-leads end-leads parse after feed primary-begins operand-begins item-begins test-begins atom-begins
+begin-choice d [] h = record { read = λ st. nowhere (h .read st) }
+begin-choice d (y ∷ w) {ks} {g} h = record { read = λ st. turning (λ st′ ks′ g′. parse w st′ ks′ g′) (one-choice y st d ks) (fed y (opens w) (code y (opens w)) refl st (Symbol.item ∷ Symbol.exception d ∷ ks) g) (h .read st) }
+
+pub begin-set : (d : ℕ) (w : List Lexeme) {ks : List Symbol} {g : Ground ks} {a : Choices choice d} {u : MoreChoices d} {r : Rests ks} → Reads w (Symbol.alternative d ∷ Symbol.alternatives d ∷ ks) g (a, (u, r)) → Reads w (Symbol.value-set d ∷ ks) g (chosen a u, r)
+unfolding turned by-test by-cond by-tag takes fed primary-leads operand-leads calculation-leads item-leads choice-leads set-leads test-leads condition-leads field-leads switch-leads atom-leads factor-leads concatenation-leads summand-leads comparison-leads mark-leads binder-leads end-leads parse after feed primary-begins operand-begins item-begins test-begins atom-begins
+begin-set d [] h = record { read = λ st. nowhere (h .read st) }
+begin-set d (y ∷ w) {ks} {g} h = record { read = λ st. turning (λ st′ ks′ g′. parse w st′ ks′ g′) (set-begun y st d ks) (fed y (opens w) (code y (opens w)) refl st (Symbol.alternative d ∷ Symbol.alternatives d ∷ ks) g) (h .read st) }
+
+pub begin-counts : (w : List Lexeme) {ks : List Symbol} {g : Ground ks} {a : Calculation} {u : Reach} {r : Rests ks} → Not 126 w → Reads w (Symbol.calculation ∷ Symbol.counts-tail ∷ ks) g (a, (u, r)) → Reads w (Symbol.counts ∷ ks) g (counts-from a u, r)
+unfolding turned by-test by-cond by-tag takes fed primary-leads operand-leads calculation-leads item-leads choice-leads set-leads test-leads condition-leads field-leads switch-leads atom-leads factor-leads concatenation-leads summand-leads comparison-leads mark-leads binder-leads end-leads parse after feed primary-begins operand-begins item-begins test-begins atom-begins
+begin-counts [] f0 h = record { read = λ st. nowhere (h .read st) }
+begin-counts (y ∷ w) {ks} {g} f0 h = record { read = λ st. test-off _ _ _ _ f0 (λ u0. turning (λ st′ ks′ g′. parse w st′ ks′ g′) (counts-begun y st ks) (fed y (opens w) (code y (opens w)) refl st (Symbol.calculation ∷ Symbol.counts-tail ∷ ks) g) (h .read st)) }
+
+pub begin-test : (d : ℕ) (w : List Lexeme) {ks : List Symbol} {g : Ground ks} {a : Calculation} {u : Comparison × Sign × Calculation} {r : Rests ks} → Not 40 w → Reads w (Symbol.calculation ∷ Symbol.comparison ∷ ks) g (a, (u, r)) → Reads w (Symbol.test d ∷ ks) g (compare a (u .0) (u .1) (u .2), r)
+unfolding turned by-test by-cond by-tag takes fed primary-leads operand-leads calculation-leads item-leads choice-leads set-leads test-leads condition-leads field-leads switch-leads atom-leads factor-leads concatenation-leads summand-leads comparison-leads mark-leads binder-leads end-leads parse after feed primary-begins operand-begins item-begins test-begins atom-begins
+begin-test d [] f0 h = record { read = λ st. nowhere (h .read st) }
+begin-test d (y ∷ w) {ks} {g} f0 h = record { read = λ st. test-off _ _ _ _ f0 (λ u0. turning (λ st′ ks′ g′. parse w st′ ks′ g′) (compared y st d ks) (fed y (opens w) (code y (opens w)) refl st (Symbol.calculation ∷ Symbol.comparison ∷ ks) g) (h .read st)) }
+
+pub begin-condition : (d : ℕ) (w : List Lexeme) {ks : List Symbol} {g : Ground ks} {a : Tests test d} {u : Joined d} {r : Rests ks} → Reads w (Symbol.test d ∷ Symbol.joined d ∷ ks) g (a, (u, r)) → Reads w (Symbol.condition d ∷ ks) g (tests-from a u, r)
+unfolding turned by-test by-cond by-tag takes fed primary-leads operand-leads calculation-leads item-leads choice-leads set-leads test-leads condition-leads field-leads switch-leads atom-leads factor-leads concatenation-leads summand-leads comparison-leads mark-leads binder-leads end-leads parse after feed primary-begins operand-begins item-begins test-begins atom-begins
+begin-condition d [] h = record { read = λ st. nowhere (h .read st) }
+begin-condition d (y ∷ w) {ks} {g} h = record { read = λ st. turning (λ st′ ks′ g′. parse w st′ ks′ g′) (condition-begun y st d ks) (fed y (opens w) (code y (opens w)) refl st (Symbol.test d ∷ Symbol.joined d ∷ ks) g) (h .read st) }
+
+pub begin-factor : (d : ℕ) (w : List Lexeme) {ks : List Symbol} {g : Ground ks} {a : Tree atom d} {u : Marked} {r : Rests ks} → ((p i : ℕ) → Reads w (Symbol.atom d ∷ Symbol.marked p i ∷ ks) g (a, (u, r))) → Reads w (Symbol.factor d ∷ ks) g (factor-from a u, r)
+unfolding turned by-test by-cond by-tag takes fed primary-leads operand-leads calculation-leads item-leads choice-leads set-leads test-leads condition-leads field-leads switch-leads atom-leads factor-leads concatenation-leads summand-leads comparison-leads mark-leads binder-leads end-leads parse after feed primary-begins operand-begins item-begins test-begins atom-begins
+begin-factor d [] h = record { read = λ st. nowhere ((h 0 0) .read st) }
+begin-factor d (y ∷ w) {ks} {g} h = record { read = λ st. turning (λ st′ ks′ g′. parse w st′ ks′ g′) (factor-begun y st d ks) (fed y (opens w) (code y (opens w)) refl st (Symbol.atom d ∷ Symbol.marked (place-of y) (nodes-of st) ∷ ks) g) ((h (place-of y) (nodes-of st)) .read st) }
+
+pub begin-concatenation : (d : ℕ) (w : List Lexeme) {ks : List Symbol} {g : Ground ks} {a : Tree factor d} {u : MoreMembers d} {r : Rests ks} → ((p i : ℕ) → Reads w (Symbol.factor d ∷ Symbol.members d p i false ∷ ks) g (a, (u, r))) → Reads w (Symbol.concatenation d ∷ ks) g (members-from a u, r)
+unfolding turned by-test by-cond by-tag takes fed primary-leads operand-leads calculation-leads item-leads choice-leads set-leads test-leads condition-leads field-leads switch-leads atom-leads factor-leads concatenation-leads summand-leads comparison-leads mark-leads binder-leads end-leads parse after feed primary-begins operand-begins item-begins test-begins atom-begins
+begin-concatenation d [] h = record { read = λ st. nowhere ((h 0 0) .read st) }
+begin-concatenation d (y ∷ w) {ks} {g} h = record { read = λ st. turning (λ st′ ks′ g′. parse w st′ ks′ g′) (concatenation-begun y st d ks) (fed y (opens w) (code y (opens w)) refl st (Symbol.factor d ∷ Symbol.members d (place-of y) (nodes-of st) false ∷ ks) g) ((h (place-of y) (nodes-of st)) .read st) }
+
+pub begin-expression : (d : ℕ) (w : List Lexeme) {ks : List Symbol} {g : Ground ks} {a : Tree concatenation d} {u : MoreBranches d} {r : Rests ks} → ((p i : ℕ) → Reads w (Symbol.concatenation d ∷ Symbol.branches d p i false ∷ ks) g (a, (u, r))) → Reads w (Symbol.expression d ∷ ks) g (branches-from a u, r)
+unfolding turned by-test by-cond by-tag takes fed primary-leads operand-leads calculation-leads item-leads choice-leads set-leads test-leads condition-leads field-leads switch-leads atom-leads factor-leads concatenation-leads summand-leads comparison-leads mark-leads binder-leads end-leads parse after feed primary-begins operand-begins item-begins test-begins atom-begins
+begin-expression d [] h = record { read = λ st. nowhere ((h 0 0) .read st) }
+begin-expression d (y ∷ w) {ks} {g} h = record { read = λ st. turning (λ st′ ks′ g′. parse w st′ ks′ g′) (expression-begun y st d ks) (fed y (opens w) (code y (opens w)) refl st (Symbol.concatenation d ∷ Symbol.branches d (place-of y) (nodes-of st) false ∷ ks) g) ((h (place-of y) (nodes-of st)) .read st) }
+
+pub begin-field-set : (d p v : ℕ) (w : List Lexeme) {ks : List Symbol} {g : Ground ks} {a : Choices whole d} {c : Sign} {r : Rests ks} → Not 8 w → ((f : ℕ) → Reads w (Symbol.value-set d ∷ Symbol.field-end p v 0 0 f ∷ ks) g (a, (c, r))) → Reads w (Symbol.field-set d p v ∷ ks) g (plain-set a c, r)
+unfolding turned by-test by-cond by-tag takes fed primary-leads operand-leads calculation-leads item-leads choice-leads set-leads test-leads condition-leads field-leads switch-leads atom-leads factor-leads concatenation-leads summand-leads comparison-leads mark-leads binder-leads end-leads parse after feed primary-begins operand-begins item-begins test-begins atom-begins
+begin-field-set d p v [] f0 h = record { read = λ st. nowhere ((h 0) .read st) }
+begin-field-set d p v (y ∷ w) {ks} {g} f0 h = record { read = λ st. test-off _ _ _ _ f0 (λ u0. turning (λ st′ ks′ g′. parse w st′ ks′ g′) (set-not-bound y st d p v ks) (fed y (opens w) (code y (opens w)) refl st (Symbol.value-set d ∷ Symbol.field-end p v 0 0 (terms-of st) ∷ ks) g) ((h (terms-of st)) .read st)) }
+
+pub begin-cases : (d p i : ℕ) (w : List Lexeme) {ks : List Symbol} {g : Ground ks} {a : Tests tests d} {k : Sign × Tree expression d × Sign} {u : MoreCases d} {r : Rests ks} → Not 93 w → Not 58 w → ((f : ℕ) → Reads w (Symbol.condition d ∷ Symbol.colon d f ∷ Symbol.cases d p i ∷ ks) g (a, (k, (u, r)))) → Reads w (Symbol.cases d p i ∷ ks) g (more-cases (cases-from a (k .0) (k .1) (k .2) u) (closing u), r)
+unfolding turned by-test by-cond by-tag takes fed primary-leads operand-leads calculation-leads item-leads choice-leads set-leads test-leads condition-leads field-leads switch-leads atom-leads factor-leads concatenation-leads summand-leads comparison-leads mark-leads binder-leads end-leads parse after feed primary-begins operand-begins item-begins test-begins atom-begins
+begin-cases d p i [] f0 f1 h = record { read = λ st. nowhere ((h 0) .read st) }
+begin-cases d p i (y ∷ w) {ks} {g} f0 f1 h = record { read = λ st. test-off _ _ _ _ f0 (λ u0. test-off _ _ _ _ f1 (λ u1. turning (λ st′ ks′ g′. parse w st′ ks′ g′) (case-begun y st d p i ks) (fed y (opens w) (code y (opens w)) refl st (Symbol.condition d ∷ Symbol.colon d (terms-of st) ∷ Symbol.cases d p i ∷ ks) g) ((h (terms-of st)) .read st))) }
 
