@@ -6,3 +6,4 @@ pub mod Parts
 pub mod Leading
 pub mod Reading
 pub mod Skips
+pub mod Traced
