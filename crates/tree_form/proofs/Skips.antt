@@ -72,6 +72,11 @@ unfolding by-test
 test-on H true A B e h = h refl
 test-on H false A B e h = let z : _≡_ {A = ℕ} 0 1 = cc in absurd (omega arith)
 
+pub cond-on : {x : Lexeme} {st : State} {ks : List Symbol} (H : Onward) (t : Bool) {a b : Fed} (A : t ≡ true → Leads x st ks a) (B : t ≡ false → Leads x st ks b) {q : Parsed ks} → t ≡ true → ((u : t ≡ true) → after H (A u) ≡ q) → after H (by-cond t A B) ≡ q
+unfolding by-cond
+cond-on H true A B e h = h refl
+cond-on H false A B e h = let z : _≡_ {A = ℕ} 0 1 = cc in absurd (omega arith)
+
 pub tag-off : {x : Lexeme} {st : State} {ks : List Symbol} (H : Onward) (F : ℕ → Fed) (t : Bool) {m n : ℕ} (A : t ≡ true → Leads x st ks (F m)) (B : t ≡ false → Leads x st ks (F n)) {q : Parsed ks} → t ≡ false → ((u : t ≡ false) → after H (B u) ≡ q) → after H (by-tag F t {m = m} {n = n} A B) ≡ q
 unfolding by-tag
 tag-off H F true A B e h = let z : _≡_ {A = ℕ} 0 1 = cc in absurd (omega arith)
