@@ -7,3 +7,4 @@ pub mod Leading
 pub mod Reading
 pub mod Skips
 pub mod Traced
+pub mod Told
