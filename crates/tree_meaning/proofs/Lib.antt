@@ -1,1 +1,4 @@
 -- Laws and worked examples of what trees mean.
+pub mod Building
+pub mod Computing
+pub mod Sheet
