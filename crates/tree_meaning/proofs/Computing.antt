@@ -2,9 +2,10 @@
 -- Assumes nothing.
 use Prim.Native.Nat.{ℕ}
 use Prim.Native.String.{String}
-use mathlib.Core.Bool.{Bool}
+use mathlib.Core.Bool.{Bool, false}
 use mathlib.Core.List.{List, [], _∷_, map}
-use mathlib.Core.Option.{Option}
+use mathlib.Core.Option.{Option, none}
+use lib.ListN.{getD}
 use Rattle.basis.specs.Bits.{Bits, bitsOf, append-digits, frameBits, same}
 use Rattle.basis.specs.Counts.{Counts as Passes, between, exactly, atLeast, span}
 use Rattle.theory.specs.Grammar.{alternative, concatenation, repetition, switch, use-of, field, eod}
@@ -83,3 +84,32 @@ placed t = map (λ (c : Construct). c .place) (tree-constructs t)
 unfoldable pub marked : Rules → List ℕ
 unfolding constructs-of rules-constructs rules-of bound-in pieces spell-primary spell-operand spell-factors spell-product spell-summands spell-calculation spell-item spell-set spell-counts spell-tests spell-mark spell
 marked t = map (λ (c : Construct). c .mark) (tree-constructs t)
+
+-- which of these numbers the first construct of a text admits, in w bits
+unfoldable pub admitted : Rules → Values → (w : ℕ) → List ℕ → List Bool
+unfolding seen
+admitted t v w ns = map (λ n. admits-first (seen t v w n)) ns
+  where
+    admits-first : List Seen → Bool
+    admits-first [] = false
+    admits-first (one-of is ∷ more) = false
+    admits-first (in-order is ∷ more) = false
+    admits-first (repeats counts static exact body ∷ more) = false
+    admits-first (chooses is js ∷ more) = false
+    admits-first (opens body ∷ more) = false
+    admits-first (takes width admits static after ∷ more) = admits
+    admits-first (ends ∷ more) = false
+
+-- the case that construct i takes
+unfoldable pub turns : Rules → Values → ℕ → Option ℕ
+unfolding seen
+turns t v i = taken (getD (seen t v 8 0) i ends)
+  where
+    taken : Seen → Option ℕ
+    taken (one-of is) = none
+    taken (in-order is) = none
+    taken (repeats counts static exact body) = none
+    taken (chooses is js) = is
+    taken (opens body) = none
+    taken (takes width admits static after) = none
+    taken ends = none

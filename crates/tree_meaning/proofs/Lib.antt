@@ -2,3 +2,4 @@
 pub mod Building
 pub mod Computing
 pub mod Sheet
+pub mod Forms
