@@ -113,3 +113,13 @@ turns t v i = taken (getD (seen t v 8 0) i ends)
     taken (opens body) = none
     taken (takes width admits static after) = none
     taken ends = none
+
+-- the places of 5, 6 and 8 alone
+abbrev pub place-five : Judged → Option ℕ
+place-five (judged rules constructs variables terms five six eight) = five
+
+abbrev pub place-six : Judged → Option ℕ
+place-six (judged rules constructs variables terms five six eight) = six
+
+abbrev pub place-eight : Judged → Option ℕ
+place-eight (judged rules constructs variables terms five six eight) = eight

@@ -3,3 +3,6 @@ pub mod Building
 pub mod Computing
 pub mod Sheet
 pub mod Forms
+pub mod NameCases
+pub mod SizeCases
+pub mod LimitCases
