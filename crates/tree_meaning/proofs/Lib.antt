@@ -6,3 +6,5 @@ pub mod Forms
 pub mod NameCases
 pub mod SizeCases
 pub mod LimitCases
+pub mod Reached
+pub mod ReachCases
