@@ -8,3 +8,5 @@ pub mod SizeCases
 pub mod LimitCases
 pub mod Reached
 pub mod ReachCases
+pub mod LeastLaws
+pub mod Bounds
