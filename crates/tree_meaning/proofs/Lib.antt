@@ -10,3 +10,4 @@ pub mod Reached
 pub mod ReachCases
 pub mod LeastLaws
 pub mod Bounds
+pub mod Lengths
