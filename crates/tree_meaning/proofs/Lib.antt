@@ -11,3 +11,4 @@ pub mod ReachCases
 pub mod LeastLaws
 pub mod Bounds
 pub mod Lengths
+pub mod Ranges
