@@ -6,3 +6,4 @@ pub mod Names
 pub mod Reaching
 pub mod Sizes
 pub mod Grammar
+pub mod Rows
