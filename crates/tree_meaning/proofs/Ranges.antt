@@ -1,19 +1,21 @@
 -- The parts of a construct come after it, and before the end of its tree: numbers in text order, the outer before the inner.
 -- Assumes nothing.
-use Prim.Native.Nat.{ℕ, suc, _+_, _≤_, _<_}
-use mathlib.Core.Path.{_≡_, refl, sym, subst}
+use Prim.Native.Nat.{ℕ, zero, suc, _+_, _≤_, _<_}
+use mathlib.Core.Path.{_≡_, refl, sym, ap, subst}
 use mathlib.Core.Bool.{Bool, true, false}
 use mathlib.Core.List.{List, [], _∷_, _++_, List·Memᴰ, List·Memᴰ·head, List·Memᴰ·tail}
 use mathlib.Core.Option.{Option, some, Option·none-ne-some, Option·some-injective}
+use native.Mathlib.Nat.{zero-add}
 use native.Mathlib.Omega.{arith}
-use lib.ListN.{length}
+use lib.ListN.{length, getD}
 use Rattle.theory.specs.Grammar.{alternative, concatenation as sequence, repetition, switch as choice-by, use-of, field as bits-of, eod as frame-end}
 use Rattle.text_header.proofs.Tests.{picked}
-use Rattle.tree.specs.Tree.{expression, concatenation, cases, Part, Tree, literal, range, field, binder, rule-use, eod, group, switch, last-case, case-default, case-cases, once, repeated, last-member, and-members, last-branch, or-branches}
+use Rattle.tree.specs.Tree.{expression, concatenation, cases, Part, Tree, literal, range, field, binder, rule-use, eod, group, switch, last-case, case-default, case-cases, once, repeated, last-member, and-members, last-branch, or-branches, Rule, Rules}
 use Rattle.tree_meaning.specs.Values.{is-true}
-use Rattle.tree_meaning.specs.Counted.{constructs}
-use Rattle.tree_meaning.specs.Grammar.{Context, Values, TreeNode, Construct, members, branches, case-bodies, values-at, chosen, constructs-of}
-use Rattle.tree_meaning.proofs.Lengths.{some-construct, as-counted}
+use Rattle.tree_meaning.specs.Pieces.{rules-of, rule-body, variables-of}
+use Rattle.tree_meaning.specs.Counted.{constructs, rule-constructs}
+use Rattle.tree_meaning.specs.Grammar.{Context, Values, TreeNode, Construct, plain-at, members, branches, case-bodies, values-at, chosen, constructs-of, body-of, variable-of, rules-constructs, tree-constructs, construct-at}
+use Rattle.tree_meaning.proofs.Lengths.{some-construct, as-counted, all-constructs, rules-as-counted}
 
 -- from `low` up to `high`, `high` not among them
 pub record Between (low high i : ℕ) : Type 0 where
@@ -122,3 +124,27 @@ module _ (body variable : List ℕ → ℕ) where
   )
   in-order true i e (or-branches x s more) h =
       both-in-order false true i (i + constructs false x) e x more (in-order false i e x (omega arith)) (in-order true (i + constructs false x) e more (omega arith)) refl
+
+-- ---- all rules
+
+pub rules-in-order : (all : List Rule) (i b end : ℕ) (rs : List Rule) → i + all-constructs rs ≤ end → InOrder i end (rules-constructs all i b rs)
+unfolding InOrder rules-constructs all-constructs
+rules-in-order all i b end [] h = tt
+rules-in-order all i b end (r ∷ more) h =
+    in-order-append i end (constructs-of (body-of 0 all) (variable-of b (variables-of r)) false i (rule-body r)) (rules-constructs all (i + rule-constructs r) (b + length (variables-of r)) more)
+    (in-order (body-of 0 all) (variable-of b (variables-of r)) false i end (rule-body r) (omega arith))
+    (subst (λ (n : ℕ). InOrder n end (rules-constructs all (i + rule-constructs r) (b + length (variables-of r)) more)) (ap (λ (n : ℕ). i + n) (sym (as-counted (body-of 0 all) (variable-of b (variables-of r)) false i (rule-body r)))) (rules-in-order all (i + rule-constructs r) (b + length (variables-of r)) end more (omega arith)))
+
+-- the construct of number k among them
+pub at-number : (i end k : ℕ) (cs : List Construct) (d : Construct) → InOrder i end cs → k < length cs → PartsBetween (suc (i + k)) end (getD cs k d .node)
+unfolding InOrder
+at-number i end k [] d h l = absurd (omega arith)
+at-number i end zero (c ∷ cs) d h l = subst (λ (n : ℕ). PartsBetween (suc n) end (c .node)) (omega arith) (h .0)
+at-number i end (suc k) (c ∷ cs) d h l = subst (λ (n : ℕ). PartsBetween (suc n) end (getD cs k d .node)) (omega arith) (at-number (suc i) end k cs d (h .1) (omega arith))
+
+-- of a text: the parts of construct i come after it, and are constructs of the text
+pub parts-in-range : (t : Rules) (i : ℕ) → i < length (tree-constructs t) → PartsBetween (suc i) (length (tree-constructs t)) (construct-at t i .node)
+parts-in-range t i h =
+    subst (λ (n : ℕ). PartsBetween (suc n) (length (tree-constructs t)) (construct-at t i .node)) (zero-add i)
+    (at-number 0 (length (tree-constructs t)) i (tree-constructs t) (plain-at 0 (alternative []))
+    (rules-in-order (rules-of t) 0 0 (length (tree-constructs t)) (rules-of t) (omega (arith, rules-as-counted (rules-of t) 0 0 (rules-of t)))) h)
