@@ -12,3 +12,4 @@ pub mod LeastLaws
 pub mod Bounds
 pub mod Lengths
 pub mod Ranges
+pub mod Passing
