@@ -13,3 +13,4 @@ pub mod Bounds
 pub mod Lengths
 pub mod Ranges
 pub mod Passing
+pub mod Numbers
