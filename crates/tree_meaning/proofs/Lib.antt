@@ -14,3 +14,4 @@ pub mod Lengths
 pub mod Ranges
 pub mod Passing
 pub mod Numbers
+pub mod Inside

@@ -39,10 +39,10 @@ unfolding is-in
 is-used [] y = false
 is-used (r ∷ more) y = is-in (used-in (rule-pieces r)) y || is-used more y
 
-either-first : (a b : Bool) → a ≡ true → (a || b) ≡ true
+pub either-first : (a b : Bool) → a ≡ true → (a || b) ≡ true
 either-first a b e = rw e
 
-either-second : (a b : Bool) → b ≡ true → (a || b) ≡ true
+pub either-second : (a b : Bool) → b ≡ true → (a || b) ≡ true
 either-second a b e = rw (e, or-true a)
 
 found : {y : List ℕ} {zs : List (List ℕ)} → List·Memᴰ y zs → is-in zs y ≡ true
@@ -62,7 +62,7 @@ unreached e r =
 
 -- ---- a test of a use, and of a rule's place
 
-either-of : (a b : Bool) → (a || b) ≡ true → (a ≡ true) ⊎ (b ≡ true)
+pub either-of : (a b : Bool) → (a || b) ≡ true → (a ≡ true) ⊎ (b ≡ true)
 either-of true b e = inl refl
 either-of false b e = inr e
 
