@@ -12,7 +12,7 @@ use lib.IntN.{ℤ, pos, negsuc, natAbs, negℤ, _+ℤ_, _-ℤ_, _*ℤ_}
 use Rattle.tree.specs.Tree.{Primary, number, variable, Operand, plain, opposite, Factors, no-factor, times, Product, product, Summands, no-summand, plus, minus, Calculation, sum}
 use Rattle.tree_meaning.specs.Values.{Environment, primary-value, operand-value, times-value, product-value, sum-value, calculation-value}
 use Rattle.tree_meaning.specs.Pieces.{Term, a-number, a-use, a-sign, primary-terms, operand-terms, factor-terms, product-terms, summand-terms, calculation-terms}
-use Rattle.tree_meaning.specs.Sizes.{primary-size, operand-size, times-size, product-size, sum-size, calculation-size, times-largest, product-largest, sum-largest, calculation-largest, too-large}
+use Rattle.tree_meaning.specs.Sizes.{primary-size, operand-size, times-size, product-size, sum-size, calculation-size, times-largest, sum-largest, calculation-largest, too-large}
 
 -- ---- whole numbers without their sign
 

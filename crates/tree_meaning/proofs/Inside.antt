@@ -1,23 +1,18 @@
 -- Values that are bound stay within their variables' widths; so, where 6 and 8 are not given, no calculation of a rule passes 2^62 at any values that a run meets.
 -- Assumes nothing.
-use Prim.Native.Nat.{ℕ, suc, _+_, _-_, _^_, _≤_, _<_}
-use mathlib.Core.Path.{_≡_, refl, sym, ap, subst, _∙_}
+use Prim.Native.Nat.{ℕ, _+_, _-_, _^_, _≤_}
+use mathlib.Core.Path.{_≡_, subst}
 use mathlib.Core.Logic.{⊎-elim}
-use mathlib.Core.Bool.{Bool, true, false, cond, _||_, or-true}
-use mathlib.Core.List.{List, [], _∷_, _++_}
+use mathlib.Core.Bool.{true}
+use mathlib.Core.List.{List, [], _∷_}
 use mathlib.Core.Option.{none}
 use native.Mathlib.Omega.{arith}
-use borrow.Author.Tests.{eqb-true, eqb-false}
-use lib.Dec.{eqb}
-use lib.IntN.{ℤ, pos, natAbs}
-use lib.ListN.{length, getD, set}
-use lib.Seq.{getD-set-same, getD-set-other}
-use Rattle.basis.specs.Bits.{Bits, value as number-of}
-use Rattle.basis.proofs.Values.{value-less}
-use Rattle.text_header.proofs.Tests.{which, picked}
-use Rattle.text_header.proofs.Runs.{word-equal, word-self}
+use lib.IntN.{pos, natAbs}
+use lib.ListN.{length, getD}
+use Rattle.text_header.proofs.Tests.{picked}
+use Rattle.text_header.proofs.Runs.{word-equal}
 use Rattle.text_tokens.specs.Names.{is-same}
-use Rattle.tree.specs.Lexemes.{Name, Number}
+use Rattle.tree.specs.Lexemes.{Name}
 use Rattle.tree.specs.Tree.{Rule, Rules}
 use Rattle.tree_meaning.specs.Values.{Environment, calculation-value}
 use Rattle.tree_meaning.specs.Pieces.{Term, a-number, a-use, a-sign, calculation-terms, Component, whole-number, joined-by, terms-of, uses-in, Piece, use-of-rule, width, formula, binding, bound-in, rules-of, rule-name, rule-pieces, variables-of}
@@ -25,8 +20,8 @@ use Rattle.tree_meaning.specs.Names.{is-among, rule-names, refusal-6}
 use Rattle.tree_meaning.specs.Sizes.{widest-in, refusal-8}
 use Rattle.tree_meaning.specs.Grammar.{Values, variable-of}
 use Rattle.tree_meaning.proofs.Bounds.{Within, within-first, within-second, calculation-fits}
-use Rattle.tree_meaning.proofs.Passing.{NumbersFit, CalculationsFit, PiecesFit, RulesFit, UsesRight, NamesRight, RulesNamed, fits, named}
-use Rattle.tree_meaning.proofs.Numbers.{among-later, one-name}
+use Rattle.tree_meaning.proofs.Passing.{CalculationsFit, PiecesFit, RulesFit, UsesRight, NamesRight, RulesNamed, fits, named}
+use Rattle.tree_meaning.proofs.Numbers.{among-later}
 use Rattle.tree_meaning.proofs.Reached.{either-first, either-second, either-of}
 
 -- ---- values of a rule's variables

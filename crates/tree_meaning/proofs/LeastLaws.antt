@@ -1,6 +1,6 @@
 -- Laws of the smallest place: there is none exactly where there is no fault, and else it is a fault's place and no fault has a smaller.
 -- Assumes nothing.
-use Prim.Native.Nat.{ℕ, min, _≤_}
+use Prim.Native.Nat.{ℕ, _≤_}
 use mathlib.Core.Path.{_≡_, refl, subst}
 use mathlib.Core.Logic.{_⊎_, inl, inr, ⊎-elim}
 use mathlib.Core.Bool.{Bool, true, false}

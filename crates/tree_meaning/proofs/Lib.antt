@@ -15,3 +15,4 @@ pub mod Ranges
 pub mod Passing
 pub mod Numbers
 pub mod Inside
+pub mod Binding

@@ -1,6 +1,6 @@
 -- Trees at a limit and one past it (5), made by repetition: none where no total is passed, else the place of the first rule in which one is.
 -- Assumes nothing.
-use Prim.Native.Nat.{ℕ, zero, suc, _+_, _*_}
+use Prim.Native.Nat.{ℕ, zero, suc, _*_}
 use mathlib.Core.Path.{_≡_, refl}
 use mathlib.Core.Option.{none, some}
 use lib.Dec.{lit<}

@@ -1,7 +1,7 @@
 -- What holds of a tree for which 5, 6 or 8 is not given: totals, names and sizes, piece by piece.
 -- Assumes nothing.
-use Prim.Native.Nat.{ℕ, suc, _+_, _≤_}
-use mathlib.Core.Path.{_≡_, refl, sym, _∙_}
+use Prim.Native.Nat.{ℕ, _+_, _≤_}
+use mathlib.Core.Path.{_≡_, refl, sym}
 use mathlib.Core.Bool.{Bool, true, false, not, _&&_, _||_}
 use mathlib.Core.List.{List, [], _∷_, _++_}
 use mathlib.Core.Option.{none}
@@ -14,8 +14,8 @@ use Rattle.tree.specs.Lexemes.{Name}
 use Rattle.tree.specs.Tree.{Rule, Rules}
 use Rattle.tree.specs.Spelling.{spell-calculation}
 use Rattle.tree_meaning.specs.Pieces.{Term, a-number, a-use, a-sign, Component, whole-number, joined-by, terms-of, uses-in, Piece, use-of-rule, width, formula, binding, rules-of, rule-name, rule-pieces, variables-of}
-use Rattle.tree_meaning.specs.Least.{place-if, least}
-use Rattle.tree_meaning.specs.Counted.{Totals, no-rule, with-rule, is-past, limit-faults, refusal-5, rule-constructs, terms}
+use Rattle.tree_meaning.specs.Least.{place-if}
+use Rattle.tree_meaning.specs.Counted.{Totals, no-rule, with-rule, is-past, limit-faults, refusal-5, terms}
 use Rattle.tree_meaning.specs.Names.{is-reserved, is-among, rule-fault, use-fault, binder-fault, variable-fault, variable-faults, faults-after, name-faults, rule-names, refusal-6}
 use Rattle.tree_meaning.specs.Sizes.{wrong-width, wrong-number, number-faults, first-byte, widest-in, too-large, calculation-faults, faults-in, size-faults, refusal-8}
 use Rattle.tree_meaning.proofs.LeastLaws.{no-place, no-first, no-second, no-least}
@@ -23,11 +23,11 @@ use Rattle.tree_meaning.proofs.Lengths.{all-constructs}
 
 -- ---- tests that fail
 
-neither-first : (a b : Bool) → (a || b) ≡ false → a ≡ false
+pub neither-first : (a b : Bool) → (a || b) ≡ false → a ≡ false
 neither-first true b e = e
 neither-first false b e = refl
 
-neither-second : (a b : Bool) → (a || b) ≡ false → b ≡ false
+pub neither-second : (a b : Bool) → (a || b) ≡ false → b ≡ false
 neither-second true b e = let z : _≡_ {A = ℕ} 0 1 = cc in absurd (omega arith)
 neither-second false b e = e
 

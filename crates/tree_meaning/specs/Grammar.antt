@@ -7,7 +7,7 @@ use mathlib.Core.Option.{Option, none, some}
 use lib.Dec.{leb, eqb}
 use lib.IntN.{ℤ, pos}
 use lib.ListN.{length, getD, set, replicate}
-use Rattle.basis.specs.Bits.{Bits, value as number-of, frameBits, same}
+use Rattle.basis.specs.Bits.{value as number-of, frameBits, same}
 use Rattle.basis.specs.Counts.{Counts as Passes, zero-or-one, zero-or-more, one-or-more as one-to-more}
 use Rattle.theory.specs.Grammar.{Node, alternative, concatenation as sequence, repetition, switch as choice-by, use-of, field as bits-of, eod as frame-end, Grammar}
 use Rattle.text_tokens.specs.Names.{is-same}

@@ -3,7 +3,6 @@
 use Prim.Native.Nat.{ℕ, _≤_}
 use mathlib.Core.Path.{_≡_}
 use mathlib.Core.List.{List, [], _∷_, List·Memᴰ}
-use Rattle.tree.specs.Lexemes.{Name}
 use Rattle.tree.specs.Tree.{Rule, Rules}
 use Rattle.tree_meaning.specs.Pieces.{Piece, use-of-rule, width, formula, binding, rules-of, rule-name, rule-pieces}
 
