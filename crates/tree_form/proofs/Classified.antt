@@ -262,4 +262,3 @@ all (suc n) xs at f = by (stands xs at) (λ l. all n xs (token-of xs at .end) l)
 -- the reader's terminals are the classified tokens of the text
 pub terminals : (xs : List ℕ) → sights-from xs 0 ≡ classified (lexemes xs)
 terminals xs = all (suc (length xs)) xs 0 (omega arith)
-

@@ -5,7 +5,7 @@ use mathlib.Core.Path.{_≡_, refl, sym, ap, _∙_}
 use mathlib.Core.Bool.{Bool, true, false, not}
 use mathlib.Core.List.{List, [], _∷_}
 use Rattle.text_tokens.specs.declared.Kind.{Kind}
-use Rattle.text_parsing.specs.Store.{State, nodes-of, terms-of, add, single, insert}
+use Rattle.text_store.specs.Store.{State, nodes-of, terms-of, add, single, insert}
 use Rattle.text_parsing.specs.Form.{chained}
 use Rattle.tree.specs.Lexemes.{Sign, Name, Number, Literal, Lexeme, sign, word, numeral, quoted, place-of}
 use Rattle.tree.specs.Tree.{Primary, number, variable, Operand, plain, opposite, Factors, no-factor, times, Product, product, Summands, no-summand, plus, minus, Calculation, sum, Item, everything, only, between, from, up-to, SetPart, whole, choice, Choices, item, item-but-item, item-but-set, last-choice, or-choices, Counts, exactly, at-least, at-most, span, Comparison, equal, unequal, less, at-most-as, greater, at-least-as, TestPart, tests, test, conjuncts, disjuncts, Tests, compare, test-group, one-test, all-of, any-of, last-conjunct, and-conjuncts, last-disjunct, or-disjuncts, Mark, optional, any-number, one-or-more, counted, eod-word, Single, Part, expression, concatenation, factor, atom, cases, Tree, literal, range, field, binder, rule-use, eod, group, switch, last-case, case-default, case-cases, once, repeated, last-member, and-members, last-branch, or-branches, Rule, rule, Rules, last-rule, and-rules}
@@ -327,4 +327,3 @@ pub rules-from-stores : (any : Bool) (r : Rule) (u : MoreRules true) (st : State
 unfolding spell-primary spell-operand spell-factors spell-product spell-summands spell-calculation spell-item spell-set spell-counts spell-tests spell-mark spell spell-rules start-of-primary start-of-operand start-of-product store-primary store-operand store-factors store-product store-summands store-calculation store-item store-set store-counts store-tests start-of store-mark store stored spell-upper spell-reach spell-exception spell-excluded spell-choices spell-links spell-joined spell-marked spell-members spell-branches spell-character spell-field spell-cases spell-more-rules store-upper store-item-reach store-counts-reach store-exception store-excluded store-choices store-links store-joined store-marked store-members store-branches store-character store-fields store-cases store-more-rules
 rules-from-stores any r (no-rule p) st = refl
 rules-from-stores any r (more-rules t p) st = refl
-

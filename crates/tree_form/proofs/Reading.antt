@@ -5,7 +5,7 @@ use mathlib.Core.Path.{_≡_, refl, sym, ap, subst, _∙_}
 use mathlib.Core.Bool.{Bool, true, false}
 use mathlib.Core.List.{List, [], _∷_}
 use native.Mathlib.Omega.{arith}
-use Rattle.text_parsing.specs.Store.{State}
+use Rattle.text_store.specs.Store.{State}
 use Rattle.text_parsing.specs.Symbols.{Symbol}
 use Rattle.text_parsing.specs.Form.{Fed, go, done, fault, feed, Outcome, right, refused, run}
 use Rattle.text_parsing.specs.declared.Sight.{Sight}

@@ -6,7 +6,7 @@ use mathlib.Core.Bool.{Bool, true, false, cond}
 use mathlib.Core.List.{List, [], _∷_}
 use lib.Dec.{eqb, leb}
 use Rattle.text_tokens.specs.declared.Kind.{Kind}
-use Rattle.text_parsing.specs.Store.{State, nodes-of, terms-of, add, single, insert, leaf, condition-on, bind, close-rule}
+use Rattle.text_store.specs.Store.{State, nodes-of, terms-of, add, single, insert, leaf, condition-on, bind, close-rule}
 use Rattle.text_parsing.specs.Symbols.{Symbol}
 use Rattle.text_parsing.specs.Form.{chained}
 use Rattle.tree.specs.Lexemes.{Sign, Name, Number, Literal, Lexeme, sign, word, numeral, quoted, finish}
