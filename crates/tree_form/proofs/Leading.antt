@@ -15,7 +15,7 @@ use Rattle.text_parsing.specs.Store.{State, nodes-of, terms-of, add, single, in
 use Rattle.text_parsing.specs.Symbols.{Symbol}
 use Rattle.text_parsing.specs.Form.{Fed, go, done, fault, primary-begins, operand-begins, sum-tag, calculation-begins, item-begins, test-begins, comparison-tag, atom-begins, mark-of, chained, feed}
 use Rattle.text_parsing.specs.declared.Sight.{Sight}
-use Rattle.tree.specs.Lexemes.{Sign, Name, Number, Literal, Lexeme, sign, word, numeral, quoted, finish, place-of}
+use Rattle.tree.specs.Lexemes.{Sign, Name, Number, Literal, Lexeme, sign, word, numeral, quoted, stray, finish, place-of}
 use Rattle.tree.specs.Tree.{Primary, number, variable, Operand, plain, opposite, Factors, no-factor, times, Product, product, Summands, no-summand, plus, minus, Calculation, sum, Item, everything, only, between, from, up-to, SetPart, whole, choice, Choices, item, item-but-item, item-but-set, last-choice, or-choices, Counts, exactly, at-least, at-most, span, Comparison, equal, unequal, less, at-most-as, greater, at-least-as, TestPart, tests, test, conjuncts, disjuncts, Tests, compare, test-group, one-test, all-of, any-of, last-conjunct, and-conjuncts, last-disjunct, or-disjuncts, Mark, optional, any-number, one-or-more, counted, eod-word, Single, Part, expression, concatenation, factor, atom, cases, Tree, literal, range, field, binder, rule-use, eod, group, switch, last-case, case-default, case-cases, once, repeated, last-member, and-members, last-branch, or-branches, Rule, rule, Rules, last-rule, and-rules}
 use Rattle.tree.specs.Spelling.{uint-word, var-word, spelled-as, spell-primary, spell-operand, spell-factors, spell-product, spell-summands, spell-calculation, spell-item, spell-set, spell-counts, comparison-sign, spell-tests, spell-mark, spell, spell-rule, spell-rules, spelled}
 use Rattle.tree_form.specs.Stored.{start-of-primary, start-of-operand, start-of-product, store-primary, store-operand, store-factors, store-product, store-summands, store-calculation, store-item, store-set, store-counts, tag-of, store-tests, start-of, store-mark, store-case, how-bound, store, store-rule, stored}
@@ -108,9 +108,22 @@ pub record Other (x : Lexeme) (ks : List Symbol) : Type 0 where
   pub after : List Lexeme
   pub spells : spell-all ks rests ≡ x ∷ after
 
+-- it is not the end
+abbrev pub Going : Lexeme → Type 0
+Going (sign kind s) = Unit {0}
+Going (word n) = Unit {0}
+Going (numeral n) = Unit {0}
+Going (quoted l) = Unit {0}
+Going (stray s) = Unit {0}
+Going (finish p) = ⊥
+
+-- no token is taken
+abbrev pub Stuck : List Symbol → Type 0
+Stuck ks = (s : Sight) (st : State) → feed s st ks ≡ fault
+
 -- it is taken, and what waits then has these rests; or the text ends; or it cannot stand there
 pub data Leads (x : Lexeme) (st : State) (ks : List Symbol) : Fed → Type 0 where
-  goes : {st′ : State} {ks′ : List Symbol} (back : Rests ks′ → Rests ks) → ((r : Rests ks′) → spell-all ks (back r) ≡ x ∷ spell-all ks′ r) → ((r : Rests ks′) → store-all ks (back r) st ≡ store-all ks′ r st′) → Ground ks′ → (Room ks → Room ks′ ⊎ Other x ks) → Leads x st ks (go st′ ks′)
+  goes : {st′ : State} {ks′ : List Symbol} (back : Rests ks′ → Rests ks) → ((r : Rests ks′) → spell-all ks (back r) ≡ x ∷ spell-all ks′ r) → ((r : Rests ks′) → store-all ks (back r) st ≡ store-all ks′ r st′) → Ground ks′ → (Room ks → Room ks′ ⊎ (Other x ks × Stuck ks′)) → Going x → Leads x st ks (go st′ ks′)
   ends : {st′ : State} (r : Rests ks) → x ≡ finish (place-of x) → spell-all ks r ≡ x ∷ [] → store-all ks r st ≡ st′ → Leads x st ks (done st′)
   faults : Leads x st ks fault
 
@@ -122,9 +135,9 @@ pub record Turns (x : Lexeme) (a : State) (ks : List Symbol) (b : State) (js : L
   pub room : Room ks → Room js
 
 unfoldable pub turned : {x : Lexeme} {a b : State} {ks js : List Symbol} {f : Fed} → Turns x a ks b js → Leads x b js f → Leads x a ks f
-turned T (goes back s t g m) =
+turned T (goes back s t g m v) =
     goes (λ r. T .back (back r)) (λ r. T .spells (back r) ∙ s r) (λ r. T .stores (back r) (ap first-place (s r)) ∙ t r) g
-    (λ h. ⊎-elim (λ n. inl n) (λ o. inr (record { rests = T .back (o .rests); after = o .after; spells = T .spells (o .rests) ∙ o .spells })) (m (T .room h)))
+    (λ h. ⊎-elim (λ n. inl n) (λ o. inr (record { rests = T .back (o .0 .rests); after = o .0 .after; spells = T .spells (o .0 .rests) ∙ o .0 .spells }, o .1)) (m (T .room h))) v
 turned T (ends r q s t) = ends (T .back r) q (T .spells r ∙ s) (T .stores r (ap first-place s) ∙ t)
 turned T faults = faults
 
@@ -154,8 +167,8 @@ abbrev pub marking : Sight → (p i : ℕ) → State → List Symbol → ℕ →
 marking s p i st ks n = elim (eqb n 0) [ true ↦ feed s st ks | false ↦ go (insert 3 p i n (s .start) 0 0 0 st) ks ]
 
 -- taken as what it is
-unfoldable pub takes : {x y : Lexeme} {st st′ : State} {ks ks′ : List Symbol} → x ≡ y → (back : Rests ks′ → Rests ks) → ((r : Rests ks′) → spell-all ks (back r) ≡ y ∷ spell-all ks′ r) → ((r : Rests ks′) → store-all ks (back r) st ≡ store-all ks′ r st′) → Ground ks′ → (Room ks → Room ks′) → Leads x st ks (go st′ ks′)
-takes {ks′ = ks′} q back s t g m = goes back (λ r. s r ∙ ap (λ (z : Lexeme). z ∷ spell-all ks′ r) (sym q)) t g (λ h. inl (m h))
+unfoldable pub takes : {x y : Lexeme} {st st′ : State} {ks ks′ : List Symbol} → x ≡ y → (back : Rests ks′ → Rests ks) → ((r : Rests ks′) → spell-all ks (back r) ≡ y ∷ spell-all ks′ r) → ((r : Rests ks′) → store-all ks (back r) st ≡ store-all ks′ r st′) → Ground ks′ → (Room ks → Room ks′) → Going y → Leads x st ks (go st′ ks′)
+takes {ks′ = ks′} q back s t g m v = goes back (λ r. s r ∙ ap (λ (z : Lexeme). z ∷ spell-all ks′ r) (sym q)) t g (λ h. inl (m h)) (subst Going (sym q) v)
 
 -- ---- parts that are made of others, or of nothing
 
@@ -275,6 +288,11 @@ abbrev pub case-begun : (x : Lexeme) (st : State) (d p i : ℕ) (ks : List Symbo
 unfolding spell-primary spell-operand spell-factors spell-product spell-summands spell-calculation spell-item spell-set spell-counts spell-tests spell-mark spell spell-rules start-of-primary start-of-operand start-of-product store-primary store-operand store-factors store-product store-summands store-calculation store-item store-set store-counts store-tests start-of store-mark store stored spell-upper spell-reach spell-exception spell-excluded spell-choices spell-links spell-joined spell-marked spell-members spell-branches spell-character spell-field spell-cases spell-more-rules store-upper store-item-reach store-counts-reach store-exception store-excluded store-choices store-links store-joined store-marked store-members store-branches store-character store-fields store-cases store-more-rules
 case-begun x st d p i ks = record { back = λ r. (more-cases (cases-from (r .0) (r .1 .0 .0) (r .1 .0 .1) (r .1 .0 .2) (r .1 .1 .0)) (closing (r .1 .1 .0)), r .1 .1 .1); spells = λ r. cases-from-spells (r .0) (r .1 .0 .0) (r .1 .0 .1) (r .1 .0 .2) (r .1 .1 .0) (spell-all ks (r .1 .1 .1)); stores = λ r f. ap (store-all ks (r .1 .1 .1)) (cases-from-stores (r .0) (r .1 .0 .0) (r .1 .0 .1) (r .1 .0 .2) (r .1 .1 .0) p i st); room = λ m. m }
 
+-- `(` that is too deep cannot be taken
+pub too-deep : (ks : List Symbol) (d : ℕ) → ltb d 16 ≡ false → Stuck (Symbol.paren d ∷ ks)
+unfolding feed
+too-deep ks d l s st = rw (l, feed)
+
 -- ---- a token of a code
 
 module _ (x : Lexeme) (next : Bool) (c : ℕ) (e : code x next ≡ c) where
@@ -288,13 +306,13 @@ module _ (x : Lexeme) (next : Bool) (c : ℕ) (e : code x next ≡ c) where
   unfoldable pub primary-leads : (o : ℕ) (st : State) (ks : List Symbol) → Ground ks → Leads x st (Symbol.primary o ∷ ks) (primary-begins o (seen-with x c) st ks)
   unfolding primary-begins spell-primary spell-operand spell-factors spell-product spell-summands spell-calculation spell-item spell-set spell-counts spell-tests spell-mark spell spell-rules start-of-primary start-of-operand start-of-product store-primary store-operand store-factors store-product store-summands store-calculation store-item store-set store-counts store-tests start-of store-mark store stored spell-upper spell-reach spell-exception spell-excluded spell-choices spell-links spell-joined spell-marked spell-members spell-branches spell-character spell-field spell-cases spell-more-rules store-upper store-item-reach store-counts-reach store-exception store-excluded store-choices store-links store-joined store-marked store-members store-branches store-character store-fields store-cases store-more-rules
   primary-leads o st ks g =
-      by-test (eqb c 2) (λ t. takes (is-number x next c e t) (λ r. (number (number-in x), r)) (λ r. refl) (λ r. refl) g (λ m. m)) (λ u. 
-      by-test (name-like c) (λ n. takes (is-name x next c e n) (λ r. (variable (name-in x), r)) (λ r. refl) (λ r. refl) g (λ m. m)) (λ n. faults))
+      by-test (eqb c 2) (λ t. takes (is-number x next c e t) (λ r. (number (number-in x), r)) (λ r. refl) (λ r. refl) g (λ m. m) tt) (λ u. 
+      by-test (name-like c) (λ n. takes (is-name x next c e n) (λ r. (variable (name-in x), r)) (λ r. refl) (λ r. refl) g (λ m. m) tt) (λ n. faults))
 
   unfoldable pub operand-leads : (o : ℕ) (st : State) (ks : List Symbol) → Ground ks → Leads x st (Symbol.operand o ∷ ks) (operand-begins o (seen-with x c) st ks)
   unfolding operand-begins spell-primary spell-operand spell-factors spell-product spell-summands spell-calculation spell-item spell-set spell-counts spell-tests spell-mark spell spell-rules start-of-primary start-of-operand start-of-product store-primary store-operand store-factors store-product store-summands store-calculation store-item store-set store-counts store-tests start-of store-mark store stored spell-upper spell-reach spell-exception spell-excluded spell-choices spell-links spell-joined spell-marked spell-members spell-branches spell-character spell-field spell-cases spell-more-rules store-upper store-item-reach store-counts-reach store-exception store-excluded store-choices store-links store-joined store-marked store-members store-branches store-character store-fields store-cases store-more-rules
   operand-leads o st ks g =
-      by-test (eqb c 45) (λ t. takes (sign-is 45 refl t) (λ r. (opposite (sign-in x) (r .0), r .1 .1)) (λ r. refl) (λ r. refl) g (λ m. m)) (λ u. turned (no-minus x st o ks) (primary-leads o st ks g))
+      by-test (eqb c 45) (λ t. takes (sign-is 45 refl t) (λ r. (opposite (sign-in x) (r .0), r .1 .1)) (λ r. refl) (λ r. refl) g (λ m. m) tt) (λ u. turned (no-minus x st o ks) (primary-leads o st ks g))
 
   unfoldable pub calculation-leads : (st : State) (ks : List Symbol) → Ground ks → Leads x st (Symbol.calculation ∷ ks) (calculation-begins (seen-with x c) st ks)
   unfolding operand-begins
@@ -304,7 +322,7 @@ module _ (x : Lexeme) (next : Bool) (c : ℕ) (e : code x next ≡ c) where
   unfoldable pub item-leads : (st : State) (ks : List Symbol) → Ground ks → Leads x st (Symbol.item ∷ ks) (item-begins (seen-with x c) st ks)
   unfolding item-begins
   item-leads st ks g =
-      by-test (eqb c 126) (λ t. takes (sign-is 126 refl t) (λ r. (opened-item (sign-in x) (r .0), r .1)) (λ r. opened-item-spells (sign-in x) (r .0) (spell-all ks (r .1))) (λ r. ap (store-all ks (r .1)) (opened-item-stores (sign-in x) (r .0) st)) g (λ m. m)) (λ u. turned (item-begun x st ks) (calculation-leads st (Symbol.item-tail ∷ ks) g))
+      by-test (eqb c 126) (λ t. takes (sign-is 126 refl t) (λ r. (opened-item (sign-in x) (r .0), r .1)) (λ r. opened-item-spells (sign-in x) (r .0) (spell-all ks (r .1))) (λ r. ap (store-all ks (r .1)) (opened-item-stores (sign-in x) (r .0) st)) g (λ m. m) tt) (λ u. turned (item-begun x st ks) (calculation-leads st (Symbol.item-tail ∷ ks) g))
 
   unfoldable pub choice-leads : (d : ℕ) (st : State) (ks : List Symbol) → Ground ks → Leads x st (Symbol.alternative d ∷ ks) (item-begins (seen-with x c) st (Symbol.exception d ∷ ks))
   unfolding item-begins
@@ -319,7 +337,7 @@ module _ (x : Lexeme) (next : Bool) (c : ℕ) (e : code x next ≡ c) where
   unfoldable pub test-leads : (d : ℕ) (st : State) (ks : List Symbol) → Ground ks → Leads x st (Symbol.test d ∷ ks) (test-begins d (seen-with x c) st ks)
   unfolding test-begins spell-primary spell-operand spell-factors spell-product spell-summands spell-calculation spell-item spell-set spell-counts spell-tests spell-mark spell spell-rules start-of-primary start-of-operand start-of-product store-primary store-operand store-factors store-product store-summands store-calculation store-item store-set store-counts store-tests start-of store-mark store stored spell-upper spell-reach spell-exception spell-excluded spell-choices spell-links spell-joined spell-marked spell-members spell-branches spell-character spell-field spell-cases spell-more-rules store-upper store-item-reach store-counts-reach store-exception store-excluded store-choices store-links store-joined store-marked store-members store-branches store-character store-fields store-cases store-more-rules
   test-leads d st ks g =
-      by-test (eqb c 40) (λ t. by-cond (ltb d 16) (λ l. takes (sign-is 40 refl t) (λ r. (test-group (ltb-true d 16 l) (sign-in x) (r .0) (r .1 .0), r .1 .1)) (λ r. refl) (λ r. refl) (refl, g) (λ m. m)) (λ l. faults)) (λ u. turned (compared x st d ks) (calculation-leads st (Symbol.comparison ∷ ks) g))
+      by-test (eqb c 40) (λ t. by-cond (ltb d 16) (λ l. takes (sign-is 40 refl t) (λ r. (test-group (ltb-true d 16 l) (sign-in x) (r .0) (r .1 .0), r .1 .1)) (λ r. refl) (λ r. refl) (refl, g) (λ m. m) tt) (λ l. faults)) (λ u. turned (compared x st d ks) (calculation-leads st (Symbol.comparison ∷ ks) g))
 
   unfoldable pub condition-leads : (d : ℕ) (st : State) (ks : List Symbol) → Ground ks → Leads x st (Symbol.condition d ∷ ks) (test-begins d (seen-with x c) st (Symbol.joined d ∷ ks))
   unfolding test-begins
@@ -339,7 +357,7 @@ module _ (x : Lexeme) (next : Bool) (c : ℕ) (e : code x next ≡ c) where
       goes {ks′ = Symbol.paren d ∷ Symbol.width (d + 1) (place-of x) ∷ ks} (λ r. (field-from (r .0 .0) (sign-in x) (r .0 .1) (r .1 .0 .0) (r .1 .0 .1) (r .1 .0 .2), r .1 .1))
       (λ r. field-from-spells (r .0 .0) (sign-in x) (r .0 .1) (r .1 .0 .0) (r .1 .0 .1) (r .1 .0 .2) (spell-all ks (r .1 .1)) ∙ ap (λ (z : Lexeme). z ∷ sign Kind.OpenParen (r .0 .1) ∷ numeral (r .1 .0 .0) ∷ sign Kind.Comma (r .1 .0 .1) ∷ spell-field (r .1 .0 .2) (spell-all ks (r .1 .1))) (sym (is-uint x next c e t)))
       (λ r. ap (store-all ks (r .1 .1)) (field-from-stores (r .0 .0) (sign-in x) (r .0 .1) (r .1 .0 .0) (r .1 .0 .1) (r .1 .0 .2) st))
-      g (λ m. ⊎-elim (λ l. inl (ltb-true d 16 l, m)) (λ l. inr (use-instead d ks g t m)) (which (ltb d 16)))
+      g (λ m. ⊎-elim (λ l. inl (ltb-true d 16 l, m)) (λ l. inr (use-instead d ks g t m, too-deep (Symbol.width (d + 1) (place-of x) ∷ ks) d l)) (which (ltb d 16))) (subst Going (sym (is-uint x next c e t)) tt)
 
   unfoldable pub switch-leads : (d : ℕ) (st : State) (ks : List Symbol) → Ground ks → eqb c 91 ≡ true → d < 16 → Leads x st (Symbol.atom d ∷ ks) (go st (Symbol.condition (d + 1) ∷ Symbol.colon (d + 1) (terms-of st) ∷ Symbol.cases (d + 1) (place-of x) (nodes-of st) ∷ ks))
   unfolding spell-primary spell-operand spell-factors spell-product spell-summands spell-calculation spell-item spell-set spell-counts spell-tests spell-mark spell spell-rules start-of-primary start-of-operand start-of-product store-primary store-operand store-factors store-product store-summands store-calculation store-item store-set store-counts store-tests start-of store-mark store stored spell-upper spell-reach spell-exception spell-excluded spell-choices spell-links spell-joined spell-marked spell-members spell-branches spell-character spell-field spell-cases spell-more-rules store-upper store-item-reach store-counts-reach store-exception store-excluded store-choices store-links store-joined store-marked store-members store-branches store-character store-fields store-cases store-more-rules
@@ -347,17 +365,17 @@ module _ (x : Lexeme) (next : Bool) (c : ℕ) (e : code x next ≡ c) where
       takes (sign-is 91 refl t) (λ r. (switch l (sign-in x) (cases-from (r .0) (r .1 .0 .0) (r .1 .0 .1) (r .1 .0 .2) (r .1 .1 .0)) (closing (r .1 .1 .0)), r .1 .1 .1))
       (λ r. ap (λ (v : List Lexeme). sign Kind.OpenBracket (sign-in x) ∷ v) (cases-from-spells (r .0) (r .1 .0 .0) (r .1 .0 .1) (r .1 .0 .2) (r .1 .1 .0) (spell-all ks (r .1 .1 .1))))
       (λ r. ap (store-all ks (r .1 .1 .1)) (cases-from-stores (r .0) (r .1 .0 .0) (r .1 .0 .1) (r .1 .0 .2) (r .1 .1 .0) (place-of x) (nodes-of st) st))
-      g (λ m. m)
+      g (λ m. m) tt
 
   unfoldable pub atom-leads : (d : ℕ) (st : State) (ks : List Symbol) → Ground ks → Leads x st (Symbol.atom d ∷ ks) (atom-begins d (seen-with x c) st ks)
   unfolding atom-begins spell-primary spell-operand spell-factors spell-product spell-summands spell-calculation spell-item spell-set spell-counts spell-tests spell-mark spell spell-rules start-of-primary start-of-operand start-of-product store-primary store-operand store-factors store-product store-summands store-calculation store-item store-set store-counts store-tests start-of store-mark store stored spell-upper spell-reach spell-exception spell-excluded spell-choices spell-links spell-joined spell-marked spell-members spell-branches spell-character spell-field spell-cases spell-more-rules store-upper store-item-reach store-counts-reach store-exception store-excluded store-choices store-links store-joined store-marked store-members store-branches store-character store-fields store-cases store-more-rules
   atom-leads d st ks g =
-      by-cond (eqb c 3) (λ t. takes (is-literal x next c e t) (λ r. (literal (literal-in x), r)) (λ r. refl) (λ r. refl) g (λ m. m))
-      (λ u0. by-cond (eqb c 9) (λ t. takes (is-character x next c e t) (λ r. (character-from (literal-in x) (is-single x next c e t) (r .0), r .1)) (λ r. character-from-spells d (literal-in x) (is-single x next c e t) (r .0) (spell-all ks (r .1))) (λ r. ap (store-all ks (r .1)) (character-from-stores d (literal-in x) (is-single x next c e t) (r .0) st)) g (λ m. m))
+      by-cond (eqb c 3) (λ t. takes (is-literal x next c e t) (λ r. (literal (literal-in x), r)) (λ r. refl) (λ r. refl) g (λ m. m) tt)
+      (λ u0. by-cond (eqb c 9) (λ t. takes (is-character x next c e t) (λ r. (character-from (literal-in x) (is-single x next c e t) (r .0), r .1)) (λ r. character-from-spells d (literal-in x) (is-single x next c e t) (r .0) (spell-all ks (r .1))) (λ r. ap (store-all ks (r .1)) (character-from-stores d (literal-in x) (is-single x next c e t) (r .0) st)) g (λ m. m) tt)
       (λ u1. by-cond (eqb c 6) (λ t. field-leads d st ks g t)
-      (λ u2. by-cond (eqb c 7) (λ t. takes (is-eod x next c e t) (λ r. (eod (sign-in x), r)) (λ r. refl) (λ r. refl) g (λ m. m))
-      (λ u3. by-cond (name-like c) (λ t. takes (is-name x next c e t) (λ r. (rule-use (name-in x) (is-other x next c e t u3), r)) (λ r. refl) (λ r. refl) g (λ m. m))
-      (λ u4. by-cond (eqb c 40) (λ t. by-cond (ltb d 16) (λ l. takes (sign-is 40 refl t) (λ r. (group (ltb-true d 16 l) (sign-in x) (r .0) (r .1 .0), r .1 .1)) (λ r. refl) (λ r. refl) (refl, g) (λ m. m)) (λ l. faults))
+      (λ u2. by-cond (eqb c 7) (λ t. takes (is-eod x next c e t) (λ r. (eod (sign-in x), r)) (λ r. refl) (λ r. refl) g (λ m. m) tt)
+      (λ u3. by-cond (name-like c) (λ t. takes (is-name x next c e t) (λ r. (rule-use (name-in x) (is-other x next c e t u3), r)) (λ r. refl) (λ r. refl) g (λ m. m) tt)
+      (λ u4. by-cond (eqb c 40) (λ t. by-cond (ltb d 16) (λ l. takes (sign-is 40 refl t) (λ r. (group (ltb-true d 16 l) (sign-in x) (r .0) (r .1 .0), r .1 .1)) (λ r. refl) (λ r. refl) (refl, g) (λ m. m) tt) (λ l. faults))
       (λ u5. by-cond (eqb c 91) (λ t. by-cond (ltb d 16) (λ l. switch-leads d st ks g t (ltb-true d 16 l)) (λ l. faults))
       (λ u6. faults)))))))
 
@@ -375,26 +393,26 @@ module _ (x : Lexeme) (next : Bool) (c : ℕ) (e : code x next ≡ c) where
   unfoldable pub summand-leads : (o : ℕ) (st : State) (ks : List Symbol) → Ground ks → Leads x st ks (feed (seen-with x c) st ks) → Leads x st (Symbol.summands o ∷ ks) (feed (seen-with x c) st (Symbol.summands o ∷ ks))
   unfolding feed spell-primary spell-operand spell-factors spell-product spell-summands spell-calculation spell-item spell-set spell-counts spell-tests spell-mark spell spell-rules start-of-primary start-of-operand start-of-product store-primary store-operand store-factors store-product store-summands store-calculation store-item store-set store-counts store-tests start-of store-mark store stored spell-upper spell-reach spell-exception spell-excluded spell-choices spell-links spell-joined spell-marked spell-members spell-branches spell-character spell-field spell-cases spell-more-rules store-upper store-item-reach store-counts-reach store-exception store-excluded store-choices store-links store-joined store-marked store-members store-branches store-character store-fields store-cases store-more-rules
   summand-leads o st ks g h =
-      by-tag (summing (seen-with x c) st o ks) (eqb c 43) (λ t. takes (sign-is 43 refl t) (λ r. (plus (sign-in x) (product (r .0) (r .1 .0)) (r .1 .1 .1 .0), r .1 .1 .1 .1)) (λ r. refl) (λ r. refl) g (λ m. m))
-      (λ u. by-tag (summing (seen-with x c) st o ks) (eqb c 45) (λ t. takes (sign-is 45 refl t) (λ r. (minus (sign-in x) (product (r .0) (r .1 .0)) (r .1 .1 .1 .0), r .1 .1 .1 .1)) (λ r. refl) (λ r. refl) g (λ m. m)) (λ v. turned (summands-end x st o ks) h))
+      by-tag (summing (seen-with x c) st o ks) (eqb c 43) (λ t. takes (sign-is 43 refl t) (λ r. (plus (sign-in x) (product (r .0) (r .1 .0)) (r .1 .1 .1 .0), r .1 .1 .1 .1)) (λ r. refl) (λ r. refl) g (λ m. m) tt)
+      (λ u. by-tag (summing (seen-with x c) st o ks) (eqb c 45) (λ t. takes (sign-is 45 refl t) (λ r. (minus (sign-in x) (product (r .0) (r .1 .0)) (r .1 .1 .1 .0), r .1 .1 .1 .1)) (λ r. refl) (λ r. refl) g (λ m. m) tt) (λ v. turned (summands-end x st o ks) h))
 
   unfoldable pub comparison-leads : (st : State) (ks : List Symbol) → Ground ks → Leads x st (Symbol.comparison ∷ ks) (feed (seen-with x c) st (Symbol.comparison ∷ ks))
   unfolding feed spell-primary spell-operand spell-factors spell-product spell-summands spell-calculation spell-item spell-set spell-counts spell-tests spell-mark spell spell-rules start-of-primary start-of-operand start-of-product store-primary store-operand store-factors store-product store-summands store-calculation store-item store-set store-counts store-tests start-of store-mark store stored spell-upper spell-reach spell-exception spell-excluded spell-choices spell-links spell-joined spell-marked spell-members spell-branches spell-character spell-field spell-cases spell-more-rules store-upper store-item-reach store-counts-reach store-exception store-excluded store-choices store-links store-joined store-marked store-members store-branches store-character store-fields store-cases store-more-rules
   comparison-leads st ks g =
-      by-tag (comparing (seen-with x c) st ks) (eqb c 61) (λ t. takes (sign-is 61 refl t) (λ r. ((equal, sign-in x, r .0), r .1 .1)) (λ r. refl) (λ r. refl) g (λ m. m))
-      (λ u61. by-tag (comparing (seen-with x c) st ks) (eqb c 161) (λ t. takes (sign-is 161 refl t) (λ r. ((unequal, sign-in x, r .0), r .1 .1)) (λ r. refl) (λ r. refl) g (λ m. m))
-      (λ u161. by-tag (comparing (seen-with x c) st ks) (eqb c 60) (λ t. takes (sign-is 60 refl t) (λ r. ((less, sign-in x, r .0), r .1 .1)) (λ r. refl) (λ r. refl) g (λ m. m))
-      (λ u60. by-tag (comparing (seen-with x c) st ks) (eqb c 188) (λ t. takes (sign-is 188 refl t) (λ r. ((at-most-as, sign-in x, r .0), r .1 .1)) (λ r. refl) (λ r. refl) g (λ m. m))
-      (λ u188. by-tag (comparing (seen-with x c) st ks) (eqb c 62) (λ t. takes (sign-is 62 refl t) (λ r. ((greater, sign-in x, r .0), r .1 .1)) (λ r. refl) (λ r. refl) g (λ m. m))
-      (λ u62. by-tag (comparing (seen-with x c) st ks) (eqb c 190) (λ t. takes (sign-is 190 refl t) (λ r. ((at-least-as, sign-in x, r .0), r .1 .1)) (λ r. refl) (λ r. refl) g (λ m. m))
+      by-tag (comparing (seen-with x c) st ks) (eqb c 61) (λ t. takes (sign-is 61 refl t) (λ r. ((equal, sign-in x, r .0), r .1 .1)) (λ r. refl) (λ r. refl) g (λ m. m) tt)
+      (λ u61. by-tag (comparing (seen-with x c) st ks) (eqb c 161) (λ t. takes (sign-is 161 refl t) (λ r. ((unequal, sign-in x, r .0), r .1 .1)) (λ r. refl) (λ r. refl) g (λ m. m) tt)
+      (λ u161. by-tag (comparing (seen-with x c) st ks) (eqb c 60) (λ t. takes (sign-is 60 refl t) (λ r. ((less, sign-in x, r .0), r .1 .1)) (λ r. refl) (λ r. refl) g (λ m. m) tt)
+      (λ u60. by-tag (comparing (seen-with x c) st ks) (eqb c 188) (λ t. takes (sign-is 188 refl t) (λ r. ((at-most-as, sign-in x, r .0), r .1 .1)) (λ r. refl) (λ r. refl) g (λ m. m) tt)
+      (λ u188. by-tag (comparing (seen-with x c) st ks) (eqb c 62) (λ t. takes (sign-is 62 refl t) (λ r. ((greater, sign-in x, r .0), r .1 .1)) (λ r. refl) (λ r. refl) g (λ m. m) tt)
+      (λ u62. by-tag (comparing (seen-with x c) st ks) (eqb c 190) (λ t. takes (sign-is 190 refl t) (λ r. ((at-least-as, sign-in x, r .0), r .1 .1)) (λ r. refl) (λ r. refl) g (λ m. m) tt)
       (λ u190. faults))))))
 
   unfoldable pub mark-leads : (p i : ℕ) (st : State) (ks : List Symbol) → Ground ks → Leads x st ks (feed (seen-with x c) st ks) → Leads x st (Symbol.marked p i ∷ ks) (elim (eqb (mark-of c) 0) [ true ↦ feed (seen-with x c) st ks | false ↦ go (insert 3 p i (mark-of c) (place-of x) 0 0 0 st) ks ])
   unfolding spell-primary spell-operand spell-factors spell-product spell-summands spell-calculation spell-item spell-set spell-counts spell-tests spell-mark spell spell-rules start-of-primary start-of-operand start-of-product store-primary store-operand store-factors store-product store-summands store-calculation store-item store-set store-counts store-tests start-of store-mark store stored spell-upper spell-reach spell-exception spell-excluded spell-choices spell-links spell-joined spell-marked spell-members spell-branches spell-character spell-field spell-cases spell-more-rules store-upper store-item-reach store-counts-reach store-exception store-excluded store-choices store-links store-joined store-marked store-members store-branches store-character store-fields store-cases store-more-rules
   mark-leads p i st ks g h =
-      by-tag (marking (seen-with x c) p i st ks) (eqb c 63) (λ t. takes (sign-is 63 refl t) (λ r. (a-mark (optional (sign-in x)), r)) (λ r. refl) (λ r. refl) g (λ m. m))
-      (λ u63. by-tag (marking (seen-with x c) p i st ks) (eqb c 42) (λ t. takes (sign-is 42 refl t) (λ r. (a-mark (any-number (sign-in x)), r)) (λ r. refl) (λ r. refl) g (λ m. m))
-      (λ u42. by-tag (marking (seen-with x c) p i st ks) (eqb c 43) (λ t. takes (sign-is 43 refl t) (λ r. (a-mark (one-or-more (sign-in x)), r)) (λ r. refl) (λ r. refl) g (λ m. m))
+      by-tag (marking (seen-with x c) p i st ks) (eqb c 63) (λ t. takes (sign-is 63 refl t) (λ r. (a-mark (optional (sign-in x)), r)) (λ r. refl) (λ r. refl) g (λ m. m) tt)
+      (λ u63. by-tag (marking (seen-with x c) p i st ks) (eqb c 42) (λ t. takes (sign-is 42 refl t) (λ r. (a-mark (any-number (sign-in x)), r)) (λ r. refl) (λ r. refl) g (λ m. m) tt)
+      (λ u42. by-tag (marking (seen-with x c) p i st ks) (eqb c 43) (λ t. takes (sign-is 43 refl t) (λ r. (a-mark (one-or-more (sign-in x)), r)) (λ r. refl) (λ r. refl) g (λ m. m) tt)
       (λ u43. turned (mark-end x st p i ks) h)))
 
   -- `var` where nothing can be opened is a variable by itself
@@ -409,7 +427,7 @@ module _ (x : Lexeme) (next : Bool) (c : ℕ) (e : code x next ≡ c) where
   binder-leads d p v st ks g t =
       goes {ks′ = Symbol.paren d ∷ Symbol.bound-name (d + 1) p v ∷ ks} (λ r. (bound-set (r .0 .0) (sign-in x) (r .0 .1) (r .1 .0 .0) (r .1 .0 .1) (r .1 .0 .2) (r .1 .0 .3) (r .1 .0 .4), r .1 .1))
       (λ r. ap (λ (z : Lexeme). z ∷ spell-all (Symbol.paren d ∷ Symbol.bound-name (d + 1) p v ∷ ks) r) (sym (is-var x next c e t)))
-      (λ r. refl) g (λ m. ⊎-elim (λ l. inl (ltb-true d 16 l, m)) (λ l. inr (variable-instead d p v ks g t m)) (which (ltb d 16)))
+      (λ r. refl) g (λ m. ⊎-elim (λ l. inl (ltb-true d 16 l, m)) (λ l. inr (variable-instead d p v ks g t m, too-deep (Symbol.bound-name (d + 1) p v ∷ ks) d l)) (which (ltb d 16))) (subst Going (sym (is-var x next c e t)) tt)
 
   unfoldable pub end-leads : (any : Bool) (st : State) → any ≡ true → eqb c 5 ≡ true → Leads x st (Symbol.rules any ∷ []) (done st)
   unfolding spell-primary spell-operand spell-factors spell-product spell-summands spell-calculation spell-item spell-set spell-counts spell-tests spell-mark spell spell-rules start-of-primary start-of-operand start-of-product store-primary store-operand store-factors store-product store-summands store-calculation store-item store-set store-counts store-tests start-of store-mark store stored spell-upper spell-reach spell-exception spell-excluded spell-choices spell-links spell-joined spell-marked spell-members spell-branches spell-character spell-field spell-cases spell-more-rules store-upper store-item-reach store-counts-reach store-exception store-excluded store-choices store-links store-joined store-marked store-members store-branches store-character store-fields store-cases store-more-rules
@@ -419,47 +437,47 @@ module _ (x : Lexeme) (next : Bool) (c : ℕ) (e : code x next ≡ c) where
   unfoldable pub fed : (st : State) (ks : List Symbol) → Ground ks → Leads x st ks (feed (seen-with x c) st ks)
   unfolding feed spell-primary spell-operand spell-factors spell-product spell-summands spell-calculation spell-item spell-set spell-counts spell-tests spell-mark spell spell-rules start-of-primary start-of-operand start-of-product store-primary store-operand store-factors store-product store-summands store-calculation store-item store-set store-counts store-tests start-of store-mark store stored spell-upper spell-reach spell-exception spell-excluded spell-choices spell-links spell-joined spell-marked spell-members spell-branches spell-character spell-field spell-cases spell-more-rules store-upper store-item-reach store-counts-reach store-exception store-excluded store-choices store-links store-joined store-marked store-members store-branches store-character store-fields store-cases store-more-rules
   fed st [] g = faults
-  fed st (Symbol.want k ∷ ks) g = by-test (eqb c k) (λ t. takes (sign-is k (g .0) t) (λ r. (sign-in x, r)) (λ r. refl) (λ r. refl) (g .1) (λ m. m)) (λ u. faults)
+  fed st (Symbol.want k ∷ ks) g = by-test (eqb c k) (λ t. takes (sign-is k (g .0) t) (λ r. (sign-in x, r)) (λ r. refl) (λ r. refl) (g .1) (λ m. m) tt) (λ u. faults)
   fed st (Symbol.sign tag p o ∷ ks) g = turned (signed x st tag p o ks) (fed _ ks g)
-  fed st (Symbol.paren d ∷ ks) g = by-test (ltb d 16) (λ l. by-test (eqb c 40) (λ t. takes (sign-is 40 refl t) (λ r. ((ltb-true d 16 l, sign-in x), r)) (λ r. refl) (λ r. refl) g (λ m. m .1)) (λ u. faults)) (λ l. faults)
+  fed st (Symbol.paren d ∷ ks) g = by-test (ltb d 16) (λ l. by-test (eqb c 40) (λ t. takes (sign-is 40 refl t) (λ r. ((ltb-true d 16 l, sign-in x), r)) (λ r. refl) (λ r. refl) g (λ m. m .1) tt) (λ u. faults)) (λ l. faults)
   fed st (Symbol.primary o ∷ ks) g = primary-leads o st ks g
   fed st (Symbol.operand o ∷ ks) g = operand-leads o st ks g
-  fed st (Symbol.factors o ∷ ks) g = by-test (eqb c 42) (λ t. takes (sign-is 42 refl t) (λ r. (times (sign-in x) (r .0) (r .1 .1 .0), r .1 .1 .1)) (λ r. refl) (λ r. refl) g (λ m. m)) (λ u. turned (factors-end x st o ks) (fed st ks g))
+  fed st (Symbol.factors o ∷ ks) g = by-test (eqb c 42) (λ t. takes (sign-is 42 refl t) (λ r. (times (sign-in x) (r .0) (r .1 .1 .0), r .1 .1 .1)) (λ r. refl) (λ r. refl) g (λ m. m) tt) (λ u. turned (factors-end x st o ks) (fed st ks g))
   fed st (Symbol.summands o ∷ ks) g = summand-leads o st ks g (fed st ks g)
   fed st (Symbol.calculation ∷ ks) g = calculation-leads st ks g
   fed st (Symbol.item ∷ ks) g = item-leads st ks g
-  fed st (Symbol.item-tail ∷ ks) g = by-test (eqb c 126) (λ t. takes (sign-is 126 refl t) (λ r. (reaches (sign-in x) (r .0), r .1)) (λ r. refl) (λ r. refl) g (λ m. m)) (λ u. turned (item-end x st ks) (fed _ ks g))
+  fed st (Symbol.item-tail ∷ ks) g = by-test (eqb c 126) (λ t. takes (sign-is 126 refl t) (λ r. (reaches (sign-in x) (r .0), r .1)) (λ r. refl) (λ r. refl) g (λ m. m) tt) (λ u. turned (item-end x st ks) (fed _ ks g))
   fed st (Symbol.bound some none p ∷ ks) g = by-test (begins (seen-with x c)) (λ t. turned (upper x st some none p ks) (calculation-leads st (Symbol.sign some p 0 ∷ ks) g)) (λ u. turned (upper-end x st some none p ks) (fed _ ks g))
-  fed st (Symbol.exception d ∷ ks) g = by-test (eqb c 33) (λ t. takes (sign-is 33 refl t) (λ r. (excepted (sign-in x) (r .0), r .1 .1)) (λ r. excepted-spells (sign-in x) (r .0) (spell-all ks (r .1 .1))) (λ r. ap (store-all ks (r .1 .1)) (excepted-stores (sign-in x) (r .0) st)) g (λ m. m)) (λ u. turned (exception-end x st d ks) (fed st ks g))
-  fed st (Symbol.excluded d ∷ ks) g = by-test (eqb c 40) (λ t. by-cond (ltb d 16) (λ l. takes (sign-is 40 refl t) (λ r. (excluded-set (ltb-true d 16 l) (sign-in x) (r .0) (r .1 .0), r .1 .1)) (λ r. refl) (λ r. refl) (refl, g) (λ m. m)) (λ l. faults)) (λ u. turned (excluded-one x st d ks) (item-leads st ks g))
+  fed st (Symbol.exception d ∷ ks) g = by-test (eqb c 33) (λ t. takes (sign-is 33 refl t) (λ r. (excepted (sign-in x) (r .0), r .1 .1)) (λ r. excepted-spells (sign-in x) (r .0) (spell-all ks (r .1 .1))) (λ r. ap (store-all ks (r .1 .1)) (excepted-stores (sign-in x) (r .0) st)) g (λ m. m) tt) (λ u. turned (exception-end x st d ks) (fed st ks g))
+  fed st (Symbol.excluded d ∷ ks) g = by-test (eqb c 40) (λ t. by-cond (ltb d 16) (λ l. takes (sign-is 40 refl t) (λ r. (excluded-set (ltb-true d 16 l) (sign-in x) (r .0) (r .1 .0), r .1 .1)) (λ r. refl) (λ r. refl) (refl, g) (λ m. m) tt) (λ l. faults)) (λ u. turned (excluded-one x st d ks) (item-leads st ks g))
   fed st (Symbol.alternative d ∷ ks) g = choice-leads d st ks g
-  fed st (Symbol.alternatives d ∷ ks) g = by-test (eqb c 124) (λ t. takes (sign-is 124 refl t) (λ r. (more-choices (sign-in x) (chosen (r .0) (r .1 .1 .0)), r .1 .1 .1)) (λ r. ap (λ (v : List Lexeme). sign Kind.Bar (sign-in x) ∷ v) (chosen-spells (r .0) (r .1 .1 .0) (spell-all ks (r .1 .1 .1)))) (λ r. ap (store-all ks (r .1 .1 .1)) (chosen-stores (r .0) (r .1 .1 .0) (add 11 0 (place-of x) 0) st)) g (λ m. m)) (λ u. turned (choices-end x st d ks) (fed st ks g))
+  fed st (Symbol.alternatives d ∷ ks) g = by-test (eqb c 124) (λ t. takes (sign-is 124 refl t) (λ r. (more-choices (sign-in x) (chosen (r .0) (r .1 .1 .0)), r .1 .1 .1)) (λ r. ap (λ (v : List Lexeme). sign Kind.Bar (sign-in x) ∷ v) (chosen-spells (r .0) (r .1 .1 .0) (spell-all ks (r .1 .1 .1)))) (λ r. ap (store-all ks (r .1 .1 .1)) (chosen-stores (r .0) (r .1 .1 .0) (add 11 0 (place-of x) 0) st)) g (λ m. m) tt) (λ u. turned (choices-end x st d ks) (fed st ks g))
   fed st (Symbol.value-set d ∷ ks) g = set-leads d st ks g
-  fed st (Symbol.counts ∷ ks) g = by-test (eqb c 126) (λ t. takes (sign-is 126 refl t) (λ r. (at-most (sign-in x) (r .0), r .1 .1)) (λ r. refl) (λ r. refl) g (λ m. m)) (λ u. turned (counts-begun x st ks) (calculation-leads st (Symbol.counts-tail ∷ ks) g))
-  fed st (Symbol.counts-tail ∷ ks) g = by-test (eqb c 126) (λ t. takes (sign-is 126 refl t) (λ r. (reaches (sign-in x) (r .0), r .1)) (λ r. refl) (λ r. refl) g (λ m. m)) (λ u. turned (counts-tail-end x st ks) (fed st ks g))
+  fed st (Symbol.counts ∷ ks) g = by-test (eqb c 126) (λ t. takes (sign-is 126 refl t) (λ r. (at-most (sign-in x) (r .0), r .1 .1)) (λ r. refl) (λ r. refl) g (λ m. m) tt) (λ u. turned (counts-begun x st ks) (calculation-leads st (Symbol.counts-tail ∷ ks) g))
+  fed st (Symbol.counts-tail ∷ ks) g = by-test (eqb c 126) (λ t. takes (sign-is 126 refl t) (λ r. (reaches (sign-in x) (r .0), r .1)) (λ r. refl) (λ r. refl) g (λ m. m) tt) (λ u. turned (counts-tail-end x st ks) (fed st ks g))
   fed st (Symbol.test d ∷ ks) g = test-leads d st ks g
   fed st (Symbol.comparison ∷ ks) g = comparison-leads st ks g
   fed st (Symbol.condition d ∷ ks) g = condition-leads d st ks g
-  fed st (Symbol.joined d ∷ ks) g = by-test (eqb c 38) (λ t. takes (sign-is 38 refl t) (λ r. (by-and (sign-in x) (all-from (r .0) (r .1 .1 .0)), r .1 .1 .1)) (λ r. ap (λ (v : List Lexeme). sign Kind.Ampersand (sign-in x) ∷ v) (all-from-spells (r .0) (r .1 .1 .0) (spell-all ks (r .1 .1 .1)))) (λ r. ap (store-all ks (r .1 .1 .1)) (all-from-stores (r .0) (r .1 .1 .0) (add 13 0 (place-of x) 0) st)) (refl, g) (λ m. m)) (λ u. by-test (eqb c 124) (λ t. takes (sign-is 124 refl t) (λ r. (by-or (sign-in x) (any-from (r .0) (r .1 .1 .0)), r .1 .1 .1)) (λ r. ap (λ (v : List Lexeme). sign Kind.Bar (sign-in x) ∷ v) (any-from-spells (r .0) (r .1 .1 .0) (spell-all ks (r .1 .1 .1)))) (λ r. ap (store-all ks (r .1 .1 .1)) (any-from-stores (r .0) (r .1 .1 .0) (add 11 0 (place-of x) 0) st)) (refl, g) (λ m. m)) (λ v. turned (joined-end x st d ks) (fed st ks g)))
-  fed st (Symbol.chain k tag d ∷ ks) g = by-test (eqb c k) (λ t. takes (sign-is k (g .0) t) (λ r. (link (sign-in x) (r .0) (r .1 .1 .0), r .1 .1 .1)) (λ r. refl) (λ r. refl) g (λ m. m)) (λ u. turned (chain-end x st k tag d ks) (fed st ks (g .1)))
+  fed st (Symbol.joined d ∷ ks) g = by-test (eqb c 38) (λ t. takes (sign-is 38 refl t) (λ r. (by-and (sign-in x) (all-from (r .0) (r .1 .1 .0)), r .1 .1 .1)) (λ r. ap (λ (v : List Lexeme). sign Kind.Ampersand (sign-in x) ∷ v) (all-from-spells (r .0) (r .1 .1 .0) (spell-all ks (r .1 .1 .1)))) (λ r. ap (store-all ks (r .1 .1 .1)) (all-from-stores (r .0) (r .1 .1 .0) (add 13 0 (place-of x) 0) st)) (refl, g) (λ m. m) tt) (λ u. by-test (eqb c 124) (λ t. takes (sign-is 124 refl t) (λ r. (by-or (sign-in x) (any-from (r .0) (r .1 .1 .0)), r .1 .1 .1)) (λ r. ap (λ (v : List Lexeme). sign Kind.Bar (sign-in x) ∷ v) (any-from-spells (r .0) (r .1 .1 .0) (spell-all ks (r .1 .1 .1)))) (λ r. ap (store-all ks (r .1 .1 .1)) (any-from-stores (r .0) (r .1 .1 .0) (add 11 0 (place-of x) 0) st)) (refl, g) (λ m. m) tt) (λ v. turned (joined-end x st d ks) (fed st ks g)))
+  fed st (Symbol.chain k tag d ∷ ks) g = by-test (eqb c k) (λ t. takes (sign-is k (g .0) t) (λ r. (link (sign-in x) (r .0) (r .1 .1 .0), r .1 .1 .1)) (λ r. refl) (λ r. refl) g (λ m. m) tt) (λ u. turned (chain-end x st k tag d ks) (fed st ks (g .1)))
   fed st (Symbol.atom d ∷ ks) g = atom-leads d st ks g
   fed st (Symbol.factor d ∷ ks) g = factor-leads d st ks g
   fed st (Symbol.concatenation d ∷ ks) g = concatenation-leads d st ks g
   fed st (Symbol.expression d ∷ ks) g = turned (expression-begun x st d ks) (concatenation-leads d st (Symbol.branches d (place-of x) (nodes-of st) false ∷ ks) g)
-  fed st (Symbol.marked p i ∷ ks) g = by-test (eqb c 123) (λ t. takes (sign-is 123 refl t) (λ r. (a-mark (counted (sign-in x) (r .0) (r .1 .0)), r .1 .1)) (λ r. refl) (λ r. refl) g (λ m. m)) (λ u. mark-leads p i st ks g (fed st ks g))
-  fed st (Symbol.counts-end p i mark f ∷ ks) g = by-test (eqb c 125) (λ t. takes (sign-is 125 refl t) (λ r. (sign-in x, r)) (λ r. refl) (λ r. refl) g (λ m. m)) (λ u. faults)
-  fed st (Symbol.members d p i many ∷ ks) g = by-test (eqb c 38) (λ t. takes (sign-is 38 refl t) (λ r. (more-members (sign-in x) (members-from (r .0) (r .1 .0)), r .1 .1)) (λ r. ap (λ (v : List Lexeme). sign Kind.Ampersand (sign-in x) ∷ v) (members-from-spells (r .0) (r .1 .0) (spell-all ks (r .1 .1)))) (λ r. ap (store-all ks (r .1 .1)) (members-from-on (r .0) (r .1 .0) p i st)) g (λ m. m)) (λ u. turned (members-end x st d p i many ks) (fed _ ks g))
-  fed st (Symbol.branches d p i many ∷ ks) g = by-test (eqb c 124) (λ t. takes (sign-is 124 refl t) (λ r. (more-branches (sign-in x) (branches-from (r .0) (r .1 .0)), r .1 .1)) (λ r. ap (λ (v : List Lexeme). sign Kind.Bar (sign-in x) ∷ v) (branches-from-spells (r .0) (r .1 .0) (spell-all ks (r .1 .1)))) (λ r. ap (store-all ks (r .1 .1)) (branches-from-on (r .0) (r .1 .0) p i st)) g (λ m. m)) (λ u. turned (branches-end x st d p i many ks) (fed _ ks g))
-  fed st (Symbol.character-tail p ∷ ks) g = by-test (eqb c 126) (λ t. takes (sign-is 126 refl t) (λ r. (to-character (sign-in x) (r .0 .0) (r .0 .1), r .1)) (λ r. refl) (λ r. refl) g (λ m. m)) (λ u. turned (character-end x st p ks) (fed _ ks g))
-  fed st (Symbol.last-character p ∷ ks) g = by-test (eqb c 9) (λ t. takes (is-character x next c e t) (λ r. ((literal-in x, is-single x next c e t), r)) (λ r. refl) (λ r. refl) g (λ m. m)) (λ u. faults)
-  fed st (Symbol.width d p ∷ ks) g = by-test (eqb c 2) (λ t. takes (is-number x next c e t) (λ r. ((number-in x, r .0, r .1 .0), r .1 .1)) (λ r. refl) (λ r. refl) (refl, g) (λ m. m)) (λ u. faults)
+  fed st (Symbol.marked p i ∷ ks) g = by-test (eqb c 123) (λ t. takes (sign-is 123 refl t) (λ r. (a-mark (counted (sign-in x) (r .0) (r .1 .0)), r .1 .1)) (λ r. refl) (λ r. refl) g (λ m. m) tt) (λ u. mark-leads p i st ks g (fed st ks g))
+  fed st (Symbol.counts-end p i mark f ∷ ks) g = by-test (eqb c 125) (λ t. takes (sign-is 125 refl t) (λ r. (sign-in x, r)) (λ r. refl) (λ r. refl) g (λ m. m) tt) (λ u. faults)
+  fed st (Symbol.members d p i many ∷ ks) g = by-test (eqb c 38) (λ t. takes (sign-is 38 refl t) (λ r. (more-members (sign-in x) (members-from (r .0) (r .1 .0)), r .1 .1)) (λ r. ap (λ (v : List Lexeme). sign Kind.Ampersand (sign-in x) ∷ v) (members-from-spells (r .0) (r .1 .0) (spell-all ks (r .1 .1)))) (λ r. ap (store-all ks (r .1 .1)) (members-from-on (r .0) (r .1 .0) p i st)) g (λ m. m) tt) (λ u. turned (members-end x st d p i many ks) (fed _ ks g))
+  fed st (Symbol.branches d p i many ∷ ks) g = by-test (eqb c 124) (λ t. takes (sign-is 124 refl t) (λ r. (more-branches (sign-in x) (branches-from (r .0) (r .1 .0)), r .1 .1)) (λ r. ap (λ (v : List Lexeme). sign Kind.Bar (sign-in x) ∷ v) (branches-from-spells (r .0) (r .1 .0) (spell-all ks (r .1 .1)))) (λ r. ap (store-all ks (r .1 .1)) (branches-from-on (r .0) (r .1 .0) p i st)) g (λ m. m) tt) (λ u. turned (branches-end x st d p i many ks) (fed _ ks g))
+  fed st (Symbol.character-tail p ∷ ks) g = by-test (eqb c 126) (λ t. takes (sign-is 126 refl t) (λ r. (to-character (sign-in x) (r .0 .0) (r .0 .1), r .1)) (λ r. refl) (λ r. refl) g (λ m. m) tt) (λ u. turned (character-end x st p ks) (fed _ ks g))
+  fed st (Symbol.last-character p ∷ ks) g = by-test (eqb c 9) (λ t. takes (is-character x next c e t) (λ r. ((literal-in x, is-single x next c e t), r)) (λ r. refl) (λ r. refl) g (λ m. m) tt) (λ u. faults)
+  fed st (Symbol.width d p ∷ ks) g = by-test (eqb c 2) (λ t. takes (is-number x next c e t) (λ r. ((number-in x, r .0, r .1 .0), r .1 .1)) (λ r. refl) (λ r. refl) (refl, g) (λ m. m) tt) (λ u. faults)
   fed st (Symbol.field-set d p v ∷ ks) g = by-test (eqb c 8) (λ t. binder-leads d p v st ks g t) (λ u. turned (set-not-bound x st d p v ks) (set-leads d st (Symbol.field-end p v 0 0 (terms-of st) ∷ ks) g))
-  fed st (Symbol.bound-name d p v ∷ ks) g = by-test (name-like c) (λ t. takes (is-name x next c e t) (λ r. ((name-in x, r .0, r .1 .0, r .1 .1 .0, r .1 .1 .1 .0), r .1 .1 .1 .1)) (λ r. refl) (λ r. refl) (refl, (refl, g)) (λ m. m)) (λ u. faults)
-  fed st (Symbol.field-end p v name how f ∷ ks) g = by-test (eqb c 41) (λ t. takes (sign-is 41 refl t) (λ r. (sign-in x, r)) (λ r. refl) (λ r. refl) g (λ m. m)) (λ u. faults)
-  fed st (Symbol.colon d f ∷ ks) g = by-test (eqb c 58) (λ t. takes (sign-is 58 refl t) (λ r. ((sign-in x, r .0, r .1 .0), r .1 .1)) (λ r. refl) (λ r. refl) g (λ m. m)) (λ u. faults)
-  fed st (Symbol.case-end i f end ∷ ks) g = by-test (eqb c 59) (λ t. takes (sign-is 59 refl t) (λ r. (sign-in x, r)) (λ r. refl) (λ r. refl) g (λ m. m)) (λ u. faults)
-  fed st (Symbol.cases d p i ∷ ks) g = by-test (eqb c 93) (λ t. takes (sign-is 93 refl t) (λ r. (no-case (sign-in x), r)) (λ r. refl) (λ r. refl) g (λ m. m)) (λ u. by-test (eqb c 58) (λ t. takes (sign-is 58 refl t) (λ r. (default (sign-in x) (r .0) (r .1 .0) (r .1 .1 .0), r .1 .1 .1)) (λ r. refl) (λ r. refl) (refl, g) (λ m. m)) (λ v. turned (case-begun x st d p i ks) (condition-leads d st (Symbol.colon d (terms-of st) ∷ Symbol.cases d p i ∷ ks) g)))
-  fed st (Symbol.switch-end p i ∷ ks) g = by-test (eqb c 93) (λ t. takes (sign-is 93 refl t) (λ r. (sign-in x, r)) (λ r. refl) (λ r. refl) g (λ m. m)) (λ u. faults)
-  fed st (Symbol.rules any ∷ []) g = by-test (name-like c) (λ t. takes (is-name x next c e t) (λ r. (rules-from (rule (name-in x) (r .0) (r .1 .0) (r .1 .1 .0)) (r .1 .1 .1 .0), tt)) (λ r. rules-from-spells any (rule (name-in x) (r .0) (r .1 .0) (r .1 .1 .0)) (r .1 .1 .1 .0)) (λ r. rules-from-stores any (rule (name-in x) (r .0) (r .1 .0) (r .1 .1 .0)) (r .1 .1 .1 .0) st) (refl, tt) (λ m. m)) (λ u. by-test (any && eqb c 5) (λ t. end-leads any st (both-first any (eqb c 5) t) (both-second any (eqb c 5) t)) (λ v. faults))
+  fed st (Symbol.bound-name d p v ∷ ks) g = by-test (name-like c) (λ t. takes (is-name x next c e t) (λ r. ((name-in x, r .0, r .1 .0, r .1 .1 .0, r .1 .1 .1 .0), r .1 .1 .1 .1)) (λ r. refl) (λ r. refl) (refl, (refl, g)) (λ m. m) tt) (λ u. faults)
+  fed st (Symbol.field-end p v name how f ∷ ks) g = by-test (eqb c 41) (λ t. takes (sign-is 41 refl t) (λ r. (sign-in x, r)) (λ r. refl) (λ r. refl) g (λ m. m) tt) (λ u. faults)
+  fed st (Symbol.colon d f ∷ ks) g = by-test (eqb c 58) (λ t. takes (sign-is 58 refl t) (λ r. ((sign-in x, r .0, r .1 .0), r .1 .1)) (λ r. refl) (λ r. refl) g (λ m. m) tt) (λ u. faults)
+  fed st (Symbol.case-end i f end ∷ ks) g = by-test (eqb c 59) (λ t. takes (sign-is 59 refl t) (λ r. (sign-in x, r)) (λ r. refl) (λ r. refl) g (λ m. m) tt) (λ u. faults)
+  fed st (Symbol.cases d p i ∷ ks) g = by-test (eqb c 93) (λ t. takes (sign-is 93 refl t) (λ r. (no-case (sign-in x), r)) (λ r. refl) (λ r. refl) g (λ m. m) tt) (λ u. by-test (eqb c 58) (λ t. takes (sign-is 58 refl t) (λ r. (default (sign-in x) (r .0) (r .1 .0) (r .1 .1 .0), r .1 .1 .1)) (λ r. refl) (λ r. refl) (refl, g) (λ m. m) tt) (λ v. turned (case-begun x st d p i ks) (condition-leads d st (Symbol.colon d (terms-of st) ∷ Symbol.cases d p i ∷ ks) g)))
+  fed st (Symbol.switch-end p i ∷ ks) g = by-test (eqb c 93) (λ t. takes (sign-is 93 refl t) (λ r. (sign-in x, r)) (λ r. refl) (λ r. refl) g (λ m. m) tt) (λ u. faults)
+  fed st (Symbol.rules any ∷ []) g = by-test (name-like c) (λ t. takes (is-name x next c e t) (λ r. (rules-from (rule (name-in x) (r .0) (r .1 .0) (r .1 .1 .0)) (r .1 .1 .1 .0), tt)) (λ r. rules-from-spells any (rule (name-in x) (r .0) (r .1 .0) (r .1 .1 .0)) (r .1 .1 .1 .0)) (λ r. rules-from-stores any (rule (name-in x) (r .0) (r .1 .0) (r .1 .1 .0)) (r .1 .1 .1 .0) st) (refl, tt) (λ m. m) tt) (λ u. by-test (any && eqb c 5) (λ t. end-leads any st (both-first any (eqb c 5) t) (both-second any (eqb c 5) t)) (λ v. faults))
   fed st (Symbol.rules any ∷ k ∷ ks) g = absurd g
-  fed st (Symbol.rule-end p i ∷ ks) g = by-test (eqb c 59) (λ t. takes (sign-is 59 refl t) (λ r. (sign-in x, r)) (λ r. refl) (λ r. refl) g (λ m. m)) (λ u. faults)
+  fed st (Symbol.rule-end p i ∷ ks) g = by-test (eqb c 59) (λ t. takes (sign-is 59 refl t) (λ r. (sign-in x, r)) (λ r. refl) (λ r. refl) g (λ m. m) tt) (λ u. faults)

@@ -8,3 +8,4 @@ pub mod Reading
 pub mod Skips
 pub mod Traced
 pub mod Told
+pub mod Right

@@ -53,7 +53,7 @@ twice is js ks f h no-tree = refl
 module _ {x : Lexeme} {a b : State} {ks js : List Symbol} (H : Onward) where
   through : {f : Fed} (T : Turns x a ks b js) (L : Leads x b js f) → _≡_ {A = Parsed ks} (after H (turned T L)) (mapped {js = js} {ks = ks} (T .back) (after H L))
   unfolding turned after mapped
-  through T (goes {st′} {ks′} back s t g m) = twice ks′ js ks (T .back) back (H st′ ks′ g)
+  through T (goes {st′} {ks′} back s t g m v) = twice ks′ js ks (T .back) back (H st′ ks′ g)
   through T (ends r q s t) = refl
   through T faults = refl
 

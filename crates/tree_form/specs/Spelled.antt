@@ -1,17 +1,34 @@
--- "Right exactly when spelled": what is said of a list of tokens.
+-- "Right exactly when spelled": what is said of the form of rules (refusal 4), of tokens and of trees alone.
 -- Assumes nothing.
 use Prim.Native.Nat.{ℕ}
 use mathlib.Core.Path.{_≡_}
+use mathlib.Core.Bool.{false}
 use mathlib.Core.List.{List, [], _∷_, _++_}
+use Rattle.text_parsing.specs.Terminals.{sights-from}
+use Rattle.text_parsing.specs.Store.{State}
+use Rattle.text_parsing.specs.Symbols.{rules}
+use Rattle.text_parsing.specs.Form.{Outcome, run}
 use Rattle.tree.specs.Lexemes.{Lexeme, place-of}
 use Rattle.tree.specs.Tree.{Rules}
 use Rattle.tree.specs.Spelling.{spelled}
+use Rattle.tree_form.specs.Stored.{stored}
 
--- they spell a tree
+-- what the reader answers for the text after its header, from what is stored before: `form-of` of crate `text_syntax`
+abbrev pub answer : List ℕ → State → Outcome
+answer xs st = run (sights-from xs 0) st (rules false ∷ [])
+
+-- tokens spell a tree
 pub record Spells (ls : List Lexeme) : Type 0 where
   pub tree : Rules
   pub end : ℕ
   pub spells : ls ≡ spelled tree end
+
+-- they spell a tree that is stored so
+pub record SpellsStored (ls : List Lexeme) (st f : State) : Type 0 where
+  pub tree : Rules
+  pub end : ℕ
+  pub spells : ls ≡ spelled tree end
+  pub stores : f ≡ stored tree st
 
 -- some tree's spelling begins with them
 pub record Begins (ls : List Lexeme) : Type 0 where
