@@ -169,7 +169,7 @@ is-opening xs t Kind.AtMost = refl
 is-opening xs t Kind.AtLeast = refl
 
 -- those after a token
-abbrev after : ℕ → List ℕ → Lexeme → List Lexeme
+abbrev pub after : ℕ → List ℕ → Lexeme → List Lexeme
 after n xs (sign kind s) = lexemes-from n xs (s .end)
 after n xs (word x) = lexemes-from n xs (x .end)
 after n xs (numeral x) = lexemes-from n xs (x .end)
@@ -177,7 +177,7 @@ after n xs (quoted l) = lexemes-from n xs (l .end)
 after n xs (stray s) = lexemes-from n xs (s .end)
 after n xs (finish p) = []
 
-begun : (n : ℕ) (xs : List ℕ) (at : ℕ) → lexemes-from (suc n) xs at ≡ lexeme-of xs at ∷ after n xs (lexeme-of xs at)
+pub begun : (n : ℕ) (xs : List ℕ) (at : ℕ) → lexemes-from (suc n) xs at ≡ lexeme-of xs at ∷ after n xs (lexeme-of xs at)
 unfolding lexemes-from
 begun n xs at = by (lexeme-of xs at)
   where
@@ -189,7 +189,7 @@ begun n xs at = by (lexeme-of xs at)
     by (stray s) = refl
     by (finish p) = refl
 
-after-live : (n : ℕ) (xs : List ℕ) (t : Token) (k : Kind) → live (code-of k) ≡ true → after n xs (lexeme-as xs t k) ≡ lexemes-from n xs (t .end)
+pub after-live : (n : ℕ) (xs : List ℕ) (t : Token) (k : Kind) → live (code-of k) ≡ true → after n xs (lexeme-as xs t k) ≡ lexemes-from n xs (t .end)
 after-live n xs t Kind.Name l = refl
 after-live n xs t Kind.Number l = refl
 after-live n xs t Kind.Literal l = refl
@@ -262,4 +262,3 @@ all (suc n) xs at f = by (stands xs at) (λ l. all n xs (token-of xs at .end) l)
 -- the reader's terminals are the classified tokens of the text
 pub terminals : (xs : List ℕ) → sights-from xs 0 ≡ classified (lexemes xs)
 terminals xs = all (suc (length xs)) xs 0 (omega arith)
-

@@ -306,7 +306,7 @@ module _ (x : Lexeme) (next : Bool) (c : ℕ) (e : code x next ≡ c) where
   unfoldable pub primary-leads : (o : ℕ) (st : State) (ks : List Symbol) → Ground ks → Leads x st (Symbol.primary o ∷ ks) (primary-begins o (seen-with x c) st ks)
   unfolding primary-begins spell-primary spell-operand spell-factors spell-product spell-summands spell-calculation spell-item spell-set spell-counts spell-tests spell-mark spell spell-rules start-of-primary start-of-operand start-of-product store-primary store-operand store-factors store-product store-summands store-calculation store-item store-set store-counts store-tests start-of store-mark store stored spell-upper spell-reach spell-exception spell-excluded spell-choices spell-links spell-joined spell-marked spell-members spell-branches spell-character spell-field spell-cases spell-more-rules store-upper store-item-reach store-counts-reach store-exception store-excluded store-choices store-links store-joined store-marked store-members store-branches store-character store-fields store-cases store-more-rules
   primary-leads o st ks g =
-      by-test (eqb c 2) (λ t. takes (is-number x next c e t) (λ r. (number (number-in x), r)) (λ r. refl) (λ r. refl) g (λ m. m) tt) (λ u. 
+      by-test (eqb c 2) (λ t. takes (is-number x next c e t) (λ r. (number (number-in x), r)) (λ r. refl) (λ r. refl) g (λ m. m) tt) (λ u.
       by-test (name-like c) (λ n. takes (is-name x next c e n) (λ r. (variable (name-in x), r)) (λ r. refl) (λ r. refl) g (λ m. m) tt) (λ n. faults))
 
   unfoldable pub operand-leads : (o : ℕ) (st : State) (ks : List Symbol) → Ground ks → Leads x st (Symbol.operand o ∷ ks) (operand-begins o (seen-with x c) st ks)

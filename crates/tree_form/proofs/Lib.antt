@@ -9,3 +9,5 @@ pub mod Skips
 pub mod Traced
 pub mod Told
 pub mod Right
+pub mod Ahead
+pub mod Places

@@ -327,4 +327,3 @@ pub rules-from-stores : (any : Bool) (r : Rule) (u : MoreRules true) (st : State
 unfolding spell-primary spell-operand spell-factors spell-product spell-summands spell-calculation spell-item spell-set spell-counts spell-tests spell-mark spell spell-rules start-of-primary start-of-operand start-of-product store-primary store-operand store-factors store-product store-summands store-calculation store-item store-set store-counts store-tests start-of store-mark store stored spell-upper spell-reach spell-exception spell-excluded spell-choices spell-links spell-joined spell-marked spell-members spell-branches spell-character spell-field spell-cases spell-more-rules store-upper store-item-reach store-counts-reach store-exception store-excluded store-choices store-links store-joined store-marked store-members store-branches store-character store-fields store-cases store-more-rules
 rules-from-stores any r (no-rule p) st = refl
 rules-from-stores any r (more-rules t p) st = refl
-

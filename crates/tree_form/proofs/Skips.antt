@@ -84,7 +84,7 @@ tag-off H F false A B e h = h refl
 
 -- ---- parts that end
 
-pub past-sign : (tag p o : ℕ) (w : List Lexeme) {ks : List Symbol} {g : Ground ks} {r : Rests ks}  → Reads w ks g r → Reads w (Symbol.sign tag p o ∷ ks) g (tt, r)
+pub past-sign : (tag p o : ℕ) (w : List Lexeme) {ks : List Symbol} {g : Ground ks} {r : Rests ks} → Reads w ks g r → Reads w (Symbol.sign tag p o ∷ ks) g (tt, r)
 unfolding turned by-test by-cond by-tag takes fed primary-leads operand-leads calculation-leads item-leads choice-leads set-leads test-leads condition-leads field-leads switch-leads atom-leads factor-leads concatenation-leads summand-leads comparison-leads mark-leads binder-leads end-leads parse after
 past-sign tag p o [] h = record { read = λ st. nowhere (h .read st) }
 past-sign tag p o (y ∷ w) {ks} {g} h = record { read = λ st. turning _ (signed y st tag p o ks) (fed y (opens w) (code y (opens w)) refl _ ks g) (h .read _) }
@@ -230,4 +230,3 @@ pub begin-cases : (d p i : ℕ) (w : List Lexeme) {ks : List Symbol} {g : Ground
 unfolding turned by-test by-cond by-tag takes fed primary-leads operand-leads calculation-leads item-leads choice-leads set-leads test-leads condition-leads field-leads switch-leads atom-leads factor-leads concatenation-leads summand-leads comparison-leads mark-leads binder-leads end-leads parse after feed primary-begins operand-begins item-begins test-begins atom-begins
 begin-cases d p i [] f0 f1 h = record { read = λ st. nowhere ((h 0) .read st) }
 begin-cases d p i (y ∷ w) {ks} {g} f0 f1 h = record { read = λ st. test-off _ _ _ _ f0 (λ u0. test-off _ _ _ _ f1 (λ u1. turning (λ st′ ks′ g′. parse w st′ ks′ g′) (case-begun y st d p i ks) (fed y (opens w) (code y (opens w)) refl st (Symbol.condition d ∷ Symbol.colon d (terms-of st) ∷ Symbol.cases d p i ∷ ks) g) ((h (terms-of st)) .read st))) }
-

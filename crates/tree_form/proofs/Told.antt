@@ -102,8 +102,10 @@ reads-bound-name d p v x m y c c′ {w} {ks} {g} {r} h =
   where
     rest : List Lexeme
     rest = sign Kind.Comma m ∷ spell-set y (sign Kind.CloseParen c ∷ sign Kind.CloseParen c′ ∷ w)
+
     last : (st : State) → Reads (sign Kind.CloseParen c′ ∷ w) (Symbol.field-end p v (x .start) (cond (eqb d 2) 1 2) (terms-of st) ∷ ks) g (c′, r)
     last st = record { read = λ z. onward _ (h .read _) }
+
     inner : (st : State) → Reads rest (Symbol.want 44 ∷ Symbol.value-set d ∷ Symbol.want 41 ∷ Symbol.field-end p v (x .start) (cond (eqb d 2) 1 2) (terms-of st) ∷ ks) (refl, (refl, g)) (m, (y, (c, (c′, r))))
     inner st = reads-comma m (reads-value-set d y c (last st))
 
@@ -230,48 +232,48 @@ reads-tree (literal {d} l) = λ w ks g r f h. reads-literal d l (f .0) h
 reads-tree (range {d} a s b one one′) = λ w ks g r f h. reads-range d a s b one one′ (reads-to-character (a .start) s b one′ (reads-last-character (a .start) b one′ h))
 reads-tree (field {d} l u o n m x c) =
     λ w ks g r f h.
-      reads-uint d l u o n m (plain-set x c)
-      (reads-paren d l o
-      (reads-width (d + 1) (u .start) n m (plain-set x c)
-      (begin-field-set (d + 1) (u .start) (n .start) (spell-set x (sign Kind.CloseParen c ∷ w)) (set-not-var x (sign Kind.CloseParen c ∷ w) refl) (λ t. reads-field-set (d + 1) (u .start) (n .start) 0 0 t x c h))))
+    reads-uint d l u o n m (plain-set x c)
+    (reads-paren d l o
+    (reads-width (d + 1) (u .start) n m (plain-set x c)
+    (begin-field-set (d + 1) (u .start) (n .start) (spell-set x (sign Kind.CloseParen c ∷ w)) (set-not-var x (sign Kind.CloseParen c ∷ w) refl) (λ t. reads-field-set (d + 1) (u .start) (n .start) 0 0 t x c h))))
 reads-tree (binder {d} l u o n m v o′ x m′ y c c′) =
     λ w ks g r f h.
-      let k : d < 16 = omega arith
-      in reads-uint d k u o n m (bound-set l v o′ x m′ y c c′)
-      (reads-paren d k o (reads-width (d + 1) (u .start) n m (bound-set l v o′ x m′ y c c′) (reads-var (d + 1) (u .start) (n .start) l v o′ x m′ y c c′ h)))
+    let k : d < 16 = omega arith
+    in reads-uint d k u o n m (bound-set l v o′ x m′ y c c′)
+    (reads-paren d k o (reads-width (d + 1) (u .start) n m (bound-set l v o′ x m′ y c c′) (reads-var (d + 1) (u .start) (n .start) l v o′ x m′ y c c′ h)))
 reads-tree (rule-use {d} x other) = λ w ks g r f h. reads-use d x other (f .1) h
 reads-tree (eod {d} s) = λ w ks g r f h. reads-eod d s h
 reads-tree (group {d} l o x c) = λ w ks g r f h. reads-group d l o x c (whole-branches (d + 1) x (reads-tree x) (sign Kind.CloseParen c ∷ w) (Symbol.want 41 ∷ ks) (refl, g) (c, r) ((((refl, refl), refl, refl, refl, refl), refl), refl) (reads-close c h))
 reads-tree (switch {d} l o x c) = λ w ks g r f h. reads-switch d l o x c (reads-tree x w ks g r c h)
 reads-tree (last-case {d} t s x e) =
     λ w ks g r c h f p i.
-      reads-tests t (sign Kind.Colon s ∷ spell x (sign Kind.Semicolon e ∷ sign Kind.CloseBracket c ∷ w)) (Symbol.colon d f ∷ Symbol.cases d p i ∷ ks) g ((s, x, e), (no-case c, r)) ((refl, refl, refl), refl, refl)
-      (reads-colon d f s x e (λ i′ t′. whole-branches d x (reads-tree x) (sign Kind.Semicolon e ∷ sign Kind.CloseBracket c ∷ w) (Symbol.case-end i′ f t′ ∷ Symbol.cases d p i ∷ ks) g (e, (no-case c, r)) ((((refl, refl), refl, refl, refl, refl), refl), refl) (reads-case-end i′ f t′ e (reads-no-case d p i c h))))
+    reads-tests t (sign Kind.Colon s ∷ spell x (sign Kind.Semicolon e ∷ sign Kind.CloseBracket c ∷ w)) (Symbol.colon d f ∷ Symbol.cases d p i ∷ ks) g ((s, x, e), (no-case c, r)) ((refl, refl, refl), refl, refl)
+    (reads-colon d f s x e (λ i′ t′. whole-branches d x (reads-tree x) (sign Kind.Semicolon e ∷ sign Kind.CloseBracket c ∷ w) (Symbol.case-end i′ f t′ ∷ Symbol.cases d p i ∷ ks) g (e, (no-case c, r)) ((((refl, refl), refl, refl, refl, refl), refl), refl) (reads-case-end i′ f t′ e (reads-no-case d p i c h))))
 reads-tree (case-default {d} t s x e s′ y e′) =
     λ w ks g r c h f p i.
-      let W : List Lexeme = sign Kind.Colon s′ ∷ spell y (sign Kind.Semicolon e′ ∷ sign Kind.CloseBracket c ∷ w)
-      in reads-tests t (sign Kind.Colon s ∷ spell x (sign Kind.Semicolon e ∷ W)) (Symbol.colon d f ∷ Symbol.cases d p i ∷ ks) g ((s, x, e), (default s′ y e′ c, r)) ((refl, refl, refl), refl, refl)
-      (reads-colon d f s x e (λ i′ t′. whole-branches d x (reads-tree x) (sign Kind.Semicolon e ∷ W) (Symbol.case-end i′ f t′ ∷ Symbol.cases d p i ∷ ks) g (e, (default s′ y e′ c, r)) ((((refl, refl), refl, refl, refl, refl), refl), refl)
-      (reads-case-end i′ f t′ e (reads-default d p i s′ y e′ c (whole-branches d y (reads-tree y) (sign Kind.Semicolon e′ ∷ sign Kind.CloseBracket c ∷ w) (Symbol.want 59 ∷ Symbol.switch-end p i ∷ ks) (refl, g) (e′, (c, r)) ((((refl, refl), refl, refl, refl, refl), refl), refl) (reads-default-end p i e′ c h))))))
+    let W : List Lexeme = sign Kind.Colon s′ ∷ spell y (sign Kind.Semicolon e′ ∷ sign Kind.CloseBracket c ∷ w)
+    in reads-tests t (sign Kind.Colon s ∷ spell x (sign Kind.Semicolon e ∷ W)) (Symbol.colon d f ∷ Symbol.cases d p i ∷ ks) g ((s, x, e), (default s′ y e′ c, r)) ((refl, refl, refl), refl, refl)
+    (reads-colon d f s x e (λ i′ t′. whole-branches d x (reads-tree x) (sign Kind.Semicolon e ∷ W) (Symbol.case-end i′ f t′ ∷ Symbol.cases d p i ∷ ks) g (e, (default s′ y e′ c, r)) ((((refl, refl), refl, refl, refl, refl), refl), refl)
+    (reads-case-end i′ f t′ e (reads-default d p i s′ y e′ c (whole-branches d y (reads-tree y) (sign Kind.Semicolon e′ ∷ sign Kind.CloseBracket c ∷ w) (Symbol.want 59 ∷ Symbol.switch-end p i ∷ ks) (refl, g) (e′, (c, r)) ((((refl, refl), refl, refl, refl, refl), refl), refl) (reads-default-end p i e′ c h))))))
 reads-tree (case-cases {d} t s x e y) =
     λ w ks g r c h f p i.
-      reads-tests t (sign Kind.Colon s ∷ spell x (sign Kind.Semicolon e ∷ spell y (sign Kind.CloseBracket c ∷ w))) (Symbol.colon d f ∷ Symbol.cases d p i ∷ ks) g ((s, x, e), (more-cases y c, r)) ((refl, refl, refl), refl, refl)
-      (reads-colon d f s x e (λ i′ t′. whole-branches d x (reads-tree x) (sign Kind.Semicolon e ∷ spell y (sign Kind.CloseBracket c ∷ w)) (Symbol.case-end i′ f t′ ∷ Symbol.cases d p i ∷ ks) g (e, (more-cases y c, r)) ((((refl, refl), refl, refl, refl, refl), refl), refl)
-      (reads-case-end i′ f t′ e
-      (subst (λ (z : MoreCases d). Reads (spell y (sign Kind.CloseBracket c ∷ w)) (Symbol.cases d p i ∷ ks) g (z, r)) (same-cases y c)
-      (begin-cases d p i (spell y (sign Kind.CloseBracket c ∷ w)) (cases-not 93 refl refl refl refl refl refl refl y (sign Kind.CloseBracket c ∷ w)) (cases-not 58 refl refl refl refl refl refl refl y (sign Kind.CloseBracket c ∷ w)) (λ f′. reads-tree y w ks g r c h f′ p i))))))
+    reads-tests t (sign Kind.Colon s ∷ spell x (sign Kind.Semicolon e ∷ spell y (sign Kind.CloseBracket c ∷ w))) (Symbol.colon d f ∷ Symbol.cases d p i ∷ ks) g ((s, x, e), (more-cases y c, r)) ((refl, refl, refl), refl, refl)
+    (reads-colon d f s x e (λ i′ t′. whole-branches d x (reads-tree x) (sign Kind.Semicolon e ∷ spell y (sign Kind.CloseBracket c ∷ w)) (Symbol.case-end i′ f t′ ∷ Symbol.cases d p i ∷ ks) g (e, (more-cases y c, r)) ((((refl, refl), refl, refl, refl, refl), refl), refl)
+    (reads-case-end i′ f t′ e
+    (subst (λ (z : MoreCases d). Reads (spell y (sign Kind.CloseBracket c ∷ w)) (Symbol.cases d p i ∷ ks) g (z, r)) (same-cases y c)
+    (begin-cases d p i (spell y (sign Kind.CloseBracket c ∷ w)) (cases-not 93 refl refl refl refl refl refl refl y (sign Kind.CloseBracket c ∷ w)) (cases-not 58 refl refl refl refl refl refl refl y (sign Kind.CloseBracket c ∷ w)) (λ f′. reads-tree y w ks g r c h f′ p i))))))
 reads-tree (once {d} a) = λ w ks g r f h. begin-factor d (spell a w) (λ p i. reads-tree a w (Symbol.marked p i ∷ ks) g (no-mark, r) (f .0) (past-mark p i w (f .1) (f .2) (f .3) (f .4) h))
 reads-tree (repeated {d} a m) = λ w ks g r f h. begin-factor d (spell a (spell-mark m w)) (λ p i. reads-tree a (spell-mark m w) (Symbol.marked p i ∷ ks) g (a-mark m, r) (mark-after m w) (reads-mark p i m h))
 reads-tree (last-member {d} a) = λ w ks g r f h p i many. reads-tree a w (Symbol.members d p i many ∷ ks) g (no-member, r) (f .0) (past-members d p i many w (f .1) h)
 reads-tree (and-members {d} a s b) =
     λ w ks g r f h p i many.
-      reads-tree a (sign Kind.Ampersand s ∷ spell b w) (Symbol.members d p i many ∷ ks) g (more-members s b, r) ((refl, refl), refl, refl, refl, refl)
-      (reads-member d p i many s b (reads-tree b w ks g r f h p i true))
+    reads-tree a (sign Kind.Ampersand s ∷ spell b w) (Symbol.members d p i many ∷ ks) g (more-members s b, r) ((refl, refl), refl, refl, refl, refl)
+    (reads-member d p i many s b (reads-tree b w ks g r f h p i true))
 reads-tree (last-branch {d} a) = λ w ks g r f h p i many. whole-members d a (reads-tree a) w (Symbol.branches d p i many ∷ ks) g (no-branch, r) (f .0) (past-branches d p i many w (f .1) h)
 reads-tree (or-branches {d} a s b) =
     λ w ks g r f h p i many.
-      whole-members d a (reads-tree a) (sign Kind.Bar s ∷ spell b w) (Symbol.branches d p i many ∷ ks) g (more-branches s b, r) (((refl, refl), refl, refl, refl, refl), refl)
-      (reads-branch d p i many s b (reads-tree b w ks g r f h p i true))
+    whole-members d a (reads-tree a) (sign Kind.Bar s ∷ spell b w) (Symbol.branches d p i many ∷ ks) g (more-branches s b, r) (((refl, refl), refl, refl, refl, refl), refl)
+    (reads-branch d p i many s b (reads-tree b w ks g r f h p i true))
 
 -- ---- rules
 
@@ -290,6 +292,7 @@ reads-rule any x s e z u w h =
   where
     rest : List Lexeme
     rest = sign Kind.Equal s ∷ spell e (sign Kind.Semicolon z ∷ w)
+
     inner : (st : State) → Reads rest (Symbol.want 61 ∷ Symbol.expression 0 ∷ Symbol.rule-end (x .start) (nodes-of st) ∷ Symbol.rules true ∷ []) (refl, tt) (s, (e, (z, (u, tt))))
     inner st = reads-is s (whole-branches 0 e (reads-tree e) (sign Kind.Semicolon z ∷ w) (Symbol.rule-end (x .start) (nodes-of st) ∷ Symbol.rules true ∷ []) tt (z, (u, tt)) ((((refl, refl), refl, refl, refl, refl), refl), refl) (reads-rule-end (x .start) (nodes-of st) z h))
 

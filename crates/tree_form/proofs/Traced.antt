@@ -247,17 +247,17 @@ reads-set (item {d} a) = λ w ks g r f h. begin-choice d (spell-item a w) (reads
 reads-set (item-but-item {d} a s b) = λ w ks g r f h. begin-choice d (spell-item a (sign Kind.Bang s ∷ spell-item b w)) (reads-item a ((refl, refl, refl), refl, refl) (reads-bang-item d s b (f .0) h))
 reads-set (item-but-set {d} l a s o b c) =
     λ w ks g r f h.
-      begin-choice d (spell-item a (sign Kind.Bang s ∷ sign Kind.OpenParen o ∷ spell-set b (sign Kind.CloseParen c ∷ w)))
-      (reads-item a ((refl, refl, refl), refl, refl)
-      (reads-bang-set d l s o b c
-      (reads-excluded-set d l o b c
-      (whole-set (d + 1) b (reads-set b) (sign Kind.CloseParen c ∷ w) (Symbol.want 41 ∷ Symbol.sign 12 (s .start) 0 ∷ ks) (refl, g) (c, (tt, r)) ((((refl, refl, refl), refl, refl), refl), refl) (reads-close c (past-sign 12 (s .start) 0 w h))))))
+    begin-choice d (spell-item a (sign Kind.Bang s ∷ sign Kind.OpenParen o ∷ spell-set b (sign Kind.CloseParen c ∷ w)))
+    (reads-item a ((refl, refl, refl), refl, refl)
+    (reads-bang-set d l s o b c
+    (reads-excluded-set d l o b c
+    (whole-set (d + 1) b (reads-set b) (sign Kind.CloseParen c ∷ w) (Symbol.want 41 ∷ Symbol.sign 12 (s .start) 0 ∷ ks) (refl, g) (c, (tt, r)) ((((refl, refl, refl), refl, refl), refl), refl) (reads-close c (past-sign 12 (s .start) 0 w h))))))
 reads-set (last-choice {d} a) = λ w ks g r f h K gK F skip. reads-set a w K gK (F (no-choice, r)) (f .0) (skip w (no-choice, r) (past-choices d w (f .1) h))
 reads-set (or-choices {d} a s b) =
     λ w ks g r f h K gK F skip.
-      reads-set a (sign Kind.Bar s ∷ spell-set b w) K gK (F (more-choices s b, r)) (((refl, refl, refl), refl, refl), refl)
-      (skip (sign Kind.Bar s ∷ spell-set b w) (more-choices s b, r)
-      (reads-bar d s b (reads-set b w ks g r f h (Symbol.sign 11 (s .start) 0 ∷ Symbol.alternatives d ∷ ks) g (λ z. (tt, z)) (λ ls z y. past-sign 11 (s .start) 0 ls y))))
+    reads-set a (sign Kind.Bar s ∷ spell-set b w) K gK (F (more-choices s b, r)) (((refl, refl, refl), refl, refl), refl)
+    (skip (sign Kind.Bar s ∷ spell-set b w) (more-choices s b, r)
+    (reads-bar d s b (reads-set b w ks g r f h (Symbol.sign 11 (s .start) 0 ∷ Symbol.alternatives d ∷ ks) g (λ z. (tt, z)) (λ ls z y. past-sign 11 (s .start) 0 ls y))))
 
 -- a set in its parentheses
 pub reads-value-set : (d : ℕ) (b : Choices whole d) (c : Sign) {w : List Lexeme} {ks : List Symbol} {g : Ground ks} {r : Rests ks} → Reads w ks g r → Reads (spell-set b (sign Kind.CloseParen c ∷ w)) (Symbol.value-set d ∷ Symbol.want 41 ∷ ks) (refl, g) (b, (c, r))
@@ -370,8 +370,8 @@ pub reads-tests : {p : TestPart} {d : ℕ} (a : Tests p d) → TestReads p d a
 unfolding spell-tests rest-and rest-or
 reads-tests (compare {d} a i s b) =
     λ w ks g r f h.
-      begin-test d (spell-calculation a (sign (comparison-sign i) s ∷ spell-calculation b w)) (calculation-not 40 refl refl refl refl refl refl a (sign (comparison-sign i) s ∷ spell-calculation b w))
-      (reads-calculation a (comparison-after i s (spell-calculation b w)) (reads-comparison i s b f h))
+    begin-test d (spell-calculation a (sign (comparison-sign i) s ∷ spell-calculation b w)) (calculation-not 40 refl refl refl refl refl refl a (sign (comparison-sign i) s ∷ spell-calculation b w))
+    (reads-calculation a (comparison-after i s (spell-calculation b w)) (reads-comparison i s b f h))
 reads-tests (test-group {d} l o a c) = λ w ks g r f h. reads-test-group d l o a c (reads-tests a (sign Kind.CloseParen c ∷ w) (Symbol.want 41 ∷ ks) (refl, g) (c, r) ((refl, refl, refl), refl, refl) (reads-close c h))
 reads-tests (one-test {d} a) = λ w ks g r f h. begin-condition d (spell-tests a w) (reads-tests a w (Symbol.joined d ∷ ks) g (not-joined, r) (f .0) (past-joined d w (f .1) (f .2) h))
 reads-tests (all-of {d} a s b) = λ w ks g r f h. begin-condition d (spell-tests a (sign Kind.Ampersand s ∷ spell-tests b w)) (reads-tests a (sign Kind.Ampersand s ∷ spell-tests b w) (Symbol.joined d ∷ ks) g (by-and s b, r) (refl, refl, refl) (reads-and d s b (reads-tests b w ks g r f h (s .start))))
@@ -379,10 +379,10 @@ reads-tests (any-of {d} a s b) = λ w ks g r f h. begin-condition d (spell-tests
 reads-tests (last-conjunct {d} a) = λ w ks g r f h p. reads-tests a w (Symbol.sign 13 p 0 ∷ Symbol.chain 38 13 d ∷ ks) (refl, g) (tt, (no-link, r)) (f .0) (past-sign 13 p 0 w (past-chain 38 13 d refl w (f .1) h))
 reads-tests (and-conjuncts {d} a s b) =
     λ w ks g r f h p.
-      reads-tests a (sign Kind.Ampersand s ∷ spell-tests b w) (Symbol.sign 13 p 0 ∷ Symbol.chain 38 13 d ∷ ks) (refl, g) (tt, (link s (first-and b) (rest-and b), r)) (refl, refl, refl)
-      (past-sign 13 p 0 (sign Kind.Ampersand s ∷ spell-tests b w) (reads-more-and d s (first-and b) (rest-and b) (reads-tests b w ks g r f h (s .start))))
+    reads-tests a (sign Kind.Ampersand s ∷ spell-tests b w) (Symbol.sign 13 p 0 ∷ Symbol.chain 38 13 d ∷ ks) (refl, g) (tt, (link s (first-and b) (rest-and b), r)) (refl, refl, refl)
+    (past-sign 13 p 0 (sign Kind.Ampersand s ∷ spell-tests b w) (reads-more-and d s (first-and b) (rest-and b) (reads-tests b w ks g r f h (s .start))))
 reads-tests (last-disjunct {d} a) = λ w ks g r f h p. reads-tests a w (Symbol.sign 11 p 0 ∷ Symbol.chain 124 11 d ∷ ks) (refl, g) (tt, (no-link, r)) (f .0) (past-sign 11 p 0 w (past-chain 124 11 d refl w (f .2) h))
 reads-tests (or-disjuncts {d} a s b) =
     λ w ks g r f h p.
-      reads-tests a (sign Kind.Bar s ∷ spell-tests b w) (Symbol.sign 11 p 0 ∷ Symbol.chain 124 11 d ∷ ks) (refl, g) (tt, (link s (first-or b) (rest-or b), r)) (refl, refl, refl)
-      (past-sign 11 p 0 (sign Kind.Bar s ∷ spell-tests b w) (reads-more-or d s (first-or b) (rest-or b) (reads-tests b w ks g r f h (s .start))))
+    reads-tests a (sign Kind.Bar s ∷ spell-tests b w) (Symbol.sign 11 p 0 ∷ Symbol.chain 124 11 d ∷ ks) (refl, g) (tt, (link s (first-or b) (rest-or b), r)) (refl, refl, refl)
+    (past-sign 11 p 0 (sign Kind.Bar s ∷ spell-tests b w) (reads-more-or d s (first-or b) (rest-or b) (reads-tests b w ks g r f h (s .start))))

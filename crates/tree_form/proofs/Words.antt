@@ -181,7 +181,6 @@ is-sign (quoted q) next c e l = absurd (quoted-codes (λ (v : ℕ). v ≡ c → 
 is-sign (stray s) next c e l = absurd (omega (arith, leb-true 10 c l))
 is-sign (finish p) next c e l = absurd (omega (arith, leb-true 10 c l))
 
-
 pub is-number : (x : Lexeme) (next : Bool) (c : ℕ) → code x next ≡ c → eqb c 2 ≡ true → x ≡ numeral (number-in x)
 is-number (sign kind s) next c e t = no-sign kind c e (omega (arith, eqb-true c 2 t)) (λ z. omega (arith, eqb-true c 2 t))
 is-number (word n) next c e t = word-codes (λ (v : ℕ). v ≡ c → (word n) ≡ numeral (number-in (word n))) (reserved-of (n .letters)) next (λ z. absurd (omega (arith, eqb-true c 2 t))) (λ y z. absurd (omega (arith, eqb-true c 2 t))) (λ y z. absurd (omega (arith, eqb-true c 2 t))) (λ y z. absurd (omega (arith, eqb-true c 2 t))) e
@@ -289,4 +288,3 @@ word-has n next P a b d f c z = word-codes (λ (v : ℕ). v ≡ c → (e : code 
   where
     by : (k : ℕ) → ((e : code (word n) next ≡ k) → P k e) → k ≡ c → (e : code (word n) next ≡ c) → P c e
     by k h z = subst (λ (v : ℕ). (e : code (word n) next ≡ v) → P v e) z h
-
