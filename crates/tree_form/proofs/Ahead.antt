@@ -14,9 +14,8 @@ use Rattle.text_parsing.specs.Terminals.{sight}
 use Rattle.text_parsing.specs.Store.{State}
 use Rattle.text_parsing.specs.Symbols.{Symbol}
 use Rattle.text_parsing.specs.Form.{Fed, go, done, fault, primary-begins, operand-begins, item-begins, test-begins, atom-begins, feed}
-use Rattle.text_parsing.specs.declared.Sight.{Sight}
-use Rattle.tree.specs.Lexemes.{Lexeme, sign, word, numeral, quoted, stray, finish, place-of}
-use Rattle.tree_form.proofs.Classified.{code, end-of, value-of, seen-with}
+use Rattle.tree.specs.Lexemes.{Lexeme, sign, word, numeral, quoted, stray, finish}
+use Rattle.tree_form.proofs.Classified.{code, seen-with}
 use Rattle.tree_form.proofs.Rests.{Ground}
 
 abbrev faulty : Fed → Bool

@@ -1,11 +1,11 @@
 -- The reader's terminals are the text's tokens, classified: only the code of `uint` and of `var` depends on the token that follows.
 -- Assumes nothing.
-use Prim.Native.Nat.{ℕ, zero, suc, _-_, _≤_, _<_}
-use mathlib.Core.Path.{_≡_, refl, sym, ap, ap₂, subst, _∙_}
+use Prim.Native.Nat.{ℕ, zero, suc, _-_, _<_}
+use mathlib.Core.Path.{_≡_, refl, sym, ap, ap₂, _∙_}
 use mathlib.Core.Bool.{Bool, true, false, cond}
 use mathlib.Core.List.{List, [], _∷_}
 use native.Mathlib.Omega.{arith}
-use lib.Dec.{eqb, leb}
+use lib.Dec.{eqb}
 use lib.ListN.{length}
 use Rattle.text_tokens.specs.Numbers.{capped}
 use Rattle.text_tokens.specs.Names.{reserved-of}
@@ -15,7 +15,7 @@ use Rattle.text_tokens.specs.declared.Token.{Token}
 use Rattle.text_parsing.specs.Terminals.{code-of, opens-at, word-code, name-code, literal-code, sight, seen, sight-of, sights, sights-from, live}
 use Rattle.text_parsing.specs.declared.Sight.{Sight}
 use Rattle.text_parsing.proofs.Sights.{Stands, ended, moving, stands, seen-as, live-end}
-use Rattle.tree.specs.Lexemes.{Sign, Name, Number, Literal, Lexeme, sign, word, numeral, quoted, stray, finish, place-of, sign-at, lexeme-as, lexeme-of, lexemes-from, lexemes}
+use Rattle.tree.specs.Lexemes.{Name, Number, Literal, Lexeme, sign, word, numeral, quoted, stray, finish, place-of, lexeme-as, lexeme-of, lexemes-from, lexemes}
 
 -- the code of a sign; what is no sign can stand nowhere
 abbrev pub sign-code : Kind → ℕ

@@ -2,8 +2,8 @@
 -- Assumes nothing.
 use Prim.Native.Nat.{ℕ, zero, suc, _-_, _<_}
 use mathlib.Core.Path.{_≡_, refl, sym, ap, subst, _∙_}
-use mathlib.Core.Logic.{_⊎_, inl, inr, ⊎-elim}
-use mathlib.Core.Bool.{Bool, true, false}
+use mathlib.Core.Logic.{⊎-elim}
+use mathlib.Core.Bool.{Bool, false}
 use mathlib.Core.List.{List, [], _∷_, _++_}
 use native.Mathlib.Omega.{arith}
 use lib.ListN.{length}
@@ -14,11 +14,8 @@ use Rattle.text_parsing.specs.Symbols.{Symbol}
 use Rattle.text_parsing.specs.Form.{Fed, go, done, fault, feed, Outcome, right, refused, run}
 use Rattle.text_parsing.specs.declared.Sight.{Sight}
 use Rattle.text_parsing.proofs.Sights.{Stands, ended, moving, stands}
-use Rattle.tree.specs.Lexemes.{Lexeme, sign, word, numeral, quoted, stray, finish, place-of, lexeme-as, lexeme-of, lexemes-from, lexemes}
-use Rattle.tree.specs.Tree.{Rules}
-use Rattle.tree.specs.Spelling.{spelled}
-use Rattle.tree_form.specs.Stored.{stored}
-use Rattle.tree_form.specs.Spelled.{answer, SpellsStored, Begins, FirstFault}
+use Rattle.tree.specs.Lexemes.{Lexeme, place-of, lexeme-as, lexeme-of, lexemes-from, lexemes}
+use Rattle.tree_form.specs.Spelled.{answer, Begins, FirstFault}
 use Rattle.tree_form.proofs.Classified.{opens, code, seen-with, classified, after, begun, after-live, terminals}
 use Rattle.tree_form.proofs.Rests.{MoreRules, more-rules, Rests, spell-all, spell-more-rules, Ground, Room}
 use Rattle.tree_form.proofs.Leading.{Going, Stuck, Leads, goes, ends, faults, shortest, fed}

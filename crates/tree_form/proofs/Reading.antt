@@ -1,18 +1,15 @@
 -- Tokens are read as a tree: what the reader answers is what the tree stores, and the tree is spelled as the tokens.
 -- Assumes nothing.
 use Prim.Native.Nat.{ℕ}
-use mathlib.Core.Path.{_≡_, refl, sym, ap, subst, _∙_}
-use mathlib.Core.Bool.{Bool, true, false}
+use mathlib.Core.Path.{_≡_, refl, ap, subst, _∙_}
 use mathlib.Core.List.{List, [], _∷_}
-use native.Mathlib.Omega.{arith}
 use Rattle.text_parsing.specs.Store.{State}
 use Rattle.text_parsing.specs.Symbols.{Symbol}
-use Rattle.text_parsing.specs.Form.{Fed, go, done, fault, feed, Outcome, right, refused, run}
-use Rattle.text_parsing.specs.declared.Sight.{Sight}
+use Rattle.text_parsing.specs.Form.{Fed, go, done, fault, Outcome, right, refused, run}
 use Rattle.tree.specs.Lexemes.{Lexeme, sign, word, numeral, quoted, stray, finish, place-of}
-use Rattle.tree_form.proofs.Classified.{code, opens, seen-with, classified}
+use Rattle.tree_form.proofs.Classified.{code, opens, classified}
 use Rattle.tree_form.proofs.Rests.{Rests, spell-all, store-all, Ground}
-use Rattle.tree_form.proofs.Leading.{Leads, goes, ends, faults, fed}
+use Rattle.tree_form.proofs.Leading.{Leads, goes, ends, faults, fed, stepping}
 
 -- ---- the tree of the tokens, if they have one
 
@@ -74,3 +71,8 @@ agrees (x ∷ ls) st ks g = by (fed x (opens ls) (code x (opens ls)) refl st ks 
     by (goes {st′} {ks′} back s t g′ m v) h = lifted back s t (h st′ ks′ g′)
     by (ends r q s t) h = is-right r (λ c. s ∙ nothing-after x ls q (c .0)) t
     by faults h = is-refused
+
+-- opens the reading of a token
+unfoldable pub reading : Unit {0}
+unfolding stepping after parse
+reading = tt

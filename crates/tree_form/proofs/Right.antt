@@ -1,22 +1,21 @@
 -- The rules part is of the right form exactly when its tokens spell a tree, then exactly one, and what is stored is what that tree stores.
 -- Assumes nothing.
 use Prim.Native.Nat.{ℕ, zero, suc}
-use mathlib.Core.Path.{_≡_, refl, sym, ap, subst, _∙_}
-use mathlib.Core.Bool.{Bool, true, false}
+use mathlib.Core.Path.{_≡_, refl, sym, ap, _∙_}
+use mathlib.Core.Bool.{false}
 use mathlib.Core.List.{List, [], _∷_}
 use native.Mathlib.Omega.{arith}
 use lib.ListN.{length}
-use Rattle.text_parsing.specs.Terminals.{sights-from}
 use Rattle.text_parsing.specs.Store.{State, state}
 use Rattle.text_parsing.specs.Symbols.{Symbol}
-use Rattle.text_parsing.specs.Form.{Outcome, right, refused, run}
+use Rattle.text_parsing.specs.Form.{Outcome, right, run}
 use Rattle.tree.specs.Lexemes.{Lexeme, sign, word, numeral, quoted, stray, finish, lexeme-of, lexemes-from, lexemes}
 use Rattle.tree.specs.Tree.{Rules}
 use Rattle.tree.specs.Spelling.{spelled}
 use Rattle.tree_form.specs.Stored.{stored}
 use Rattle.tree_form.specs.Spelled.{answer, SpellsStored}
 use Rattle.tree_form.proofs.Classified.{classified, terminals}
-use Rattle.tree_form.proofs.Rests.{MoreRules, no-rule, more-rules, Rests, spell-all, store-all, spell-more-rules, store-more-rules}
+use Rattle.tree_form.proofs.Rests.{MoreRules, more-rules, Rests, spell-all, store-all, spell-more-rules, store-more-rules}
 use Rattle.tree_form.proofs.Reading.{Parsed, tree, no-tree, parse, Closed, Agrees, is-right, is-refused, agrees}
 use Rattle.tree_form.proofs.Told.{reads-rules}
 
