@@ -11,3 +11,5 @@ pub mod Told
 pub mod Right
 pub mod Ahead
 pub mod Places
+pub mod Formed
+pub mod Examples
