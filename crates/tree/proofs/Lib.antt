@@ -1,1 +1,3 @@
--- Laws of trees and their spelling.
+-- What holds of every tree, and worked examples.
+pub mod Deepest
+pub mod Examples

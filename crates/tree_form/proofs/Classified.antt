@@ -1,11 +1,11 @@
 -- The reader's terminals are the text's tokens, classified: only the code of `uint` and of `var` depends on the token that follows.
 -- Assumes nothing.
-use Prim.Native.Nat.{ℕ, zero, suc, _-_, _≤_, _<_}
-use mathlib.Core.Path.{_≡_, refl, sym, ap, ap₂, subst, _∙_}
+use Prim.Native.Nat.{ℕ, zero, suc, _-_, _<_}
+use mathlib.Core.Path.{_≡_, refl, sym, ap, ap₂, _∙_}
 use mathlib.Core.Bool.{Bool, true, false, cond}
 use mathlib.Core.List.{List, [], _∷_}
 use native.Mathlib.Omega.{arith}
-use lib.Dec.{eqb, leb}
+use lib.Dec.{eqb}
 use lib.ListN.{length}
 use Rattle.text_tokens.specs.Numbers.{capped}
 use Rattle.text_tokens.specs.Names.{reserved-of}
@@ -15,7 +15,7 @@ use Rattle.text_tokens.specs.declared.Token.{Token}
 use Rattle.text_parsing.specs.Terminals.{code-of, opens-at, word-code, name-code, literal-code, sight, seen, sight-of, sights, sights-from, live}
 use Rattle.text_parsing.specs.declared.Sight.{Sight}
 use Rattle.text_parsing.proofs.Sights.{Stands, ended, moving, stands, seen-as, live-end}
-use Rattle.tree.specs.Lexemes.{Sign, Name, Number, Literal, Lexeme, sign, word, numeral, quoted, stray, finish, place-of, sign-at, lexeme-as, lexeme-of, lexemes-from, lexemes}
+use Rattle.tree.specs.Lexemes.{Name, Number, Literal, Lexeme, sign, word, numeral, quoted, stray, finish, place-of, lexeme-as, lexeme-of, lexemes-from, lexemes}
 
 -- the code of a sign; what is no sign can stand nowhere
 abbrev pub sign-code : Kind → ℕ
@@ -169,7 +169,7 @@ is-opening xs t Kind.AtMost = refl
 is-opening xs t Kind.AtLeast = refl
 
 -- those after a token
-abbrev after : ℕ → List ℕ → Lexeme → List Lexeme
+abbrev pub after : ℕ → List ℕ → Lexeme → List Lexeme
 after n xs (sign kind s) = lexemes-from n xs (s .end)
 after n xs (word x) = lexemes-from n xs (x .end)
 after n xs (numeral x) = lexemes-from n xs (x .end)
@@ -177,7 +177,7 @@ after n xs (quoted l) = lexemes-from n xs (l .end)
 after n xs (stray s) = lexemes-from n xs (s .end)
 after n xs (finish p) = []
 
-begun : (n : ℕ) (xs : List ℕ) (at : ℕ) → lexemes-from (suc n) xs at ≡ lexeme-of xs at ∷ after n xs (lexeme-of xs at)
+pub begun : (n : ℕ) (xs : List ℕ) (at : ℕ) → lexemes-from (suc n) xs at ≡ lexeme-of xs at ∷ after n xs (lexeme-of xs at)
 unfolding lexemes-from
 begun n xs at = by (lexeme-of xs at)
   where
@@ -189,7 +189,7 @@ begun n xs at = by (lexeme-of xs at)
     by (stray s) = refl
     by (finish p) = refl
 
-after-live : (n : ℕ) (xs : List ℕ) (t : Token) (k : Kind) → live (code-of k) ≡ true → after n xs (lexeme-as xs t k) ≡ lexemes-from n xs (t .end)
+pub after-live : (n : ℕ) (xs : List ℕ) (t : Token) (k : Kind) → live (code-of k) ≡ true → after n xs (lexeme-as xs t k) ≡ lexemes-from n xs (t .end)
 after-live n xs t Kind.Name l = refl
 after-live n xs t Kind.Number l = refl
 after-live n xs t Kind.Literal l = refl

@@ -8,3 +8,8 @@ pub mod Reading
 pub mod Skips
 pub mod Traced
 pub mod Told
+pub mod Right
+pub mod Ahead
+pub mod Places
+pub mod Formed
+pub mod Examples

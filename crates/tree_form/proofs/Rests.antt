@@ -10,9 +10,9 @@ use Rattle.text_store.specs.Store.{State, nodes-of, terms-of, add, single, inse
 use Rattle.text_parsing.specs.Symbols.{Symbol}
 use Rattle.text_parsing.specs.Form.{chained}
 use Rattle.tree.specs.Lexemes.{Sign, Name, Number, Literal, Lexeme, sign, word, numeral, quoted, finish}
-use Rattle.tree.specs.Tree.{Primary, number, variable, Operand, plain, opposite, Factors, no-factor, times, Product, product, Summands, no-summand, plus, minus, Calculation, sum, Item, everything, only, between, from, up-to, SetPart, whole, choice, Choices, item, item-but-item, item-but-set, last-choice, or-choices, Counts, exactly, at-least, at-most, span, Comparison, equal, unequal, less, at-most-as, greater, at-least-as, TestPart, tests, test, conjuncts, disjuncts, Tests, compare, test-group, one-test, all-of, any-of, last-conjunct, and-conjuncts, last-disjunct, or-disjuncts, Mark, optional, any-number, one-or-more, counted, Single, Part, expression, concatenation, factor, atom, cases, Tree, literal, range, field, binder, rule-use, eod, group, switch, last-case, case-default, case-cases, once, repeated, last-member, and-members, last-branch, or-branches, Rule, rule, Rules, last-rule, and-rules}
-use Rattle.tree.specs.Spelling.{uint-word, var-word, spelled-as, spell-primary, spell-operand, spell-factors, spell-product, spell-summands, spell-calculation, spell-item, spell-set, spell-counts, comparison-sign, spell-tests, spell-mark, spell, spell-rule, spell-rules, spelled}
-use Rattle.tree_form.specs.Stored.{store-primary, store-operand, store-factors, store-summands, store-calculation, store-item, store-set, store-counts, tag-of, store-tests, store-mark, store-case, how-bound, store, store-rule, stored}
+use Rattle.tree.specs.Tree.{Primary, Operand, Factors, Summands, Calculation, Item, whole, choice, Choices, item, Counts, Comparison, tests, test, conjuncts, disjuncts, Tests, Mark, Single, expression, concatenation, factor, atom, cases, Tree, Rules}
+use Rattle.tree.specs.Spelling.{var-word, spelled-as, spell-primary, spell-operand, spell-factors, spell-product, spell-summands, spell-calculation, spell-item, spell-set, spell-counts, comparison-sign, spell-tests, spell-mark, spell, spell-rules, spelled}
+use Rattle.tree_form.specs.Stored.{start-of-primary, start-of-operand, start-of-product, store-product, start-of, store-primary, store-operand, store-factors, store-summands, store-calculation, store-item, store-set, store-counts, tag-of, store-tests, store-mark, how-bound, store, stored}
 
 -- ---- rests that are no part of the tree
 
@@ -484,3 +484,8 @@ Room (Symbol.cases d p i ∷ ks) = Room ks
 Room (Symbol.switch-end p i ∷ ks) = Room ks
 Room (Symbol.rules any ∷ ks) = Room ks
 Room (Symbol.rule-end p i ∷ ks) = Room ks
+
+-- opens how parts are spelled and stored
+unfoldable pub opened : Unit {0}
+unfolding spell-primary spell-operand spell-factors spell-product spell-summands spell-calculation spell-item spell-set spell-counts spell-tests spell-mark spell spell-rules start-of-primary start-of-operand start-of-product store-primary store-operand store-factors store-product store-summands store-calculation store-item store-set store-counts store-tests start-of store-mark store stored spell-upper spell-reach spell-exception spell-excluded spell-choices spell-links spell-joined spell-marked spell-members spell-branches spell-character spell-field spell-cases spell-more-rules store-upper store-item-reach store-counts-reach store-exception store-excluded store-choices store-links store-joined store-marked store-members store-branches store-character store-fields store-cases store-more-rules
+opened = tt

@@ -1,35 +1,29 @@
 -- The spelling of a tree is read as that tree.
 -- Assumes nothing.
 use Prim.Native.Nat.{ℕ, _+_, _<_}
-use mathlib.Core.Path.{_≡_, refl, sym, ap, subst, _∙_}
-use mathlib.Core.Bool.{Bool, true, false, cond}
-use mathlib.Core.List.{List, [], _∷_}
+use mathlib.Core.Path.{_≡_, refl, ap, subst, _∙_}
+use mathlib.Core.Bool.{Bool, true, false}
+use mathlib.Core.List.{List, _∷_}
 use native.Mathlib.Omega.{arith}
 use borrow.Author.Tests.{ltb-true, lt-ltb}
-use lib.Dec.{eqb, leb, ltb}
-use lib.ListN.{length}
+use lib.Dec.{eqb}
 use Rattle.text_tokens.specs.declared.Kind.{Kind}
-use Rattle.text_parsing.specs.Terminals.{begins, name-like, begin-like}
-use Rattle.text_store.specs.Store.{State, nodes-of, terms-of, add, single, insert, leaf, bind}
+use Rattle.text_parsing.specs.Terminals.{begin-like}
+use Rattle.text_store.specs.Store.{State, terms-of}
 use Rattle.text_parsing.specs.Symbols.{Symbol}
-use Rattle.text_parsing.specs.Form.{Fed}
-use Rattle.tree.specs.Lexemes.{Sign, Name, Number, Literal, Lexeme, sign, word, numeral, quoted, finish, place-of}
-use Rattle.tree.specs.Tree.{Primary, number, variable, Operand, plain, opposite, Factors, no-factor, times, Product, product, Summands, no-summand, plus, minus, Calculation, sum, Item, everything, only, between, from, up-to, SetPart, whole, choice, Choices, item, item-but-item, item-but-set, last-choice, or-choices, Counts, exactly, at-least, at-most, span, Comparison, equal, unequal, less, at-most-as, greater, at-least-as, TestPart, tests, test, conjuncts, disjuncts, Tests, compare, test-group, one-test, all-of, any-of, last-conjunct, and-conjuncts, last-disjunct, or-disjuncts, Mark, optional, any-number, one-or-more, counted, eod-word, Single, Part, expression, concatenation, factor, atom, cases, Tree, literal, range, field, binder, rule-use, eod, group, switch, last-case, case-default, case-cases, once, repeated, last-member, and-members, last-branch, or-branches, Rule, rule, Rules, last-rule, and-rules}
-use Rattle.tree.specs.Spelling.{uint-word, var-word, spelled-as, spell-primary, spell-operand, spell-factors, spell-product, spell-summands, spell-calculation, spell-item, spell-set, spell-counts, comparison-sign, spell-tests, spell-mark, spell, spell-rule, spell-rules, spelled}
-use Rattle.tree_form.proofs.Classified.{code, opens, seen-with}
-use Rattle.tree_form.proofs.Rests.{Upper, no-upper, an-upper, Reach, alone, reaches, Exception, no-exception, but-item, but-set, Excluded, excluded-item, excluded-set, MoreChoices, no-choice, more-choices, Links, no-link, link, Joined, not-joined, by-and, by-or, Marked, no-mark, a-mark, MoreMembers, no-member, more-members, MoreBranches, no-branch, more-branches, ToCharacter, no-character, to-character, FieldSet, plain-set, bound-set, MoreCases, no-case, default, more-cases, MoreRules, no-rule, more-rules, kind-of, Rest, Rests, Ground}
-use Rattle.tree_form.proofs.Words.{is-single, is-other, plain-name, word-has}
-use Rattle.tree_form.proofs.Parts.{item-from, choice-from, chosen, counts-from, all-from, any-from, tests-from, factor-from, members-from, branches-from, character-from, field-from, closing, cases-from, rules-from}
-use Rattle.tree_form.proofs.Leading.{Leads, goes, ends, faults, Turns, turned, by-test, by-cond, by-tag, takes, fed, primary-leads, operand-leads, calculation-leads, item-leads, choice-leads, set-leads, test-leads, condition-leads, field-leads, switch-leads, atom-leads, factor-leads, concatenation-leads, summand-leads, comparison-leads, mark-leads, binder-leads, end-leads, signed, no-minus, factors-end, summands-end, summed, item-begun, item-end, upper, upper-end, exception-end, excluded-one, one-choice, choices-end, set-begun, counts-begun, counts-tail-end, compared, condition-begun, joined-end, chain-end, factor-begun, concatenation-begun, expression-begun, mark-end, members-end, branches-end, character-end, set-not-bound, case-begun}
-use Rattle.tree_form.proofs.Reading.{Parsed, tree, no-tree, mapped, Onward, after, parse}
-use mathlib.Core.Bool.{Bool-set}
-use native.Mathlib.Nat.{ℕ-set}
+use Rattle.tree.specs.Lexemes.{Sign, Name, Lexeme, sign, word}
+use Rattle.tree.specs.Tree.{Primary, number, variable, Operand, plain, opposite, Factors, no-factor, times, product, Summands, no-summand, plus, minus, Calculation, sum, Item, everything, only, between, from, up-to, SetPart, whole, choice, Choices, item, item-but-item, item-but-set, last-choice, or-choices, Counts, exactly, at-least, at-most, span, Comparison, equal, unequal, less, at-most-as, greater, at-least-as, TestPart, tests, test, conjuncts, disjuncts, Tests, compare, test-group, one-test, all-of, any-of, last-conjunct, and-conjuncts, last-disjunct, or-disjuncts, Mark, optional, any-number, one-or-more, counted, cases, Tree, last-case, case-default, case-cases}
+use Rattle.tree.specs.Spelling.{spell-primary, spell-operand, spell-factors, spell-product, spell-summands, spell-calculation, spell-item, spell-set, spell-counts, comparison-sign, spell-tests, spell-mark, spell}
+use Rattle.tree_form.proofs.Classified.{code, opens}
+use Rattle.tree_form.proofs.Rests.{Upper, no-upper, an-upper, reaches, but-item, but-set, excluded-set, MoreChoices, no-choice, more-choices, Links, no-link, link, not-joined, by-and, by-or, a-mark, Rests, Ground}
+use Rattle.tree_form.proofs.Words.{word-has}
+use Rattle.tree_form.proofs.Parts.{chosen, all-from, any-from}
+use Rattle.tree_form.proofs.Leading.{fed}
+use Rattle.tree_form.proofs.Reading.{tree, after, parse, reading}
 use native.Mathlib.Bridge.{le-prop}
-use Rattle.text_header.specs.Spans.{starts}
 use Rattle.text_header.proofs.Tests.{picked}
-use Rattle.text_tokens.specs.Names.{word-number, reserved-of}
-use Rattle.text_parsing.specs.Terminals.{word-code}
-use Rattle.tree_form.proofs.Skips.{Reads, head-code, Not, onward, test-on, cond-on, past-sign, past-factors, past-summands, past-item, past-upper, past-exception, past-choices, past-counts, past-joined, past-mark, past-members, past-branches, past-character, past-chain, begin-operand, begin-calculation, begin-item, begin-upper, begin-excluded, begin-choice, begin-set, begin-counts, begin-test, begin-condition, begin-factor, begin-concatenation, begin-expression, begin-field-set, begin-cases}
+use Rattle.text_tokens.specs.Names.{reserved-of}
+use Rattle.tree_form.proofs.Skips.{Reads, head-code, Not, onward, cond-on, past-sign, past-factors, past-summands, past-item, past-upper, past-exception, past-choices, past-counts, past-joined, past-chain, begin-operand, begin-calculation, begin-item, begin-upper, begin-excluded, begin-choice, begin-set, begin-counts, begin-test, begin-condition}
 
 -- ---- the first token of a spelling
 
@@ -150,18 +144,18 @@ AfterBranches w = AfterMembers w × Not 124 w
 -- ---- calculations
 
 reads-primary : (o : ℕ) (a : Primary) {w : List Lexeme} {ks : List Symbol} {g : Ground ks} {r : Rests ks} → Reads w ks g r → Reads (spell-primary a w) (Symbol.primary o ∷ ks) g (a, r)
-unfolding turned by-test by-cond by-tag takes fed primary-leads operand-leads calculation-leads item-leads choice-leads set-leads test-leads condition-leads field-leads switch-leads atom-leads factor-leads concatenation-leads summand-leads comparison-leads mark-leads binder-leads end-leads parse after spell-primary
+unfolding reading spell-primary
 reads-primary o (number n) h = record { read = λ st. onward _ (h .read _) }
 reads-primary o (variable x) {w} {ks} {g} {r} h =
     record { read = λ st. word-has x (opens w) (λ c e. after (λ st′ ks′ g′. parse w st′ ks′ g′) (fed (word x) (opens w) c e st (Symbol.primary o ∷ ks) g) ≡ tree (variable x, r)) (λ e. onward _ (h .read _)) (λ e. onward _ (h .read _)) (λ e. onward _ (h .read _)) (λ e. onward _ (h .read _)) (code (word x) (opens w)) refl }
 
 reads-operand : (o : ℕ) (a : Operand) {w : List Lexeme} {ks : List Symbol} {g : Ground ks} {r : Rests ks} → Reads w ks g r → Reads (spell-operand a w) (Symbol.operand o ∷ ks) g (a, r)
-unfolding turned by-test by-cond by-tag takes fed primary-leads operand-leads calculation-leads item-leads choice-leads set-leads test-leads condition-leads field-leads switch-leads atom-leads factor-leads concatenation-leads summand-leads comparison-leads mark-leads binder-leads end-leads parse after spell-operand
+unfolding reading spell-operand
 reads-operand o (plain x) {w} h = begin-operand o (spell-primary x w) (primary-head (λ (v : ℕ). eqb v 45 ≡ false) refl refl refl refl refl x w) (reads-primary o x h)
 reads-operand o (opposite s x) {w} h = record { read = λ st. onward _ (reads-primary o x (past-sign 6 (s .start) o w h) .read _) }
 
 reads-factors : (o : ℕ) (a : Factors) {w : List Lexeme} {ks : List Symbol} {g : Ground ks} {r : Rests ks} → Not 42 w → Reads w ks g r → Reads (spell-factors a w) (Symbol.factors o ∷ ks) g (a, r)
-unfolding turned by-test by-cond by-tag takes fed primary-leads operand-leads calculation-leads item-leads choice-leads set-leads test-leads condition-leads field-leads switch-leads atom-leads factor-leads concatenation-leads summand-leads comparison-leads mark-leads binder-leads end-leads parse after spell-factors
+unfolding reading spell-factors
 reads-factors o no-factor {w} f h = past-factors o w f h
 reads-factors o (times s x more) {w} f h = record { read = λ st. onward _ (reads-operand o x (past-sign 5 (s .start) o (spell-factors more w) (reads-factors o more f h)) .read _) }
 
@@ -172,7 +166,7 @@ summands-not (plus s x more) w f = refl
 summands-not (minus s x more) w f = refl
 
 reads-summands : (o : ℕ) (a : Summands) {w : List Lexeme} {ks : List Symbol} {g : Ground ks} {r : Rests ks} → AfterSum w → Reads w ks g r → Reads (spell-summands a w) (Symbol.summands o ∷ ks) g (a, r)
-unfolding turned by-test by-cond by-tag takes fed primary-leads operand-leads calculation-leads item-leads choice-leads set-leads test-leads condition-leads field-leads switch-leads atom-leads factor-leads concatenation-leads summand-leads comparison-leads mark-leads binder-leads end-leads parse after spell-summands spell-product
+unfolding reading spell-summands spell-product
 reads-summands o no-summand {w} f h = past-summands o w (f .1) (f .2) h
 reads-summands o (plus s (product x fs) more) {w} f h = record { read = λ st. onward _ (reads-operand o x (reads-factors o fs (summands-not more w (f .0)) (past-sign 3 (s .start) o (spell-summands more w) (reads-summands o more f h))) .read _) }
 reads-summands o (minus s (product x fs) more) {w} f h = record { read = λ st. onward _ (reads-operand o x (reads-factors o fs (summands-not more w (f .0)) (past-sign 4 (s .start) o (spell-summands more w) (reads-summands o more f h))) .read _) }
@@ -187,11 +181,11 @@ reads-upper : (some none p : ℕ) (b : Calculation) {w : List Lexeme} {ks : List
 reads-upper some none p b {w} f h = begin-upper some none p (spell-calculation b w) (calculation-begins-here b w) (reads-calculation b f (past-sign some p 0 w h))
 
 reads-tilde : (s : Sign) (u : Upper) {w : List Lexeme} {ks : List Symbol} {g : Ground ks} {r : Rests ks} → Reads w (Symbol.bound 8 9 (s .start) ∷ ks) g (u, r) → Reads (sign Kind.Tilde s ∷ w) (Symbol.item-tail ∷ ks) g (reaches s u, r)
-unfolding turned by-test by-cond by-tag takes fed primary-leads operand-leads calculation-leads item-leads choice-leads set-leads test-leads condition-leads field-leads switch-leads atom-leads factor-leads concatenation-leads summand-leads comparison-leads mark-leads binder-leads end-leads parse after
+unfolding reading
 reads-tilde s u h = record { read = λ st. onward _ (h .read _) }
 
 reads-item : (a : Item) {w : List Lexeme} {ks : List Symbol} {g : Ground ks} {r : Rests ks} → AfterItem w → Reads w ks g r → Reads (spell-item a w) (Symbol.item ∷ ks) g (a, r)
-unfolding turned by-test by-cond by-tag takes fed primary-leads operand-leads calculation-leads item-leads choice-leads set-leads test-leads condition-leads field-leads switch-leads atom-leads factor-leads concatenation-leads summand-leads comparison-leads mark-leads binder-leads end-leads parse after spell-item
+unfolding reading spell-item
 reads-item (everything s) {w} f h = record { read = λ st. onward _ (past-upper 10 7 (s .start) w (f .2) h .read _) }
 reads-item (only a) {w} f h = begin-item (spell-calculation a w) (calculation-not 126 refl refl refl refl refl refl a w) (reads-calculation a (f .0) (past-item w (f .1) h))
 reads-item (between a s b) {w} f h = begin-item (spell-calculation a (sign Kind.Tilde s ∷ spell-calculation b w)) (calculation-not 126 refl refl refl refl refl refl a (sign Kind.Tilde s ∷ spell-calculation b w)) (reads-calculation a (refl, refl, refl) (reads-tilde s (an-upper b) (reads-upper 8 9 (s .start) b (f .0) h)))
@@ -222,23 +216,23 @@ whole-set d b t w ks g r f h =
     (begin-set d (spell-set b w) (t w ks g r f h (Symbol.alternatives d ∷ ks) g (λ z. z) (λ ls z y. y)))
 
 pub reads-close : (c : Sign) {w : List Lexeme} {ks : List Symbol} {g : Ground ks} {r : Rests ks} → Reads w ks g r → Reads (sign Kind.CloseParen c ∷ w) (Symbol.want 41 ∷ ks) (refl, g) (c, r)
-unfolding turned by-test by-cond by-tag takes fed primary-leads operand-leads calculation-leads item-leads choice-leads set-leads test-leads condition-leads field-leads switch-leads atom-leads factor-leads concatenation-leads summand-leads comparison-leads mark-leads binder-leads end-leads parse after
+unfolding reading
 reads-close c h = record { read = λ st. onward _ (h .read _) }
 
 reads-bang-item : (d : ℕ) (s : Sign) (b : Item) {w : List Lexeme} {ks : List Symbol} {g : Ground ks} {r : Rests ks} → AfterItem w → Reads w ks g r → Reads (sign Kind.Bang s ∷ spell-item b w) (Symbol.exception d ∷ ks) g (but-item s b, r)
-unfolding turned by-test by-cond by-tag takes fed primary-leads operand-leads calculation-leads item-leads choice-leads set-leads test-leads condition-leads field-leads switch-leads atom-leads factor-leads concatenation-leads summand-leads comparison-leads mark-leads binder-leads end-leads parse after
+unfolding reading
 reads-bang-item d s b {w} f h = record { read = λ st. onward _ (begin-excluded d (spell-item b w) (item-not b w) (reads-item b f (past-sign 12 (s .start) 0 w h)) .read _) }
 
 reads-excluded-set : (d : ℕ) (l : d < 16) (o : Sign) (b : Choices whole (d + 1)) (c : Sign) {w : List Lexeme} {ks : List Symbol} {g : Ground ks} {r : Rests ks} → Reads w (Symbol.value-set (d + 1) ∷ Symbol.want 41 ∷ ks) (refl, g) (b, (c, r)) → Reads (sign Kind.OpenParen o ∷ w) (Symbol.excluded d ∷ ks) g (excluded-set l o b c, r)
-unfolding turned by-test by-cond by-tag takes fed primary-leads operand-leads calculation-leads item-leads choice-leads set-leads test-leads condition-leads field-leads switch-leads atom-leads factor-leads concatenation-leads summand-leads comparison-leads mark-leads binder-leads end-leads parse after
+unfolding reading
 reads-excluded-set d l o b c {r = r} h = record { read = λ st. cond-on _ _ _ _ (lt-ltb d 16 l) (λ u. onward _ (h .read _) ∙ λ i. tree (excluded-set (le-prop (ltb-true d 16 u) l i) o b c, r)) }
 
 reads-bang-set : (d : ℕ) (l : d < 16) (s o : Sign) (b : Choices whole (d + 1)) (c : Sign) {w : List Lexeme} {ks : List Symbol} {g : Ground ks} {r : Rests ks} → Reads w (Symbol.excluded d ∷ Symbol.sign 12 (s .start) 0 ∷ ks) g (excluded-set l o b c, (tt, r)) → Reads (sign Kind.Bang s ∷ w) (Symbol.exception d ∷ ks) g (but-set l s o b c, r)
-unfolding turned by-test by-cond by-tag takes fed primary-leads operand-leads calculation-leads item-leads choice-leads set-leads test-leads condition-leads field-leads switch-leads atom-leads factor-leads concatenation-leads summand-leads comparison-leads mark-leads binder-leads end-leads parse after
+unfolding reading
 reads-bang-set d l s o b c h = record { read = λ st. onward _ (h .read _) }
 
 reads-bar : (d : ℕ) (s : Sign) (b : Choices whole d) {w : List Lexeme} {ks : List Symbol} {g : Ground ks} {r : Rests ks} → Reads w (Symbol.alternative d ∷ Symbol.sign 11 (s .start) 0 ∷ Symbol.alternatives d ∷ ks) g (first-choice b, (tt, (rest-choices b, r))) → Reads (sign Kind.Bar s ∷ w) (Symbol.alternatives d ∷ ks) g (more-choices s b, r)
-unfolding turned by-test by-cond by-tag takes fed primary-leads operand-leads calculation-leads item-leads choice-leads set-leads test-leads condition-leads field-leads switch-leads atom-leads factor-leads concatenation-leads summand-leads comparison-leads mark-leads binder-leads end-leads parse after
+unfolding reading
 reads-bar d s b {r = r} h = record { read = λ st. onward _ (h .read _) ∙ λ i. tree (more-choices s (same-choices b i), r) }
 
 reads-set : {p : SetPart} {d : ℕ} (a : Choices p d) → SetReads p d a
@@ -265,7 +259,7 @@ reads-value-set d b c {w} {ks} {g} {r} h = whole-set d b (reads-set b) (sign Kin
 
 -- the set of a field, and the parenthesis that ends the field
 pub reads-field-set : (d p v name how f : ℕ) (b : Choices whole d) (c : Sign) {w : List Lexeme} {ks : List Symbol} {g : Ground ks} {r : Rests ks} → Reads w ks g r → Reads (spell-set b (sign Kind.CloseParen c ∷ w)) (Symbol.value-set d ∷ Symbol.field-end p v name how f ∷ ks) g (b, (c, r))
-unfolding turned by-test by-cond by-tag takes fed primary-leads operand-leads calculation-leads item-leads choice-leads set-leads test-leads condition-leads field-leads switch-leads atom-leads factor-leads concatenation-leads summand-leads comparison-leads mark-leads binder-leads end-leads parse after
+unfolding reading
 reads-field-set d p v name how f b c {w} {ks} {g} {r} h =
     whole-set d b (reads-set b) (sign Kind.CloseParen c ∷ w) (Symbol.field-end p v name how f ∷ ks) g (c, r) ((((refl, refl, refl), refl, refl), refl), refl)
     (record { read = λ st. onward _ (h .read _) })
@@ -273,11 +267,11 @@ reads-field-set d p v name how f b c {w} {ks} {g} {r} h =
 -- ---- counts
 
 reads-counts-tilde : (s : Sign) (u : Upper) {w : List Lexeme} {ks : List Symbol} {g : Ground ks} {r : Rests ks} → Reads w (Symbol.bound 8 9 (s .start) ∷ ks) g (u, r) → Reads (sign Kind.Tilde s ∷ w) (Symbol.counts-tail ∷ ks) g (reaches s u, r)
-unfolding turned by-test by-cond by-tag takes fed primary-leads operand-leads calculation-leads item-leads choice-leads set-leads test-leads condition-leads field-leads switch-leads atom-leads factor-leads concatenation-leads summand-leads comparison-leads mark-leads binder-leads end-leads parse after
+unfolding reading
 reads-counts-tilde s u h = record { read = λ st. onward _ (h .read _) }
 
 reads-counts : (n : Counts) {w : List Lexeme} {ks : List Symbol} {g : Ground ks} {r : Rests ks} → AfterItem w → Reads w ks g r → Reads (spell-counts n w) (Symbol.counts ∷ ks) g (n, r)
-unfolding turned by-test by-cond by-tag takes fed primary-leads operand-leads calculation-leads item-leads choice-leads set-leads test-leads condition-leads field-leads switch-leads atom-leads factor-leads concatenation-leads summand-leads comparison-leads mark-leads binder-leads end-leads parse after spell-counts
+unfolding reading spell-counts
 reads-counts (exactly a) {w} f h = begin-counts (spell-calculation a w) (calculation-not 126 refl refl refl refl refl refl a w) (reads-calculation a (f .0) (past-counts w (f .1) h))
 reads-counts (at-least a s) {w} f h = begin-counts (spell-calculation a (sign Kind.Tilde s ∷ w)) (calculation-not 126 refl refl refl refl refl refl a (sign Kind.Tilde s ∷ w)) (reads-calculation a (refl, refl, refl) (reads-counts-tilde s no-upper (past-upper 8 9 (s .start) w (f .2) h)))
 reads-counts (at-most s b) {w} f h = record { read = λ st. onward _ (reads-calculation b (f .0) (past-sign 10 (s .start) 0 w h) .read _) }
@@ -285,7 +279,7 @@ reads-counts (span a s b) {w} f h = begin-counts (spell-calculation a (sign Kind
 
 -- a repetition mark
 pub reads-mark : (p i : ℕ) (m : Mark) {w : List Lexeme} {ks : List Symbol} {g : Ground ks} {r : Rests ks} → Reads w ks g r → Reads (spell-mark m w) (Symbol.marked p i ∷ ks) g (a-mark m, r)
-unfolding turned by-test by-cond by-tag takes fed primary-leads operand-leads calculation-leads item-leads choice-leads set-leads test-leads condition-leads field-leads switch-leads atom-leads factor-leads concatenation-leads summand-leads comparison-leads mark-leads binder-leads end-leads parse after spell-mark
+unfolding reading spell-mark
 reads-mark p i (optional s) h = record { read = λ st. onward _ (h .read _) }
 reads-mark p i (any-number s) h = record { read = λ st. onward _ (h .read _) }
 reads-mark p i (one-or-more s) h = record { read = λ st. onward _ (h .read _) }
@@ -305,7 +299,7 @@ comparison-after greater s w = (refl, refl, refl)
 comparison-after at-least-as s w = (refl, refl, refl)
 
 reads-comparison : (i : Comparison) (s : Sign) (b : Calculation) {w : List Lexeme} {ks : List Symbol} {g : Ground ks} {r : Rests ks} → AfterSum w → Reads w ks g r → Reads (sign (comparison-sign i) s ∷ spell-calculation b w) (Symbol.comparison ∷ ks) g ((i, s, b), r)
-unfolding turned by-test by-cond by-tag takes fed primary-leads operand-leads calculation-leads item-leads choice-leads set-leads test-leads condition-leads field-leads switch-leads atom-leads factor-leads concatenation-leads summand-leads comparison-leads mark-leads binder-leads end-leads parse after
+unfolding reading
 reads-comparison equal s b {w} f h = record { read = λ st. onward _ (reads-calculation b f (past-sign 14 (s .start) 0 w h) .read _) }
 reads-comparison unequal s b {w} f h = record { read = λ st. onward _ (reads-calculation b f (past-sign 15 (s .start) 0 w h) .read _) }
 reads-comparison less s b {w} f h = record { read = λ st. onward _ (reads-calculation b f (past-sign 16 (s .start) 0 w h) .read _) }
@@ -347,23 +341,23 @@ TestReads conjuncts d a = (w : List Lexeme) (ks : List Symbol) (g : Ground ks) (
 TestReads disjuncts d a = (w : List Lexeme) (ks : List Symbol) (g : Ground ks) (r : Rests ks) → AfterTests w → Reads w ks g r → (p : ℕ) → Reads (spell-tests a w) (Symbol.test d ∷ Symbol.sign 11 p 0 ∷ Symbol.chain 124 11 d ∷ ks) (refl, g) (first-or a, (tt, (rest-or a, r)))
 
 reads-test-group : (d : ℕ) (l : d < 16) (o : Sign) (a : Tests tests (d + 1)) (c : Sign) {w : List Lexeme} {ks : List Symbol} {g : Ground ks} {r : Rests ks} → Reads w (Symbol.condition (d + 1) ∷ Symbol.want 41 ∷ ks) (refl, g) (a, (c, r)) → Reads (sign Kind.OpenParen o ∷ w) (Symbol.test d ∷ ks) g (test-group l o a c, r)
-unfolding turned by-test by-cond by-tag takes fed primary-leads operand-leads calculation-leads item-leads choice-leads set-leads test-leads condition-leads field-leads switch-leads atom-leads factor-leads concatenation-leads summand-leads comparison-leads mark-leads binder-leads end-leads parse after
+unfolding reading
 reads-test-group d l o a c {r = r} h = record { read = λ st. cond-on _ _ _ _ (lt-ltb d 16 l) (λ u. onward _ (h .read _) ∙ λ i. tree (test-group (le-prop (ltb-true d 16 u) l i) o a c, r)) }
 
 reads-and : (d : ℕ) (s : Sign) (b : Tests conjuncts d) {w : List Lexeme} {ks : List Symbol} {g : Ground ks} {r : Rests ks} → Reads w (Symbol.test d ∷ Symbol.sign 13 (s .start) 0 ∷ Symbol.chain 38 13 d ∷ ks) (refl, g) (first-and b, (tt, (rest-and b, r))) → Reads (sign Kind.Ampersand s ∷ w) (Symbol.joined d ∷ ks) g (by-and s b, r)
-unfolding turned by-test by-cond by-tag takes fed primary-leads operand-leads calculation-leads item-leads choice-leads set-leads test-leads condition-leads field-leads switch-leads atom-leads factor-leads concatenation-leads summand-leads comparison-leads mark-leads binder-leads end-leads parse after
+unfolding reading
 reads-and d s b {r = r} h = record { read = λ st. onward _ (h .read _) ∙ λ i. tree (by-and s (same-and b i), r) }
 
 reads-or : (d : ℕ) (s : Sign) (b : Tests disjuncts d) {w : List Lexeme} {ks : List Symbol} {g : Ground ks} {r : Rests ks} → Reads w (Symbol.test d ∷ Symbol.sign 11 (s .start) 0 ∷ Symbol.chain 124 11 d ∷ ks) (refl, g) (first-or b, (tt, (rest-or b, r))) → Reads (sign Kind.Bar s ∷ w) (Symbol.joined d ∷ ks) g (by-or s b, r)
-unfolding turned by-test by-cond by-tag takes fed primary-leads operand-leads calculation-leads item-leads choice-leads set-leads test-leads condition-leads field-leads switch-leads atom-leads factor-leads concatenation-leads summand-leads comparison-leads mark-leads binder-leads end-leads parse after
+unfolding reading
 reads-or d s b {r = r} h = record { read = λ st. onward _ (h .read _) ∙ λ i. tree (by-or s (same-or b i), r) }
 
 reads-more-and : (d : ℕ) (s : Sign) (a : Tests test d) (m : Links d) {w : List Lexeme} {ks : List Symbol} {g : Ground ks} {r : Rests ks} → Reads w (Symbol.test d ∷ Symbol.sign 13 (s .start) 0 ∷ Symbol.chain 38 13 d ∷ ks) (refl, g) (a, (tt, (m, r))) → Reads (sign Kind.Ampersand s ∷ w) (Symbol.chain 38 13 d ∷ ks) (refl, g) (link s a m, r)
-unfolding turned by-test by-cond by-tag takes fed primary-leads operand-leads calculation-leads item-leads choice-leads set-leads test-leads condition-leads field-leads switch-leads atom-leads factor-leads concatenation-leads summand-leads comparison-leads mark-leads binder-leads end-leads parse after
+unfolding reading
 reads-more-and d s a m h = record { read = λ st. onward _ (h .read _) }
 
 reads-more-or : (d : ℕ) (s : Sign) (a : Tests test d) (m : Links d) {w : List Lexeme} {ks : List Symbol} {g : Ground ks} {r : Rests ks} → Reads w (Symbol.test d ∷ Symbol.sign 11 (s .start) 0 ∷ Symbol.chain 124 11 d ∷ ks) (refl, g) (a, (tt, (m, r))) → Reads (sign Kind.Bar s ∷ w) (Symbol.chain 124 11 d ∷ ks) (refl, g) (link s a m, r)
-unfolding turned by-test by-cond by-tag takes fed primary-leads operand-leads calculation-leads item-leads choice-leads set-leads test-leads condition-leads field-leads switch-leads atom-leads factor-leads concatenation-leads summand-leads comparison-leads mark-leads binder-leads end-leads parse after
+unfolding reading
 reads-more-or d s a m h = record { read = λ st. onward _ (h .read _) }
 
 pub reads-tests : {p : TestPart} {d : ℕ} (a : Tests p d) → TestReads p d a

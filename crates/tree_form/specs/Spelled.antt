@@ -1,17 +1,28 @@
--- "Right exactly when spelled": what is said of a list of tokens.
+-- "Right exactly when spelled": what is said of the form of rules (refusal 4), of tokens and of trees alone.
 -- Assumes nothing.
 use Prim.Native.Nat.{ℕ}
 use mathlib.Core.Path.{_≡_}
+use mathlib.Core.Bool.{false}
 use mathlib.Core.List.{List, [], _∷_, _++_}
-use Rattle.tree.specs.Lexemes.{Lexeme, place-of}
+use Rattle.text_parsing.specs.Terminals.{sights-from}
+use Rattle.text_store.specs.Store.{State}
+use Rattle.text_parsing.specs.Symbols.{rules}
+use Rattle.text_parsing.specs.Form.{Outcome, right, refused, run}
+use Rattle.tree.specs.Lexemes.{Lexeme, place-of, lexemes}
 use Rattle.tree.specs.Tree.{Rules}
 use Rattle.tree.specs.Spelling.{spelled}
+use Rattle.tree_form.specs.Stored.{stored}
 
--- they spell a tree
-pub record Spells (ls : List Lexeme) : Type 0 where
+-- what the reader answers for the text after its header, from what is stored before: `form-of` of crate `text_syntax`
+abbrev pub answer : List ℕ → State → Outcome
+answer xs st = run (sights-from xs 0) st (rules false ∷ [])
+
+-- tokens spell a tree, and it is stored so
+pub record SpellsStored (ls : List Lexeme) (st f : State) : Type 0 where
   pub tree : Rules
   pub end : ℕ
   pub spells : ls ≡ spelled tree end
+  pub stores : f ≡ stored tree st
 
 -- some tree's spelling begins with them
 pub record Begins (ls : List Lexeme) : Type 0 where
@@ -29,3 +40,12 @@ pub record FirstFault (ls : List Lexeme) (p : ℕ) : Type 0 where
   pub place : place-of there ≡ p
   pub begun : Begins before
   pub unfit : Begins (before ++ there ∷ []) → ⊥
+
+-- "the rules part is of the right form exactly when its tokens spell a tree of depth at most 16, and then exactly one tree; what the reader stores is that
+-- tree's encoding"; "refused at p exactly when the tokens before p begin some tree's spelling, and with the token at p no spelling begins"
+pub record Formed (xs : List ℕ) (st : State) : Type 0 where
+  pub spelled-right : (t : Rules) (end : ℕ) → lexemes xs ≡ spelled t end → answer xs st ≡ right (stored t st)
+  pub right-spelled : (f : State) → answer xs st ≡ right f → SpellsStored (lexemes xs) st f
+  pub one-tree : (t t′ : Rules) (end end′ : ℕ) → lexemes xs ≡ spelled t end → lexemes xs ≡ spelled t′ end′ → (t ≡ t′) × (end ≡ end′)
+  pub refused-first : (p : ℕ) → answer xs st ≡ refused p → FirstFault (lexemes xs) p
+  pub first-refused : (p : ℕ) → FirstFault (lexemes xs) p → answer xs st ≡ refused p
