@@ -8,9 +8,11 @@ use lib.Dec.{lit<}
 use lib.IntN.{pos}
 use Rattle.basis.specs.Counts.{none as no-count, from as count-from, within}
 use Rattle.text_header.specs.Spans.{starts}
-use Rattle.tree.specs.Tree.{number, variable, plain, opposite, no-factor, times, product, no-summand, plus, minus, sum, everything, only, between, from, up-to, item, item-but-item, item-but-set, last-choice, or-choices, exactly, at-least, at-most, span, equal, unequal, less, at-most-as, greater, at-least-as, compare, test-group, one-test, all-of, any-of, last-conjunct, and-conjuncts, last-disjunct, optional, any-number, one-or-more, counted, literal, range, field, binder, rule-use, eod, group, switch, case-default, case-cases, once, repeated, last-member, and-members, last-branch, or-branches, rule, Rules, last-rule, and-rules}
+use Rattle.tree.specs.Tree.{number, variable, plain, opposite, no-factor, times, product, no-summand, plus, minus, sum, everything, only, between, from, up-to, item, item-but-item, item-but-set, last-choice, or-choices, exactly, at-least, at-most, span, equal, unequal, less, at-most-as, greater, at-least-as, compare, test-group, one-test, all-of, any-of, last-conjunct, and-conjuncts, last-disjunct, or-disjuncts, optional, any-number, one-or-more, counted, literal, range, field, binder, rule-use, eod, group, switch, case-default, case-cases, once, repeated, last-member, and-members, last-branch, or-branches, rule, Rules, last-rule, and-rules}
 use Rattle.tree_meaning.proofs.Building.{bytes, at, over, name, num, quote}
-use Rattle.tree_meaning.proofs.Computing.{tokens, written, judged, judgement, one-of, in-order, repeats, opens, takes, ends, seen, placed, marked, admitted, turns}
+use Rattle.tree_meaning.proofs.Computing.{tokens, written, judged, judgement, one-of, in-order, repeats, chooses, opens, takes, ends, see, seen, placed, marked, admitted, turns}
+use lib.ListN.{replicate}
+use Rattle.tree_meaning.specs.Grammar.{tree-grammar}
 
 -- `a = uint(8, ~2 | 4 ! 4 | 5~9 ! (6 | 8~) | 11~);`: each item, `!` before an item and before a set, `|`
 unfoldable pub sets : Rules
@@ -68,15 +70,15 @@ below-admits : admitted below [] 8 (0 ∷ 2 ∷ 254 ∷ 255 ∷ []) ≡ false �
 unfolding admitted below
 below-admits = refl
 
--- `a = uint(8, var(n, ~)) & [n = 9: "a"; n > 7: "b"; n >= 6: "c"; n != 4 & n < 3 & n <= 1: "d"; (n = 2 | n = 3) & n != 3: "e"; n = 3 | n = 4: "f"; : "g";];`: each comparison, `&`, `|`, parentheses; the first true case, else the default
+-- `a = uint(8, var(n, ~)) & [n = 9: "a"; n > 7: "b"; n >= 6: "c"; n < 1: "d"; n <= 1: "e"; n != 3 & n != 4 & n != 2 & n != 1: "f"; (n = 2 | n = 3) & n < 3: "g"; n = 7 | n = 8 | n = 4: "h"; : "i";];`: each comparison, `&`, `|`, parentheses; the first true case, else the default
 unfoldable pub conditions : Rules
-conditions = last-rule (rule (name 0 "a") (at 2) (last-branch (and-members (once (binder (lit< tt) (over 4 8) (at 8) (num 9 10 8) (at 10) (over 12 15) (at 15) (name 16 "n") (at 17) (last-choice (item (everything (at 19)))) (at 20) (at 21))) (at 23) (last-member (once (switch (lit< tt) (at 25) (case-cases (one-test (compare (sum (product (plain (variable (name 26 "n"))) no-factor) no-summand) equal (at 28) (sum (product (plain (number (num 30 31 9))) no-factor) no-summand))) (at 31) (last-branch (last-member (once (literal (quote 33 36 "a"))))) (at 36) (case-cases (one-test (compare (sum (product (plain (variable (name 38 "n"))) no-factor) no-summand) greater (at 40) (sum (product (plain (number (num 42 43 7))) no-factor) no-summand))) (at 43) (last-branch (last-member (once (literal (quote 45 48 "b"))))) (at 48) (case-cases (one-test (compare (sum (product (plain (variable (name 50 "n"))) no-factor) no-summand) at-least-as (over 52 54) (sum (product (plain (number (num 55 56 6))) no-factor) no-summand))) (at 56) (last-branch (last-member (once (literal (quote 58 61 "c"))))) (at 61) (case-cases (all-of (compare (sum (product (plain (variable (name 63 "n"))) no-factor) no-summand) unequal (over 65 67) (sum (product (plain (number (num 68 69 4))) no-factor) no-summand)) (at 70) (and-conjuncts (compare (sum (product (plain (variable (name 72 "n"))) no-factor) no-summand) less (at 74) (sum (product (plain (number (num 76 77 3))) no-factor) no-summand)) (at 78) (last-conjunct (compare (sum (product (plain (variable (name 80 "n"))) no-factor) no-summand) at-most-as (over 82 84) (sum (product (plain (number (num 85 86 1))) no-factor) no-summand))))) (at 86) (last-branch (last-member (once (literal (quote 88 91 "d"))))) (at 91) (case-cases (all-of (test-group (lit< tt) (at 93) (any-of (compare (sum (product (plain (variable (name 94 "n"))) no-factor) no-summand) equal (at 96) (sum (product (plain (number (num 98 99 2))) no-factor) no-summand)) (at 100) (last-disjunct (compare (sum (product (plain (variable (name 102 "n"))) no-factor) no-summand) equal (at 104) (sum (product (plain (number (num 106 107 3))) no-factor) no-summand)))) (at 107)) (at 109) (last-conjunct (compare (sum (product (plain (variable (name 111 "n"))) no-factor) no-summand) unequal (over 113 115) (sum (product (plain (number (num 116 117 3))) no-factor) no-summand)))) (at 117) (last-branch (last-member (once (literal (quote 119 122 "e"))))) (at 122) (case-default (any-of (compare (sum (product (plain (variable (name 124 "n"))) no-factor) no-summand) equal (at 126) (sum (product (plain (number (num 128 129 3))) no-factor) no-summand)) (at 130) (last-disjunct (compare (sum (product (plain (variable (name 132 "n"))) no-factor) no-summand) equal (at 134) (sum (product (plain (number (num 136 137 4))) no-factor) no-summand)))) (at 137) (last-branch (last-member (once (literal (quote 139 142 "f"))))) (at 142) (at 144) (last-branch (last-member (once (literal (quote 146 149 "g"))))) (at 149))))))) (at 150)))))) (at 151))
+conditions = last-rule (rule (name 0 "a") (at 2) (last-branch (and-members (once (binder (lit< tt) (over 4 8) (at 8) (num 9 10 8) (at 10) (over 12 15) (at 15) (name 16 "n") (at 17) (last-choice (item (everything (at 19)))) (at 20) (at 21))) (at 23) (last-member (once (switch (lit< tt) (at 25) (case-cases (one-test (compare (sum (product (plain (variable (name 26 "n"))) no-factor) no-summand) equal (at 28) (sum (product (plain (number (num 30 31 9))) no-factor) no-summand))) (at 31) (last-branch (last-member (once (literal (quote 33 36 "a"))))) (at 36) (case-cases (one-test (compare (sum (product (plain (variable (name 38 "n"))) no-factor) no-summand) greater (at 40) (sum (product (plain (number (num 42 43 7))) no-factor) no-summand))) (at 43) (last-branch (last-member (once (literal (quote 45 48 "b"))))) (at 48) (case-cases (one-test (compare (sum (product (plain (variable (name 50 "n"))) no-factor) no-summand) at-least-as (over 52 54) (sum (product (plain (number (num 55 56 6))) no-factor) no-summand))) (at 56) (last-branch (last-member (once (literal (quote 58 61 "c"))))) (at 61) (case-cases (one-test (compare (sum (product (plain (variable (name 63 "n"))) no-factor) no-summand) less (at 65) (sum (product (plain (number (num 67 68 1))) no-factor) no-summand))) (at 68) (last-branch (last-member (once (literal (quote 70 73 "d"))))) (at 73) (case-cases (one-test (compare (sum (product (plain (variable (name 75 "n"))) no-factor) no-summand) at-most-as (over 77 79) (sum (product (plain (number (num 80 81 1))) no-factor) no-summand))) (at 81) (last-branch (last-member (once (literal (quote 83 86 "e"))))) (at 86) (case-cases (all-of (compare (sum (product (plain (variable (name 88 "n"))) no-factor) no-summand) unequal (over 90 92) (sum (product (plain (number (num 93 94 3))) no-factor) no-summand)) (at 95) (and-conjuncts (compare (sum (product (plain (variable (name 97 "n"))) no-factor) no-summand) unequal (over 99 101) (sum (product (plain (number (num 102 103 4))) no-factor) no-summand)) (at 104) (and-conjuncts (compare (sum (product (plain (variable (name 106 "n"))) no-factor) no-summand) unequal (over 108 110) (sum (product (plain (number (num 111 112 2))) no-factor) no-summand)) (at 113) (last-conjunct (compare (sum (product (plain (variable (name 115 "n"))) no-factor) no-summand) unequal (over 117 119) (sum (product (plain (number (num 120 121 1))) no-factor) no-summand)))))) (at 121) (last-branch (last-member (once (literal (quote 123 126 "f"))))) (at 126) (case-cases (all-of (test-group (lit< tt) (at 128) (any-of (compare (sum (product (plain (variable (name 129 "n"))) no-factor) no-summand) equal (at 131) (sum (product (plain (number (num 133 134 2))) no-factor) no-summand)) (at 135) (last-disjunct (compare (sum (product (plain (variable (name 137 "n"))) no-factor) no-summand) equal (at 139) (sum (product (plain (number (num 141 142 3))) no-factor) no-summand)))) (at 142)) (at 144) (last-conjunct (compare (sum (product (plain (variable (name 146 "n"))) no-factor) no-summand) less (at 148) (sum (product (plain (number (num 150 151 3))) no-factor) no-summand)))) (at 151) (last-branch (last-member (once (literal (quote 153 156 "g"))))) (at 156) (case-default (any-of (compare (sum (product (plain (variable (name 158 "n"))) no-factor) no-summand) equal (at 160) (sum (product (plain (number (num 162 163 7))) no-factor) no-summand)) (at 164) (or-disjuncts (compare (sum (product (plain (variable (name 166 "n"))) no-factor) no-summand) equal (at 168) (sum (product (plain (number (num 170 171 8))) no-factor) no-summand)) (at 172) (last-disjunct (compare (sum (product (plain (variable (name 174 "n"))) no-factor) no-summand) equal (at 176) (sum (product (plain (number (num 178 179 4))) no-factor) no-summand))))) (at 179) (last-branch (last-member (once (literal (quote 181 184 "h"))))) (at 184) (at 186) (last-branch (last-member (once (literal (quote 188 191 "i"))))) (at 191))))))))) (at 192)))))) (at 193))
 
-conditions-read : tokens "a = uint(8, var(n, ~)) & [n = 9: \"a\"; n > 7: \"b\"; n >= 6: \"c\"; n != 4 & n < 3 & n <= 1: \"d\"; (n = 2 | n = 3) & n != 3: \"e\"; n = 3 | n = 4: \"f\"; : \"g\";];" ≡ written conditions 152
+conditions-read : tokens "a = uint(8, var(n, ~)) & [n = 9: \"a\"; n > 7: \"b\"; n >= 6: \"c\"; n < 1: \"d\"; n <= 1: \"e\"; n != 3 & n != 4 & n != 2 & n != 1: \"f\"; (n = 2 | n = 3) & n < 3: \"g\"; n = 7 | n = 8 | n = 4: \"h\"; : \"i\";];" ≡ written conditions 194
 unfolding tokens written conditions
 conditions-read = refl
 
-conditions-judged : judgement conditions ≡ judged 1 10 1 39 none none none
+conditions-judged : judgement conditions ≡ judged 1 12 1 53 none none none
 unfolding judgement conditions
 conditions-judged = refl
 
@@ -84,23 +86,23 @@ conditions-at-0 : turns conditions (pos 0 ∷ []) 2 ≡ some 6
 unfolding turns conditions
 conditions-at-0 = refl
 
-conditions-at-1 : turns conditions (pos 1 ∷ []) 2 ≡ some 6
+conditions-at-1 : turns conditions (pos 1 ∷ []) 2 ≡ some 7
 unfolding turns conditions
 conditions-at-1 = refl
 
-conditions-at-2 : turns conditions (pos 2 ∷ []) 2 ≡ some 7
+conditions-at-2 : turns conditions (pos 2 ∷ []) 2 ≡ some 9
 unfolding turns conditions
 conditions-at-2 = refl
 
-conditions-at-3 : turns conditions (pos 3 ∷ []) 2 ≡ some 8
+conditions-at-3 : turns conditions (pos 3 ∷ []) 2 ≡ some 11
 unfolding turns conditions
 conditions-at-3 = refl
 
-conditions-at-4 : turns conditions (pos 4 ∷ []) 2 ≡ some 8
+conditions-at-4 : turns conditions (pos 4 ∷ []) 2 ≡ some 10
 unfolding turns conditions
 conditions-at-4 = refl
 
-conditions-at-5 : turns conditions (pos 5 ∷ []) 2 ≡ some 9
+conditions-at-5 : turns conditions (pos 5 ∷ []) 2 ≡ some 8
 unfolding turns conditions
 conditions-at-5 = refl
 
@@ -119,6 +121,47 @@ conditions-at-8 = refl
 conditions-at-9 : turns conditions (pos 9 ∷ []) 2 ≡ some 3
 unfolding turns conditions
 conditions-at-9 = refl
+
+-- `a = uint(8, var(n, ~)) & [n = 1: "a" & "b"; n = 2: "c"*; : "d";];`: cases of several constructs
+unfoldable pub bodies : Rules
+bodies = last-rule (rule (name 0 "a") (at 2) (last-branch (and-members (once (binder (lit< tt) (over 4 8) (at 8) (num 9 10 8) (at 10) (over 12 15) (at 15) (name 16 "n") (at 17) (last-choice (item (everything (at 19)))) (at 20) (at 21))) (at 23) (last-member (once (switch (lit< tt) (at 25) (case-cases (one-test (compare (sum (product (plain (variable (name 26 "n"))) no-factor) no-summand) equal (at 28) (sum (product (plain (number (num 30 31 1))) no-factor) no-summand))) (at 31) (last-branch (and-members (once (literal (quote 33 36 "a"))) (at 37) (last-member (once (literal (quote 39 42 "b")))))) (at 42) (case-default (one-test (compare (sum (product (plain (variable (name 44 "n"))) no-factor) no-summand) equal (at 46) (sum (product (plain (number (num 48 49 2))) no-factor) no-summand))) (at 49) (last-branch (last-member (repeated (literal (quote 51 54 "c")) (any-number (at 54))))) (at 55) (at 57) (last-branch (last-member (once (literal (quote 59 62 "d"))))) (at 62))) (at 63)))))) (at 64))
+
+bodies-read : tokens "a = uint(8, var(n, ~)) & [n = 1: \"a\" & \"b\"; n = 2: \"c\"*; : \"d\";];" ≡ written bodies 65
+unfolding tokens written bodies
+bodies-read = refl
+
+bodies-judged : judgement bodies ≡ judged 1 9 1 7 none none none
+unfolding judgement bodies
+bodies-judged = refl
+
+bodies-seen : seen bodies (pos 2 ∷ []) 8 99 ≡ in-order (1 ∷ 2 ∷ []) ∷ takes 8 true true (pos 99 ∷ []) ∷ chooses (some 6) (3 ∷ 6 ∷ 8 ∷ []) ∷ in-order (4 ∷ 5 ∷ []) ∷ takes 8 false false (pos 2 ∷ []) ∷ takes 8 false false (pos 2 ∷ []) ∷ repeats (count-from 0) (count-from 0) false 7 ∷ takes 8 true true (pos 2 ∷ []) ∷ takes 8 false false (pos 2 ∷ []) ∷ []
+unfolding seen bodies
+bodies-seen = refl
+
+bodies-at-1 : turns bodies (pos 1 ∷ []) 2 ≡ some 3
+unfolding turns bodies
+bodies-at-1 = refl
+
+bodies-at-2 : turns bodies (pos 2 ∷ []) 2 ≡ some 6
+unfolding turns bodies
+bodies-at-2 = refl
+
+bodies-at-3 : turns bodies (pos 3 ∷ []) 2 ≡ some 8
+unfolding turns bodies
+bodies-at-3 = refl
+
+-- `a = 'c'~'e';`: both ends are in it
+unfoldable pub ranges : Rules
+unfolding bytes
+ranges = last-rule (rule (name 0 "a") (at 2) (last-branch (last-member (once (range (quote 4 7 "c") (at 7) (quote 8 11 "e") refl refl)))) (at 11))
+
+ranges-read : tokens "a = 'c'~'e';" ≡ written ranges 12
+unfolding tokens written ranges
+ranges-read = refl
+
+ranges-admits : admitted ranges [] 8 (98 ∷ 99 ∷ 100 ∷ 101 ∷ 102 ∷ []) ≡ false ∷ true ∷ true ∷ true ∷ false ∷ []
+unfolding admitted ranges
+ranges-admits = refl
 
 -- `a = uint(8, var(n, ~)) & 'x'{3} & 'x'{3~} & 'x'{~3} & 'x'{2~3} & 'x'? & 'x'+ & 'x'{n~} & 'x'{~n - 4} & 'x'{n - 4~n};`: counts and what they allow where no values are known
 unfoldable pub counts : Rules
@@ -210,3 +253,22 @@ scopes-read = refl
 scopes-seen : seen scopes (pos 7 ∷ pos 8 ∷ pos 9 ∷ []) 8 8 ≡ in-order (1 ∷ 2 ∷ 3 ∷ []) ∷ opens 4 ∷ takes 8 true true (pos 8 ∷ pos 8 ∷ pos 9 ∷ []) ∷ takes 8 false true (pos 7 ∷ pos 8 ∷ pos 9 ∷ []) ∷ in-order (5 ∷ 6 ∷ 7 ∷ 9 ∷ []) ∷ takes 8 true true (pos 7 ∷ pos 8 ∷ pos 9 ∷ []) ∷ takes 8 true true (pos 7 ∷ pos 8 ∷ pos 8 ∷ []) ∷ repeats (within 9 0) (count-from 0) true 8 ∷ takes 8 false false (pos 7 ∷ pos 8 ∷ pos 9 ∷ []) ∷ takes 8 true true (pos 7 ∷ pos 8 ∷ pos 9 ∷ []) ∷ []
 unfolding seen scopes
 scopes-seen = refl
+
+-- ---- a grammar's opening: number 256 is a use of construct 0, and beyond the last construct nothing derives
+
+straight : tree-grammar chains .start ≡ 256
+unfolding tree-grammar
+straight = refl
+
+opened : see [] [] (tree-grammar chains .node 256) ≡ opens 0
+unfolding tree-grammar
+opened = refl
+
+last : see [] [] (tree-grammar ranges .node 1) ≡ one-of []
+unfolding tree-grammar seen ranges
+last = refl
+
+-- "the rest 0"
+at-first : tree-grammar chains .values ≡ replicate 64 (pos 0)
+unfolding tree-grammar
+at-first = refl

@@ -59,6 +59,10 @@ variables-66 : place-five (judgement (rules 0 1 (chain 32 bound))) ≡ some 100
 unfolding judgement rules ruled chain bound
 variables-66 = refl
 
+variables-65 : place-five (judgement (rules 0 0 (chain 64 bound))) ≡ some 0
+unfolding judgement rules ruled chain bound
+variables-65 = refl
+
 -- "1,024 numbers, variable uses and signs": n numbers and one more, with a `|` between any two
 one : Calculation
 one = sum (product (plain (number (num 0 0 1))) no-factor) no-summand
@@ -82,3 +86,8 @@ terms-1024 = refl
 terms-1025 : judgement (rules 0 0 (sized-by less-one)) ≡ judged 1 2 0 1025 (some 0) none none
 unfolding judgement rules ruled sized-by choices one less-one
 terms-1025 = refl
+
+-- 1,024 of the first rule, and then more
+terms-of-two : place-five (judgement (rules 0 1 (sized-by one))) ≡ some 100
+unfolding judgement rules ruled sized-by choices one
+terms-of-two = refl

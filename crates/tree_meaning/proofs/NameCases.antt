@@ -4,7 +4,7 @@ use mathlib.Core.Path.{_≡_, refl}
 use mathlib.Core.Option.{none, some}
 use lib.Dec.{lit<}
 use Rattle.text_header.specs.Spans.{starts}
-use Rattle.tree.specs.Tree.{number, variable, plain, no-factor, product, no-summand, sum, everything, only, item, last-choice, exactly, equal, compare, one-test, optional, counted, literal, field, binder, rule-use, group, switch, last-case, once, repeated, last-member, and-members, last-branch, or-branches, rule, Rules, last-rule, and-rules}
+use Rattle.tree.specs.Tree.{number, variable, plain, no-factor, product, no-summand, sum, everything, only, item, last-choice, exactly, equal, compare, one-test, optional, counted, literal, field, binder, rule-use, group, switch, last-case, case-default, once, repeated, last-member, and-members, last-branch, or-branches, rule, Rules, last-rule, and-rules}
 use Rattle.tree_meaning.proofs.Building.{bytes, at, over, name, num, quote}
 use Rattle.tree_meaning.proofs.Computing.{tokens, written, judgement, place-six}
 
@@ -57,6 +57,19 @@ reserved-use-read = refl
 reserved-use-six : place-six (judgement reserved-use) ≡ some 4
 unfolding judgement reserved-use
 reserved-use-six = refl
+
+-- `a = sized; sized = "x";`: reserved, although there is such a rule
+unfoldable pub reserved-used : Rules
+unfolding bytes starts
+reserved-used = and-rules (rule (name 0 "a") (at 2) (last-branch (last-member (once (rule-use (name 4 "sized") refl)))) (at 9)) (last-rule (rule (name 11 "sized") (at 17) (last-branch (last-member (once (literal (quote 19 22 "x"))))) (at 22)))
+
+reserved-used-read : tokens "a = sized; sized = \"x\";" ≡ written reserved-used 23
+unfolding tokens written reserved-used
+reserved-used-read = refl
+
+reserved-used-six : place-six (judgement reserved-used) ≡ some 4
+unfolding judgement reserved-used
+reserved-used-six = refl
 
 -- `a = b & uint(8, var(b, ~)); b = "x";`: a variable hides the rule in its whole rule, before its binder too
 unfoldable pub hidden : Rules
@@ -277,6 +290,31 @@ hidden-by-misplaced-read = refl
 hidden-by-misplaced-six : place-six (judgement hidden-by-misplaced) ≡ some 10
 unfolding judgement hidden-by-misplaced
 hidden-by-misplaced-six = refl
+
+-- `a = "x" & uint(8, var(n, ~)) & uint(8, n);`: a member of the top concatenation, not its first
+unfoldable pub second-member : Rules
+second-member = last-rule (rule (name 0 "a") (at 2) (last-branch (and-members (once (literal (quote 4 7 "x"))) (at 8) (and-members (once (binder (lit< tt) (over 10 14) (at 14) (num 15 16 8) (at 16) (over 18 21) (at 21) (name 22 "n") (at 23) (last-choice (item (everything (at 25)))) (at 26) (at 27))) (at 29) (last-member (once (field (lit< tt) (over 31 35) (at 35) (num 36 37 8) (at 37) (last-choice (item (only (sum (product (plain (variable (name 39 "n"))) no-factor) no-summand)))) (at 40))))))) (at 41))
+
+second-member-read : tokens "a = \"x\" & uint(8, var(n, ~)) & uint(8, n);" ≡ written second-member 42
+unfolding tokens written second-member
+second-member-read = refl
+
+second-member-six : place-six (judgement second-member) ≡ none
+unfolding judgement second-member
+second-member-six = refl
+
+-- `a = [1 = 1: "x"; : b;];`: in a default
+unfoldable pub in-default : Rules
+unfolding bytes starts
+in-default = last-rule (rule (name 0 "a") (at 2) (last-branch (last-member (once (switch (lit< tt) (at 4) (case-default (one-test (compare (sum (product (plain (number (num 5 6 1))) no-factor) no-summand) equal (at 7) (sum (product (plain (number (num 9 10 1))) no-factor) no-summand))) (at 10) (last-branch (last-member (once (literal (quote 12 15 "x"))))) (at 15) (at 17) (last-branch (last-member (once (rule-use (name 19 "b") refl)))) (at 20)) (at 21))))) (at 22))
+
+in-default-read : tokens "a = [1 = 1: \"x\"; : b;];" ≡ written in-default 23
+unfolding tokens written in-default
+in-default-read = refl
+
+in-default-six : place-six (judgement in-default) ≡ some 19
+unfolding judgement in-default
+in-default-six = refl
 
 -- `a = uint(8, eod) & "x"{msb};`: a reserved name used as a variable
 unfoldable pub reserved-variables : Rules

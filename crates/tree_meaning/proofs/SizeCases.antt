@@ -151,6 +151,18 @@ a-summand-eight : place-eight (judgement a-summand) ≡ some 30
 unfolding judgement a-summand
 a-summand-eight = refl
 
+-- `a = uint(32, var(x, ~)) & "x"{1 - x * x * 0};`
+unfoldable pub a-difference : Rules
+a-difference = last-rule (rule (name 0 "a") (at 2) (last-branch (and-members (once (binder (lit< tt) (over 4 8) (at 8) (num 9 11 32) (at 11) (over 13 16) (at 16) (name 17 "x") (at 18) (last-choice (item (everything (at 20)))) (at 21) (at 22))) (at 24) (last-member (repeated (literal (quote 26 29 "x")) (counted (at 29) (exactly (sum (product (plain (number (num 30 31 1))) no-factor) (minus (at 32) (product (plain (variable (name 34 "x"))) (times (at 36) (plain (variable (name 38 "x"))) (times (at 40) (plain (number (num 42 43 0))) no-factor))) no-summand))) (at 43)))))) (at 44))
+
+a-difference-read : tokens "a = uint(32, var(x, ~)) & \"x\"{1 - x * x * 0};" ≡ written a-difference 45
+unfolding tokens written a-difference
+a-difference-read = refl
+
+a-difference-eight : place-eight (judgement a-difference) ≡ some 30
+unfolding judgement a-difference
+a-difference-eight = refl
+
 -- `a = uint(8, 0 * 4611686018427387905);`: one factor, which is a number out of its limits as well
 unfoldable pub a-factor : Rules
 a-factor = last-rule (rule (name 0 "a") (at 2) (last-branch (last-member (once (field (lit< tt) (over 4 8) (at 8) (num 9 10 8) (at 10) (last-choice (item (only (sum (product (plain (number (num 12 13 0))) (times (at 14) (plain (number (num 16 35 4611686018427387905))) no-factor)) no-summand)))) (at 35))))) (at 36))
