@@ -7,7 +7,7 @@ use mathlib.Core.Option.{Option, none, some}
 use lib.Dec.{leb, ltb, eqb}
 use lib.IntN.{ℤ, pos}
 use lib.ListN.{length, take, drop, set, replicate}
-use Rattle.basis.specs.Limits.{max-constructs, max-variables}
+use Rattle.basis.specs.Limits.{max-constructs, max-variables, max-terms}
 use Rattle.basis.specs.Bits.{value, frameBits, same}
 use Rattle.basis.specs.Counts.{Counts, from, within, zero-or-one, zero-or-more, one-or-more}
 use Rattle.term_words.specs.Words.{termAt, terms}
@@ -42,7 +42,7 @@ HeldNode = Node Context Values
 
 -- the words of the terms
 abbrev pub term-words : List ℕ → List ℕ
-term-words ws = take 3072 (drop terms-at ws)
+term-words ws = take (3 * max-terms) (drop terms-at ws)
 
 -- the terms from number `start` up to number `end`
 abbrev pub terms-of : List ℕ → ℕ → ℕ → List Term
