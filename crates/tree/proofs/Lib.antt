@@ -1,0 +1,1 @@
+-- Laws of trees and their spelling.
