@@ -56,9 +56,9 @@ use Rattle.run_grants.proofs.Answer as N
 use Rattle.run_grants.proofs.Answer.Laws as N′
 use Rattle.run_grants.proofs.advance as advance
 use Rattle.run_grants.proofs.advance.Symbol as advance-def
-use Rattle.run_grants.proofs.advance.Symbol.{name as #runs·advance}
+use Rattle.run_grants.proofs.advance.Symbol.{name as #run_grants·advance}
 use Rattle.run_grants.proofs.advance.Met as advance-thm
-use Rattle.run_grants.proofs.grant.Key.{name as #runs·grant}
+use Rattle.run_grants.proofs.grant.Key.{name as #run_grants·grant}
 use Rattle.run_grants.proofs.grant as grant
 use Rattle.run_grants.proofs.grant.Statement as stated
 use Rattle.run_grants.proofs.grant.Code as code
@@ -138,7 +138,7 @@ module _ {M : Type 1} (𝓤 : URA M) (H : Heap 𝓤) (A : Atoms 𝓤) (W : Given
       move ! (1 ∷ 0 ∷ []) $ fjoin ! $ move ! (1 ∷ 0 ∷ []) $ fjoin ! $ move ! (1 ∷ 0 ∷ []) $ fjoin ! $
       owned ! N.the-row (Is N.the-row) (EL.makes N.the-type N′.the-plain 𝓤 H A) (r .answer) _ (answer-is r w g) $ move ! (1 ∷ 0 ∷ []) $ done !
 
-  module _ (C : Calls 𝓤 H) (Λ : Loops 𝓤 H) (fm : FmC 𝓤 H (W .laws) C) (known : Triple 𝓤 (C #runs·advance) (Advance 𝓤 H A at-mem run)) where
+  module _ (C : Calls 𝓤 H) (Λ : Loops 𝓤 H) (fm : FmC 𝓤 H (W .laws) C) (known : Triple 𝓤 (C #run_grants·advance) (Advance 𝓤 H A at-mem run)) where
     walk : Is (ShrSlice (named 0) κ₀ u32) t (sliced t ∷ []) → Is (ShrSlice (named 1) κ₁ u8) f (sliced f ∷ []) → Room u32 (length (x .now))
         → ent 𝓤 (onEntry 𝓤 H A grant.signature κs (q₀, (q₁, (q₂, (q₃, tt)))) a vals) (WpFn 𝓤 H C Λ code.function (sliced t ∷ sliced f ∷ sliced x ∷ vptr b o ∷ vint w64 n ∷ []) Post)
     walk pt pf room =
@@ -181,14 +181,14 @@ module _ {M : Type 1} (𝓤 : URA M) (H : Heap 𝓤) (A : Atoms 𝓤) (W : Given
         by ! (exits r w (zs .1 .1 .0) g e l)))))))))))))))))))
 
 module _ {M : Type 1} (𝓤 : URA M) (H : Heap 𝓤) (A : Atoms 𝓤) (W : Given 𝓤 H A) (at-mem : Memory → SProp 𝓤) (run : Routine → Fun 𝓤) where
-  grant-walks : (C : Calls 𝓤 H) (Λ : Loops 𝓤 H) → FmC 𝓤 H (W .laws) C → Triple 𝓤 (C #runs·advance) (Advance 𝓤 H A at-mem run) → Walks 𝓤 H A grant.ended stayed (WpFn 𝓤 H C Λ code.function) (grant.clauses 𝓤 H A at-mem run)
+  grant-walks : (C : Calls 𝓤 H) (Λ : Loops 𝓤 H) → FmC 𝓤 H (W .laws) C → Triple 𝓤 (C #run_grants·advance) (Advance 𝓤 H A at-mem run) → Walks 𝓤 H A grant.ended stayed (WpFn 𝓤 H C Λ code.function) (grant.clauses 𝓤 H A at-mem run)
   grant-walks C Λ fm known =
       walked 𝓤 H A grant.ended stayed (grant.clauses 𝓤 H A at-mem run) (WpFn 𝓤 H C Λ code.function) (λ κs. (slice-vals, (slice-vals, (slice-vals, (ptr-vals, (uint-vals w64, tt))))))
       (λ κs. (shr-slice-tells (named 0) (κs .0) u32, (shr-slice-tells (named 1) (κs .1 .0) u8, (mut-slice-tells (named 2) (κs .1 .1 .0) u32, (mut-tells (named 3) (κs .1 .1 .1 .0) T.the-row, (uint-tells w64, tt))))))
       (λ κs qs bounds a g are. via 𝓤 _ (fst∗ 𝓤 _ (emp 𝓤))
       (walk 𝓤 H A W at-mem run (κs .0) (κs .1 .0) (κs .1 .1 .0) (κs .1 .1 .1 .0) bounds (qs .0) (qs .1 .0) (qs .1 .1 .0) (qs .1 .1 .1 .0) (a .0) (a .1 .0) (a .1 .1 .0) (a .1 .1 .1 .0 .ptr .0) (a .1 .1 .1 .0 .ptr .1) (a .1 .1 .1 .0 .name) (a .1 .1 .1 .0 .now) (a .1 .1 .1 .1 .0) (are .1 .1 .1 .1 .0 .1) C Λ fm known (are .0) (are .1 .0) (are .1 .1 .0 .0 .1)))
 
-grant-meets : {M : Type 1} (𝓤 : URA M) (H : Heap 𝓤) (A : Atoms 𝓤) → Given 𝓤 H A → (at-mem : Memory → SProp 𝓤) (run : Routine → Fun 𝓤) (𝓣 : Tables 𝓤 H) → Triple 𝓤 (𝓣 .C #runs·advance) (Advance 𝓤 H A at-mem run)
+grant-meets : {M : Type 1} (𝓤 : URA M) (H : Heap 𝓤) (A : Atoms 𝓤) → Given 𝓤 H A → (at-mem : Memory → SProp 𝓤) (run : Routine → Fun 𝓤) (𝓣 : Tables 𝓤 H) → Triple 𝓤 (𝓣 .C #run_grants·advance) (Advance 𝓤 H A at-mem run)
     → Meets 𝓤 H A grant.signature (WpFn 𝓤 H (𝓣 .C) (𝓣 .Λ) code.function) (grant.spec 𝓤 H A at-mem run)
 grant-meets 𝓤 H A W at-mem run 𝓣 known =
     walk-meets 𝓤 H A grant.ended stayed W
@@ -199,6 +199,6 @@ pub grant-spec : {M : Type 1} → stated.statement M
 unfolding code.routine tablesOf
 grant-spec 𝓤 H 𝓜 𝓖 𝓡 =
     entered 𝓤 H (tripleOf 𝓤 H (𝓖 .A) grant.signature (grant.spec 𝓤 H (𝓖 .A) (𝓜 .mem) (𝓡 .run)))
-    (tables 𝓤 H 𝓜 𝓡 code.env .C) (tables 𝓤 H 𝓜 𝓡 code.env .Λ) #runs·grant code.function (code.unfolded 𝓤 H 𝓜 𝓡)
+    (tables 𝓤 H 𝓜 𝓡 code.env .C) (tables 𝓤 H 𝓜 𝓡 code.env .Λ) #run_grants·grant code.function (code.unfolded 𝓤 H 𝓜 𝓡)
     (grant-meets 𝓤 H (𝓖 .A) (givenOf 𝓤 H 𝓜 𝓖) (𝓜 .mem) (𝓡 .run) (tablesOf 𝓤 H 𝓜 (tables 𝓤 H 𝓜 𝓡 code.env))
-    (cited 𝓤 H (Advance 𝓤 H (𝓖 .A) (𝓜 .mem) (𝓡 .run)) 𝓜 𝓡 code.env #runs·advance advance-def.routine code.calls-run-grants·advance (advance-thm.met 𝓤 H 𝓜 𝓖 𝓡)))
+    (cited 𝓤 H (Advance 𝓤 H (𝓖 .A) (𝓜 .mem) (𝓡 .run)) 𝓜 𝓡 code.env #run_grants·advance advance-def.routine code.calls-run_grants·advance (advance-thm.met 𝓤 H 𝓜 𝓖 𝓡)))

@@ -59,7 +59,7 @@ use Rattle.run_grants.proofs.Answer as N
 use Rattle.run_grants.proofs.Answer.Laws as N′
 use Rattle.run_grants.proofs.grant as grant
 use Rattle.run_grants.proofs.grant.Symbol as grant-def
-use Rattle.run_grants.proofs.grant.Symbol.{name as #runs·grant}
+use Rattle.run_grants.proofs.grant.Symbol.{name as #run_grants·grant}
 use Rattle.run_grants.proofs.grant.Met as grant-thm
 use Rattle.songrafter.proofs.grant_in_place.Key.{name as #songrafter·grant-in-place}
 use Rattle.songrafter.proofs.grant_in_place as grant-in-place
@@ -162,7 +162,7 @@ module _ {M : Type 1} (𝓤 : URA M) (H : Heap 𝓤) (A : Atoms 𝓤) (W : Given
       move ! (1 ∷ 0 ∷ []) $ fjoin ! $ move ! (1 ∷ 0 ∷ []) $ fjoin ! $ move ! (1 ∷ 0 ∷ []) $ fjoin ! $
       owned ! G.the-row (Is G.the-row) (LL.makes G.the-type G′.the-plain 𝓤 H A) (handed-back r h′) _ (both-are h′ r is g) $ move ! (1 ∷ 0 ∷ []) $ done !
 
-  module _ (C : Calls 𝓤 H) (Λ : Loops 𝓤 H) (fm : FmC 𝓤 H (W .laws) C) (known : Triple 𝓤 (C #runs·grant) (Grant 𝓤 H A at-mem run)) where
+  module _ (C : Calls 𝓤 H) (Λ : Loops 𝓤 H) (fm : FmC 𝓤 H (W .laws) C) (known : Triple 𝓤 (C #run_grants·grant) (Grant 𝓤 H A at-mem run)) where
     walk : Is (ShrSlice (named 0) κ₀ u32) t (sliced t ∷ []) → Is (ShrSlice (named 1) κ₁ u8) f (sliced f ∷ []) → Room u32 (length (x .now)) → Is T.the-row h (mach h ∷ [])
         → ent 𝓤 (onEntry 𝓤 H A grant-in-place.signature κs (q₀, (q₁, (q₂, tt))) a vals) (WpFn 𝓤 H C Λ code.function (sliced t ∷ sliced f ∷ sliced x ∷ mach h ∷ vint w64 n ∷ []) Post)
     walk pt pf room was =
@@ -210,14 +210,14 @@ module _ {M : Type 1} (𝓤 : URA M) (H : Heap 𝓤) (A : Atoms 𝓤) (W : Given
         by ! (exits r (zs .1 .1 .1 .0) (zs .1 .1 .0) was is (told r w g) e l))))))))))))))))))))))
 
 module _ {M : Type 1} (𝓤 : URA M) (H : Heap 𝓤) (A : Atoms 𝓤) (W : Given 𝓤 H A) (at-mem : Memory → SProp 𝓤) (run : Routine → Fun 𝓤) where
-  grant-in-place-walks : (C : Calls 𝓤 H) (Λ : Loops 𝓤 H) → FmC 𝓤 H (W .laws) C → Triple 𝓤 (C #runs·grant) (Grant 𝓤 H A at-mem run) → Walks 𝓤 H A grant-in-place.ended stayed (WpFn 𝓤 H C Λ code.function) (grant-in-place.clauses 𝓤 H A at-mem run)
+  grant-in-place-walks : (C : Calls 𝓤 H) (Λ : Loops 𝓤 H) → FmC 𝓤 H (W .laws) C → Triple 𝓤 (C #run_grants·grant) (Grant 𝓤 H A at-mem run) → Walks 𝓤 H A grant-in-place.ended stayed (WpFn 𝓤 H C Λ code.function) (grant-in-place.clauses 𝓤 H A at-mem run)
   grant-in-place-walks C Λ fm known =
       walked 𝓤 H A grant-in-place.ended stayed (grant-in-place.clauses 𝓤 H A at-mem run) (WpFn 𝓤 H C Λ code.function) (λ κs. (slice-vals, (slice-vals, (slice-vals, (LL.vals T.the-type T′.the-laws, (uint-vals w64, tt))))))
       (λ κs. (shr-slice-tells (named 0) (κs .0) u32, (shr-slice-tells (named 1) (κs .1 .0) u8, (mut-slice-tells (named 2) (κs .1 .1 .0) u32, (LL.tells T.the-type T′.the-laws, (uint-tells w64, tt))))))
       (λ κs qs bounds a g are. via 𝓤 _ (fst∗ 𝓤 _ (emp 𝓤))
       (walk 𝓤 H A W at-mem run (κs .0) (κs .1 .0) (κs .1 .1 .0) bounds (qs .0) (qs .1 .0) (qs .1 .1 .0) (a .0) (a .1 .0) (a .1 .1 .0) (a .1 .1 .1 .0) (a .1 .1 .1 .1 .0) (are .1 .1 .1 .1 .0 .1) C Λ fm known (are .0) (are .1 .0) (are .1 .1 .0 .0 .1) (are .1 .1 .1 .0)))
 
-grant-in-place-meets : {M : Type 1} (𝓤 : URA M) (H : Heap 𝓤) (A : Atoms 𝓤) → Given 𝓤 H A → (at-mem : Memory → SProp 𝓤) (run : Routine → Fun 𝓤) (𝓣 : Tables 𝓤 H) → Triple 𝓤 (𝓣 .C #runs·grant) (Grant 𝓤 H A at-mem run)
+grant-in-place-meets : {M : Type 1} (𝓤 : URA M) (H : Heap 𝓤) (A : Atoms 𝓤) → Given 𝓤 H A → (at-mem : Memory → SProp 𝓤) (run : Routine → Fun 𝓤) (𝓣 : Tables 𝓤 H) → Triple 𝓤 (𝓣 .C #run_grants·grant) (Grant 𝓤 H A at-mem run)
     → Meets 𝓤 H A grant-in-place.signature (WpFn 𝓤 H (𝓣 .C) (𝓣 .Λ) code.function) (grant-in-place.spec 𝓤 H A at-mem run)
 grant-in-place-meets 𝓤 H A W at-mem run 𝓣 known =
     walk-meets 𝓤 H A grant-in-place.ended stayed W
@@ -230,4 +230,4 @@ grant-in-place-spec 𝓤 H 𝓜 𝓖 𝓡 =
     entered 𝓤 H (tripleOf 𝓤 H (𝓖 .A) grant-in-place.signature (grant-in-place.spec 𝓤 H (𝓖 .A) (𝓜 .mem) (𝓡 .run)))
     (tables 𝓤 H 𝓜 𝓡 code.env .C) (tables 𝓤 H 𝓜 𝓡 code.env .Λ) #songrafter·grant-in-place code.function (code.unfolded 𝓤 H 𝓜 𝓡)
     (grant-in-place-meets 𝓤 H (𝓖 .A) (givenOf 𝓤 H 𝓜 𝓖) (𝓜 .mem) (𝓡 .run) (tablesOf 𝓤 H 𝓜 (tables 𝓤 H 𝓜 𝓡 code.env))
-    (cited 𝓤 H (Grant 𝓤 H (𝓖 .A) (𝓜 .mem) (𝓡 .run)) 𝓜 𝓡 code.env #runs·grant grant-def.routine code.calls-run-grants·grant (grant-thm.met 𝓤 H 𝓜 𝓖 𝓡)))
+    (cited 𝓤 H (Grant 𝓤 H (𝓖 .A) (𝓜 .mem) (𝓡 .run)) 𝓜 𝓡 code.env #run_grants·grant grant-def.routine code.calls-run_grants·grant (grant-thm.met 𝓤 H 𝓜 𝓖 𝓡)))
