@@ -201,4 +201,4 @@ grant-spec 𝓤 H 𝓜 𝓖 𝓡 =
     entered 𝓤 H (tripleOf 𝓤 H (𝓖 .A) grant.signature (grant.spec 𝓤 H (𝓖 .A) (𝓜 .mem) (𝓡 .run)))
     (tables 𝓤 H 𝓜 𝓡 code.env .C) (tables 𝓤 H 𝓜 𝓡 code.env .Λ) #run_grants·grant code.function (code.unfolded 𝓤 H 𝓜 𝓡)
     (grant-meets 𝓤 H (𝓖 .A) (givenOf 𝓤 H 𝓜 𝓖) (𝓜 .mem) (𝓡 .run) (tablesOf 𝓤 H 𝓜 (tables 𝓤 H 𝓜 𝓡 code.env))
-    (cited 𝓤 H (Advance 𝓤 H (𝓖 .A) (𝓜 .mem) (𝓡 .run)) 𝓜 𝓡 code.env #run_grants·advance advance-def.routine code.calls-run_grants·advance (advance-thm.met 𝓤 H 𝓜 𝓖 𝓡)))
+    (cited 𝓤 H (Advance 𝓤 H (𝓖 .A) (𝓜 .mem) (𝓡 .run)) 𝓜 𝓡 code.env #run_grants·advance advance-def.routine code.calls-run-grants·advance (advance-thm.met 𝓤 H 𝓜 𝓖 𝓡)))

@@ -230,4 +230,4 @@ grant-in-place-spec 𝓤 H 𝓜 𝓖 𝓡 =
     entered 𝓤 H (tripleOf 𝓤 H (𝓖 .A) grant-in-place.signature (grant-in-place.spec 𝓤 H (𝓖 .A) (𝓜 .mem) (𝓡 .run)))
     (tables 𝓤 H 𝓜 𝓡 code.env .C) (tables 𝓤 H 𝓜 𝓡 code.env .Λ) #songrafter·grant-in-place code.function (code.unfolded 𝓤 H 𝓜 𝓡)
     (grant-in-place-meets 𝓤 H (𝓖 .A) (givenOf 𝓤 H 𝓜 𝓖) (𝓜 .mem) (𝓡 .run) (tablesOf 𝓤 H 𝓜 (tables 𝓤 H 𝓜 𝓡 code.env))
-    (cited 𝓤 H (Grant 𝓤 H (𝓖 .A) (𝓜 .mem) (𝓡 .run)) 𝓜 𝓡 code.env #run_grants·grant grant-def.routine code.calls-run_grants·grant (grant-thm.met 𝓤 H 𝓜 𝓖 𝓡)))
+    (cited 𝓤 H (Grant 𝓤 H (𝓖 .A) (𝓜 .mem) (𝓡 .run)) 𝓜 𝓡 code.env #run_grants·grant grant-def.routine code.calls-run-grants·grant (grant-thm.met 𝓤 H 𝓜 𝓖 𝓡)))
