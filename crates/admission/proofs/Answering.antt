@@ -10,7 +10,7 @@ use Rattle.table_layout.specs.Places.{construct-count}
 use Rattle.table_layout.specs.Held.{held}
 use Rattle.table_judge.specs.Sound.{Sound}
 use Rattle.table_hypotheses.specs.OneTable.{Alike}
-use Rattle.text_parsing.specs.Store.{State, node-words, rule-words, nodes-of}
+use Rattle.text_store.specs.Store.{State, node-words, rule-words, nodes-of}
 use Rattle.admission.specs.Admitted.{words-of, Bounded, LeastMark, RulesRefused, by-empty-body, by-weight, AnsweredRules}
 use Rattle.admission.specs.Late.{Marks, LateRefused, empty-body, overweight, Late, HandedOver}
 use Rattle.admission.specs.declared.Admission.{Admission}

@@ -12,8 +12,9 @@ use lib.ListN.{length}
 use Rattle.term_sizes.specs.declared.Sized.{Sized}
 use Rattle.table_layout.specs.Constructs.{constructAt}
 use Rattle.table_sizes.specs.Measures.{condition-size, own-size, exceeds, oversized}
+use Rattle.text_store.proofs.Numbers.{at-term, at-origin}
 use Rattle.text_shapes.specs.NodeShapes.{tree, Holds, literal-tree, range-tree, use-tree, eod-tree, uint-tree, marked-tree, counted-tree, chain-tree, switch-tree}
-use Rattle.text_names.specs.Words.{node-word, term-word, kind-of}
+use Rattle.text_store.specs.Words.{term-word, kind-of, width-place, own-from, condition-from, term-tag, term-value, term-at, term-origin}
 use Rattle.text_encoding.specs.Numbers.{width-of, condition-start, own-start}
 use Rattle.text_wellformed.specs.Context.{Nodes}
 use Rattle.text_wellformed.proofs.Sums.{side}
@@ -75,13 +76,13 @@ module _ (xs ns ts ws : List ℕ) (n t : ℕ) (e : refusal-8 xs ns ts ws n t ≡
   parts : (least-found t 0 (number-found ts) ≡ Found.Nothing) × (least-found n 0 (node-found xs ns ts ws) ≡ Found.Nothing)
   parts = lesser-none (least-found t 0 (number-found ts)) (least-found n 0 (node-found xs ns ts ws)) e
 
-  pub numbers-right : (k : ℕ) → k < t → (term-word ts k 0 ≡ 1) ⊎ (term-word ts k 0 ≡ 33) → term-word ts k 1 < 4294967296
+  pub numbers-right : (k : ℕ) → k < t → (term-tag ts k ≡ 1) ⊎ (term-tag ts k ≡ 33) → term-value ts k < 4294967296
   numbers-right k h z =
       let f : number-found ts k ≡ Found.Nothing = least-none t 0 (number-found ts) (parts .0) k (omega arith) (omega arith) in
-      let g : ((eqb (term-word ts k 0) 1 || eqb (term-word ts k 0) 33) && ltb 4294967295 (term-word ts k 1)) ≡ false = if-none _ (term-word ts k 2) f in
-      let y : (eqb (term-word ts k 0) 1 || eqb (term-word ts k 0) 33) ≡ true = or-on _ _ (⊎-elim (λ q. inl (eq-eqb (term-word ts k 0) 1 q)) (λ q. inr (eq-eqb (term-word ts k 0) 33 q)) z) in
-      let w : ltb 4294967295 (term-word ts k 1) ≡ false = and-off _ _ g y in
-      omega (arith, ltb-false 4294967295 (term-word ts k 1) w)
+      let g : ((eqb (term-tag ts k) 1 || eqb (term-tag ts k) 33) && ltb 4294967295 (term-value ts k)) ≡ false = if-none _ (term-at ts k) f in
+      let y : (eqb (term-tag ts k) 1 || eqb (term-tag ts k) 33) ≡ true = or-on _ _ (⊎-elim (λ q. inl (eq-eqb (term-tag ts k) 1 q)) (λ q. inr (eq-eqb (term-tag ts k) 33 q)) z) in
+      let w : ltb 4294967295 (term-value ts k) ≡ false = and-off _ _ g y in
+      omega (arith, ltb-false 4294967295 (term-value ts k) w)
 
   node-none : (i : ℕ) → i < n → node-found xs ns ts ws i ≡ Found.Nothing
   node-none i h = least-none n 0 (node-found xs ns ts ws) (parts .1) i (omega arith) (omega arith)
@@ -89,7 +90,7 @@ module _ (xs ns ts ws : List ℕ) (n t : ℕ) (e : refusal-8 xs ns ts ws n t ≡
   pub widths-right : (i : ℕ) → i < n → kind-of ns i ≡ 8 → (1 ≤ width-of xs ns i) × (width-of xs ns i ≤ 32)
   widths-right i h z =
       let f : width-found xs ns i ≡ Found.Nothing = lesser-none (width-found xs ns i) _ (node-none i h) .0 in
-      let g : (eqb (kind-of ns i) 8 && not (leb 1 (width-of xs ns i) && leb (width-of xs ns i) 32)) ≡ false = if-none _ (node-word ns i 3) f in
+      let g : (eqb (kind-of ns i) 8 && not (leb 1 (width-of xs ns i) && leb (width-of xs ns i) 32)) ≡ false = if-none _ (width-place ns i) f in
       let w : (leb 1 (width-of xs ns i) && leb (width-of xs ns i) 32) ≡ true = not-off _ (and-off _ _ g (eq-eqb (kind-of ns i) 8 z)) in
       let v = both-on _ _ w in
       (leb-true 1 (width-of xs ns i) (v .0), leb-true (width-of xs ns i) 32 (v .1))
@@ -97,8 +98,8 @@ module _ (xs ns ts ws : List ℕ) (n t : ℕ) (e : refusal-8 xs ns ts ws n t ≡
   pub sizes-right : (i : ℕ) → i < n → oversized ws i ≡ true → ⊥
   sizes-right i h z =
       let f = lesser-none (width-found xs ns i) _ (node-none i h) in
-      let g = lesser-none (list-found ts (node-word ns i 8) (condition-start ns i) (condition-size ws i)) (list-found ts (node-word ns i 5) (own-start ns i) (own-size ws (constructAt ws i))) (f .1) in
-      either-off (exceeds (condition-size ws i)) (exceeds (own-size ws (constructAt ws i))) (list-none ts (node-word ns i 8) (condition-start ns i) (condition-size ws i) (g .0)) (list-none ts (node-word ns i 5) (own-start ns i) (own-size ws (constructAt ws i)) (g .1)) z
+      let g = lesser-none (list-found ts (condition-from ns i) (condition-start ns i) (condition-size ws i)) (list-found ts (own-from ns i) (own-start ns i) (own-size ws (constructAt ws i))) (f .1) in
+      either-off (exceeds (condition-size ws i)) (exceeds (own-size ws (constructAt ws i))) (list-none ts (condition-from ns i) (condition-start ns i) (condition-size ws i) (g .0)) (list-none ts (own-from ns i) (own-start ns i) (own-size ws (constructAt ws i)) (g .1)) z
 
 -- ---- what is found
 
@@ -120,13 +121,13 @@ if-inside : (fault : Bool) (p : ℕ) → (fault ≡ true → p ≤ 8192) → Ins
 if-inside true p h = h refl
 if-inside false p h = tt
 
-list-inside : (ts : List ℕ) (f start : ℕ) (s : Sized) → ((k : ℕ) → term-word ts k 3 ≤ 8192) → Inside (list-found ts f start s)
+list-inside : (ts : List ℕ) (f start : ℕ) (s : Sized) → ((k : ℕ) → term-origin ts k ≤ 8192) → Inside (list-found ts f start s)
 list-inside ts f start Sized.Passes h = tt
 list-inside ts f start Sized.Malformed h = tt
 list-inside ts f start (Sized.Exceeds at) h = h (f + (at - start))
 
 -- a uint's width stands in the text
-width-inside : {xs ns ts : List ℕ} {i e f g β : ℕ} → Holds xs ns ts tree i e f g β → kind-of ns i ≡ 8 → node-word ns i 3 < length xs
+width-inside : {xs ns ts : List ℕ} {i e f g β : ℕ} → Holds xs ns ts tree i e f g β → kind-of ns i ≡ 8 → width-place ns i < length xs
 width-inside (literal-tree x a b c) z = absurd (omega (arith, x .kind-is, z))
 width-inside (range-tree x a b c d) z = absurd (omega (arith, x .kind-is, z))
 width-inside (use-tree x a b c) z = absurd (omega (arith, x .kind-is, z))
@@ -137,7 +138,7 @@ width-inside (counted-tree x a b c d) z = absurd (omega (arith, x .kind-is, z))
 width-inside (chain-tree x w a b c) z = absurd (⊎-elim (λ k. omega (arith, x .kind-is, z, k)) (λ k. omega (arith, x .kind-is, z, k)) w)
 width-inside (switch-tree x a b) z = absurd (omega (arith, x .kind-is, z))
 
-module _ (xs ns ts ws : List ℕ) (n t : ℕ) (nodes : Nodes xs ns ts n t) (h : length xs ≤ 8192) (terms : (k w : ℕ) → (w ≡ 2) ⊎ (w ≡ 3) → term-word ts k w ≤ 8192) where
+module _ (xs ns ts ws : List ℕ) (n t : ℕ) (nodes : Nodes xs ns ts n t) (h : length xs ≤ 8192) (terms : (k w : ℕ) → (w ≡ at-term) ⊎ (w ≡ at-origin) → term-word ts k w ≤ 8192) where
   -- a width that is wrong
   abbrev wrong : ℕ → Bool
   wrong i = not (leb 1 (width-of xs ns i) && leb (width-of xs ns i) 32)
@@ -145,16 +146,16 @@ module _ (xs ns ts ws : List ℕ) (n t : ℕ) (nodes : Nodes xs ns ts n t) (h : 
   node-inside : (i : ℕ) → i < n → Inside (node-found xs ns ts ws i)
   node-inside i l =
       lesser-inside (width-found xs ns i) _
-      (if-inside (eqb (kind-of ns i) 8 && wrong i) (node-word ns i 3)
+      (if-inside (eqb (kind-of ns i) 8 && wrong i) (width-place ns i)
       (λ (z : (eqb (kind-of ns i) 8 && wrong i) ≡ true).
       let k : kind-of ns i ≡ 8 = eqb-true (kind-of ns i) 8 (both-on (eqb (kind-of ns i) 8) (wrong i) z .0) in
-      let y : node-word ns i 3 < length xs = width-inside (nodes .trees i l .holds) k in
+      let y : width-place ns i < length xs = width-inside (nodes .trees i l .holds) k in
       omega arith))
-      (lesser-inside (list-found ts (node-word ns i 8) (condition-start ns i) (condition-size ws i)) (list-found ts (node-word ns i 5) (own-start ns i) (own-size ws (constructAt ws i)))
-      (list-inside ts (node-word ns i 8) (condition-start ns i) (condition-size ws i) (λ k. terms k 3 (inr refl))) (list-inside ts (node-word ns i 5) (own-start ns i) (own-size ws (constructAt ws i)) (λ k. terms k 3 (inr refl))))
+      (lesser-inside (list-found ts (condition-from ns i) (condition-start ns i) (condition-size ws i)) (list-found ts (own-from ns i) (own-start ns i) (own-size ws (constructAt ws i)))
+      (list-inside ts (condition-from ns i) (condition-start ns i) (condition-size ws i) (λ k. terms k at-origin (inr refl))) (list-inside ts (own-from ns i) (own-start ns i) (own-size ws (constructAt ws i)) (λ k. terms k at-origin (inr refl))))
 
   pub found-inside : Inside (refusal-8 xs ns ts ws n t)
   found-inside =
       lesser-inside (least-found t 0 (number-found ts)) (least-found n 0 (node-found xs ns ts ws))
-      (least-inside t 0 (number-found ts) (λ j a b. if-inside ((eqb (term-word ts j 0) 1 || eqb (term-word ts j 0) 33) && ltb 4294967295 (term-word ts j 1)) (term-word ts j 2) (λ z. terms j 2 (inl refl))))
+      (least-inside t 0 (number-found ts) (λ j a b. if-inside ((eqb (term-tag ts j) 1 || eqb (term-tag ts j) 33) && ltb 4294967295 (term-value ts j)) (term-at ts j) (λ z. terms j at-term (inl refl))))
       (least-inside n 0 (node-found xs ns ts ws) (λ j a b. node-inside j (omega arith)))

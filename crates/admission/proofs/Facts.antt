@@ -1,23 +1,25 @@
 -- What is known of a text that passes 5: its words are within their lengths, and every place that is stored lies in the text.
 -- Assumes nothing.
-use Prim.Native.Nat.{ℕ, _+_, _*_, _≤_, _<_}
+use Prim.Native.Nat.{ℕ, _≤_, _<_}
 use mathlib.Core.Path.{_≡_, _∙_}
 use mathlib.Core.Logic.{_⊎_, ⊎-elim}
 use mathlib.Core.Bool.{false}
 use mathlib.Core.List.{List, [], _∷_}
 use native.Mathlib.Omega.{arith}
-use lib.ListN.{length, getD, List·getD-eq-default, length-replicate}
+use lib.ListN.{length, length-replicate}
+use Rattle.text_store.proofs.Numbers.{at-place, at-second-place, at-term, at-origin, at-name}
+use Rattle.text_store.proofs.StoreLaws.{node-none, term-none, rule-none}
 use Rattle.text_parsing.specs.Terminals.{sights-from}
-use Rattle.text_parsing.specs.Store.{State, state, node-words, term-words, rule-words, nodes-of, terms-of, binders-of, rules-of}
+use Rattle.text_store.specs.Store.{State, state, node-words, term-words, rule-words, nodes-of, terms-of, binders-of, rules-of, blank}
 use Rattle.text_parsing.specs.Symbols.{rules}
 use Rattle.text_parsing.specs.Form.{right, run}
 use Rattle.text_syntax.specs.Rules.{form-of}
 use Rattle.text_shapes.specs.Placed.{Placed}
-use Rattle.text_shapes.proofs.Shaped.{blank, Shaped, shaped}
+use Rattle.text_shapes.proofs.Shaped.{Shaped, shaped}
 use Rattle.text_shapes.proofs.Places.{placed}
 use Rattle.text_productions.proofs.Derived.{derived}
 use Rattle.text_shapes.proofs.Growth.{Grows, phrases-grow}
-use Rattle.text_names.specs.Words.{node-word, term-word, named-at}
+use Rattle.text_store.specs.Words.{node-word, term-word, named-at}
 use Rattle.text_encoding.specs.Numbers.{condition-start}
 use Rattle.text_wellformed.proofs.LimitLaws.{limits}
 use Rattle.text_wellformed.proofs.Sums.{side}
@@ -79,20 +81,20 @@ module _ (xs : List ℕ) (st : State) (b : Basics xs st) (h : length xs ≤ 8192
   node : (i w : ℕ) → (i < 256 → node-word (node-words st) i w ≤ length xs) → node-word (node-words st) i w ≤ 8192
   node i w f =
       ⊎-elim (λ (l : i < 256). omega (arith, f l))
-      (λ (l : 256 ≤ i). let z : getD (node-words st) (10 * i + w) 0 ≡ 0 = List·getD-eq-default (node-words st) 0 (omega (arith, b .node-length)) in omega (arith, z))
+      (λ (l : 256 ≤ i). omega (arith, node-none (node-words st) i w (b .node-length) l))
       (side i 256)
 
   rule : (k : ℕ) → named-at (rule-words st) k ≤ 8192
   rule k =
       ⊎-elim (λ (l : k < 65). omega (arith, b .places .rules k l))
-      (λ (l : 65 ≤ k). let z : getD (rule-words st) (5 * k + 0) 0 ≡ 0 = List·getD-eq-default (rule-words st) 0 (omega (arith, b .rule-length)) in omega (arith, z))
+      (λ (l : 65 ≤ k). omega (arith, rule-none (rule-words st) k at-name (b .rule-length) l))
       (side k 65)
 
   pub within : Within (node-words st) (rule-words st)
-  within = record { nodes = λ i. (node i 2 (λ l. b .places .nodes i l .0), node i 4 (λ l. b .places .nodes i l .1)); rules = rule }
+  within = record { nodes = λ i. (node i at-place (λ l. b .places .nodes i l .0), node i at-second-place (λ l. b .places .nodes i l .1)); rules = rule }
 
-  pub term-within : (t w : ℕ) → (w ≡ 2) ⊎ (w ≡ 3) → term-word (term-words st) t w ≤ 8192
+  pub term-within : (t w : ℕ) → (w ≡ at-term) ⊎ (w ≡ at-origin) → term-word (term-words st) t w ≤ 8192
   term-within t w z =
-      ⊎-elim (λ (l : t < 1024). ⊎-elim (λ (q : w ≡ 2). rw q (omega (arith, b .places .terms t l .0))) (λ (q : w ≡ 3). rw q (omega (arith, b .places .terms t l .1))) z)
-      (λ (l : 1024 ≤ t). let q : getD (term-words st) (4 * t + w) 0 ≡ 0 = List·getD-eq-default (term-words st) 0 (omega (arith, b .term-length)) in omega (arith, q))
+      ⊎-elim (λ (l : t < 1024). ⊎-elim (λ (q : w ≡ at-term). rw q (omega (arith, b .places .terms t l .0))) (λ (q : w ≡ at-origin). rw q (omega (arith, b .places .terms t l .1))) z)
+      (λ (l : 1024 ≤ t). omega (arith, term-none (term-words st) t w (b .term-length) l))
       (side t 1024)

@@ -1,7 +1,7 @@
 -- From refusals 5, 6 and 8 passed to words that pass the judgement's first parts.
 -- Assumes nothing.
 use Prim.Native.Nat.{ℕ, _+_, _≤_}
-use mathlib.Core.Path.{_≡_, refl, sym, subst, _∙_}
+use mathlib.Core.Path.{_≡_, refl, sym, subst}
 use mathlib.Core.Bool.{true}
 use mathlib.Core.List.{List}
 use native.Mathlib.Omega.{arith}
@@ -11,11 +11,11 @@ use Rattle.table_layout.specs.Places.{construct-count}
 use Rattle.table_wellformed.specs.Laid.{laid}
 use Rattle.table_first_follow.specs.Sets.{FirstSets}
 use Rattle.table_conflicts.specs.declared.Clash.{Clash}
-use Rattle.text_names.specs.Words.{place-of, named-at}
-use Rattle.table_judge.specs.Judged.{Passed8, Judged, Oversized}
+use Rattle.text_store.specs.Words.{place-of, named-at}
+use Rattle.table_judge.specs.Judged.{Passed8, Judged}
 use Rattle.table_judge.specs.declared.Judgement.{Judgement}
 use Rattle.table_fill.specs.Completed.{Completed}
-use Rattle.text_parsing.specs.Store.{State, state, nodes-of}
+use Rattle.text_store.specs.Store.{State, state, nodes-of}
 use Rattle.text_wellformed.specs.Context.{Readable}
 use Rattle.text_wellformed.proofs.LaidOut.{words-by-place, laid-out}
 use Rattle.admission.specs.Admitted.{words-of, Bounded}

@@ -11,17 +11,17 @@ use borrow.Author.Count.{below-none, below-more}
 use Rattle.theory.specs.Lookahead.{EmptyBody}
 use Rattle.table_layout.specs.Held.{held}
 use Rattle.text_names.specs.Counting.{nowhere, place-if}
-use Rattle.text_names.specs.Words.{node-word}
+use Rattle.text_store.specs.Words.{mark-place}
 use Rattle.admission.specs.Late.{Marks}
 
 module _ (ns ws : List ℕ) where
   -- p is the mark of one of the first n
   abbrev Marked : ℕ → ℕ → Type 0
-  Marked n p = (j : ℕ) × (j < n) × EmptyBody (held ws) j × (p ≡ node-word ns j 4)
+  Marked n p = (j : ℕ) × (j < n) × EmptyBody (held ws) j × (p ≡ mark-place ns j)
 
   -- p is at most the mark of construct j, if that counts
   abbrev Beneath : ℕ → ℕ → Type 0
-  Beneath p j = EmptyBody (held ws) j → p ≤ node-word ns j 4
+  Beneath p j = EmptyBody (held ws) j → p ≤ mark-place ns j
 
 -- of the first i constructs
 pub record Marking (ns ws : List ℕ) (i p : ℕ) : Type 0 where
@@ -43,7 +43,7 @@ module _ {ns ws : List ℕ} {i p next : ℕ} (h : Marking ns ws i p) where
       }
 
   -- one construct more, whose mark is the new least
-  fewer : next ≡ node-word ns i 4 → node-word ns i 4 ≤ p → EmptyBody (held ws) i → Marking ns ws (i + 1) next
+  fewer : next ≡ mark-place ns i → mark-place ns i ≤ p → EmptyBody (held ws) i → Marking ns ws (i + 1) next
   fewer e l b =
       record {
         small = omega (arith, h .small);
@@ -51,11 +51,11 @@ module _ {ns ws : List ℕ} {i p next : ℕ} (h : Marking ns ws i p) where
         from = inr (i, omega arith, b, e);
       }
 
-  pub marking-turn : (empty : Bool) → (empty ≡ true → EmptyBody (held ws) i) → (EmptyBody (held ws) i → empty ≡ true) → next ≡ min p (place-if empty (node-word ns i 4)) → Marking ns ws (i + 1) next
-  marking-turn true f g e = elim (decLe p (node-word ns i 4)) [ yes l ↦ further (omega arith) (λ k. l) | no l ↦ fewer (omega arith) (omega arith) (f refl) ]
+  pub marking-turn : (empty : Bool) → (empty ≡ true → EmptyBody (held ws) i) → (EmptyBody (held ws) i → empty ≡ true) → next ≡ min p (place-if empty (mark-place ns i)) → Marking ns ws (i + 1) next
+  marking-turn true f g e = elim (decLe p (mark-place ns i)) [ yes l ↦ further (omega arith) (λ k. l) | no l ↦ fewer (omega arith) (omega arith) (f refl) ]
   marking-turn false f g e = further (omega (arith, h .small)) (λ k. absurd (false≢true (g k)))
 
-pub marking-end : {ns ws : List ℕ} {i n p : ℕ} → Marking ns ws i p → i ≡ n → ((j : ℕ) → node-word ns j 4 ≤ nowhere) → Marks ns ws n p
+pub marking-end : {ns ws : List ℕ} {i n p : ℕ} → Marking ns ws i p → i ≡ n → ((j : ℕ) → mark-place ns j ≤ nowhere) → Marks ns ws n p
 marking-end h e fits =
     record {
       below = λ j l. h .below j (omega arith);

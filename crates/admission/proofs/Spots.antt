@@ -8,7 +8,7 @@ use mathlib.Core.List.{List}
 use native.Mathlib.Omega.{arith}
 use lib.Dec.{eqb}
 use Rattle.text_names.specs.Counting.{nowhere, place-if, least-of}
-use Rattle.text_names.specs.Words.{node-word, term-word, kind-of, place-of, bound-at, is-binder, is-use, named-at, first-node, last-node}
+use Rattle.text_store.specs.Words.{kind-of, place-of, bound-at, own-from, own-end, condition-from, condition-end, is-binder, term-tag, term-at, is-use, named-at, first-node, last-node}
 use Rattle.text_names.specs.Limits.{limit-place, passed-in}
 use Rattle.text_names.specs.Names.{rule-fault, use-fault, binder-fault, variable-fault, name-place, term-place, list-place, node-place, nodes-place, rule-place}
 use Rattle.admission.specs.Late.{Within}
@@ -34,7 +34,7 @@ unfolding least-of
 least-spot zero i f h = inr refl
 least-spot (suc n) i f h = both-spots (f i) (least-of n (i + 1) f) (h i) (least-spot n (i + 1) f h)
 
-module _ (xs ns ts rs : List ℕ) (r : ℕ) (w : Within ns rs) (terms : (t : ℕ) → term-word ts t 2 ≤ 8192) where
+module _ (xs ns ts rs : List ℕ) (r : ℕ) (w : Within ns rs) (terms : (t : ℕ) → term-at ts t ≤ 8192) where
   limit-spot : (k : ℕ) → Spot (limit-place rs k)
   limit-spot k = spot-if (passed-in rs k) (named-at rs k) (w .rules k)
 
@@ -48,12 +48,12 @@ module _ (xs ns ts rs : List ℕ) (r : ℕ) (w : Within ns rs) (terms : (t : ℕ
 
   list-spot : (a i f g : ℕ) → Spot (list-place xs ns ts a i f g)
   list-spot a i f g =
-      least-spot (g - f) f (term-place xs ns ts a i) (λ t. spot-if (is-use (term-word ts t 0) && variable-fault xs ns a i (term-word ts t 2)) (term-word ts t 2) (terms t))
+      least-spot (g - f) f (term-place xs ns ts a i) (λ t. spot-if (is-use (term-tag ts t) && variable-fault xs ns a i (term-at ts t)) (term-at ts t) (terms t))
 
   node-spot : (a e i : ℕ) → Spot (node-place xs ns ts rs r a e i)
   node-spot a e i =
       both-spots (name-place xs ns rs r a e i) _ (name-spot a e i)
-      (both-spots (list-place xs ns ts a i (node-word ns i 8) (node-word ns i 9)) (list-place xs ns ts a i (node-word ns i 5) (node-word ns i 6)) (list-spot a i (node-word ns i 8) (node-word ns i 9)) (list-spot a i (node-word ns i 5) (node-word ns i 6)))
+      (both-spots (list-place xs ns ts a i (condition-from ns i) (condition-end ns i)) (list-place xs ns ts a i (own-from ns i) (own-end ns i)) (list-spot a i (condition-from ns i) (condition-end ns i)) (list-spot a i (own-from ns i) (own-end ns i)))
 
   rule-spot : (k : ℕ) → Spot (rule-place xs ns ts rs r k)
   rule-spot k =

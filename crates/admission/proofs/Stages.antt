@@ -12,17 +12,18 @@ use lib.ListN.{length, length-replicate}
 use Rattle.table_reach.specs.Reaching.{Found}
 use Rattle.table_reach.specs.declared.Recursion.{Recursion}
 use Rattle.table_judge.specs.Judged.{Passed8}
-use Rattle.text_parsing.specs.Store.{State, node-words, term-words, rule-words, nodes-of, terms-of, rules-of}
+use Rattle.text_store.specs.Store.{State, node-words, term-words, rule-words, nodes-of, terms-of, rules-of}
+use Rattle.text_store.proofs.Numbers.{at-term}
+use Rattle.text_encoding.proofs.Writing.{written-length}
 use Rattle.text_parsing.specs.Form.{refused}
 use Rattle.text_parsing.specs.Cursors.{state-at}
 use Rattle.text_parsing.specs.declared.Cursor.{Cursor}
 use Rattle.text_syntax.specs.Rules.{form-of, outcome-of}
 use Rattle.text_shapes.proofs.Places.{refused-inside}
 use Rattle.text_names.specs.Counting.{nowhere}
-use Rattle.text_names.specs.Words.{named-at}
+use Rattle.text_store.specs.Words.{named-at}
 use Rattle.text_encoding.specs.Numbers.{condition-start}
 use Rattle.text_encoding.specs.Encoded.{encoded}
-use Rattle.text_wellformed.proofs.Areas.{written-length}
 use Rattle.text_wellformed.proofs.NodeFacts.{nodes-of-rules}
 use Rattle.admission.specs.Admitted.{form, words-of, fault-5, fault-6, fault-8, Right, Limited, Named, Straight, Bounded, RulesRefused, by-limit, by-name, by-cycle}
 use Rattle.admission.specs.Late.{Within}
@@ -50,8 +51,8 @@ module _ (xs : List ℕ) (st : State) (h : length xs ≤ 8192) where
 
   -- 5 and 6: of a fault
   module _ (b : Basics xs st) where
-    terms-placed : (t : ℕ) → Rattle.text_names.specs.Words.term-word (term-words st) t 2 ≤ 8192
-    terms-placed t = term-within xs st b h t 2 (inl refl)
+    terms-placed : (t : ℕ) → Rattle.text_store.specs.Words.term-word (term-words st) t 2 ≤ 8192
+    terms-placed t = term-within xs st b h t at-term (inl refl)
 
     pub place-5 : fault-5 st < nowhere → fault-5 st ≤ 8192
     place-5 l = some-spot (fault-5 st) (limits-spot xs (node-words st) (term-words st) (rule-words st) (rules-of st) (within xs st b h) terms-placed) l

@@ -18,11 +18,11 @@ use Rattle.table_judge.specs.Sound.{Sound}
 use Rattle.table_hypotheses.specs.OneTable.{Alike}
 use Rattle.text_header.specs.Header.{header-of}
 use Rattle.text_header.specs.declared.Heading.{Heading}
-use Rattle.text_parsing.specs.Store.{State, node-words, term-words, rule-words, nodes-of, terms-of, rules-of}
+use Rattle.text_store.specs.Store.{State, node-words, term-words, rule-words, nodes-of, terms-of, rules-of}
 use Rattle.text_parsing.specs.Form.{Outcome, right, refused}
 use Rattle.text_syntax.specs.Rules.{form-of}
 use Rattle.text_names.specs.Counting.{nowhere}
-use Rattle.text_names.specs.Words.{node-word, place-of, named-at}
+use Rattle.text_store.specs.Words.{place-of, mark-place, named-at}
 use Rattle.text_names.specs.Limits.{refusal-5}
 use Rattle.text_names.specs.Names.{refusal-6}
 use Rattle.text_encoding.specs.Encoded.{encoded}
@@ -98,8 +98,8 @@ pub record LeastMark (st : State) (ws : List ℕ) (p : ℕ) : Type 0 where
   pub construct : ℕ
   pub there : construct < nodes-of st
   pub empty : EmptyBody (held ws) construct
-  pub mark : p ≡ node-word (node-words st) construct 4
-  pub least : (i : ℕ) → i < nodes-of st → EmptyBody (held ws) i → p ≤ node-word (node-words st) i 4
+  pub mark : p ≡ mark-place (node-words st) construct
+  pub least : (i : ℕ) → i < nodes-of st → EmptyBody (held ws) i → p ≤ mark-place (node-words st) i
 
 -- ---- refusals; places count from the first byte of the whole text, `base` is where the rules begin
 

@@ -8,7 +8,7 @@ use lib.Dec.{leb, ltb, eqb}
 use Rattle.term_sizes.specs.declared.Sized.{Sized}
 use Rattle.table_layout.specs.Constructs.{constructAt}
 use Rattle.table_sizes.specs.Measures.{condition-size, own-size}
-use Rattle.text_names.specs.Words.{node-word, term-word, kind-of}
+use Rattle.text_store.specs.Words.{kind-of, width-place, own-from, condition-from, term-tag, term-value, term-at, term-origin}
 use Rattle.text_encoding.specs.Numbers.{width-of, condition-start, own-start}
 use Rattle.admission.specs.declared.Found.{Found}
 
@@ -29,15 +29,15 @@ least-found (suc n) i f = lesser (f i) (least-found n (i + 1) f)
 
 -- "width a number from 1 to 32"
 abbrev pub width-found : List ℕ → List ℕ → ℕ → Found
-width-found xs ns i = found-if (eqb (kind-of ns i) 8 && not (leb 1 (width-of xs ns i) && leb (width-of xs ns i) 32)) (node-word ns i 3)
+width-found xs ns i = found-if (eqb (kind-of ns i) 8 && not (leb 1 (width-of xs ns i) && leb (width-of xs ns i) 32)) (width-place ns i)
 
 -- "Numbers: … to 4,294,967,295"
 abbrev pub number-found : List ℕ → ℕ → Found
-number-found ts k = found-if ((eqb (term-word ts k 0) 1 || eqb (term-word ts k 0) 33) && ltb 4294967295 (term-word ts k 1)) (term-word ts k 2)
+number-found ts k = found-if ((eqb (term-tag ts k) 1 || eqb (term-tag ts k) 33) && ltb 4294967295 (term-value ts k)) (term-at ts k)
 
 -- the first byte of the calculation that the table's term `at` is in, of a list that is read from term f on and is the table's from `start`
 abbrev pub origin-after : List ℕ → ℕ → ℕ → ℕ → ℕ
-origin-after ts f at start = term-word ts (f + (at - start)) 3
+origin-after ts f at start = term-origin ts (f + (at - start))
 
 -- a list that is read from term f on and is the table's from term `start`: the first byte of the calculation that passes 2^62
 abbrev pub list-found : List ℕ → ℕ → ℕ → Sized → Found
@@ -49,7 +49,7 @@ list-found ts f start (Sized.Exceeds at) = Found.At (origin-after ts f at start)
 abbrev pub node-found : (xs ns ts ws : List ℕ) → ℕ → Found
 node-found xs ns ts ws i =
     lesser (width-found xs ns i)
-    (lesser (list-found ts (node-word ns i 8) (condition-start ns i) (condition-size ws i)) (list-found ts (node-word ns i 5) (own-start ns i) (own-size ws (constructAt ws i))))
+    (lesser (list-found ts (condition-from ns i) (condition-start ns i) (condition-size ws i)) (list-found ts (own-from ns i) (own-start ns i) (own-size ws (constructAt ws i))))
 
 -- n nodes and t terms, encoded as the words ws
 abbrev pub refusal-8 : (xs ns ts ws : List ℕ) → (n t : ℕ) → Found

@@ -13,13 +13,13 @@ use Rattle.table_conflicts.specs.declared.Clash.{Clash}
 use Rattle.table_judge.specs.Judged.{Passed9, Passed10, Least, Weighing}
 use Rattle.table_judge.specs.Sound.{Sound}
 use Rattle.table_hypotheses.specs.OneTable.{Alike}
-use Rattle.text_names.specs.Words.{node-word, place-of, named-at}
+use Rattle.text_store.specs.Words.{place-of, second-place, mark-place, named-at}
 use Rattle.admission.specs.declared.Admission.{Admission}
 
 -- p is the least mark of the constructs with a body that may be empty, where there is one
 pub record Marks (ns ws : List ℕ) (n p : ℕ) : Type 0 where
-  pub below : (i : ℕ) → i < n → EmptyBody (held ws) i → p ≤ node-word ns i 4
-  pub found : (i : ℕ) → i < n → EmptyBody (held ws) i → (j : ℕ) × (j < n) × EmptyBody (held ws) j × (p ≡ node-word ns j 4)
+  pub below : (i : ℕ) → i < n → EmptyBody (held ws) i → p ≤ mark-place ns i
+  pub found : (i : ℕ) → i < n → EmptyBody (held ws) i → (j : ℕ) × (j < n) × EmptyBody (held ws) j × (p ≡ mark-place ns j)
 
 -- 9 at the least mark and 11 at the start rule; `base` is where the rules begin
 pub data LateRefused (ns rs : List ℕ) (base : ℕ) (ws : List ℕ) : (number place : ℕ) → Type 0 where
@@ -61,5 +61,5 @@ HandedOver (Admission.Conflict place construct clash) words old new = new ≡ ol
 
 -- places that are stored are within the largest text
 pub record Within (ns rs : List ℕ) : Type 0 where
-  pub nodes : (i : ℕ) → (node-word ns i 2 ≤ 8192) × (node-word ns i 4 ≤ 8192)
+  pub nodes : (i : ℕ) → (place-of ns i ≤ 8192) × (second-place ns i ≤ 8192)
   pub rules : (k : ℕ) → named-at rs k ≤ 8192

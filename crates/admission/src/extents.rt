@@ -6,16 +6,24 @@ use text_encoding::numbers::own_length;
 use text_encoding::numbers::width;
 use text_header::bytes::both;
 use text_header::bytes::either;
-use text_names::words::min;
-use text_names::words::node_word;
-use text_names::words::not;
-use text_names::words::term_word;
+use text_names::counting::min;
+use text_store::CONDITION_FROM;
+use text_store::KIND;
+use text_store::ORIGIN;
+use text_store::OWN_FROM;
+use text_store::TAG;
+use text_store::TERM_PLACE;
+use text_store::VALUE;
+use text_store::WIDTH_PLACE;
+use text_store::words::node_word;
+use text_store::words::not;
+use text_store::words::term_word;
 ghost use mathlib.Core.Path.{_≡_};
 ghost use Prim.Native.Nat.{ℕ, _+_, _-_, _≤_, _<_};
 ghost use lib.ListN.{length};
 ghost use Rattle.table_layout.specs.Constructs.{constructAt};
 ghost use Rattle.table_sizes.specs.Measures.{widest as widestOf, condition-size, own-size};
-ghost use Rattle.text_names.specs.Words.{node-word};
+ghost use Rattle.text_store.specs.Words.{node-word};
 ghost use Rattle.text_encoding.specs.Numbers.{condition-start, own-start};
 ghost use Rattle.admission.specs.Extents.{lesser as lesserOf, found-if, least-found, width-found, number-found, origin-after, list-found, node-found, refusal-8};
 
@@ -46,8 +54,8 @@ fn width_found(text: &[u8], nodes: &[usize], i: usize) -> Found
 {
     let w = width(text, nodes, i);
     found_if(
-        both(node_word(nodes, i, 0) == 8, not(both(1 <= w, w <= 32))),
-        node_word(nodes, i, 3),
+        both(node_word(nodes, i, KIND) == 8, not(both(1 <= w, w <= 32))),
+        node_word(nodes, i, WIDTH_PLACE),
     )
 }
 
@@ -55,13 +63,13 @@ fn number_found(terms: &[usize], k: usize) -> Found
     requires { ⌜ length (now terms) ≡ 4096 ⌝ }
     ensures { λ r. ⌜ r ≡ number-found (now (terms .entry)) k ⌝ }
 {
-    let tag = term_word(terms, k, 0);
+    let tag = term_word(terms, k, TAG);
     found_if(
         both(
             either(tag == 1, tag == 33),
-            4294967295 < term_word(terms, k, 1),
+            4294967295 < term_word(terms, k, VALUE),
         ),
-        term_word(terms, k, 2),
+        term_word(terms, k, TERM_PLACE),
     )
 }
 
@@ -72,7 +80,7 @@ fn term_after(terms: &[usize], f: usize, at: usize, start: usize) -> usize
     let t = text_encoding::numbers::less(at, start);
     if f < 1024 {
         if t < 1024 {
-            return term_word(terms, f + t, 3);
+            return term_word(terms, f + t, ORIGIN);
         }
     }
     0
@@ -105,13 +113,13 @@ fn node_found(
 {
     let tested = list_found(
         terms,
-        node_word(nodes, i, 8),
+        node_word(nodes, i, CONDITION_FROM),
         q,
         table_sizes::condition_sizes(table, widest, i),
     );
     let own = list_found(
         terms,
-        node_word(nodes, i, 5),
+        node_word(nodes, i, OWN_FROM),
         q + condition_length(nodes, i),
         table_sizes::own_sizes(table, widest, i),
     );

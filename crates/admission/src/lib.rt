@@ -3,15 +3,17 @@ use table_conflicts::Clash;
 use table_judge::Judgement;
 use table_reach::Recursion;
 use text_header::Heading;
-use text_names::words::node_word;
-use text_names::words::rule_word;
 use text_parsing::Cursor;
+use text_store::NAMED_AT;
+use text_store::PLACE;
+use text_store::words::node_word;
+use text_store::words::rule_word;
 ghost use mathlib.Core.Path.{_≡_};
 ghost use Prim.Native.Nat.{ℕ, _+_, _≤_, _<_};
 ghost use lib.ListN.{length, drop};
 ghost use Rattle.table_judge.specs.Judged.{Passed8};
 ghost use Rattle.text_parsing.specs.Cursors.{state-at};
-ghost use Rattle.text_names.specs.Words.{node-word, place-of, named-at};
+ghost use Rattle.text_store.specs.Words.{node-word, place-of, named-at};
 ghost use Rattle.admission.specs.Admitted.{words-of, Right, Named, Straight, AnsweredRules, Answers};
 ghost use Rattle.admission.specs.Late.{Late, is-admitted, HandedOver, Within};
 
@@ -64,7 +66,7 @@ fn refused_at(number: usize, base: usize, rules: &[usize], rule: usize) -> Admis
     requires { ⌜ (length (now rules) ≡ 325) × (base ≤ 8192) × ((k : ℕ) → named-at (now rules) k ≤ 8192) ⌝ }
     ensures { λ r. ⌜ r ≡ Admission.Refused number (base + named-at (now (rules .entry)) rule) ⌝ }
 {
-    refused(number, base, rule_word(rules, rule, 0))
+    refused(number, base, rule_word(rules, rule, NAMED_AT))
 }
 
 fn conflict(nodes: &[usize], base: usize, construct: usize, clash: Clash) -> Admission
@@ -72,7 +74,7 @@ fn conflict(nodes: &[usize], base: usize, construct: usize, clash: Clash) -> Adm
     ensures { λ r. ⌜ r ≡ Admission.Conflict (base + place-of (now (nodes .entry)) construct) construct clash ⌝ }
 {
     Admission::Conflict {
-        place: placed(base, node_word(nodes, construct, 2)),
+        place: placed(base, node_word(nodes, construct, PLACE)),
         construct,
         clash,
     }

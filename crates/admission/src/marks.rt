@@ -1,7 +1,8 @@
 // Refusal 9: the least mark of a repetition whose body may be empty.
-use text_names::words::min;
-use text_names::words::node_word;
-use text_names::words::place_if;
+use text_names::counting::min;
+use text_names::counting::place_if;
+use text_store::MARK_PLACE;
+use text_store::words::node_word;
 ghost use mathlib.Core.Path.{_≡_};
 ghost use mathlib.Core.Bool.{true};
 ghost use Prim.Native.Nat.{_≤_, _<_};
@@ -20,7 +21,7 @@ pub fn least_mark(table: &[u32], first: &[u64], nodes: &[usize]) -> usize
     let mut i = 0;
     while i < count {
         let empty = table_conflicts::empty_body(table, first, i);
-        least = min(least, place_if(empty, node_word(nodes, i, 4)));
+        least = min(least, place_if(empty, node_word(nodes, i, MARK_PLACE)));
         i += 1;
     }
     least

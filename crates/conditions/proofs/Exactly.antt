@@ -18,7 +18,7 @@ use Rattle.table_layout.specs.Held.{Context, Values, held}
 use Rattle.table_weights.proofs.Heights.{weight-at}
 use Rattle.table_weights.proofs.Theorems.{weights-exist}
 use Rattle.table_judge.specs.Judged.{Passed10}
-use Rattle.text_parsing.specs.Store.{State}
+use Rattle.text_store.specs.Store.{State}
 use Rattle.admission.specs.Admitted.{number-of, place-in, window-in, words-of, Bounded, Headed, Refusal, RulesRefused, AnsweredRules, Answers, refused-early, by-rules, Clashes, LeastMark as TableMark}
 use Rattle.table_conflicts.specs.Conflicts.{HasNumber, FirstHolders, Conflicting, Answered}
 use Rattle.table_conflicts.specs.declared.Clash.{Clash}

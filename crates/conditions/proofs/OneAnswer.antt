@@ -17,7 +17,7 @@ use Rattle.table_first_follow.specs.Rules.{Family}
 use Rattle.table_weights.proofs.Heights.{weight-at}
 use Rattle.table_hypotheses.specs.OneTable.{Alike}
 use Rattle.table_hypotheses.proofs.SameSets.{alike-equal}
-use Rattle.text_parsing.specs.Store.{State}
+use Rattle.text_store.specs.Store.{State}
 use Rattle.text_header.specs.Header.{header-of}
 use Rattle.admission.specs.Admitted.{place-in, number-of, form, words-of, Passes, Tabled, RulesPass, Headed, Clashes, Answers, refused-early, by-rules}
 use Rattle.admission.specs.declared.Admission.{Admission}

@@ -16,7 +16,7 @@ use Rattle.table_reach.specs.Reaching.{Reaches}
 use Rattle.table_judge.specs.Judged.{Passed9, Passed10}
 use Rattle.text_header.specs.Header.{header-of}
 use Rattle.text_header.specs.declared.Heading.{Heading}
-use Rattle.text_parsing.specs.Store.{State}
+use Rattle.text_store.specs.Store.{State}
 use Rattle.text_parsing.specs.Form.{Outcome, right, refused}
 use Rattle.admission.specs.Admitted.{form, words-of, fault-8, Right, Limited, Named, Straight, Bounded, Passes, Headed}
 use Rattle.admission.specs.declared.Found.{Found}

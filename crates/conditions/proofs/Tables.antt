@@ -18,7 +18,7 @@ use Rattle.table_hypotheses.proofs.Reliability.{weighed}
 use Rattle.table_hypotheses.proofs.Trust.{trusted}
 use Rattle.text_header.specs.Header.{header-of}
 use Rattle.text_header.specs.declared.Heading.{Heading}
-use Rattle.text_parsing.specs.Store.{State, state, node-words, term-words, rule-words, nodes-of, rules-of}
+use Rattle.text_store.specs.Store.{State, state, node-words, term-words, rule-words, nodes-of, rules-of}
 use Rattle.text_parsing.specs.Form.{Outcome, right, refused}
 use Rattle.admission.specs.Admitted.{form, words-of, Bounded, Headed, RulesPass, Answers, refused-early, by-rules}
 use Rattle.admission.specs.declared.Admission.{Admission}

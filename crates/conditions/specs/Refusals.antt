@@ -16,10 +16,10 @@ use Rattle.table_layout.specs.Held.{Context, first-context, Values, opening}
 use Rattle.table_reach.specs.Reaching.{Reaches}
 use Rattle.text_header.specs.Header.{header-of}
 use Rattle.text_header.specs.declared.Heading.{Heading}
-use Rattle.text_parsing.specs.Store.{State, node-words, rule-words, nodes-of}
+use Rattle.text_store.specs.Store.{State, node-words, rule-words, nodes-of}
 use Rattle.text_parsing.specs.Form.{refused}
 use Rattle.text_names.specs.Counting.{nowhere}
-use Rattle.text_names.specs.Words.{node-word, place-of, named-at}
+use Rattle.text_store.specs.Words.{place-of, mark-place, named-at}
 use Rattle.admission.specs.Admitted.{number-of, place-in, window-in, form, words-of, fault-5, fault-6, fault-8}
 use Rattle.table_conflicts.specs.declared.Clash.{Clash}
 use Rattle.admission.specs.declared.Admission.{Admission}
@@ -65,8 +65,8 @@ pub record LeastMark (g : Grammar Context Values) (st : State) (p : ℕ) : Type 
   pub construct : ℕ
   pub there : construct < nodes-of st
   pub empty : EmptyBody g construct
-  pub mark : p ≡ node-word (node-words st) construct 4
-  pub least : (i : ℕ) → i < nodes-of st → EmptyBody g i → p ≤ node-word (node-words st) i 4
+  pub mark : p ≡ mark-place (node-words st) construct
+  pub least : (i : ℕ) → i < nodes-of st → EmptyBody g i → p ≤ mark-place (node-words st) i
 
 module _ (base : ℕ) (xs : List ℕ) (st : State) (p : ℕ) where
   -- "a number of the Limits line passed", at "the rule in which it first is"

@@ -11,7 +11,7 @@ use Rattle.table_layout.specs.Held.{Context, Values}
 use Rattle.table_scope.specs.Scope.{store, fresh}
 use Rattle.text_header.specs.Header.{header-of}
 use Rattle.text_header.specs.declared.Heading.{Heading}
-use Rattle.text_parsing.specs.Store.{State, node-words, term-words, rule-words, nodes-of, rules-of}
+use Rattle.text_store.specs.Store.{State, node-words, term-words, rule-words, nodes-of, rules-of}
 use Rattle.text_parsing.specs.Form.{right}
 use Rattle.admission.specs.Admitted.{form, Passes}
 use Rattle.text_meaning.specs.Meaning.{grammar-of}

@@ -6,7 +6,7 @@ use mathlib.Core.Bool.{Bool, cond, _&&_, _||_}
 use mathlib.Core.List.{List}
 use lib.Dec.{ltb, eqb}
 use Rattle.text_names.specs.Counting.{nowhere, place-if, least-between}
-use Rattle.text_names.specs.Words.{kind-of, place-of, bound-at, is-binder, named-at, first-node, last-node}
+use Rattle.text_store.specs.Words.{kind-of, place-of, bound-at, is-binder, named-at, first-node, last-node}
 use Rattle.text_names.specs.Names.{same-name, binds}
 use Rattle.report_places.specs.declared.Fault.{Fault}
 

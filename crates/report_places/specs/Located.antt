@@ -8,9 +8,9 @@ use lib.Dec.{ltb}
 use lib.ListN.{length, drop}
 use Rattle.text_header.specs.Header.{header-of}
 use Rattle.text_header.specs.declared.Heading.{Heading}
-use Rattle.text_parsing.specs.Store.{node-words, rule-words, nodes-of, rules-of}
+use Rattle.text_store.specs.Store.{node-words, rule-words, nodes-of, rules-of}
 use Rattle.text_parsing.specs.Form.{Outcome, right, refused}
-use Rattle.text_names.specs.Words.{rule-word, place-of, kind-of}
+use Rattle.text_store.specs.Words.{kind-of, place-of, last-node, terms-at-end, binders-at-end}
 use Rattle.admission.specs.Admitted.{form}
 use Rattle.report_places.specs.Faults.{from-base, rule-number, first-rule, name-fault}
 use Rattle.report_places.specs.declared.Located.{Located}
@@ -18,7 +18,7 @@ use Rattle.report_places.specs.declared.Query.{Query}
 
 -- rules, constructs, terms and variables up to the end of rule k
 abbrev pub totals-of : List ℕ → ℕ → Located
-totals-of rs k = Located.Rule (k + 1) (rule-word rs k 2) (rule-word rs k 3) (rule-word rs k 4)
+totals-of rs k = Located.Rule (k + 1) (last-node rs k) (terms-at-end rs k) (binders-at-end rs k)
 
 -- of the text xs of the rules, which begin at `base`, with n nodes and r rules
 abbrev pub answered : (xs ns rs : List ℕ) → (base n r : ℕ) → Query → Located

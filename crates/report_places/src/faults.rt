@@ -3,13 +3,19 @@
 use crate::Fault;
 use text_header::bytes::both;
 use text_header::bytes::either;
+use text_names::counting::min;
+use text_names::counting::place_if;
 use text_names::names::binds;
 use text_names::names::same;
-use text_names::words::binder;
-use text_names::words::min;
-use text_names::words::node_word;
-use text_names::words::place_if;
-use text_names::words::rule_word;
+use text_store::BOUND_AT;
+use text_store::FIRST_NODE;
+use text_store::KIND;
+use text_store::LAST_NODE;
+use text_store::NAMED_AT;
+use text_store::PLACE;
+use text_store::words::binder;
+use text_store::words::node_word;
+use text_store::words::rule_word;
 ghost use mathlib.Core.Path.{_≡_};
 ghost use Prim.Native.Nat.{_-_, _≤_};
 ghost use lib.ListN.{length};
@@ -29,7 +35,7 @@ fn after_if(rules: &[usize], p: usize, k: usize) -> usize
     requires { ⌜ length (now rules) ≡ 325 ⌝ }
     ensures { λ r. ⌜ r ≡ after-if (now (rules .entry)) p k ⌝ }
 {
-    place_if(p < rule_word(rules, k, 0), k)
+    place_if(p < rule_word(rules, k, NAMED_AT), k)
 }
 
 // The first of `count` rules whose name stands after p.
@@ -68,7 +74,7 @@ fn rule_if(text: &[u8], rules: &[usize], p: usize, j: usize) -> usize
     requires { ⌜ length (now rules) ≡ 325 ⌝ }
     ensures { λ r. ⌜ r ≡ rule-if (now (text .entry)) (now (rules .entry)) p j ⌝ }
 {
-    let q = rule_word(rules, j, 0);
+    let q = rule_word(rules, j, NAMED_AT);
     place_if(same(text, q, p), q)
 }
 
@@ -90,7 +96,7 @@ fn binder_if(text: &[u8], nodes: &[usize], p: usize, j: usize) -> usize
     requires { ⌜ length (now nodes) ≡ 2560 ⌝ }
     ensures { λ r. ⌜ r ≡ binder-if (now (text .entry)) (now (nodes .entry)) p j ⌝ }
 {
-    place_if(binds(text, nodes, p, j), node_word(nodes, j, 4))
+    place_if(binds(text, nodes, p, j), node_word(nodes, j, BOUND_AT))
 }
 
 // Where the name at p is first bound by the nodes from a up to e.
@@ -113,8 +119,11 @@ fn names_at(nodes: &[usize], p: usize, j: usize) -> bool
     ensures { λ r. ⌜ r ≡ names-at (now (nodes .entry)) p j ⌝ }
 {
     either(
-        both(node_word(nodes, j, 0) == 5, node_word(nodes, j, 2) == p),
-        both(binder(nodes, j), node_word(nodes, j, 4) == p),
+        both(
+            node_word(nodes, j, KIND) == 5,
+            node_word(nodes, j, PLACE) == p,
+        ),
+        both(binder(nodes, j), node_word(nodes, j, BOUND_AT) == p),
     )
 }
 
@@ -188,7 +197,7 @@ fn node_fault(
     requires { ⌜ length (now nodes) ≡ 2560 ⌝ }
     ensures { λ r. ⌜ r ≡ node-fault (now (text .entry)) (now (nodes .entry)) base a e i p ⌝ }
 {
-    if node_word(nodes, i, 0) == 5 {
+    if node_word(nodes, i, KIND) == 5 {
         return use_fault(base, first_binder(text, nodes, a, e, p));
     }
     binder_fault(base, first_binder(text, nodes, a, i, p))
@@ -208,10 +217,10 @@ pub fn name_fault(
     ensures { λ r. ⌜ r ≡ name-fault (now (text .entry)) (now (nodes .entry)) (now (rules .entry)) base constructs count p ⌝ }
 {
     let k = rule_number(rules, count, p);
-    let a = rule_word(rules, k, 1);
-    let e = rule_word(rules, k, 2);
+    let a = rule_word(rules, k, FIRST_NODE);
+    let e = rule_word(rules, k, LAST_NODE);
     let i = node_at(nodes, a, e, p);
-    if rule_word(rules, k, 0) == p {
+    if rule_word(rules, k, NAMED_AT) == p {
         return Fault::Double(from(base, first_rule(text, rules, k, p)));
     }
     if i < 18446744073709551615 {

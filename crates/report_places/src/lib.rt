@@ -4,12 +4,17 @@ use faults::from;
 use faults::name_fault;
 use faults::rule_number;
 use text_header::Heading;
-use text_names::words::node_word;
-use text_names::words::rule_word;
+use text_store::BINDERS_AT_END;
+use text_store::KIND;
+use text_store::LAST_NODE;
+use text_store::PLACE;
+use text_store::TERMS_AT_END;
+use text_store::words::node_word;
+use text_store::words::rule_word;
 ghost use mathlib.Core.Path.{_≡_};
 ghost use Prim.Native.Nat.{ℕ, _+_, _-_, _≤_};
 ghost use lib.ListN.{length, drop};
-ghost use Rattle.text_names.specs.Words.{node-word, place-of, kind-of};
+ghost use Rattle.text_store.specs.Words.{node-word, place-of, kind-of};
 ghost use Rattle.admission.specs.Admitted.{form};
 ghost use Rattle.report_places.specs.Faults.{from-base, rule-number, first-rule, name-fault};
 ghost use Rattle.report_places.specs.Located.{totals-of, answered, located-in, located};
@@ -65,8 +70,8 @@ fn construct(nodes: &[usize], base: usize, i: usize, count: usize) -> Located
     requires { ⌜ (length (now nodes) ≡ 2560) × (base ≤ 8192) × ((k : ℕ) → node-word (now nodes) k 2 ≤ 8192) ⌝ }
     ensures { λ r. ⌜ r ≡ Located.Construct (base + place-of (now (nodes .entry)) i) (kind-of (now (nodes .entry)) i) count ⌝ }
 {
-    let place = node_word(nodes, i, 2);
-    let kind = node_word(nodes, i, 0);
+    let place = node_word(nodes, i, PLACE);
+    let kind = node_word(nodes, i, KIND);
     Located::Construct {
         place: base + place,
         kind,
@@ -79,9 +84,9 @@ fn totals(rules: &[usize], k: usize) -> Located
     requires { ⌜ (length (now rules) ≡ 325) × (k ≤ 64) ⌝ }
     ensures { λ r. ⌜ r ≡ totals-of (now (rules .entry)) k ⌝ }
 {
-    let constructs = rule_word(rules, k, 2);
-    let terms = rule_word(rules, k, 3);
-    let variables = rule_word(rules, k, 4);
+    let constructs = rule_word(rules, k, LAST_NODE);
+    let terms = rule_word(rules, k, TERMS_AT_END);
+    let variables = rule_word(rules, k, BINDERS_AT_END);
     Located::Rule {
         rules: k + 1,
         constructs,

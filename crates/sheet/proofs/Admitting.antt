@@ -10,7 +10,7 @@ use Rattle.theory.specs.Grammar.{Grammar}
 use Rattle.theory.specs.Weight.{Weighs}
 use Rattle.table_layout.specs.Places.{table-words}
 use Rattle.table_layout.specs.Held.{Context, Values}
-use Rattle.text_parsing.specs.Store.{State}
+use Rattle.text_store.specs.Store.{State}
 use Rattle.admission.specs.Admitted.{place-in, number-of, Headed, Answers}
 use Rattle.admission.specs.declared.Admission.{Admission}
 use Rattle.conditions.specs.Texts.{Reading, meant, rules-grammar}

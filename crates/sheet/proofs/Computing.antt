@@ -10,7 +10,7 @@ use Rattle.table_layout.specs.Held.{Context, Values}
 use Rattle.text_header.specs.Header.{header-of}
 use Rattle.text_header.specs.declared.Heading.{Heading}
 use Rattle.text_parsing.specs.Form.{Outcome}
-use Rattle.text_parsing.specs.Store.{State}
+use Rattle.text_store.specs.Store.{State}
 use Rattle.admission.specs.Admitted.{form, words-of, fault-5, fault-6, fault-8}
 use Rattle.admission.specs.declared.Found.{Found}
 use Rattle.conditions.specs.Texts.{meant}
@@ -31,7 +31,7 @@ use Rattle.table_sizes.specs.Measures.{widest-from}
 use Rattle.text_names.specs.Counting.{any-of, least-of}
 use Rattle.text_names.specs.Names.{is-reserved, same-name}
 use Rattle.text_parsing.specs.Form.{atom-begins, feed, item-begins, operand-begins, primary-begins, run as parsing-run, test-begins}
-use Rattle.text_parsing.specs.Store.{over, put-condition, put-node, put-rule, put-single, put-term, put-words, room}
+use Rattle.text_store.specs.Store.{over, put-condition, put-node, put-rule, put-single, put-term, put-words, room}
 use Rattle.text_parsing.specs.Terminals.{literal-code, name-code, seen, sight-of, sights}
 use Rattle.text_shapes.specs.TermShapes.{read-terms}
 use Rattle.term_sizes.specs.Sizes.{countSizes, sizes as sizes-sizes}

@@ -19,7 +19,7 @@ use Rattle.theory.specs.Lookahead.{First, Conflict, EmptyBody}
 use Rattle.theory.proofs.Inversion.{first-by}
 use Rattle.table_layout.specs.Held.{Context, Values, HeldNode, opening}
 use Rattle.text_meaning.specs.Meaning.{opened, grammar-of}
-use Rattle.text_parsing.specs.Store.{State, rule-words, nodes-of}
+use Rattle.text_store.specs.Store.{State, rule-words, nodes-of}
 use Rattle.conditions.specs.Texts.{meant}
 
 -- ---- a property of each number below n

@@ -15,7 +15,7 @@ use Rattle.table_layout.specs.Held.{Context, Values, held}
 use Rattle.run_actions.specs.Stored.{tests-of}
 use Rattle.table_hypotheses.proofs.Trust.{trusted}
 use Rattle.run_refinement.specs.Runs.{words-of}
-use Rattle.text_parsing.specs.Store.{State}
+use Rattle.text_store.specs.Store.{State}
 use Rattle.admission.specs.Admitted.{Answers}
 use Rattle.admission.specs.declared.Admission.{Admission}
 use Rattle.run_matcher.specs.Opening.{Opened}

@@ -9,7 +9,7 @@ use Rattle.basis.specs.Bits.{Bits}
 use Rattle.theory.specs.Lookahead.{Conflict, EmptyBody}
 use Rattle.theory.specs.Weight.{Weighs, weigh, sum, largest}
 use Rattle.table_layout.specs.Held.{Context, first-context, opening}
-use Rattle.text_parsing.specs.Store.{State}
+use Rattle.text_store.specs.Store.{State}
 use Rattle.admission.specs.Admitted.{Bounded}
 use Rattle.conditions.specs.Texts.{meant}
 use Rattle.sheet.specs.Sheet.{G, K9, K10}

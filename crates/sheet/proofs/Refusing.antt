@@ -18,8 +18,8 @@ use Rattle.table_layout.specs.Held.{Context, Values, held, literal-node}
 use Rattle.table_conflicts.specs.Conflicts.{Conflicting, LeastWindow, Answered}
 use Rattle.table_conflicts.specs.declared.Clash.{Clash}
 use Rattle.table_judge.specs.Judged.{Least}
-use Rattle.text_parsing.specs.Store.{node-words}
-use Rattle.text_names.specs.Words.{node-word}
+use Rattle.text_store.specs.Store.{node-words}
+use Rattle.text_store.specs.Words.{mark-place}
 use Rattle.admission.specs.Admitted.{window-in, place-in, number-of, words-of, Headed, Answers, refused-early, by-rules}
 use Rattle.admission.specs.declared.Admission.{Admission}
 use Rattle.conditions.specs.Texts.{Reading}
@@ -55,10 +55,10 @@ unfolding grammar
 empty-K8 = EmptyBody.empty-body refl (First.of-repetition {static = zero-or-one} 0 (omega arith, omega arith) First.no-passes)
 
 -- of the two marks only the outer's body is empty
-marks-K8 : (i : ℕ) → i < 3 → EmptyBody g₈ i → 14 ≤ node-word (node-words state-K8) i 4
+marks-K8 : (i : ℕ) → i < 3 → EmptyBody g₈ i → 14 ≤ mark-place (node-words state-K8) i
 unfolding grammar
 marks-K8 =
-    upto (λ i. EmptyBody g₈ i → 14 ≤ node-word (node-words state-K8) i 4) 3
+    upto (λ i. EmptyBody g₈ i → 14 ≤ mark-place (node-words state-K8) i) 3
     (((tt, λ e. omega arith), λ e. absurd (not-empty g₈ 1 (field-first g₈ 2 7) e)), λ e. absurd (not-empty g₈ 2 tt e))
 
 pub says-K8 : Says (row K8 (refused 9 30))

@@ -14,7 +14,7 @@ use Rattle.table_layout.specs.Places.{rule-count}
 use Rattle.table_layout.specs.Constructs.{constructAt}
 use Rattle.table_layout.specs.declared.Construct.{Construct}
 use Rattle.table_reach.specs.Reaching.{Uses, Reaches, directly, through, Acyclic, rule-end}
-use Rattle.text_parsing.specs.Store.{State}
+use Rattle.text_store.specs.Store.{State}
 use Rattle.text_names.specs.Counting.{nowhere}
 use Rattle.admission.specs.Admitted.{Named, Bounded, words-of}
 use Rattle.admission.specs.declared.Found.{Found}

@@ -5,7 +5,7 @@ use mathlib.Core.Path.{refl}
 use mathlib.Core.List.{List, [], _∷_, _++_}
 use native.Mathlib.Omega.{arith}
 use lib.ListN.{length, replicate}
-use Rattle.text_parsing.specs.Store.{State, state}
+use Rattle.text_store.specs.Store.{State, state}
 use Rattle.sheet.specs.Sheet.{text-of, G, K5, K6, K8, K9, K10, K11}
 use Rattle.sheet.proofs.Computing.{heading, read}
 use Rattle.sheet.proofs.Words.{same-words, Formed, formed-as}

@@ -5,7 +5,7 @@ use mathlib.Core.Path.{_≡_, refl, ap, _∙_}
 use mathlib.Core.List.{List, [], _∷_, _++_}
 use native.Mathlib.Omega.{arith}
 use lib.ListN.{length, replicate}
-use Rattle.text_names.specs.Words.{node-word, kind-of}
+use Rattle.text_store.specs.Words.{kind-of, node-size}
 use Rattle.text_encoding.specs.Lists.{flat, written}
 use Rattle.text_encoding.specs.Numbers.{condition-length, condition-start}
 use Rattle.text_encoding.specs.Encoded.{header-words, rule-words, variable-words, start-word, end-word, operands, construct-words, lists-words, literal-words, encoded}
@@ -18,12 +18,12 @@ operands-written xs ns rs r i k kind ws w e f = f ∙ ap (λ (n : ℕ). written 
 
 -- a construct: what it is, its operands, its condition
 pub construct-written : (xs ns rs : List ℕ) (r i k : ℕ) (ws w v u : List ℕ)
-    → w ≡ written ws k (kind-of ns i ∷ node-word ns i 1 ∷ [])
+    → w ≡ written ws k (kind-of ns i ∷ node-size ns i ∷ [])
     → v ≡ written w (k + 2) (operands xs ns rs r i (kind-of ns i))
     → u ≡ written v (k + 6) (start-word (condition-start ns i) (condition-length ns i) ∷ end-word (condition-start ns i) (condition-length ns i) ∷ [])
     → u ≡ written ws k (construct-words xs ns rs r i)
 construct-written xs ns rs r i k ws w v u e f g =
-    let head : List ℕ = kind-of ns i ∷ node-word ns i 1 ∷ [] in
+    let head : List ℕ = kind-of ns i ∷ node-size ns i ∷ [] in
     let own : List ℕ = operands xs ns rs r i (kind-of ns i) in
     let last : List ℕ = start-word (condition-start ns i) (condition-length ns i) ∷ end-word (condition-start ns i) (condition-length ns i) ∷ [] in
     let l : length own ≡ 4 = operands-length xs ns rs r i (kind-of ns i) in

@@ -7,7 +7,7 @@ use mathlib.Core.List.{List, [], _∷_}
 use native.Mathlib.Omega.{arith}
 use lib.Dec.{eqb}
 use lib.ListN.{length, length-append}
-use Rattle.text_names.specs.Words.{term-word, is-use, is-binder, kind-of, node-word}
+use Rattle.text_store.specs.Words.{kind-of, own-from, condition-from, is-binder, term-tag, is-use}
 use Rattle.text_encoding.specs.Numbers.{first-at, binds-one, condition-length, own-length, lists-length, condition-start, width-of}
 use Rattle.text_encoding.specs.Encoded.{start-word, end-word, variable-words, operands, construct-words, term-words, list-words, lists-words, literal-words}
 use Rattle.text_encoding.proofs.Writing.{flat-length}
@@ -38,7 +38,7 @@ construct-length xs ns rs r i =
     omega (arith, operands-length xs ns rs r i (kind-of ns i), length-append h t)
 
 pub term-length : (xs ns ts : List ℕ) (a i t : ℕ) → length (term-words xs ns ts a i t) ≡ 3
-term-length xs ns ts a i t = either-length (is-use (term-word ts t 0)) _ _ 3 refl refl
+term-length xs ns ts a i t = either-length (is-use (term-tag ts t)) _ _ 3 refl refl
 
 pub list-length : (xs ns ts : List ℕ) (a i t n : ℕ) → length (list-words xs ns ts a i t n) ≡ 3 * n
 list-length xs ns ts a i t n = flat-length 3 n t (term-words xs ns ts a i) (term-length xs ns ts a i)
@@ -46,8 +46,8 @@ list-length xs ns ts a i t n = flat-length 3 n t (term-words xs ns ts a i) (term
 pub lists-words-length : (xs ns ts rs : List ℕ) (r i : ℕ) → length (lists-words xs ns ts rs r i) ≡ 3 * lists-length ns i
 lists-words-length xs ns ts rs r i =
     let a : ℕ = first-at rs r i in
-    let p : ℕ = node-word ns i 8 in
-    let q : ℕ = node-word ns i 5 in
+    let p : ℕ = condition-from ns i in
+    let q : ℕ = own-from ns i in
     let m : ℕ = condition-length ns i in
     let n : ℕ = own-length ns i in
     length-append (list-words xs ns ts a i p m) (list-words xs ns ts a i q n) ∙ ap₂ _+_ (list-length xs ns ts a i p m) (list-length xs ns ts a i q n)

@@ -7,7 +7,7 @@ use mathlib.Core.List.{List}
 use native.Mathlib.Omega.{arith}
 use lib.Dec.{leb}
 use borrow.Author.Tests.{le-leb, lt-leb}
-use Rattle.text_names.specs.Words.{is-binder, first-node}
+use Rattle.text_store.specs.Words.{is-binder, first-node}
 use Rattle.text_encoding.specs.Lists.{sum, first-of}
 use Rattle.text_encoding.specs.Numbers.{first-at, binds-one, binders-before}
 

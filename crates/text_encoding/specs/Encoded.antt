@@ -6,7 +6,7 @@ use mathlib.Core.List.{List, [], _∷_, _++_}
 use lib.Dec.{ltb, eqb}
 use lib.ListN.{getD, length, replicate}
 use Rattle.text_literals.specs.Literals.{characters-at}
-use Rattle.text_names.specs.Words.{node-word, term-word, kind-of, place-of, is-binder, is-use, first-node, last-node}
+use Rattle.text_store.specs.Words.{kind-of, node-size, place-of, node-mark, last-place, own-from, condition-from, is-binder, term-tag, term-value, term-at, is-use, first-node, last-node}
 use Rattle.text_encoding.specs.Lists.{flat, written}
 use Rattle.text_encoding.specs.Numbers.{rule-of, first-at, binders-before, variable-of, width-of, condition-length, own-length, condition-start, own-start}
 
@@ -36,25 +36,25 @@ end-word start n = cond (ltb 0 n) (start + n) 0
 -- the operands of each kind; a repetition's counts and a uint's set are its own list
 abbrev pub operands : (xs ns rs : List ℕ) → (r i kind : ℕ) → List ℕ
 operands xs ns rs r i kind =
-    cond (eqb kind 3) (node-word ns i 3 ∷ start-word (own-start ns i) (own-length ns i) ∷ end-word (own-start ns i) (own-length ns i) ∷ 0 ∷ [])
+    cond (eqb kind 3) (node-mark ns i ∷ start-word (own-start ns i) (own-length ns i) ∷ end-word (own-start ns i) (own-length ns i) ∷ 0 ∷ [])
     (cond (eqb kind 5) (rule-of xs rs r (place-of ns i) ∷ 0 ∷ 0 ∷ 0 ∷ [])
     (cond (eqb kind 6) (length (characters-at xs (place-of ns i)) ∷ 0 ∷ 0 ∷ 0 ∷ [])
-    (cond (eqb kind 7) (getD (characters-at xs (place-of ns i)) 0 0 ∷ getD (characters-at xs (node-word ns i 3)) 0 0 ∷ 0 ∷ 0 ∷ [])
+    (cond (eqb kind 7) (getD (characters-at xs (place-of ns i)) 0 0 ∷ getD (characters-at xs (last-place ns i)) 0 0 ∷ 0 ∷ 0 ∷ [])
     (cond (eqb kind 8) (width-of xs ns i ∷ start-word (own-start ns i) (own-length ns i) ∷ end-word (own-start ns i) (own-length ns i) ∷ cond (is-binder ns i) (binders-before ns i + 1) 0 ∷ [])
     (0 ∷ 0 ∷ 0 ∷ 0 ∷ [])))))
 
 -- eight words: kind, size, four operands, and the terms of its condition, from and up to
 abbrev pub construct-words : (xs ns rs : List ℕ) → (r i : ℕ) → List ℕ
 construct-words xs ns rs r i =
-    kind-of ns i ∷ node-word ns i 1 ∷ (operands xs ns rs r i (kind-of ns i) ++ (start-word (condition-start ns i) (condition-length ns i) ∷ end-word (condition-start ns i) (condition-length ns i) ∷ []))
+    kind-of ns i ∷ node-size ns i ∷ (operands xs ns rs r i (kind-of ns i) ++ (start-word (condition-start ns i) (condition-length ns i) ∷ end-word (condition-start ns i) (condition-length ns i) ∷ []))
 
 -- ---- terms
 
 -- term t of those read, in a list of node i of a rule whose first node is a
 abbrev pub term-words : (xs ns ts : List ℕ) → (a i t : ℕ) → List ℕ
 term-words xs ns ts a i t =
-    cond (is-use (term-word ts t 0)) (term-word ts t 0 ∷ variable-of xs ns a i (term-word ts t 2) ∷ 0 ∷ [])
-    (term-word ts t 0 ∷ term-word ts t 1 ∷ term-word ts t 1 / 4294967296 ∷ [])
+    cond (is-use (term-tag ts t)) (term-tag ts t ∷ variable-of xs ns a i (term-at ts t) ∷ 0 ∷ [])
+    (term-tag ts t ∷ term-value ts t ∷ term-value ts t / 4294967296 ∷ [])
 
 -- n terms from term t on
 abbrev pub list-words : (xs ns ts : List ℕ) → (a i t n : ℕ) → List ℕ
@@ -62,7 +62,7 @@ list-words xs ns ts a i t n = flat n t (term-words xs ns ts a i)
 
 -- "for each construct its condition's terms, then its own": node i, of a rule whose first node is a
 abbrev pub two-lists : (xs ns ts : List ℕ) → (a i : ℕ) → List ℕ
-two-lists xs ns ts a i = list-words xs ns ts a i (node-word ns i 8) (condition-length ns i) ++ list-words xs ns ts a i (node-word ns i 5) (own-length ns i)
+two-lists xs ns ts a i = list-words xs ns ts a i (condition-from ns i) (condition-length ns i) ++ list-words xs ns ts a i (own-from ns i) (own-length ns i)
 
 -- the same, whichever rule node i is in
 abbrev pub lists-words : (xs ns ts rs : List ℕ) → (r i : ℕ) → List ℕ

@@ -5,7 +5,7 @@ use mathlib.Core.Bool.{true, false, cond}
 use mathlib.Core.List.{List}
 use lib.Dec.{leb}
 use Rattle.text_tokens.specs.Numbers.{number-value, capped}
-use Rattle.text_names.specs.Words.{node-word, is-binder, named-at, first-node}
+use Rattle.text_store.specs.Words.{width-place, own-from, own-end, condition-from, condition-end, is-binder, named-at, first-node}
 use Rattle.text_names.specs.Names.{same-name, binds}
 use Rattle.text_encoding.specs.Lists.{sum, first-of}
 
@@ -40,17 +40,17 @@ variable-of xs ns a i p = binders-before ns (binder-of xs ns a i p)
 
 -- a uint's width; all that is more than 32 is as wrong as 33 (refusal 8)
 abbrev pub width-of : List ℕ → List ℕ → ℕ → ℕ
-width-of xs ns i = min 33 (capped (number-value xs (node-word ns i 3)))
+width-of xs ns i = min 33 (capped (number-value xs (width-place ns i)))
 
 -- ---- terms: "in the order of the constructs: for each construct its condition's terms, then its own"
 
 -- how many terms the condition of a case has
 abbrev pub condition-length : List ℕ → ℕ → ℕ
-condition-length ns i = node-word ns i 9 - node-word ns i 8
+condition-length ns i = condition-end ns i - condition-from ns i
 
 -- how many a node has of its own: a uint's set, or the counts in braces
 abbrev pub own-length : List ℕ → ℕ → ℕ
-own-length ns i = node-word ns i 6 - node-word ns i 5
+own-length ns i = own-end ns i - own-from ns i
 
 -- and both together
 abbrev pub lists-length : List ℕ → ℕ → ℕ

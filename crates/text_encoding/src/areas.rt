@@ -10,9 +10,13 @@ use crate::numbers::own_length;
 use crate::numbers::width;
 use crate::put::put_four;
 use crate::put::put_three;
-use text_names::words::binder;
-use text_names::words::node_word;
-use text_names::words::rule_word;
+use text_store::CONDITION_FROM;
+use text_store::FIRST_NODE;
+use text_store::LAST_NODE;
+use text_store::OWN_FROM;
+use text_store::words::binder;
+use text_store::words::node_word;
+use text_store::words::rule_word;
 ghost use mathlib.Core.Path.{_≡_};
 ghost use mathlib.Core.List.{List};
 ghost use Prim.Native.Nat.{ℕ, _+_, _*_, _≤_, _<_};
@@ -55,9 +59,9 @@ fn put_rules(nodes: &[usize], rules: &[usize], r: usize, table: &mut [u32])
 {
     let mut k = 0;
     while k < r {
-        let first = rule_word(rules, k, 1);
+        let first = rule_word(rules, k, FIRST_NODE);
         let before = binders_before(nodes, first);
-        let after = binders_before(nodes, rule_word(rules, k, 2));
+        let after = binders_before(nodes, rule_word(rules, k, LAST_NODE));
         put_four(table, 64 + 4 * k, first, before, less(after, before), 0);
         k += 1;
     }
@@ -127,7 +131,7 @@ fn put_lists(
         terms,
         a,
         i,
-        node_word(nodes, i, 8),
+        node_word(nodes, i, CONDITION_FROM),
         n,
         q,
         table,
@@ -139,7 +143,7 @@ fn put_lists(
         terms,
         a,
         i,
-        node_word(nodes, i, 5),
+        node_word(nodes, i, OWN_FROM),
         m,
         q + n,
         table,

@@ -11,17 +11,25 @@ use crate::put::put_three;
 use crate::put::put_two;
 use text_literals::count_at;
 use text_literals::spell;
-use text_names::words::binder;
-use text_names::words::node_word;
-use text_names::words::term_word;
-use text_names::words::variable;
+use text_store::KIND;
+use text_store::LAST_PLACE;
+use text_store::MARK;
+use text_store::PLACE;
+use text_store::SIZE;
+use text_store::TAG;
+use text_store::TERM_PLACE;
+use text_store::VALUE;
+use text_store::words::binder;
+use text_store::words::node_word;
+use text_store::words::term_word;
+use text_store::words::variable;
 ghost use mathlib.Core.Path.{_≡_};
 ghost use mathlib.Core.Bool.{cond};
 ghost use mathlib.Core.List.{[], _∷_};
 ghost use Prim.Native.Nat.{ℕ, _+_, _*_, _≤_, _<_};
 ghost use lib.ListN.{length, getD};
 ghost use Rattle.text_literals.specs.Literals.{characters-at};
-ghost use Rattle.text_names.specs.Words.{kind-of, is-binder};
+ghost use Rattle.text_store.specs.Words.{kind-of, is-binder};
 ghost use Rattle.text_encoding.specs.Lists.{flat, written};
 ghost use Rattle.text_encoding.specs.Numbers.{binders-before as binders-beforeOf, condition-start, own-start, condition-length as condition-lengthOf};
 ghost use Rattle.text_encoding.specs.Encoded.{start-word, end-word, operands as operandsOf, construct-words, term-words, list-words, packed as packedOf, literal-words};
@@ -106,14 +114,14 @@ fn operands(
     requires { ⌜ (length (now nodes) ≡ 2560) × (length (now rules) ≡ 325) × (i < 256) × (own ≡ own-start (now nodes) i) × (condition-start (now nodes) (i + 1) ≤ 1024) × (k < 65536) ⌝ }
     ensures { λ r. ⌜ now (table .exit) ≡ written (now (table .entry)) k (operandsOf (now (text .entry)) (now (nodes .entry)) (now (rules .entry)) count i (kind-of (now (nodes .entry)) i)) ⌝ }
 {
-    let kind = node_word(nodes, i, 0);
-    let p = node_word(nodes, i, 2);
+    let kind = node_word(nodes, i, KIND);
+    let p = node_word(nodes, i, PLACE);
     let n = own_length(nodes, i);
     if kind == 3 {
         put_four(
             table,
             k,
-            node_word(nodes, i, 3),
+            node_word(nodes, i, MARK),
             start_word(own, n),
             end_word(own, n),
             0,
@@ -133,7 +141,7 @@ fn operands(
             table,
             k,
             character(text, p),
-            character(text, node_word(nodes, i, 3)),
+            character(text, node_word(nodes, i, LAST_PLACE)),
             0,
             0,
         );
@@ -168,7 +176,12 @@ pub fn construct(
 {
     let k = 576 + 8 * i;
     let n = condition_length(nodes, i);
-    put_two(table, k, node_word(nodes, i, 0), node_word(nodes, i, 1));
+    put_two(
+        table,
+        k,
+        node_word(nodes, i, KIND),
+        node_word(nodes, i, SIZE),
+    );
     operands(text, nodes, rules, count, i, start + n, k + 2, table);
     put_two(table, k + 6, start_word(start, n), end_word(start, n));
 }
@@ -186,18 +199,18 @@ fn term(
     requires { ⌜ (length (now nodes) ≡ 2560) × (length (now terms) ≡ 4096) × (a ≤ i) × (k < 65536) ⌝ }
     ensures { λ r. ⌜ now (table .exit) ≡ written (now (table .entry)) k (term-words (now (text .entry)) (now (nodes .entry)) (now (terms .entry)) a i t) ⌝ }
 {
-    let tag = term_word(terms, t, 0);
+    let tag = term_word(terms, t, TAG);
     if variable(tag) {
         put_three(
             table,
             k,
             tag,
-            variable_number(text, nodes, a, i, term_word(terms, t, 2)),
+            variable_number(text, nodes, a, i, term_word(terms, t, TERM_PLACE)),
             0,
         );
         return;
     }
-    let value = term_word(terms, t, 1);
+    let value = term_word(terms, t, VALUE);
     put_three(table, k, tag, value, value / 4294967296);
 }
 
@@ -250,9 +263,9 @@ pub fn literal(text: &[u8], nodes: &[usize], i: usize, table: &mut [u32])
     ensures { λ r. ⌜ now (table .exit) ≡ written (now (table .entry)) (5696 + 8 * i) (literal-words (now (text .entry)) (now (nodes .entry)) i) ⌝ }
 {
     let k = 5696 + 8 * i;
-    if node_word(nodes, i, 0) == 6 {
+    if node_word(nodes, i, KIND) == 6 {
         let mut bytes = [0u8; 32];
-        spelled(text, node_word(nodes, i, 2), &mut bytes);
+        spelled(text, node_word(nodes, i, PLACE), &mut bytes);
         put_bytes(&bytes, k, table);
         return;
     }

@@ -1,10 +1,17 @@
 // Numbers of rules, variables and terms.
+use text_names::counting::min;
 use text_names::names::binds;
 use text_names::names::same;
-use text_names::words::binder;
-use text_names::words::min;
-use text_names::words::node_word;
-use text_names::words::rule_word;
+use text_store::CONDITION_END;
+use text_store::CONDITION_FROM;
+use text_store::FIRST_NODE;
+use text_store::NAMED_AT;
+use text_store::OWN_END;
+use text_store::OWN_FROM;
+use text_store::WIDTH_PLACE;
+use text_store::words::binder;
+use text_store::words::node_word;
+use text_store::words::rule_word;
 use text_tokens::numbers::number_at;
 ghost use mathlib.Core.Path.{_≡_};
 ghost use Prim.Native.Nat.{ℕ, _+_, _-_, _≤_, _<_};
@@ -29,7 +36,7 @@ pub fn rule_number(text: &[u8], rules: &[usize], count: usize, p: usize) -> usiz
 {
     let mut j = 0;
     while j < count {
-        if same(text, rule_word(rules, j, 0), p) {
+        if same(text, rule_word(rules, j, NAMED_AT), p) {
             return j;
         }
         j += 1;
@@ -45,7 +52,7 @@ pub fn first_at(rules: &[usize], count: usize, i: usize) -> usize
     let mut k = count;
     while 0 < k {
         k -= 1;
-        let first = rule_word(rules, k, 1);
+        let first = rule_word(rules, k, FIRST_NODE);
         if first <= i {
             return first;
         }
@@ -105,7 +112,7 @@ pub fn width(text: &[u8], nodes: &[usize], i: usize) -> usize
     requires { ⌜ length (now nodes) ≡ 2560 ⌝ }
     ensures { λ r. ⌜ r ≡ width-of (now (text .entry)) (now (nodes .entry)) i ⌝ }
 {
-    let p = node_word(nodes, i, 3);
+    let p = node_word(nodes, i, WIDTH_PLACE);
     if p < text.len() {
         return min(33, number_at(text, p) as usize);
     }
@@ -116,12 +123,15 @@ pub fn condition_length(nodes: &[usize], i: usize) -> usize
     requires { ⌜ length (now nodes) ≡ 2560 ⌝ }
     ensures { λ r. ⌜ r ≡ condition-lengthOf (now (nodes .entry)) i ⌝ }
 {
-    less(node_word(nodes, i, 9), node_word(nodes, i, 8))
+    less(
+        node_word(nodes, i, CONDITION_END),
+        node_word(nodes, i, CONDITION_FROM),
+    )
 }
 
 pub fn own_length(nodes: &[usize], i: usize) -> usize
     requires { ⌜ length (now nodes) ≡ 2560 ⌝ }
     ensures { λ r. ⌜ r ≡ own-lengthOf (now (nodes .entry)) i ⌝ }
 {
-    less(node_word(nodes, i, 6), node_word(nodes, i, 5))
+    less(node_word(nodes, i, OWN_END), node_word(nodes, i, OWN_FROM))
 }

@@ -8,7 +8,7 @@ use native.Mathlib.Omega.{arith}
 use borrow.Author.Tests.{eq-eqb, ne-eqb, lt-ltb}
 use lib.Dec.{eqb, ltb}
 use Rattle.text_parsing.specs.Terminals.{name-like, live}
-use Rattle.text_parsing.specs.Store.{put-term}
+use Rattle.text_store.specs.Store.{put-term}
 use Rattle.text_parsing.specs.Symbols.{sign, primary, operand, factors, summands, calculation}
 use Rattle.text_parsing.specs.Form.{primary-begins, operand-begins, sum-tag, feed}
 use Rattle.text_parsing.specs.Cursors.{next, fail, term-more, ReadsTerms}

@@ -6,7 +6,7 @@ use mathlib.Core.Bool.{true, false}
 use mathlib.Core.List.{List, [], _∷_}
 use borrow.Author.Tests.{ne-eqb, lt-ltb, le-ltb}
 use Rattle.text_parsing.specs.Terminals.{begin-like}
-use Rattle.text_parsing.specs.Store.{put-single}
+use Rattle.text_store.specs.Store.{put-single}
 use Rattle.text_parsing.specs.Symbols.{want, sign, calculation, item, item-tail, bound, exception, excluded, alternative, alternatives, value-set, counts, counts-tail}
 use Rattle.text_parsing.specs.Form.{item-begins, feed}
 use Rattle.text_parsing.specs.Cursors.{next, fail, Reads, ReadsTerms, ReadsOn}

@@ -6,7 +6,7 @@ use text_parsing::reading::failed;
 use text_parsing::reading::passed;
 use text_parsing::reading::want;
 use text_parsing::words::add_sign;
-use text_parsing::words::mark_single;
+use text_store::stores::mark_single;
 ghost use mathlib.Core.Path.{_≡_};
 ghost use mathlib.Core.List.{[], _∷_};
 ghost use Rattle.text_parsing.specs.Cursors.{ReadsTerms};

@@ -28,10 +28,11 @@ use Rattle.table_layout.specs.Places.{word, construct-word}
 use Rattle.table_layout.specs.Constructs.{pick, constructAt}
 use Rattle.table_layout.specs.Held.{Values, HeldNode, term-words, size-of, parts, allowed, isYes, isExact, passes-allowed, passes-static, passes-fixed, first-case, literal-byte, literal-bytes, literal-node, bound, node-of}
 use Rattle.table_layout.specs.declared.Construct.{Construct}
+use Rattle.text_wellformed.proofs.NoFaults.{use-below}
 use Rattle.text_shapes.specs.NodeShapes.{NameAt, Marked, Holds, tree, literal-tree, range-tree, use-tree, eod-tree, uint-tree, marked-tree, counted-tree, chain-tree, switch-tree}
 use Rattle.text_shapes.specs.Stored.{Stored}
 use Rattle.text_shapes.specs.Placed.{Placed}
-use Rattle.text_names.specs.Words.{node-word, kind-of, place-of}
+use Rattle.text_store.specs.Words.{kind-of, node-size, place-of, node-mark, how-bound, condition-from, condition-end}
 use Rattle.text_encoding.specs.Numbers.{rule-of, binders-before, width-of, condition-length, own-length, condition-start, own-start}
 use Rattle.text_encoding.specs.Encoded.{encoded}
 use Rattle.text_wellformed.specs.Context.{Readable, TreeAt, ConditionAt, without, with-one}
@@ -41,7 +42,6 @@ use Rattle.text_wellformed.proofs.NodeFacts.{nodes, tree-below, tree-size}
 use Rattle.text_wellformed.proofs.PartsLaid.{size-is}
 use Rattle.text_wellformed.proofs.BytesLaid.{byte-is}
 use Rattle.text_wellformed.proofs.RuleWords.{body-is}
-use Rattle.text_wellformed.proofs.Uses.{use-below}
 use Rattle.text_wellformed.proofs.ListsFormed.{no-condition, a-condition}
 use Rattle.text_meaning.specs.Meaning
 use Rattle.text_meaning.specs.Meaning.{parts-from, parts-of, last-of, counts-in, static-counts, passes, is-fixed, own-list, condition-list, is-default, is-true, first-true, meant-node}
@@ -108,7 +108,7 @@ module _ {xs ns ts rs : List ℕ} {n t b r : ℕ} (text : Readable xs ns ts rs n
 
   -- ---- parts
 
-  size-held : (j : ℕ) → j < n → size-of (constructAt ws j) ≡ node-word ns j 1
+  size-held : (j : ℕ) → j < n → size-of (constructAt ws j) ≡ node-size ns j
   size-held j h = size-is text (words-by-place text stored places) (quiet text stored places) j h
 
   parts-held : (most j end : ℕ) → end ≤ n → parts most ws j end ≡ parts-from ns most j end
@@ -120,7 +120,7 @@ module _ {xs ns ts rs : List ℕ} {n t b r : ℕ} (text : Readable xs ns ts rs n
       let h : j < n = omega (arith, ltb-true j end e) in
       let tree-at : TreeAt xs ns ts n t j = nodes text .trees j h in
       let some : eqb (size-of (constructAt ws j)) 0 ≡ false = ne-eqb (size-of (constructAt ws j)) 0 (λ z. omega (arith, size-held j h, tree-size (tree-at .holds), tree-below (tree-at .holds))) in
-      let rest : parts most ws (j + size-of (constructAt ws j)) end ≡ parts-from ns most (j + node-word ns j 1) end =
+      let rest : parts most ws (j + size-of (constructAt ws j)) end ≡ parts-from ns most (j + node-size ns j) end =
       parts-held most (j + size-of (constructAt ws j)) end l ∙ ap (λ (s : ℕ). parts-from ns most (j + s) end) (size-held j h) in
       let first : parts (suc most) ws j end ≡ j ∷ parts most ws (j + size-of (constructAt ws j)) end =
       λ t. elim (e t) [ true ↦ j ∷ elim (some t) [ true ↦ [] | false ↦ parts most ws (j + size-of (constructAt ws j)) end ] | false ↦ [] ] in
@@ -146,7 +146,7 @@ module _ {xs ns ts rs : List ℕ} {n t b r : ℕ} (text : Readable xs ns ts rs n
   case-held : (v : Values) (c : ℕ) (x y : Option ℕ) → c < n → x ≡ y → ConditionAt ns ts t c → by-words v c x ≡ by-text v c y
   case-held v c x y h same (without u) =
       let z : (construct-word ws c 6 ≡ 0) × (construct-word ws c 7 ≡ 0) = no-condition (words-by-place text stored places) (nodes text) text (few-binders text stored places) (few-terms text stored places) (term-placed text stored places) c h (omega (arith, u .from-is, u .end-is)) in
-      let d : is-default ns c ≡ true = eq-eqb (node-word ns c 8) (node-word ns c 9) (u .from-is ∙ sym (u .end-is)) in
+      let d : is-default ns c ≡ true = eq-eqb (condition-from ns c) (condition-end ns c) (u .from-is ∙ sym (u .end-is)) in
       (λ t.
       elim (ltb (z .0 t) (z .1 t))
       [ true ↦ elim (isYes (condition v (z .0 t) (terms (term-words ws) (z .0 t) (z .1 t)))) [ true ↦ some c | false ↦ x ] | false ↦ some c ])
@@ -174,9 +174,9 @@ module _ {xs ns ts rs : List ℕ} {n t b r : ℕ} (text : Readable xs ns ts rs n
 
   -- ---- by kind
 
-  module _ (i : ℕ) (h : i < n) (fits : i + node-word ns i 1 ≤ n) where
-    parts-are : parts (node-word ns i 1) ws (i + 1) (i + node-word ns i 1) ≡ parts-of ns i
-    parts-are = parts-held (node-word ns i 1) (i + 1) (i + node-word ns i 1) fits
+  module _ (i : ℕ) (h : i < n) (fits : i + node-size ns i ≤ n) where
+    parts-are : parts (node-size ns i) ws (i + 1) (i + node-size ns i) ≡ parts-of ns i
+    parts-are = parts-held (node-size ns i) (i + 1) (i + node-size ns i) fits
 
     Held : Type 0
     Held = node-of ws i (meant xs ns rs r i) ≡ meant-node xs ns ts rs r i
@@ -191,9 +191,9 @@ module _ {xs ns ts rs : List ℕ} {n t b r : ℕ} (text : Readable xs ns ts rs n
 
     marked-held : kind-of ns i ≡ 3 → Marked ns i → Held
     unfolding Held node-of meant meant-node
-    marked-held k m = rw k (marked-same ws i (own-start ns i) (own-start ns i + own-length ns i) (own-list xs ns ts rs r i) (node-word ns i 3) (m .least) (m .most))
+    marked-held k m = rw k (marked-same ws i (own-start ns i) (own-start ns i + own-length ns i) (own-list xs ns ts rs r i) (node-mark ns i) (m .least) (m .most))
 
-    counted-held : kind-of ns i ≡ 3 → node-word ns i 3 ≡ 4 → Held
+    counted-held : kind-of ns i ≡ 3 → node-mark ns i ≡ 4 → Held
     unfolding Held node-of meant meant-node
     counted-held k w =
         let o : OwnShape ns ts t i = own-of-counts text i h k w in
@@ -204,8 +204,8 @@ module _ {xs ns ts rs : List ℕ} {n t b r : ℕ} (text : Readable xs ns ts rs n
     switch-held : kind-of ns i ≡ 4 → Held
     unfolding Held node-of meant meant-node
     switch-held k =
-        let first : (v : Values) → first-case ws v (parts (node-word ns i 1) ws (i + 1) (i + node-word ns i 1)) ≡ first-true xs ns ts rs r v (parts-of ns i) =
-        λ v. ap (first-case ws v) parts-are ∙ cases-held v (parts-of ns i) (λ c m. omega (arith, part-below ns (node-word ns i 1) (i + 1) (i + node-word ns i 1) c m)) in
+        let first : (v : Values) → first-case ws v (parts (node-size ns i) ws (i + 1) (i + node-size ns i)) ≡ first-true xs ns ts rs r v (parts-of ns i) =
+        λ v. ap (first-case ws v) parts-are ∙ cases-held v (parts-of ns i) (λ c m. omega (arith, part-below ns (node-size ns i) (i + 1) (i + node-size ns i) c m)) in
         rw k (λ t. switch (λ c v. first v t) (parts-are t))
 
     use-held : kind-of ns i ≡ 5 → NameAt xs (place-of ns i) → Held
@@ -234,7 +234,7 @@ module _ {xs ns ts rs : List ℕ} {n t b r : ℕ} (text : Readable xs ns ts rs n
     unfolding Held meant meant-node
     uint-held k =
         rw k
-        (uint-same ws i (own-start ns i) (own-start ns i + own-length ns i) (own-list xs ns ts rs r i) (width-of xs ns i) (binders-before ns i) (not (eqb (node-word ns i 7) 0))
+        (uint-same ws i (own-start ns i) (own-start ns i + own-length ns i) (own-list xs ns ts rs r i) (width-of xs ns i) (binders-before ns i) (not (eqb (how-bound ns i) 0))
         (own-held text stored places i h (own-of-set text i h k)))
 
     eod-held : kind-of ns i ≡ 9 → Held
@@ -243,7 +243,7 @@ module _ {xs ns ts rs : List ℕ} {n t b r : ℕ} (text : Readable xs ns ts rs n
 
   -- ---- any node
 
-  node-held : {i e f g β : ℕ} → i < n → i + node-word ns i 1 ≤ n → Holds xs ns ts tree i e f g β → node-of ws i (meant xs ns rs r i) ≡ meant-node xs ns ts rs r i
+  node-held : {i e f g β : ℕ} → i < n → i + node-size ns i ≤ n → Holds xs ns ts tree i e f g β → node-of ws i (meant xs ns rs r i) ≡ meant-node xs ns ts rs r i
   unfolding Held
   node-held {i} h l (literal-tree x z c w) = literal-held i h l (x .kind-is)
   node-held {i} h l (range-tree x z c w d) = range-held i h l (x .kind-is)

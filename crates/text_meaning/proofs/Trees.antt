@@ -24,7 +24,7 @@ use Rattle.text_shapes.specs.NodeShapes.{Conditioned}
 use Rattle.text_shapes.specs.Stored.{Stored}
 use Rattle.text_shapes.specs.Placed.{Placed}
 use Rattle.text_shapes.proofs.ShapeLaws.{set-renamed, condition-renamed, repeats-renamed}
-use Rattle.text_names.specs.Words.{node-word, kind-of, is-binder}
+use Rattle.text_store.specs.Words.{kind-of, node-size, node-mark, own-from, own-end, condition-from, condition-end, is-binder}
 use Rattle.text_encoding.specs.Numbers.{first-at, binders-before, variable-of, width-of, own-length, own-start}
 use Rattle.text_encoding.specs.Encoded.{encoded}
 use Rattle.text_wellformed.specs.Context.{Readable, TreeAt, ConditionAt, without, with-one}
@@ -70,14 +70,14 @@ module _ {xs ns ts rs : List ℕ} {n t b r : ℕ} (text : Readable xs ns ts rs n
     abbrev cut : ℕ → ℕ
     cut p = cut-variable xs ns (first-at rs r i) i p
 
-    own-cut : OwnShape ns ts t i → own-list xs ns ts rs r i ≡ map (rename-term cut) (read-terms ts (node-word ns i 5) (node-word ns i 6 - node-word ns i 5))
+    own-cut : OwnShape ns ts t i → own-list xs ns ts rs r i ≡ map (rename-term cut) (read-terms ts (own-from ns i) (own-end ns i - own-from ns i))
     own-cut o = sym (own-held text stored places i h o) ∙ own-under text stored places i h cut (λ p l. omega arith) o
 
     uint-means : kind-of ns i ≡ 8 → UintMeans (grammar-of xs ns ts rs n r .node i) (width-of xs ns i) (own-list xs ns ts rs r i) (is-binder ns i) (binders-before ns i)
     unfolding meant-node
     uint-means k =
         let list : List Term = own-list xs ns ts rs r i in
-        let x : SetShape ts (node-word ns i 5) (node-word ns i 6) = set-shape text i h k in
+        let x : SetShape ts (own-from ns i) (own-end ns i) = set-shape text i h k in
         let tree : ValueSet = renamed-set own (x .tree) in
         let small : ValueSet = renamed-set cut (x .tree) in
         let is : list ≡ setTerms tree = ap (map (rename-term own)) (x .is) ∙ sym (set-renamed own (x .tree)) in
@@ -93,12 +93,12 @@ module _ {xs ns ts rs : List ℕ} {n t b r : ℕ} (text : Readable xs ns ts rs n
           at-first = λ v bits f. set-first list tree small is is-cut (x .room cut (λ p. omega arith)) v f (value bits);
         }
 
-    counts-mean : kind-of ns i ≡ 3 → node-word ns i 3 ≡ 4 → CountsMean (grammar-of xs ns ts rs n r .node i) (own-list xs ns ts rs r i) (i + 1)
+    counts-mean : kind-of ns i ≡ 3 → node-mark ns i ≡ 4 → CountsMean (grammar-of xs ns ts rs n r .node i) (own-list xs ns ts rs r i) (i + 1)
     unfolding meant-node
     counts-mean k w =
         let list : List Term = own-list xs ns ts rs r i in
         let o : OwnShape ns ts t i = own-of-counts text i h k w in
-        let x : CountsShape ts (node-word ns i 5) (node-word ns i 6) = counts-shape text i h k w in
+        let x : CountsShape ts (own-from ns i) (own-end ns i) = counts-shape text i h k w in
         let tree : Repeats = renamed-repeats own (x .tree) in
         let small : Repeats = renamed-repeats cut (x .tree) in
         let is : list ≡ repeatTerms tree = ap (map (rename-term own)) (x .is) ∙ sym (repeats-renamed own (x .tree)) in
@@ -108,7 +108,7 @@ module _ {xs ns ts rs : List ℕ} {n t b r : ℕ} (text : Readable xs ns ts rs n
         let counted : (how : ℕ) → how ≡ 4
         → _≡_ {A = HeldNode} (repetition (λ c v. passes how (counts-in list v)) (passes how (static-counts list)) (is-fixed how list) (i + 1)) (repetition (λ c v. counts-in list v) (static-counts list) (is-fixed 4 list) (i + 1)) =
         λ how z. ap (λ (m : ℕ). repetition (λ c v. passes m (counts-in list v)) (passes m (static-counts list)) (is-fixed m list) (i + 1)) z in
-        let node-is : meant-node xs ns ts rs r i ≡ repetition (λ c v. counts-in list v) (static-counts list) (is-fixed 4 list) (i + 1) = rw k (counted (node-word ns i 3) w) in
+        let node-is : meant-node xs ns ts rs r i ≡ repetition (λ c v. counts-in list v) (static-counts list) (is-fixed 4 list) (i + 1) = rw k (counted (node-mark ns i) w) in
         record {
           counts = λ c v. counts-in list v;
           static = static-counts list;
@@ -128,7 +128,7 @@ module _ {xs ns ts rs : List ℕ} {n t b r : ℕ} (text : Readable xs ns ts rs n
     guard-of (with-one d l) = some (renamed-condition own (d .shape .tree))
 
     module _ {f e : ℕ} (d : Conditioned ns ts i f e) (l : e ≤ t) where
-      read-is : read-terms ts (node-word ns i 8) (node-word ns i 9 - node-word ns i 8) ≡ conditionTerms (d .shape .tree)
+      read-is : read-terms ts (condition-from ns i) (condition-end ns i - condition-from ns i) ≡ conditionTerms (d .shape .tree)
       read-is = rw (d .from-is, d .end-is) (d .shape .is)
 
       condition-is : condition-list xs ns ts rs r i ≡ conditionTerms (renamed-condition own (d .shape .tree))
@@ -141,12 +141,12 @@ module _ {xs ns ts rs : List ℕ} {n t b r : ℕ} (text : Readable xs ns ts rs n
 
     guarded : (a : ConditionAt ns ts t i) → Guards xs ns ts rs r i (guard-of a)
     unfolding guard-of
-    guarded (without u) = eq-eqb (node-word ns i 8) (node-word ns i 9) (u .from-is ∙ sym (u .end-is))
+    guarded (without u) = eq-eqb (condition-from ns i) (condition-end ns i) (u .from-is ∙ sym (u .end-is))
     guarded (with-one d l) = (given d, condition-is d l)
 
     case-met : (a : ConditionAt ns ts t i) (v : Values) → (is-default ns i ≡ false → ListFits Kind.Condition (condition-list xs ns ts rs r i) v) → pick (is-default ns i) true (is-true xs ns ts rs r v i) ≡ met v (guard-of a)
     unfolding guard-of
-    case-met (without u) v f = ap (λ (x : Bool). pick x true (is-true xs ns ts rs r v i)) (eq-eqb (node-word ns i 8) (node-word ns i 9) (u .from-is ∙ sym (u .end-is)))
+    case-met (without u) v f = ap (λ (x : Bool). pick x true (is-true xs ns ts rs r v i)) (eq-eqb (condition-from ns i) (condition-end ns i) (u .from-is ∙ sym (u .end-is)))
     case-met (with-one d l) v f =
         ap (λ (x : Bool). pick x true (is-true xs ns ts rs r v i)) (given d)
         ∙ condition-has (condition-list xs ns ts rs r i) (renamed-condition own (d .shape .tree)) (renamed-condition cut (d .shape .tree)) (condition-is d l) (condition-cut d l) (d .shape .room cut (λ p. omega arith)) v (f (given d))
@@ -172,7 +172,7 @@ module _ {xs ns ts rs : List ℕ} {n t b r : ℕ} (text : Readable xs ns ts rs n
   switch-means i h k =
       let tree-at : TreeAt xs ns ts n t i = nodes text .trees i h in
       let below : (c : ℕ) → c ∈ parts-of ns i → c < n =
-      λ c m. omega (arith, part-below ns (node-word ns i 1) (i + 1) (i + node-word ns i 1) c m, tree-size (tree-at .holds), tree-below (tree-at .holds), tree-at .within) in
+      λ c m. omega (arith, part-below ns (node-size ns i) (i + 1) (i + node-size ns i) c m, tree-size (tree-at .holds), tree-below (tree-at .holds), tree-at .within) in
       let node-is : meant-node xs ns ts rs r i ≡ switch (λ c v. first-true xs ns ts rs r v (parts-of ns i)) (parts-of ns i) = rw k refl in
       record {
         chosen = λ c v. first-true xs ns ts rs r v (parts-of ns i);

@@ -22,7 +22,7 @@ use Rattle.theory.specs.Grammar.{_∈_, repetition, switch, field}
 use Rattle.theory.specs.Machine.{choose}
 use Rattle.table_layout.specs.Constructs.{pick}
 use Rattle.table_layout.specs.Held.{Context, Values, HeldNode}
-use Rattle.text_names.specs.Words.{node-word, kind-of, is-binder}
+use Rattle.text_store.specs.Words.{kind-of, node-mark, is-binder}
 use Rattle.text_encoding.specs.Numbers.{binders-before, width-of}
 use Rattle.text_meaning.specs.Meaning.{counted, parts-of, own-list, condition-list, is-default, grammar-of}
 
@@ -102,5 +102,5 @@ pub record SwitchMeans (xs ns ts rs : List ℕ) (r : ℕ) (node : HeldNode) (cas
 -- Sets, counts and cases of what is read (n nodes, r rules) mean what the trees of document 01's forms mean (crate `term_trees`).
 pub record Meanings (xs ns ts rs : List ℕ) (n r : ℕ) : Type 0 where
   pub uints : (i : ℕ) → i < n → kind-of ns i ≡ 8 → UintMeans (grammar-of xs ns ts rs n r .node i) (width-of xs ns i) (own-list xs ns ts rs r i) (is-binder ns i) (binders-before ns i)
-  pub counted-passes : (i : ℕ) → i < n → kind-of ns i ≡ 3 → node-word ns i 3 ≡ 4 → CountsMean (grammar-of xs ns ts rs n r .node i) (own-list xs ns ts rs r i) (i + 1)
+  pub counted-passes : (i : ℕ) → i < n → kind-of ns i ≡ 3 → node-mark ns i ≡ 4 → CountsMean (grammar-of xs ns ts rs n r .node i) (own-list xs ns ts rs r i) (i + 1)
   pub switches : (i : ℕ) → i < n → kind-of ns i ≡ 4 → SwitchMeans xs ns ts rs r (grammar-of xs ns ts rs n r .node i) (parts-of ns i)

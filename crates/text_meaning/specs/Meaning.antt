@@ -24,7 +24,7 @@ use Rattle.theory.specs.Grammar.{alternative, concatenation, repetition, switch
 use Rattle.table_layout.specs.Constructs.{pick}
 use Rattle.table_layout.specs.Held.{Context, first-context, Values, HeldNode, allowed, isYes, isExact, literal-node, range-node, opening}
 use Rattle.text_shapes.specs.TermShapes.{read-terms, rename-term}
-use Rattle.text_names.specs.Words.{node-word, kind-of, place-of, is-binder, first-node}
+use Rattle.text_store.specs.Words.{kind-of, node-size, place-of, node-mark, last-place, own-from, own-end, condition-from, condition-end, is-binder, first-node}
 use Rattle.text_encoding.specs.Numbers.{rule-of, first-at, binders-before, variable-of, width-of}
 
 -- ---- parts: a node's parts follow it, each as far after the one before as that is large
@@ -32,11 +32,11 @@ use Rattle.text_encoding.specs.Numbers.{rule-of, first-at, binders-before, vari
 -- those from node j up to `end`, `most` of them at most
 unfoldable pub parts-from : List ℕ → ℕ → ℕ → ℕ → List ℕ
 parts-from ns zero j end = []
-parts-from ns (suc most) j end = elim (ltb j end) [ true ↦ j ∷ parts-from ns most (j + node-word ns j 1) end | false ↦ [] ]
+parts-from ns (suc most) j end = elim (ltb j end) [ true ↦ j ∷ parts-from ns most (j + node-size ns j) end | false ↦ [] ]
 
 -- the parts of node i
 abbrev pub parts-of : List ℕ → ℕ → List ℕ
-parts-of ns i = parts-from ns (node-word ns i 1) (i + 1) (i + node-word ns i 1)
+parts-of ns i = parts-from ns (node-size ns i) (i + 1) (i + node-size ns i)
 
 -- ---- counts: "`{n}`, `{a~b}`, `{a~}` or `{~b}`". A `~` stands after the calculations that are its ends.
 
@@ -96,7 +96,7 @@ opened rs rule = use-of (λ c. some c) (λ c v. v) (λ v v′. v′) (first-node
 
 -- node i, as a case, is the default
 abbrev pub is-default : List ℕ → ℕ → Bool
-is-default ns i = eqb (node-word ns i 8) (node-word ns i 9)
+is-default ns i = eqb (condition-from ns i) (condition-end ns i)
 
 module _ (xs ns ts rs : List ℕ) (r : ℕ) where
   -- the terms from number f up to number e, in node i: "Variables are local to a rule", so a name is that of a binder before i in its rule
@@ -105,11 +105,11 @@ module _ (xs ns ts rs : List ℕ) (r : ℕ) where
 
   -- a uint's set or a repetition's counts
   abbrev pub own-list : ℕ → List Term
-  own-list i = list-of i (node-word ns i 5) (node-word ns i 6)
+  own-list i = list-of i (own-from ns i) (own-end ns i)
 
   -- the condition under which node i is a switch's case
   abbrev pub condition-list : ℕ → List Term
-  condition-list i = list-of i (node-word ns i 8) (node-word ns i 9)
+  condition-list i = list-of i (condition-from ns i) (condition-end ns i)
 
   -- the condition of case i holds
   abbrev pub is-true : Values → ℕ → Bool
@@ -127,11 +127,11 @@ module _ (xs ns ts rs : List ℕ) (r : ℕ) where
   meant-node i =
       pick (eqb (kind-of ns i) 1) (alternative (parts-of ns i))
       (pick (eqb (kind-of ns i) 2) (concatenation (parts-of ns i))
-      (pick (eqb (kind-of ns i) 3) (repetition (λ c v. passes (node-word ns i 3) (counts-in (own-list i) v)) (passes (node-word ns i 3) (static-counts (own-list i))) (is-fixed (node-word ns i 3) (own-list i)) (i + 1))
+      (pick (eqb (kind-of ns i) 3) (repetition (λ c v. passes (node-mark ns i) (counts-in (own-list i) v)) (passes (node-mark ns i) (static-counts (own-list i))) (is-fixed (node-mark ns i) (own-list i)) (i + 1))
       (pick (eqb (kind-of ns i) 4) (switch (λ c v. first-true v (parts-of ns i)) (parts-of ns i))
       (pick (eqb (kind-of ns i) 5) (opened rs (rule-of xs rs r (place-of ns i)))
       (pick (eqb (kind-of ns i) 6) (literal-node (characters-at xs (place-of ns i)))
-      (pick (eqb (kind-of ns i) 7) (range-node (getD (characters-at xs (place-of ns i)) 0 0) (getD (characters-at xs (node-word ns i 3)) 0 0))
+      (pick (eqb (kind-of ns i) 7) (range-node (getD (characters-at xs (place-of ns i)) 0 0) (getD (characters-at xs (last-place ns i)) 0 0))
       (pick (eqb (kind-of ns i) 8) (uint-node (width-of xs ns i) (own-list i) (is-binder ns i) (binders-before ns i))
       (pick (eqb (kind-of ns i) 9) eod
       (alternative [])))))))))

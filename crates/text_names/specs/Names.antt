@@ -10,7 +10,7 @@ use Rattle.text_header.specs.Spans.{span-end}
 use Rattle.text_header.specs.declared.Class.{Class}
 use Rattle.text_tokens.specs.Names.{reserved-of, name-of, is-same}
 use Rattle.text_names.specs.Counting.{nowhere, place-if, least-between, any-between}
-use Rattle.text_names.specs.Words.{node-word, term-word, kind-of, place-of, bound-at, is-binder, is-use, named-at, first-node, last-node}
+use Rattle.text_store.specs.Words.{kind-of, node-size, place-of, bound-at, how-bound, own-from, own-end, condition-from, condition-end, is-binder, term-tag, term-at, is-use, named-at, first-node, last-node}
 
 -- ---- names are places: a name is what stands there
 
@@ -49,7 +49,7 @@ use-fault xs ns rs r a e p = is-reserved xs p || (not (rule-named xs rs r p) || 
 
 -- node j holds node i, which does not come before it
 abbrev pub holds : List ℕ → ℕ → ℕ → Bool
-holds ns i j = ltb (i - j) (node-word ns j 1)
+holds ns i j = ltb (i - j) (node-size ns j)
 
 -- node j does, and is not node a as the rule's top concatenation
 abbrev pub held : List ℕ → ℕ → ℕ → ℕ → Bool
@@ -61,7 +61,7 @@ held-between ns a i = any-between a i (held ns a i)
 
 -- "A binder is the whole body of a rule or a member of its top concatenation, outside any group"
 abbrev pub is-misplaced : List ℕ → ℕ → ℕ → Bool
-is-misplaced ns a i = not (eqb (node-word ns i 7) 1) || held-between ns a i
+is-misplaced ns a i = not (eqb (how-bound ns i) 1) || held-between ns a i
 
 -- a binder's name: the later of two in its rule, too
 abbrev pub binder-fault : (xs ns : List ℕ) → (a i p : ℕ) → Bool
@@ -81,7 +81,7 @@ name-place xs ns rs r a e i =
 
 -- term t in a list of node i: the name, where it is a variable's use at fault
 abbrev pub term-place : (xs ns ts : List ℕ) → (a i t : ℕ) → ℕ
-term-place xs ns ts a i t = place-if (is-use (term-word ts t 0) && variable-fault xs ns a i (term-word ts t 2)) (term-word ts t 2)
+term-place xs ns ts a i t = place-if (is-use (term-tag ts t) && variable-fault xs ns a i (term-at ts t)) (term-at ts t)
 
 -- the terms from f up to g of node i
 abbrev pub list-place : (xs ns ts : List ℕ) → (a i f g : ℕ) → ℕ
@@ -91,7 +91,7 @@ list-place xs ns ts a i f g = least-between f g (term-place xs ns ts a i)
 abbrev pub node-place : (xs ns ts rs : List ℕ) → (r a e i : ℕ) → ℕ
 node-place xs ns ts rs r a e i =
     min (name-place xs ns rs r a e i)
-    (min (list-place xs ns ts a i (node-word ns i 8) (node-word ns i 9)) (list-place xs ns ts a i (node-word ns i 5) (node-word ns i 6)))
+    (min (list-place xs ns ts a i (condition-from ns i) (condition-end ns i)) (list-place xs ns ts a i (own-from ns i) (own-end ns i)))
 
 -- the nodes of a rule
 abbrev pub nodes-place : (xs ns ts rs : List ℕ) → (r a e : ℕ) → ℕ

@@ -1,8 +1,12 @@
 // Refusal 5.
-use crate::words::min;
-use crate::words::place_if;
-use crate::words::rule_word;
+use crate::counting::min;
+use crate::counting::place_if;
 use text_header::bytes::either;
+use text_store::BINDERS_AT_END;
+use text_store::LAST_NODE;
+use text_store::NAMED_AT;
+use text_store::TERMS_AT_END;
+use text_store::words::rule_word;
 ghost use mathlib.Core.Path.{_≡_};
 ghost use lib.ListN.{length};
 ghost use Rattle.text_names.specs.Limits.{passed-in, limit-place, refusal-5};
@@ -14,8 +18,11 @@ fn passed(rules: &[usize], k: usize) -> bool
     either(
         64 <= k,
         either(
-            256 < rule_word(rules, k, 2),
-            either(1024 < rule_word(rules, k, 3), 64 < rule_word(rules, k, 4)),
+            256 < rule_word(rules, k, LAST_NODE),
+            either(
+                1024 < rule_word(rules, k, TERMS_AT_END),
+                64 < rule_word(rules, k, BINDERS_AT_END),
+            ),
         ),
     )
 }
@@ -24,7 +31,7 @@ fn place(rules: &[usize], k: usize) -> usize
     requires { ⌜ length (now rules) ≡ 325 ⌝ }
     ensures { λ r. ⌜ r ≡ limit-place (now (rules .entry)) k ⌝ }
 {
-    place_if(passed(rules, k), rule_word(rules, k, 0))
+    place_if(passed(rules, k), rule_word(rules, k, NAMED_AT))
 }
 
 // The place of the first rule in which a limit is passed, among `count` rules.

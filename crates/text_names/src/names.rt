@@ -1,13 +1,18 @@
 // Names at places, and what is wrong with them.
-use crate::words::binder;
-use crate::words::node_word;
-use crate::words::not;
-use crate::words::rule_word;
 use text_header::Class;
 use text_header::bytes::both;
 use text_header::bytes::either;
 use text_header::spans::span;
 use text_header::spans::spells;
+use text_store::BOUND_AT;
+use text_store::HOW_BOUND;
+use text_store::KIND;
+use text_store::NAMED_AT;
+use text_store::SIZE;
+use text_store::words::binder;
+use text_store::words::node_word;
+use text_store::words::not;
+use text_store::words::rule_word;
 use text_tokens::names::reserved;
 ghost use mathlib.Core.Path.{_≡_};
 ghost use mathlib.Core.Bool.{true};
@@ -44,7 +49,7 @@ fn named(text: &[u8], rules: &[usize], count: usize, p: usize) -> bool
 {
     let mut j = 0;
     while j < count {
-        if same(text, rule_word(rules, j, 0), p) {
+        if same(text, rule_word(rules, j, NAMED_AT), p) {
             return true;
         }
         j += 1;
@@ -57,7 +62,7 @@ pub fn binds(text: &[u8], nodes: &[usize], p: usize, j: usize) -> bool
     ensures { λ r. ⌜ r ≡ bindsOf (now (text .entry)) (now (nodes .entry)) p j ⌝ }
 {
     if binder(nodes, j) {
-        return same(text, node_word(nodes, j, 4), p);
+        return same(text, node_word(nodes, j, BOUND_AT), p);
     }
     false
 }
@@ -81,7 +86,7 @@ pub fn rule_fault(text: &[u8], rules: &[usize], k: usize) -> bool
     requires { ⌜ length (now rules) ≡ 325 ⌝ }
     ensures { λ r. ⌜ r ≡ rule-fault (now (text .entry)) (now (rules .entry)) k ⌝ }
 {
-    let p = rule_word(rules, k, 0);
+    let p = rule_word(rules, k, NAMED_AT);
     either(reserved_at(text, p), named(text, rules, k, p))
 }
 
@@ -111,8 +116,8 @@ fn held(nodes: &[usize], a: usize, i: usize, j: usize) -> bool
     ensures { λ r. ⌜ r ≡ heldOf (now (nodes .entry)) a i j ⌝ }
 {
     both(
-        i - j < node_word(nodes, j, 1),
-        not(both(j == a, node_word(nodes, a, 0) == 2)),
+        i - j < node_word(nodes, j, SIZE),
+        not(both(j == a, node_word(nodes, a, KIND) == 2)),
     )
 }
 
@@ -135,7 +140,10 @@ fn misplaced(nodes: &[usize], a: usize, i: usize) -> bool
     requires { ⌜ length (now nodes) ≡ 2560 ⌝ }
     ensures { λ r. ⌜ r ≡ is-misplaced (now (nodes .entry)) a i ⌝ }
 {
-    either(not(node_word(nodes, i, 7) == 1), held_between(nodes, a, i))
+    either(
+        not(node_word(nodes, i, HOW_BOUND) == 1),
+        held_between(nodes, a, i),
+    )
 }
 
 pub fn binder_fault(text: &[u8], nodes: &[usize], a: usize, i: usize, p: usize) -> bool

@@ -1,15 +1,27 @@
 // Refusal 6: the least place of a name at fault.
+use crate::counting::min;
+use crate::counting::place_if;
 use crate::names::binder_fault;
 use crate::names::rule_fault;
 use crate::names::use_fault;
 use crate::names::variable_fault;
-use crate::words::binder;
-use crate::words::min;
-use crate::words::node_word;
-use crate::words::place_if;
-use crate::words::rule_word;
-use crate::words::term_word;
-use crate::words::variable;
+use text_store::BOUND_AT;
+use text_store::CONDITION_END;
+use text_store::CONDITION_FROM;
+use text_store::FIRST_NODE;
+use text_store::KIND;
+use text_store::LAST_NODE;
+use text_store::NAMED_AT;
+use text_store::OWN_END;
+use text_store::OWN_FROM;
+use text_store::PLACE;
+use text_store::TAG;
+use text_store::TERM_PLACE;
+use text_store::words::binder;
+use text_store::words::node_word;
+use text_store::words::rule_word;
+use text_store::words::term_word;
+use text_store::words::variable;
 ghost use mathlib.Core.Path.{_≡_};
 ghost use lib.ListN.{length};
 ghost use Rattle.text_names.specs.Names.{name-place, term-place, list-place, node-place, nodes-place, rule-place, refusal-6};
@@ -26,12 +38,12 @@ fn name_place(
     requires { ⌜ (length (now nodes) ≡ 2560) × (length (now rules) ≡ 325) ⌝ }
     ensures { λ r. ⌜ r ≡ name-place (now (text .entry)) (now (nodes .entry)) (now (rules .entry)) count a e i ⌝ }
 {
-    if node_word(nodes, i, 0) == 5 {
-        let p = node_word(nodes, i, 2);
+    if node_word(nodes, i, KIND) == 5 {
+        let p = node_word(nodes, i, PLACE);
         return place_if(use_fault(text, nodes, rules, count, a, e, p), p);
     }
     if binder(nodes, i) {
-        let p = node_word(nodes, i, 4);
+        let p = node_word(nodes, i, BOUND_AT);
         return place_if(binder_fault(text, nodes, a, i, p), p);
     }
     18446744073709551615
@@ -41,8 +53,8 @@ fn term_place(text: &[u8], nodes: &[usize], terms: &[usize], a: usize, i: usize,
     requires { ⌜ (length (now nodes) ≡ 2560) × (length (now terms) ≡ 4096) ⌝ }
     ensures { λ r. ⌜ r ≡ term-place (now (text .entry)) (now (nodes .entry)) (now (terms .entry)) a i t ⌝ }
 {
-    let p = term_word(terms, t, 2);
-    if variable(term_word(terms, t, 0)) {
+    let p = term_word(terms, t, TERM_PLACE);
+    if variable(term_word(terms, t, TAG)) {
         return place_if(variable_fault(text, nodes, a, i, p), p);
     }
     18446744073709551615
@@ -90,8 +102,8 @@ fn node_place(
         terms,
         a,
         i,
-        node_word(nodes, i, 8),
-        node_word(nodes, i, 9),
+        node_word(nodes, i, CONDITION_FROM),
+        node_word(nodes, i, CONDITION_END),
     );
     let listed = list_place(
         text,
@@ -99,8 +111,8 @@ fn node_place(
         terms,
         a,
         i,
-        node_word(nodes, i, 5),
-        node_word(nodes, i, 6),
+        node_word(nodes, i, OWN_FROM),
+        node_word(nodes, i, OWN_END),
     );
     min(own, min(tested, listed))
 }
@@ -138,15 +150,15 @@ fn rule_place(
     requires { ⌜ (length (now nodes) ≡ 2560) × (length (now terms) ≡ 4096) × (length (now rules) ≡ 325) ⌝ }
     ensures { λ r. ⌜ r ≡ rule-place (now (text .entry)) (now (nodes .entry)) (now (terms .entry)) (now (rules .entry)) count k ⌝ }
 {
-    let own = place_if(rule_fault(text, rules, k), rule_word(rules, k, 0));
+    let own = place_if(rule_fault(text, rules, k), rule_word(rules, k, NAMED_AT));
     let inner = nodes_place(
         text,
         nodes,
         terms,
         rules,
         count,
-        rule_word(rules, k, 1),
-        rule_word(rules, k, 2),
+        rule_word(rules, k, FIRST_NODE),
+        rule_word(rules, k, LAST_NODE),
     );
     min(own, inner)
 }

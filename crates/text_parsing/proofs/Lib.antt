@@ -1,5 +1,4 @@
 -- Laws that the proofs of the functions cite.
-pub mod Rooms
 pub mod Sights
 pub mod Resuming
 pub mod Steps

@@ -10,7 +10,7 @@ use borrow.Author.Tests.{eqb-true}
 use lib.Dec.{eqb}
 use Rattle.text_header.proofs.Tests.{which}
 use Rattle.text_parsing.specs.Terminals.{name-like, live}
-use Rattle.text_parsing.specs.Store.{add, put-term}
+use Rattle.text_store.specs.Store.{add, put-term}
 use Rattle.text_parsing.specs.Symbols.{Symbol}
 use Rattle.text_parsing.specs.Form.{go, feed}
 use Rattle.text_parsing.specs.Cursors.{sight-at, state-at, next, term-more, resume, left, Reads, ReadsTerms}

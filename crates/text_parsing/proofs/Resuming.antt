@@ -11,7 +11,7 @@ use lib.Dec.{eqb}
 use lib.ListN.{length}
 use Rattle.text_header.proofs.Tests.{which}
 use Rattle.text_parsing.specs.Terminals.{sight, sight-of, sights-from, sights-after, live}
-use Rattle.text_parsing.specs.Store.{State}
+use Rattle.text_store.specs.Store.{State}
 use Rattle.text_parsing.specs.Symbols.{Symbol}
 use Rattle.text_parsing.specs.Form.{Fed, go, done, fault, feed, Outcome, right, refused, run}
 use Rattle.text_parsing.specs.Cursors.{resume-at, left-at}

@@ -1,18 +1,18 @@
 -- How readers of parts are put together.
 -- Assumes nothing.
-use Prim.Native.Nat.{ℕ, _+_, _*_, _-_, _≤_, _<_}
+use Prim.Native.Nat.{ℕ, _+_, _-_, _≤_, _<_}
 use mathlib.Core.Path.{_≡_, refl, sym, ap, subst, _∙_}
 use mathlib.Core.Bool.{true, false}
 use mathlib.Core.List.{List, [], _∷_, _++_, append-assoc}
 use native.Mathlib.Omega.{arith}
-use borrow.Author.Tests.{eq-eqb, ne-eqb, lt-ltb, le-ltb, le-leb}
+use borrow.Author.Tests.{eq-eqb, ne-eqb, lt-ltb, le-ltb}
 use lib.Dec.{eqb}
-use lib.ListN.{length, getD, set}
+use lib.ListN.{length}
 use Rattle.basis.specs.Limits.{max-nesting}
 use Rattle.text_tokens.specs.Tokens.{token-of}
 use Rattle.text_tokens.specs.declared.Token.{Token}
 use Rattle.text_parsing.specs.Terminals.{code-of, sight, seen, sight-of, live}
-use Rattle.text_parsing.specs.Store.{room, put-words, put-node, put-term, marked-tag, put-single}
+use Rattle.text_store.specs.Store.{put-term}
 use Rattle.text_parsing.specs.Symbols.{Symbol, want, sign, paren}
 use Rattle.text_parsing.specs.Form.{go, fault, feed}
 use Rattle.text_parsing.specs.Cursors.{sight-at, state-at, counts-of, next, fail, term-more, resume, left, Reads, ReadsTerms, ReadsOn}
@@ -141,19 +141,3 @@ sign-reads {xs} {c} {r} {ts} {ts′} {tag} {p} {o} e z ns =
     subst (λ (q : Cursor). Reads xs (sign tag p o ∷ []) c ns ts q ns ts′) (sym e)
     (subst (λ (l : List ℕ). Reads xs (sign tag p o ∷ []) c ns ts (term-more c) ns l) (sym z)
     (skip-then {qs = []} {m = term-more c} {ns₁ = ns} {ts₁ = put-term ts (c .terms) tag 0 p o} refl (λ rs ks. refl) nothing))
-
--- ---- single terms
-
-pub single-first : (ts : List ℕ) (t v : ℕ) → t ≡ 0 → v ≡ marked-tag (getD ts 0 0) → set ts 0 v ≡ put-single ts t
-unfolding put-single
-single-first ts t v e z = rw (e, z)
-
-pub single-later : (ts : List ℕ) (t v : ℕ) → t ≤ 1024 → v ≡ marked-tag (getD ts (4 * (t - 1)) 0) → set ts (4 * (t - 1)) v ≡ put-single ts t
-unfolding put-single
-single-later ts t v h z = rw (le-leb t 1024 h, z)
-
--- ---- nodes
-
-pub node-put : (ns ms qs : List ℕ) (i kind size place a b f e how : ℕ) → i < 256 → ms ≡ room ns i → qs ≡ put-words ms (10 * i) kind size place a b f e how → qs ≡ put-node ns i kind size place a b f e how
-unfolding put-node
-node-put ns ms qs i kind size place a b f e how h m q = rw (lt-ltb i 256 h) (q ∙ ap (λ (l : List ℕ). put-words l (10 * i) kind size place a b f e how) m)

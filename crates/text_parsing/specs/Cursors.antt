@@ -8,7 +8,7 @@ use mathlib.Core.List.{List, _∷_, _++_}
 use lib.Dec.{eqb}
 use lib.ListN.{length}
 use Rattle.text_parsing.specs.Terminals.{sight, sight-of, sights-after}
-use Rattle.text_parsing.specs.Store.{State, state, counted}
+use Rattle.text_store.specs.Store.{State, state, counted}
 use Rattle.text_parsing.specs.Symbols.{Symbol}
 use Rattle.text_parsing.specs.Form.{Outcome, refused, run}
 use Rattle.text_parsing.specs.declared.Cursor.{Cursor}

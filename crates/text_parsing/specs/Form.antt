@@ -7,7 +7,7 @@ use mathlib.Core.List.{List, [], _∷_}
 use lib.Dec.{ltb, eqb}
 use Rattle.basis.specs.Limits.{max-nesting}
 use Rattle.text_parsing.specs.Terminals.{is, is-name, begins}
-use Rattle.text_parsing.specs.Store.{State, nodes-of, terms-of, add, single, insert, leaf, condition-on, bind, close-rule}
+use Rattle.text_store.specs.Store.{State, nodes-of, terms-of, add, single, insert, leaf, condition-on, bind, close-rule}
 use Rattle.text_parsing.specs.Symbols.{Symbol, want, sign, paren, primary, operand, factors, summands, calculation, item, item-tail, bound, exception, excluded, alternative, alternatives, value-set, counts, counts-tail, test, comparison, condition, joined, chain, atom, factor, concatenation, expression, marked, counts-end, members, branches, character-tail, last-character, width, field-set, bound-name, field-end, colon, case-end, cases, switch-end, rules, rule-end}
 use Rattle.text_parsing.specs.declared.Sight.{Sight}
 

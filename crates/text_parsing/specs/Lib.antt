@@ -1,5 +1,4 @@
 pub mod Terminals
-pub mod Store
 pub mod Symbols
 pub mod Form
 pub mod Cursors

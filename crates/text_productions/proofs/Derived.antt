@@ -10,7 +10,7 @@ use lib.Dec.{ltb, eqb}
 use lib.ListN.{length}
 use Rattle.text_header.proofs.Tests.{both-first, choice, picked}
 use Rattle.text_parsing.specs.Terminals.{is, is-name, begins, sight-of, sights, sights-from}
-use Rattle.text_parsing.specs.Store.{State, nodes-of, terms-of, insert}
+use Rattle.text_store.specs.Store.{State, nodes-of, terms-of, insert}
 use Rattle.text_parsing.specs.Symbols.{Symbol, want, sign, paren, primary, operand, factors, summands, calculation, item, item-tail, bound, exception, excluded, alternative, alternatives, value-set, counts, counts-tail, test, comparison, condition, joined, chain, atom, factor, concatenation, expression, marked, counts-end, members, branches, character-tail, last-character, width, field-set, bound-name, field-end, colon, case-end, cases, switch-end, rules, rule-end}
 use Rattle.text_parsing.specs.Form.{Fed, go, done, fault, primary-begins, operand-begins, sum-tag, calculation-begins, item-begins, test-begins, comparison-tag, atom-begins, mark-of, feed, right, refused, run}
 use Rattle.text_parsing.specs.declared.Sight.{Sight}

@@ -1,28 +1,29 @@
 -- What a part adds to the terms: words that are read as a list of terms, and nothing else changes.
 -- Assumes nothing.
-use Prim.Native.Nat.{ℕ, zero, suc, _+_, _*_, _≤_, _<_}
+use Prim.Native.Nat.{ℕ, zero, suc, _+_, _≤_, _<_}
 use mathlib.Core.Path.{_≡_, refl, sym, ap, _∙_}
-use mathlib.Core.Logic.{_≢_}
 use mathlib.Core.Bool.{cond}
 use mathlib.Core.List.{List, [], _∷_, _++_}
 use native.Mathlib.Omega.{arith}
-use borrow.Author.Tests.{lt-ltb, leb-false, le-leb}
-use lib.Dec.{leb, ltb}
-use lib.ListN.{length, getD, set, length-append, length-set}
-use lib.Seq.{getD-set-same, getD-set-other}
+use borrow.Author.Tests.{leb-false, le-leb}
+use lib.Dec.{leb}
+use lib.ListN.{length, getD, length-append}
 use Rattle.text_header.proofs.Tests.{picked}
+use Rattle.text_store.specs.Words.{term-start, is-use}
 use Rattle.term_words.specs.Words.{termOf}
 use Rattle.term_words.specs.declared.Term.{Term}
-use Rattle.text_parsing.specs.Store.{State, state, nodes-of, terms-of, counted, put-term, add, node-words, term-words, rule-words, binders-of, rules-of}
-use Rattle.text_shapes.specs.TermShapes.{is-use, read-term, read-terms}
+use Rattle.text_store.specs.Store.{State, state, nodes-of, terms-of, counted, put-term, add, node-words, term-words, rule-words, binders-of, rules-of}
+use Rattle.text_store.proofs.StoreLaws.{length-put-term, term-before, term-put}
+use Rattle.text_store.proofs.Numbers.{at-tag, at-value, at-term}
+use Rattle.text_shapes.specs.TermShapes.{read-term, read-terms}
 
 -- ---- reading terms
 
-pub read-same : (ts us : List ℕ) (n k : ℕ) → ((j : ℕ) → 4 * k ≤ j → j < 4 * (k + n) → getD us j 0 ≡ getD ts j 0) → read-terms us k n ≡ read-terms ts k n
+pub read-same : (ts us : List ℕ) (n k : ℕ) → ((j : ℕ) → term-start k ≤ j → j < term-start (k + n) → getD us j 0 ≡ getD ts j 0) → read-terms us k n ≡ read-terms ts k n
 unfolding read-terms
 read-same ts us zero k h = refl
 read-same ts us (suc n) k h =
-    rw (h (4 * k) (omega arith) (omega arith), h (4 * k + 1) (omega arith) (omega arith), h (4 * k + 2) (omega arith) (omega arith), read-same ts us n (k + 1) (λ j a b. h j (omega arith) (omega arith)))
+    rw (h (term-start k + at-tag) (omega arith) (omega arith), h (term-start k + at-value) (omega arith) (omega arith), h (term-start k + at-term) (omega arith) (omega arith), read-same ts us n (k + 1) (λ j a b. h j (omega arith) (omega arith)))
 
 pub read-split : (ts : List ℕ) (m n k : ℕ) → read-terms ts k (m + n) ≡ read-terms ts k m ++ read-terms ts (k + m) n
 unfolding read-terms
@@ -50,7 +51,7 @@ pub record TermsOnly (a b : State) : Type 0 where
 -- ... these
 pub record Added (L : List Term) (a b : State) : Type 0 where
   pub count : terms-of b ≡ terms-of a + length L
-  pub kept : (k : ℕ) → k < 4 * terms-of a → getD (term-words b) k 0 ≡ getD (term-words a) k 0
+  pub kept : (k : ℕ) → k < term-start (terms-of a) → getD (term-words b) k 0 ≡ getD (term-words a) k 0
   pub read : read-terms (term-words b) (terms-of a) (length L) ≡ L
 
 -- ... some with P, where they are kept
@@ -119,52 +120,20 @@ reads-as f p =
 abbrev pub term-read : ℕ → ℕ → ℕ → Term
 term-read tag value place = termOf tag (cond (is-use tag) place value) 0
 
--- four words from the t-th on
-four : List ℕ → (t tag value place origin : ℕ) → List ℕ
-four ts t tag value place origin = set (set (set (set ts (4 * t) tag) (4 * t + 1) value) (4 * t + 2) place) (4 * t + 3) origin
+module _ (ts : List ℕ) (t tag value place origin : ℕ) (w : length ts ≡ 4096) (h : t < 1024) where
+  put-read : read-term (put-term ts t tag value place origin) t ≡ term-read tag value place
+  put-read =
+      let put = term-put ts t tag value place origin h w in
+      rw (put at-tag (omega arith), put at-value (omega arith), put at-term (omega arith))
 
-module _ (ts : List ℕ) (t tag value place origin : ℕ) where
-  put-below : t < 1024 → put-term ts t tag value place origin ≡ four ts t tag value place origin
-  unfolding put-term four
-  put-below h = rw (lt-ltb t 1024 h)
-
-  put-length : length (put-term ts t tag value place origin) ≡ length ts
-  unfolding put-term
-  put-length = picked (λ (l : List ℕ). length l ≡ length ts) (ltb t 1024) (λ e. simp length-set) (λ e. refl)
-
-  four-kept : (k : ℕ) → k < 4 * t → getD (four ts t tag value place origin) k 0 ≡ getD ts k 0
-  unfolding four
-  four-kept k h =
-      let a : k ≢ 4 * t = omega arith in
-      let b : k ≢ 4 * t + 1 = omega arith in
-      let c : k ≢ 4 * t + 2 = omega arith in
-      let d : k ≢ 4 * t + 3 = omega arith in
-      simp getD-set-other
-
-  module _ (w : length ts ≡ 4096) (h : t < 1024) where
-    four-read : read-term (four ts t tag value place origin) t ≡ term-read tag value place
-    unfolding four
-    four-read =
-        let a : 4 * t ≢ 4 * t + 3 = omega arith in
-        let b : 4 * t ≢ 4 * t + 2 = omega arith in
-        let c : 4 * t ≢ 4 * t + 1 = omega arith in
-        let d : 4 * t < length ts = omega arith in
-        let e : 4 * t + 1 ≢ 4 * t + 3 = omega arith in
-        let f : 4 * t + 1 ≢ 4 * t + 2 = omega arith in
-        let g : 4 * t + 1 < length (set ts (4 * t) tag) = simp length-set (omega arith) in
-        let k : 4 * t + 2 ≢ 4 * t + 3 = omega arith in
-        let l : 4 * t + 2 < length (set (set ts (4 * t) tag) (4 * t + 1) value) = simp length-set (omega arith) in
-        simp (getD-set-other, getD-set-same)
-
-    put-added : (ns rs : List ℕ) (n b r : ℕ) → Added (term-read tag value place ∷ []) (state ns ts rs n t b r) (state ns (put-term ts t tag value place origin) rs n (t + 1) b r)
-    unfolding read-terms
-    put-added ns rs n b r =
-        rw (put-below h) (record { count = refl; kept = four-kept; read = ap (λ (x : Term). x ∷ []) four-read })
+  put-added : (ns rs : List ℕ) (n b r : ℕ) → Added (term-read tag value place ∷ []) (state ns ts rs n t b r) (state ns (put-term ts t tag value place origin) rs n (t + 1) b r)
+  unfolding read-terms
+  put-added ns rs n b r = record { count = refl; kept = term-before ts t tag value place origin h; read = ap (λ (x : Term). x ∷ []) put-read }
 
 pub adds-term : (tag value place origin : ℕ) (a : State) → Reads (λ L. L ≡ term-read tag value place ∷ []) a (add tag value place origin a)
 adds-term tag value place origin (state ns ts rs n t b r) =
     record {
-      only = record { same-nodes = refl; same-rules = refl; nodes-count = refl; binders-count = refl; rules-count = refl; same-length = put-length ts t tag value place origin; grows = more };
+      only = record { same-nodes = refl; same-rules = refl; nodes-count = refl; binders-count = refl; rules-count = refl; same-length = length-put-term ts t tag value place origin; grows = more };
       adds = λ h w.
           let k : t < 1024 = less h in
           record {

@@ -8,9 +8,10 @@ use mathlib.Core.List.{List, [], _∷_}
 use native.Mathlib.Omega.{arith}
 use borrow.Author.Tests.{le-leb}
 use lib.Dec.{eqb}
+use Rattle.text_store.proofs.Numbers.{at-place, at-last-place, at-width-place, at-bound, at-own-from, at-own-end, at-how-bound}
 use Rattle.text_parsing.specs.Terminals.{is, is-name}
 use Rattle.text_parsing.specs.Symbols.{want, paren, value-set, expression, character-tail, last-character, width, field-set, bound-name, field-end}
-use Rattle.text_parsing.specs.Store.{State, state, nodes-of, terms-of, leaf, bind, term-words, binders-of}
+use Rattle.text_store.specs.Store.{State, state, nodes-of, terms-of, leaf, bind, term-words, binders-of}
 use Rattle.text_parsing.specs.declared.Sight.{Sight}
 use Rattle.text_productions.specs.Phrases.{Seen, Phrases}
 use Rattle.text_shapes.specs.TermShapes.{SetShape}
@@ -28,12 +29,12 @@ module _ {xs : List ℕ} {a b : State} (fine : Fine a) (fine′ : Fine b) where
   pub literal-made : {s : Sight} → Seen xs s → is 3 s ≡ true → b ≡ leaf 6 (s .start) 0 0 0 0 0 a → Whole xs a b
   literal-made {s} seen t z =
       let n : Inserted (nodes-of a) 6 (s .start) 0 0 0 0 0 a b = leaf-in 6 (s .start) 0 0 0 0 0 z fine fine′
-      in builds n 0 (omega arith) (literal-tree (headed n) (n .count) refl (inl (record { sight = s; seen = seen; literal = t; place = n .at 2 (omega arith) })))
+      in builds n 0 (omega arith) (literal-tree (headed n) (n .count) refl (inl (record { sight = s; seen = seen; literal = t; place = n .at at-place (omega arith) })))
 
   pub use-made : {s : Sight} → Seen xs s → is-name s ≡ true → b ≡ leaf 5 (s .start) 0 0 0 0 0 a → Whole xs a b
   use-made {s} seen t z =
       let n : Inserted (nodes-of a) 5 (s .start) 0 0 0 0 0 a b = leaf-in 5 (s .start) 0 0 0 0 0 z fine fine′
-      in builds n 0 (omega arith) (use-tree (headed n) (n .count) refl (record { sight = s; seen = seen; name = t; place = n .at 2 (omega arith) }))
+      in builds n 0 (omega arith) (use-tree (headed n) (n .count) refl (record { sight = s; seen = seen; name = t; place = n .at at-place (omega arith) }))
 
   pub eod-made : (p : ℕ) → b ≡ leaf 9 p 0 0 0 0 0 a → Whole xs a b
   eod-made p z =
@@ -43,14 +44,14 @@ module _ {xs : List ℕ} {a b : State} (fine : Fine a) (fine′ : Fine b) where
   pub character-made : {p : ℕ} → CharacterAt xs p → b ≡ leaf 6 p 0 0 0 0 0 a → Whole xs a b
   character-made {p} c z =
       let n : Inserted (nodes-of a) 6 p 0 0 0 0 0 a b = leaf-in 6 p 0 0 0 0 0 z fine fine′
-      in builds n 0 (omega arith) (literal-tree (headed n) (n .count) refl (inr (subst (CharacterAt xs) (sym (n .at 2 (omega arith))) c)))
+      in builds n 0 (omega arith) (literal-tree (headed n) (n .count) refl (inr (subst (CharacterAt xs) (sym (n .at at-place (omega arith))) c)))
 
   pub range-made : {p : ℕ} {s : Sight} → Seen xs s → is 9 s ≡ true → CharacterAt xs p → b ≡ leaf 7 p (s .start) 0 0 0 0 a → Whole xs a b
   range-made {p} {s} seen t c z =
       let n : Inserted (nodes-of a) 7 p (s .start) 0 0 0 0 a b = leaf-in 7 p (s .start) 0 0 0 0 z fine fine′
       in builds n 0 (omega arith)
-      (range-tree (headed n) (n .count) refl (subst (CharacterAt xs) (sym (n .at 2 (omega arith))) c)
-      (record { sight = s; seen = seen; character = t; place = n .at 3 (omega arith) }))
+      (range-tree (headed n) (n .count) refl (subst (CharacterAt xs) (sym (n .at at-place (omega arith))) c)
+      (record { sight = s; seen = seen; character = t; place = n .at at-last-place (omega arith) }))
 
 -- ---- uints
 
@@ -67,12 +68,12 @@ field-made p {xs} {d} {w} {q} {how} {f} {a} {c} {b} facts h y number u β z how-
     builds n β (r .1 .binders-same ∙ z)
     (uint-tree (headed n) (n .count)
     (record {
-      width = subst (NumberAt xs) (sym (n .at 3 (omega arith))) number;
-      from-is = n .at 5 (omega arith) ∙ y;
-      end-is = n .at 6 (omega arith);
+      width = subst (NumberAt xs) (sym (n .at at-width-place (omega arith))) number;
+      from-is = n .at at-own-from (omega arith) ∙ y;
+      end-is = n .at at-own-end (omega arith);
       shape = subst (λ (l : List ℕ). SetShape l (terms-of a) (terms-of c)) (sym (n .term-words-same)) (r .0);
     })
-    (record { how = rw (n .at 7 (omega arith), n .at 4 (omega arith)) how-is }))
+    (record { how = rw (n .at at-how-bound (omega arith), n .at at-bound (omega arith)) how-is }))
     in gives-after-terms (r .1) (subst (λ (k : ℕ). Gives xs k (terms-of a) u c b) (r .1 .nodes-same) g)
 
 -- with one more binder nothing else changes

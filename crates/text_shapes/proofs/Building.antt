@@ -1,14 +1,16 @@
 -- A node is put in front of what stands from node i on: a tree is made of it.
 -- Assumes nothing.
-use Prim.Native.Nat.{ℕ, _+_, _*_, _-_, _≤_, _<_}
+use Prim.Native.Nat.{ℕ, _+_, _-_, _≤_, _<_}
 use mathlib.Core.Path.{_≡_, refl, sym, ap, subst, _∙_}
 use mathlib.Core.List.{List}
 use native.Mathlib.Omega.{arith}
 use borrow.Author.Tests.{le-leb}
 use lib.ListN.{getD}
-use Rattle.text_parsing.specs.Store.{State, state, nodes-of, terms-of, counted, insert, node-words, term-words, rule-words, binders-of, rules-of}
-use Rattle.text_shapes.specs.NodeShapes.{node-word, Headed, Unconditioned, Shape, tree, Holds}
-use Rattle.text_shapes.proofs.StoreLaws.{ten, node-before, node-at, node-after}
+use Rattle.text_store.specs.Words.{node-start, node-word}
+use Rattle.text_store.specs.Store.{State, state, nodes-of, terms-of, counted, insert, node-words, term-words, rule-words, binders-of, rules-of}
+use Rattle.text_store.proofs.Numbers.{at-kind, at-size, at-condition-from, at-condition-end}
+use Rattle.text_shapes.specs.NodeShapes.{Headed, Unconditioned, Shape, tree, Holds}
+use Rattle.text_store.proofs.StoreLaws.{ten, node-before, node-at, node-after}
 use Rattle.text_shapes.proofs.Moving.{TermsSame, all-words, moves, stays}
 use Rattle.text_shapes.proofs.Growth.{Fine}
 use Rattle.text_shapes.proofs.Claims.{TermsOnly, Kept, Gives}
@@ -50,7 +52,7 @@ pub holds-kept : (same : TermsSame) {xs : List ℕ} {s : Shape} {i e f g β j : 
 holds-kept same {a = a} {b = b} k h l t = stays same (node-words b) (term-words b) t (λ q z. k .nodes q (omega arith)) (record { at = λ q z y. k .terms q (omega arith) })
 
 pub free-kept : {i j : ℕ} {a b : State} → Kept j a b → i < j → Unconditioned (node-words a) i → Unconditioned (node-words b) i
-free-kept {i} k h u = record { from-is = k .nodes (10 * i + 8) (omega arith) ∙ u .from-is; end-is = k .nodes (10 * i + 9) (omega arith) ∙ u .end-is }
+free-kept {i} k h u = record { from-is = k .nodes (node-start i + at-condition-from) (omega arith) ∙ u .from-is; end-is = k .nodes (node-start i + at-condition-end) (omega arith) ∙ u .end-is }
 
 -- what keeps all before i comes first
 pub gives-from : {xs : List ℕ} {i f u : ℕ} {a b c : State} → Kept i a b → rules-of b ≡ rules-of a → Gives xs i f u b c → Gives xs i f u a c
@@ -69,7 +71,7 @@ pub record Inserted (i kind place a b c d e : ℕ) (st st′ : State) : Type 0 w
   pub terms-same : terms-of st′ ≡ terms-of st
   pub binders-same : binders-of st′ ≡ binders-of st
   pub rules-same : rules-of st′ ≡ rules-of st
-  pub before : (j : ℕ) → j < 10 * i → getD (node-words st′) j 0 ≡ getD (node-words st) j 0
+  pub before : (j : ℕ) → j < node-start i → getD (node-words st′) j 0 ≡ getD (node-words st) j 0
   pub at : (w : ℕ) → w < 10 → node-word (node-words st′) i w ≡ getD (ten kind (nodes-of st′ - i) place a b c d e) w 0
   pub after : (j k : ℕ) → i ≤ j → j < nodes-of st → k < 10 → node-word (node-words st′) (j + 1) k ≡ node-word (node-words st) j k
 
@@ -91,7 +93,7 @@ insert-fine kind place i a b c d e (state ns ts rs n t u r) f g h =
       rules-same = refl;
       before = node-before ns i kind (counted 256 n - i) place a b c d e x (f .node-length);
       at = node-at ns i kind (counted 256 n - i) place a b c d e x (f .node-length);
-      after = λ j k p q l. node-after ns i kind (counted 256 n - i) place a b c d e x (f .node-length) (10 * j + k) (10 * (j + 1) + k) (omega arith) (omega arith) (omega arith);
+      after = λ j k p q l. node-after ns i kind (counted 256 n - i) place a b c d e x (f .node-length) (node-start j + k) (node-start (j + 1) + k) (omega arith) (omega arith) (omega arith);
     }
 
 pub inserted : (kind place i a b c d e : ℕ) {st st′ : State} → st′ ≡ insert kind place i a b c d e st → Fine st → Fine st′ → i ≤ nodes-of st → Inserted i kind place a b c d e st st′
@@ -109,10 +111,10 @@ module _ {i kind place a b c d e : ℕ} {st st′ : State} (ins : Inserted i kin
       }
 
   pub headed : Headed (node-words st′) i (nodes-of st′) kind
-  headed = record { kind-is = ins .at 0 (omega arith); size-is = ins .at 1 (omega arith); below = omega (arith, ins .count, ins .below) }
+  headed = record { kind-is = ins .at at-kind (omega arith); size-is = ins .at at-size (omega arith); below = omega (arith, ins .count, ins .below) }
 
   insert-free : Unconditioned (node-words st′) i
-  insert-free = record { from-is = ins .at 8 (omega arith); end-is = ins .at 9 (omega arith) }
+  insert-free = record { from-is = ins .at at-condition-from (omega arith); end-is = ins .at at-condition-end (omega arith) }
 
   -- what stands behind the node
   pub behind : (same : TermsSame) {xs : List ℕ} {s : Shape} {f g β : ℕ} → Holds xs (node-words st) (term-words st) s i (nodes-of st) f g β → Holds xs (node-words st′) (term-words st′) s (i + 1) (nodes-of st′) f g β
@@ -123,7 +125,7 @@ module _ {i kind place a b c d e : ℕ} {st st′ : State} (ins : Inserted i kin
 
   pub behind-free : i < nodes-of st → Unconditioned (node-words st) i → Unconditioned (node-words st′) (i + 1)
   behind-free h u =
-      record { from-is = ins .after i 8 (omega arith) h (omega arith) ∙ u .from-is; end-is = ins .after i 9 (omega arith) h (omega arith) ∙ u .end-is }
+      record { from-is = ins .after i at-condition-from (omega arith) h (omega arith) ∙ u .from-is; end-is = ins .after i at-condition-end (omega arith) h (omega arith) ∙ u .end-is }
 
   -- the tree that is made
   pub builds : {xs : List ℕ} {f u : ℕ} (β : ℕ) → binders-of st ≡ u + β → Holds xs (node-words st′) (term-words st′) tree i (nodes-of st′) f (terms-of st) β → Gives xs i f u st st′

@@ -6,8 +6,9 @@ use mathlib.Core.Logic.{_⊎_}
 use mathlib.Core.Bool.{Bool, true, false}
 use mathlib.Core.List.{List, [], _∷_}
 use native.Mathlib.Omega.{arith}
+use Rattle.text_store.proofs.Numbers.{at-mark, at-own-from, at-own-end}
 use Rattle.text_parsing.specs.Symbols.{counts, atom, marked, counts-end}
-use Rattle.text_parsing.specs.Store.{State, nodes-of, terms-of, insert, node-words, term-words, binders-of}
+use Rattle.text_store.specs.Store.{State, nodes-of, terms-of, insert, node-words, term-words, binders-of}
 use Rattle.text_parsing.specs.Form.{chained}
 use Rattle.text_productions.specs.Phrases.{Phrases}
 use Rattle.text_shapes.specs.TermShapes.{CountsShape}
@@ -35,7 +36,7 @@ module _ (same : TermsSame) {xs : List ℕ} {i f u : ℕ} {a b : State} (fine : 
       let h : i < nodes-of a = extent (t .holds) .0
       in let n : Inserted i 3 p how mark 0 0 0 a b = inserted 3 p i how mark 0 0 0 z fine fine′ (omega arith)
       in builds n (t .count) (t .bound)
-      (marked-tree {j = i + 1} (headed n) refl (record { least = rw (n .at 3 (omega arith)) l; most = rw (n .at 3 (omega arith)) m }) (behind-free n h v) (behind n same (t .holds)))
+      (marked-tree {j = i + 1} (headed n) refl (record { least = rw (n .at at-mark (omega arith)) l; most = rw (n .at at-mark (omega arith)) m }) (behind-free n h v) (behind n same (t .holds)))
 
 -- counts are read from a to c, and then the node is put
 counted-made : {xs : List ℕ} {i f u m : ℕ} {a c b : State} → TermFacts xs → (p mark : ℕ) → m ≡ terms-of a → Fine a → Phrases xs (counts ∷ []) a c → Fine c → b ≡ insert 3 p i 4 mark m (terms-of c) 0 c → Fine b → Part xs tree i f u a → Unconditioned (node-words a) i → Gives xs i f u a b
@@ -51,9 +52,9 @@ counted-made {xs} {i} {f} {u} {m} {a} {c} {b} facts p mark e fine s fine-c z fin
     builds n (t .count) (r .1 .binders-same ∙ t .bound)
     (counted-tree {j = i + 1} {m = terms-of a} (headed n) refl
     (record {
-      how = n .at 3 (omega arith);
-      from-is = n .at 5 (omega arith) ∙ e;
-      end-is = n .at 6 (omega arith);
+      how = n .at at-mark (omega arith);
+      from-is = n .at at-own-from (omega arith) ∙ e;
+      end-is = n .at at-own-end (omega arith);
       shape = subst (λ (l : List ℕ). CountsShape l (terms-of a) (terms-of c)) (sym (n .term-words-same)) (r .0);
     })
     (behind-free n h′ (free-kept k h v))

@@ -11,11 +11,11 @@ use borrow.Author.Tests.{le-leb, ne-eqb}
 use Rattle.text_header.specs.Bytes.{within}
 use Rattle.text_header.proofs.Tests.{both-first, both-second, within-low, within-high}
 use Rattle.text_parsing.specs.Symbols.{Symbol, want, sign, paren, primary, operand, factors, summands, calculation, item, item-tail, bound, exception, excluded, alternative, alternatives, value-set, counts, counts-tail, test, comparison, condition, joined, chain, atom, factor, concatenation, expression, marked, counts-end, members, branches, character-tail, last-character, width, field-set, bound-name, field-end, colon, case-end, cases, switch-end, rules, rule-end}
-use Rattle.text_parsing.specs.Store.{State, nodes-of, terms-of, add, single, insert, condition-on, bind, close-rule}
+use Rattle.text_store.specs.Store.{State, nodes-of, terms-of, add, single, insert, condition-on, bind, close-rule}
 use Rattle.text_parsing.specs.Form.{chained}
 use Rattle.text_productions.specs.Phrases.{Production, terminal, signed, opened, number, variable, negated, plain, no-factor, times, no-summand, plus, minus, sum, open-item, value-item, to-bound, alone, some-bound, no-bound, no-exception, except, except-set, except-item, set-alternative, no-alternative, or-alternative, set, counts-to, counts-from, counts-exact, counts-range, test-group, test-compare, compare, tests, one-test, all-of, any-of, no-link, link, literal-atom, character-atom, field-atom, eod-atom, use-atom, group-atom, switch-atom, an-item, one-member, one-branch, no-mark, a-mark, counted-mark, counted as counted-end, and-member, last-member, or-branch, last-branch, to-character, one-character, range, field-width, binding, not-binding, binder, field, a-case, case-done, no-default, default, further-case, switched, no-rule, a-rule, ruled}
 use Rattle.text_shapes.specs.Stored.{OwnList, of-field, of-counts, no-list, TermWords, a-number, a-use, a-sign}
-use Rattle.text_shapes.proofs.StoreLaws.{ten}
+use Rattle.text_store.proofs.StoreLaws.{ten}
 
 -- ---- the signs' tags are within 3 to 31: so they are none of a number or a use, and neither with 32 more
 

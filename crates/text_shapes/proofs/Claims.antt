@@ -1,12 +1,13 @@
 -- What each symbol adds to what is read, from a state `a` to a state `b`, both within the limits.
 -- Assumes nothing.
-use Prim.Native.Nat.{ℕ, _+_, _*_, _≤_, _<_}
+use Prim.Native.Nat.{ℕ, _+_, _≤_, _<_}
 use mathlib.Core.Path.{_≡_}
 use mathlib.Core.Bool.{Bool, true, false}
 use mathlib.Core.List.{List, [], _∷_}
 use lib.ListN.{length, getD}
+use Rattle.text_store.specs.Words.{node-start, term-start, rule-start}
 use Rattle.text_parsing.specs.Symbols.{Symbol, want, sign, paren, primary, operand, factors, summands, calculation, item, item-tail, bound, exception, excluded, alternative, alternatives, value-set, counts, counts-tail, test, comparison, condition, joined, chain, atom, factor, concatenation, expression, marked, counts-end, members, branches, character-tail, last-character, width, field-set, bound-name, field-end, colon, case-end, cases, switch-end, rules, rule-end}
-use Rattle.text_parsing.specs.Store.{State, nodes-of, terms-of, insert, leaf, condition-on, close-rule, node-words, term-words, rule-words, binders-of, rules-of}
+use Rattle.text_store.specs.Store.{State, nodes-of, terms-of, insert, leaf, condition-on, close-rule, node-words, term-words, rule-words, binders-of, rules-of}
 use Rattle.text_productions.specs.Phrases.{Phrases}
 use Rattle.text_shapes.specs.TermShapes.{SetShape, ConditionShape, CountsShape}
 use Rattle.text_shapes.specs.NodeShapes.{NumberAt, CharacterAt, Unconditioned, Conditioned, Shape, tree, forest, further, Holds, Rules}
@@ -24,7 +25,7 @@ pub record TermsOnly (a b : State) : Type 0 where
   pub rules-same : rules-of b ≡ rules-of a
   pub length-is : length (term-words b) ≡ 4096
   pub grow : terms-of a ≤ terms-of b
-  pub kept : (k : ℕ) → k < 4 * terms-of a → getD (term-words b) k 0 ≡ getD (term-words a) k 0
+  pub kept : (k : ℕ) → k < term-start (terms-of a) → getD (term-words b) k 0 ≡ getD (term-words a) k 0
 
 pub record TermFacts (xs : List ℕ) : Type 0 where
   pub same : TermsSame
@@ -36,9 +37,9 @@ pub record TermFacts (xs : List ℕ) : Type 0 where
 
 -- the words of the nodes below i, and of all terms and rules, are as before
 pub record Kept (i : ℕ) (a b : State) : Type 0 where
-  pub nodes : (k : ℕ) → k < 10 * i → getD (node-words b) k 0 ≡ getD (node-words a) k 0
-  pub terms : (k : ℕ) → k < 4 * terms-of a → getD (term-words b) k 0 ≡ getD (term-words a) k 0
-  pub rules : (k : ℕ) → k < 5 * rules-of a → getD (rule-words b) k 0 ≡ getD (rule-words a) k 0
+  pub nodes : (k : ℕ) → k < node-start i → getD (node-words b) k 0 ≡ getD (node-words a) k 0
+  pub terms : (k : ℕ) → k < term-start (terms-of a) → getD (term-words b) k 0 ≡ getD (term-words a) k 0
+  pub rules : (k : ℕ) → k < rule-start (rules-of a) → getD (rule-words b) k 0 ≡ getD (rule-words a) k 0
   pub more-terms : terms-of a ≤ terms-of b
   pub more-rules : rules-of a ≤ rules-of b
 

@@ -5,12 +5,12 @@ use mathlib.Core.Path.{_≡_, refl, sym, subst, _∙_}
 use mathlib.Core.List.{List}
 use native.Mathlib.Omega.{arith}
 use lib.Dec.{leb}
-use lib.ListN.{length, replicate}
+use lib.ListN.{length}
 use Rattle.text_header.proofs.Tests.{picked}
 use Rattle.text_parsing.specs.Symbols.{Symbol}
-use Rattle.text_parsing.specs.Store.{State, state, nodes-of, terms-of, counted, add, single, insert, condition-on, bind, close-rule, node-words, term-words, rule-words, binders-of, rules-of}
+use Rattle.text_store.specs.Store.{State, state, nodes-of, terms-of, counted, add, single, insert, condition-on, bind, close-rule, node-words, term-words, rule-words, binders-of, rules-of}
 use Rattle.text_productions.specs.Phrases.{Production, Phrases, nothing, then}
-use Rattle.text_shapes.proofs.StoreLaws.{length-put-node, length-put-condition, length-put-term, length-put-single, length-put-rule}
+use Rattle.text_store.proofs.StoreLaws.{length-put-node, length-put-condition, length-put-term, length-put-single, length-put-rule}
 use Rattle.text_shapes.proofs.Changes.{Change, same, term, last-term, node, condition-of, binder-more, rule-more, changed}
 
 -- ---- growth
@@ -85,10 +85,6 @@ production-grows p = change-grows (changed p .0)
 pub phrases-grow : {xs : List ℕ} {ks : List Symbol} {a b : State} → Phrases xs ks a b → Grows a b
 phrases-grow nothing = grows-refl
 phrases-grow (then p u v) = grows-trans (production-grows p) (grows-trans (phrases-grow u) (phrases-grow v))
-
--- before anything is read
-abbrev pub blank : State
-blank = state (replicate 2560 0) (replicate 4096 0) (replicate 325 0) 0 0 0 0
 
 -- ---- what is within the limits
 

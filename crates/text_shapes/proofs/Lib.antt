@@ -5,7 +5,6 @@ pub mod Marking
 pub mod Sentences
 pub mod TermLaws
 pub mod ShapeLaws
-pub mod StoreLaws
 pub mod Changes
 pub mod Moving
 pub mod Growth
@@ -18,5 +17,4 @@ pub mod RuleLaws
 pub mod NodeLaws
 pub mod StoredLaws
 pub mod Shaped
-pub mod Columns
 pub mod Places

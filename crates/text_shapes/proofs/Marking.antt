@@ -1,22 +1,24 @@
 -- A calculation that is an item of a set: 32 more in the last term's tag, and the term is single.
 -- Assumes nothing.
-use Prim.Native.Nat.{ℕ, _+_, _*_, _-_, _≤_, _<_}
+use Prim.Native.Nat.{ℕ, _+_, _-_, _≤_, _<_}
 use mathlib.Core.Path.{_≡_, refl, sym, ap, subst, _∙_}
-use mathlib.Core.Logic.{_≢_, ⊎-elim}
+use mathlib.Core.Logic.{⊎-elim}
 use mathlib.Core.Bool.{Bool, true, false, cond}
 use mathlib.Core.List.{List, [], _∷_, _++_}
 use native.Mathlib.Omega.{arith}
-use borrow.Author.Tests.{lt-ltb, le-ltb, le-leb, ne-eqb, ltb-true, eqb-true, eqb-false}
-use lib.Dec.{leb, ltb, eqb}
-use lib.ListN.{length, getD, set, length-append, length-set}
-use lib.Seq.{getD-set-same, getD-set-other}
-use Rattle.text_header.proofs.Tests.{which, picked}
+use borrow.Author.Tests.{lt-ltb, le-ltb, ne-eqb, ltb-true, eqb-true, eqb-false}
+use lib.Dec.{ltb, eqb}
+use lib.ListN.{length, length-append}
+use Rattle.text_header.proofs.Tests.{which}
+use Rattle.text_store.specs.Words.{term-start, term-tag, term-value, term-at, is-use}
 use Rattle.term_words.specs.Numbers.{pick}
 use Rattle.term_words.specs.Words.{operationOf, signOf, termOf}
 use Rattle.term_words.specs.declared.Operation.{Operation}
 use Rattle.term_words.specs.declared.Term.{Term}
-use Rattle.text_parsing.specs.Store.{State, state, terms-of, marked-tag, put-single, single, term-words}
-use Rattle.text_shapes.specs.TermShapes.{is-use, read-term, read-terms}
+use Rattle.text_store.specs.Store.{State, state, terms-of, marked-tag, put-single, single, term-words}
+use Rattle.text_store.proofs.StoreLaws.{length-put-single, marked-at, single-marks, marked-other, marked-here}
+use Rattle.text_store.proofs.Numbers.{at-value, at-term}
+use Rattle.text_shapes.specs.TermShapes.{read-term, read-terms}
 use Rattle.text_shapes.proofs.Adding.{read-same, read-split, TermsOnly, Added, term-read}
 
 -- ---- the tag of a part of a calculation
@@ -92,21 +94,12 @@ one-read : (ts : List ℕ) (s m : ℕ) → read-terms ts s (m + 1) ≡ read-term
 unfolding read-terms
 one-read ts s m = read-split ts m 1 s
 
--- term k's tag changed
-abbrev pub marked-at : List ℕ → ℕ → List ℕ
-marked-at ts k = set ts (4 * k) (marked-tag (getD ts (4 * k) 0))
-
-marked-below : (ts : List ℕ) (k j : ℕ) → j < 4 * k → getD (marked-at ts k) j 0 ≡ getD ts j 0
-marked-below ts k j h = getD-set-other ts (4 * k) j (marked-tag (getD ts (4 * k) 0)) 0 (omega arith)
-
-marked-last : (ts : List ℕ) (k : ℕ) (o : Operation) → 4 * k < length ts → read-term ts k ≡ Term.Part o → read-term (marked-at ts k) k ≡ Term.Single o
+marked-last : (ts : List ℕ) (k : ℕ) (o : Operation) → term-start k < length ts → read-term ts k ≡ Term.Part o → read-term (marked-at ts k) k ≡ Term.Single o
 marked-last ts k o h e =
-    let a : 4 * k + 1 ≢ 4 * k = omega arith in
-    let b : 4 * k + 2 ≢ 4 * k = omega arith in
-    simp (getD-set-same, getD-set-other) (marked-read (getD ts (4 * k) 0) (getD ts (4 * k + 1) 0) (getD ts (4 * k + 2) 0) o e)
+    rw (marked-here ts k h, marked-other ts k (term-start k + at-value) (omega arith), marked-other ts k (term-start k + at-term) (omega arith))
+    (marked-read (term-tag ts k) (term-value ts k) (term-at ts k) o e)
 
 pub marked-added : (M : List Term) (o : Operation) (a b : State) → length (term-words b) ≡ 4096 → terms-of b ≤ 1024 → Added (M ++ (Term.Part o ∷ [])) a b → Added (M ++ (Term.Single o ∷ [])) a (single b)
-unfolding put-single
 marked-added M o a (state ns ts rs n t c r) w h p =
     let m : length (M ++ (Term.Part o ∷ [])) ≡ length M + 1 = length-append M (Term.Part o ∷ []) in
     let m′ : length (M ++ (Term.Single o ∷ [])) ≡ length M + 1 = length-append M (Term.Single o ∷ []) in
@@ -114,21 +107,20 @@ marked-added M o a (state ns ts rs n t c r) w h p =
     let q : (read-terms ts (terms-of a) (length M) ≡ M) × (read-term ts (terms-of a + length M) ≡ Term.Part o) =
     last-same (read-terms ts (terms-of a) (length M)) M (read-term ts (terms-of a + length M)) (Term.Part o)
     (sym (one-read ts (terms-of a) (length M)) ∙ ap (read-terms ts (terms-of a)) (sym m) ∙ p .read) in
-    let f : put-single ts t ≡ marked-at ts (terms-of a + length M) = rw (le-leb t 1024 h, k) in
+    let f : put-single ts t ≡ marked-at ts (terms-of a + length M) = single-marks ts t h ∙ ap (marked-at ts) k in
     rw f
     (record {
       count = omega (arith, p .count);
-      kept = λ j l. marked-below ts (terms-of a + length M) j (omega arith) ∙ p .kept j l;
+      kept = λ j l. marked-other ts (terms-of a + length M) j (omega arith) ∙ p .kept j l;
       read =
           ap (read-terms (marked-at ts (terms-of a + length M)) (terms-of a)) m′
           ∙ one-read (marked-at ts (terms-of a + length M)) (terms-of a) (length M)
           ∙ ap (λ (L : List Term). L ++ (read-term (marked-at ts (terms-of a + length M)) (terms-of a + length M) ∷ []))
-          (read-same ts (marked-at ts (terms-of a + length M)) (length M) (terms-of a) (λ j l g. marked-below ts (terms-of a + length M) j g) ∙ q .0)
+          (read-same ts (marked-at ts (terms-of a + length M)) (length M) (terms-of a) (λ j l g. marked-other ts (terms-of a + length M) j (omega arith)) ∙ q .0)
           ∙ ap (λ (x : Term). M ++ (x ∷ [])) (marked-last ts (terms-of a + length M) o (omega (arith, p .count)) (q .1));
     })
 
 pub single-only : (a : State) → TermsOnly a (single a)
-unfolding put-single
 single-only (state ns ts rs n t b r) =
     record {
       same-nodes = refl;
@@ -136,6 +128,6 @@ single-only (state ns ts rs n t b r) =
       nodes-count = refl;
       binders-count = refl;
       rules-count = refl;
-      same-length = picked (λ (l : List ℕ). length l ≡ length ts) (leb t 1024) (λ e. length-set ts (4 * (t - 1)) _) (λ e. refl);
+      same-length = length-put-single ts t;
       grows = omega arith;
     }

@@ -1,13 +1,15 @@
 -- A tree is the same where its words stand further on, and where other words change.
 -- Assumes nothing.
-use Prim.Native.Nat.{ℕ, _+_, _*_, _-_, _≤_, _<_}
+use Prim.Native.Nat.{ℕ, _+_, _-_, _≤_, _<_}
 use mathlib.Core.Path.{_≡_, _∙_}
 use mathlib.Core.List.{List}
 use native.Mathlib.Omega.{arith}
 use native.Mathlib.Nat.{add-zero}
 use lib.ListN.{getD}
+use Rattle.text_store.specs.Words.{node-start, term-start, node-word}
+use Rattle.text_store.proofs.Numbers.{at-kind, at-size, at-place, at-mark, at-last-place, at-width-place, at-bound, at-own-from, at-own-end, at-how-bound, at-condition-from, at-condition-end}
 use Rattle.text_shapes.specs.TermShapes.{SetShape, ConditionShape, CountsShape}
-use Rattle.text_shapes.specs.NodeShapes.{node-word, Headed, Unconditioned, Conditioned, Binds, Marked, Counted, Field, Shape, tree, forest, cases, further, Holds, literal-tree, range-tree, use-tree, eod-tree, uint-tree, marked-tree, counted-tree, chain-tree, switch-tree, no-trees, more-trees, a-case, no-further, a-default, more-cases}
+use Rattle.text_shapes.specs.NodeShapes.{Headed, Unconditioned, Conditioned, Binds, Marked, Counted, Field, Shape, tree, forest, cases, further, Holds, literal-tree, range-tree, use-tree, eod-tree, uint-tree, marked-tree, counted-tree, chain-tree, switch-tree, no-trees, more-trees, a-case, no-further, a-default, more-cases}
 
 -- ---- where a shape begins and ends
 
@@ -38,7 +40,7 @@ extent (more-cases c) = extent c
 
 -- the terms from f up to g
 pub record SameTerms (ts ts′ : List ℕ) (f g : ℕ) : Type 0 where
-  pub at : (k : ℕ) → 4 * f ≤ k → k < 4 * g → getD ts′ k 0 ≡ getD ts k 0
+  pub at : (k : ℕ) → term-start f ≤ k → k < term-start g → getD ts′ k 0 ≡ getD ts k 0
 
 -- the nodes from i up to e, by m further on
 pub record SameNodes (ns ns′ : List ℕ) (m i e : ℕ) : Type 0 where
@@ -57,9 +59,9 @@ SameWords further ns ns′ m i e = SameNodes ns ns′ m i e
 
 -- what terms are depends on their words alone (`TermLaws`)
 pub record TermsSame : Type 0 where
-  pub set-same : (ts ts′ : List ℕ) (f e : ℕ) → SetShape ts f e → ((k : ℕ) → 4 * f ≤ k → k < 4 * e → getD ts′ k 0 ≡ getD ts k 0) → SetShape ts′ f e
-  pub condition-same : (ts ts′ : List ℕ) (f e : ℕ) → ConditionShape ts f e → ((k : ℕ) → 4 * f ≤ k → k < 4 * e → getD ts′ k 0 ≡ getD ts k 0) → ConditionShape ts′ f e
-  pub counts-same : (ts ts′ : List ℕ) (f e : ℕ) → CountsShape ts f e → ((k : ℕ) → 4 * f ≤ k → k < 4 * e → getD ts′ k 0 ≡ getD ts k 0) → CountsShape ts′ f e
+  pub set-same : (ts ts′ : List ℕ) (f e : ℕ) → SetShape ts f e → ((k : ℕ) → term-start f ≤ k → k < term-start e → getD ts′ k 0 ≡ getD ts k 0) → SetShape ts′ f e
+  pub condition-same : (ts ts′ : List ℕ) (f e : ℕ) → ConditionShape ts f e → ((k : ℕ) → term-start f ≤ k → k < term-start e → getD ts′ k 0 ≡ getD ts k 0) → ConditionShape ts′ f e
+  pub counts-same : (ts ts′ : List ℕ) (f e : ℕ) → CountsShape ts f e → ((k : ℕ) → term-start f ≤ k → k < term-start e → getD ts′ k 0 ≡ getD ts k 0) → CountsShape ts′ f e
 
 part-terms : {ts ts′ : List ℕ} {f g : ℕ} (h k : ℕ) → SameTerms ts ts′ f g → f ≤ h → k ≤ g → SameTerms ts ts′ h k
 part-terms h k w a b = record { at = λ j c d. w .at j (omega arith) (omega arith) }
@@ -75,29 +77,29 @@ module _ {ns ns′ : List ℕ} {m i : ℕ} where
   headed-moves : {e kind : ℕ} → SameRoot ns ns′ m i → Headed ns i e kind → Headed ns′ (i + m) (e + m) kind
   headed-moves {e} {kind} w h =
       let z : e - i ≡ e + m - (i + m) = omega arith
-      in record { kind-is = w .at 0 (omega arith) ∙ h .kind-is; size-is = w .at 1 (omega arith) ∙ h .size-is ∙ z; below = omega (arith, h .below) }
+      in record { kind-is = w .at at-kind (omega arith) ∙ h .kind-is; size-is = w .at at-size (omega arith) ∙ h .size-is ∙ z; below = omega (arith, h .below) }
 
   marked-moves : SameRoot ns ns′ m i → Marked ns i → Marked ns′ (i + m)
-  marked-moves w h = record { least = rw (w .at 3 (omega arith)) (h .least); most = rw (w .at 3 (omega arith)) (h .most) }
+  marked-moves w h = record { least = rw (w .at at-mark (omega arith)) (h .least); most = rw (w .at at-mark (omega arith)) (h .most) }
 
   binds-moves : {xs : List ℕ} {β : ℕ} → SameRoot ns ns′ m i → Binds xs ns i β → Binds xs ns′ (i + m) β
-  binds-moves w h = record { how = rw (w .at 7 (omega arith), w .at 4 (omega arith)) (h .how) }
+  binds-moves w h = record { how = rw (w .at at-how-bound (omega arith), w .at at-bound (omega arith)) (h .how) }
 
   free-moves : {e : ℕ} → SameNodes ns ns′ m i e → i < e → Unconditioned ns i → Unconditioned ns′ (i + m)
-  free-moves w b h = record { from-is = w .at i 8 (omega arith) b (omega arith) ∙ h .from-is; end-is = w .at i 9 (omega arith) b (omega arith) ∙ h .end-is }
+  free-moves w b h = record { from-is = w .at i at-condition-from (omega arith) b (omega arith) ∙ h .from-is; end-is = w .at i at-condition-end (omega arith) b (omega arith) ∙ h .end-is }
 
   module _ (same : TermsSame) {ts ts′ : List ℕ} {f g : ℕ} where
     counted-moves : SameRoot ns ns′ m i → SameTerms ts ts′ f g → Counted ns ts i f g → Counted ns′ ts′ (i + m) f g
-    counted-moves w v h = record { how = w .at 3 (omega arith) ∙ h .how; from-is = w .at 5 (omega arith) ∙ h .from-is; end-is = w .at 6 (omega arith) ∙ h .end-is; shape = same .counts-same ts ts′ f g (h .shape) (v .at) }
+    counted-moves w v h = record { how = w .at at-mark (omega arith) ∙ h .how; from-is = w .at at-own-from (omega arith) ∙ h .from-is; end-is = w .at at-own-end (omega arith) ∙ h .end-is; shape = same .counts-same ts ts′ f g (h .shape) (v .at) }
 
     field-moves : {xs : List ℕ} → SameRoot ns ns′ m i → SameTerms ts ts′ f g → Field xs ns ts i f g → Field xs ns′ ts′ (i + m) f g
-    field-moves w v h = record { width = rw (w .at 3 (omega arith)) (h .width); from-is = w .at 5 (omega arith) ∙ h .from-is; end-is = w .at 6 (omega arith) ∙ h .end-is; shape = same .set-same ts ts′ f g (h .shape) (v .at) }
+    field-moves w v h = record { width = rw (w .at at-width-place (omega arith)) (h .width); from-is = w .at at-own-from (omega arith) ∙ h .from-is; end-is = w .at at-own-end (omega arith) ∙ h .end-is; shape = same .set-same ts ts′ f g (h .shape) (v .at) }
 
     pub conditioned-moves : {e : ℕ} → SameNodes ns ns′ m i e → i < e → SameTerms ts ts′ f g → Conditioned ns ts i f g → Conditioned ns′ ts′ (i + m) f g
     conditioned-moves w b v h =
         record {
-          from-is = w .at i 8 (omega arith) b (omega arith) ∙ h .from-is;
-          end-is = w .at i 9 (omega arith) b (omega arith) ∙ h .end-is;
+          from-is = w .at i at-condition-from (omega arith) b (omega arith) ∙ h .from-is;
+          end-is = w .at i at-condition-end (omega arith) b (omega arith) ∙ h .end-is;
           shape = same .condition-same ts ts′ f g (h .shape) (v .at);
         }
 
@@ -109,9 +111,9 @@ inner {ns} {ns′} {m} {e} {i} {j} z w = part-nodes j e w (omega arith) (omega a
 
 module _ (same : TermsSame) (ns′ : List ℕ) (m : ℕ) {xs ns ts ts′ : List ℕ} where
   pub moves : {s : Shape} {i e f g β : ℕ} → Holds xs ns ts s i e f g β → SameWords s ns ns′ m i e → SameTerms ts ts′ f g → Holds xs ns′ ts′ s (i + m) (e + m) f g β
-  moves (literal-tree h a b c) w v = literal-tree (headed-moves (w .0) h) (omega arith) b (rw (w .0 .at 2 (omega arith)) c)
-  moves (range-tree h a b c d) w v = range-tree (headed-moves (w .0) h) (omega arith) b (rw (w .0 .at 2 (omega arith)) c) (rw (w .0 .at 3 (omega arith)) d)
-  moves (use-tree h a b c) w v = use-tree (headed-moves (w .0) h) (omega arith) b (rw (w .0 .at 2 (omega arith)) c)
+  moves (literal-tree h a b c) w v = literal-tree (headed-moves (w .0) h) (omega arith) b (rw (w .0 .at at-place (omega arith)) c)
+  moves (range-tree h a b c d) w v = range-tree (headed-moves (w .0) h) (omega arith) b (rw (w .0 .at at-place (omega arith)) c) (rw (w .0 .at at-last-place (omega arith)) d)
+  moves (use-tree h a b c) w v = use-tree (headed-moves (w .0) h) (omega arith) b (rw (w .0 .at at-place (omega arith)) c)
   moves (eod-tree h a b) w v = eod-tree (headed-moves (w .0) h) (omega arith) b
   moves (uint-tree h a b c) w v = uint-tree (headed-moves (w .0) h) (omega arith) (field-moves same (w .0) v b) (binds-moves (w .0) c)
   moves (marked-tree {j = j} {e = e} h a b c t) w v =
@@ -147,10 +149,10 @@ module _ (same : TermsSame) (ns′ : List ℕ) (m : ℕ) {xs ns ts ts′ : List 
 
 -- the words of the nodes below e
 abbrev pub SameBelow : (ns ns′ : List ℕ) (e : ℕ) → Type 0
-SameBelow ns ns′ e = (k : ℕ) → k < 10 * e → getD ns′ k 0 ≡ getD ns k 0
+SameBelow ns ns′ e = (k : ℕ) → k < node-start e → getD ns′ k 0 ≡ getD ns k 0
 
 below-nodes : (ns ns′ : List ℕ) (i e : ℕ) → SameBelow ns ns′ e → SameNodes ns ns′ 0 i e
-below-nodes ns ns′ i e w = record { at = λ j k a b c. rw add-zero (w (10 * j + k) (omega arith)) }
+below-nodes ns ns′ i e w = record { at = λ j k a b c. rw add-zero (w (node-start j + k) (omega arith)) }
 
 -- all nodes of a shape agree
 pub all-words : {xs ns ns′ ts : List ℕ} {m i e f g β : ℕ} (s : Shape) → Holds xs ns ts s i e f g β → SameNodes ns ns′ m i e → SameWords s ns ns′ m i e

@@ -8,10 +8,10 @@ use mathlib.Core.List.{List, [], _∷_}
 use native.Mathlib.Omega.{arith}
 use lib.ListN.{length, replicate, length-replicate}
 use Rattle.text_parsing.specs.Symbols.{Symbol, rules}
-use Rattle.text_parsing.specs.Store.{State, state}
+use Rattle.text_store.specs.Store.{State, state, blank}
 use Rattle.text_productions.specs.Phrases.{Production, terminal, signed, opened as opens, number, variable, negated, plain, no-factor, times, no-summand, plus, minus, sum, open-item, value-item, to-bound, alone, some-bound, no-bound, no-exception, except, except-set, except-item, set-alternative, no-alternative, or-alternative, set, counts-to, counts-from, counts-exact, counts-range, test-group, test-compare, compare, tests, one-test, all-of, any-of, no-link, link, literal-atom, character-atom, field-atom, eod-atom, use-atom, group-atom, switch-atom, an-item, one-member, one-branch, no-mark, a-mark, counted-mark, counted as counted-end, and-member, last-member, or-branch, last-branch, to-character, one-character, range, field-width, binding, not-binding, binder, field, a-case, case-done, no-default, default, further-case, switched, no-rule, a-rule as a-rule-made, ruled, Phrases, nothing, then}
 use Rattle.text_shapes.specs.NodeShapes.{Rules}
-use Rattle.text_shapes.proofs.Growth.{Grows, production-grows, phrases-grow, blank, Fine, fine-between}
+use Rattle.text_shapes.proofs.Growth.{Grows, production-grows, phrases-grow, Fine, fine-between}
 use Rattle.text_shapes.proofs.Claims.{TermFacts, still, opened, Claim, Reads, end, next}
 use Rattle.text_shapes.proofs.Atoms.{literal-made, use-made, eod-made, character-made, range-made, character-claim, to-character-claim, group-claim, field-atom-claim, width-claim, binding-claim, not-binding-claim, binder-claim}
 use Rattle.text_shapes.proofs.Chains.{gives-same, mark-made, counts-claim, item-claim, chain-begins, chain-goes, chain-ends}

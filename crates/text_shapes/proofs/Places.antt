@@ -12,14 +12,17 @@ use Rattle.text_header.proofs.Tests.{choice, picked}
 use Rattle.text_tokens.specs.Tokens.{token-of}
 use Rattle.text_tokens.proofs.Bounds as bounds
 use Rattle.text_parsing.specs.Terminals.{code-of, is, is-name, begins, sight-of, sights, sights-from}
-use Rattle.text_parsing.specs.Store.{State, state, nodes-of, terms-of}
+use Rattle.text_store.specs.Store.{State, state, nodes-of, terms-of, blank}
 use Rattle.text_parsing.specs.Symbols.{Symbol, want, sign, paren, primary, operand, factors, summands, calculation, item, item-tail, bound, exception, excluded, alternative, alternatives, value-set, counts, counts-tail, test, comparison, condition, joined, chain, atom, factor, concatenation, expression, marked, counts-end, members, branches, character-tail, last-character, width, field-set, bound-name, field-end, colon, case-end, cases, switch-end, rules, rule-end}
-use Rattle.text_parsing.specs.Form.{Fed, go, done, fault, within-depth, primary-begins, operand-begins, sum-tag, calculation-begins, item-begins, test-begins, comparison-tag, atom-begins, mark-of, feed, right, refused, run}
+use Rattle.text_parsing.specs.Form.{Fed, go, done, fault, chained, within-depth, primary-begins, operand-begins, sum-tag, calculation-begins, item-begins, test-begins, comparison-tag, atom-begins, mark-of, feed, right, refused, run}
 use Rattle.text_parsing.specs.declared.Sight.{Sight}
 use Rattle.text_parsing.proofs.Sights as seeing
 use Rattle.text_shapes.specs.Placed.{Placed}
-use Rattle.text_shapes.proofs.Shaped.{blank}
-use Rattle.text_shapes.proofs.Columns.{Bounded, blank-bounded, add-bounded, single-bounded, insert-bounded, leaf-bounded, chained-bounded, condition-bounded, bind-bounded, rule-bounded}
+use Rattle.text_store.proofs.Columns.{Bounded, blank-bounded, add-bounded, single-bounded, insert-bounded, leaf-bounded, condition-bounded, bind-bounded, rule-bounded}
+
+chained-bounded : {most : ℕ} (kind : ℕ) (many : Bool) (p i : ℕ) (st : State) → p ≤ most → Bounded most st → Bounded most (chained kind many p i st)
+chained-bounded kind true p i st h g = insert-bounded kind p i 0 0 0 0 0 st h (omega arith) g
+chained-bounded kind false p i st h g = g
 
 -- the places that a part carries to be stored
 abbrev PlacedSymbol : ℕ → Symbol → Type 0

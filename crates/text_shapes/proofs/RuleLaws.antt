@@ -1,19 +1,21 @@
 -- Rules: the words of a rule are put when its expression is read.
 -- Assumes nothing.
-use Prim.Native.Nat.{ℕ, _+_, _*_, _<_}
+use Prim.Native.Nat.{ℕ, _+_, _<_}
 use mathlib.Core.Path.{_≡_, refl, sym, subst, _∙_}
 use mathlib.Core.Bool.{Bool, true}
 use mathlib.Core.List.{List, [], _∷_}
 use native.Mathlib.Omega.{arith}
 use borrow.Author.Tests.{le-leb}
 use lib.ListN.{getD}
+use Rattle.text_store.specs.Words.{rule-start, rule-word}
+use Rattle.text_store.proofs.Numbers.{at-name, at-first-node, at-last-node, at-terms, at-binders}
 use Rattle.text_parsing.specs.Terminals.{is-name}
 use Rattle.text_parsing.specs.Symbols.{want, expression, rules, rule-end}
-use Rattle.text_parsing.specs.Store.{State, state, nodes-of, terms-of, close-rule, node-words, term-words, rule-words, binders-of, rules-of}
+use Rattle.text_store.specs.Store.{State, state, nodes-of, terms-of, close-rule, node-words, term-words, rule-words, binders-of, rules-of}
 use Rattle.text_parsing.specs.declared.Sight.{Sight}
 use Rattle.text_productions.specs.Phrases.{Seen}
-use Rattle.text_shapes.specs.NodeShapes.{rule-word, tree, Holds, no-rules, a-rule}
-use Rattle.text_shapes.proofs.StoreLaws.{rule-before, rule-at}
+use Rattle.text_shapes.specs.NodeShapes.{tree, Holds, no-rules, a-rule}
+use Rattle.text_store.proofs.StoreLaws.{rule-before, rule-at}
 use Rattle.text_shapes.proofs.Moving.{TermsSame, extent}
 use Rattle.text_shapes.proofs.Growth.{Fine}
 use Rattle.text_shapes.proofs.Claims.{Kept, Whole, RulesRead, still, Reads, end, next}
@@ -26,7 +28,7 @@ record Closed (p i : ℕ) (a b : State) : Type 0 where
   terms-same : terms-of b ≡ terms-of a
   binders-same : binders-of b ≡ binders-of a
   count : rules-of b ≡ rules-of a + 1
-  before : (k : ℕ) → k < 5 * rules-of a → getD (rule-words b) k 0 ≡ getD (rule-words a) k 0
+  before : (k : ℕ) → k < rule-start (rules-of a) → getD (rule-words b) k 0 ≡ getD (rule-words a) k 0
   at : (w : ℕ) → w < 5 → rule-word (rule-words b) (rules-of a) w ≡ getD (p ∷ i ∷ nodes-of a ∷ terms-of a ∷ binders-of a ∷ []) w 0
 
 close-fine : (p i : ℕ) (a : State) → Fine a → Closed p i a (close-rule p i a)
@@ -64,12 +66,12 @@ rule-made {xs} {p} {i} {any} {a} {b} {c} {d} {s} same seen t place e g k r =
     in let w : Holds xs (node-words d) (term-words d) tree (nodes-of a) (nodes-of c) (terms-of a) (terms-of c) (g .part .count) =
     rw (k .nodes-same, k .terms-same) (holds-kept same kept-bd (omega arith) (omega arith) (g .part .holds))
     in let v : (q : ℕ) → q < 5 → rule-word (rule-words d) (rules-of a) q ≡ getD (p ∷ i ∷ nodes-of b ∷ terms-of b ∷ binders-of b ∷ []) q 0 =
-    λ q h. r .kept .rules (5 * rules-of a + q) (omega (arith, k .count, g .steady)) ∙ rw (← g .steady) (k .at q h)
+    λ q h. r .kept .rules (rule-start (rules-of a) + q) (omega (arith, k .count, g .steady)) ∙ rw (← g .steady) (k .at q h)
     in record {
       kept = kept-trans (g .kept) kept-bd (omega arith);
       rules =
-          a-rule {l = rules-of c} {m = nodes-of c} {h = terms-of c} {v = binders-of c} {β = g .part .count} (record { sight = s; seen = seen; name = t; place = v 0 (omega arith) ∙ place })
-          (record { first-is = v 1 (omega arith) ∙ e; nodes-are = v 2 (omega arith) ∙ sym (k .nodes-same); terms-are = v 3 (omega arith) ∙ sym (k .terms-same); binders-are = v 4 (omega arith) ∙ sym (k .binders-same) })
+          a-rule {l = rules-of c} {m = nodes-of c} {h = terms-of c} {v = binders-of c} {β = g .part .count} (record { sight = s; seen = seen; name = t; place = v at-name (omega arith) ∙ place })
+          (record { first-is = v at-first-node (omega arith) ∙ e; nodes-are = v at-last-node (omega arith) ∙ sym (k .nodes-same); terms-are = v at-terms (omega arith) ∙ sym (k .terms-same); binders-are = v at-binders (omega arith) ∙ sym (k .binders-same) })
           (omega (arith, k .count, g .steady))
           (k .binders-same ∙ g .part .bound)
           (free-kept kept-bd l (g .free))

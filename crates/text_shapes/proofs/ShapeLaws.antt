@@ -1,10 +1,11 @@
 -- What a list of terms is depends on its own words, and renaming variables renames them in the list.
 -- Assumes nothing.
-use Prim.Native.Nat.{ℕ, _*_, _-_, _≤_, _<_}
+use Prim.Native.Nat.{ℕ, _-_, _≤_, _<_}
 use mathlib.Core.Path.{_≡_, refl, sym, ap, ap₂, _∙_}
 use mathlib.Core.List.{List, [], _∷_, _++_, map, map-append}
 use native.Mathlib.Omega.{arith}
 use lib.ListN.{getD}
+use Rattle.text_store.specs.Words.{term-start}
 use Rattle.term_words.specs.declared.Operation.{Operation}
 use Rattle.term_words.specs.declared.Term.{Term}
 use Rattle.term_trees.specs.Trees.{Calculation, literal, use-of, plus, minus, times, opposite, ValueSet, everything, only, between, from, upTo, either, without, Condition, compare, both, any, Repeats, exact, on-from, up-to, spanning}
@@ -16,7 +17,7 @@ use Rattle.text_shapes.proofs.Adding.{read-same}
 
 -- the words of the terms from f up to e are the same
 abbrev pub SameWords : List ℕ → List ℕ → ℕ → ℕ → Type 0
-SameWords ts us f e = (k : ℕ) → 4 * f ≤ k → k < 4 * e → getD us k 0 ≡ getD ts k 0
+SameWords ts us f e = (k : ℕ) → term-start f ≤ k → k < term-start e → getD us k 0 ≡ getD ts k 0
 
 same-read : (ts us : List ℕ) (f e : ℕ) → f < e → SameWords ts us f e → read-terms us f (e - f) ≡ read-terms ts f (e - f)
 same-read ts us f e l h = read-same ts us (e - f) f (λ j a b. h j a (omega arith))

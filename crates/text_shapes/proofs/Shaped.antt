@@ -6,7 +6,7 @@ use mathlib.Core.Bool.{false}
 use mathlib.Core.List.{List, [], _∷_}
 use lib.ListN.{length, length-replicate}
 use Rattle.text_parsing.specs.Terminals.{sights-from}
-use Rattle.text_parsing.specs.Store.{State, state, term-words}
+use Rattle.text_store.specs.Store.{State, state, term-words, blank}
 use Rattle.text_parsing.specs.Symbols.{rules}
 use Rattle.text_parsing.specs.Form.{right, run}
 use Rattle.text_productions.specs.Phrases.{Phrases}
@@ -17,7 +17,6 @@ use Rattle.text_shapes.proofs.Adding as adding
 use Rattle.text_shapes.proofs.TermLaws.{set-read, condition-read, counts-read, Before}
 use Rattle.text_shapes.proofs.ShapeLaws.{set-same, condition-same, counts-same}
 use Rattle.text_shapes.proofs.Growth.{Grows, phrases-grow}
-pub use Rattle.text_shapes.proofs.Growth.{blank}
 use Rattle.text_shapes.proofs.Claims.{TermsOnly, TermFacts}
 use Rattle.text_shapes.proofs.NodeLaws.{shape-of}
 use Rattle.text_shapes.proofs.StoredLaws as words

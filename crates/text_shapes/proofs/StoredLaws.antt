@@ -1,27 +1,24 @@
 -- Every node and every term has the words of its kind: zeros have, and every store keeps it.
 -- Assumes nothing.
-use Prim.Native.Nat.{ℕ, _+_, _*_, _-_, _≤_, _<_}
+use Prim.Native.Nat.{ℕ, _+_, _-_, _≤_, _<_}
 use mathlib.Core.Path.{_≡_, refl, sym, subst, _∙_}
 use mathlib.Core.Logic.{_⊎_, _≢_, inl, inr, ⊎-elim}
 use mathlib.Core.Bool.{true, false}
 use mathlib.Core.List.{List, [], _∷_}
 use native.Mathlib.Omega.{arith}
-use native.Mathlib.Numerals.{towards-suc}
 use borrow.Author.Tests.{ltb-true, ltb-false, leb-true, eqb-true, eqb-false, ne-eqb}
 use lib.Dec.{eqb, ltb, leb}
-use lib.ListN.{length, getD, replicate, length-replicate, getD-replicate}
-use lib.Seq.{getD-set-same, getD-set-other, sets}
+use lib.ListN.{length, length-replicate}
 use Rattle.text_header.proofs.Tests.{which, picked, both-first, both-second}
+use Rattle.text_store.specs.Words.{node-start, term-start, node-word, term-word, term-tag, is-use}
+use Rattle.text_store.proofs.Numbers.{at-kind, at-mark, at-own-from, at-own-end, at-tag, at-value, at-term}
 use Rattle.text_parsing.specs.Symbols.{Symbol, rules}
-use Rattle.text_parsing.specs.Store.{State, state, node-words, term-words, marked-tag, put-term, put-single, put-node, put-condition}
+use Rattle.text_store.specs.Store.{State, state, node-words, term-words, marked-tag, put-term, put-single, put-node, put-condition, blank}
 use Rattle.text_productions.specs.Phrases.{Phrases, nothing, then}
-use Rattle.text_shapes.specs.TermShapes.{is-use}
-use Rattle.text_shapes.specs.NodeShapes.{node-word}
-use Rattle.text_shapes.specs.Stored.{OwnList, of-field, of-counts, no-list, term-word, TermWords, a-number, a-use, a-sign, Stored}
-use Rattle.text_shapes.proofs.StoreLaws.{sets-below, sets-above, sets-at, ten, node-before, node-at, node-after, condition-before, condition-after}
-use Rattle.text_shapes.proofs.Marking.{marked-at}
+use Rattle.text_shapes.specs.Stored.{OwnList, of-field, of-counts, no-list, TermWords, a-number, a-use, a-sign, Stored}
+use Rattle.text_store.proofs.StoreLaws.{ten, node-before, node-at, node-after, condition-before, condition-after, term-before, term-after, term-put, marked-at, marked-other, marked-here, node-blank, term-blank}
 use Rattle.text_shapes.proofs.Changes.{fit, fits, Change, same, term, last-term, node, condition-of, binder-more, rule-more, changed}
-use Rattle.text_shapes.proofs.Growth.{production-grows, blank}
+use Rattle.text_shapes.proofs.Growth.{production-grows}
 
 -- by cases on which of two numbers is less
 compared : {P : Type 0} (j i : ℕ) → (j < i → P) → (j ≡ i → P) → (i < j → P) → P
@@ -36,9 +33,9 @@ compared j i f g h =
 
 -- what a node has is said of its words alone, wherever they stand
 own-moved : {ns ms : List ℕ} {j k : ℕ} → ((w : ℕ) → w < 8 → node-word ms j w ≡ node-word ns k w) → OwnList ns k → OwnList ms j
-own-moved e (of-field a) = of-field (e 0 (omega arith) ∙ a)
-own-moved e (of-counts a b) = of-counts (e 0 (omega arith) ∙ a) (e 3 (omega arith) ∙ b)
-own-moved e (no-list a b) = no-list (e 5 (omega arith) ∙ a) (e 6 (omega arith) ∙ b)
+own-moved e (of-field a) = of-field (e at-kind (omega arith) ∙ a)
+own-moved e (of-counts a b) = of-counts (e at-kind (omega arith) ∙ a) (e at-mark (omega arith) ∙ b)
+own-moved e (no-list a b) = no-list (e at-own-from (omega arith) ∙ a) (e at-own-end (omega arith) ∙ b)
 
 -- every node has
 abbrev Lists : List ℕ → Type 0
@@ -57,10 +54,10 @@ module _ (ns : List ℕ) (all : Lists ns) where
       inside : i < 256 → OwnList (put-node ns i kind size place a b c d e) j
       inside g =
           compared j i
-          (λ y. own-moved (λ w v. node-before ns i kind size place a b c d e g l (10 * j + w) (omega arith)) (all j h))
+          (λ y. own-moved (λ w v. node-before ns i kind size place a b c d e g l (node-start j + w) (omega arith)) (all j h))
           (λ (y : j ≡ i).
-          rw y (own-moved (λ w v. let q : 10 * 0 + w ≡ w = omega arith in rw q (node-at ns i kind size place a b c d e g l w (omega arith))) new))
-          (λ y. own-moved (λ w v. node-after ns i kind size place a b c d e g l (10 * (j - 1) + w) (10 * j + w) (omega arith) (omega arith) (omega arith)) (all (j - 1) (omega arith)))
+          rw y (own-moved (λ w v. let q : node-start 0 + w ≡ w = omega arith in rw q (node-at ns i kind size place a b c d e g l w (omega arith))) new))
+          (λ y. own-moved (λ w v. node-after ns i kind size place a b c d e g l (node-start (j - 1) + w) (node-start j + w) (omega arith) (omega arith) (omega arith)) (all (j - 1) (omega arith)))
 
   -- a case's condition is in words that do not matter
   condition-lists : (i from end : ℕ) → Lists (put-condition ns i from end)
@@ -74,16 +71,16 @@ module _ (ns : List ℕ) (all : Lists ns) where
       inside : i < 256 → (w : ℕ) → w < 8 → node-word (put-condition ns i from end) j w ≡ node-word ns j w
       inside g w v =
           compared j i
-          (λ y. condition-before ns i from end g (10 * j + w) (omega arith))
-          (λ y. condition-before ns i from end g (10 * j + w) (omega arith))
-          (λ y. condition-after ns i from end g (10 * j + w) (omega arith))
+          (λ y. condition-before ns i from end g (node-start j + w) (omega arith))
+          (λ y. condition-before ns i from end g (node-start j + w) (omega arith))
+          (λ y. condition-after ns i from end g (node-start j + w) (omega arith))
 
 -- ---- terms
 
 term-moved : {xs ts us : List ℕ} {j k : ℕ} → ((w : ℕ) → w < 3 → term-word us j w ≡ term-word ts k w) → TermWords xs ts k → TermWords xs us j
-term-moved e (a-number a) = a-number (rw (e 0 (omega arith)) a)
-term-moved e (a-use a b c) = a-use (rw (e 0 (omega arith)) a) (e 1 (omega arith) ∙ b) (rw (e 2 (omega arith)) c)
-term-moved e (a-sign a b c) = a-sign (rw (e 0 (omega arith)) a) (rw (e 0 (omega arith)) b) (e 1 (omega arith) ∙ c)
+term-moved e (a-number a) = a-number (rw (e at-tag (omega arith)) a)
+term-moved e (a-use a b c) = a-use (rw (e at-tag (omega arith)) a) (e at-value (omega arith) ∙ b) (rw (e at-term (omega arith)) c)
+term-moved e (a-sign a b c) = a-sign (rw (e at-tag (omega arith)) a) (rw (e at-tag (omega arith)) b) (e at-value (omega arith) ∙ c)
 
 -- every term has
 abbrev Terms : List ℕ → List ℕ → Type 0
@@ -103,45 +100,40 @@ small-marked : (w : ℕ) → w < 64 → marked-tag w < 64
 small-marked w h = picked (λ (m : ℕ). m < 64) (ltb w 32) (λ z. omega (arith, ltb-true w 32 z)) (λ z. h)
 
 -- a number stays a number, a use a use and a sign a sign
-marked-words : {xs ts us : List ℕ} {k : ℕ} → term-word us k 0 ≡ marked-tag (term-word ts k 0) → ((w : ℕ) → 1 ≤ w → w < 3 → term-word us k w ≡ term-word ts k w) → TermWords xs ts k → TermWords xs us k
+marked-words : {xs ts us : List ℕ} {k : ℕ} → term-tag us k ≡ marked-tag (term-tag ts k) → ((w : ℕ) → 1 ≤ w → w < 3 → term-word us k w ≡ term-word ts k w) → TermWords xs ts k → TermWords xs us k
 marked-words e f (a-number (inl a)) = a-number (inr (e ∙ rw a))
 marked-words e f (a-number (inr a)) = a-number (inr (e ∙ rw a))
-marked-words e f (a-use (inl a) b c) = a-use (inr (e ∙ rw a)) (f 1 (omega arith) (omega arith) ∙ b) (rw (f 2 (omega arith) (omega arith)) c)
-marked-words e f (a-use (inr a) b c) = a-use (inr (e ∙ rw a)) (f 1 (omega arith) (omega arith) ∙ b) (rw (f 2 (omega arith) (omega arith)) c)
+marked-words e f (a-use (inl a) b c) = a-use (inr (e ∙ rw a)) (f at-value (omega arith) (omega arith) ∙ b) (rw (f at-term (omega arith) (omega arith)) c)
+marked-words e f (a-use (inr a) b c) = a-use (inr (e ∙ rw a)) (f at-value (omega arith) (omega arith) ∙ b) (rw (f at-term (omega arith) (omega arith)) c)
 marked-words {ts = ts} {k = k} e f (a-sign a b c) =
-    a-sign (rw e (unused-marked (term-word ts k 0) a)) (rw e (small-marked (term-word ts k 0) b)) (f 1 (omega arith) (omega arith) ∙ c)
+    a-sign (rw e (unused-marked (term-tag ts k) a)) (rw e (small-marked (term-tag ts k) b)) (f at-value (omega arith) (omega arith) ∙ c)
 
 module _ {xs : List ℕ} (ts : List ℕ) (l : length ts ≡ 4096) (all : Terms xs ts) where
   term-terms : (t tag value place origin : ℕ) → TermWords xs (tag ∷ value ∷ place ∷ origin ∷ []) 0 → Terms xs (put-term ts t tag value place origin)
   unfolding put-term
   term-terms t tag value place origin new j h =
       ⊎-elim
-      (λ (z : ltb t 1024 ≡ true). rw (stores z) (inside (ltb-true t 1024 z)))
+      (λ (z : ltb t 1024 ≡ true). inside (ltb-true t 1024 z))
       (λ (z : ltb t 1024 ≡ false). rw (z, put-term) (all j h))
       (which (ltb t 1024))
     where
-      stores : ltb t 1024 ≡ true → put-term ts t tag value place origin ≡ sets ts (4 * t) (tag ∷ value ∷ place ∷ origin ∷ [])
-      stores z = rw (z, put-term) (simp towards-suc)
-
-      inside : t < 1024 → TermWords xs (sets ts (4 * t) (tag ∷ value ∷ place ∷ origin ∷ [])) j
+      inside : t < 1024 → TermWords xs (put-term ts t tag value place origin) j
       inside g =
           compared j t
-          (λ y. term-moved (λ w v. sets-below (tag ∷ value ∷ place ∷ origin ∷ []) ts (4 * t) (4 * j + w) (omega arith)) (all j h))
+          (λ y. term-moved (λ w v. term-before ts t tag value place origin g (term-start j + w) (omega arith)) (all j h))
           (λ (y : j ≡ t).
-          rw y (term-moved (λ w v. let q : 4 * 0 + w ≡ w = omega arith in rw q (sets-at (tag ∷ value ∷ place ∷ origin ∷ []) ts (4 * t) w (omega arith) (omega arith))) new))
-          (λ y. term-moved (λ w v. sets-above (tag ∷ value ∷ place ∷ origin ∷ []) ts (4 * t) (4 * j + w) (omega arith)) (all j h))
+          rw y (term-moved (λ w v. let q : term-start 0 + w ≡ w = omega arith in rw q (term-put ts t tag value place origin g l w (omega arith))) new))
+          (λ y. term-moved (λ w v. term-after ts t tag value place origin g (term-start j + w) (omega arith)) (all j h))
 
   marked-terms : (k : ℕ) → k < 1024 → Terms xs (marked-at ts k)
   marked-terms k g j h = compared j k (λ y. elsewhere (omega arith)) (λ (y : j ≡ k). rw y here) (λ y. elsewhere (omega arith))
     where
       elsewhere : j ≢ k → TermWords xs (marked-at ts k) j
-      elsewhere y = term-moved (λ w a. getD-set-other ts (4 * k) (4 * j + w) (marked-tag (getD ts (4 * k) 0)) 0 (omega arith)) (all j h)
+      elsewhere y = term-moved (λ w a. marked-other ts k (term-start j + w) (omega arith)) (all j h)
 
       here : TermWords xs (marked-at ts k) k
       here =
-          let q : 4 * k + 0 ≡ 4 * k = omega arith in
-          marked-words (rw q (getD-set-same ts (4 * k) (marked-tag (getD ts (4 * k) 0)) 0 (omega arith)))
-          (λ w a b. getD-set-other ts (4 * k) (4 * k + w) (marked-tag (getD ts (4 * k) 0)) 0 (omega arith)) (all k g)
+          marked-words (marked-here ts k (omega arith)) (λ w a b. marked-other ts k (term-start k + w) (omega arith)) (all k g)
 
   single-terms : (t : ℕ) → Terms xs (put-single ts t)
   unfolding put-single
@@ -188,15 +180,15 @@ blank-kept {xs} =
       term-length = length-replicate {A = ℕ} 4096 0;
       all =
           record {
-            lists = λ j h. no-list (getD-replicate {A = ℕ} 2560 (10 * j + 5) 0 0 (omega arith)) (getD-replicate {A = ℕ} 2560 (10 * j + 6) 0 0 (omega arith));
+            lists = λ j h. no-list (node-blank j at-own-from h (omega arith)) (node-blank j at-own-end h (omega arith));
             terms = zero-term;
           };
     }
   where
-    zero-term : (t : ℕ) → t < 1024 → TermWords xs (replicate 4096 0) t
+    zero-term : (t : ℕ) → t < 1024 → TermWords xs (term-words blank) t
     zero-term t h =
-        let e : term-word (replicate 4096 0) t 0 ≡ 0 = getD-replicate {A = ℕ} 4096 (4 * t + 0) 0 0 (omega arith) in
-        a-sign (rw e) (rw e (omega arith)) (getD-replicate {A = ℕ} 4096 (4 * t + 1) 0 0 (omega arith))
+        let e : term-tag (term-words blank) t ≡ 0 = term-blank t at-tag h (omega arith) in
+        a-sign (rw e) (rw e (omega arith)) (term-blank t at-value h (omega arith))
 
 pub stored : (xs ns ts rs : List ℕ) (n t b r : ℕ) → Phrases xs (rules false ∷ []) blank (state ns ts rs n t b r) → Stored xs ns ts
 stored xs ns ts rs n t b r p = phrases-kept p refl blank-kept .all

@@ -1,17 +1,19 @@
 -- Switches: cases are read one after the other, and then the node is put in front of the first.
 -- Assumes nothing.
-use Prim.Native.Nat.{ℕ, _+_, _*_, _≤_, _<_}
+use Prim.Native.Nat.{ℕ, _+_, _≤_, _<_}
 use mathlib.Core.Path.{_≡_, refl, sym, ap, subst, _∙_}
 use mathlib.Core.List.{List, [], _∷_}
 use native.Mathlib.Omega.{arith}
 use native.Mathlib.Nat.{add-zero}
 use lib.ListN.{getD}
+use Rattle.text_store.specs.Words.{node-start, condition-from, condition-end}
+use Rattle.text_store.proofs.Numbers.{at-condition-from, at-condition-end}
 use Rattle.text_parsing.specs.Symbols.{want, condition, expression, colon, case-end, cases, switch-end}
-use Rattle.text_parsing.specs.Store.{State, state, nodes-of, terms-of, insert, condition-on, node-words, term-words, rule-words, binders-of, rules-of}
+use Rattle.text_store.specs.Store.{State, state, nodes-of, terms-of, insert, condition-on, node-words, term-words, rule-words, binders-of, rules-of}
 use Rattle.text_productions.specs.Phrases.{Phrases}
 use Rattle.text_shapes.specs.TermShapes.{ConditionShape}
-use Rattle.text_shapes.specs.NodeShapes.{node-word, Conditioned, Shape, tree, further, Holds, switch-tree, a-case, no-further, a-default, more-cases}
-use Rattle.text_shapes.proofs.StoreLaws.{condition-before, condition-after, condition-from, condition-end}
+use Rattle.text_shapes.specs.NodeShapes.{Conditioned, Shape, tree, further, Holds, switch-tree, a-case, no-further, a-default, more-cases}
+use Rattle.text_store.proofs.StoreLaws.{condition-before, condition-after, from-put, end-put}
 use Rattle.text_shapes.proofs.Moving.{TermsSame, extent, stays-with}
 use Rattle.text_shapes.proofs.Growth.{Fine}
 use Rattle.text_shapes.proofs.Claims.{TermsOnly, TermFacts, Kept, Part, Gives, Whole, CaseRead, Open, still, Reads, end, next}
@@ -26,10 +28,10 @@ record Conditions (i f h : ℕ) (a b : State) : Type 0 where
   terms-same : terms-of b ≡ terms-of a
   binders-same : binders-of b ≡ binders-of a
   rules-same : rules-of b ≡ rules-of a
-  before : (k : ℕ) → k < 10 * i + 8 → getD (node-words b) k 0 ≡ getD (node-words a) k 0
-  after : (k : ℕ) → 10 * i + 10 ≤ k → getD (node-words b) k 0 ≡ getD (node-words a) k 0
-  from-is : node-word (node-words b) i 8 ≡ f
-  end-is : node-word (node-words b) i 9 ≡ h
+  before : (k : ℕ) → k < node-start i + at-condition-from → getD (node-words b) k 0 ≡ getD (node-words a) k 0
+  after : (k : ℕ) → node-start (i + 1) ≤ k → getD (node-words b) k 0 ≡ getD (node-words a) k 0
+  from-is : condition-from (node-words b) i ≡ f
+  end-is : condition-end (node-words b) i ≡ h
 
 condition-fine : (i f h : ℕ) (a : State) → Fine a → i < 256 → Conditions i f h a (condition-on i f h a)
 condition-fine i f h (state ns ts rs n t b r) fine l =
@@ -42,8 +44,8 @@ condition-fine i f h (state ns ts rs n t b r) fine l =
       rules-same = refl;
       before = condition-before ns i f h l;
       after = condition-after ns i f h l;
-      from-is = condition-from ns i f h l (fine .node-length);
-      end-is = condition-end ns i f h l (fine .node-length);
+      from-is = from-put ns i f h l (fine .node-length);
+      end-is = end-put ns i f h l (fine .node-length);
     }
 
 conditions : (i f h : ℕ) {a b : State} → b ≡ condition-on i f h a → Fine a → i < 256 → Conditions i f h a b
@@ -69,7 +71,7 @@ colon-made {xs} {i} {f} {h} {a} {c} {b} same e z g fine y s =
     }
     in let w : Holds xs (node-words b) (term-words b) tree (nodes-of a) (nodes-of c) (terms-of a) (terms-of c) (g .part .count) =
     stays-with same (node-words b) (term-words b) (g .part .holds)
-    (record { at = λ q v. rw add-zero (m .before (10 * nodes-of a + q) (omega arith)) }, record { at = λ j q v u p. rw add-zero (m .after (10 * j + q) (omega arith)) })
+    (record { at = λ q v. rw add-zero (m .before (node-start (nodes-of a) + q) (omega arith)) }, record { at = λ j q v u p. rw add-zero (m .after (node-start j + q) (omega arith)) })
     (record { at = λ q v u. same-word (m .term-words-same) q })
     in record {
       kept = kept-trans (g .kept) k (omega arith);
@@ -110,8 +112,8 @@ module _ (same : TermsSame) {xs : List ℕ} {a c : State} (r : Case xs a c) wher
       in let m : r .body ≤ terms-of c = extent (r .part .holds) .1
       in a-case
       (record {
-        from-is = k .nodes (10 * nodes-of a + 8) (omega arith) ∙ r .case .from-is;
-        end-is = k .nodes (10 * nodes-of a + 9) (omega arith) ∙ r .case .end-is;
+        from-is = k .nodes (node-start (nodes-of a) + at-condition-from) (omega arith) ∙ r .case .from-is;
+        end-is = k .nodes (node-start (nodes-of a) + at-condition-end) (omega arith) ∙ r .case .end-is;
         shape = condition-kept same k m (r .case .shape);
       })
       (holds-kept same k (omega arith) (omega arith) (r .part .holds)) h refl

@@ -1,11 +1,12 @@
 -- Lists of terms as they are read are sets, counts and conditions.
 -- Assumes nothing.
-use Prim.Native.Nat.{ℕ, _+_, _*_, _-_, _≤_, _<_}
+use Prim.Native.Nat.{ℕ, _+_, _-_, _≤_, _<_}
 use mathlib.Core.Path.{_≡_, refl, sym, ap, subst, _∙_}
 use mathlib.Core.List.{List, [], _∷_, _++_}
 use native.Mathlib.Omega.{arith}
 use lib.ListN.{length, getD, length-append}
-use Rattle.text_parsing.specs.Store.{State, state, terms-of, single, term-words}
+use Rattle.text_store.specs.Words.{term-start}
+use Rattle.text_store.specs.Store.{State, state, terms-of, single, term-words}
 use Rattle.text_parsing.specs.Symbols.{Symbol, want, sign, paren, primary, operand, factors, summands, calculation, item, item-tail, bound, exception, excluded, alternative, alternatives, value-set, counts, counts-tail, test, comparison, condition, joined, chain, atom, factor, concatenation, expression, marked, counts-end, members, branches, character-tail, last-character, width, field-set, bound-name, field-end, colon, case-end, cases, switch-end, rules, rule-end}
 use Rattle.term_words.specs.declared.Term.{Term}
 use Rattle.term_trees.specs.Trees.{ValueSet, everything, only, between, from, upTo, either, without, Condition, both, any, Repeats, exact, on-from, up-to, spanning}
@@ -237,7 +238,7 @@ record Read {T : Type 0} (terms : T → List Term) (ok : T → Type 0) (a b : St
   fine : ok tree
   is : read-terms (term-words b) (terms-of a) (terms-of b - terms-of a) ≡ terms tree
   ends : terms-of b ≡ terms-of a + length (terms tree)
-  kept : (k : ℕ) → k < 4 * terms-of a → getD (term-words b) k 0 ≡ getD (term-words a) k 0
+  kept : (k : ℕ) → k < term-start (terms-of a) → getD (term-words b) k 0 ≡ getD (term-words a) k 0
 
 read-tree : {T : Type 0} {terms : T → List Term} {ok : T → Type 0} {a b : State} → Reads (Spells terms ok) a b → length (term-words a) ≡ 4096 → terms-of b ≤ 1024 → Read terms ok a b
 read-tree {T} {terms} {ok} {a} {b} r w h =
@@ -254,7 +255,7 @@ read-tree {T} {terms} {ok} {a} {b} r w h =
 
 -- the words of the terms before
 abbrev pub Before : State → State → Type 0
-Before a b = (k : ℕ) → k < 4 * terms-of a → getD (term-words b) k 0 ≡ getD (term-words a) k 0
+Before a b = (k : ℕ) → k < term-start (terms-of a) → getD (term-words b) k 0 ≡ getD (term-words a) k 0
 
 module _ {xs : List ℕ} {a b : State} where
   pub set-only : {d : ℕ} → Phrases xs (value-set d ∷ []) a b → TermsOnly a b

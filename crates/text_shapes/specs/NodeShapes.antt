@@ -1,22 +1,15 @@
 -- Nodes as they are read: trees in preorder. A tree of the nodes from i up to e has the terms from f up to g, in text order, and β binders.
 -- Assumes nothing.
-use Prim.Native.Nat.{ℕ, suc, _+_, _*_, _-_, _≤_, _<_}
+use Prim.Native.Nat.{ℕ, suc, _+_, _-_, _≤_, _<_}
 use mathlib.Core.Path.{_≡_}
 use mathlib.Core.Logic.{_⊎_}
 use mathlib.Core.Bool.{true}
 use mathlib.Core.List.{List}
-use lib.ListN.{getD}
+use Rattle.text_store.specs.Words.{kind-of, node-size, place-of, node-mark, last-place, width-place, bound-at, how-bound, own-from, own-end, condition-from, condition-end, named-at, first-node, last-node, terms-at-end, binders-at-end}
 use Rattle.text_parsing.specs.Terminals.{is, is-name}
 use Rattle.text_parsing.specs.declared.Sight.{Sight}
 use Rattle.text_productions.specs.Phrases.{Seen}
 use Rattle.text_shapes.specs.TermShapes.{SetShape, ConditionShape, CountsShape}
-
--- word k of node i, of rule r (`text_parsing` `Store`)
-abbrev pub node-word : List ℕ → ℕ → ℕ → ℕ
-node-word ns i k = getD ns (10 * i + k) 0
-
-abbrev pub rule-word : List ℕ → ℕ → ℕ → ℕ
-rule-word rs r k = getD rs (5 * r + k) 0
 
 -- ---- what stands at a place of the text
 
@@ -52,42 +45,42 @@ pub record LiteralAt (xs : List ℕ) (p : ℕ) : Type 0 where
 
 -- kind and size
 pub record Headed (ns : List ℕ) (i e kind : ℕ) : Type 0 where
-  pub kind-is : node-word ns i 0 ≡ kind
-  pub size-is : node-word ns i 1 ≡ e - i
+  pub kind-is : kind-of ns i ≡ kind
+  pub size-is : node-size ns i ≡ e - i
   pub below : i < e
 
 -- node i is no case of a switch, or the default
 pub record Unconditioned (ns : List ℕ) (i : ℕ) : Type 0 where
-  pub from-is : node-word ns i 8 ≡ 0
-  pub end-is : node-word ns i 9 ≡ 0
+  pub from-is : condition-from ns i ≡ 0
+  pub end-is : condition-end ns i ≡ 0
 
 -- node i is a case with the condition of the terms from f up to h
 pub record Conditioned (ns ts : List ℕ) (i f h : ℕ) : Type 0 where
-  pub from-is : node-word ns i 8 ≡ f
-  pub end-is : node-word ns i 9 ≡ h
+  pub from-is : condition-from ns i ≡ f
+  pub end-is : condition-end ns i ≡ h
   pub shape : ConditionShape ts f h
 
 -- a uint: how it binds is 0 (not), 1 (outside any group) or 2
 pub record Binds (xs ns : List ℕ) (i β : ℕ) : Type 0 where
-  pub how : ((node-word ns i 7 ≡ 0) × (β ≡ 0)) ⊎ (((node-word ns i 7 ≡ 1) ⊎ (node-word ns i 7 ≡ 2)) × (β ≡ 1) × NameAt xs (node-word ns i 4))
+  pub how : ((how-bound ns i ≡ 0) × (β ≡ 0)) ⊎ (((how-bound ns i ≡ 1) ⊎ (how-bound ns i ≡ 2)) × (β ≡ 1) × NameAt xs (bound-at ns i))
 
 -- a repetition written `?`, `*` or `+`
 pub record Marked (ns : List ℕ) (i : ℕ) : Type 0 where
-  pub least : 1 ≤ node-word ns i 3
-  pub most : node-word ns i 3 ≤ 3
+  pub least : 1 ≤ node-mark ns i
+  pub most : node-mark ns i ≤ 3
 
 -- one written with braces; its counts are the terms from m up to g
 pub record Counted (ns ts : List ℕ) (i m g : ℕ) : Type 0 where
-  pub how : node-word ns i 3 ≡ 4
-  pub from-is : node-word ns i 5 ≡ m
-  pub end-is : node-word ns i 6 ≡ g
+  pub how : node-mark ns i ≡ 4
+  pub from-is : own-from ns i ≡ m
+  pub end-is : own-end ns i ≡ g
   pub shape : CountsShape ts m g
 
 -- a uint: its width, and its set, which is the terms from f up to g
 pub record Field (xs ns ts : List ℕ) (i f g : ℕ) : Type 0 where
-  pub width : NumberAt xs (node-word ns i 3)
-  pub from-is : node-word ns i 5 ≡ f
-  pub end-is : node-word ns i 6 ≡ g
+  pub width : NumberAt xs (width-place ns i)
+  pub from-is : own-from ns i ≡ f
+  pub end-is : own-end ns i ≡ g
   pub shape : SetShape ts f g
 
 -- ---- trees
@@ -104,9 +97,9 @@ pub data Shape : Type 0 where
 
 -- the nodes from i up to e are such a shape, with the terms from f up to g and β binders
 pub data Holds (xs ns ts : List ℕ) : Shape → (i e f g β : ℕ) → Type 0 where
-  literal-tree : {i e f β : ℕ} → Headed ns i e 6 → e ≡ i + 1 → β ≡ 0 → LiteralAt xs (node-word ns i 2) ⊎ CharacterAt xs (node-word ns i 2) → Holds xs ns ts tree i e f f β
-  range-tree : {i e f β : ℕ} → Headed ns i e 7 → e ≡ i + 1 → β ≡ 0 → CharacterAt xs (node-word ns i 2) → CharacterAt xs (node-word ns i 3) → Holds xs ns ts tree i e f f β
-  use-tree : {i e f β : ℕ} → Headed ns i e 5 → e ≡ i + 1 → β ≡ 0 → NameAt xs (node-word ns i 2) → Holds xs ns ts tree i e f f β
+  literal-tree : {i e f β : ℕ} → Headed ns i e 6 → e ≡ i + 1 → β ≡ 0 → LiteralAt xs (place-of ns i) ⊎ CharacterAt xs (place-of ns i) → Holds xs ns ts tree i e f f β
+  range-tree : {i e f β : ℕ} → Headed ns i e 7 → e ≡ i + 1 → β ≡ 0 → CharacterAt xs (place-of ns i) → CharacterAt xs (last-place ns i) → Holds xs ns ts tree i e f f β
+  use-tree : {i e f β : ℕ} → Headed ns i e 5 → e ≡ i + 1 → β ≡ 0 → NameAt xs (place-of ns i) → Holds xs ns ts tree i e f f β
   eod-tree : {i e f β : ℕ} → Headed ns i e 9 → e ≡ i + 1 → β ≡ 0 → Holds xs ns ts tree i e f f β
   uint-tree : {i e f g β : ℕ} → Headed ns i e 8 → e ≡ i + 1 → Field xs ns ts i f g → Binds xs ns i β → Holds xs ns ts tree i e f g β
   marked-tree : {i j e f g β : ℕ} → Headed ns i e 3 → j ≡ i + 1 → Marked ns i → Unconditioned ns j → Holds xs ns ts tree j e f g β → Holds xs ns ts tree i e f g β
@@ -124,12 +117,12 @@ pub data Holds (xs ns ts : List ℕ) : Shape → (i e f g β : ℕ) → Type 0 w
 
 -- rule k: its first node is i, and at its end there are m nodes, h terms and v binders
 pub record Ruled (rs : List ℕ) (k i m h v : ℕ) : Type 0 where
-  pub first-is : rule-word rs k 1 ≡ i
-  pub nodes-are : rule-word rs k 2 ≡ m
-  pub terms-are : rule-word rs k 3 ≡ h
-  pub binders-are : rule-word rs k 4 ≡ v
+  pub first-is : first-node rs k ≡ i
+  pub nodes-are : last-node rs k ≡ m
+  pub terms-are : terms-at-end rs k ≡ h
+  pub binders-are : binders-at-end rs k ≡ v
 
 -- "A rule is `name = expression ;`", and its expression is one tree
 pub data Rules (xs ns ts rs : List ℕ) (r n t b : ℕ) : (k i f u : ℕ) → Type 0 where
   no-rules : {k i f u : ℕ} → k ≡ r → i ≡ n → f ≡ t → u ≡ b → Rules xs ns ts rs r n t b k i f u
-  a-rule : {k l i m f h u v β : ℕ} → NameAt xs (rule-word rs k 0) → Ruled rs k i m h v → l ≡ k + 1 → v ≡ u + β → Unconditioned ns i → Holds xs ns ts tree i m f h β → Rules xs ns ts rs r n t b l m h v → Rules xs ns ts rs r n t b k i f u
+  a-rule : {k l i m f h u v β : ℕ} → NameAt xs (named-at rs k) → Ruled rs k i m h v → l ≡ k + 1 → v ≡ u + β → Unconditioned ns i → Holds xs ns ts tree i m f h β → Rules xs ns ts rs r n t b l m h v → Rules xs ns ts rs r n t b k i f u

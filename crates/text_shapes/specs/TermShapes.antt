@@ -1,12 +1,11 @@
 -- Lists of terms as they are read: each is a set, counts or a condition. A variable's use has the place of its name for its number, until names
 -- are resolved.
 -- Assumes nothing.
-use Prim.Native.Nat.{ℕ, zero, suc, _+_, _*_, _-_, _<_}
+use Prim.Native.Nat.{ℕ, zero, suc, _+_, _-_, _<_}
 use mathlib.Core.Path.{_≡_}
-use mathlib.Core.Bool.{Bool, cond, _||_}
+use mathlib.Core.Bool.{cond}
 use mathlib.Core.List.{List, [], _∷_}
-use lib.Dec.{eqb}
-use lib.ListN.{getD}
+use Rattle.text_store.specs.Words.{term-tag, term-value, term-at, is-use}
 use Rattle.term_words.specs.Words.{termOf}
 use Rattle.term_words.specs.declared.Operation.{Operation}
 use Rattle.term_words.specs.declared.Term.{Term}
@@ -14,13 +13,9 @@ use Rattle.term_trees.specs.Trees.{Calculation, literal, use-of, plus, minus, t
 use Rattle.term_trees.specs.Postfix.{setTerms, conditionTerms, repeatTerms}
 use Rattle.term_trees.specs.Rooms.{Room, SetRoom, ConditionRoom}
 
--- the tags of a variable's use. A term has four words: tag, value, place, origin.
-abbrev pub is-use : ℕ → Bool
-is-use tag = eqb tag 2 || eqb tag 34
-
 -- term k of those read
 abbrev pub read-term : List ℕ → ℕ → Term
-read-term ts k = termOf (getD ts (4 * k) 0) (cond (is-use (getD ts (4 * k) 0)) (getD ts (4 * k + 2) 0) (getD ts (4 * k + 1) 0)) 0
+read-term ts k = termOf (term-tag ts k) (cond (is-use (term-tag ts k)) (term-at ts k) (term-value ts k)) 0
 
 -- n terms from term k on
 unfoldable pub read-terms : List ℕ → ℕ → ℕ → List Term

@@ -7,7 +7,7 @@ use mathlib.Core.List.{List, [], _∷_, _++_}
 use borrow.Author.Tests.{eq-eqb, ne-eqb}
 use lib.Dec.{eqb}
 use Rattle.text_parsing.specs.Terminals.{name-like, live}
-use Rattle.text_parsing.specs.Store.{counted, put-node, insert}
+use Rattle.text_store.specs.Store.{counted, put-node, insert}
 use Rattle.text_parsing.specs.Symbols.{Symbol, want, value-set, counts, paren, atom, marked, counts-end, character-tail, last-character, width, field-set, bound-name, field-end}
 use Rattle.text_parsing.specs.Form.{go, atom-begins, mark-of, feed}
 use Rattle.text_parsing.specs.Cursors.{sight-at, state-at, next, fail, node-more, binder-more, Reads, ReadsTerms, ReadsOn, ReadsNodes}

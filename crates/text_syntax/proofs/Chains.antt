@@ -10,7 +10,7 @@ use borrow.Author.Tests.{ne-eqb, lt-ltb, le-ltb}
 use lib.Dec.{eqb}
 use Rattle.text_header.proofs.Tests.{which}
 use Rattle.text_parsing.specs.Terminals.{live}
-use Rattle.text_parsing.specs.Store.{State, counted, put-node, put-condition}
+use Rattle.text_store.specs.Store.{State, counted, put-node, put-condition}
 use Rattle.text_parsing.specs.Symbols.{Symbol, want, condition, atom, factor, concatenation, expression, marked, members, branches, colon, case-end, cases, switch-end}
 use Rattle.text_parsing.specs.Form.{go, atom-begins, chained, feed}
 use Rattle.text_parsing.specs.Cursors.{sight-at, state-at, next, fail, node-more, resume, left, Reads, ReadsTerms, ReadsOn, ReadsNodes}

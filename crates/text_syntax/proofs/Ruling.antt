@@ -8,7 +8,7 @@ use native.Mathlib.Omega.{arith}
 use borrow.Author.Tests.{ne-eqb}
 use lib.Dec.{eqb}
 use Rattle.text_parsing.specs.Terminals.{name-like}
-use Rattle.text_parsing.specs.Store.{put-rule, close-rule}
+use Rattle.text_store.specs.Store.{put-rule, close-rule}
 use Rattle.text_parsing.specs.Symbols.{want, expression, rule-end, rules}
 use Rattle.text_parsing.specs.Form.{feed}
 use Rattle.text_parsing.specs.Cursors.{sight-at, state-at, first-of, next, fail, rule-more, resume, Reads, ReadsOn}

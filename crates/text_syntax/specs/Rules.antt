@@ -6,7 +6,7 @@ use mathlib.Core.Bool.{Bool, true, false}
 use mathlib.Core.List.{List, [], _∷_}
 use lib.Dec.{eqb}
 use Rattle.text_parsing.specs.Terminals.{sights-from}
-use Rattle.text_parsing.specs.Store.{state}
+use Rattle.text_store.specs.Store.{state}
 use Rattle.text_parsing.specs.Symbols.{rule-end, rules}
 use Rattle.text_parsing.specs.Symbols.{Symbol}
 use Rattle.text_parsing.specs.Form.{Outcome, right, refused, run}

@@ -8,7 +8,7 @@ use text_parsing::reading::failed;
 use text_parsing::reading::passed;
 use text_parsing::reading::want;
 use text_parsing::words::insert_node;
-use text_parsing::words::put_condition;
+use text_store::stores::put_condition;
 ghost use mathlib.Core.Path.{_≡_};
 ghost use mathlib.Core.Bool.{not, _||_, false};
 ghost use mathlib.Core.List.{[], _∷_};

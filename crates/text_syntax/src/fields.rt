@@ -14,7 +14,7 @@ ghost use mathlib.Core.Bool.{cond};
 ghost use mathlib.Core.List.{List, [], _∷_};
 ghost use Prim.Native.Nat.{ℕ, _+_, _-_, _<_};
 ghost use lib.Dec.{eqb};
-ghost use Rattle.text_parsing.specs.Store.{counted, put-node};
+ghost use Rattle.text_store.specs.Store.{counted, put-node};
 ghost use Rattle.text_parsing.specs.Form.{mark-of, chained as chainedOf};
 ghost use Rattle.text_parsing.specs.Cursors.{sight-at, state-at, node-more, Reads, ReadsNodes};
 ghost use Rattle.text_parsing.specs.Symbols.{paren, atom, marked, character-tail, last-character, width, field-set, bound-name, field-end};

@@ -9,17 +9,13 @@ use native.Mathlib.Nat.{mul-le-mul-left}
 use borrow.Author.Tests.{ltb-true, ltb-false}
 use lib.Dec.{ltb}
 use lib.ListN.{length, getD, length-append, length-map, List·getD-append, List·getD-map}
-use lib.Seq.{length-sets, getD-append-add}
+use lib.Seq.{getD-append-add}
 use Rattle.text_header.proofs.Tests.{which}
 use Rattle.table_layout.specs.Places.{word}
-use Rattle.text_shapes.proofs.StoreLaws.{sets-below, sets-above, sets-at}
+use Rattle.text_store.proofs.StoreLaws.{sets-below, sets-above, sets-at}
 use Rattle.text_encoding.specs.Lists.{flat, sum, narrow, written}
 
 -- ---- a list written into words
-
-pub written-length : (ws : List ℕ) (k : ℕ) (list : List ℕ) → length (written ws k list) ≡ length ws
-unfolding written
-written-length ws k list = length-sets ws k (map narrow list)
 
 pub written-below : (ws : List ℕ) (k : ℕ) (list : List ℕ) (j : ℕ) → j < k → word (written ws k list) j ≡ word ws j
 unfolding written

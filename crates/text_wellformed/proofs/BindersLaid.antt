@@ -18,7 +18,7 @@ use Rattle.table_wellformed.specs.Rules.{is-concatenation, variable-laid, membe
 use Rattle.table_wellformed.proofs.Walks.{one-step, at-once}
 use Rattle.text_shapes.specs.NodeShapes.{tree, forest, Holds, literal-tree, range-tree, use-tree, eod-tree, uint-tree, marked-tree, counted-tree, chain-tree, switch-tree, no-trees, more-trees}
 use Rattle.text_shapes.proofs.Moving.{extent}
-use Rattle.text_names.specs.Words.{kind-of, is-binder, first-node, last-node}
+use Rattle.text_store.specs.Words.{kind-of, is-binder, first-node, last-node}
 use Rattle.text_encoding.specs.Lists.{narrow}
 use Rattle.text_encoding.specs.Numbers.{binders-before, width-of}
 use Rattle.text_wellformed.specs.Context.{Readable, Words, Nodes}

@@ -9,9 +9,10 @@ use native.Mathlib.Omega.{arith}
 use borrow.Author.Tests.{lt-ltb, eqb-true, ne-eqb}
 use lib.Dec.{eqb}
 use Rattle.text_header.proofs.Tests.{which, both-first, both-second}
+use Rattle.text_wellformed.proofs.LeastLaws.{no-place}
 use Rattle.text_shapes.specs.NodeShapes.{NameAt, tree, Holds, literal-tree, range-tree, use-tree, eod-tree, uint-tree, marked-tree, counted-tree, chain-tree, switch-tree}
 use Rattle.text_names.specs.Counting.{nowhere}
-use Rattle.text_names.specs.Words.{node-word, kind-of, bound-at, is-binder, first-node, last-node}
+use Rattle.text_store.specs.Words.{kind-of, node-size, place-of, bound-at, how-bound, is-binder, first-node, last-node}
 use Rattle.text_names.specs.Names.{is-reserved, bound-between, holds, held, held-between, is-misplaced, binder-fault, use-fault}
 use Rattle.text_names.specs.Counting.{place-if}
 use Rattle.text_encoding.specs.Numbers.{binders-before}
@@ -19,22 +20,22 @@ use Rattle.text_wellformed.specs.Context.{Readable, Nodes}
 use Rattle.text_wellformed.proofs.Counting.{any-all}
 use Rattle.text_wellformed.proofs.Tests.{or-second}
 use Rattle.text_wellformed.proofs.Names.{name-placed}
-use Rattle.text_wellformed.proofs.NoFaults.{no-place, no-node-fault, binders-next}
+use Rattle.text_wellformed.proofs.NoFaults.{no-node-fault, binders-next}
 use Rattle.text_wellformed.proofs.NodesMeant.{tree-size}
 
 pub binder-kind : (ns : List ℕ) (i : ℕ) → is-binder ns i ≡ true → kind-of ns i ≡ 8
-binder-kind ns i e = eqb-true (kind-of ns i) 8 (both-first (eqb (kind-of ns i) 8) (not (eqb (node-word ns i 7) 0)) e)
+binder-kind ns i e = eqb-true (kind-of ns i) 8 (both-first (eqb (kind-of ns i) 8) (not (eqb (how-bound ns i) 0)) e)
 
 -- what binds has a name
 binds-named : {A : Type 0} (how : ℕ) → (how ≡ 0) → not (eqb how 0) ≡ true → A
 binds-named how z e = let y : false ≡ true = ap (λ (q : ℕ). not (eqb q 0)) (sym z) ∙ e in let w : _≡_ {A = ℕ} 0 1 = cc in absurd (omega arith)
 
-binder-name : {xs ns ts : List ℕ} {i e f g β : ℕ} → Holds xs ns ts tree i e f g β → kind-of ns i ≡ 8 → not (eqb (node-word ns i 7) 0) ≡ true → NameAt xs (bound-at ns i)
+binder-name : {xs ns ts : List ℕ} {i e f g β : ℕ} → Holds xs ns ts tree i e f g β → kind-of ns i ≡ 8 → not (eqb (how-bound ns i) 0) ≡ true → NameAt xs (bound-at ns i)
 binder-name (literal-tree h a b c) k z = absurd (omega (arith, h .kind-is))
 binder-name (range-tree h a b c d) k z = absurd (omega (arith, h .kind-is))
 binder-name (use-tree h a b c) k z = absurd (omega (arith, h .kind-is))
 binder-name (eod-tree h a b) k z = absurd (omega (arith, h .kind-is))
-binder-name {ns = ns} (uint-tree {i = i} h a b c) k z = ⊎-elim (λ n. binds-named (node-word ns i 7) (n .0) z) (λ n. n .2) (c .how)
+binder-name {ns = ns} (uint-tree {i = i} h a b c) k z = ⊎-elim (λ n. binds-named (how-bound ns i) (n .0) z) (λ n. n .2) (c .how)
 binder-name (marked-tree h a b c t) k z = absurd (omega (arith, h .kind-is))
 binder-name (counted-tree h a b c t) k z = absurd (omega (arith, h .kind-is))
 binder-name (chain-tree h (inl y) a b t) k z = absurd (omega (arith, h .kind-is))
@@ -66,24 +67,24 @@ module _ {xs ns ts rs : List ℕ} {n t b r : ℕ} (N : Nodes xs ns ts n t) (R : 
   unheld : (i j : ℕ) → first-node rs k ≤ j → j < i → i < last-node rs k → is-binder ns i ≡ true → held ns (first-node rs k) i j ≡ false
   unheld i j l m h e =
       let c : kind-of ns i ≡ 8 = binder-kind ns i e
-      in let w : not (eqb (node-word ns i 7) 0) ≡ true = both-second (eqb (kind-of ns i) 8) (not (eqb (node-word ns i 7) 0)) e
+      in let w : not (eqb (how-bound ns i) 0) ≡ true = both-second (eqb (kind-of ns i) 8) (not (eqb (how-bound ns i) 0)) e
       in let p : bound-at ns i < nowhere = name-placed (R .short) (binder-name (N .trees i (omega arith) .holds) c w)
       in let f : Bool = binder-fault xs ns (first-node rs k) i (bound-at ns i)
-      in let u : ℕ = place-if (use-fault xs ns rs r (first-node rs k) (last-node rs k) (node-word ns i 2)) (node-word ns i 2)
+      in let u : ℕ = place-if (use-fault xs ns rs r (first-node rs k) (last-node rs k) (place-of ns i)) (place-of ns i)
       in let y : nowhere ≤ place-if f (bound-at ns i) =
       second-place (eqb (kind-of ns i) 5) (is-binder ns i) u (place-if f (bound-at ns i)) (ne-eqb (kind-of ns i) 5 (λ z. omega arith)) e (omega (arith, no-node-fault R k i below (omega arith) h))
       in let z : f ≡ false = no-place f (bound-at ns i) y p
       in let x : is-misplaced ns (first-node rs k) i ≡ false =
       or-second (bound-between xs ns (first-node rs k) i (bound-at ns i)) (is-misplaced ns (first-node rs k) i) (or-second (is-reserved xs (bound-at ns i)) (bound-between xs ns (first-node rs k) i (bound-at ns i) || is-misplaced ns (first-node rs k) i) z)
-      in any-all (i - first-node rs k) (first-node rs k) (held ns (first-node rs k) i) (or-second (not (eqb (node-word ns i 7) 1)) (held-between ns (first-node rs k) i) x) j l (omega arith)
+      in any-all (i - first-node rs k) (first-node rs k) (held ns (first-node rs k) i) (or-second (not (eqb (how-bound ns i) 1)) (held-between ns (first-node rs k) i) x) j l (omega arith)
 
   -- a tree other than the top concatenation has no binder but its root
   pub inner-free : {j m f g β : ℕ} → Holds xs ns ts tree j m f g β → first-node rs k ≤ j → m ≤ last-node rs k → top ns rs k j ≡ false → (i : ℕ) → j + 1 ≤ i → i < m → is-binder ns i ≡ false
   inner-free {j} {m} h l o out i p q =
       ⊎-elim
       (λ (e : is-binder ns i ≡ true).
-      let w : i - j < node-word ns j 1 = omega (arith, tree-size h)
-      in let y : top ns rs k j ≡ true = held-so (holds ns i j) (eqb j (first-node rs k)) (eqb (kind-of ns (first-node rs k)) 2) (unheld i j l (omega arith) (omega arith) e) (lt-ltb (i - j) (node-word ns j 1) w)
+      let w : i - j < node-size ns j = omega (arith, tree-size h)
+      in let y : top ns rs k j ≡ true = held-so (holds ns i j) (eqb j (first-node rs k)) (eqb (kind-of ns (first-node rs k)) 2) (unheld i j l (omega arith) (omega arith) e) (lt-ltb (i - j) (node-size ns j) w)
       in let v : false ≡ true = sym out ∙ y
       in let z : _≡_ {A = ℕ} 0 1 = cc in absurd (omega arith))
       (λ e. e) (which (is-binder ns i))

@@ -14,7 +14,7 @@ use Rattle.text_literals.specs.Literals.{characters-at}
 use Rattle.table_layout.specs.Places.{word}
 use Rattle.table_layout.specs.Constructs.{pick, constructAt}
 use Rattle.table_wellformed.specs.Laid.{literal-length, literal-byte, byte-laid}
-use Rattle.text_names.specs.Words.{kind-of, place-of}
+use Rattle.text_store.specs.Words.{kind-of, place-of}
 use Rattle.text_encoding.specs.Lists.{flat, narrow}
 use Rattle.text_encoding.specs.Encoded.{packed, literal-words}
 use Rattle.text_wellformed.specs.Context.{Words}

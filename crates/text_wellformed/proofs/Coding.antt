@@ -12,7 +12,7 @@ use Rattle.text_header.proofs.Tests.{picked}
 use Rattle.text_literals.specs.Literals.{characters-at}
 use Rattle.text_literals.proofs.Sizes.{character-small}
 use Rattle.table_layout.specs.Places.{construct-word}
-use Rattle.text_names.specs.Words.{node-word, kind-of, place-of, is-binder}
+use Rattle.text_store.specs.Words.{kind-of, node-size, place-of, node-mark, last-place, is-binder}
 use Rattle.text_encoding.specs.Lists.{narrow}
 use Rattle.text_encoding.specs.Numbers.{rule-of, binds-one, binders-before, width-of, own-length, lists-length, own-start}
 use Rattle.text_encoding.specs.Encoded.{operands, construct-words}
@@ -47,7 +47,7 @@ module _ {xs ns ts rs ws : List ℕ} {n r : ℕ} (words : Words xs ns ts rs n r 
   pub construct-is : (j v : ℕ) → j < 8 → getD (construct-words xs ns rs r i) j 0 ≡ v → v < 4294967296 → construct-word ws i j ≡ v
   construct-is j v l e s = narrow-same (construct-word ws i j) v (words .construct-at i j h l ∙ ap narrow e) s
 
-  coded : (kind size a b c d : ℕ) → kind-of ns i ≡ kind → node-word ns i 1 ≡ size → kind < 4294967296 → size < 4294967296 → Four (operands xs ns rs r i kind) a b c d → Coded ws i kind size a b c d
+  coded : (kind size a b c d : ℕ) → kind-of ns i ≡ kind → node-size ns i ≡ size → kind < 4294967296 → size < 4294967296 → Four (operands xs ns rs r i kind) a b c d → Coded ws i kind size a b c d
   coded kind size a b c d k s l m f =
       let all : operands xs ns rs r i (kind-of ns i) ≡ a ∷ b ∷ c ∷ d ∷ [] = ap (operands xs ns rs r i) k ∙ f .are in
       record {
@@ -80,11 +80,11 @@ module _ {xs ns ts rs : List ℕ} {n t b r : ℕ} (known : Readable xs ns ts rs 
 -- ---- by kind
 
 module _ {xs ns ts rs ws : List ℕ} {n t b r : ℕ} (known : Readable xs ns ts rs n t b r) (words : Words xs ns ts rs n r ws) (i : ℕ) (h : i < n) where
-  plain-coded : (kind size : ℕ) → kind-of ns i ≡ kind → node-word ns i 1 ≡ size → size ≤ 256 → kind ≤ 9 → operands xs ns rs r i kind ≡ 0 ∷ 0 ∷ 0 ∷ 0 ∷ [] → Coded ws i kind size 0 0 0 0
+  plain-coded : (kind size : ℕ) → kind-of ns i ≡ kind → node-size ns i ≡ size → size ≤ 256 → kind ≤ 9 → operands xs ns rs r i kind ≡ 0 ∷ 0 ∷ 0 ∷ 0 ∷ [] → Coded ws i kind size 0 0 0 0
   plain-coded kind size k s l m e =
       coded words i h kind size 0 0 0 0 k s (omega arith) (omega arith) (record { are = e; small-a = omega arith; small-b = omega arith; small-c = omega arith; small-d = omega arith })
 
-  module _ (size : ℕ) (s : node-word ns i 1 ≡ size) (limit : size ≤ 256) where
+  module _ (size : ℕ) (s : node-size ns i ≡ size) (limit : size ≤ 256) where
     pub alternative-coded : kind-of ns i ≡ 1 → Coded ws i 1 size 0 0 0 0
     alternative-coded k = plain-coded 1 size k s limit (omega arith) refl
 
@@ -97,12 +97,12 @@ module _ {xs ns ts rs ws : List ℕ} {n t b r : ℕ} (known : Readable xs ns ts 
     pub eod-coded : kind-of ns i ≡ 9 → Coded ws i 9 size 0 0 0 0
     eod-coded k = plain-coded 9 size k s limit (omega arith) refl
 
-    pub marked-coded : (how : ℕ) → kind-of ns i ≡ 3 → node-word ns i 3 ≡ how → how ≤ 3 → own-length ns i ≡ 0 → Coded ws i 3 size how 0 0 0
+    pub marked-coded : (how : ℕ) → kind-of ns i ≡ 3 → node-mark ns i ≡ how → how ≤ 3 → own-length ns i ≡ 0 → Coded ws i 3 size how 0 0 0
     marked-coded how k w l z =
         coded words i h 3 size how 0 0 0 k s (omega arith) (omega arith)
         (record { are = rw (w, z); small-a = omega arith; small-b = omega arith; small-c = omega arith; small-d = omega arith })
 
-    pub counted-coded : Quiet ns n → kind-of ns i ≡ 3 → node-word ns i 3 ≡ 4 → 0 < own-length ns i → Coded ws i 3 size 4 (own-start ns i) (own-start ns i + own-length ns i) 0
+    pub counted-coded : Quiet ns n → kind-of ns i ≡ 3 → node-mark ns i ≡ 4 → 0 < own-length ns i → Coded ws i 3 size 4 (own-start ns i) (own-start ns i + own-length ns i) 0
     counted-coded quiet k w l =
         let e : ltb 0 (own-length ns i) ≡ true = lt-ltb 0 (own-length ns i) l in
         let m : own-start ns i + own-length ns i ≤ 1024 = list-end known i h quiet in
@@ -119,13 +119,13 @@ module _ {xs ns ts rs ws : List ℕ} {n t b r : ℕ} (known : Readable xs ns ts 
         coded words i h 6 size (length (characters-at xs (place-of ns i))) 0 0 0 k s (omega arith) (omega arith)
         (record { are = refl; small-a = omega (arith, l .1); small-b = omega arith; small-c = omega arith; small-d = omega arith })
 
-    pub range-coded : kind-of ns i ≡ 7 → Coded ws i 7 size (getD (characters-at xs (place-of ns i)) 0 0) (getD (characters-at xs (node-word ns i 3)) 0 0) 0 0
+    pub range-coded : kind-of ns i ≡ 7 → Coded ws i 7 size (getD (characters-at xs (place-of ns i)) 0 0) (getD (characters-at xs (last-place ns i)) 0 0) 0 0
     range-coded k =
-        coded words i h 7 size (getD (characters-at xs (place-of ns i)) 0 0) (getD (characters-at xs (node-word ns i 3)) 0 0) 0 0 k s (omega arith) (omega arith)
+        coded words i h 7 size (getD (characters-at xs (place-of ns i)) 0 0) (getD (characters-at xs (last-place ns i)) 0 0) 0 0 k s (omega arith) (omega arith)
         (record {
           are = refl;
           small-a = omega (arith, character-small xs (place-of ns i) 0);
-          small-b = omega (arith, character-small xs (node-word ns i 3) 0);
+          small-b = omega (arith, character-small xs (last-place ns i) 0);
           small-c = omega arith;
           small-d = omega arith;
         })

@@ -12,7 +12,7 @@ use Rattle.text_header.proofs.Tests.{picked}
 use Rattle.table_layout.specs.Places.{construct-word}
 use Rattle.table_wellformed.specs.Parts.{conditioned, unconditioned}
 use Rattle.text_shapes.specs.NodeShapes.{Unconditioned, Conditioned}
-use Rattle.text_names.specs.Words.{kind-of}
+use Rattle.text_store.specs.Words.{kind-of}
 use Rattle.text_encoding.specs.Numbers.{condition-length, lists-length, condition-start}
 use Rattle.text_encoding.specs.Encoded.{start-word, end-word, operands}
 use Rattle.text_wellformed.specs.Context.{Readable, Words, Quiet}

@@ -1,7 +1,7 @@
--- The least, the first and one of many numbers, and sums of them.
+-- The least, the first and one of many numbers.
 -- Assumes nothing.
 use Prim.Native.Nat.{ℕ, zero, suc, _+_, _-_, _≤_, _<_}
-use mathlib.Core.Path.{_≡_, sym, ap, subst, _∙_}
+use mathlib.Core.Path.{_≡_, sym, subst, _∙_}
 use mathlib.Core.Logic.{_⊎_, inl, inr, ⊎-elim}
 use mathlib.Core.Bool.{Bool, true, false}
 use native.Mathlib.Omega.{arith}
@@ -9,7 +9,7 @@ use native.Mathlib.Decide.{decLe}
 use native.Mathlib.Nat.{lt-of-not-le}
 use Rattle.text_header.proofs.Tests.{which}
 use Rattle.text_names.specs.Counting.{nowhere, least-of, any-of}
-use Rattle.text_encoding.specs.Lists.{sum, first-of}
+use Rattle.text_encoding.specs.Lists.{first-of}
 
 pub here-or-after : {i j : ℕ} → i ≤ j → (i ≡ j) ⊎ (i + 1 ≤ j)
 here-or-after {i} {j} h = go (decLe j i)
@@ -69,26 +69,3 @@ any-all zero i f e j a b = absurd (omega arith)
 any-all (suc n) i f e j a b =
     let t : f i ≡ false = ⊎-elim (λ (t : f i ≡ true). sym (any-hit n i f t) ∙ e) (λ t. t) (which (f i))
     in ⊎-elim (λ (z : i ≡ j). subst (λ (q : ℕ). f q ≡ false) z t) (λ (l : i + 1 ≤ j). any-all n (i + 1) f (sym (any-rest n i f t) ∙ e) j l (omega arith)) (here-or-after a)
-
--- ---- sums
-
-sum-last : (n i : ℕ) (f : ℕ → ℕ) → sum (suc n) i f ≡ sum n i f + f (i + n)
-unfolding sum
-sum-last zero i f = let z : i + 0 ≡ i = omega arith in rw z (omega arith)
-sum-last (suc n) i f =
-    let h : sum (suc n) (i + 1) f ≡ sum n (i + 1) f + f (i + 1 + n) = sum-last n (i + 1) f
-    in let z : f (i + 1 + n) ≡ f (i + suc n) = ap f (omega arith)
-    in omega arith
-
-sum-grows : (d n : ℕ) (f : ℕ → ℕ) → sum n 0 f ≤ sum (n + d) 0 f
-sum-grows zero n f = let z : n + 0 ≡ n = omega arith in rw z (omega arith)
-sum-grows (suc d) n f = let z : n + suc d ≡ suc (n + d) = omega arith in rw z (omega (arith, sum-grows d n f, sum-last (n + d) 0 f))
-
-pub sum-mono : (f : ℕ → ℕ) (i j : ℕ) → i ≤ j → sum i 0 f ≤ sum j 0 f
-sum-mono f i j h = let z : i + (j - i) ≡ j = omega arith in subst (λ (q : ℕ). sum i 0 f ≤ sum q 0 f) z (sum-grows (j - i) i f)
-
-pub sum-next : (f : ℕ → ℕ) (i : ℕ) → sum (i + 1) 0 f ≡ sum i 0 f + f i
-sum-next f i =
-    let z : i + 1 ≡ suc i = omega arith
-    in let y : f (0 + i) ≡ f i = ap f (omega arith)
-    in rw z (sum-last i 0 f ∙ ap (λ (q : ℕ). sum i 0 f + q) y)

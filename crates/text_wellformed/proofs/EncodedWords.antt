@@ -2,65 +2,29 @@
 -- Assumes nothing.
 use Prim.Native.Nat.{ℕ, _+_, _*_, _≤_, _<_}
 use mathlib.Core.Path.{_≡_, refl, ap, _∙_}
-use mathlib.Core.Bool.{Bool, true, false, cond}
-use mathlib.Core.List.{List, [], _∷_}
+use mathlib.Core.Bool.{true}
+use mathlib.Core.List.{List}
 use native.Mathlib.Omega.{arith}
 use native.Mathlib.Nat.{zero-add, mod-eq-of-lt}
-use lib.Dec.{eqb}
-use lib.ListN.{length, getD, replicate, length-append, length-replicate, getD-replicate, List·getD-append}
+use lib.ListN.{length, getD, replicate, length-replicate, getD-replicate, List·getD-append}
 use lib.Seq.{getD-append-add}
-use Rattle.text_header.proofs.Tests.{picked}
 use Rattle.table_layout.specs.Places.{word}
-use Rattle.text_names.specs.Words.{node-word, term-word, kind-of, is-binder, is-use}
+use Rattle.text_store.specs.Words.{own-from, condition-from, is-binder}
+use Rattle.text_encoding.proofs.Writing.{written-length}
+use Rattle.text_encoding.proofs.Sizes.{variable-length, construct-length, term-length, list-length, lists-words-length, literal-length}
 use Rattle.text_encoding.specs.Lists.{flat, sum, narrow, written}
-use Rattle.text_encoding.specs.Numbers.{first-at, binds-one, binders-before, width-of, condition-length, own-length, lists-length, condition-start, own-start}
-use Rattle.text_encoding.specs.Encoded.{header-words, rule-words, variable-words, start-word, end-word, operands, construct-words, term-words, list-words, lists-words, literal-words, encoded}
+use Rattle.text_encoding.specs.Numbers.{first-at, binds-one, binders-before, condition-length, own-length, lists-length, condition-start, own-start}
+use Rattle.text_encoding.specs.Encoded.{header-words, rule-words, variable-words, construct-words, term-words, list-words, lists-words, literal-words, encoded}
 use Rattle.text_wellformed.specs.Context.{Words}
-use Rattle.text_wellformed.proofs.Areas.{written-length, written-below, written-above, written-at, sum-ones, sum-part, flat-length, flat-at, written-flat}
+use Rattle.text_wellformed.proofs.Areas.{written-below, written-above, written-at, sum-ones, sum-part, flat-length, flat-at, written-flat}
 
 -- ---- how many words each piece has
 
 abbrev one : ℕ → ℕ
 one k = 1
 
--- of a choice
-chosen-length : (b : Bool) (x y : List ℕ) (n : ℕ) → length x ≡ n → length y ≡ n → length (cond b x y) ≡ n
-chosen-length b x y n p q = picked (λ (l : List ℕ). length l ≡ n) b (λ e. p) (λ e. q)
-
 rule-length : (ns rs : List ℕ) (k : ℕ) → length (rule-words ns rs k) ≡ 4 * one k
 rule-length ns rs k = refl
-
-variable-length : (xs ns : List ℕ) (i : ℕ) → length (variable-words xs ns i) ≡ 4 * binds-one ns i
-variable-length xs ns i = elim (is-binder ns i) as (λ b. length (cond b (i ∷ width-of xs ns i ∷ 0 ∷ 0 ∷ []) []) ≡ 4 * cond b 1 0) [ true ↦ refl | false ↦ refl ]
-
-pub operands-length : (xs ns rs : List ℕ) (r i kind : ℕ) → length (operands xs ns rs r i kind) ≡ 4
-operands-length xs ns rs r i kind =
-    chosen-length (eqb kind 3) _ _ 4 refl
-    (chosen-length (eqb kind 5) _ _ 4 refl
-    (chosen-length (eqb kind 6) _ _ 4 refl
-    (chosen-length (eqb kind 7) _ _ 4 refl
-    (chosen-length (eqb kind 8) _ _ 4 refl refl))))
-
-construct-length : (xs ns rs : List ℕ) (r i : ℕ) → length (construct-words xs ns rs r i) ≡ 8 * one i
-construct-length xs ns rs r i =
-    let conditions : List ℕ = start-word (condition-start ns i) (condition-length ns i) ∷ end-word (condition-start ns i) (condition-length ns i) ∷ [] in
-    omega (arith, length-append (operands xs ns rs r i (kind-of ns i)) conditions, operands-length xs ns rs r i (kind-of ns i))
-
-term-length : (xs ns ts : List ℕ) (a i t : ℕ) → length (term-words xs ns ts a i t) ≡ 3 * one t
-term-length xs ns ts a i t = chosen-length (is-use (term-word ts t 0)) _ _ 3 refl refl
-
-list-length : (xs ns ts : List ℕ) (a i t n : ℕ) → length (list-words xs ns ts a i t n) ≡ 3 * n
-list-length xs ns ts a i t n = flat-length 3 (term-words xs ns ts a i) one (term-length xs ns ts a i) n t ∙ ap (λ (z : ℕ). 3 * z) (sum-ones n t)
-
-lists-size : (xs ns ts rs : List ℕ) (r i : ℕ) → length (lists-words xs ns ts rs r i) ≡ 3 * lists-length ns i
-lists-size xs ns ts rs r i =
-    let a : ℕ = first-at rs r i in
-    length-append (list-words xs ns ts a i (node-word ns i 8) (condition-length ns i)) (list-words xs ns ts a i (node-word ns i 5) (own-length ns i))
-    ∙ omega (arith, list-length xs ns ts a i (node-word ns i 8) (condition-length ns i), list-length xs ns ts a i (node-word ns i 5) (own-length ns i))
-
-literal-length : (xs ns : List ℕ) (i : ℕ) → length (literal-words xs ns i) ≡ 8 * one i
-unfolding flat
-literal-length xs ns i = chosen-length (eqb (kind-of ns i) 6) _ _ 8 refl refl
 
 -- word j of term m of a list, and of a construct's condition and its own list
 
@@ -71,23 +35,23 @@ list-at xs ns ts a i t n m j h l =
 
 module _ (xs ns ts rs : List ℕ) (r i m j : ℕ) (l : j < 3) where
   abbrev condition-list : List ℕ
-  condition-list = list-words xs ns ts (first-at rs r i) i (node-word ns i 8) (condition-length ns i)
+  condition-list = list-words xs ns ts (first-at rs r i) i (condition-from ns i) (condition-length ns i)
 
   abbrev own-list : List ℕ
-  own-list = list-words xs ns ts (first-at rs r i) i (node-word ns i 5) (own-length ns i)
+  own-list = list-words xs ns ts (first-at rs r i) i (own-from ns i) (own-length ns i)
 
   condition-size : length condition-list ≡ 3 * condition-length ns i
-  condition-size = list-length xs ns ts (first-at rs r i) i (node-word ns i 8) (condition-length ns i)
+  condition-size = list-length xs ns ts (first-at rs r i) i (condition-from ns i) (condition-length ns i)
 
-  condition-at : m < condition-length ns i → getD (lists-words xs ns ts rs r i) (3 * m + j) 0 ≡ getD (term-words xs ns ts (first-at rs r i) i (node-word ns i 8 + m)) j 0
+  condition-at : m < condition-length ns i → getD (lists-words xs ns ts rs r i) (3 * m + j) 0 ≡ getD (term-words xs ns ts (first-at rs r i) i (condition-from ns i + m)) j 0
   condition-at h =
       List·getD-append condition-list own-list 0 (3 * m + j) (omega (arith, condition-size))
-      ∙ list-at xs ns ts (first-at rs r i) i (node-word ns i 8) (condition-length ns i) m j h l
+      ∙ list-at xs ns ts (first-at rs r i) i (condition-from ns i) (condition-length ns i) m j h l
 
-  own-at : m < own-length ns i → getD (lists-words xs ns ts rs r i) (3 * (condition-length ns i + m) + j) 0 ≡ getD (term-words xs ns ts (first-at rs r i) i (node-word ns i 5 + m)) j 0
+  own-at : m < own-length ns i → getD (lists-words xs ns ts rs r i) (3 * (condition-length ns i + m) + j) 0 ≡ getD (term-words xs ns ts (first-at rs r i) i (own-from ns i + m)) j 0
   own-at h =
       let e : 3 * (condition-length ns i + m) + j ≡ length condition-list + (3 * m + j) = omega (arith, condition-size) in
-      rw e (getD-append-add condition-list own-list (3 * m + j) 0 ∙ list-at xs ns ts (first-at rs r i) i (node-word ns i 5) (own-length ns i) m j h l)
+      rw e (getD-append-add condition-list own-list (3 * m + j) 0 ∙ list-at xs ns ts (first-at rs r i) i (own-from ns i) (own-length ns i) m j h l)
 
 -- ---- words that are 0 from a place on
 
@@ -131,7 +95,7 @@ module _ (xs ns ts rs : List ℕ) (n r : ℕ) (zs : List ℕ) where
     constructs-size = flat-length 8 (construct-words xs ns rs r) one (construct-length xs ns rs r) n 0 ∙ ap (λ (z : ℕ). 8 * z) (sum-ones n 0)
 
     terms-size : length (flat n 0 (lists-words xs ns ts rs r)) ≡ 3 * condition-start ns n
-    terms-size = flat-length 3 (lists-words xs ns ts rs r) (lists-length ns) (lists-size xs ns ts rs r) n 0
+    terms-size = flat-length 3 (lists-words xs ns ts rs r) (lists-length ns) (lists-words-length xs ns ts rs r) n 0
 
     literals-size : length (flat n 0 (literal-words xs ns)) ≡ 8 * n
     literals-size = flat-length 8 (literal-words xs ns) one (literal-length xs ns) n 0 ∙ ap (λ (z : ℕ). 8 * z) (sum-ones n 0)
@@ -197,14 +161,14 @@ module _ (xs ns ts rs : List ℕ) (n r : ℕ) (zs : List ℕ) where
     lists-at : (i j : ℕ) → i < n → j < 3 * lists-length ns i → word with-literals (2624 + 3 * condition-start ns i + j) ≡ narrow (getD (lists-words xs ns ts rs r i) j 0)
     lists-at i j h l =
         before-literals (2624 + 3 * condition-start ns i + j) (omega (arith, sum-part (lists-length ns) n i 0 h, ap (lists-length ns) (zero-add i)))
-        ∙ written-flat 3 (lists-words xs ns ts rs r) (lists-length ns) (lists-size xs ns ts rs r) with-constructs 2624 n i j (2624 + 3 * condition-start ns i + j) (omega (arith, constructs-blank .many)) h l refl
+        ∙ written-flat 3 (lists-words xs ns ts rs r) (lists-length ns) (lists-words-length xs ns ts rs r) with-constructs 2624 n i j (2624 + 3 * condition-start ns i + j) (omega (arith, constructs-blank .many)) h l refl
 
-    condition-term : (i m j : ℕ) → i < n → m < condition-length ns i → j < 3 → word with-literals (2624 + 3 * (condition-start ns i + m) + j) ≡ narrow (getD (term-words xs ns ts (first-at rs r i) i (node-word ns i 8 + m)) j 0)
+    condition-term : (i m j : ℕ) → i < n → m < condition-length ns i → j < 3 → word with-literals (2624 + 3 * (condition-start ns i + m) + j) ≡ narrow (getD (term-words xs ns ts (first-at rs r i) i (condition-from ns i + m)) j 0)
     condition-term i m j h k l =
         let e : 2624 + 3 * (condition-start ns i + m) + j ≡ 2624 + 3 * condition-start ns i + (3 * m + j) = omega arith in
         rw e (lists-at i (3 * m + j) h (omega arith) ∙ ap narrow (condition-at xs ns ts rs r i m j l k))
 
-    own-term : (i m j : ℕ) → i < n → m < own-length ns i → j < 3 → word with-literals (2624 + 3 * (own-start ns i + m) + j) ≡ narrow (getD (term-words xs ns ts (first-at rs r i) i (node-word ns i 5 + m)) j 0)
+    own-term : (i m j : ℕ) → i < n → m < own-length ns i → j < 3 → word with-literals (2624 + 3 * (own-start ns i + m) + j) ≡ narrow (getD (term-words xs ns ts (first-at rs r i) i (own-from ns i + m)) j 0)
     own-term i m j h k l =
         let e : 2624 + 3 * (own-start ns i + m) + j ≡ 2624 + 3 * condition-start ns i + (3 * (condition-length ns i + m) + j) = omega arith in
         rw e (lists-at i (3 * (condition-length ns i + m) + j) h (omega arith) ∙ ap narrow (own-at xs ns ts rs r i m j l k))

@@ -21,15 +21,15 @@ use Rattle.table_wellformed.specs.Lists.{list-formed, counts-formed}
 use Rattle.table_wellformed.specs.Rules.{named-back}
 use Rattle.table_wellformed.specs.Laid.{operands-zero, second-part, construct-end, chain-laid, passes-laid, repetition-laid, switch-laid, kind-laid}
 use Rattle.table_wellformed.proofs.Every.{every-turn, every-end}
+use Rattle.text_wellformed.proofs.NoFaults.{use-below}
 use Rattle.text_shapes.specs.NodeShapes.{NameAt, LiteralAt, CharacterAt, Unconditioned, Marked, Shape, tree, forest, cases, Holds, literal-tree, range-tree, use-tree, eod-tree, uint-tree, marked-tree, counted-tree, chain-tree, switch-tree, no-trees, more-trees}
-use Rattle.text_names.specs.Words.{node-word, kind-of, place-of, is-binder}
+use Rattle.text_store.specs.Words.{kind-of, node-size, place-of, node-mark, last-place, is-binder}
 use Rattle.text_encoding.specs.Numbers.{rule-of, binders-before, width-of, own-length, own-start}
 use Rattle.text_wellformed.specs.Context.{Readable, Words, TreeAt, Quiet}
 use Rattle.text_wellformed.specs.Meant.{passes-meant, meant, Formed, NamedBack}
 use Rattle.text_wellformed.proofs.NodeFacts.{ordered, tree-below, tree-size, forest-below, nodes}
 use Rattle.text_wellformed.proofs.Totals.{marked-list}
 use Rattle.text_wellformed.proofs.Standing.{literal-sized}
-use Rattle.text_wellformed.proofs.Uses.{use-below}
 use Rattle.text_wellformed.proofs.Coding.{Coded, alternative-coded, concatenation-coded, switch-coded, eod-coded, marked-coded, counted-coded, use-coded, literal-coded, range-coded}
 use Rattle.text_wellformed.proofs.Known.{mark-kinds, known}
 use Rattle.text_wellformed.proofs.PartsLaid.{part-size, forest-laid, cases-laid}
@@ -73,7 +73,7 @@ module _ {xs ns ts rs ws : List ℕ} {n t b r : ℕ} (known-text : Readable xs n
     end-is : construct-end ws i ≡ e
     end-is = omega (arith, part-size known-text words quiet whole within, tree-below whole)
 
-    size-limit : node-word ns i 1 ≤ 256
+    size-limit : node-size ns i ≤ 256
     size-limit = omega (arith, tree-size whole, known-text .nodes-limit)
 
     -- what is laid where the construct is what is meant
@@ -101,14 +101,14 @@ module _ {xs ns ts rs ws : List ℕ} {n t b r : ℕ} (known-text : Readable xs n
     chain-kind w l x =
         ⊎-elim
         (λ (k : kind-of ns i ≡ 1).
-        laid-as (Construct.Alternative (node-word ns i 1)) (rw k) (chain-is-laid (zero-2 ws i (alternative-coded known-text words i inside (node-word ns i 1) refl size-limit k)) l x))
+        laid-as (Construct.Alternative (node-size ns i)) (rw k) (chain-is-laid (zero-2 ws i (alternative-coded known-text words i inside (node-size ns i) refl size-limit k)) l x))
         (λ (k : kind-of ns i ≡ 2).
-        laid-as (Construct.Concatenation (node-word ns i 1)) (rw k) (chain-is-laid (zero-2 ws i (concatenation-coded known-text words i inside (node-word ns i 1) refl size-limit k)) l x))
+        laid-as (Construct.Concatenation (node-size ns i)) (rw k) (chain-is-laid (zero-2 ws i (concatenation-coded known-text words i inside (node-size ns i) refl size-limit k)) l x))
         w
 
     switch-kind : {γ : ℕ} → kind-of ns i ≡ 4 → Holds xs ns ts cases (i + 1) e f g γ → kind-laid ws i (constructAt ws i) ≡ true
     unfolding meant
-    switch-kind k x = laid-as (Construct.Switch (node-word ns i 1)) (rw k) (switch-is-laid (zero-2 ws i (switch-coded known-text words i inside (node-word ns i 1) refl size-limit k)) x)
+    switch-kind k x = laid-as (Construct.Switch (node-size ns i)) (rw k) (switch-is-laid (zero-2 ws i (switch-coded known-text words i inside (node-size ns i) refl size-limit k)) x)
 
     -- `?`, `*` and `+` have no more operands
     mark-laid : (how start end : ℕ) → (how ≡ 1) ⊎ ((how ≡ 2) ⊎ (how ≡ 3)) → operands-zero ws i 3 ≡ true → passes-laid ws i (passes-meant how start end) ≡ true
@@ -117,18 +117,18 @@ module _ {xs ns ts rs ws : List ℕ} {n t b r : ℕ} (known-text : Readable xs n
     marked-kind : {m γ : ℕ} → kind-of ns i ≡ 3 → Marked ns i → Unconditioned ns (i + 1) → Holds xs ns ts tree (i + 1) e f m γ → kind-laid ws i (constructAt ws i) ≡ true
     unfolding meant
     marked-kind k m u x =
-        let passes : Passes = passes-meant (node-word ns i 3) (own-start ns i) (own-start ns i + own-length ns i) in
-        laid-as (Construct.Repetition (node-word ns i 1) passes) (rw k)
+        let passes : Passes = passes-meant (node-mark ns i) (own-start ns i) (own-start ns i + own-length ns i) in
+        laid-as (Construct.Repetition (node-size ns i) passes) (rw k)
         (repetition-is-laid passes
-        (mark-laid (node-word ns i 3) (own-start ns i) (own-start ns i + own-length ns i) (mark-kinds i m)
-        (zero-3 ws i (marked-coded known-text words i inside (node-word ns i 1) refl size-limit (node-word ns i 3) k refl (m .most) (marked-list ns n quiet i inside k m))))
+        (mark-laid (node-mark ns i) (own-start ns i) (own-start ns i + own-length ns i) (mark-kinds i m)
+        (zero-3 ws i (marked-coded known-text words i inside (node-size ns i) refl size-limit (node-mark ns i) k refl (m .most) (marked-list ns n quiet i inside k m))))
         u x)
 
-    counted-kind : {m γ : ℕ} → kind-of ns i ≡ 3 → node-word ns i 3 ≡ 4 → 0 < own-length ns i → counts-formed ws (own-start ns i) (own-start ns i + own-length ns i) ≡ true → Unconditioned ns (i + 1) → Holds xs ns ts tree (i + 1) e f m γ → kind-laid ws i (constructAt ws i) ≡ true
+    counted-kind : {m γ : ℕ} → kind-of ns i ≡ 3 → node-mark ns i ≡ 4 → 0 < own-length ns i → counts-formed ws (own-start ns i) (own-start ns i + own-length ns i) ≡ true → Unconditioned ns (i + 1) → Holds xs ns ts tree (i + 1) e f m γ → kind-laid ws i (constructAt ws i) ≡ true
     unfolding meant
     counted-kind k w l c u x =
-        let o : operands-zero ws i 5 ≡ true = zero-5 ws i (counted-coded known-text words i inside (node-word ns i 1) refl size-limit quiet k w l) in
-        laid-as (Construct.Repetition (node-word ns i 1) (Passes.Counted (own-start ns i) (own-start ns i + own-length ns i))) (rw (k, w))
+        let o : operands-zero ws i 5 ≡ true = zero-5 ws i (counted-coded known-text words i inside (node-size ns i) refl size-limit quiet k w l) in
+        laid-as (Construct.Repetition (node-size ns i) (Passes.Counted (own-start ns i) (own-start ns i + own-length ns i))) (rw (k, w))
         (repetition-is-laid (Passes.Counted (own-start ns i) (own-start ns i + own-length ns i)) (rw (o, c)) u x)
 
     -- ---- without
@@ -139,22 +139,22 @@ module _ {xs ns ts rs ws : List ℕ} {n t b r : ℕ} (known-text : Readable xs n
         let l : rule-of xs rs r (place-of ns i) < r = use-below known-text i inside k at in
         let a : ltb (rule-of xs rs r (place-of ns i)) r ≡ true = lt-ltb (rule-of xs rs r (place-of ns i)) r l in
         laid-as (Construct.Use (rule-of xs rs r (place-of ns i))) (rw k)
-        (rw (words .rules-are, a) (zero-3 ws i (use-coded known-text words i inside (node-word ns i 1) refl size-limit k l)))
+        (rw (words .rules-are, a) (zero-3 ws i (use-coded known-text words i inside (node-size ns i) refl size-limit k l)))
 
     literal-kind : kind-of ns i ≡ 6 → LiteralAt xs (place-of ns i) ⊎ CharacterAt xs (place-of ns i) → kind-laid ws i (constructAt ws i) ≡ true
     unfolding meant
     literal-kind k at =
-        laid-as (Construct.Literal (length (characters-at xs (place-of ns i)))) (rw k) (zero-3 ws i (literal-coded known-text words i inside (node-word ns i 1) refl size-limit k (literal-sized at)))
+        laid-as (Construct.Literal (length (characters-at xs (place-of ns i)))) (rw k) (zero-3 ws i (literal-coded known-text words i inside (node-size ns i) refl size-limit k (literal-sized at)))
 
     range-kind : kind-of ns i ≡ 7 → kind-laid ws i (constructAt ws i) ≡ true
     unfolding meant
     range-kind k =
-        laid-as (Construct.Range (getD (characters-at xs (place-of ns i)) 0 0) (getD (characters-at xs (node-word ns i 3)) 0 0)) (rw k)
-        (zero-4 ws i (range-coded known-text words i inside (node-word ns i 1) refl size-limit k))
+        laid-as (Construct.Range (getD (characters-at xs (place-of ns i)) 0 0) (getD (characters-at xs (last-place ns i)) 0 0)) (rw k)
+        (zero-4 ws i (range-coded known-text words i inside (node-size ns i) refl size-limit k))
 
     eod-kind : kind-of ns i ≡ 9 → kind-laid ws i (constructAt ws i) ≡ true
     unfolding meant
-    eod-kind k = laid-as Construct.Eod (rw k) (zero-2 ws i (eod-coded known-text words i inside (node-word ns i 1) refl size-limit k))
+    eod-kind k = laid-as Construct.Eod (rw k) (zero-2 ws i (eod-coded known-text words i inside (node-size ns i) refl size-limit k))
 
     uint-kind : kind-of ns i ≡ 8 → Formed ns n ws → NamedBack ns n ws → kind-laid ws i (constructAt ws i) ≡ true
     unfolding meant

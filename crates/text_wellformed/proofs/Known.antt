@@ -14,15 +14,15 @@ use Rattle.text_literals.proofs.Sizes.{character-small}
 use Rattle.table_layout.specs.Constructs.{constructOf, constructAt}
 use Rattle.table_layout.specs.declared.Construct.{Construct}
 use Rattle.table_layout.specs.declared.Passes.{Passes}
+use Rattle.text_wellformed.proofs.NoFaults.{use-below}
 use Rattle.text_shapes.specs.NodeShapes.{Headed, NameAt, LiteralAt, CharacterAt, Marked, tree, Holds, literal-tree, range-tree, use-tree, eod-tree, uint-tree, marked-tree, counted-tree, chain-tree, switch-tree}
-use Rattle.text_names.specs.Words.{node-word, kind-of, place-of}
+use Rattle.text_store.specs.Words.{kind-of, node-size, place-of, node-mark, last-place}
 use Rattle.text_encoding.specs.Numbers.{rule-of, width-of, own-length, own-start}
 use Rattle.text_wellformed.specs.Context.{Readable, Words, TreeAt, Quiet}
 use Rattle.text_wellformed.specs.Meant.{passes-meant, meant, Known}
 use Rattle.text_wellformed.proofs.NodeFacts.{tree-below, forest-below, cases-below, nodes}
 use Rattle.text_wellformed.proofs.Totals.{marked-list}
 use Rattle.text_wellformed.proofs.Standing.{Sized, literal-sized}
-use Rattle.text_wellformed.proofs.Uses.{use-below}
 use Rattle.text_wellformed.proofs.Coding.{Coded, list-end, binder-word, binder-limit, alternative-coded, concatenation-coded, switch-coded, eod-coded, marked-coded, counted-coded, use-coded, literal-coded, range-coded, uint-coded}
 
 -- ---- what six words say
@@ -89,8 +89,8 @@ module _ (i : ℕ) where
   eod-of = refl
 
 -- 1, 2 or 3
-pub mark-kinds : {ns : List ℕ} (i : ℕ) → Marked ns i → (node-word ns i 3 ≡ 1) ⊎ ((node-word ns i 3 ≡ 2) ⊎ (node-word ns i 3 ≡ 3))
-mark-kinds {ns} i m = kinds (node-word ns i 3) (m .least) (m .most)
+pub mark-kinds : {ns : List ℕ} (i : ℕ) → Marked ns i → (node-mark ns i ≡ 1) ⊎ ((node-mark ns i ≡ 2) ⊎ (node-mark ns i ≡ 3))
+mark-kinds {ns} i m = kinds (node-mark ns i) (m .least) (m .most)
   where
     kinds : (k : ℕ) → 1 ≤ k → k ≤ 3 → (k ≡ 1) ⊎ ((k ≡ 2) ⊎ (k ≡ 3))
     kinds zero h l = absurd (omega arith)
@@ -113,7 +113,7 @@ module _ {xs ns ts rs ws : List ℕ} {n t b r : ℕ} (known-text : Readable xs n
     -- one with parts
     module _ {kind : ℕ} (head : Headed ns i e kind) (two : 2 ≤ e - i) where
       size : ℕ
-      size = node-word ns i 1
+      size = node-size ns i
 
       least : 2 ≤ size
       unfolding size
@@ -132,33 +132,33 @@ module _ {xs ns ts rs ws : List ℕ} {n t b r : ℕ} (known-text : Readable xs n
           ⊎-elim
           (λ (z : kind ≡ 1).
           let k : kind-of ns i ≡ 1 = head .kind-is ∙ z in
-          said (alternative-coded known-text words i h (node-word ns i 1) refl limit k) (alternative-of i (node-word ns i 1) least most) (rw k))
+          said (alternative-coded known-text words i h (node-size ns i) refl limit k) (alternative-of i (node-size ns i) least most) (rw k))
           (λ (z : kind ≡ 2).
           let k : kind-of ns i ≡ 2 = head .kind-is ∙ z in
-          said (concatenation-coded known-text words i h (node-word ns i 1) refl limit k) (concatenation-of i (node-word ns i 1) least most) (rw k))
+          said (concatenation-coded known-text words i h (node-size ns i) refl limit k) (concatenation-of i (node-size ns i) least most) (rw k))
           w
 
       switch-says : kind-of ns i ≡ 4 → constructAt ws i ≡ meant xs ns rs r i
       unfolding meant size
-      switch-says k = said (switch-coded known-text words i h (node-word ns i 1) refl limit k) (switch-of i (node-word ns i 1) least most) (rw k)
+      switch-says k = said (switch-coded known-text words i h (node-size ns i) refl limit k) (switch-of i (node-size ns i) least most) (rw k)
 
       marked-says : kind-of ns i ≡ 3 → Marked ns i → constructAt ws i ≡ meant xs ns rs r i
       unfolding meant size
       marked-says k m =
-          said (marked-coded known-text words i h (node-word ns i 1) refl limit (node-word ns i 3) k refl (m .most) (marked-list ns n quiet i h k m))
-          (marked-of i (node-word ns i 1) least most (node-word ns i 3) (own-start ns i) (own-start ns i + own-length ns i) (mark-kinds i m))
+          said (marked-coded known-text words i h (node-size ns i) refl limit (node-mark ns i) k refl (m .most) (marked-list ns n quiet i h k m))
+          (marked-of i (node-size ns i) least most (node-mark ns i) (own-start ns i) (own-start ns i + own-length ns i) (mark-kinds i m))
           (rw k)
 
-      counted-says : kind-of ns i ≡ 3 → node-word ns i 3 ≡ 4 → 0 < own-length ns i → constructAt ws i ≡ meant xs ns rs r i
+      counted-says : kind-of ns i ≡ 3 → node-mark ns i ≡ 4 → 0 < own-length ns i → constructAt ws i ≡ meant xs ns rs r i
       unfolding meant size
       counted-says k w l =
-          said (counted-coded known-text words i h (node-word ns i 1) refl limit quiet k w l)
-          (counted-of i (node-word ns i 1) least most (own-start ns i) (own-start ns i + own-length ns i) (omega arith) (list-end known-text i h quiet))
+          said (counted-coded known-text words i h (node-size ns i) refl limit quiet k w l)
+          (counted-of i (node-size ns i) least most (own-start ns i) (own-start ns i + own-length ns i) (omega arith) (list-end known-text i h quiet))
           (rw (k, w))
 
     -- one without
     module _ {kind : ℕ} (head : Headed ns i e kind) (one : e ≡ i + 1) where
-      single : node-word ns i 1 ≡ 1
+      single : node-size ns i ≡ 1
       single = omega (arith, head .size-is)
 
       use-says : kind-of ns i ≡ 5 → NameAt xs (place-of ns i) → constructAt ws i ≡ meant xs ns rs r i
@@ -177,7 +177,7 @@ module _ {xs ns ts rs ws : List ℕ} {n t b r : ℕ} (known-text : Readable xs n
       unfolding meant
       range-says k =
           said (range-coded known-text words i h 1 single (omega arith) k)
-          (range-of i (getD (characters-at xs (place-of ns i)) 0 0) (getD (characters-at xs (node-word ns i 3)) 0 0) (character-small xs (place-of ns i) 0) (character-small xs (node-word ns i 3) 0))
+          (range-of i (getD (characters-at xs (place-of ns i)) 0 0) (getD (characters-at xs (last-place ns i)) 0 0) (character-small xs (place-of ns i) 0) (character-small xs (last-place ns i) 0))
           (rw k)
 
       uint-says : kind-of ns i ≡ 8 → 0 < own-length ns i → constructAt ws i ≡ meant xs ns rs r i

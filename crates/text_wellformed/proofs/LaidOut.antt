@@ -11,17 +11,18 @@ use Rattle.text_literals.specs.Literals.{characters-at}
 use Rattle.text_literals.proofs.Sizes.{character-small}
 use Rattle.table_layout.specs.Places.{construct-count}
 use Rattle.table_wellformed.specs.Laid.{construct-laid, placed, laid}
+use Rattle.text_wellformed.proofs.Tests.{from-to-all}
 use Rattle.text_shapes.specs.NodeShapes.{tree, Holds, literal-tree, range-tree, use-tree, eod-tree, uint-tree, marked-tree, counted-tree, chain-tree, switch-tree}
 use Rattle.text_shapes.specs.Stored.{Stored}
 use Rattle.text_shapes.specs.Placed.{Placed}
 use Rattle.text_names.specs.Counting.{nowhere}
-use Rattle.text_names.specs.Words.{term-word, kind-of, place-of, is-use}
+use Rattle.text_store.specs.Words.{kind-of, place-of, term-tag, term-at, is-use}
 use Rattle.text_encoding.specs.Numbers.{binders-before, condition-start}
 use Rattle.text_encoding.specs.Encoded.{encoded}
 use Rattle.text_wellformed.specs.Context.{Readable, Words, Quiet}
 use Rattle.text_wellformed.specs.Meant.{Known, Formed, NamedBack, BytesLaid}
 use Rattle.text_wellformed.proofs.EncodedWords.{encoded-words}
-use Rattle.text_wellformed.proofs.Passing.{both-pass, all-pass}
+use Rattle.text_wellformed.proofs.Passing.{both-pass}
 use Rattle.text_wellformed.proofs.HeaderLaid.{long-enough, rest-laid, header-laid}
 use Rattle.text_wellformed.proofs.ListsLaid.{lists-stand}
 use Rattle.text_wellformed.proofs.TermsLaid.{terms-stand}
@@ -64,7 +65,7 @@ module _ {xs ns ts rs : List ℕ} {n t b r : ℕ} (text : Readable xs ns ts rs n
   pub constructs-known : Known xs ns rs n r (encoded xs ns ts rs n r)
   constructs-known = known text words-by-place quiet
 
-  pub term-placed : (k : ℕ) → k < t → is-use (term-word ts k 0) ≡ true → term-word ts k 2 < nowhere
+  pub term-placed : (k : ℕ) → k < t → is-use (term-tag ts k) ≡ true → term-at ts k < nowhere
   term-placed k h u = omega (arith, places .terms k (omega (arith, text .terms-limit)) .0, text .short)
 
   formed : Formed ns n (encoded xs ns ts rs n r)
@@ -87,7 +88,7 @@ module _ {xs ns ts rs : List ℕ} {n t b r : ℕ} (text : Readable xs ns ts rs n
   all-placed =
       both-pass (both-pass (rest-laid words-by-place) (rules-are-laid text words-by-place quiet))
       (both-pass
-      (all-pass (construct-laid (encoded xs ns ts rs n r)) (construct-count (encoded xs ns ts rs n r)) 0 (λ i a l. construct-passes i (omega (arith, words-by-place .constructs-are))))
+      (from-to-all 0 (construct-count (encoded xs ns ts rs n r)) (construct-laid (encoded xs ns ts rs n r)) (λ i a l. construct-passes i (omega (arith, words-by-place .constructs-are))))
       (both-pass (lists-stand words-by-place constructs-known few-terms quiet) (terms-stand words-by-place (nodes text) quiet (text .numbers) (signs-of stored (text .terms-limit)))))
 
   pub laid-out : laid (encoded xs ns ts rs n r) ≡ true

@@ -12,8 +12,6 @@ pub mod Sums
 pub mod NodeFacts
 pub mod Totals
 pub mod Standing
-pub mod RuleFacts
-pub mod Uses
 pub mod Coding
 pub mod Known
 pub mod ConditionWords

@@ -12,16 +12,15 @@ use lib.ListN.{length, length-replicate}
 use Rattle.text_header.proofs.Tests.{which, picked}
 use Rattle.text_parsing.specs.Terminals.{sights-from}
 use Rattle.text_parsing.specs.Symbols.{rules}
-use Rattle.text_parsing.specs.Store.{State, state, nodes-of, terms-of, binders-of, rules-of, rule-words, counted, close-rule}
+use Rattle.text_store.specs.Store.{State, state, nodes-of, terms-of, binders-of, rules-of, rule-words, counted, close-rule, blank}
 use Rattle.text_parsing.specs.Form.{right, run}
 use Rattle.text_productions.specs.Phrases.{Phrases, nothing, then, no-rule, a-rule, ruled, terminal}
 use Rattle.text_productions.proofs.Derived.{derived}
-use Rattle.text_shapes.proofs.StoreLaws.{rule-at}
+use Rattle.text_store.proofs.StoreLaws.{rule-at}
 use Rattle.text_shapes.proofs.Growth.{phrases-grow}
-use Rattle.text_shapes.proofs.Shaped.{blank}
 use Rattle.text_shapes.proofs.Places.{placed}
 use Rattle.text_names.specs.Counting.{nowhere}
-use Rattle.text_names.specs.Words.{rule-word, named-at}
+use Rattle.text_store.specs.Words.{named-at, last-node, terms-at-end, binders-at-end}
 use Rattle.text_names.specs.Limits.{passed-in, refusal-5}
 use Rattle.text_wellformed.proofs.LeastLaws.{faults-clear}
 
@@ -30,9 +29,9 @@ use Rattle.text_wellformed.proofs.LeastLaws.{faults-clear}
 -- the last rule has the totals
 record Totals (st : State) : Type 0 where
   some : 1 ≤ rules-of st
-  nodes : rule-word (rule-words st) (rules-of st - 1) 2 ≡ nodes-of st
-  terms : rule-word (rule-words st) (rules-of st - 1) 3 ≡ terms-of st
-  binders : rule-word (rule-words st) (rules-of st - 1) 4 ≡ binders-of st
+  nodes : last-node (rule-words st) (rules-of st - 1) ≡ nodes-of st
+  terms : terms-at-end (rule-words st) (rules-of st - 1) ≡ terms-of st
+  binders : binders-at-end (rule-words st) (rules-of st - 1) ≡ binders-of st
 
 under : (limit n : ℕ) → counted limit n ≤ limit → n < limit
 under limit n = picked (λ (k : ℕ). k ≤ limit → n < limit) (leb n limit) (λ z h. omega arith) (λ z h. absurd (omega (arith, leb-false n limit z)))
@@ -68,19 +67,19 @@ either-second false b e = e
 
 record Within (rs : List ℕ) (k : ℕ) : Type 0 where
   rules : k < 64
-  nodes : rule-word rs k 2 ≤ 256
-  terms : rule-word rs k 3 ≤ 1024
-  binders : rule-word rs k 4 ≤ 64
+  nodes : last-node rs k ≤ 256
+  terms : terms-at-end rs k ≤ 1024
+  binders : binders-at-end rs k ≤ 64
 
 within : (rs : List ℕ) (k : ℕ) → passed-in rs k ≡ false → Within rs k
 within rs k e =
     let f = either-second (leb 64 k) _ e in
-    let g = either-second (ltb 256 (rule-word rs k 2)) _ f in
+    let g = either-second (ltb 256 (last-node rs k)) _ f in
     record {
       rules = leb-false 64 k (either-first (leb 64 k) _ e);
-      nodes = ltb-false 256 (rule-word rs k 2) (either-first (ltb 256 (rule-word rs k 2)) _ f);
-      terms = ltb-false 1024 (rule-word rs k 3) (either-first (ltb 1024 (rule-word rs k 3)) _ g);
-      binders = ltb-false 64 (rule-word rs k 4) (either-second (ltb 1024 (rule-word rs k 3)) _ g);
+      nodes = ltb-false 256 (last-node rs k) (either-first (ltb 256 (last-node rs k)) _ f);
+      terms = ltb-false 1024 (terms-at-end rs k) (either-first (ltb 1024 (terms-at-end rs k)) _ g);
+      binders = ltb-false 64 (binders-at-end rs k) (either-second (ltb 1024 (terms-at-end rs k)) _ g);
     }
 
 pub limits : (xs ns ts rs : List ℕ) (n t b r : ℕ) → run (sights-from xs 0) blank (rules false ∷ []) ≡ right (state ns ts rs n t b r) → length xs ≤ 8192 → refusal-5 rs r ≡ nowhere → (n ≤ 256) × (t ≤ 1024) × (b ≤ 64) × (r ≤ 64)

@@ -17,20 +17,20 @@ use Rattle.term_trees.specs.Postfix.{setTerms, conditionTerms}
 use Rattle.term_trees.proofs.Theorems.{set-formed, condition-formed as condition-tree-formed}
 use Rattle.table_layout.specs.Held
 use Rattle.table_layout.specs.Places.{construct-word}
+use Rattle.text_wellformed.proofs.Sums.{sum-below, total-last}
 use Rattle.text_shapes.specs.TermShapes.{SetShape, ConditionShape, CountsShape, renamed-set, renamed-condition, renamed-repeats}
 use Rattle.text_shapes.specs.NodeShapes.{tree, Holds, literal-tree, range-tree, use-tree, eod-tree, uint-tree, marked-tree, counted-tree, chain-tree, switch-tree}
 use Rattle.text_shapes.proofs.ShapeLaws.{set-renamed, condition-renamed, repeats-renamed}
 use Rattle.table_wellformed.specs.Lists.{formed, zero-values, list-formed, condition-formed}
 use Rattle.table_wellformed.specs.Lists
 use Rattle.text_names.specs.Counting.{nowhere}
-use Rattle.text_names.specs.Words.{node-word, term-word, kind-of, is-use}
+use Rattle.text_store.specs.Words.{kind-of, node-mark, own-from, own-end, condition-from, condition-end, term-tag, term-at, is-use}
 use Rattle.text_encoding.specs.Lists.{narrow}
 use Rattle.text_encoding.specs.Numbers
 use Rattle.text_encoding.specs.Numbers.{first-at, binders-before, lists-length, condition-length, own-length, condition-start, own-start}
 use Rattle.text_encoding.specs.Encoded.{start-word, end-word, operands}
 use Rattle.text_wellformed.specs.Context.{Readable, Words, Nodes, ConditionAt, without, with-one, TreeAt}
 use Rattle.text_wellformed.specs.Meant.{Formed}
-use Rattle.text_wellformed.proofs.Counting.{sum-mono, sum-next}
 use Rattle.text_wellformed.proofs.NoFaults.{Bound, bound-below, binders-mono, condition-use, own-use}
 use Rattle.text_wellformed.proofs.TermsKnown.{known-set, known-condition, known-repeats}
 use Rattle.text_wellformed.proofs.TermsListed.{Listed, cut-variable, terms-listed}
@@ -38,7 +38,7 @@ use Rattle.text_wellformed.proofs.CountsFormed.{counts-formed}
 
 -- ---- the list of a uint and of counts
 
-pub field-list : {xs ns ts : List ℕ} {i e f g β : ℕ} → Holds xs ns ts tree i e f g β → kind-of ns i ≡ 8 → SetShape ts (node-word ns i 5) (node-word ns i 6) × (node-word ns i 6 ≡ g)
+pub field-list : {xs ns ts : List ℕ} {i e f g β : ℕ} → Holds xs ns ts tree i e f g β → kind-of ns i ≡ 8 → SetShape ts (own-from ns i) (own-end ns i) × (own-end ns i ≡ g)
 field-list (literal-tree h a b c) k = absurd (omega (arith, h .kind-is))
 field-list (range-tree h a b c d) k = absurd (omega (arith, h .kind-is))
 field-list (use-tree h a b c) k = absurd (omega (arith, h .kind-is))
@@ -50,7 +50,7 @@ field-list (chain-tree h (inl z) a b t) k = absurd (omega (arith, h .kind-is))
 field-list (chain-tree h (inr z) a b t) k = absurd (omega (arith, h .kind-is))
 field-list (switch-tree h a t) k = absurd (omega (arith, h .kind-is))
 
-pub counts-list : {xs ns ts : List ℕ} {i e f g β : ℕ} → Holds xs ns ts tree i e f g β → kind-of ns i ≡ 3 → node-word ns i 3 ≡ 4 → CountsShape ts (node-word ns i 5) (node-word ns i 6) × (node-word ns i 6 ≡ g)
+pub counts-list : {xs ns ts : List ℕ} {i e f g β : ℕ} → Holds xs ns ts tree i e f g β → kind-of ns i ≡ 3 → node-mark ns i ≡ 4 → CountsShape ts (own-from ns i) (own-end ns i) × (own-end ns i ≡ g)
 counts-list (literal-tree h a b c) k w = absurd (omega (arith, h .kind-is))
 counts-list (range-tree h a b c d) k w = absurd (omega (arith, h .kind-is))
 counts-list (use-tree h a b c) k w = absurd (omega (arith, h .kind-is))
@@ -108,47 +108,47 @@ after-operands xs ns rs r i k rest p z =
 -- ---- all of them
 
 module _ {xs ns ts rs : List ℕ} {n t b r : ℕ} {ws : List ℕ} (W : Words xs ns ts rs n r ws) (N : Nodes xs ns ts n t) (R : Readable xs ns ts rs n t b r) (few-binders : binders-before ns n ≤ 64) (few-terms : condition-start ns n ≤ 1024)
-    (placed : (k : ℕ) → k < t → is-use (term-word ts k 0) ≡ true → term-word ts k 2 < nowhere) where
+    (placed : (k : ℕ) → k < t → is-use (term-tag ts k) ≡ true → term-at ts k < nowhere) where
   lists-fit : (i : ℕ) → i < n → own-start ns i + own-length ns i ≤ 1024
-  lists-fit i h = let l : i + 1 ≤ n = omega arith in omega (arith, sum-next (lists-length ns) i, sum-mono (lists-length ns) (i + 1) n l)
+  lists-fit i h = let l : i + 1 ≤ n = omega arith in omega (arith, total-last (lists-length ns) i, sum-below (lists-length ns) (i + 1) n l)
 
   small-variable : (i : ℕ) → i < n → (p : ℕ) → Bound xs ns (first-at rs r i) i p → binders-before ns (Numbers.binder-of xs ns (first-at rs r i) i p) < 64
   small-variable i h p x = let l : i ≤ n = omega arith in omega (arith, bound-below x, binders-mono ns i n l)
 
-  pub own-listed : (i : ℕ) → i < n → node-word ns i 6 ≤ t → Listed xs ns ts ws (first-at rs r i) i (own-start ns i) (node-word ns i 5) (own-length ns i)
+  pub own-listed : (i : ℕ) → i < n → own-end ns i ≤ t → Listed xs ns ts ws (first-at rs r i) i (own-start ns i) (own-from ns i) (own-length ns i)
   own-listed i h l =
       record {
         many = W .many;
         fits = lists-fit i h;
         at = λ m j a c. W .own-term i m j h a c;
-        numbers = λ m a. R .numbers (node-word ns i 5 + m) (omega arith);
-        small = λ m a e. small-variable i h (term-word ts (node-word ns i 5 + m) 2) (own-use R placed i h (node-word ns i 5 + m) (omega arith) e (omega arith) (omega arith));
+        numbers = λ m a. R .numbers (own-from ns i + m) (omega arith);
+        small = λ m a e. small-variable i h (term-at ts (own-from ns i + m)) (own-use R placed i h (own-from ns i + m) (omega arith) e (omega arith) (omega arith));
       }
 
-  pub condition-listed : (i : ℕ) → i < n → node-word ns i 9 ≤ t → Listed xs ns ts ws (first-at rs r i) i (condition-start ns i) (node-word ns i 8) (condition-length ns i)
+  pub condition-listed : (i : ℕ) → i < n → condition-end ns i ≤ t → Listed xs ns ts ws (first-at rs r i) i (condition-start ns i) (condition-from ns i) (condition-length ns i)
   condition-listed i h l =
       record {
         many = W .many;
         fits = omega (arith, lists-fit i h);
         at = λ m j a c. W .condition-term i m j h a c;
-        numbers = λ m a. R .numbers (node-word ns i 8 + m) (omega arith);
-        small = λ m a e. small-variable i h (term-word ts (node-word ns i 8 + m) 2) (condition-use R placed i h (node-word ns i 8 + m) (omega arith) e (omega arith) (omega arith));
+        numbers = λ m a. R .numbers (condition-from ns i + m) (omega arith);
+        small = λ m a e. small-variable i h (term-at ts (condition-from ns i + m)) (condition-use R placed i h (condition-from ns i + m) (omega arith) e (omega arith) (omega arith));
       }
 
   set-laid : (i : ℕ) → i < n → kind-of ns i ≡ 8 → list-formed Kind.Set ws (own-start ns i) (own-start ns i + own-length ns i) ≡ true
   set-laid i h k =
       let T : TreeAt xs ns ts n t i = N .trees i h
-      in let x : SetShape ts (node-word ns i 5) (node-word ns i 6) × (node-word ns i 6 ≡ T .last) = field-list (T .holds) k
-      in listed-set xs ns ts ws (first-at rs r i) i (own-start ns i) (node-word ns i 5) (node-word ns i 6) (own-listed i h (omega (arith, x .1, T .terms-within))) (x .0)
+      in let x : SetShape ts (own-from ns i) (own-end ns i) × (own-end ns i ≡ T .last) = field-list (T .holds) k
+      in listed-set xs ns ts ws (first-at rs r i) i (own-start ns i) (own-from ns i) (own-end ns i) (own-listed i h (omega (arith, x .1, T .terms-within))) (x .0)
 
-  counts-laid : (i : ℕ) → i < n → kind-of ns i ≡ 3 → node-word ns i 3 ≡ 4 → Lists.counts-formed ws (own-start ns i) (own-start ns i + own-length ns i) ≡ true
+  counts-laid : (i : ℕ) → i < n → kind-of ns i ≡ 3 → node-mark ns i ≡ 4 → Lists.counts-formed ws (own-start ns i) (own-start ns i + own-length ns i) ≡ true
   counts-laid i h k w =
       let T : TreeAt xs ns ts n t i = N .trees i h
-      in let x : CountsShape ts (node-word ns i 5) (node-word ns i 6) × (node-word ns i 6 ≡ T .last) = counts-list (T .holds) k w
-      in listed-counts xs ns ts ws (first-at rs r i) i (own-start ns i) (node-word ns i 5) (node-word ns i 6) (own-listed i h (omega (arith, x .1, T .terms-within))) (x .0)
+      in let x : CountsShape ts (own-from ns i) (own-end ns i) × (own-end ns i ≡ T .last) = counts-list (T .holds) k w
+      in listed-counts xs ns ts ws (first-at rs r i) i (own-start ns i) (own-from ns i) (own-end ns i) (own-listed i h (omega (arith, x .1, T .terms-within))) (x .0)
 
-  condition-from : (i : ℕ) → i < n → construct-word ws i 6 ≡ narrow (start-word (condition-start ns i) (condition-length ns i))
-  condition-from i h =
+  from-word : (i : ℕ) → i < n → construct-word ws i 6 ≡ narrow (start-word (condition-start ns i) (condition-length ns i))
+  from-word i h =
       W .construct-at i 6 h (omega arith) ∙ ap narrow (after-operands xs ns rs r i 0 (start-word (condition-start ns i) (condition-length ns i) ∷ end-word (condition-start ns i) (condition-length ns i) ∷ []) 4 refl)
 
   condition-to : (i : ℕ) → i < n → construct-word ws i 7 ≡ narrow (end-word (condition-start ns i) (condition-length ns i))
@@ -156,13 +156,13 @@ module _ {xs ns ts rs : List ℕ} {n t b r : ℕ} {ws : List ℕ} (W : Words xs 
       W .construct-at i 7 h (omega arith) ∙ ap narrow (after-operands xs ns rs r i 1 (start-word (condition-start ns i) (condition-length ns i) ∷ end-word (condition-start ns i) (condition-length ns i) ∷ []) 5 refl)
 
   pub no-condition : (i : ℕ) → i < n → condition-length ns i ≡ 0 → (construct-word ws i 6 ≡ 0) × (construct-word ws i 7 ≡ 0)
-  no-condition i h z = (rw (condition-from i h, z), rw (condition-to i h, z))
+  no-condition i h z = (rw (from-word i h, z), rw (condition-to i h, z))
 
   pub a-condition : (i : ℕ) → i < n → 0 < condition-length ns i → (construct-word ws i 6 ≡ condition-start ns i) × (construct-word ws i 7 ≡ condition-start ns i + condition-length ns i)
   a-condition i h p =
       let q : narrow (condition-start ns i) ≡ condition-start ns i = omega (arith, lists-fit i h)
       in let o : narrow (condition-start ns i + condition-length ns i) ≡ condition-start ns i + condition-length ns i = omega (arith, lists-fit i h)
-      in (rw (condition-from i h, lt-ltb 0 (condition-length ns i) p) q, rw (condition-to i h, lt-ltb 0 (condition-length ns i) p) o)
+      in (rw (from-word i h, lt-ltb 0 (condition-length ns i) p) q, rw (condition-to i h, lt-ltb 0 (condition-length ns i) p) o)
 
   condition-laid : (i : ℕ) → i < n → ConditionAt ns ts t i → condition-formed ws i ≡ true
   condition-laid i h (without u) =
@@ -171,7 +171,7 @@ module _ {xs ns ts rs : List ℕ} {n t b r : ℕ} {ws : List ℕ} (W : Words xs 
       let p : 0 < condition-length ns i = omega (arith, c .from-is, c .end-is, c .shape .some)
       in let z : (construct-word ws i 6 ≡ condition-start ns i) × (construct-word ws i 7 ≡ condition-start ns i + condition-length ns i) = a-condition i h p
       in rw (z .0, z .1, lt-ltb (condition-start ns i) (condition-start ns i + condition-length ns i) (omega arith))
-      (listed-condition xs ns ts ws (first-at rs r i) i (condition-start ns i) (node-word ns i 8) (node-word ns i 9) (condition-listed i h (omega (arith, c .end-is))) (rw (c .from-is, c .end-is) (c .shape)))
+      (listed-condition xs ns ts ws (first-at rs r i) i (condition-start ns i) (condition-from ns i) (condition-end ns i) (condition-listed i h (omega (arith, c .end-is))) (rw (c .from-is, c .end-is) (c .shape)))
 
   pub lists-formed : Formed ns n ws
   lists-formed = record { set = set-laid; counts = counts-laid; condition = λ i h. condition-laid i h (N .conditions i h) }

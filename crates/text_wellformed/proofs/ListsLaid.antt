@@ -17,14 +17,14 @@ use Rattle.table_layout.specs.Constructs.{constructAt}
 use Rattle.table_layout.specs.declared.Construct.{Construct}
 use Rattle.table_layout.specs.declared.Passes.{Passes}
 use Rattle.table_wellformed.specs.Lists.{own-start as list-start, own-end as list-end, counts-start, counts-end, begins, after, lists-begin, after-lists, lists-from, lists-laid}
-use Rattle.text_names.specs.Words.{node-word, kind-of}
+use Rattle.text_store.specs.Words.{kind-of, node-mark}
+use Rattle.text_encoding.proofs.Sizes.{operands-length}
 use Rattle.text_encoding.specs.Lists.{sum, narrow}
 use Rattle.text_encoding.specs.Numbers.{condition-length, own-length, lists-length, condition-start, own-start}
 use Rattle.text_encoding.specs.Encoded.{start-word, end-word, operands, construct-words}
 use Rattle.text_wellformed.specs.Context.{Words, Quiet}
 use Rattle.text_wellformed.specs.Meant.{passes-meant, meant, Known}
 use Rattle.text_wellformed.proofs.Areas.{sum-next, sum-part}
-use Rattle.text_wellformed.proofs.EncodedWords.{operands-length}
 use Rattle.text_wellformed.proofs.Passing.{both-pass}
 
 -- ---- a list of c terms from p on, with the words `start` and `end`
@@ -77,23 +77,23 @@ module _ {xs ns ts rs : List ℕ} {n r : ℕ} {ws : List ℕ} (w : Words xs ns t
         rw (from, to) (worded (condition-start ns i) (condition-length ns i))
 
     -- its own list, by the kind: other kinds than counted repetitions and uints have none
-    nothing-own : (kind-of ns i ≡ 8 → ⊥) → ((kind-of ns i ≡ 3) × (node-word ns i 3 ≡ 4) → ⊥) → Follows (own-start ns i) (own-length ns i) 0 0
+    nothing-own : (kind-of ns i ≡ 8 → ⊥) → ((kind-of ns i ≡ 3) × (node-mark ns i ≡ 4) → ⊥) → Follows (own-start ns i) (own-length ns i) 0 0
     nothing-own f g = absent (own-start ns i) (own-length ns i) (quiet i h f g)
 
     of-kind : (k : ℕ) → (k ≡ 8 → ⊥) → (k ≡ 3 → ⊥) → eqb (kind-of ns i) k ≡ true → Follows (own-start ns i) (own-length ns i) 0 0
     of-kind k f g e = let z : kind-of ns i ≡ k = eqb-true (kind-of ns i) k e in nothing-own (omega arith) (λ p. g (sym z ∙ p .0))
 
-    of-mark : (k : ℕ) → (k ≡ 4 → ⊥) → (kind-of ns i ≡ 8 → ⊥) → eqb (node-word ns i 3) k ≡ true → Follows (own-start ns i) (own-length ns i) 0 0
-    of-mark k f g e = let z : node-word ns i 3 ≡ k = eqb-true (node-word ns i 3) k e in nothing-own g (λ p. f (sym z ∙ p .1))
+    of-mark : (k : ℕ) → (k ≡ 4 → ⊥) → (kind-of ns i ≡ 8 → ⊥) → eqb (node-mark ns i) k ≡ true → Follows (own-start ns i) (own-length ns i) 0 0
+    of-mark k f g e = let z : node-mark ns i ≡ k = eqb-true (node-mark ns i) k e in nothing-own g (λ p. f (sym z ∙ p .1))
 
     abbrev Counts : Passes → Type 0
     Counts c = Follows (own-start ns i) (own-length ns i) (counts-start c) (counts-end c)
 
-    counts-follow : (kind-of ns i ≡ 8 → ⊥) → Counts (passes-meant (node-word ns i 3) (own-start ns i) (own-start ns i + own-length ns i))
+    counts-follow : (kind-of ns i ≡ 8 → ⊥) → Counts (passes-meant (node-mark ns i) (own-start ns i) (own-start ns i + own-length ns i))
     counts-follow g =
-        picked Counts (eqb (node-word ns i 3) 1) (of-mark 1 (omega arith) g) (λ n1.
-        picked Counts (eqb (node-word ns i 3) 2) (of-mark 2 (omega arith) g) (λ n2.
-        picked Counts (eqb (node-word ns i 3) 3) (of-mark 3 (omega arith) g) (λ n3. present (own-start ns i) (own-length ns i))))
+        picked Counts (eqb (node-mark ns i) 1) (of-mark 1 (omega arith) g) (λ n1.
+        picked Counts (eqb (node-mark ns i) 2) (of-mark 2 (omega arith) g) (λ n2.
+        picked Counts (eqb (node-mark ns i) 3) (of-mark 3 (omega arith) g) (λ n3. present (own-start ns i) (own-length ns i))))
 
     abbrev Own : Construct → Type 0
     Own c = Follows (own-start ns i) (own-length ns i) (list-start c) (list-end c)

@@ -9,7 +9,7 @@ use Rattle.table_layout.specs.Places.{rule-count}
 use Rattle.table_layout.specs.Constructs.{both}
 use Rattle.table_wellformed.specs.Rules.{binders-laid, uses-laid, names-laid}
 use Rattle.text_names.specs.Counting.{nowhere}
-use Rattle.text_names.specs.Words.{term-word, is-use}
+use Rattle.text_store.specs.Words.{term-tag, term-at, is-use}
 use Rattle.text_encoding.specs.Numbers.{binders-before, condition-start}
 use Rattle.text_wellformed.specs.Context.{Readable, Words, Nodes}
 use Rattle.text_wellformed.specs.Meant.{Known, NamedBack}
@@ -22,7 +22,7 @@ module _ {xs ns ts rs : List ℕ} {n t b r : ℕ} {ws : List ℕ} (W : Words xs 
   pub named-back-in : NamedBack ns n ws
   named-back-in = named-back-laid W R few-binders
 
-  pub names-laid-in : condition-start ns n ≤ 1024 → ((k : ℕ) → k < t → is-use (term-word ts k 0) ≡ true → term-word ts k 2 < nowhere) → names-laid ws ≡ true
+  pub names-laid-in : condition-start ns n ≤ 1024 → ((k : ℕ) → k < t → is-use (term-tag ts k) ≡ true → term-at ts k < nowhere) → names-laid ws ≡ true
   names-laid-in few-terms placed =
       from-to-all 0 (rule-count ws) (λ k. both (binders-laid ws k) (uses-laid ws k))
       (λ k l m. let h : k < r = omega (arith, W .rules-are) in rw (binders-laid-in W K N R few-binders k h) (uses-laid-in W K N R few-binders few-terms placed k h))

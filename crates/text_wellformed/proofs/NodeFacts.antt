@@ -6,7 +6,7 @@ use mathlib.Core.Logic.{⊎-elim}
 use mathlib.Core.List.{List}
 use native.Mathlib.Omega.{arith}
 use Rattle.text_shapes.specs.NodeShapes.{Headed, Unconditioned, Shape, tree, forest, cases, further, Holds, literal-tree, range-tree, use-tree, eod-tree, uint-tree, marked-tree, counted-tree, chain-tree, switch-tree, no-trees, more-trees, a-case, no-further, a-default, more-cases, Rules, no-rules, a-rule}
-use Rattle.text_names.specs.Words.{node-word}
+use Rattle.text_store.specs.Words.{node-size}
 use Rattle.text_wellformed.specs.Context.{Readable, TreeAt, ConditionAt, without, with-one, Nodes}
 use Rattle.text_wellformed.proofs.Sums.{side}
 
@@ -68,7 +68,7 @@ module _ {xs ns ts : List ℕ} where
   pub tree-below : {i e f g β : ℕ} → Holds xs ns ts tree i e f g β → i < e
   tree-below x = headed x .head .below
 
-  pub tree-size : {i e f g β : ℕ} → Holds xs ns ts tree i e f g β → node-word ns i 1 ≡ e - i
+  pub tree-size : {i e f g β : ℕ} → Holds xs ns ts tree i e f g β → node-size ns i ≡ e - i
   tree-size x = headed x .head .size-is
 
   -- trees that follow one another have nodes

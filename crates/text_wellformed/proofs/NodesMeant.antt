@@ -15,7 +15,7 @@ use Rattle.table_layout.specs.declared.Passes.{Passes}
 use Rattle.table_wellformed.specs.Lists
 use Rattle.table_wellformed.specs.Rules
 use Rattle.text_shapes.specs.NodeShapes.{tree, Holds, literal-tree, range-tree, use-tree, eod-tree, uint-tree, marked-tree, counted-tree, chain-tree, switch-tree}
-use Rattle.text_names.specs.Words.{node-word, kind-of, is-binder}
+use Rattle.text_store.specs.Words.{kind-of, node-size, node-mark, is-binder}
 use Rattle.text_encoding.specs.Numbers.{binders-before, own-length, own-start}
 use Rattle.text_wellformed.specs.Meant.{passes-meant, meant}
 
@@ -45,7 +45,7 @@ module _ (xs ns rs : List ℕ) (r i : ℕ) where
 -- a node's own list in the table: a uint's, that of counts, or none
 pub data OwnMeant (xs ns rs : List ℕ) (r i : ℕ) : Type 0 where
   of-field : kind-of ns i ≡ 8 → Lists.own-start (meant xs ns rs r i) ≡ own-start ns i → Lists.own-end (meant xs ns rs r i) ≡ own-start ns i + own-length ns i → OwnMeant xs ns rs r i
-  of-counts : kind-of ns i ≡ 3 → node-word ns i 3 ≡ 4 → Lists.own-start (meant xs ns rs r i) ≡ own-start ns i → Lists.own-end (meant xs ns rs r i) ≡ own-start ns i + own-length ns i → OwnMeant xs ns rs r i
+  of-counts : kind-of ns i ≡ 3 → node-mark ns i ≡ 4 → Lists.own-start (meant xs ns rs r i) ≡ own-start ns i → Lists.own-end (meant xs ns rs r i) ≡ own-start ns i + own-length ns i → OwnMeant xs ns rs r i
   of-none : Lists.own-start (meant xs ns rs r i) ≡ 0 → Lists.own-end (meant xs ns rs r i) ≡ 0 → OwnMeant xs ns rs r i
 
 abbrev Countless : Passes → Type 0
@@ -60,7 +60,7 @@ no-counts how s e l m =
 -- ---- trees
 
 module _ {xs ns ts : List ℕ} where
-  pub tree-size : {i e f g β : ℕ} → Holds xs ns ts tree i e f g β → node-word ns i 1 ≡ e - i
+  pub tree-size : {i e f g β : ℕ} → Holds xs ns ts tree i e f g β → node-size ns i ≡ e - i
   tree-size (literal-tree h a b c) = h .size-is
   tree-size (range-tree h a b c d) = h .size-is
   tree-size (use-tree h a b c) = h .size-is
@@ -92,7 +92,7 @@ module _ {xs ns ts : List ℕ} where
   own-meant rs r (eod-tree h a b) = of-none (rw (h .kind-is)) (rw (h .kind-is))
   own-meant rs r (uint-tree h a b c) = of-field (h .kind-is) (rw (h .kind-is)) (rw (h .kind-is))
   own-meant rs r (marked-tree {i = i} h a b c t) =
-      let z : Countless (passes-meant (node-word ns i 3) (own-start ns i) (own-start ns i + own-length ns i)) = no-counts (node-word ns i 3) (own-start ns i) (own-start ns i + own-length ns i) (b .least) (b .most)
+      let z : Countless (passes-meant (node-mark ns i) (own-start ns i) (own-start ns i + own-length ns i)) = no-counts (node-mark ns i) (own-start ns i) (own-start ns i + own-length ns i) (b .least) (b .most)
       in of-none (rw (h .kind-is) (z .0)) (rw (h .kind-is) (z .1))
   own-meant rs r (counted-tree h a b c t) = of-counts (h .kind-is) (b .how) (rw (h .kind-is, b .how)) (rw (h .kind-is, b .how))
   own-meant rs r (chain-tree h (inl z) a b t) = let k : kind-of ns _ ≡ 1 = h .kind-is ∙ z in of-none (rw k) (rw k)

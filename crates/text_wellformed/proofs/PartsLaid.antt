@@ -14,7 +14,7 @@ use Rattle.table_wellformed.specs.Checks.{either, size-at, walk}
 use Rattle.table_wellformed.specs.Parts.{part-laid, parts-laid, unconditioned, conditioned}
 use Rattle.table_wellformed.proofs.Walks.{one-step, at-once}
 use Rattle.text_shapes.specs.NodeShapes.{Unconditioned, Conditioned, tree, forest, cases, further, Holds, literal-tree, range-tree, use-tree, eod-tree, uint-tree, marked-tree, counted-tree, chain-tree, switch-tree, no-trees, more-trees, a-case, no-further, a-default, more-cases}
-use Rattle.text_names.specs.Words.{node-word, kind-of}
+use Rattle.text_store.specs.Words.{kind-of, node-size}
 use Rattle.text_wellformed.specs.Context.{Readable, Words, TreeAt, Quiet}
 use Rattle.text_wellformed.specs.Meant.{meant}
 use Rattle.text_wellformed.proofs.NodeFacts.{ordered, tree-below, tree-size, nodes}
@@ -104,7 +104,7 @@ module _ {xs ns ts rs ws : List ℕ} {n t b r : ℕ} (known-text : Readable xs n
       (λ fuel k. further-walks i h (omega (arith, tree-below x)) y fuel k) (e - i) (omega (arith, tree-below x, ordered y .nodes))
 
   -- any construct is as large as its node says
-  pub size-is : (i : ℕ) → i < n → size-at ws i ≡ node-word ns i 1
+  pub size-is : (i : ℕ) → i < n → size-at ws i ≡ node-size ns i
   size-is i h =
       let tree-at : TreeAt xs ns ts n t i = nodes known-text .trees i h in
       part-size (tree-at .holds) (tree-at .within) ∙ sym (tree-size (tree-at .holds))

@@ -13,7 +13,7 @@ use Rattle.text_header.proofs.Tests.{which}
 use Rattle.table_layout.specs.Places.{rule-word, variable-word}
 use Rattle.table_wellformed.specs.Rules.{body, rule-end}
 use Rattle.text_shapes.proofs.Moving.{extent}
-use Rattle.text_names.specs.Words.{is-binder, first-node, last-node}
+use Rattle.text_store.specs.Words.{is-binder, first-node, last-node}
 use Rattle.text_encoding.specs.Lists.{narrow}
 use Rattle.text_encoding.specs.Numbers.{binders-before, width-of}
 use Rattle.text_wellformed.specs.Context.{Readable, Words}

@@ -10,7 +10,7 @@ use lib.Dec.{ltb}
 use Rattle.text_header.proofs.Tests.{which}
 use Rattle.text_shapes.specs.NodeShapes.{NameAt, Unconditioned, tree, Holds, Rules, no-rules, a-rule}
 use Rattle.text_shapes.proofs.Moving.{extent}
-use Rattle.text_names.specs.Words.{named-at, first-node, last-node}
+use Rattle.text_store.specs.Words.{named-at, first-node, last-node}
 use Rattle.text_encoding.specs.Numbers.{first-at}
 use Rattle.text_wellformed.proofs.Counting.{here-or-after}
 
@@ -59,7 +59,7 @@ module _ {xs ns ts rs : List ℕ} {r n t b : ℕ} where
   rules-bound (no-rules a b c d) = (omega arith, omega arith)
   rules-bound (a-rule name w e v free holds rest) = (omega (arith, rules-bound rest .0), omega (arith, extent holds .0, rules-bound rest .1))
 
-  begins : {k i f u : ℕ} → Rules xs ns ts rs r n t b k i f u → k < r → first-node rs k ≡ i
+  pub begins : {k i f u : ℕ} → Rules xs ns ts rs r n t b k i f u → k < r → first-node rs k ≡ i
   begins (no-rules a b c d) h = absurd (omega arith)
   begins (a-rule name w e v free holds rest) h = w .first-is
 

@@ -6,7 +6,7 @@ use mathlib.Core.Logic.{inl, inr}
 use mathlib.Core.List.{List}
 use native.Mathlib.Omega.{arith}
 use Rattle.text_shapes.specs.Stored.{OwnList, of-field, of-counts, no-list, TermWords, a-number, a-use, a-sign, Stored}
-use Rattle.text_names.specs.Words.{term-word}
+use Rattle.text_store.specs.Words.{term-value}
 use Rattle.text_encoding.specs.Numbers.{own-length}
 use Rattle.text_wellformed.specs.Context.{Quiet}
 use Rattle.text_wellformed.proofs.TermsLaid.{Signs}
@@ -22,7 +22,7 @@ quiet-of {ns = ns} s h i l f c = from (s .lists i (omega arith))
 pub signs-of : {xs ns ts : List ℕ} {t : ℕ} → Stored xs ns ts → t ≤ 1024 → Signs ts t
 signs-of {xs} {ts = ts} s h k l a b c d = from (s .terms k (omega arith))
   where
-    from : TermWords xs ts k → term-word ts k 1 ≡ 0
+    from : TermWords xs ts k → term-value ts k ≡ 0
     from (a-number (inl e)) = absurd (a e)
     from (a-number (inr e)) = absurd (c e)
     from (a-use e z w) = z

@@ -15,21 +15,22 @@ use Rattle.table_layout.specs.Places.{word, term-count}
 use Rattle.table_layout.specs.Constructs.{both}
 use Rattle.table_wellformed.specs.Checks.{either, from-to}
 use Rattle.table_wellformed.specs.Lists.{has-low, term-laid}
+use Rattle.text_wellformed.proofs.Tests.{from-to-all}
 use Rattle.text_shapes.specs.NodeShapes.{tree, Holds, literal-tree, range-tree, use-tree, eod-tree, uint-tree, marked-tree, counted-tree, chain-tree, switch-tree}
-use Rattle.text_names.specs.Words.{node-word, term-word, kind-of, is-use}
+use Rattle.text_store.specs.Words.{kind-of, node-mark, own-from, condition-from, term-tag, term-value, term-at, is-use}
 use Rattle.text_encoding.specs.Lists.{narrow}
 use Rattle.text_encoding.specs.Numbers.{first-at, variable-of, condition-length, own-length, lists-length, condition-start, own-start}
 use Rattle.text_encoding.specs.Encoded.{term-words}
 use Rattle.text_wellformed.specs.Context.{Words, Nodes, ConditionAt, without, with-one, Quiet, QuietAt}
 use Rattle.text_wellformed.proofs.Areas.{find}
-use Rattle.text_wellformed.proofs.Passing.{both-pass, all-pass}
+use Rattle.text_wellformed.proofs.Passing.{both-pass}
 
 -- numbers are words of 32 bits, and a sign has no value
 abbrev pub Numbers : List ℕ → ℕ → Type 0
-Numbers ts t = (k : ℕ) → k < t → (term-word ts k 0 ≡ 1) ⊎ (term-word ts k 0 ≡ 33) → term-word ts k 1 < 4294967296
+Numbers ts t = (k : ℕ) → k < t → (term-tag ts k ≡ 1) ⊎ (term-tag ts k ≡ 33) → term-value ts k < 4294967296
 
 abbrev pub Signs : List ℕ → ℕ → Type 0
-Signs ts t = (k : ℕ) → k < t → (term-word ts k 0 ≡ 1 → ⊥) → (term-word ts k 0 ≡ 2 → ⊥) → (term-word ts k 0 ≡ 33 → ⊥) → (term-word ts k 0 ≡ 34 → ⊥) → term-word ts k 1 ≡ 0
+Signs ts t = (k : ℕ) → k < t → (term-tag ts k ≡ 1 → ⊥) → (term-tag ts k ≡ 2 → ⊥) → (term-tag ts k ≡ 33 → ⊥) → (term-tag ts k ≡ 34 → ⊥) → term-value ts k ≡ 0
 
 -- ---- the words of a term that was read
 
@@ -56,18 +57,18 @@ use-low tag u =
 
 module _ (xs ns ts : List ℕ) (t : ℕ) (numbers : Numbers ts t) (signs : Signs ts t) (a i k : ℕ) (h : k < t) where
   abbrev tag : ℕ
-  tag = term-word ts k 0
+  tag = term-tag ts k
 
   no-use : (m : ℕ) → is-use m ≡ true → is-use tag ≡ false → tag ≡ m → ⊥
   no-use m e f z = false≢true (sym f ∙ ap is-use z ∙ e)
 
   -- a number has no high word
-  number-passes : (m : ℕ) → (tag ≡ 1) ⊎ (tag ≡ 33) → tag ≡ m → has-low (narrow m) ≡ true → Passes (tag ∷ term-word ts k 1 ∷ term-word ts k 1 / 4294967296 ∷ [])
-  number-passes m o z e = low-passes tag (term-word ts k 1) (term-word ts k 1 / 4294967296) (rw z e) (omega (arith, numbers k h o))
+  number-passes : (m : ℕ) → (tag ≡ 1) ⊎ (tag ≡ 33) → tag ≡ m → has-low (narrow m) ≡ true → Passes (tag ∷ term-value ts k ∷ term-value ts k / 4294967296 ∷ [])
+  number-passes m o z e = low-passes tag (term-value ts k) (term-value ts k / 4294967296) (rw z e) (omega (arith, numbers k h o))
 
   term-passes : Passes (term-words xs ns ts a i k)
   term-passes =
-      picked Passes (is-use tag) (λ u. low-passes tag (variable-of xs ns a i (term-word ts k 2)) 0 (use-low tag u) refl)
+      picked Passes (is-use tag) (λ u. low-passes tag (variable-of xs ns a i (term-at ts k)) 0 (use-low tag u) refl)
       (λ u.
       elim (which (eqb tag 1)) [
         | inl e ↦ let z : tag ≡ 1 = eqb-true tag 1 e in number-passes 1 (inl z) z refl
@@ -75,30 +76,30 @@ module _ (xs ns ts : List ℕ) (t : ℕ) (numbers : Numbers ts t) (signs : Signs
             elim (which (eqb tag 33)) [
               | inl f ↦ let z : tag ≡ 33 = eqb-true tag 33 f in number-passes 33 (inr z) z refl
               | inr f ↦
-                  let none : term-word ts k 1 ≡ 0 = signs k h (eqb-false tag 1 e) (no-use 2 refl u) (eqb-false tag 33 f) (no-use 34 refl u) in
-                  zero-passes tag (term-word ts k 1) (term-word ts k 1 / 4294967296) none (omega arith)
+                  let none : term-value ts k ≡ 0 = signs k h (eqb-false tag 1 e) (no-use 2 refl u) (eqb-false tag 33 f) (no-use 34 refl u) in
+                  zero-passes tag (term-value ts k) (term-value ts k / 4294967296) none (omega arith)
             ]
       ])
 
 -- ---- the terms of a construct's lists are among those read
 
-condition-within : (ns ts : List ℕ) (t i m : ℕ) → ConditionAt ns ts t i → m < condition-length ns i → node-word ns i 8 + m < t
+condition-within : (ns ts : List ℕ) (t i m : ℕ) → ConditionAt ns ts t i → m < condition-length ns i → condition-from ns i + m < t
 condition-within ns ts t i m (without u) h = absurd (omega (arith, u .from-is, u .end-is))
 condition-within ns ts t i m (with-one c l) h = omega (arith, c .from-is, c .end-is)
 
 module _ (xs ns ts : List ℕ) (m : ℕ) where
   -- a kind without a list of its own
-  other : {g : ℕ} (i k : ℕ) → QuietAt ns i → kind-of ns i ≡ k → (k ≡ 8 → ⊥) → (k ≡ 3 → ⊥) → m < own-length ns i → node-word ns i 5 + m < g
+  other : {g : ℕ} (i k : ℕ) → QuietAt ns i → kind-of ns i ≡ k → (k ≡ 8 → ⊥) → (k ≡ 3 → ⊥) → m < own-length ns i → own-from ns i + m < g
   other i k quiet e f n h = absurd (omega (arith, quiet (omega arith) (λ p. n (sym e ∙ p .0))))
 
-  own-within : {i e f g β : ℕ} → Holds xs ns ts tree i e f g β → QuietAt ns i → m < own-length ns i → node-word ns i 5 + m < g
+  own-within : {i e f g β : ℕ} → Holds xs ns ts tree i e f g β → QuietAt ns i → m < own-length ns i → own-from ns i + m < g
   own-within {i} (literal-tree d _ _ _) quiet h = other i 6 quiet (d .kind-is) (omega arith) (omega arith) h
   own-within {i} (range-tree d _ _ _ _) quiet h = other i 7 quiet (d .kind-is) (omega arith) (omega arith) h
   own-within {i} (use-tree d _ _ _) quiet h = other i 5 quiet (d .kind-is) (omega arith) (omega arith) h
   own-within {i} (eod-tree d _ _) quiet h = other i 9 quiet (d .kind-is) (omega arith) (omega arith) h
   own-within (uint-tree d _ c _) quiet h = omega (arith, c .from-is, c .end-is)
   own-within {i} (marked-tree d _ c _ _) quiet h =
-      absurd (omega (arith, quiet (omega (arith, d .kind-is)) (λ (p : (kind-of ns i ≡ 3) × (node-word ns i 3 ≡ 4)). omega (arith, p .1, c .most))))
+      absurd (omega (arith, quiet (omega (arith, d .kind-is)) (λ (p : (kind-of ns i ≡ 3) × (node-mark ns i ≡ 4)). omega (arith, p .1, c .most))))
   own-within (counted-tree d _ c _ _) quiet h = omega (arith, c .from-is, c .end-is)
   own-within {i} (chain-tree d (inl z) _ _ _) quiet h = other i 1 quiet (d .kind-is ∙ z) (omega arith) (omega arith) h
   own-within {i} (chain-tree d (inr z) _ _ _) quiet h = other i 2 quiet (d .kind-is ∙ z) (omega arith) (omega arith) h
@@ -116,12 +117,12 @@ module _ {xs ns ts rs : List ℕ} {n r t : ℕ} {ws : List ℕ} (w : Words xs ns
 
   in-condition : (q i m : ℕ) → i < n → m < condition-length ns i → q ≡ condition-start ns i + m → term-laid ws q ≡ true
   in-condition q i m h l e =
-      copied q i (node-word ns i 8 + m) (condition-within ns ts t i m (nodes .conditions i h) l) (λ j o. rw e (w .condition-term i m j h l o))
+      copied q i (condition-from ns i + m) (condition-within ns ts t i m (nodes .conditions i h) l) (λ j o. rw e (w .condition-term i m j h l o))
 
   in-own : (q i m : ℕ) → i < n → m < own-length ns i → q ≡ own-start ns i + m → term-laid ws q ≡ true
   in-own q i m h l e =
       let at = nodes .trees i h in
-      copied q i (node-word ns i 5 + m) (omega (arith, own-within xs ns ts m (at .holds) (quiet i h) l, at .terms-within)) (λ j o. rw e (w .own-term i m j h l o))
+      copied q i (own-from ns i + m) (omega (arith, own-within xs ns ts m (at .holds) (quiet i h) l, at .terms-within)) (λ j o. rw e (w .own-term i m j h l o))
 
   term-stands : (q : ℕ) → q < term-count ws → term-laid ws q ≡ true
   term-stands q h =
@@ -137,4 +138,4 @@ module _ {xs ns ts rs : List ℕ} {n r t : ℕ} {ws : List ℕ} (w : Words xs ns
       ]
 
   pub terms-stand : from-to 0 (term-count ws) (term-laid ws) ≡ true
-  terms-stand = all-pass (term-laid ws) (term-count ws) 0 (λ q l h. term-stands q h)
+  terms-stand = from-to-all 0 (term-count ws) (term-laid ws) (λ q l h. term-stands q h)

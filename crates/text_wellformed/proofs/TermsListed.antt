@@ -3,7 +3,7 @@
 use Prim.Native.Nat.{ℕ, zero, suc, _+_, _*_, _-_, _/_, min, _≤_, _<_}
 use mathlib.Core.Path.{_≡_, refl, sym, ap, ap₂, subst, _∙_}
 use mathlib.Core.Logic.{_⊎_}
-use mathlib.Core.Bool.{true, cond}
+use mathlib.Core.Bool.{true}
 use mathlib.Core.List.{List, _∷_, map}
 use native.Mathlib.Omega.{arith}
 use borrow.Author.Tests.{lt-ltb}
@@ -14,7 +14,7 @@ use Rattle.term_words.specs.declared.Term.{Term}
 use Rattle.table_layout.specs.Places.{word}
 use Rattle.table_layout.specs.Held
 use Rattle.text_shapes.specs.TermShapes.{read-term, read-terms, rename-term}
-use Rattle.text_names.specs.Words.{term-word, is-use}
+use Rattle.text_store.specs.Words.{term-tag, term-value, term-at, is-use}
 use Rattle.text_encoding.specs.Lists.{narrow}
 use Rattle.text_encoding.specs.Numbers.{variable-of}
 use Rattle.text_encoding.specs.Encoded.{term-words}
@@ -41,19 +41,12 @@ pub record Listed (xs ns ts ws : List ℕ) (a i s f n : ℕ) : Type 0 where
   pub many : length ws ≡ 16384
   pub fits : s + n ≤ 1024
   pub at : (m j : ℕ) → m < n → j < 3 → word ws (2624 + 3 * (s + m) + j) ≡ narrow (getD (term-words xs ns ts a i (f + m)) j 0)
-  pub numbers : (m : ℕ) → m < n → (term-word ts (f + m) 0 ≡ 1) ⊎ (term-word ts (f + m) 0 ≡ 33) → term-word ts (f + m) 1 < 4294967296
-  pub small : (m : ℕ) → m < n → is-use (term-word ts (f + m) 0) ≡ true → variable-of xs ns a i (term-word ts (f + m) 2) < 64
+  pub numbers : (m : ℕ) → m < n → (term-tag ts (f + m) ≡ 1) ⊎ (term-tag ts (f + m) ≡ 33) → term-value ts (f + m) < 4294967296
+  pub small : (m : ℕ) → m < n → is-use (term-tag ts (f + m)) ≡ true → variable-of xs ns a i (term-at ts (f + m)) < 64
 
 -- the number of a variable, cut where a name is no variable's
 abbrev pub cut-variable : (xs ns : List ℕ) (a i p : ℕ) → ℕ
 cut-variable xs ns a i p = min 63 (variable-of xs ns a i p)
-
--- a term that was read, by its words
-abbrev pub by-words : List ℕ → ℕ → Term
-by-words ts q = termOf (term-word ts q 0) (cond (is-use (term-word ts q 0)) (term-word ts q 2) (term-word ts q 1)) 0
-
-pub read-by-words : (ts : List ℕ) (q : ℕ) → by-words ts q ≡ read-term ts q
-read-by-words ts q = let z : 4 * q + 0 ≡ 4 * q = omega arith in ap (λ (w : ℕ). termOf (getD ts w 0) (cond (is-use (getD ts w 0)) (term-word ts q 2) (term-word ts q 1)) 0) z
 
 pub known-at : (ts : List ℕ) (n f m : ℕ) → AllKnown (read-terms ts f n) → m < n → KnownTerm (read-term ts (f + m))
 unfolding read-terms
@@ -77,8 +70,8 @@ module _ {xs ns ts ws : List ℕ} {a i s f n : ℕ} (l : Listed xs ns ts ws a i 
     pub term-named : (m : ℕ) → m < n → KnownTerm (read-term ts (f + m)) → termAt (Held.term-words ws) (s + m) ≡ rename-term g (read-term ts (f + m))
     term-named m h k =
         table-term ws (l .many) (s + m) (omega (arith, l .fits))
-        ∙ rw (l .at m 0 h (omega arith), l .at m 1 h (omega arith), l .at m 2 h (omega arith), ← read-by-words ts (f + m))
-        (term-back g (is-use (term-word ts (f + m) 0)) (term-word ts (f + m) 0) (term-word ts (f + m) 1) (term-word ts (f + m) 2) (variable-of xs ns a i (term-word ts (f + m) 2)) refl (rw (read-by-words ts (f + m)) k) (l .numbers m h) (λ e. (same (term-word ts (f + m) 2) (l .small m h e), omega (arith, l .small m h e))))
+        ∙ rw (l .at m 0 h (omega arith), l .at m 1 h (omega arith), l .at m 2 h (omega arith))
+        (term-back g (is-use (term-tag ts (f + m))) (term-tag ts (f + m)) (term-value ts (f + m)) (term-at ts (f + m)) (variable-of xs ns a i (term-at ts (f + m))) refl k (l .numbers m h) (λ e. (same (term-at ts (f + m)) (l .small m h e), omega (arith, l .small m h e))))
 
     pub terms-named : AllKnown (read-terms ts f n) → terms (Held.term-words ws) s (s + n) ≡ map (rename-term g) (read-terms ts f n)
     terms-named k =

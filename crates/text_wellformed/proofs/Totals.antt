@@ -9,7 +9,7 @@ use native.Mathlib.Omega.{arith}
 use borrow.Author.Tests.{eqb-false}
 use lib.Dec.{eqb}
 use Rattle.text_shapes.specs.NodeShapes.{Unconditioned, Binds, Marked, Shape, tree, forest, cases, further, Holds, literal-tree, range-tree, use-tree, eod-tree, uint-tree, marked-tree, counted-tree, chain-tree, switch-tree, no-trees, more-trees, a-case, no-further, a-default, more-cases, Rules, no-rules, a-rule}
-use Rattle.text_names.specs.Words.{node-word, kind-of}
+use Rattle.text_store.specs.Words.{kind-of, how-bound}
 use Rattle.text_encoding.specs.Lists.{sum}
 use Rattle.text_encoding.specs.Numbers.{binds-one, binders-before, condition-length, own-length, lists-length, condition-start}
 use Rattle.text_wellformed.specs.Context.{Readable, Quiet}
@@ -24,8 +24,8 @@ module _ (ns : List ℕ) where
 
   a-binder : {xs : List ℕ} (i β : ℕ) → kind-of ns i ≡ 8 → Binds xs ns i β → binds-one ns i ≡ β
   a-binder i β k b =
-      ⊎-elim (λ (z : (node-word ns i 7 ≡ 0) × (β ≡ 0)). rw (k, z .0) (sym (z .1)))
-      (λ z. ⊎-elim (λ (w : node-word ns i 7 ≡ 1). rw (k, w) (sym (z .1))) (λ (w : node-word ns i 7 ≡ 2). rw (k, w) (sym (z .1))) (z .0))
+      ⊎-elim (λ (z : (how-bound ns i ≡ 0) × (β ≡ 0)). rw (k, z .0) (sym (z .1)))
+      (λ z. ⊎-elim (λ (w : how-bound ns i ≡ 1). rw (k, w) (sym (z .1))) (λ (w : how-bound ns i ≡ 2). rw (k, w) (sym (z .1))) (z .0))
       (b .how)
 
   -- a leaf, and a node before the nodes that it holds

@@ -17,7 +17,7 @@ use Rattle.table_wellformed.specs.Rules.{visible, operation-named, term-named, 
 use Rattle.table_wellformed.proofs.Decoded.{picked}
 use Rattle.text_shapes.specs.TermShapes.{SetShape, ConditionShape, CountsShape, read-terms, rename-operation, rename-term}
 use Rattle.text_names.specs.Counting.{nowhere}
-use Rattle.text_names.specs.Words.{node-word, term-word, is-use, first-node, last-node}
+use Rattle.text_store.specs.Words.{own-from, own-end, condition-from, condition-end, term-tag, term-value, term-at, is-use, first-node, last-node}
 use Rattle.text_encoding.specs.Numbers.{first-at, binders-before, binder-of, variable-of, condition-length, own-length, condition-start, own-start}
 use Rattle.text_wellformed.specs.Context.{Readable, Words, Nodes, ConditionAt, without, with-one, TreeAt}
 use Rattle.text_wellformed.specs.Meant.{meant, Known}
@@ -25,7 +25,7 @@ use Rattle.text_wellformed.proofs.Tests.{from-to-all}
 use Rattle.text_wellformed.proofs.RulesAt.{first-at-in}
 use Rattle.text_wellformed.proofs.NoFaults.{Bound, bound-below, bound-from, binders-mono, condition-use, own-use}
 use Rattle.text_wellformed.proofs.TermsKnown.{AllKnown, by-sign, known-set, known-condition, known-repeats}
-use Rattle.text_wellformed.proofs.TermsListed.{Listed, cut-variable, read-by-words, known-at, term-listed}
+use Rattle.text_wellformed.proofs.TermsListed.{Listed, cut-variable, known-at, term-listed}
 use Rattle.text_wellformed.proofs.ListsFormed.{field-list, counts-list, own-listed, condition-listed, no-condition, a-condition}
 use Rattle.text_wellformed.proofs.NodesMeant.{OwnMeant, of-field, of-counts, of-none, own-meant}
 use Rattle.text_wellformed.proofs.RuleWords.{rule, body-is, first-variable, nodes-end, variables-end, variable-names}
@@ -62,21 +62,21 @@ module _ (ws : List ℕ) (first last i : ℕ) (g : ℕ → ℕ) where
 
 -- ---- a list of the table
 
-list-is-named : {xs ns ts ws : List ℕ} {a i s f n : ℕ} (first last : ℕ) → Listed xs ns ts ws a i s f n → AllKnown (read-terms ts f n) → ((m : ℕ) → m < n → is-use (term-word ts (f + m) 0) ≡ true → visible ws first last i (cut-variable xs ns a i (term-word ts (f + m) 2)) ≡ true) → list-named ws first last i s (s + n) ≡ true
+list-is-named : {xs ns ts ws : List ℕ} {a i s f n : ℕ} (first last : ℕ) → Listed xs ns ts ws a i s f n → AllKnown (read-terms ts f n) → ((m : ℕ) → m < n → is-use (term-tag ts (f + m)) ≡ true → visible ws first last i (cut-variable xs ns a i (term-at ts (f + m))) ≡ true) → list-named ws first last i s (s + n) ≡ true
 list-is-named {xs} {ns} {ts} {ws} {a} {i} {s} {f} {n} first last l known seen =
     from-to-all s (s + n) (λ q. term-named ws first last i (termAt (Held.term-words ws) q))
     (λ q h k.
     let z : s + (q - s) ≡ q = omega arith
     in let m : q - s < n = omega arith
     in subst (λ (p : ℕ). term-named ws first last i (termAt (Held.term-words ws) p) ≡ true) z
-    (rw (term-listed l (q - s) m (known-at ts n f (q - s) known m), ← read-by-words ts (f + (q - s)))
-    (words-named ws first last i (cut-variable xs ns a i) (is-use (term-word ts (f + (q - s)) 0)) (term-word ts (f + (q - s)) 0) (term-word ts (f + (q - s)) 1) (term-word ts (f + (q - s)) 2) refl (seen (q - s) m))))
+    (rw (term-listed l (q - s) m (known-at ts n f (q - s) known m))
+    (words-named ws first last i (cut-variable xs ns a i) (is-use (term-tag ts (f + (q - s)))) (term-tag ts (f + (q - s))) (term-value ts (f + (q - s))) (term-at ts (f + (q - s))) refl (seen (q - s) m))))
 
 none-named : (ws : List ℕ) (first last i s e : ℕ) → e ≤ s → list-named ws first last i s e ≡ true
 none-named ws first last i s e h = from-to-all s e (λ q. term-named ws first last i (termAt (Held.term-words ws) q)) (λ q a c. absurd (omega arith))
 
 module _ {xs ns ts rs : List ℕ} {n t b r : ℕ} {ws : List ℕ} (W : Words xs ns ts rs n r ws) (K : Known xs ns rs n r ws) (N : Nodes xs ns ts n t) (R : Readable xs ns ts rs n t b r) (few-binders : binders-before ns n ≤ 64) (few-terms : condition-start ns n ≤ 1024)
-    (placed : (k : ℕ) → k < t → is-use (term-word ts k 0) ≡ true → term-word ts k 2 < nowhere) where
+    (placed : (k : ℕ) → k < t → is-use (term-tag ts k) ≡ true → term-at ts k < nowhere) where
   -- a binder's variable is visible from its rule's later constructs
   binder-visible : (a e i p : ℕ) → i < n → i ≤ e → Bound xs ns a i p → visible ws (binders-before ns a) (binders-before ns e) i (cut-variable xs ns a i p) ≡ true
   binder-visible a e i p h l x =
@@ -104,19 +104,19 @@ module _ {xs ns ts rs : List ℕ} {n t b r : ℕ} {ws : List ℕ} (W : Words xs 
         in let y : Bound xs ns (first-node rs k) i p = rw z at x
         in rw z (binder-visible (first-node rs k) (last-node rs k) i p within (omega arith) y)
 
-    own-list : node-word ns i 6 ≤ t → AllKnown (read-terms ts (node-word ns i 5) (own-length ns i)) → list-named ws first last i (own-start ns i) (own-start ns i + own-length ns i) ≡ true
+    own-list : own-end ns i ≤ t → AllKnown (read-terms ts (own-from ns i) (own-length ns i)) → list-named ws first last i (own-start ns i) (own-start ns i + own-length ns i) ≡ true
     own-list l known =
         list-is-named first last (own-listed W N R few-binders few-terms placed i within l) known
-        (λ m a e. bound-visible (term-word ts (node-word ns i 5 + m) 2) (own-use R placed i within (node-word ns i 5 + m) (omega arith) e (omega arith) (omega arith)))
+        (λ m a e. bound-visible (term-at ts (own-from ns i + m)) (own-use R placed i within (own-from ns i + m) (omega arith) e (omega arith) (omega arith)))
 
     own-named : OwnMeant xs ns rs r i → list-named ws first last i (Lists.own-start (meant xs ns rs r i)) (Lists.own-end (meant xs ns rs r i)) ≡ true
     own-named (of-field kind s e) =
         let T : TreeAt xs ns ts n t i = N .trees i within
-        in let x : SetShape ts (node-word ns i 5) (node-word ns i 6) × (node-word ns i 6 ≡ T .last) = field-list (T .holds) kind
+        in let x : SetShape ts (own-from ns i) (own-end ns i) × (own-end ns i ≡ T .last) = field-list (T .holds) kind
         in rw (s, e) (own-list (omega (arith, x .1, T .terms-within)) (rw (x .0 .is) (known-set (x .0 .tree))))
     own-named (of-counts kind how s e) =
         let T : TreeAt xs ns ts n t i = N .trees i within
-        in let x : CountsShape ts (node-word ns i 5) (node-word ns i 6) × (node-word ns i 6 ≡ T .last) = counts-list (T .holds) kind how
+        in let x : CountsShape ts (own-from ns i) (own-end ns i) × (own-end ns i ≡ T .last) = counts-list (T .holds) kind how
         in rw (s, e) (own-list (omega (arith, x .1, T .terms-within)) (rw (x .0 .is) (known-repeats (x .0 .tree))))
     own-named (of-none s e) = rw (s, e) (none-named ws first last i 0 0 (omega arith))
 
@@ -127,11 +127,11 @@ module _ {xs ns ts rs : List ℕ} {n t b r : ℕ} {ws : List ℕ} (W : Words xs 
     condition-named (with-one c l) =
         let p : 0 < condition-length ns i = omega (arith, c .from-is, c .end-is, c .shape .some)
         in let z : (construct-word ws i 6 ≡ condition-start ns i) × (construct-word ws i 7 ≡ condition-start ns i + condition-length ns i) = a-condition W N R few-binders few-terms placed i within p
-        in let x : ConditionShape ts (node-word ns i 8) (node-word ns i 9) = rw (c .from-is, c .end-is) (c .shape)
-        in let y : node-word ns i 9 ≤ t = omega (arith, c .end-is)
+        in let x : ConditionShape ts (condition-from ns i) (condition-end ns i) = rw (c .from-is, c .end-is) (c .shape)
+        in let y : condition-end ns i ≤ t = omega (arith, c .end-is)
         in rw (z .0, z .1)
         (list-is-named first last (condition-listed W N R few-binders few-terms placed i within y) (rw (x .is) (known-condition (x .tree)))
-        (λ m a e. bound-visible (term-word ts (node-word ns i 8 + m) 2) (condition-use R placed i within (node-word ns i 8 + m) (omega arith) e (omega arith) (omega arith))))
+        (λ m a e. bound-visible (term-at ts (condition-from ns i + m)) (condition-use R placed i within (condition-from ns i + m) (omega arith) e (omega arith) (omega arith))))
 
     construct-is-named : construct-named ws first last i ≡ true
     construct-is-named =

@@ -9,7 +9,7 @@ use lib.ListN.{length, getD}
 use Rattle.table_layout.specs.Places.{word}
 use Rattle.text_shapes.specs.NodeShapes.{Unconditioned, Conditioned, tree, Holds, Rules}
 use Rattle.text_names.specs.Counting.{nowhere}
-use Rattle.text_names.specs.Words.{node-word, term-word, kind-of, is-binder}
+use Rattle.text_store.specs.Words.{kind-of, node-mark, own-from, condition-from, is-binder, term-tag, term-value}
 use Rattle.text_names.specs.Names.{refusal-6}
 use Rattle.text_encoding.specs.Lists.{narrow}
 use Rattle.text_encoding.specs.Numbers.{first-at, binders-before, width-of, condition-length, own-length, condition-start, own-start}
@@ -29,7 +29,7 @@ pub record Readable (xs ns ts rs : List ℕ) (n t b r : ℕ) : Type 0 where
   pub short : length xs ≤ 8192
   pub named : refusal-6 xs ns ts rs r ≡ nowhere
   pub widths : (i : ℕ) → i < n → kind-of ns i ≡ 8 → (1 ≤ width-of xs ns i) × (width-of xs ns i ≤ 32)
-  pub numbers : (k : ℕ) → k < t → (term-word ts k 0 ≡ 1) ⊎ (term-word ts k 0 ≡ 33) → term-word ts k 1 < 4294967296
+  pub numbers : (k : ℕ) → k < t → (term-tag ts k ≡ 1) ⊎ (term-tag ts k ≡ 33) → term-value ts k < 4294967296
 
 -- the words by place
 pub record Words (xs ns ts rs : List ℕ) (n r : ℕ) (ws : List ℕ) : Type 0 where
@@ -47,8 +47,8 @@ pub record Words (xs ns ts rs : List ℕ) (n r : ℕ) (ws : List ℕ) : Type 0 w
   pub variables-rest : (k : ℕ) → 320 + 4 * binders-before ns n ≤ k → k < 576 → word ws k ≡ 0
   pub construct-at : (i j : ℕ) → i < n → j < 8 → word ws (576 + 8 * i + j) ≡ narrow (getD (construct-words xs ns rs r i) j 0)
   pub constructs-rest : (k : ℕ) → 576 + 8 * n ≤ k → k < 2624 → word ws k ≡ 0
-  pub condition-term : (i m j : ℕ) → i < n → m < condition-length ns i → j < 3 → word ws (2624 + 3 * (condition-start ns i + m) + j) ≡ narrow (getD (term-words xs ns ts (first-at rs r i) i (node-word ns i 8 + m)) j 0)
-  pub own-term : (i m j : ℕ) → i < n → m < own-length ns i → j < 3 → word ws (2624 + 3 * (own-start ns i + m) + j) ≡ narrow (getD (term-words xs ns ts (first-at rs r i) i (node-word ns i 5 + m)) j 0)
+  pub condition-term : (i m j : ℕ) → i < n → m < condition-length ns i → j < 3 → word ws (2624 + 3 * (condition-start ns i + m) + j) ≡ narrow (getD (term-words xs ns ts (first-at rs r i) i (condition-from ns i + m)) j 0)
+  pub own-term : (i m j : ℕ) → i < n → m < own-length ns i → j < 3 → word ws (2624 + 3 * (own-start ns i + m) + j) ≡ narrow (getD (term-words xs ns ts (first-at rs r i) i (own-from ns i + m)) j 0)
   pub terms-rest : (k : ℕ) → 2624 + 3 * condition-start ns n ≤ k → k < 5696 → word ws k ≡ 0
   pub literal-at : (i j : ℕ) → i < n → j < 8 → word ws (5696 + 8 * i + j) ≡ narrow (getD (literal-words xs ns i) j 0)
   pub literals-rest : (k : ℕ) → 5696 + 8 * n ≤ k → k < 16384 → word ws k ≡ 0
@@ -57,7 +57,7 @@ pub record Words (xs ns ts rs : List ℕ) (n r : ℕ) (ws : List ℕ) : Type 0 w
 
 -- a node other than a counted repetition or a uint has no list of its own
 abbrev pub QuietAt : List ℕ → ℕ → Type 0
-QuietAt ns i = (kind-of ns i ≡ 8 → ⊥) → ((kind-of ns i ≡ 3) × (node-word ns i 3 ≡ 4) → ⊥) → own-length ns i ≡ 0
+QuietAt ns i = (kind-of ns i ≡ 8 → ⊥) → ((kind-of ns i ≡ 3) × (node-mark ns i ≡ 4) → ⊥) → own-length ns i ≡ 0
 
 -- all of n nodes are so
 abbrev pub Quiet : List ℕ → ℕ → Type 0

@@ -15,7 +15,7 @@ use Rattle.table_wellformed.specs.Lists.{list-formed, counts-formed, condition-
 use Rattle.table_wellformed.specs.Rules.{named-back}
 use Rattle.table_wellformed.specs.Laid.{byte-laid, literal-length}
 use Rattle.text_literals.specs.Literals.{characters-at}
-use Rattle.text_names.specs.Words.{node-word, kind-of, place-of, is-binder}
+use Rattle.text_store.specs.Words.{kind-of, node-size, place-of, node-mark, last-place, is-binder}
 use Rattle.text_encoding.specs.Numbers.{rule-of, binders-before, width-of, own-length, own-start}
 
 -- `?`, `*`, `+`, or counts in braces: the terms from `start` up to `end`
@@ -25,13 +25,13 @@ passes-meant how start end = cond (eqb how 1) Passes.Optional (cond (eqb how 2) 
 -- by its kind, with names and lists as numbers
 unfoldable pub meant : (xs ns rs : List ℕ) → (r i : ℕ) → Construct
 meant xs ns rs r i =
-    cond (eqb (kind-of ns i) 1) (Construct.Alternative (node-word ns i 1))
-    (cond (eqb (kind-of ns i) 2) (Construct.Concatenation (node-word ns i 1))
-    (cond (eqb (kind-of ns i) 3) (Construct.Repetition (node-word ns i 1) (passes-meant (node-word ns i 3) (own-start ns i) (own-start ns i + own-length ns i)))
-    (cond (eqb (kind-of ns i) 4) (Construct.Switch (node-word ns i 1))
+    cond (eqb (kind-of ns i) 1) (Construct.Alternative (node-size ns i))
+    (cond (eqb (kind-of ns i) 2) (Construct.Concatenation (node-size ns i))
+    (cond (eqb (kind-of ns i) 3) (Construct.Repetition (node-size ns i) (passes-meant (node-mark ns i) (own-start ns i) (own-start ns i + own-length ns i)))
+    (cond (eqb (kind-of ns i) 4) (Construct.Switch (node-size ns i))
     (cond (eqb (kind-of ns i) 5) (Construct.Use (rule-of xs rs r (place-of ns i)))
     (cond (eqb (kind-of ns i) 6) (Construct.Literal (length (characters-at xs (place-of ns i))))
-    (cond (eqb (kind-of ns i) 7) (Construct.Range (getD (characters-at xs (place-of ns i)) 0 0) (getD (characters-at xs (node-word ns i 3)) 0 0))
+    (cond (eqb (kind-of ns i) 7) (Construct.Range (getD (characters-at xs (place-of ns i)) 0 0) (getD (characters-at xs (last-place ns i)) 0 0))
     (cond (eqb (kind-of ns i) 8) (Construct.Uint (width-of xs ns i) (own-start ns i) (own-start ns i + own-length ns i) (cond (is-binder ns i) (binders-before ns i + 1) 0))
     Construct.Eod)))))))
 
@@ -42,7 +42,7 @@ Known xs ns rs n r ws = (i : ℕ) → i < n → constructAt ws i ≡ meant xs ns
 -- each list of terms is well formed for its kind
 pub record Formed (ns : List ℕ) (n : ℕ) (ws : List ℕ) : Type 0 where
   pub set : (i : ℕ) → i < n → kind-of ns i ≡ 8 → list-formed Kind.Set ws (own-start ns i) (own-start ns i + own-length ns i) ≡ true
-  pub counts : (i : ℕ) → i < n → kind-of ns i ≡ 3 → node-word ns i 3 ≡ 4 → counts-formed ws (own-start ns i) (own-start ns i + own-length ns i) ≡ true
+  pub counts : (i : ℕ) → i < n → kind-of ns i ≡ 3 → node-mark ns i ≡ 4 → counts-formed ws (own-start ns i) (own-start ns i + own-length ns i) ≡ true
   pub condition : (i : ℕ) → i < n → condition-formed ws i ≡ true
 
 -- each binder's variable names it back

@@ -1,6 +1,6 @@
 use mathlib.Core.Path.{refl, sym, subst}
+use Rattle.text_store.specs.Store.{blank}
 use Rattle.text_parsing.specs.Cursors.{state-at}
-use Rattle.text_shapes.proofs.Shaped.{blank}
 use Rattle.admission.specs.Admitted.{AnsweredRules, by-form}
 use Rattle.admission.proofs.Facts.{basics}
 use Rattle.admission.proofs.Stages.{formed, not-formed, form-place}

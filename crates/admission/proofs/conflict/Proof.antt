@@ -8,7 +8,7 @@ use Rattle.admission.proofs.conflict.Tie as tie
 use Rattle.admission.proofs.conflict.Reads as reads
 use Rattle.admission.proofs.conflict.Lts as lts
 use Rattle.admission.proofs.placed.Reads as placed-reads
-use Rattle.text_names.proofs.words.node_word.Reads as node-word-reads
+use Rattle.text_store.proofs.words.node_word.Reads as node-word-reads
 
 -- src/lib.rt:67:29
 node-word-requires : tie.Need-node-word-requires

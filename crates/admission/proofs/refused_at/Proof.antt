@@ -8,7 +8,7 @@ use Rattle.admission.proofs.refused_at.Tie as tie
 use Rattle.admission.proofs.refused_at.Reads as reads
 use Rattle.admission.proofs.refused_at.Lts as lts
 use Rattle.admission.proofs.refused.Reads as refused-reads
-use Rattle.text_names.proofs.words.rule_word.Reads as rule-word-reads
+use Rattle.text_store.proofs.words.rule_word.Reads as rule-word-reads
 
 -- src/lib.rt:67:27
 rule-word-requires : tie.Need-rule-word-requires

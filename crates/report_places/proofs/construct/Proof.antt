@@ -1,7 +1,7 @@
 use Prim.Native.Nat.{ℕ, _+_}
 use mathlib.Core.Path.{ap, _∙_}
 use native.Mathlib.Omega.{arith}
-use Rattle.text_names.specs.Words.{place-of}
+use Rattle.text_store.specs.Words.{place-of}
 use Rattle.report_places.specs.declared.Located.{Located}
 use borrow.Author.Needs.{needs}
 use Rattle.report_places.proofs.construct.Statement.{statement}

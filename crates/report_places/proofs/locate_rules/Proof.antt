@@ -1,6 +1,6 @@
 use mathlib.Core.Path.{sym, ap, _∙_}
+use Rattle.text_store.specs.Store.{blank}
 use Rattle.text_parsing.specs.Cursors.{state-at}
-use Rattle.text_shapes.proofs.Shaped.{blank}
 use Rattle.admission.proofs.Facts.{Basics, basics, within}
 use Rattle.admission.proofs.Stages.{formed, not-formed}
 use Rattle.report_places.specs.Located.{located-in}

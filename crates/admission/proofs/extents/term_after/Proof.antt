@@ -1,8 +1,9 @@
 -- `admission::extents::term_after` meets its contract. Assumes nothing.
-use Prim.Native.Nat.{_+_, _*_, _-_, _≤_}
+use Prim.Native.Nat.{_+_, _-_}
 use mathlib.Core.Path.{sym}
 use native.Mathlib.Omega.{arith}
-use lib.ListN.{length, List·getD-eq-default}
+use Rattle.text_store.proofs.Numbers.{at-origin}
+use Rattle.text_store.proofs.StoreLaws.{term-none}
 use borrow.Author.Needs.{needs}
 use Rattle.admission.proofs.extents.term_after.Statement.{statement}
 use Rattle.admission.proofs.extents.term_after.Tie as tie
@@ -20,10 +21,10 @@ returns : tie.Need-returns
 returns c = simp (c .term-word .ensures, c .before .before .before .less .ensures)
 
 returns-2 : tie.Need-returns-2
-returns-2 c = let z : length (c .before .before .before .before .args .terms .now) ≤ 4 * (c .before .before .before .before .args .f + (c .before .before .before .before .args .at - c .before .before .before .before .args .start)) + 3 = omega arith in sym (List·getD-eq-default (c .before .before .before .before .args .terms .now) 0 z)
+returns-2 c = sym (term-none (c .before .before .before .before .args .terms .now) (c .before .before .before .before .args .f + (c .before .before .before .before .args .at - c .before .before .before .before .args .start)) at-origin (omega arith) (omega arith))
 
 returns-3 : tie.Need-returns-3
-returns-3 c = let z : length (c .before .before .before .args .terms .now) ≤ 4 * (c .before .before .before .args .f + (c .before .before .before .args .at - c .before .before .before .args .start)) + 3 = omega arith in sym (List·getD-eq-default (c .before .before .before .args .terms .now) 0 z)
+returns-3 c = sym (term-none (c .before .before .before .args .terms .now) (c .before .before .before .args .f + (c .before .before .before .args .at - c .before .before .before .args .start)) at-origin (omega arith) (omega arith))
 
 pub term-after-spec : {M : Type 1} → statement M
 term-after-spec =

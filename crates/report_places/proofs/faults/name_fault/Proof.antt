@@ -1,5 +1,5 @@
 use mathlib.Core.Path.{sym, _∙_}
-use Rattle.text_names.specs.Words.{named-at}
+use Rattle.text_store.specs.Words.{named-at}
 use Rattle.report_places.specs.Faults.{fault-in}
 use borrow.Author.Tests.{eq-eqb, ne-eqb, lt-ltb, le-ltb}
 use borrow.Author.Needs.{needs}

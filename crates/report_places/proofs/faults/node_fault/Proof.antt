@@ -1,5 +1,5 @@
 use mathlib.Core.Path.{sym, _∙_}
-use Rattle.text_names.specs.Words.{kind-of}
+use Rattle.text_store.specs.Words.{kind-of}
 use Rattle.report_places.specs.Faults.{node-fault}
 use borrow.Author.Tests.{eq-eqb, ne-eqb}
 use borrow.Author.Needs.{needs}

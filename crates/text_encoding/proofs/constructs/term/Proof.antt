@@ -1,5 +1,4 @@
 use borrow.Author.Needs.{needs}
-use Rattle.text_names.specs.Words.{term-word}
 use Rattle.text_encoding.proofs.constructs.term.Statement.{statement}
 use Rattle.text_encoding.proofs.constructs.term.Tie as tie
 

@@ -2,7 +2,7 @@ use Prim.Native.Nat.{ℕ, _-_}
 use mathlib.Core.Path.{refl, ap, _∙_}
 use native.Mathlib.Omega.{arith}
 use borrow.Author.Needs.{needs}
-use Rattle.text_names.specs.Words.{named-at}
+use Rattle.text_store.specs.Words.{named-at}
 use Rattle.text_names.specs.Names.{same-name}
 use Rattle.text_encoding.proofs.Writing.{one-less}
 use Rattle.text_encoding.proofs.Sums.{Seeking, seeking-start, seeking-hit, seeking-miss, seeking-end}

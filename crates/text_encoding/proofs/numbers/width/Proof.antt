@@ -2,7 +2,7 @@ use Prim.Native.Nat.{_≤_}
 use native.Mathlib.Omega.{arith}
 use borrow.Author.Needs.{needs}
 use lib.ListN.{length}
-use Rattle.text_names.specs.Words.{node-word}
+use Rattle.text_store.specs.Words.{width-place}
 use Rattle.text_encoding.proofs.Past.{number-past}
 use Rattle.text_encoding.proofs.numbers.width.Statement.{statement}
 use Rattle.text_encoding.proofs.numbers.width.Tie as tie
@@ -20,7 +20,7 @@ returns : tie.Need-returns
 returns c = simp (c .min .ensures, c .before .number-at .ensures, c .before .before .before .node-word .ensures)
 
 returns-2 : tie.Need-returns-2
-returns-2 c = let h : length (c .before .before .before .before .args .text .now) ≤ node-word (c .before .before .before .before .args .nodes .now) (c .before .before .before .before .args .i) 3 = omega arith in simp (number-past (c .before .before .before .before .args .text .now) (node-word (c .before .before .before .before .args .nodes .now) (c .before .before .before .before .args .i) 3) h)
+returns-2 c = let h : length (c .before .before .before .before .args .text .now) ≤ width-place (c .before .before .before .before .args .nodes .now) (c .before .before .before .before .args .i) = omega arith in simp (number-past (c .before .before .before .before .args .text .now) (width-place (c .before .before .before .before .args .nodes .now) (c .before .before .before .before .args .i)) h)
 
 pub width-spec : {M : Type 1} → statement M
 width-spec =

@@ -6,7 +6,7 @@ use Rattle.text_formulas.proofs.sets.item_tail.Reads as reads
 use Rattle.text_formulas.proofs.sets.item_tail.Lts as lts
 use Rattle.text_formulas.proofs.sets.bound.Reads as bound-reads
 use Rattle.text_parsing.proofs.reading.passed.Reads as passed-reads
-use Rattle.text_parsing.proofs.words.mark_single.Reads as mark-single-reads
+use Rattle.text_store.proofs.stores.mark_single.Reads as mark-single-reads
 
 -- src/sets.rt:37:28
 passed-requires : tie.Need-passed-requires

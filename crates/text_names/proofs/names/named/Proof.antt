@@ -3,7 +3,7 @@ use mathlib.Core.Path.{ap, _∙_}
 use native.Mathlib.Omega.{arith}
 use borrow.Author.Needs.{needs}
 use Rattle.text_names.specs.Names.{same-name}
-use Rattle.text_names.specs.Words.{named-at}
+use Rattle.text_store.specs.Words.{named-at}
 use Rattle.text_names.proofs.Loops.{NoneYet, any-start, any-hit, any-miss, any-end}
 use Rattle.text_names.proofs.names.named.Statement.{statement}
 use Rattle.text_names.proofs.names.named.Tie as tie

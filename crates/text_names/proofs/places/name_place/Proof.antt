@@ -3,7 +3,7 @@ use mathlib.Core.Bool.{true, false}
 use borrow.Author.Tests.{eq-eqb, ne-eqb}
 use borrow.Author.Needs.{needs}
 use lib.Dec.{eqb}
-use Rattle.text_names.specs.Words.{kind-of}
+use Rattle.text_store.specs.Words.{kind-of}
 use Rattle.text_names.proofs.places.name_place.Statement.{statement}
 use Rattle.text_names.proofs.places.name_place.Tie as tie
 

@@ -3,8 +3,8 @@ use Rattle.text_parsing.proofs.words.add_term.Statement.{statement}
 use Rattle.text_parsing.proofs.words.add_term.Tie as tie
 use Rattle.text_parsing.proofs.words.add_term.Reads as reads
 use Rattle.text_parsing.proofs.words.add_term.Lts as lts
-use Rattle.text_parsing.proofs.words.counted.Reads as counted-reads
-use Rattle.text_parsing.proofs.words.put_term.Reads as put-term-reads
+use Rattle.text_store.proofs.stores.counted.Reads as counted-reads
+use Rattle.text_store.proofs.stores.put_term.Reads as put-term-reads
 
 -- src/words.rt:51:5
 put-term-requires : tie.Need-put-term-requires

@@ -3,7 +3,7 @@ use Rattle.text_parsing.proofs.words.bind.Statement.{statement}
 use Rattle.text_parsing.proofs.words.bind.Tie as tie
 use Rattle.text_parsing.proofs.words.bind.Reads as reads
 use Rattle.text_parsing.proofs.words.bind.Lts as lts
-use Rattle.text_parsing.proofs.words.counted.Reads as counted-reads
+use Rattle.text_store.proofs.stores.counted.Reads as counted-reads
 
 -- src/words.rt:221:18
 counted-requires : tie.Need-counted-requires

@@ -3,8 +3,8 @@ use Rattle.text_parsing.proofs.words.close_rule.Statement.{statement}
 use Rattle.text_parsing.proofs.words.close_rule.Tie as tie
 use Rattle.text_parsing.proofs.words.close_rule.Reads as reads
 use Rattle.text_parsing.proofs.words.close_rule.Lts as lts
-use Rattle.text_parsing.proofs.words.counted.Reads as counted-reads
-use Rattle.text_parsing.proofs.words.put_rule.Reads as put-rule-reads
+use Rattle.text_store.proofs.stores.counted.Reads as counted-reads
+use Rattle.text_store.proofs.stores.put_rule.Reads as put-rule-reads
 
 -- src/words.rt:251:5
 put-rule-requires : tie.Need-put-rule-requires

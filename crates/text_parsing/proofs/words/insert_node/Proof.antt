@@ -4,9 +4,9 @@ use Rattle.text_parsing.proofs.words.insert_node.Statement.{statement}
 use Rattle.text_parsing.proofs.words.insert_node.Tie as tie
 use Rattle.text_parsing.proofs.words.insert_node.Reads as reads
 use Rattle.text_parsing.proofs.words.insert_node.Lts as lts
-use Rattle.text_parsing.proofs.words.counted.Reads as counted-reads
-use Rattle.text_parsing.proofs.words.less.Reads as less-reads
-use Rattle.text_parsing.proofs.words.put_node.Reads as put-node-reads
+use Rattle.text_store.proofs.stores.counted.Reads as counted-reads
+use Rattle.text_store.proofs.stores.less.Reads as less-reads
+use Rattle.text_store.proofs.stores.put_node.Reads as put-node-reads
 
 -- src/words.rt:186:9
 counted-requires : tie.Need-counted-requires

@@ -5,7 +5,7 @@ use Rattle.text_syntax.proofs.expressions.case_end.Tie as tie
 use Rattle.text_syntax.proofs.expressions.case_end.Reads as reads
 use Rattle.text_syntax.proofs.expressions.case_end.Lts as lts
 use Rattle.text_parsing.proofs.reading.want.Reads as want-reads
-use Rattle.text_parsing.proofs.words.put_condition.Reads as put-condition-reads
+use Rattle.text_store.proofs.stores.put_condition.Reads as put-condition-reads
 
 -- src/expressions.rt:113:5
 put-condition-requires : tie.Need-put-condition-requires
