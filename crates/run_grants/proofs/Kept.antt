@@ -13,7 +13,7 @@ use Rattle.basis.specs.Limits.{table-words}
 use Rattle.table_layout.specs.Constructs.{pick}
 use Rattle.run_actions.specs.Acts.{bits-of}
 use Rattle.run_steps.specs.Steps.{Whole, whole, verdict-after, step-of, steps-of, Fits}
-use Rattle.run_steps.proofs.Running.{step-fits}
+use Rattle.run_steps.proofs.Running.{steps-fit}
 use Rattle.run_steps.specs.declared.Head.{Head}
 use Rattle.run_grants.specs.Runs.{head-of, whole-of, entries-fit}
 use Rattle.run_grants.specs.Composing.{fits, FittingKept}
@@ -54,11 +54,6 @@ module _ (ws fs : List ℕ) (most : ℕ) where
   steps-roomy zero w f = f
   steps-roomy (suc n) w f = steps-roomy n (step-of ws fs w) (step-roomy w f)
 
-  pub steps-fit : (n : ℕ) (w : Whole) → Fits fs w → Fits fs (steps-of ws fs n w)
-  unfolding steps-of
-  steps-fit zero w f = f
-  steps-fit (suc n) w f = steps-fit n (step-of ws fs w) (step-fits ws fs w f)
-
 -- what fits, taken apart and put together
 module _ (ws fs : List ℕ) where
   fitting-known : (cs ps : List ℕ) (vs : List ℤ) (rs : List ℕ) (h : Head) → fits ws fs (whole cs ps vs rs h) ≡ true → entries-fit ws (bits-of fs) cs ps (h .count) ≡ true
@@ -78,5 +73,5 @@ fitting-kept ws fs rs run n lengths e =
     let w : Whole = whole-of rs run in
     let r = fitting-rest ws fs (length rs) cs ps h e in
     let f = fitting-fits ws fs cs ps (run .values) rs h (lengths .0) (lengths .1) e in
-    put-together ws fs (length rs) (steps-of ws fs n w) (f .0) (steps-fit ws fs (length rs) n w (f .1)) (steps-roomy ws fs (length rs) n w (r .verdict, refl, r .roomy))
+    put-together ws fs (length rs) (steps-of ws fs n w) (f .0) (steps-fit ws fs n w (f .1)) (steps-roomy ws fs (length rs) n w (r .verdict, refl, r .roomy))
     (steps-entries ws fs n w (f .1) (entries-each ws fs cs ps (run .count) (fitting-known ws fs cs ps (run .values) rs h e)))

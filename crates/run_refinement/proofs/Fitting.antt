@@ -25,7 +25,7 @@ use Rattle.run_refinement.specs.Runs.{HeldRun, pending, recorded, state-
 use Rattle.run_refinement.proofs.Pending.{recorded-length}
 use Rattle.run_refinement.proofs.Picks.{Unbroken}
 use Rattle.run_refinement.proofs.Verdicts.{step-few}
-use Rattle.run_refinement.proofs.Grants.{steps-fit, steps-last}
+use Rattle.run_steps.proofs.Running.{steps-fit, steps-last}
 use Rattle.run_refinement.proofs.Readings.{steps-record}
 use Rattle.run_refinement.proofs.Reliable.{Reliable}
 use Rattle.run_refinement.proofs.Safety.{InTable}

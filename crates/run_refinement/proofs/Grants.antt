@@ -14,26 +14,9 @@ use Rattle.run_refinement.proofs.Picks.{Unbroken}
 use Rattle.run_refinement.proofs.Step.{step-agrees}
 
 module _ (ws fs : List ℕ) where
-  pub steps-fit : (n : ℕ) (w : Whole) → Fits fs w → Fits fs (steps-of ws fs n w)
-  unfolding steps-of
-  steps-fit zero w f = f
-  steps-fit (suc n) w f = steps-fit n (step-of ws fs w) (step-fits ws fs w f)
-
   -- a broken run stays broken
   pub steps-unbroken : (n : ℕ) (w : Whole) → Unbroken (steps-of ws fs n w) → Unbroken w
   steps-unbroken n (whole cs ps vs rs h) u e = u (ap (λ (x : Whole). head-of x .verdict) (steps-stay ws fs n cs ps vs rs h (λ z. omega arith)) ∙ e)
-
-  -- one step more, at the end
-  pub steps-last : (n : ℕ) (w : Whole) → steps-of ws fs (suc n) w ≡ step-of ws fs (steps-of ws fs n w)
-  unfolding steps-of
-  steps-last zero w = refl
-  steps-last (suc n) w = steps-last n (step-of ws fs w)
-
-  -- one grant after another
-  pub steps-sum : (m n : ℕ) (w : Whole) → steps-of ws fs (m + n) w ≡ steps-of ws fs n (steps-of ws fs m w)
-  unfolding steps-of
-  steps-sum zero n w = ap (λ (k : ℕ). steps-of ws fs k w) (let z : 0 + n ≡ n = omega arith in z)
-  steps-sum (suc m) n w = ap (λ (k : ℕ). steps-of ws fs k w) (let z : suc m + n ≡ suc (m + n) = omega arith in z) ∙ steps-sum m n (step-of ws fs w)
 
   pub steps-agree : (n : ℕ) (w : Whole) → Fits fs w → Unbroken (steps-of ws fs n w) → run-of fs (steps-of ws fs n w) ≡ granted (held ws) (tests-of ws) n (run-of fs w)
   unfolding steps-of granted

@@ -26,7 +26,8 @@ use Rattle.run_steps.specs.declared.Head.{Head}
 use Rattle.run_steps.proofs.Running.{step-stays}
 use Rattle.run_refinement.specs.Runs.{HeldRun, pending, recorded, verdict-as, reading-of, run-of}
 use Rattle.run_refinement.proofs.Picks.{Unbroken}
-use Rattle.run_refinement.proofs.Grants.{steps-fit, steps-last, steps-agree}
+use Rattle.run_steps.proofs.Running.{steps-fit, steps-last}
+use Rattle.run_refinement.proofs.Grants.{steps-agree}
 use Rattle.run_refinement.proofs.Readings.{steps-record}
 use Rattle.run_refinement.proofs.Step.{step-agrees}
 use Rattle.run_refinement.proofs.Reliable.{Reliable}

@@ -19,7 +19,7 @@ use Rattle.run_steps.specs.declared.Head.{Head}
 use Rattle.run_steps.proofs.Running.{step-by}
 use Rattle.run_refinement.specs.Runs.{recorded, words-of, head-of, reading-of}
 use Rattle.run_refinement.proofs.Picks.{either-way}
-use Rattle.run_refinement.proofs.Grants.{steps-fit}
+use Rattle.run_steps.proofs.Running.{steps-fit}
 
 -- from one run to a later one: fields are added, those recorded stay, and past the new ones the words stay
 pub record Recorded (w w′ : Whole) : Type 0 where

@@ -139,3 +139,21 @@ module _ (ws fs : List ℕ) where
   unfolding steps-of
   steps-none zero w e = refl
   steps-none (suc m) w e = absurd (omega arith)
+
+  -- what fits fits after every step
+  pub steps-fit : (n : ℕ) (w : Whole) → Fits fs w → Fits fs (steps-of ws fs n w)
+  unfolding steps-of
+  steps-fit zero w f = f
+  steps-fit (suc n) w f = steps-fit n (step-of ws fs w) (step-fits w f)
+
+  -- one step more, at the end
+  pub steps-last : (n : ℕ) (w : Whole) → steps-of ws fs (suc n) w ≡ step-of ws fs (steps-of ws fs n w)
+  unfolding steps-of
+  steps-last zero w = refl
+  steps-last (suc n) w = steps-last n (step-of ws fs w)
+
+  -- one grant after another
+  pub steps-sum : (m n : ℕ) (w : Whole) → steps-of ws fs (m + n) w ≡ steps-of ws fs n (steps-of ws fs m w)
+  unfolding steps-of
+  steps-sum zero n w = ap (λ (k : ℕ). steps-of ws fs k w) (let z : 0 + n ≡ n = omega arith in z)
+  steps-sum (suc m) n w = ap (λ (k : ℕ). steps-of ws fs k w) (let z : suc m + n ≡ suc (m + n) = omega arith in z) ∙ steps-sum m n (step-of ws fs w)

@@ -19,7 +19,7 @@ use Rattle.theory.specs.Derivation.{construct, members}
 use Rattle.theory.specs.Lookahead.{First, Follow, Continues, Conflict}
 use Rattle.theory.specs.Hypotheses.{Hypotheses}
 use Rattle.theory.specs.Machine.{Tests}
-use Rattle.theory.specs.Sheet.{one-of}
+use Rattle.theory.proofs.Sheet.Samples.{one-of}
 use Rattle.theory.specs.Weight.{weigh, sum}
 use Rattle.theory.proofs.Inversion.{First-of, FirstBy, first-by, Keeps, follow-least}
 use Rattle.theory.proofs.Sheet.Sets.{Exactly, only-one, decides, apart, apart-true}

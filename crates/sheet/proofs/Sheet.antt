@@ -9,7 +9,7 @@ use Rattle.basis.specs.Counts.{exactly}
 use Rattle.theory.specs.Derivation.{Capture}
 use Rattle.theory.specs.Hypotheses.{Hypotheses}
 use Rattle.theory.specs.Machine.{Tests, opened, granted}
-use Rattle.theory.specs.Sheet.{one-of}
+use Rattle.theory.proofs.Sheet.Samples.{one-of}
 use Rattle.run_refinement.specs.Runs.{words-of}
 use Rattle.sheet.specs.Sheet.{K6, Verdict, Says, Each, rows}
 use Rattle.sheet.proofs.Computing.{grammar}

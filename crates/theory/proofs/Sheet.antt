@@ -1,5 +1,6 @@
 -- The theory is not vacuous: the bench sheet's grammars meet its hypotheses, and the machine gives the sheet's answers.
 -- Assumes nothing.
+pub mod Samples
 mod Numbers
 mod Nodes
 pub mod Sets
@@ -18,7 +19,7 @@ use lib.IntN.{ℤ, pos, _-ℤ_}
 use Rattle.basis.specs.Bits.{append-digits, value, frameBits}
 use Rattle.basis.specs.Counts.{exactly}
 use Rattle.theory.specs.Weight.{weigh, sum, largest}
-use Rattle.theory.specs.Sheet.{Variables, any, only, range, variable, equals, first-true, bodies, Sample, grammar-of, scope-of, weight-in, counted, as-many, ones, one-less, tagged, letter-A, letter-B, lettered, Meets, Answer, answer, Line, line, answered, expected-of, Says, lines, result}
+use Rattle.theory.proofs.Sheet.Samples.{Variables, any, only, range, variable, equals, first-true, bodies, Sample, grammar-of, scope-of, weight-in, counted, as-many, ones, one-less, tagged, letter-A, letter-B, lettered, Meets, Answer, answer, Line, line, answered, expected-of, Says, lines, result}
 use Rattle.basis.specs.Bits.{same}
 use Rattle.theory.specs.Machine.{state, Verdict, undecided, matched, unmatched, Run, run, verdict-of, opened, granted}
 use Rattle.theory.specs.Derivation.{Capture}

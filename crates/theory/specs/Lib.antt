@@ -6,4 +6,3 @@ pub mod Weight
 pub mod Scope
 pub mod Hypotheses
 pub mod Theorems
-pub mod Sheet

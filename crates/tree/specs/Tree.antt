@@ -1,7 +1,7 @@
 -- The syntax tree of a text's rules: document 01's "The grammar text we accept", a constructor for each form. Precedence is in the types: a summand is a
 -- product, a member a factor. d is how many parentheses and switch brackets are open.
 -- Assumes nothing.
-use Prim.Native.Nat.{ℕ, suc, _<_}
+use Prim.Native.Nat.{ℕ, _+_, _<_}
 use mathlib.Core.Path.{_≡_}
 use mathlib.Core.Bool.{false}
 use mathlib.Core.List.{List, [], _∷_}
@@ -54,7 +54,7 @@ pub data Choices : SetPart → ℕ → Type 0 where
   item : {d : ℕ} → Item → Choices choice d
   item-but-item : {d : ℕ} → Item → Sign → Item → Choices choice d
   -- item, `!`, `(`, set, `)`
-  item-but-set : {d : ℕ} → d < 16 → Item → Sign → Sign → Choices whole (suc d) → Sign → Choices choice d
+  item-but-set : {d : ℕ} → d < 16 → Item → Sign → Sign → Choices whole (d + 1) → Sign → Choices choice d
   last-choice : {d : ℕ} → Choices choice d → Choices whole d
   or-choices : {d : ℕ} → Choices choice d → Sign → Choices whole d → Choices whole d
 
@@ -88,7 +88,7 @@ pub data TestPart : Type 0 where
 
 pub data Tests : TestPart → ℕ → Type 0 where
   compare : {d : ℕ} → Calculation → Comparison → Sign → Calculation → Tests test d
-  test-group : {d : ℕ} → d < 16 → Sign → Tests tests (suc d) → Sign → Tests test d
+  test-group : {d : ℕ} → d < 16 → Sign → Tests tests (d + 1) → Sign → Tests test d
   one-test : {d : ℕ} → Tests test d → Tests tests d
   all-of : {d : ℕ} → Tests test d → Sign → Tests conjuncts d → Tests tests d
   any-of : {d : ℕ} → Tests test d → Sign → Tests disjuncts d → Tests tests d
@@ -131,16 +131,16 @@ pub data Tree : Part → ℕ → Type 0 where
   literal : {d : ℕ} → Literal → Tree atom d
   range : {d : ℕ} (first : Literal) → Sign → (last : Literal) → Single first → Single last → Tree atom d
   -- "uint(width, set)": the word, `(`, width, `,`, set, `)`
-  field : {d : ℕ} → d < 16 → Sign → Sign → Number → Sign → ValueSet (suc d) → Sign → Tree atom d
+  field : {d : ℕ} → d < 16 → Sign → Sign → Number → Sign → ValueSet (d + 1) → Sign → Tree atom d
   -- "uint(width, var(name, set))": the word, `(`, width, `,`, the word, `(`, name, `,`, set, `)`, `)`
-  binder : {d : ℕ} → suc d < 16 → Sign → Sign → Number → Sign → Sign → Sign → Name → Sign → ValueSet (suc (suc d)) → Sign → Sign → Tree atom d
+  binder : {d : ℕ} → d + 1 < 16 → Sign → Sign → Number → Sign → Sign → Sign → Name → Sign → ValueSet (d + 1 + 1) → Sign → Sign → Tree atom d
   -- "a rule's name"; "eod"
   rule-use : {d : ℕ} (name : Name) → is-same eod-word (name .letters) ≡ false → Tree atom d
   eod : {d : ℕ} → Sign → Tree atom d
   -- "Parentheses group"
-  group : {d : ℕ} → d < 16 → Sign → Tree expression (suc d) → Sign → Tree atom d
+  group : {d : ℕ} → d < 16 → Sign → Tree expression (d + 1) → Sign → Tree atom d
   -- "a switch `[condition: expression; ... : expression;]`, the default last and optional"
-  switch : {d : ℕ} → d < 16 → Sign → Tree cases (suc d) → Sign → Tree atom d
+  switch : {d : ℕ} → d < 16 → Sign → Tree cases (d + 1) → Sign → Tree atom d
   -- condition, `:`, expression, `;`, and further cases or the default
   last-case : {d : ℕ} → Condition d → Sign → Tree expression d → Sign → Tree cases d
   case-default : {d : ℕ} → Condition d → Sign → Tree expression d → Sign → Sign → Tree expression d → Sign → Tree cases d

@@ -8,7 +8,7 @@ use Rattle.basis.specs.Bits.{Bits}
 use Rattle.basis.specs.Lookahead.{join}
 use Rattle.theory.specs.Derivation.{members}
 use Rattle.theory.specs.Lookahead.{First, Follow}
-use Rattle.theory.specs.Sheet.{SheetGrammar, numbered, nothing, opening-use, Sample, grammar-of}
+use Rattle.theory.proofs.Sheet.Samples.{SheetGrammar, numbered, nothing, opening-use, Sample, grammar-of}
 use Rattle.theory.proofs.Inversion.{first-by, Keeps, follow-least}
 use Rattle.theory.proofs.Sheet.Numbers.{Listed, each}
 

@@ -14,7 +14,7 @@ use Rattle.basis.proofs.Joins.{join-empty-right}
 use Rattle.theory.specs.Grammar.{alternative, _∈_}
 use Rattle.theory.specs.Derivation.{passes}
 use Rattle.theory.specs.Lookahead.{First, Follow, Predicted, Continues}
-use Rattle.theory.specs.Sheet.{SheetGrammar, literal, starred, grammar-of, letter-A, letter-B, lettered-tests, lettered}
+use Rattle.theory.proofs.Sheet.Samples.{SheetGrammar, literal, starred, grammar-of, letter-A, letter-B, lettered-tests, lettered}
 use Rattle.theory.proofs.Inversion.{First-of, first-by}
 use Rattle.theory.proofs.NodeLaws.{Law}
 use Rattle.theory.proofs.Sheet.Numbers.{_and_}

@@ -20,7 +20,7 @@ use Rattle.theory.specs.Machine.{Tests}
 use Rattle.theory.specs.Scope.{Agree, Chain}
 use Rattle.theory.specs.Hypotheses.{Hypotheses}
 use Rattle.theory.specs.Weight.{weigh}
-use Rattle.theory.specs.Sheet.{store, Variables, SheetNode, SheetGrammar, uint, uint-var, repeated, starred, switch-on, one-of, Case, equals, first-true, bodies, nothing, opening-use, Sample, grammar-of, scope-of, weight-in, Meets}
+use Rattle.theory.proofs.Sheet.Samples.{store, Variables, SheetNode, SheetGrammar, uint, uint-var, repeated, starred, switch-on, one-of, Case, equals, first-true, bodies, nothing, opening-use, Sample, grammar-of, scope-of, weight-in, Meets}
 use Rattle.theory.proofs.Turns.{decide}
 use Rattle.theory.proofs.Inversion.{First-of, FirstBy, first-by, BindsBy, binds-by}
 use Rattle.theory.proofs.NodeLaws.{Law, hypotheses}

@@ -9,7 +9,7 @@ use mathlib.Core.List.{List, [], _∷_, map}
 use lib.Dec.{eqb, ltb}
 use lib.ListN.{length, getD, List·getD-eq-default, List·getD-map}
 use Rattle.theory.specs.Weight.{largest, weigh, Weighs}
-use Rattle.theory.specs.Sheet.{SheetNode, opening-number, numbered, nothing, opening-use, Sample, grammar-of, weight-in}
+use Rattle.theory.proofs.Sheet.Samples.{SheetNode, opening-number, numbered, nothing, opening-use, Sample, grammar-of, weight-in}
 use Rattle.theory.proofs.Turns.{decide}
 
 -- P of each element of a list, with its number

@@ -10,7 +10,7 @@ use Rattle.basis.specs.Lookahead.{join}
 use Rattle.theory.specs.Grammar.{Grammar}
 use Rattle.theory.specs.Derivation.{members}
 use Rattle.theory.specs.Lookahead.{First, Follow, Continues}
-use Rattle.theory.specs.Sheet.{SheetGrammar, starred, grammar-of, ones-tests, ones}
+use Rattle.theory.proofs.Sheet.Samples.{SheetGrammar, starred, grammar-of, ones-tests, ones}
 use Rattle.theory.proofs.Inversion.{First-of, first-by}
 use Rattle.theory.proofs.NodeLaws.{Law}
 use Rattle.theory.proofs.Sheet.Numbers.{_and_}

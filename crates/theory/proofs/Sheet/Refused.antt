@@ -12,7 +12,7 @@ use Rattle.theory.specs.Lookahead.{First, Follow, Predicted, Conflict, E
 use Rattle.theory.specs.Machine.{Tests}
 use Rattle.theory.specs.Hypotheses.{Hypotheses}
 use Rattle.theory.specs.Weight.{weigh, sum, Weighs}
-use Rattle.theory.specs.Sheet.{literal, grammar-from, ambiguous, empty-repeated, cyclic}
+use Rattle.theory.proofs.Sheet.Samples.{literal, grammar-from, ambiguous, empty-repeated, cyclic}
 use Rattle.theory.proofs.Sheet.Sets.{of-two, Exactly, literal-first, predicted-full}
 use Rattle.theory.proofs.Sheet.Follows.{end-follows-body}
 

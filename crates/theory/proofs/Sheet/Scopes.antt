@@ -15,7 +15,7 @@ use Rattle.basis.specs.Counts.{Counts}
 use Rattle.theory.specs.Grammar.{alternative, concatenation, repetition, switch, use-of, field, eod, _∈_}
 use Rattle.theory.specs.Hypotheses.{Hypotheses}
 use Rattle.theory.specs.Scope.{Scope, Agree, Chain, Scoped, MayBind, Lexical}
-use Rattle.theory.specs.Sheet.{store, Variables, SheetNode, SheetGrammar, bind, uint-var, nothing, opening-use, Sample, grammar-of, scope-of, fresh}
+use Rattle.theory.proofs.Sheet.Samples.{store, Variables, SheetNode, SheetGrammar, bind, uint-var, nothing, opening-use, Sample, grammar-of, scope-of, fresh}
 use Rattle.theory.proofs.Turns.{decide}
 use Rattle.theory.proofs.Sheet.Numbers.{Listed, each, numbered-neither}
 

@@ -16,7 +16,7 @@ use Rattle.basis.proofs.Strings.{same-refl, same-true}
 use Rattle.theory.specs.Grammar.{alternative, field, Grammar, _∈_}
 use Rattle.theory.specs.Derivation.{construct, passes}
 use Rattle.theory.specs.Lookahead.{First, Follow, Predicted, Continues}
-use Rattle.theory.specs.Sheet.{SheetNode, SheetGrammar, uint, only, one-of}
+use Rattle.theory.proofs.Sheet.Samples.{SheetNode, SheetGrammar, uint, only, one-of}
 use Rattle.basis.specs.Bits.{same}
 use Rattle.theory.proofs.Turns.{decide}
 use Rattle.theory.proofs.Completeness.{not-both}

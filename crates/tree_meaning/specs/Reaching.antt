@@ -1,0 +1,43 @@
+-- Refusal 7: "rule reaches itself", at the "first such rule". Every written use counts.
+-- Assumes nothing.
+use Prim.Native.Nat.{ℕ, _≤_}
+use mathlib.Core.Path.{_≡_}
+use mathlib.Core.List.{List, [], _∷_, List·Memᴰ}
+use Rattle.tree.specs.Tree.{Rule, Rules}
+use Rattle.tree_meaning.specs.Pieces.{Piece, use-of-rule, width, formula, binding, rules-of, rule-name, rule-pieces}
+
+-- the names of rules that are used, each by its letters
+unfoldable pub used-in : List Piece → List (List ℕ)
+used-in [] = []
+used-in (use-of-rule x ∷ more) = x .letters ∷ used-in more
+used-in (width n ∷ more) = used-in more
+used-in (formula f ∷ more) = used-in more
+used-in (binding x n placed ∷ more) = used-in more
+
+-- a rule of the one name has a use of the other
+pub record Uses (t : Rules) (x y : List ℕ) : Type 0 where
+  pub by : Rule
+  pub there : List·Memᴰ by (rules-of t)
+  pub named : rule-name by .letters ≡ x
+  pub used : List·Memᴰ y (used-in (rule-pieces by))
+
+-- it uses it, or a rule that reaches it
+pub data Reaches (t : Rules) : List ℕ → List ℕ → Type 0 where
+  directly : {x y : List ℕ} → Uses t x y → Reaches t x y
+  through : {x y z : List ℕ} → Uses t x y → Reaches t y z → Reaches t x z
+
+-- a rule with its name at p reaches itself
+pub record RecursiveAt (t : Rules) (p : ℕ) : Type 0 where
+  pub itself : Rule
+  pub there : List·Memᴰ itself (rules-of t)
+  pub place : rule-name itself .start ≡ p
+  pub reaches : Reaches t (rule-name itself .letters) (rule-name itself .letters)
+
+-- the first that does
+pub record Refusal7 (t : Rules) (p : ℕ) : Type 0 where
+  pub recursive : RecursiveAt t p
+  pub first : (q : ℕ) → RecursiveAt t q → p ≤ q
+
+-- none does
+abbrev pub Acyclic : Rules → Type 0
+Acyclic t = (p : ℕ) → RecursiveAt t p → ⊥

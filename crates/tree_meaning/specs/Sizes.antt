@@ -1,0 +1,115 @@
+-- Refusal 8: "number or width outside its limits, or a calculation, or part of one, whose size may pass 2^62 (variables at their widest, sizes added and
+-- multiplied)", at the "number or calculation".
+-- Assumes nothing.
+use Prim.Native.Nat.{ℕ, _+_, _*_, _-_, _^_, max}
+use mathlib.Core.Bool.{Bool, cond, not, _&&_}
+use mathlib.Core.List.{List, [], _∷_, _++_}
+use mathlib.Core.Option.{Option}
+use lib.Dec.{leb, ltb}
+use Rattle.text_tokens.specs.Names.{is-same}
+use Rattle.tree.specs.Lexemes.{Number, Lexeme, place-of}
+use Rattle.tree.specs.Tree.{Primary, number, variable, Operand, plain, opposite, Factors, no-factor, times, Product, product, Summands, no-summand, plus, minus, Calculation, sum, Rule, Rules}
+use Rattle.tree.specs.Spelling.{spell-calculation}
+use Rattle.tree_meaning.specs.Pieces.{Term, a-number, a-use, a-sign, Component, whole-number, joined-by, terms-of, Piece, use-of-rule, width, formula, binding, rules-of, rule-pieces}
+use Rattle.tree_meaning.specs.Least.{place-if, least}
+
+-- ---- sizes, with the size of each variable by its letters; a minus changes none
+
+module _ (widest : List ℕ → ℕ) where
+  abbrev pub primary-size : Primary → ℕ
+  primary-size (number n) = n .value
+  primary-size (variable x) = widest (x .letters)
+
+  abbrev pub operand-size : Operand → ℕ
+  operand-size (plain x) = primary-size x
+  operand-size (opposite s x) = primary-size x
+
+  -- "sizes multiplied": n and the factors that follow it
+  unfoldable pub times-size : ℕ → Factors → ℕ
+  times-size n no-factor = n
+  times-size n (times s x more) = times-size (n * operand-size x) more
+
+  abbrev pub product-size : Product → ℕ
+  product-size (product x more) = times-size (operand-size x) more
+
+  -- "sizes added"
+  unfoldable pub sum-size : ℕ → Summands → ℕ
+  sum-size n no-summand = n
+  sum-size n (plus s x more) = sum-size (n + product-size x) more
+  sum-size n (minus s x more) = sum-size (n + product-size x) more
+
+  abbrev pub calculation-size : Calculation → ℕ
+  calculation-size (sum x more) = sum-size (product-size x) more
+
+  -- ---- "or part of one": the largest of its size and those of its parts, from the left
+
+  unfoldable pub times-largest : ℕ → Factors → ℕ
+  times-largest n no-factor = n
+  times-largest n (times s x more) = max n (max (operand-size x) (times-largest (n * operand-size x) more))
+
+  abbrev pub product-largest : Product → ℕ
+  product-largest (product x more) = times-largest (operand-size x) more
+
+  unfoldable pub sum-largest : ℕ → Summands → ℕ
+  sum-largest n no-summand = n
+  sum-largest n (plus s x more) = max n (max (product-largest x) (sum-largest (n + product-size x) more))
+  sum-largest n (minus s x more) = max n (max (product-largest x) (sum-largest (n + product-size x) more))
+
+  abbrev pub calculation-largest : Calculation → ℕ
+  calculation-largest (sum x more) = max (product-largest x) (sum-largest (product-size x) more)
+
+-- ---- what is outside its limits
+
+-- "width a number from 1 to 32"
+abbrev pub wrong-width : Number → Bool
+wrong-width n = not (leb 1 (n .value) && leb (n .value) 32)
+
+-- "Numbers: … to 4,294,967,295"
+abbrev pub wrong-number : Number → Bool
+wrong-number n = ltb 4294967295 (n .value)
+
+-- the numbers among terms that are
+unfoldable pub number-faults : List Term → List ℕ
+number-faults [] = []
+number-faults (a-number n ∷ more) = place-if (wrong-number n) (n .start) ++ number-faults more
+number-faults (a-use x ∷ more) = number-faults more
+number-faults (a-sign s ∷ more) = number-faults more
+
+-- where tokens begin
+abbrev pub first-byte : List Lexeme → ℕ
+first-byte [] = 0
+first-byte (x ∷ more) = place-of x
+
+-- "variables at their widest": 2^width - 1, of the variable's binder
+unfoldable pub widest-in : List Piece → List ℕ → ℕ
+widest-in [] x = 0
+widest-in (use-of-rule y ∷ more) x = widest-in more x
+widest-in (width n ∷ more) x = widest-in more x
+widest-in (formula f ∷ more) x = widest-in more x
+widest-in (binding y n placed ∷ more) x = cond (is-same (y .letters) x) (2 ^ n .value - 1) (widest-in more x)
+
+module _ (widest : List ℕ → ℕ) where
+  -- "a calculation, or part of one, whose size may pass 2^62"
+  abbrev pub too-large : Calculation → Bool
+  too-large c = ltb (2 ^ 62) (calculation-largest widest c)
+
+  -- such calculations, each at its first byte
+  unfoldable pub calculation-faults : List Component → List ℕ
+  calculation-faults [] = []
+  calculation-faults (whole-number c ∷ more) = place-if (too-large c) (first-byte (spell-calculation c [])) ++ calculation-faults more
+  calculation-faults (joined-by s ∷ more) = calculation-faults more
+
+  unfoldable pub faults-in : List Piece → List ℕ
+  faults-in [] = []
+  faults-in (use-of-rule x ∷ more) = faults-in more
+  faults-in (width n ∷ more) = place-if (wrong-width n) (n .start) ++ faults-in more
+  faults-in (formula f ∷ more) = number-faults (terms-of f) ++ (calculation-faults f ++ faults-in more)
+  faults-in (binding x n placed ∷ more) = faults-in more
+
+-- in each rule, with its own variables
+unfoldable pub size-faults : List Rule → List ℕ
+size-faults [] = []
+size-faults (r ∷ more) = faults-in (widest-in (rule-pieces r)) (rule-pieces r) ++ size-faults more
+
+abbrev pub refusal-8 : Rules → Option ℕ
+refusal-8 t = least (size-faults (rules-of t))
