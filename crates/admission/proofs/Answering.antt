@@ -5,6 +5,7 @@ use mathlib.Core.Path.{_≡_, sym, subst}
 use mathlib.Core.List.{List}
 use native.Mathlib.Omega.{arith}
 use lib.ListN.{length}
+use Rattle.basis.specs.Limits.{max-text-bytes}
 use Rattle.theory.specs.Lookahead.{EmptyBody}
 use Rattle.table_layout.specs.Places.{construct-count}
 use Rattle.table_layout.specs.Held.{held}
@@ -16,7 +17,7 @@ use Rattle.admission.specs.Late.{Marks, LateRefused, empty-body, overwei
 use Rattle.admission.specs.declared.Admission.{Admission}
 use Rattle.admission.proofs.Judging.{count-is}
 
-module _ (xs : List ℕ) (st : State) (base : ℕ) (p : Bounded xs st) (h : length xs ≤ 8192) where
+module _ (xs : List ℕ) (st : State) (base : ℕ) (p : Bounded xs st) (h : length xs ≤ max-text-bytes) where
   least-mark : (i q : ℕ) → i < construct-count (words-of xs st) → EmptyBody (held (words-of xs st)) i → Marks (node-words st) (words-of xs st) (construct-count (words-of xs st)) q → LeastMark st (words-of xs st) q
   least-mark i q l e m =
       let z : construct-count (words-of xs st) ≡ nodes-of st = count-is xs st p h

@@ -9,6 +9,7 @@ use native.Mathlib.Omega.{arith}
 use borrow.Author.Tests.{eq-eqb, eqb-true, leb-true, ltb-false}
 use lib.Dec.{leb, ltb, eqb}
 use lib.ListN.{length}
+use Rattle.basis.specs.Limits.{max-text-bytes, max-width}
 use Rattle.term_sizes.specs.declared.Sized.{Sized}
 use Rattle.table_layout.specs.Constructs.{constructAt}
 use Rattle.table_sizes.specs.Measures.{condition-size, own-size, exceeds, oversized}
@@ -87,13 +88,13 @@ module _ (xs ns ts ws : List ℕ) (n t : ℕ) (e : refusal-8 xs ns ts ws n t ≡
   node-none : (i : ℕ) → i < n → node-found xs ns ts ws i ≡ Found.Nothing
   node-none i h = least-none n 0 (node-found xs ns ts ws) (parts .1) i (omega arith) (omega arith)
 
-  pub widths-right : (i : ℕ) → i < n → kind-of ns i ≡ 8 → (1 ≤ width-of xs ns i) × (width-of xs ns i ≤ 32)
+  pub widths-right : (i : ℕ) → i < n → kind-of ns i ≡ 8 → (1 ≤ width-of xs ns i) × (width-of xs ns i ≤ max-width)
   widths-right i h z =
       let f : width-found xs ns i ≡ Found.Nothing = lesser-none (width-found xs ns i) _ (node-none i h) .0 in
-      let g : (eqb (kind-of ns i) 8 && not (leb 1 (width-of xs ns i) && leb (width-of xs ns i) 32)) ≡ false = if-none _ (width-place ns i) f in
-      let w : (leb 1 (width-of xs ns i) && leb (width-of xs ns i) 32) ≡ true = not-off _ (and-off _ _ g (eq-eqb (kind-of ns i) 8 z)) in
+      let g : (eqb (kind-of ns i) 8 && not (leb 1 (width-of xs ns i) && leb (width-of xs ns i) max-width)) ≡ false = if-none _ (width-place ns i) f in
+      let w : (leb 1 (width-of xs ns i) && leb (width-of xs ns i) max-width) ≡ true = not-off _ (and-off _ _ g (eq-eqb (kind-of ns i) 8 z)) in
       let v = both-on _ _ w in
-      (leb-true 1 (width-of xs ns i) (v .0), leb-true (width-of xs ns i) 32 (v .1))
+      (leb-true 1 (width-of xs ns i) (v .0), leb-true (width-of xs ns i) max-width (v .1))
 
   pub sizes-right : (i : ℕ) → i < n → oversized ws i ≡ true → ⊥
   sizes-right i h z =
@@ -105,7 +106,7 @@ module _ (xs ns ts ws : List ℕ) (n t : ℕ) (e : refusal-8 xs ns ts ws n t ≡
 
 abbrev pub Inside : Found → Type 0
 Inside Found.Nothing = Unit {0}
-Inside (Found.At p) = p ≤ 8192
+Inside (Found.At p) = p ≤ max-text-bytes
 
 lesser-inside : (a b : Found) → Inside a → Inside b → Inside (lesser a b)
 lesser-inside Found.Nothing b h k = k
@@ -117,11 +118,11 @@ unfolding least-found
 least-inside zero i f h = tt
 least-inside (suc n) i f h = lesser-inside (f i) (least-found n (i + 1) f) (h i (omega arith) (omega arith)) (least-inside n (i + 1) f (λ j a b. h j (omega arith) (omega arith)))
 
-if-inside : (fault : Bool) (p : ℕ) → (fault ≡ true → p ≤ 8192) → Inside (found-if fault p)
+if-inside : (fault : Bool) (p : ℕ) → (fault ≡ true → p ≤ max-text-bytes) → Inside (found-if fault p)
 if-inside true p h = h refl
 if-inside false p h = tt
 
-list-inside : (ts : List ℕ) (f start : ℕ) (s : Sized) → ((k : ℕ) → term-origin ts k ≤ 8192) → Inside (list-found ts f start s)
+list-inside : (ts : List ℕ) (f start : ℕ) (s : Sized) → ((k : ℕ) → term-origin ts k ≤ max-text-bytes) → Inside (list-found ts f start s)
 list-inside ts f start Sized.Passes h = tt
 list-inside ts f start Sized.Malformed h = tt
 list-inside ts f start (Sized.Exceeds at) h = h (f + (at - start))
@@ -138,10 +139,10 @@ width-inside (counted-tree x a b c d) z = absurd (omega (arith, x .kind-is, z))
 width-inside (chain-tree x w a b c) z = absurd (⊎-elim (λ k. omega (arith, x .kind-is, z, k)) (λ k. omega (arith, x .kind-is, z, k)) w)
 width-inside (switch-tree x a b) z = absurd (omega (arith, x .kind-is, z))
 
-module _ (xs ns ts ws : List ℕ) (n t : ℕ) (nodes : Nodes xs ns ts n t) (h : length xs ≤ 8192) (terms : (k w : ℕ) → (w ≡ at-term) ⊎ (w ≡ at-origin) → term-word ts k w ≤ 8192) where
+module _ (xs ns ts ws : List ℕ) (n t : ℕ) (nodes : Nodes xs ns ts n t) (h : length xs ≤ max-text-bytes) (terms : (k w : ℕ) → (w ≡ at-term) ⊎ (w ≡ at-origin) → term-word ts k w ≤ max-text-bytes) where
   -- a width that is wrong
   abbrev wrong : ℕ → Bool
-  wrong i = not (leb 1 (width-of xs ns i) && leb (width-of xs ns i) 32)
+  wrong i = not (leb 1 (width-of xs ns i) && leb (width-of xs ns i) max-width)
 
   node-inside : (i : ℕ) → i < n → Inside (node-found xs ns ts ws i)
   node-inside i l =

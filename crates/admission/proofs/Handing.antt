@@ -6,12 +6,13 @@ use mathlib.Core.Bool.{true, false}
 use mathlib.Core.List.{List}
 use native.Mathlib.Omega.{arith}
 use lib.ListN.{length, take, drop}
+use Rattle.basis.specs.Limits.{table-words}
 use Rattle.admission.specs.Late.{is-admitted, HandedOver}
 use Rattle.admission.specs.declared.Admission.{Admission}
 
 -- copied where admitted
 pub copied : (answer : Admission) (words old new : List ℕ) → is-admitted answer ≡ true
-    → (take 16384 new ≡ words) × (drop 16384 new ≡ drop 16384 old) × (length new ≡ length old) → HandedOver answer words old new
+    → (take table-words new ≡ words) × (drop table-words new ≡ drop table-words old) × (length new ≡ length old) → HandedOver answer words old new
 copied (Admission.Admitted weight) words old new e c = c
 copied (Admission.Refused number place) words old new e c = let z : _≡_ {A = ℕ} 0 1 = cc in absurd (omega arith)
 copied (Admission.Conflict place construct clash) words old new e c = let z : _≡_ {A = ℕ} 0 1 = cc in absurd (omega arith)

@@ -8,6 +8,7 @@ use native.Mathlib.Omega.{arith}
 use lib.Dec.{eqb}
 use lib.ListN.{length, take, drop, length-drop}
 use lib.Seq.{take-all}
+use Rattle.basis.specs.Limits.{max-text-bytes}
 use Rattle.table_layout.specs.Places.{table-words}
 use Rattle.text_header.specs.Header.{in-front, lines, content, is-first-line, is-header-line, header-lines-of, first-of, header-of}
 use Rattle.text_header.specs.declared.Heading.{Heading}
@@ -78,11 +79,11 @@ pub rest : (text : List ℕ) (base : ℕ) → take (length text - base) (drop ba
 rest text base = take-all (length text - base) (drop base text) (omega (arith, length-drop base text))
 
 -- the header is wrong
-pub at-header : (text table : List ℕ) (h : Heading) (k : ℕ) (r : Admission) → h ≡ header-of text → h ≡ Heading.Wrong k → r ≡ Admission.Refused 3 (0 + k) → table-words ≤ length table → (length text ≡ 0 → ⊥) → length text ≤ 8192 → Answers text table table r
+pub at-header : (text table : List ℕ) (h : Heading) (k : ℕ) (r : Admission) → h ≡ header-of text → h ≡ Heading.Wrong k → r ≡ Admission.Refused 3 (0 + k) → table-words ≤ length table → (length text ≡ 0 → ⊥) → length text ≤ max-text-bytes → Answers text table table r
 at-header text table h k r e z w t s l =
     refused-early 3 k (w ∙ ap (Admission.Refused 3) (omega arith)) (wrong-header t (some-bytes (length text) s) l (sym e ∙ z)) refl
 
 -- the rules are answered
-pub at-rules : (text old new : List ℕ) (h : Heading) (k : ℕ) (r : Admission) → h ≡ header-of text → h ≡ Heading.Rules k → table-words ≤ length old → (length text ≡ 0 → ⊥) → length text ≤ 8192 → AnsweredRules (drop k text) k old new r → Answers text old new r
+pub at-rules : (text old new : List ℕ) (h : Heading) (k : ℕ) (r : Admission) → h ≡ header-of text → h ≡ Heading.Rules k → table-words ≤ length old → (length text ≡ 0 → ⊥) → length text ≤ max-text-bytes → AnsweredRules (drop k text) k old new r → Answers text old new r
 at-rules text old new h k r e z t s l a =
     by-rules k (record { table-fits = t; some = some-bytes (length text) s; short = l; header = sym e ∙ z }) a

@@ -6,6 +6,7 @@ use mathlib.Core.Bool.{true}
 use mathlib.Core.List.{List}
 use native.Mathlib.Omega.{arith}
 use lib.ListN.{length}
+use Rattle.basis.specs.Limits.{max-text-bytes}
 use Rattle.theory.specs.Lookahead.{EmptyBody}
 use Rattle.table_layout.specs.Places.{construct-count}
 use Rattle.table_wellformed.specs.Laid.{laid}
@@ -24,7 +25,7 @@ use Rattle.admission.specs.declared.Admission.{Admission}
 use Rattle.admission.proofs.Facts.{Facts, facts}
 use Rattle.admission.proofs.Extending.{numbers-right, widths-right, sizes-right}
 
-pub readable : (xs ns ts rs : List ℕ) (n t b r : ℕ) → Bounded xs (state ns ts rs n t b r) → Facts xs (state ns ts rs n t b r) → length xs ≤ 8192 → Readable xs ns ts rs n t b r
+pub readable : (xs ns ts rs : List ℕ) (n t b r : ℕ) → Bounded xs (state ns ts rs n t b r) → Facts xs (state ns ts rs n t b r) → length xs ≤ max-text-bytes → Readable xs ns ts rs n t b r
 readable xs ns ts rs n t b r p f h =
     record {
       rules = f .shape .rules;
@@ -42,12 +43,12 @@ readable xs ns ts rs n t b r p f h =
       numbers = numbers-right xs ns ts (words-of xs (state ns ts rs n t b r)) n t (p .none);
     }
 
-pub count-is : (xs : List ℕ) (st : State) → Bounded xs st → length xs ≤ 8192 → construct-count (words-of xs st) ≡ nodes-of st
+pub count-is : (xs : List ℕ) (st : State) → Bounded xs st → length xs ≤ max-text-bytes → construct-count (words-of xs st) ≡ nodes-of st
 count-is xs (state ns ts rs n t b r) p h =
     let f = facts xs (state ns ts rs n t b r) (p .passed .passed .passed) h in
     words-by-place (readable xs ns ts rs n t b r p f h) (f .shape .stored) (f .basics .places) .constructs-are
 
-pub passed-8 : (xs : List ℕ) (st : State) → Bounded xs st → length xs ≤ 8192 → Passed8 (words-of xs st)
+pub passed-8 : (xs : List ℕ) (st : State) → Bounded xs st → length xs ≤ max-text-bytes → Passed8 (words-of xs st)
 passed-8 xs (state ns ts rs n t b r) p h =
     let f = facts xs (state ns ts rs n t b r) (p .passed .passed .passed) h in
     record {
@@ -66,7 +67,7 @@ module _ (ns rs old new : List ℕ) (base : ℕ) where
     marked : Marks ns old (construct-count old) mark
     marked = subst (λ (ws : List ℕ). Marks ns ws (construct-count ws) mark) c m
 
-    pub mark-within : Within ns rs → mark ≤ 8192
+    pub mark-within : Within ns rs → mark ≤ max-text-bytes
     mark-within w = let f = marked .found i (d .1 .there) (d .1 .holds) in omega (arith, f .3, w .nodes (f .0) .1)
 
     pub late-body : (r : Admission) → r ≡ Admission.Refused 9 (base + mark) → Late ns rs base old new r

@@ -7,6 +7,7 @@ use mathlib.Core.Bool.{Bool, true, false, cond, _&&_}
 use mathlib.Core.List.{List}
 use native.Mathlib.Omega.{arith}
 use lib.Dec.{eqb}
+use Rattle.basis.specs.Limits.{max-text-bytes}
 use Rattle.text_names.specs.Counting.{nowhere, place-if, least-of}
 use Rattle.text_store.specs.Words.{kind-of, place-of, bound-at, own-from, own-end, condition-from, condition-end, is-binder, term-tag, term-at, is-use, named-at, first-node, last-node}
 use Rattle.text_names.specs.Limits.{limit-place, passed-in}
@@ -14,14 +15,14 @@ use Rattle.text_names.specs.Names.{rule-fault, use-fault, binder-fault, variabl
 use Rattle.admission.specs.Late.{Within}
 
 abbrev pub Spot : ℕ → Type 0
-Spot p = (p ≤ 8192) ⊎ (p ≡ nowhere)
+Spot p = (p ≤ max-text-bytes) ⊎ (p ≡ nowhere)
 
 both-spots : (a b : ℕ) → Spot a → Spot b → Spot (min a b)
 both-spots a b (inl h) q = inl (omega arith)
 both-spots a b (inr h) (inl k) = inl (omega arith)
 both-spots a b (inr h) (inr k) = inr (omega (arith, h, k))
 
-spot-if : (fault : Bool) (p : ℕ) → p ≤ 8192 → Spot (place-if fault p)
+spot-if : (fault : Bool) (p : ℕ) → p ≤ max-text-bytes → Spot (place-if fault p)
 spot-if true p h = inl h
 spot-if false p h = inr refl
 
@@ -34,7 +35,7 @@ unfolding least-of
 least-spot zero i f h = inr refl
 least-spot (suc n) i f h = both-spots (f i) (least-of n (i + 1) f) (h i) (least-spot n (i + 1) f h)
 
-module _ (xs ns ts rs : List ℕ) (r : ℕ) (w : Within ns rs) (terms : (t : ℕ) → term-at ts t ≤ 8192) where
+module _ (xs ns ts rs : List ℕ) (r : ℕ) (w : Within ns rs) (terms : (t : ℕ) → term-at ts t ≤ max-text-bytes) where
   limit-spot : (k : ℕ) → Spot (limit-place rs k)
   limit-spot k = spot-if (passed-in rs k) (named-at rs k) (w .rules k)
 
@@ -63,6 +64,6 @@ module _ (xs ns ts rs : List ℕ) (r : ℕ) (w : Within ns rs) (terms : (t : ℕ
   pub names-spot : Spot (Rattle.text_names.specs.Names.refusal-6 xs ns ts rs r)
   names-spot = least-spot (r - 0) 0 (rule-place xs ns ts rs r) rule-spot
 
-pub some-spot : (p : ℕ) → Spot p → p < nowhere → p ≤ 8192
+pub some-spot : (p : ℕ) → Spot p → p < nowhere → p ≤ max-text-bytes
 some-spot p (inl h) l = h
 some-spot p (inr h) l = absurd (omega arith)

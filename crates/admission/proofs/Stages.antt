@@ -9,6 +9,7 @@ use native.Mathlib.Omega.{arith}
 use borrow.Author.Tests.{eq-eqb, ne-eqb}
 use lib.Dec.{eqb}
 use lib.ListN.{length, length-replicate}
+use Rattle.basis.specs.Limits.{max-text-bytes, max-rules, max-constructs, max-terms, table-words}
 use Rattle.table_reach.specs.Reaching.{Found}
 use Rattle.table_reach.specs.declared.Recursion.{Recursion}
 use Rattle.table_judge.specs.Judged.{Passed8}
@@ -21,7 +22,7 @@ use Rattle.text_parsing.specs.declared.Cursor.{Cursor}
 use Rattle.text_syntax.specs.Rules.{form-of, outcome-of}
 use Rattle.text_shapes.proofs.Places.{refused-inside}
 use Rattle.text_names.specs.Counting.{nowhere}
-use Rattle.text_store.specs.Words.{named-at}
+use Rattle.text_store.specs.Words.{named-at, nodes-room, terms-room, rules-room}
 use Rattle.text_encoding.specs.Numbers.{condition-start}
 use Rattle.text_encoding.specs.Encoded.{encoded}
 use Rattle.text_wellformed.proofs.NodeFacts.{nodes-of-rules}
@@ -33,11 +34,11 @@ use Rattle.admission.proofs.Spots.{limits-spot, names-spot, some-spot}
 use Rattle.admission.proofs.Extending.{Inside, found-inside}
 use Rattle.admission.proofs.Judging.{passed-8}
 
-pub encoded-length : (xs ns ts rs : List ℕ) (n r : ℕ) → length (encoded xs ns ts rs n r) ≡ 16384
+pub encoded-length : (xs ns ts rs : List ℕ) (n r : ℕ) → length (encoded xs ns ts rs n r) ≡ table-words
 unfolding encoded
-encoded-length xs ns ts rs n r = simp written-length (length-replicate {A = ℕ} 16384 0)
+encoded-length xs ns ts rs n r = simp written-length (length-replicate {A = ℕ} table-words 0)
 
-module _ (xs : List ℕ) (st : State) (h : length xs ≤ 8192) where
+module _ (xs : List ℕ) (st : State) (h : length xs ≤ max-text-bytes) where
   -- 4: the form, and the place of a refusal
   pub formed : (c : Cursor) (ns ts rs : List ℕ) → form xs ≡ outcome-of c ns ts rs → (c .code ≡ 0 → ⊥) → Right xs (state-at c ns ts rs)
   formed c ns ts rs e z = record { formed = e ∙ let q : eqb (c .code) 0 ≡ false = ne-eqb (c .code) 0 z in rw (q, outcome-of) refl }
@@ -45,19 +46,19 @@ module _ (xs : List ℕ) (st : State) (h : length xs ≤ 8192) where
   pub not-formed : (c : Cursor) (ns ts rs : List ℕ) → form xs ≡ outcome-of c ns ts rs → c .code ≡ 0 → form xs ≡ refused (c .start)
   not-formed c ns ts rs e z = e ∙ let q : eqb (c .code) 0 ≡ true = eq-eqb (c .code) 0 z in rw (q, outcome-of) refl
 
-  pub form-place : (p : ℕ) → form xs ≡ refused p → p ≤ 8192
+  pub form-place : (p : ℕ) → form xs ≡ refused p → p ≤ max-text-bytes
   unfolding form-of
   form-place p e = omega (arith, refused-inside xs _ _ p e)
 
   -- 5 and 6: of a fault
   module _ (b : Basics xs st) where
-    terms-placed : (t : ℕ) → Rattle.text_store.specs.Words.term-word (term-words st) t 2 ≤ 8192
+    terms-placed : (t : ℕ) → Rattle.text_store.specs.Words.term-word (term-words st) t 2 ≤ max-text-bytes
     terms-placed t = term-within xs st b h t at-term (inl refl)
 
-    pub place-5 : fault-5 st < nowhere → fault-5 st ≤ 8192
+    pub place-5 : fault-5 st < nowhere → fault-5 st ≤ max-text-bytes
     place-5 l = some-spot (fault-5 st) (limits-spot xs (node-words st) (term-words st) (rule-words st) (rules-of st) (within xs st b h) terms-placed) l
 
-    pub place-6 : fault-6 xs st < nowhere → fault-6 xs st ≤ 8192
+    pub place-6 : fault-6 xs st < nowhere → fault-6 xs st ≤ max-text-bytes
     place-6 l = some-spot (fault-6 xs st) (names-spot xs (node-words st) (term-words st) (rule-words st) (rules-of st) (within xs st b h) terms-placed) l
 
     pub by-5 : (base : ℕ) → Right xs st → fault-5 st < nowhere → RulesRefused xs base 5 (base + fault-5 st)
@@ -74,15 +75,15 @@ module _ (xs : List ℕ) (st : State) (h : length xs ≤ 8192) where
 
   -- 7: encoding
   abbrev pub Encodable : Type 0
-  Encodable = (length (node-words st) ≡ 2560) × (length (term-words st) ≡ 4096) × (length (rule-words st) ≡ 325) × (nodes-of st ≤ 256) × (rules-of st ≤ 64) × (condition-start (node-words st) (nodes-of st) ≤ 1024)
+  Encodable = (length (node-words st) ≡ nodes-room) × (length (term-words st) ≡ terms-room) × (length (rule-words st) ≡ rules-room) × (nodes-of st ≤ max-constructs) × (rules-of st ≤ max-rules) × (condition-start (node-words st) (nodes-of st) ≤ max-terms)
 
   pub encodable : Named xs st → Encodable
   encodable p = let f = facts xs st (p .passed) h in (f .basics .node-length, f .basics .term-length, f .basics .rule-length, f .nodes-limit, f .rules-limit, f .total)
 
-  pub rule-placed : Named xs st → (k : ℕ) → named-at (rule-words st) k ≤ 8192
+  pub rule-placed : Named xs st → (k : ℕ) → named-at (rule-words st) k ≤ max-text-bytes
   rule-placed p = within xs st (basics xs st (p .passed .passed)) h .rules
 
-  pub long-words : length (words-of xs st) ≡ 16384
+  pub long-words : length (words-of xs st) ≡ table-words
   long-words = encoded-length xs (node-words st) (term-words st) (rule-words st) (nodes-of st) (rules-of st)
 
   pub cyclic : (base : ℕ) (ws : List ℕ) → ws ≡ words-of xs st → (x : Recursion) (k : ℕ) → x ≡ Recursion.Rule k → Found ws x → Named xs st → RulesRefused xs base 7 (base + named-at (rule-words st) k)
@@ -92,7 +93,7 @@ module _ (xs : List ℕ) (st : State) (h : length xs ≤ 8192) where
   straight ws w x e f p = record { passed = p; none = subst (λ (v : List ℕ). Found v Recursion.None) w (subst (Found ws) e f) }
 
   -- 8
-  pub place-8 : Straight xs st → (p : ℕ) → fault-8 xs st ≡ places.Found.At p → p ≤ 8192
+  pub place-8 : Straight xs st → (p : ℕ) → fault-8 xs st ≡ places.Found.At p → p ≤ max-text-bytes
   place-8 s p e =
       let f = facts xs st (s .passed .passed) h in
       subst Inside e
@@ -103,7 +104,7 @@ module _ (xs : List ℕ) (st : State) (h : length xs ≤ 8192) where
   bounded s e = record { passed = s; none = e }
 
   abbrev pub Judgeable : List ℕ → Type 0
-  Judgeable ws = Passed8 ws × (length (node-words st) ≡ 2560) × (length (rule-words st) ≡ 325) × Within (node-words st) (rule-words st)
+  Judgeable ws = Passed8 ws × (length (node-words st) ≡ nodes-room) × (length (rule-words st) ≡ rules-room) × Within (node-words st) (rule-words st)
 
   pub judgeable : (ws : List ℕ) → ws ≡ words-of xs st → Bounded xs st → Judgeable ws
   judgeable ws w p =

@@ -7,6 +7,7 @@ use mathlib.Core.Logic.{_⊎_}
 use mathlib.Core.List.{List}
 use mathlib.Core.Option.{Option, none, some}
 use lib.ListN.{length, drop, replicate}
+use Rattle.basis.specs.Limits.{max-text-bytes, max-weight}
 use Rattle.theory.specs.Lookahead.{EmptyBody}
 use Rattle.table_layout.specs.Places.{table-words, table-of}
 use Rattle.table_layout.specs.Held.{held}
@@ -22,7 +23,7 @@ use Rattle.text_store.specs.Store.{State, node-words, term-words, rule-words, n
 use Rattle.text_parsing.specs.Form.{Outcome, right, refused}
 use Rattle.text_syntax.specs.Rules.{form-of}
 use Rattle.text_names.specs.Counting.{nowhere}
-use Rattle.text_store.specs.Words.{place-of, mark-place, named-at}
+use Rattle.text_store.specs.Words.{place-of, mark-place, named-at, nodes-room, terms-room, rules-room}
 use Rattle.text_names.specs.Limits.{refusal-5}
 use Rattle.text_names.specs.Names.{refusal-6}
 use Rattle.text_encoding.specs.Encoded.{encoded}
@@ -53,7 +54,7 @@ window-in (Clash.Passes window) = some window
 
 -- the form of the rules: what is read, or the place of refusal 4
 abbrev pub form : List ℕ → Outcome
-form xs = form-of xs (replicate 2560 0) (replicate 4096 0) (replicate 325 0)
+form xs = form-of xs (replicate nodes-room 0) (replicate terms-room 0) (replicate rules-room 0)
 
 -- the words of the table of what is read
 abbrev pub words-of : List ℕ → State → List ℕ
@@ -117,7 +118,7 @@ pub data RulesRefused (xs : List ℕ) (base : ℕ) : (number place : ℕ) → Ty
   -- "repeated body has the empty first window", at "the repetition mark"
   by-empty-body : {st : State} {p place : ℕ} → Bounded xs st → LeastMark st (words-of xs st) p → place ≡ base + p → RulesRefused xs base 9 place
   -- "weight over 65,535", at the "start rule"
-  by-weight : {st : State} {place : ℕ} → Bounded xs st → Passed10 (words-of xs st) → Weighing (words-of xs st) (λ n. 65535 < n) → place ≡ base + named-at (rule-words st) 0 → RulesRefused xs base 11 place
+  by-weight : {st : State} {place : ℕ} → Bounded xs st → Passed10 (words-of xs st) → Weighing (words-of xs st) (λ n. max-weight < n) → place ≡ base + named-at (rule-words st) 0 → RulesRefused xs base 11 place
 
 -- 10: "clash; the answer carries the least common window", at "the construct"
 pub record Clashes (xs : List ℕ) (base place construct : ℕ) (clash : Clash) : Type 0 where
@@ -133,7 +134,7 @@ pub record Passes (xs : List ℕ) (st : State) (weight : ℕ) : Type 0 where
   pub passed : Bounded xs st
   pub judged : Passed10 (words-of xs st)
   pub weighs : Weighing (words-of xs st) (λ n. n ≡ weight)
-  pub limited : weight ≤ 65535
+  pub limited : weight ≤ max-weight
 
 -- "each admitted grammar has one table, sound and with unused words 0"; "Words past 16,384 are neither read nor changed."
 pub record Tabled (ws old new : List ℕ) : Type 0 where
@@ -160,15 +161,15 @@ pub data Refusal (text table : List ℕ) : (number place : ℕ) → Type 0 where
   -- "lent table shorter than 16,384 u32 words"
   short-table : length table < table-words → Refusal text table 1 0
   -- "grammar empty or over 8,192 bytes"
-  wrong-size : table-words ≤ length table → (length text ≡ 0) ⊎ (8192 < length text) → Refusal text table 2 0
+  wrong-size : table-words ≤ length table → (length text ≡ 0) ⊎ (max-text-bytes < length text) → Refusal text table 2 0
   -- "header wrong", at the "start of the line, an unended one too (text's end if none)"
-  wrong-header : {place : ℕ} → table-words ≤ length table → 1 ≤ length text → length text ≤ 8192 → header-of text ≡ Heading.Wrong place → Refusal text table 3 place
+  wrong-header : {place : ℕ} → table-words ≤ length table → 1 ≤ length text → length text ≤ max-text-bytes → header-of text ≡ Heading.Wrong place → Refusal text table 3 place
 
 -- the text is right up to its rules, which begin at `base`
 pub record Headed (text table : List ℕ) (base : ℕ) : Type 0 where
   pub table-fits : table-words ≤ length table
   pub some : 1 ≤ length text
-  pub short : length text ≤ 8192
+  pub short : length text ≤ max-text-bytes
   pub header : header-of text ≡ Heading.Rules base
 
 -- the answer to a text: any bytes, with any words as table

@@ -5,6 +5,7 @@ use Prim.Native.Nat.{ℕ, zero, suc, _+_, _-_, min}
 use mathlib.Core.Bool.{Bool, cond, not, _&&_, _||_}
 use mathlib.Core.List.{List}
 use lib.Dec.{leb, ltb, eqb}
+use Rattle.basis.specs.Limits.{max-width}
 use Rattle.term_sizes.specs.declared.Sized.{Sized}
 use Rattle.table_layout.specs.Constructs.{constructAt}
 use Rattle.table_sizes.specs.Measures.{condition-size, own-size}
@@ -29,7 +30,7 @@ least-found (suc n) i f = lesser (f i) (least-found n (i + 1) f)
 
 -- "width a number from 1 to 32"
 abbrev pub width-found : List ℕ → List ℕ → ℕ → Found
-width-found xs ns i = found-if (eqb (kind-of ns i) 8 && not (leb 1 (width-of xs ns i) && leb (width-of xs ns i) 32)) (width-place ns i)
+width-found xs ns i = found-if (eqb (kind-of ns i) 8 && not (leb 1 (width-of xs ns i) && leb (width-of xs ns i) max-width)) (width-place ns i)
 
 -- "Numbers: … to 4,294,967,295"
 abbrev pub number-found : List ℕ → ℕ → Found

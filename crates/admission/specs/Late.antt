@@ -5,6 +5,7 @@ use mathlib.Core.Path.{_≡_}
 use mathlib.Core.Bool.{Bool, true, false}
 use mathlib.Core.List.{List}
 use lib.ListN.{length, take, drop}
+use Rattle.basis.specs.Limits.{max-text-bytes, max-weight, table-words}
 use Rattle.theory.specs.Lookahead.{EmptyBody}
 use Rattle.table_layout.specs.Places.{construct-count}
 use Rattle.table_layout.specs.Held.{held}
@@ -24,7 +25,7 @@ pub record Marks (ns ws : List ℕ) (n p : ℕ) : Type 0 where
 -- 9 at the least mark and 11 at the start rule; `base` is where the rules begin
 pub data LateRefused (ns rs : List ℕ) (base : ℕ) (ws : List ℕ) : (number place : ℕ) → Type 0 where
   empty-body : {p i place : ℕ} → i < construct-count ws → EmptyBody (held ws) i → Marks ns ws (construct-count ws) p → place ≡ base + p → LateRefused ns rs base ws 9 place
-  overweight : {place : ℕ} → Passed10 ws → Weighing ws (λ n. 65535 < n) → place ≡ base + named-at rs 0 → LateRefused ns rs base ws 11 place
+  overweight : {place : ℕ} → Passed10 ws → Weighing ws (λ n. max-weight < n) → place ≡ base + named-at rs 0 → LateRefused ns rs base ws 11 place
 
 -- 10, as `Admitted.Clashes` has it
 pub record LateClash (ns : List ℕ) (base : ℕ) (ws : List ℕ) (place construct : ℕ) (clash : Clash) : Type 0 where
@@ -37,7 +38,7 @@ pub record LateClash (ns : List ℕ) (base : ℕ) (ws : List ℕ) (place constru
 pub record LatePass (weight : ℕ) (old new : List ℕ) : Type 0 where
   pub judged : Passed10 old
   pub weighs : Weighing old (λ n. n ≡ weight)
-  pub limited : weight ≤ 65535
+  pub limited : weight ≤ max-weight
   pub sound : Sound new
   pub same : Alike old new
 
@@ -55,11 +56,11 @@ is-admitted (Admission.Conflict place construct clash) = false
 
 -- an admitted grammar's table is the first 16,384 words, and nothing else changes
 abbrev pub HandedOver : Admission → (words old new : List ℕ) → Type 0
-HandedOver (Admission.Admitted weight) words old new = (take 16384 new ≡ words) × (drop 16384 new ≡ drop 16384 old) × (length new ≡ length old)
+HandedOver (Admission.Admitted weight) words old new = (take table-words new ≡ words) × (drop table-words new ≡ drop table-words old) × (length new ≡ length old)
 HandedOver (Admission.Refused number place) words old new = new ≡ old
 HandedOver (Admission.Conflict place construct clash) words old new = new ≡ old
 
 -- places that are stored are within the largest text
 pub record Within (ns rs : List ℕ) : Type 0 where
-  pub nodes : (i : ℕ) → (place-of ns i ≤ 8192) × (second-place ns i ≤ 8192)
-  pub rules : (k : ℕ) → named-at rs k ≤ 8192
+  pub nodes : (i : ℕ) → (place-of ns i ≤ max-text-bytes) × (second-place ns i ≤ max-text-bytes)
+  pub rules : (k : ℕ) → named-at rs k ≤ max-text-bytes

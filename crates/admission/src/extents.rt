@@ -1,5 +1,8 @@
 // Refusal 8: the least place of a width, a number or a calculation outside its limits.
 use crate::Found;
+use basis::MAX_TERMS;
+use basis::MAX_VARIABLES;
+use basis::MAX_WIDTH;
 use term_sizes::Sized;
 use text_encoding::numbers::condition_length;
 use text_encoding::numbers::own_length;
@@ -21,9 +24,10 @@ use text_store::words::term_word;
 ghost use mathlib.Core.Path.{_≡_};
 ghost use Prim.Native.Nat.{ℕ, _+_, _-_, _≤_, _<_};
 ghost use lib.ListN.{length};
+ghost use Rattle.basis.specs.Limits.{max-constructs, max-terms, table-words};
 ghost use Rattle.table_layout.specs.Constructs.{constructAt};
 ghost use Rattle.table_sizes.specs.Measures.{widest as widestOf, condition-size, own-size};
-ghost use Rattle.text_store.specs.Words.{node-word};
+ghost use Rattle.text_store.specs.Words.{node-word, nodes-room, terms-room};
 ghost use Rattle.text_encoding.specs.Numbers.{condition-start, own-start};
 ghost use Rattle.admission.specs.Extents.{lesser as lesserOf, found-if, least-found, width-found, number-found, origin-after, list-found, node-found, refusal-8};
 
@@ -49,18 +53,21 @@ fn found_if(fault: bool, p: usize) -> Found
 }
 
 fn width_found(text: &[u8], nodes: &[usize], i: usize) -> Found
-    requires { ⌜ length (now nodes) ≡ 2560 ⌝ }
+    requires { ⌜ length (now nodes) ≡ nodes-room ⌝ }
     ensures { λ r. ⌜ r ≡ width-found (now (text .entry)) (now (nodes .entry)) i ⌝ }
 {
     let w = width(text, nodes, i);
     found_if(
-        both(node_word(nodes, i, KIND) == 8, not(both(1 <= w, w <= 32))),
+        both(
+            node_word(nodes, i, KIND) == 8,
+            not(both(1 <= w, w <= MAX_WIDTH)),
+        ),
         node_word(nodes, i, WIDTH_PLACE),
     )
 }
 
 fn number_found(terms: &[usize], k: usize) -> Found
-    requires { ⌜ length (now terms) ≡ 4096 ⌝ }
+    requires { ⌜ length (now terms) ≡ terms-room ⌝ }
     ensures { λ r. ⌜ r ≡ number-found (now (terms .entry)) k ⌝ }
 {
     let tag = term_word(terms, k, TAG);
@@ -74,12 +81,12 @@ fn number_found(terms: &[usize], k: usize) -> Found
 }
 
 fn term_after(terms: &[usize], f: usize, at: usize, start: usize) -> usize
-    requires { ⌜ length (now terms) ≡ 4096 ⌝ }
+    requires { ⌜ length (now terms) ≡ terms-room ⌝ }
     ensures { λ r. ⌜ r ≡ origin-after (now (terms .entry)) f at start ⌝ }
 {
     let t = text_encoding::numbers::less(at, start);
-    if f < 1024 {
-        if t < 1024 {
+    if f < MAX_TERMS {
+        if t < MAX_TERMS {
             return term_word(terms, f + t, ORIGIN);
         }
     }
@@ -88,7 +95,7 @@ fn term_after(terms: &[usize], f: usize, at: usize, start: usize) -> usize
 
 // The first byte of the calculation at which a list of sizes is too large; the list is read from term f on, and is the table's from `start`.
 fn list_found(terms: &[usize], f: usize, start: usize, sized: Sized) -> Found
-    requires { ⌜ length (now terms) ≡ 4096 ⌝ }
+    requires { ⌜ length (now terms) ≡ terms-room ⌝ }
     ensures { λ r. ⌜ r ≡ list-found (now (terms .entry)) f start sized ⌝ }
 {
     match sized {
@@ -104,11 +111,11 @@ fn node_found(
     nodes: &[usize],
     terms: &[usize],
     table: &[u32],
-    widest: &[i64; 64],
+    widest: &[i64; MAX_VARIABLES],
     i: usize,
     q: usize,
 ) -> Found
-    requires { ⌜ (length (now nodes) ≡ 2560) × (length (now terms) ≡ 4096) × (16384 ≤ length (now table)) × (now widest ≡ widestOf (now table)) × (i < 256) × (q ≡ condition-start (now nodes) i) × (condition-start (now nodes) (i + 1) ≤ 1024) ⌝ }
+    requires { ⌜ (length (now nodes) ≡ nodes-room) × (length (now terms) ≡ terms-room) × (table-words ≤ length (now table)) × (now widest ≡ widestOf (now table)) × (i < max-constructs) × (q ≡ condition-start (now nodes) i) × (condition-start (now nodes) (i + 1) ≤ max-terms) ⌝ }
     ensures { λ r. ⌜ r ≡ node-found (now (text .entry)) (now (nodes .entry)) (now (terms .entry)) (now (table .entry)) i ⌝ }
 {
     let tested = list_found(
@@ -127,7 +134,7 @@ fn node_found(
 }
 
 fn numbers_found(terms: &[usize], t: usize) -> Found
-    requires { ⌜ length (now terms) ≡ 4096 ⌝ }
+    requires { ⌜ length (now terms) ≡ terms-room ⌝ }
     ensures { λ r. ⌜ r ≡ least-found t 0 (number-found (now (terms .entry))) ⌝ }
 {
     let mut least = Found::Nothing;
@@ -145,9 +152,9 @@ fn nodes_found(
     terms: &[usize],
     n: usize,
     table: &[u32],
-    widest: &[i64; 64],
+    widest: &[i64; MAX_VARIABLES],
 ) -> Found
-    requires { ⌜ (length (now nodes) ≡ 2560) × (length (now terms) ≡ 4096) × (16384 ≤ length (now table)) × (now widest ≡ widestOf (now table)) × (n ≤ 256) × (condition-start (now nodes) n ≤ 1024) ⌝ }
+    requires { ⌜ (length (now nodes) ≡ nodes-room) × (length (now terms) ≡ terms-room) × (table-words ≤ length (now table)) × (now widest ≡ widestOf (now table)) × (n ≤ max-constructs) × (condition-start (now nodes) n ≤ max-terms) ⌝ }
     ensures { λ r. ⌜ r ≡ least-found n 0 (node-found (now (text .entry)) (now (nodes .entry)) (now (terms .entry)) (now (table .entry))) ⌝ }
 {
     let mut least = Found::Nothing;
@@ -169,7 +176,7 @@ pub fn first_oversized(
     t: usize,
     table: &[u32],
 ) -> Found
-    requires { ⌜ (length (now nodes) ≡ 2560) × (length (now terms) ≡ 4096) × (16384 ≤ length (now table)) × (n ≤ 256) × (condition-start (now nodes) n ≤ 1024) ⌝ }
+    requires { ⌜ (length (now nodes) ≡ nodes-room) × (length (now terms) ≡ terms-room) × (table-words ≤ length (now table)) × (n ≤ max-constructs) × (condition-start (now nodes) n ≤ max-terms) ⌝ }
     ensures { λ r. ⌜ r ≡ refusal-8 (now (text .entry)) (now (nodes .entry)) (now (terms .entry)) (now (table .entry)) n t ⌝ }
 {
     let widest = table_sizes::widest(table).sizes;

@@ -1,19 +1,26 @@
 // Admission of a grammar's text: refusals 1 to 11 in order, or the table of its grammar.
+use basis::MAX_TEXT_BYTES;
+use basis::TABLE_WORDS;
 use table_conflicts::Clash;
+use table_first_follow::FAMILY_WORDS;
 use table_judge::Judgement;
 use table_reach::Recursion;
 use text_header::Heading;
 use text_parsing::Cursor;
 use text_store::NAMED_AT;
+use text_store::NODES_ROOM;
 use text_store::PLACE;
+use text_store::RULES_ROOM;
+use text_store::TERMS_ROOM;
 use text_store::words::node_word;
 use text_store::words::rule_word;
 ghost use mathlib.Core.Path.{_≡_};
 ghost use Prim.Native.Nat.{ℕ, _+_, _≤_, _<_};
 ghost use lib.ListN.{length, drop};
+ghost use Rattle.basis.specs.Limits.{max-text-bytes, table-words};
 ghost use Rattle.table_judge.specs.Judged.{Passed8};
 ghost use Rattle.text_parsing.specs.Cursors.{state-at};
-ghost use Rattle.text_store.specs.Words.{node-word, place-of, named-at};
+ghost use Rattle.text_store.specs.Words.{node-word, place-of, named-at, nodes-room, rules-room};
 ghost use Rattle.admission.specs.Admitted.{words-of, Right, Named, Straight, AnsweredRules, Answers};
 ghost use Rattle.admission.specs.Late.{Late, is-admitted, HandedOver, Within};
 
@@ -45,14 +52,14 @@ pub enum Found {
 }
 
 fn placed(base: usize, p: usize) -> usize
-    requires { ⌜ (base ≤ 8192) × (p ≤ 8192) ⌝ }
+    requires { ⌜ (base ≤ max-text-bytes) × (p ≤ max-text-bytes) ⌝ }
     ensures { λ r. ⌜ r ≡ base + p ⌝ }
 {
     base + p
 }
 
 fn refused(number: usize, base: usize, p: usize) -> Admission
-    requires { ⌜ (base ≤ 8192) × (p ≤ 8192) ⌝ }
+    requires { ⌜ (base ≤ max-text-bytes) × (p ≤ max-text-bytes) ⌝ }
     ensures { λ r. ⌜ r ≡ Admission.Refused number (base + p) ⌝ }
 {
     Admission::Refused {
@@ -63,14 +70,14 @@ fn refused(number: usize, base: usize, p: usize) -> Admission
 
 // At a rule's name.
 fn refused_at(number: usize, base: usize, rules: &[usize], rule: usize) -> Admission
-    requires { ⌜ (length (now rules) ≡ 325) × (base ≤ 8192) × ((k : ℕ) → named-at (now rules) k ≤ 8192) ⌝ }
+    requires { ⌜ (length (now rules) ≡ rules-room) × (base ≤ max-text-bytes) × ((k : ℕ) → named-at (now rules) k ≤ max-text-bytes) ⌝ }
     ensures { λ r. ⌜ r ≡ Admission.Refused number (base + named-at (now (rules .entry)) rule) ⌝ }
 {
     refused(number, base, rule_word(rules, rule, NAMED_AT))
 }
 
 fn conflict(nodes: &[usize], base: usize, construct: usize, clash: Clash) -> Admission
-    requires { ⌜ (length (now nodes) ≡ 2560) × (base ≤ 8192) × ((i : ℕ) → (node-word (now nodes) i 2 ≤ 8192) × (node-word (now nodes) i 4 ≤ 8192)) ⌝ }
+    requires { ⌜ (length (now nodes) ≡ nodes-room) × (base ≤ max-text-bytes) × ((i : ℕ) → (node-word (now nodes) i 2 ≤ max-text-bytes) × (node-word (now nodes) i 4 ≤ max-text-bytes)) ⌝ }
     ensures { λ r. ⌜ r ≡ Admission.Conflict (base + place-of (now (nodes .entry)) construct) construct clash ⌝ }
 {
     Admission::Conflict {
@@ -82,10 +89,10 @@ fn conflict(nodes: &[usize], base: usize, construct: usize, clash: Clash) -> Adm
 
 // 9 to 11, of words that pass 5 to 8.
 fn judged(nodes: &[usize], rules: &[usize], base: usize, words: &mut [u32]) -> Admission
-    requires { ⌜ Passed8 (now words) × (length (now nodes) ≡ 2560) × (length (now rules) ≡ 325) × (base ≤ 8192) × Within (now nodes) (now rules) ⌝ }
+    requires { ⌜ Passed8 (now words) × (length (now nodes) ≡ nodes-room) × (length (now rules) ≡ rules-room) × (base ≤ max-text-bytes) × Within (now nodes) (now rules) ⌝ }
     ensures { λ r. ⌜ Late (now (nodes .entry)) (now (rules .entry)) base (now (words .entry)) (now (words .exit)) r ⌝ }
 {
-    let mut first = [0u64; 2056];
+    let mut first = [0u64; FAMILY_WORDS];
     match table_fill::complete(words, &mut first) {
         Judgement::EmptyBody { construct: _ } => {
             refused(9, base, marks::least_mark(words, &first, nodes))
@@ -115,7 +122,7 @@ fn is_admitted(answer: Admission) -> bool
 
 // An admitted grammar's table goes to the caller.
 fn handed_over(answer: Admission, words: &[u32], table: &mut [u32]) -> Admission
-    requires { ⌜ (length (now words) ≡ 16384) × (16384 ≤ length (now table)) ⌝ }
+    requires { ⌜ (length (now words) ≡ table-words) × (table-words ≤ length (now table)) ⌝ }
     ensures { λ r. ⌜ (r ≡ answer) × HandedOver answer (now (words .entry)) (now (table .entry)) (now (table .exit)) ⌝ }
 {
     if is_admitted(answer) {
@@ -135,7 +142,7 @@ fn admit_words(
     words: &mut [u32],
     table: &mut [u32],
 ) -> Admission
-    requires { ⌜ Straight (now text) (state-at c (now nodes) (now terms) (now rules)) × (now words ≡ words-of (now text) (state-at c (now nodes) (now terms) (now rules))) × (length (now text) ≤ 8192) × (base ≤ 8192) × (16384 ≤ length (now table)) ⌝ }
+    requires { ⌜ Straight (now text) (state-at c (now nodes) (now terms) (now rules)) × (now words ≡ words-of (now text) (state-at c (now nodes) (now terms) (now rules))) × (length (now text) ≤ max-text-bytes) × (base ≤ max-text-bytes) × (table-words ≤ length (now table)) ⌝ }
     ensures { λ r. ⌜ AnsweredRules (now (text .entry)) base (now (table .entry)) (now (table .exit)) r ⌝ }
 {
     match extents::first_oversized(text, nodes, terms, c.nodes, c.terms, words) {
@@ -157,10 +164,10 @@ fn admit_read(
     base: usize,
     table: &mut [u32],
 ) -> Admission
-    requires { ⌜ Named (now text) (state-at c (now nodes) (now terms) (now rules)) × (length (now text) ≤ 8192) × (base ≤ 8192) × (16384 ≤ length (now table)) ⌝ }
+    requires { ⌜ Named (now text) (state-at c (now nodes) (now terms) (now rules)) × (length (now text) ≤ max-text-bytes) × (base ≤ max-text-bytes) × (table-words ≤ length (now table)) ⌝ }
     ensures { λ r. ⌜ AnsweredRules (now (text .entry)) base (now (table .entry)) (now (table .exit)) r ⌝ }
 {
-    let mut words = [0u32; 16384];
+    let mut words = [0u32; TABLE_WORDS];
     text_encoding::areas::encode(text, nodes, terms, rules, c.nodes, c.rules, &mut words);
     match table_reach::recursive_rule(&words) {
         Recursion::Rule(rule) => refused_at(7, base, rules, rule),
@@ -178,7 +185,7 @@ fn admit_checked(
     base: usize,
     table: &mut [u32],
 ) -> Admission
-    requires { ⌜ Right (now text) (state-at c (now nodes) (now terms) (now rules)) × (length (now text) ≤ 8192) × (base ≤ 8192) × (16384 ≤ length (now table)) ⌝ }
+    requires { ⌜ Right (now text) (state-at c (now nodes) (now terms) (now rules)) × (length (now text) ≤ max-text-bytes) × (base ≤ max-text-bytes) × (table-words ≤ length (now table)) ⌝ }
     ensures { λ r. ⌜ AnsweredRules (now (text .entry)) base (now (table .entry)) (now (table .exit)) r ⌝ }
 {
     let past = text_names::limits::first_past(rules, c.rules);
@@ -194,12 +201,12 @@ fn admit_checked(
 
 // 4 to 11, of the text that follows the empty line; `base` is its place in the whole text.
 fn admit_rules(text: &[u8], base: usize, table: &mut [u32]) -> Admission
-    requires { ⌜ (length (now text) ≤ 8192) × (base ≤ 8192) × (16384 ≤ length (now table)) ⌝ }
+    requires { ⌜ (length (now text) ≤ max-text-bytes) × (base ≤ max-text-bytes) × (table-words ≤ length (now table)) ⌝ }
     ensures { λ r. ⌜ AnsweredRules (now (text .entry)) base (now (table .entry)) (now (table .exit)) r ⌝ }
 {
-    let mut nodes = [0usize; 2560];
-    let mut terms = [0usize; 4096];
-    let mut rules = [0usize; 325];
+    let mut nodes = [0usize; NODES_ROOM];
+    let mut terms = [0usize; TERMS_ROOM];
+    let mut rules = [0usize; RULES_ROOM];
     let c = text_syntax::rules::read(text, &mut nodes, &mut terms, &mut rules);
     if c.code == 0 {
         return refused(4, base, c.start);
@@ -209,7 +216,7 @@ fn admit_rules(text: &[u8], base: usize, table: &mut [u32]) -> Admission
 
 // The rules begin at `base`.
 fn admit_from(text: &[u8], base: usize, table: &mut [u32]) -> Admission
-    requires { ⌜ (base ≤ length (now text)) × (length (now text) ≤ 8192) × (16384 ≤ length (now table)) ⌝ }
+    requires { ⌜ (base ≤ length (now text)) × (length (now text) ≤ max-text-bytes) × (table-words ≤ length (now table)) ⌝ }
     ensures { λ r. ⌜ AnsweredRules (drop base (now (text .entry))) base (now (table .entry)) (now (table .exit)) r ⌝ }
 {
     admit_rules(&text[base..], base, table)
@@ -219,13 +226,13 @@ fn admit_from(text: &[u8], base: usize, table: &mut [u32]) -> Admission
 pub fn admit(text: &[u8], table: &mut [u32]) -> Admission
     ensures { λ r. ⌜ Answers (now (text .entry)) (now (table .entry)) (now (table .exit)) r ⌝ }
 {
-    if table.len() < 16384 {
+    if table.len() < TABLE_WORDS {
         return refused(1, 0, 0);
     }
     if text.len() == 0 {
         return refused(2, 0, 0);
     }
-    if 8192 < text.len() {
+    if MAX_TEXT_BYTES < text.len() {
         return refused(2, 0, 0);
     }
     match text_header::header::header(text) {

@@ -7,13 +7,14 @@ ghost use mathlib.Core.Path.{_≡_};
 ghost use mathlib.Core.Bool.{true};
 ghost use Prim.Native.Nat.{_≤_, _<_};
 ghost use lib.ListN.{length};
+ghost use Rattle.text_store.specs.Words.{nodes-room};
 ghost use Rattle.table_layout.specs.Places.{construct-count};
 ghost use Rattle.table_wellformed.specs.Laid.{laid as laidOf};
-ghost use Rattle.table_first_follow.specs.Sets.{FirstSets};
+ghost use Rattle.table_first_follow.specs.Sets.{FirstSets, family-words};
 ghost use Rattle.admission.specs.Late.{Marks};
 
 pub fn least_mark(table: &[u32], first: &[u64], nodes: &[usize]) -> usize
-    requires { ⌜ (laidOf (now table) ≡ true) × (length (now first) ≡ 2056) × FirstSets (now table) (now first) × (length (now nodes) ≡ 2560) ⌝ }
+    requires { ⌜ (laidOf (now table) ≡ true) × (length (now first) ≡ family-words) × FirstSets (now table) (now first) × (length (now nodes) ≡ nodes-room) ⌝ }
     ensures { λ r. ⌜ Marks (now (nodes .entry)) (now (table .entry)) (construct-count (now (table .entry))) r ⌝ }
 {
     let count = table_layout::word(table, 2);

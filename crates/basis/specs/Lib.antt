@@ -1,3 +1,4 @@
 pub mod Bits
 pub mod Lookahead
 pub mod Counts
+pub mod Limits

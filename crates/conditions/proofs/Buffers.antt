@@ -8,6 +8,7 @@ use mathlib.Core.List.{List}
 use native.Mathlib.Omega.{arith}
 use lib.Dec.{leb}
 use lib.ListN.{length, take, drop}
+use Rattle.basis.specs.Limits.{max-frame-bytes}
 use Rattle.table_layout.specs.Places.{table-words}
 use Rattle.table_layout.specs.Constructs.{pick}
 use Rattle.run_steps.specs.Steps.{Whole, whole, steps-of}
@@ -77,7 +78,7 @@ module _ (ws fs rs : List ℕ) (run : Run) (n : ℕ) where
       → ((w : Whole) → Recorded (whole-of rs run) w → P (after-steps (run .steps) w)) → P (grant-of ws fs rs run n)
   unfolding grant-of
   in-each P long unfit made =
-      by (leb (length fs) 256) (fitting ws fs (length rs) (run .constructs) (run .passes) (head-of run)) (steps-of ws fs n (whole-of rs run)) (steps-record ws fs n (whole-of rs run))
+      by (leb (length fs) max-frame-bytes) (fitting ws fs (length rs) (run .constructs) (run .passes) (head-of run)) (steps-of ws fs n (whole-of rs run)) (steps-record ws fs n (whole-of rs run))
     where
       by : (s t : Bool) (w : Whole) → Recorded (whole-of rs run) w → P (pick s (pick t (after-steps (run .steps) w) (after run rs GrantAnswer.Unfit)) (after run rs GrantAnswer.LongFrame))
       by true true w r = made w r

@@ -11,6 +11,7 @@ use borrow.Author.Tests.{eqb-true, eqb-false, eq-eqb, ne-eqb}
 use lib.Dec.{eqb, ltb}
 use lib.ListN.{length, getD, set, take, drop, length-set}
 use lib.Seq.{sets, length-sets, drop-set-lt, getD-set-same}
+use Rattle.basis.specs.Limits.{max-frame-bytes, max-entries}
 use Rattle.table_layout.specs.Constructs.{pick}
 use Rattle.table_layout.specs.Places.{table-of}
 use Rattle.run_actions.specs.Acts.{bits-of}
@@ -22,7 +23,7 @@ use Rattle.run_grants.specs.Composing.{further}
 use Rattle.run_grants.specs.declared.Run.{Run}
 use Rattle.run_grants.specs.declared.Answer.{Answer as GrantAnswer}
 use Rattle.run_grants.proofs.Grants.{refusal-told, grants-compose}
-use Rattle.run_saved.specs.Saved.{plain, saved-bytes, encoded, decoded, restored}
+use Rattle.run_saved.specs.Saved.{plain, saved-bytes, encoded, decoded, restored, entries-at, passes-at}
 use Rattle.run_saved.proofs.Bytes.{numbers-length}
 use Rattle.run_saved.proofs.Saving.{restored-is}
 use Rattle.run_matcher.specs.Opening.{Answered, Opened, run-given, number-of as opening-number}
@@ -111,22 +112,22 @@ open-answered Answer.Opened true e = (refl, refl)
 open-answered Answer.Opened false e = absurd (omega (arith, e))
 
 module _ (table frame reading run run′ : List ℕ) (number : ℕ) (o : Opens table frame reading run run′ number) where
-  zero-is : number ≡ 0 → (o .answer ≡ Answer.Opened) × (length run ≡ 2596)
+  zero-is : number ≡ 0 → (o .answer ≡ Answer.Opened) × (length run ≡ saved-bytes)
   zero-is e =
-      let z = open-answered (o .answer) (eqb (length run) 2596) (sym (o .number-is) ∙ e) in
-      (z .0, eqb-true (length run) 2596 (z .1))
+      let z = open-answered (o .answer) (eqb (length run) saved-bytes) (sym (o .number-is) ∙ e) in
+      (z .0, eqb-true (length run) saved-bytes (z .1))
 
-  is-zero : o .answer ≡ Answer.Opened → length run ≡ 2596 → number ≡ 0
-  is-zero e l = o .number-is ∙ ap₂ numbered-so e (eq-eqb (length run) 2596 l)
+  is-zero : o .answer ≡ Answer.Opened → length run ≡ saved-bytes → number ≡ 0
+  is-zero e l = o .number-is ∙ ap₂ numbered-so e (eq-eqb (length run) saved-bytes l)
 
   open-leaves : OpenLeaves run run′ number
   open-leaves =
       record {
-        numbered = subst (λ (n : ℕ). (n ≡ 0) ⊎ (n ≡ 21) ⊎ (n ≡ 22) ⊎ (n ≡ 23) ⊎ (n ≡ 24)) (sym (o .number-is)) (open-numbers (o .answer) (eqb (length run) 2596));
+        numbered = subst (λ (n : ℕ). (n ≡ 0) ⊎ (n ≡ 21) ⊎ (n ≡ 22) ⊎ (n ≡ 23) ⊎ (n ≡ 24)) (sym (o .number-is)) (open-numbers (o .answer) (eqb (length run) saved-bytes));
         run-length = o .run-length;
-        refused = λ h l. o .read-back l ∙ open-refused (o .answer) (λ e. h (o .number-is ∙ ap (numbered-so (o .answer)) (eq-eqb (length run) 2596 l) ∙ e));
-        other-only = λ e l. open-24 (o .answer) (sym (ap (numbered-so (o .answer)) (eq-eqb (length run) 2596 l)) ∙ sym (o .number-is) ∙ e);
-        other-length = λ h. (λ e. h (zero-is e .1), o .run-is ∙ ap (λ (s : Bool). pick s (encoded (run-given (o .answer))) run) (ne-eqb (length run) 2596 h));
+        refused = λ h l. o .read-back l ∙ open-refused (o .answer) (λ e. h (o .number-is ∙ ap (numbered-so (o .answer)) (eq-eqb (length run) saved-bytes l) ∙ e));
+        other-only = λ e l. open-24 (o .answer) (sym (ap (numbered-so (o .answer)) (eq-eqb (length run) saved-bytes l)) ∙ sym (o .number-is) ∙ e);
+        other-length = λ h. (λ e. h (zero-is e .1), o .run-is ∙ ap (λ (s : Bool). pick s (encoded (run-given (o .answer))) run) (ne-eqb (length run) saved-bytes h));
       }
 
 -- ---- songrafter_grant
@@ -143,7 +144,7 @@ module _ (table frame reading reading′ run run′ taken taken′ : List ℕ) (
   count-beyond : (n : ℕ) → taken′ ≡ set taken 0 n → (length taken′ ≡ length taken) × (drop 1 taken′ ≡ drop 1 taken)
   count-beyond n e = (ap length e ∙ length-set taken 0 n, ap (drop 1) e ∙ drop-set-lt 1 taken 0 n (omega arith))
 
-  of-saved : length run ≡ 2596 → GrantLeaves reading reading′ run run′ taken taken′ number
+  of-saved : length run ≡ saved-bytes → GrantLeaves reading reading′ run run′ taken taken′ number
   of-saved l =
       let x = granted table frame reading run steps in
       let c = condition-1 .granting (table-of table) frame reading (decoded run) steps in
@@ -161,11 +162,11 @@ module _ (table frame reading reading′ run run′ taken taken′ : List ℕ) (
         taken-beyond = count-beyond (taken-of (answer-in x)) (s .3);
       }
 
-  of-other : (length run ≡ 2596 → ⊥) → GrantLeaves reading reading′ run run′ taken taken′ number
+  of-other : (length run ≡ saved-bytes → ⊥) → GrantLeaves reading reading′ run run′ taken taken′ number
   of-other h =
       let s = g .other h in
       record {
-        numbered = subst GrantNumber (sym (s .0)) (no-run-numbers (ltb 256 (length frame)));
+        numbered = subst GrantNumber (sym (s .0)) (no-run-numbers (ltb max-frame-bytes (length frame)));
         refused = λ e. (s .2, s .1, s .3);
         at-rest = λ e. (s .2, s .1, s .3);
         run-length = g .run-length;
@@ -175,11 +176,11 @@ module _ (table frame reading reading′ run run′ taken taken′ : List ℕ) (
       }
 
   grant-leaves : GrantLeaves reading reading′ run run′ taken taken′ number
-  grant-leaves = by (eqb (length run) 2596) refl
+  grant-leaves = by (eqb (length run) saved-bytes) refl
     where
-      by : (b : Bool) → eqb (length run) 2596 ≡ b → GrantLeaves reading reading′ run run′ taken taken′ number
-      by true e = of-saved (eqb-true (length run) 2596 e)
-      by false e = of-other (eqb-false (length run) 2596 e)
+      by : (b : Bool) → eqb (length run) saved-bytes ≡ b → GrantLeaves reading reading′ run run′ taken taken′ number
+      by true e = of-saved (eqb-true (length run) saved-bytes e)
+      by false e = of-other (eqb-false (length run) saved-bytes e)
 
 pub calls-1 : Calls1
 calls-1 = record { admitting = admit-leaves; opening = open-leaves; granting = grant-leaves }
@@ -196,22 +197,22 @@ open-once : (table frame reading run run₁ run₂ : List ℕ) (m n : ℕ) → O
 open-once table frame reading run run₁ run₂ m n a b =
     let e : a .answer ≡ b .answer = answer-once table frame reading (a .answer) (b .answer) (a .answered) (b .answered) in (
       a .number-is ∙ ap (λ (x : Answer). number-with-room (opening-number x) (length run)) e ∙ sym (b .number-is),
-      a .run-is ∙ ap (λ (x : Answer). pick (eqb (length run) 2596) (encoded (run-given x)) run) e ∙ sym (b .run-is),
+      a .run-is ∙ ap (λ (x : Answer). pick (eqb (length run) saved-bytes) (encoded (run-given x)) run) e ∙ sym (b .run-is),
     )
 
 grant-once : (table frame reading reading₁ reading₂ run run₁ run₂ taken taken₁ taken₂ : List ℕ) (steps m n : ℕ)
     → Grants table frame reading reading₁ run run₁ taken taken₁ steps m → Grants table frame reading reading₂ run run₂ taken taken₂ steps n
     → (m ≡ n) × (reading₁ ≡ reading₂) × (run₁ ≡ run₂) × (taken₁ ≡ taken₂)
-grant-once table frame reading reading₁ reading₂ run run₁ run₂ taken taken₁ taken₂ steps m n a b = by (eqb (length run) 2596) refl
+grant-once table frame reading reading₁ reading₂ run run₁ run₂ taken taken₁ taken₂ steps m n a b = by (eqb (length run) saved-bytes) refl
   where
-    by : (s : Bool) → eqb (length run) 2596 ≡ s → (m ≡ n) × (reading₁ ≡ reading₂) × (run₁ ≡ run₂) × (taken₁ ≡ taken₂)
+    by : (s : Bool) → eqb (length run) saved-bytes ≡ s → (m ≡ n) × (reading₁ ≡ reading₂) × (run₁ ≡ run₂) × (taken₁ ≡ taken₂)
     by true e =
-        let l = eqb-true (length run) 2596 e in
+        let l = eqb-true (length run) saved-bytes e in
         let p = a .saved l in
         let q = b .saved l in
         (p .0 ∙ sym (q .0), p .1 ∙ sym (q .1), p .2 ∙ sym (q .2), p .3 ∙ sym (q .3))
     by false e =
-        let l = eqb-false (length run) 2596 e in
+        let l = eqb-false (length run) saved-bytes e in
         let p = a .other l in
         let q = b .other l in
         (p .0 ∙ sym (q .0), p .1 ∙ sym (q .1), p .2 ∙ sym (q .2), p .3 ∙ sym (q .3))
@@ -223,17 +224,17 @@ one-outcome = record { admitting = admit-once; opening = open-once; granting = g
 
 pub one-and-many : OneAndMany
 unfolding decoded
-one-and-many table frame reading reading₁ reading₂ reading₃ run run₁ run₂ run₃ t t₁ u u₁ v v₁ m n a b c g h k = by (eqb (length run) 2596) refl
+one-and-many table frame reading reading₁ reading₂ reading₃ run run₁ run₂ run₃ t t₁ u u₁ v v₁ m n a b c g h k = by (eqb (length run) saved-bytes) refl
   where
     -- what is written where there is room is read there
     written : (xs : List ℕ) (d : ℕ) (ys : List ℕ) → ys ≡ set xs 0 d → 1 ≤ length xs → getD ys 0 0 ≡ d
     written xs d ys e l = ap (λ (zs : List ℕ). getD zs 0 0) e ∙ getD-set-same xs 0 d 0 (omega (arith, l))
 
-    by : (s : Bool) → eqb (length run) 2596 ≡ s
+    by : (s : Bool) → eqb (length run) saved-bytes ≡ s
         → (a ≡ c) × (b ≡ c) × (run₂ ≡ run₃) × (reading₂ ≡ reading₃) × (1 ≤ length t → 1 ≤ length u → 1 ≤ length v → getD t₁ 0 0 + getD u₁ 0 0 ≡ getD v₁ 0 0)
     by true e =
-        let l : length run ≡ 2596 = eqb-true (length run) 2596 e in
-        let full : length run₁ ≡ 2596 = g .run-length ∙ l in
+        let l : length run ≡ saved-bytes = eqb-true (length run) saved-bytes e in
+        let full : length run₁ ≡ saved-bytes = g .run-length ∙ l in
         let x = g .saved l in
         let y = h .saved full in
         let z = k .saved l in
@@ -242,7 +243,7 @@ one-and-many table frame reading reading₁ reading₂ reading₃ run run₁ run
         let read : decoded run₁ ≡ run-in (granted table frame reading run m) = sym (restored-is run₁ full) ∙ g .read-back l .1 in
         let then : granted table frame reading₁ run₁ n ≡ further (table-of table) frame (granted table frame reading run m) n =
         ap₂ (λ (r : Run) (rs : List ℕ). grant-of (table-of table) frame rs r n) read (x .1) in
-        let w = grants-compose (table-of table) frame reading (decoded run) m n (numbers-length plain 4 256 (drop 548 run), numbers-length plain 4 256 (drop 1572 run)) in (
+        let w = grants-compose (table-of table) frame reading (decoded run) m n (numbers-length plain 4 max-entries (drop entries-at run), numbers-length plain 4 max-entries (drop passes-at run)) in (
           x .0 ∙ first ∙ sym whole ∙ sym (z .0),
           y .0 ∙ ap (λ (q : After). number-of (answer-in q)) then ∙ w .number ∙ sym (z .0),
           y .2 ∙ ap (λ (q : After). encoded (run-in q)) then ∙ ap encoded (w .run) ∙ sym (z .2),
@@ -250,7 +251,7 @@ one-and-many table frame reading reading₁ reading₂ reading₃ run run₁ run
           (λ p q r. ap₂ _+_ (written t _ t₁ (x .3) p) (written u _ u₁ (y .3) q ∙ ap (λ (s : After). taken-of (answer-in s)) then) ∙ w .taken ∙ sym (written v _ v₁ (z .3) r)),
         )
     by false e =
-        let l : length run ≡ 2596 → ⊥ = eqb-false (length run) 2596 e in
+        let l : length run ≡ saved-bytes → ⊥ = eqb-false (length run) saved-bytes e in
         let x = g .other l in
         let y = h .other (λ z. l (sym (g .run-length) ∙ z)) in
         let z = k .other l in (
@@ -265,7 +266,7 @@ one-and-many table frame reading reading₁ reading₂ reading₃ run run₁ run
 
 opens-where : (text old table answer answer′ : List ℕ) → Admits text old table answer answer′ 0
     → (frame reading run run′ : List ℕ) (number : ℕ) → Opens table frame reading run run′ number
-    → (number ≡ 0) ↔ ((length frame ≤ 256) × (2 * bits-of frame ≤ length reading) × (length run ≡ saved-bytes))
+    → (number ≡ 0) ↔ ((length frame ≤ max-frame-bytes) × (2 * bits-of frame ≤ length reading) × (length run ≡ saved-bytes))
 opens-where text old table answer answer′ a frame reading run run′ number o =
     let w = weighed text old table answer answer′ a in
     let e = condition-2 .opened text old table (w .weight) (w .answers) frame reading (o .answer) (o .answered) in (
@@ -281,7 +282,7 @@ calls-2 =
 
 -- the bytes and the words are those of a run and a reading kept between grants
 record Same (run reading : List ℕ) (k : Kept) : Type 0 where
-  full : length run ≡ 2596
+  full : length run ≡ saved-bytes
   bytes-are : run ≡ encoded (run-kept k)
   read-as : decoded run ≡ run-kept k
   words-are : reading ≡ reading-kept k
@@ -307,7 +308,7 @@ module _ (table frame : List ℕ) where
     after-own : Same run₁ reading₁ (next table frame k (own steps))
     after-own =
         let x = g .saved (s .full) in
-        let full : length run₁ ≡ 2596 = g .run-length ∙ s .full in
+        let full : length run₁ ≡ saved-bytes = g .run-length ∙ s .full in
         record {
           full = full;
           bytes-are = x .2 ∙ ap (λ (y : After). encoded (run-in y)) same-grant;
@@ -366,7 +367,7 @@ calls-3 text old table answer answer′ a frame reading room run o =
     let claim = condition-3 text old table (w .weight) (w .answers) (x .reading) frame reading opened in
     let first : Same run reading (start reading) = record {
       full = o .run-length ∙ z .1;
-      bytes-are = o .run-is ∙ ap₂ (λ (s : Bool) (y : Answer). pick s (encoded (run-given y)) room) (eq-eqb (length room) 2596 (z .1)) (z .0);
+      bytes-are = o .run-is ∙ ap₂ (λ (s : Bool) (y : Answer). pick s (encoded (run-given y)) room) (eq-eqb (length room) saved-bytes (z .1)) (z .0);
       read-as = sym (restored-is run (o .run-length ∙ z .1)) ∙ o .read-back (z .1) ∙ ap run-given (z .0);
       words-are = refl;
     } in

@@ -6,6 +6,7 @@ use mathlib.Core.Logic.{_↔_}
 use mathlib.Core.List.{List}
 use native.Mathlib.Omega.{arith}
 use lib.ListN.{length}
+use Rattle.basis.specs.Limits.{max-frame-bytes}
 use Rattle.basis.specs.Bits.{Bits}
 use Rattle.theory.specs.Grammar.{Grammar}
 use Rattle.theory.specs.Derivation.{Tree, Derivation}
@@ -46,7 +47,7 @@ matching text old table weight a x fs rs o gs r =
     subst (λ (g : Grammar Context Values). Exact g fs rs (here table fs rs gs)) (same-grammar text old table weight a x) (exact table fs rs o gs r)
 
 -- one answer, of a sound table
-opens : (ws fs rs : List ℕ) (answer : Answer) → SoundTable ws → Answered ws fs rs answer → (answer ≡ Answer.Opened) ↔ ((length fs ≤ 256) × (2 * bits-of fs ≤ length rs))
+opens : (ws fs rs : List ℕ) (answer : Answer) → SoundTable ws → Answered ws fs rs answer → (answer ≡ Answer.Opened) ↔ ((length fs ≤ max-frame-bytes) × (2 * bits-of fs ≤ length rs))
 opens ws fs rs Answer.Unsound s a = absurd (a s)
 opens ws fs rs Answer.LongFrame s a = (λ e. (let z : _≡_ {A = ℕ} 0 1 = cc in absurd (omega arith)), λ h. absurd (omega (arith, a .1, h .0)))
 opens ws fs rs Answer.SmallReading s a = (λ e. (let z : _≡_ {A = ℕ} 0 1 = cc in absurd (omega arith)), λ h. absurd (omega (arith, a .2, h .1)))

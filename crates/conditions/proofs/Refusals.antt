@@ -7,6 +7,7 @@ use mathlib.Core.List.{List, [], _∷_}
 use native.Mathlib.Omega.{arith}
 use native.Mathlib.Decide.{decLt}
 use lib.ListN.{length, drop, getD, length-drop}
+use Rattle.basis.specs.Limits.{max-text-bytes}
 use Rattle.theory.specs.Grammar.{Grammar}
 use Rattle.theory.specs.Lookahead.{EmptyBody}
 use Rattle.theory.specs.Weight.{Weighs}
@@ -138,7 +139,7 @@ refused-not-right o st place e f = let d : right st ≡ refused place = sym e �
 found-not-nothing : (o : Found) (place : ℕ) → o ≡ Found.Nothing → o ≡ Found.At place → ⊥
 found-not-nothing o place e f = let d : Found.Nothing ≡ Found.At place = sym e ∙ f in let z : _≡_ {A = ℕ} 0 1 = cc in omega arith
 
-some-size : (n : ℕ) → 1 ≤ n → n ≤ 8192 → (n ≡ 0) ⊎ (8192 < n) → ⊥
+some-size : (n : ℕ) → 1 ≤ n → n ≤ max-text-bytes → (n ≡ 0) ⊎ (max-text-bytes < n) → ⊥
 some-size n a b (inl e) = omega arith
 some-size n a b (inr l) = omega arith
 
@@ -146,14 +147,14 @@ module _ (text table : List ℕ) where
   pub below-2 : table-words ≤ length table → NoneBelow text table 2
   below-2 l = below-next text table short-table (below-1 text table) (λ q e. omega (arith, e .0))
 
-  pub below-3 : table-words ≤ length table → 1 ≤ length text → length text ≤ 8192 → NoneBelow text table 3
+  pub below-3 : table-words ≤ length table → 1 ≤ length text → length text ≤ max-text-bytes → NoneBelow text table 3
   below-3 l a b = below-next text table wrong-size (below-2 l) (λ q e. some-size (length text) a b (e .0))
 
   module _ (base : ℕ) (h : Headed text table base) where
     abbrev pub xs : List ℕ
     xs = drop base text
 
-    pub fitting : length xs ≤ 8192
+    pub fitting : length xs ≤ max-text-bytes
     fitting = omega (arith, length-drop base text, h .short)
 
     pub below-4 : NoneBelow text table 4

@@ -5,6 +5,7 @@ use mathlib.Core.Path.{_≡_, refl, sym, ap, ap₂, subst, _∙_}
 use mathlib.Core.List.{List}
 use native.Mathlib.Omega.{arith}
 use lib.ListN.{length, drop, length-drop}
+use Rattle.basis.specs.Limits.{max-text-bytes, table-words}
 use Rattle.theory.specs.Grammar.{Node, alternative, concatenation, repetition, switch, use-of, field, eod, Grammar}
 use Rattle.theory.specs.Scope.{local-node, localised}
 use Rattle.theory.specs.Weight.{Weighs}
@@ -72,12 +73,12 @@ module _ (ws : List ℕ) where
 
 -- ---- the words of an admitted text
 
-pub words-hold : (xs : List ℕ) (st : State) → Bounded xs st → length xs ≤ 8192 → held (words-of xs st) ≡ meant xs st
+pub words-hold : (xs : List ℕ) (st : State) → Bounded xs st → length xs ≤ max-text-bytes → held (words-of xs st) ≡ meant xs st
 words-hold xs (state ns ts rs n t b r) p h =
     let f = facts xs (state ns ts rs n t b r) (p .passed .passed .passed) h in
     holds-text (readable xs ns ts rs n t b r p f h) (f .shape .stored) (f .basics .places)
 
-words-mean : (xs : List ℕ) (st : State) → Bounded xs st → length xs ≤ 8192 → Meanings xs (node-words st) (term-words st) (rule-words st) (nodes-of st) (rules-of st)
+words-mean : (xs : List ℕ) (st : State) → Bounded xs st → length xs ≤ max-text-bytes → Meanings xs (node-words st) (term-words st) (rule-words st) (nodes-of st) (rules-of st)
 words-mean xs (state ns ts rs n t b r) p h =
     let f = facts xs (state ns ts rs n t b r) (p .passed .passed .passed) h in
     meanings (readable xs ns ts rs n t b r p f h) (f .shape .stored) (f .basics .places)
@@ -86,7 +87,7 @@ module _ (text old new : List ℕ) (weight base : ℕ) (h : Headed text old base
   abbrev xs : List ℕ
   xs = drop base text
 
-  fitting : length xs ≤ 8192
+  fitting : length xs ≤ max-text-bytes
   fitting = omega (arith, length-drop base text, h .short)
 
   table-holds : held (table-of new) ≡ meant xs (p .st)
@@ -112,7 +113,7 @@ module _ (text old new : List ℕ) (weight base : ℕ) (h : Headed text old base
               passes = p .passes;
             };
         forms = words-mean xs (p .st) (p .passes .passed) fitting;
-        sound = ((let z : 16384 ≤ length new = omega (arith, p .table .length-kept, h .table-fits) in z), p .table .sound);
+        sound = ((let z : table-words ≤ length new = omega (arith, p .table .length-kept, h .table-fits) in z), p .table .sound);
         holds = table-holds;
         weight-stored = sym (p .table .sound .weight (λ c i. weight-at (table-of new) i) weigh-table) ∙ weights (λ c i. weight-at (table-of new) i) weigh-text;
         weights = weights;

@@ -8,6 +8,7 @@ use mathlib.Core.Logic.{_⊎_, _↔_}
 use mathlib.Core.List.{List, [], _∷_}
 use mathlib.Core.Option.{Option, none, some}
 use lib.ListN.{length, getD, set, take, drop}
+use Rattle.basis.specs.Limits.{max-frame-bytes}
 use Rattle.theory.specs.Grammar.{Grammar}
 use Rattle.table_layout.specs.Places.{table-words}
 use Rattle.table_layout.specs.Held.{Context, Values}
@@ -84,7 +85,7 @@ pub record Calls2 : Type 0 where
   pub admitting : (text table table′ answer answer′ : List ℕ) (number : ℕ) (a : Admits text table table′ answer answer′ number) → Exactly text table (a .admission)
   pub opening : (text old table answer answer′ : List ℕ) → Admits text old table answer answer′ 0
       → (frame reading run run′ : List ℕ) (number : ℕ) → Opens table frame reading run run′ number
-      → (number ≡ 0) ↔ ((length frame ≤ 256) × (2 * bits-of frame ≤ length reading) × (length run ≡ saved-bytes))
+      → (number ≡ 0) ↔ ((length frame ≤ max-frame-bytes) × (2 * bits-of frame ≤ length reading) × (length run ≡ saved-bytes))
 
 -- ---- a kiosk's calls of songrafter_grant
 

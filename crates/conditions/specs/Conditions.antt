@@ -8,6 +8,7 @@ use mathlib.Core.Path.{_≡_}
 use mathlib.Core.Logic.{_⊎_, _↔_}
 use mathlib.Core.List.{List, _++_}
 use lib.ListN.{length, take, drop}
+use Rattle.basis.specs.Limits.{max-frame-bytes}
 use Rattle.basis.specs.Bits.{Bits, frameBits}
 use Rattle.theory.specs.Grammar.{Grammar}
 use Rattle.theory.specs.Derivation.{Tree, captures, Derivation}
@@ -111,7 +112,7 @@ pub record Condition2 : Type 0 where
   pub admitting : (text old new : List ℕ) (answer : Admission) → Answers text old new answer → Exactly text old answer
   -- a run is opened on its table exactly where the frame is not over 256 bytes and the reading has room
   pub opened : (text old table : List ℕ) (weight : ℕ) → Answers text old table (Admission.Admitted weight) → (fs rs : List ℕ) (answer : Answer) → Answered table fs rs answer
-      → (answer ≡ Answer.Opened) ↔ ((length fs ≤ 256) × (2 * bits-of fs ≤ length rs))
+      → (answer ≡ Answer.Opened) ↔ ((length fs ≤ max-frame-bytes) × (2 * bits-of fs ≤ length rs))
   -- of every text that is admitted, every frame and reading on which its table opens a run, and every list of grants
   pub matching : (text old table : List ℕ) (weight : ℕ) → Answers text old table (Admission.Admitted weight) → (x : Reading text)
       → (fs rs : List ℕ) → Opened table fs rs → (gs : List Grant) → OthersRefused table fs gs (start rs) → Exact (text-grammar x) fs rs (here table fs rs gs)

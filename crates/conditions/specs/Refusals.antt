@@ -6,6 +6,7 @@ use mathlib.Core.Logic.{_⊎_, _↔_}
 use mathlib.Core.List.{List}
 use mathlib.Core.Option.{some}
 use lib.ListN.{length, drop}
+use Rattle.basis.specs.Limits.{max-text-bytes, max-weight}
 use Rattle.basis.specs.Bits.{Bits}
 use Rattle.basis.specs.Lookahead.{number as window-number}
 use Rattle.theory.specs.Grammar.{alternative, Grammar, _∈_}
@@ -95,7 +96,7 @@ module _ (base : ℕ) (xs : List ℕ) (st : State) (p : ℕ) where
 
   -- "weight over 65,535", at the "start rule"
   abbrev pub TooHeavy : Type 0
-  TooHeavy = (w : Context → ℕ → ℕ) × Weighs (meant xs st) w × (65535 < w first-context opening) × (p ≡ base + named-at (rule-words st) 0)
+  TooHeavy = (w : Context → ℕ → ℕ) × Weighs (meant xs st) w × (max-weight < w first-context opening) × (p ≡ base + named-at (rule-words st) 0)
 
 -- ---- what an answer carries beside its number and place
 
@@ -138,7 +139,7 @@ Read text P p = (x : Reading text) × P (x .base) (drop (x .base) text) (x .st) 
 
 abbrev pub Fits : (text table : List ℕ) → Row → (place : ℕ) → Type 0
 Fits text table short-table p = (length table < table-words) × (p ≡ 0)
-Fits text table wrong-size p = ((length text ≡ 0) ⊎ (8192 < length text)) × (p ≡ 0)
+Fits text table wrong-size p = ((length text ≡ 0) ⊎ (max-text-bytes < length text)) × (p ≡ 0)
 Fits text table wrong-header p = header-of text ≡ Heading.Wrong p
 Fits text table wrong-form p = (base : ℕ) × (q : ℕ) × (header-of text ≡ Heading.Rules base) × (form (drop base text) ≡ refused q) × (p ≡ base + q)
 Fits text table past-limit p = Read text PastLimit p

@@ -5,6 +5,7 @@ use mathlib.Core.Path.{_≡_}
 use mathlib.Core.Bool.{true}
 use mathlib.Core.List.{List, []}
 use lib.ListN.{length, drop}
+use Rattle.basis.specs.Limits.{max-text-bytes}
 use Rattle.theory.specs.Grammar.{Grammar}
 use Rattle.theory.specs.Scope.{Scope, localised}
 use Rattle.table_layout.specs.Held.{Context, Values}
@@ -50,6 +51,6 @@ text-grammar x = localised store each-use fresh (rules-grammar x)
 -- document 01's rules admit the text, with this weight: 1 to 8,192 bytes, header and form right, and the rules pass 5 to 11
 pub record Admissible (text : List ℕ) (weight : ℕ) : Type 0 where
   pub some : 1 ≤ length text
-  pub short : length text ≤ 8192
+  pub short : length text ≤ max-text-bytes
   pub reading : Reading text
   pub passes : Passes (drop (reading .base) text) (reading .st) weight

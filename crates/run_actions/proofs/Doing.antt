@@ -11,6 +11,7 @@ use lib.Dec.{leb, ltb, eqb}
 use lib.IntN.{ℤ, pos}
 use lib.ListN.{take, drop}
 use lib.Pow.{pow-mono}
+use Rattle.basis.specs.Limits.{max-constructs, max-variables, max-width}
 use Rattle.basis.specs.Bits.{value, frameBits}
 use Rattle.basis.proofs.Frames.{value-take-less}
 use Rattle.term_evaluation.specs.Meaning.{membership}
@@ -18,7 +19,7 @@ use Rattle.term_evaluation.specs.declared.Counted.{Counted}
 use Rattle.term_evaluation.specs.declared.Tested.{Tested}
 use Rattle.table_layout.specs.Places.{rule-word, rule-count, construct-count}
 use Rattle.table_layout.specs.Constructs.{pick, both, constructAt}
-use Rattle.table_layout.specs.Held.{terms-of, size-of}
+use Rattle.table_layout.specs.Held.{terms-of, size-of, opening}
 use Rattle.table_layout.specs.declared.Construct.{Construct}
 use Rattle.run_actions.specs.Stored.{stored, prediction-at, follow-at}
 use Rattle.run_actions.specs.Acts.{in-table, whole-in-table, terms-in-table, binder-in-table, known-values, enter, open-rule, ahead-at, bits-of, walk, by-branch, branch-act, case-test, by-case, case-act, members-act, by-lookahead, choice-act, turn-act, counted, literal-holds, literal-act, range-act, by-set, bits-act, Fine, construct-act, actOf, part-count, Doable}
@@ -67,7 +68,7 @@ module _ (ws : List ℕ) (end : ℕ) where
       ]
 
   -- members, counted on from m, are the parts: where they are all there
-  members-are : (fs : List ℕ) (p start most j m : ℕ) → end ≤ 256 → end ≤ construct-count ws → m + count-from most j ≤ 256 → m + count-from most j ≡ part-count ws start end
+  members-are : (fs : List ℕ) (p start most j m : ℕ) → end ≤ max-constructs → end ≤ construct-count ws → m + count-from most j ≤ max-constructs → m + count-from most j ≡ part-count ws start end
       → Doable ws fs p (walk {A = ℕ → Act} (λ i rest n. rest (n + 1)) (λ n. Act.Members start end n) (λ n. Act.Broken) most ws j end m)
   unfolding walk
   members-are fs p start zero j m l c few e = (l, omega arith, c, (let z : m ≡ part-count ws start end = omega arith in z))
@@ -77,14 +78,14 @@ module _ (ws : List ℕ) (end : ℕ) where
             elim (decide (eqb (size j) 0)) [
               | inl z ↦ rw (t, z, walk) tt
               | inr z ↦
-                  let x : m + (count-from most (j + size j) + 1) ≤ 256 = rw (t, z, walk) at few in
+                  let x : m + (count-from most (j + size j) + 1) ≤ max-constructs = rw (t, z, walk) at few in
                   let y : m + (count-from most (j + size j) + 1) ≡ part-count ws start end = rw (t, z, walk) at e in
                   rw (t, z, walk) (members-are fs p start most (j + size j) (m + 1) l c (omega arith) (omega arith))
             ]
         | inr t ↦
-            let x : m + 0 ≤ 256 = rw (t, walk) at few in
+            let x : m + 0 ≤ max-constructs = rw (t, walk) at few in
             let y : m + 0 ≡ part-count ws start end = rw (t, walk) at e in
-            rw (t, walk) (l, (let z : m ≤ 256 = omega arith in z), c, (let z : m ≡ part-count ws start end = omega arith in z))
+            rw (t, walk) (l, (let z : m ≤ max-constructs = omega arith in z), c, (let z : m ≡ part-count ws start end = omega arith in z))
       ]
 
 module _ (ws fs : List ℕ) (vs : List ℤ) (p : ℕ) where
@@ -99,12 +100,12 @@ module _ (ws fs : List ℕ) (vs : List ℤ) (p : ℕ) where
   enter-good : (i : ℕ) → Good (enter ws i)
   enter-good i =
       picked (in-table ws i) (Act.Enter i) Act.Broken
-      (λ e. let x = both-true (ltb i 256) (ltb i (construct-count ws)) e in (ltb-true i 256 (x .0), ltb-true i (construct-count ws) (x .1))) tt
+      (λ e. let x = both-true (ltb i max-constructs) (ltb i (construct-count ws)) e in (ltb-true i max-constructs (x .0), ltb-true i (construct-count ws) (x .1))) tt
 
   -- parts that end within the table
-  module _ (end : ℕ) (l : end ≤ 256) (c : end ≤ construct-count ws) where
+  module _ (end : ℕ) (l : end ≤ max-constructs) (c : end ≤ construct-count ws) where
     part-good : (i : ℕ) → i < end → Good (Act.Enter i)
-    part-good i m = ((let z : i < 256 = omega arith in z), (let z : i < construct-count ws = omega arith in z))
+    part-good i m = ((let z : i < max-constructs = omega arith in z), (let z : i < construct-count ws = omega arith in z))
 
     branch-good : (n j : ℕ) → Good (branch-act ws n j end)
     branch-good n j = walk-keeps Good (λ i rest. by-branch (stored ws (prediction-at i) n) i rest) Act.Fail Act.Broken ws end tt tt (λ i rest m h. visit i rest (stored ws (prediction-at i) n) m h) (end - j) j
@@ -125,12 +126,12 @@ module _ (ws fs : List ℕ) (vs : List ℤ) (p : ℕ) where
     members-good : (start : ℕ) → Good (members-act ws start end)
     members-good start =
         let few : part-count ws start end ≤ end - start = count-few ws end (end - start) start in
-        members-are ws end fs p start (end - start) start 0 l c (let z : 0 + part-count ws start end ≤ 256 = omega arith in z) (let z : 0 + part-count ws start end ≡ part-count ws start end = omega arith in z)
+        members-are ws end fs p start (end - start) start 0 l c (let z : 0 + part-count ws start end ≤ max-constructs = omega arith in z) (let z : 0 + part-count ws start end ≡ part-count ws start end = omega arith in z)
 
   -- a repetition whose body is in the table
-  module _ (i : ℕ) (l : i < 255) (c : i + 1 < construct-count ws) where
+  module _ (i : ℕ) (l : i + 1 < max-constructs) (c : i + 1 < construct-count ws) where
     body-good : Good (Act.Again (i + 1))
-    body-good = ((let z : i + 1 < 256 = omega arith in z), c)
+    body-good = ((let z : i + 1 < max-constructs = omega arith in z), c)
 
     choice-good : (n : ℕ) → Good (choice-act ws n i)
     choice-good n = by (stored ws (prediction-at (i + 1)) n) (stored ws (follow-at i) n)
@@ -160,13 +161,13 @@ module _ (ws fs : List ℕ) (vs : List ℤ) (p : ℕ) where
       picked (leb (p + 8) (bits-of fs)) (pick (both (leb low v) (leb v high)) (Act.Take 8 0 0) Act.Fail) Act.Fail
       (λ e. picked (both (leb low v) (leb v high)) (Act.Take 8 0 0) Act.Fail (λ h. (leb-true (p + 8) (bits-of fs) e, omega arith, omega arith, omega arith)) tt) tt
 
-  set-good : (t : Tested) (width binder n : ℕ) → p + width ≤ bits-of fs → binder ≤ 64 → n < 4294967296 → 1 ≤ width → Good (by-set t width binder n)
+  set-good : (t : Tested) (width binder n : ℕ) → p + width ≤ bits-of fs → binder ≤ max-variables → n < 4294967296 → 1 ≤ width → Good (by-set t width binder n)
   set-good Tested.Yes width binder n a b c d = (a, b, c, d)
   set-good Tested.No width binder n a b c d = tt
   set-good Tested.Malformed width binder n a b c d = tt
   set-good Tested.Overflow width binder n a b c d = tt
 
-  uint-good : (width start end binder : ℕ) → width ≤ 32 → binder ≤ 64 → 1 ≤ width → Good (bits-act ws fs vs p width start end binder)
+  uint-good : (width start end binder : ℕ) → width ≤ max-width → binder ≤ max-variables → 1 ≤ width → Good (bits-act ws fs vs p width start end binder)
   uint-good width start end binder l m some =
       let v = value (take width (drop p (frameBits fs))) in
       let small : v < 4294967296 = (let a = value-take-less width (drop p (frameBits fs)) in let z : 2 ^ width ≤ 2 ^ 32 = pow-mono {j = 32} l in omega arith) in
@@ -194,6 +195,6 @@ unfolding actOf
 doable ws fs vs p i k =
     let us : List ℤ = known-values ws vs in
     let c : Construct = constructAt ws i in
-    picked ws fs us p (eqb i 256) (open-rule ws 0) (pick (whole-in-table ws i) (construct-act ws fs us p i k c) Act.Broken) (λ e. open-good ws fs us p 0)
+    picked ws fs us p (eqb i opening) (open-rule ws 0) (pick (whole-in-table ws i) (construct-act ws fs us p i k c) Act.Broken) (λ e. open-good ws fs us p 0)
     (picked ws fs us p (whole-in-table ws i) (construct-act ws fs us p i k c) Act.Broken
     (λ e. construct-good ws fs us p i k c (construct-fine ws i) (leb-true (i + size-of c) (construct-count ws) e)) tt)

@@ -7,6 +7,7 @@ use mathlib.Core.Path.{_≡_, refl}
 use mathlib.Core.Bool.{Bool, true, false}
 use mathlib.Core.List.{List}
 use lib.Dec.{leb, ltb, eqb}
+use Rattle.basis.specs.Limits.{max-rules, max-constructs, max-variables, max-literal-bytes, max-width}
 use Rattle.table_layout.specs.Places.{construct-word}
 use Rattle.table_layout.specs.Constructs.{pick, both, branches, listed, repetitionOf, innerOf, literalOf, rangeOf, uintOf, leafOf, withoutParts, constructOf, constructAt}
 use Rattle.table_layout.specs.Held.{size-of}
@@ -21,7 +22,7 @@ both-true false t e = let z : _≡_ {A = ℕ} 0 1 = cc in absurd (omega arith)
 -- it is fine, and at most 256 constructs
 pub record Good (i : ℕ) (c : Construct) : Type 0 where
   pub fine : Fine i c
-  pub small : size-of c ≤ 256
+  pub small : size-of c ≤ max-constructs
 
 missing : (i : ℕ) → Good i Construct.Missing
 missing i = record { fine = tt; small = omega arith }
@@ -34,7 +35,7 @@ picked i false a b h k = k
 or-missing : (i : ℕ) (t : Bool) (a : Construct) → (t ≡ true → Good i a) → Good i (pick t a Construct.Missing)
 or-missing i t a h = picked i t a Construct.Missing h (missing i)
 
-repetition-good : (i size a b c : ℕ) → 2 ≤ size → i + size ≤ 256 → Good i (repetitionOf size a b c)
+repetition-good : (i size a b c : ℕ) → 2 ≤ size → i + size ≤ max-constructs → Good i (repetitionOf size a b c)
 repetition-good i size a b c m l =
     picked i (eqb a 1) _ _ (λ x. record { fine = (l, m); small = omega arith })
     (picked i (eqb a 2) _ _ (λ x. record { fine = (l, m); small = omega arith })
@@ -43,27 +44,27 @@ repetition-good i size a b c m l =
 
 inner-good : (i kind size a b c : ℕ) → branches i size ≡ true → Good i (innerOf kind size a b c)
 inner-good i kind size a b c e =
-    let x = both-true (leb 2 size) (leb (i + size) 256) e in
+    let x = both-true (leb 2 size) (leb (i + size) max-constructs) e in
     let m : 2 ≤ size = leb-true 2 size (x .0) in
-    let l : i + size ≤ 256 = leb-true (i + size) 256 (x .1) in
+    let l : i + size ≤ max-constructs = leb-true (i + size) max-constructs (x .1) in
     picked i (eqb kind 1) (Construct.Alternative size) _ (λ y. record { fine = l; small = omega arith })
     (picked i (eqb kind 2) (Construct.Concatenation size) _ (λ y. record { fine = l; small = omega arith })
     (picked i (eqb kind 3) (repetitionOf size a b c) (Construct.Switch size) (λ y. repetition-good i size a b c m l) (record { fine = l; small = omega arith })))
 
 uint-good : (i a b c d : ℕ) → Good i (uintOf a b c d)
 uint-good i a b c d =
-    or-missing i (both (both (leb 1 a) (leb a 32)) (both (listed b c) (leb d 64))) (Construct.Uint a b c d)
+    or-missing i (both (both (leb 1 a) (leb a max-width)) (both (listed b c) (leb d max-variables))) (Construct.Uint a b c d)
     (λ e.
-    let x = both-true (both (leb 1 a) (leb a 32)) (both (listed b c) (leb d 64)) e in
-    let y = both-true (leb 1 a) (leb a 32) (x .0) in
-    let z = both-true (listed b c) (leb d 64) (x .1) in
-    record { fine = (leb-true a 32 (y .1), leb-true d 64 (z .1), leb-true 1 a (y .0)); small = omega arith })
+    let x = both-true (both (leb 1 a) (leb a max-width)) (both (listed b c) (leb d max-variables)) e in
+    let y = both-true (leb 1 a) (leb a max-width) (x .0) in
+    let z = both-true (listed b c) (leb d max-variables) (x .1) in
+    record { fine = (leb-true a max-width (y .1), leb-true d max-variables (z .1), leb-true 1 a (y .0)); small = omega arith })
 
 leaf-good : (i kind a b c d : ℕ) → Good i (leafOf kind a b c d)
 leaf-good i kind a b c d =
-    picked i (eqb kind 5) (pick (ltb a 64) (Construct.Use a) Construct.Missing) _ (λ x. or-missing i (ltb a 64) (Construct.Use a) (λ e. record { fine = ltb-true a 64 e; small = omega arith }))
+    picked i (eqb kind 5) (pick (ltb a max-rules) (Construct.Use a) Construct.Missing) _ (λ x. or-missing i (ltb a max-rules) (Construct.Use a) (λ e. record { fine = ltb-true a max-rules e; small = omega arith }))
     (picked i (eqb kind 6) (literalOf a) _
-    (λ x. or-missing i (both (leb 1 a) (leb a 32)) (Construct.Literal a) (λ e. let y = both-true (leb 1 a) (leb a 32) e in record { fine = (leb-true a 32 (y .1), leb-true 1 a (y .0)); small = omega arith }))
+    (λ x. or-missing i (both (leb 1 a) (leb a max-literal-bytes)) (Construct.Literal a) (λ e. let y = both-true (leb 1 a) (leb a max-literal-bytes) e in record { fine = (leb-true a max-literal-bytes (y .1), leb-true 1 a (y .0)); small = omega arith }))
     (picked i (eqb kind 7) (rangeOf a b) _ (λ x. or-missing i (both (ltb a 128) (ltb b 128)) (Construct.Range a b) (λ e. record { fine = tt; small = omega arith }))
     (picked i (eqb kind 8) (uintOf a b c d) _ (λ x. uint-good i a b c d) (or-missing i (eqb kind 9) Construct.Eod (λ e. record { fine = tt; small = omega arith })))))
 
@@ -76,10 +77,10 @@ construct-good i kind size a b c d =
 good : (ws : List ℕ) (i : ℕ) → Good i (constructAt ws i)
 unfolding constructAt
 good ws i =
-    or-missing i (ltb i 256) (constructOf i (construct-word ws i 0) (construct-word ws i 1) (construct-word ws i 2) (construct-word ws i 3) (construct-word ws i 4) (construct-word ws i 5))
+    or-missing i (ltb i max-constructs) (constructOf i (construct-word ws i 0) (construct-word ws i 1) (construct-word ws i 2) (construct-word ws i 3) (construct-word ws i 4) (construct-word ws i 5))
     (λ e. construct-good i (construct-word ws i 0) (construct-word ws i 1) (construct-word ws i 2) (construct-word ws i 3) (construct-word ws i 4) (construct-word ws i 5))
 
-pub size-small : (ws : List ℕ) (i : ℕ) → size-of (constructAt ws i) ≤ 256
+pub size-small : (ws : List ℕ) (i : ℕ) → size-of (constructAt ws i) ≤ max-constructs
 size-small ws i = good ws i .small
 
 pub construct-fine : (ws : List ℕ) (i : ℕ) → Fine i (constructAt ws i)

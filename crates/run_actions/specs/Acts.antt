@@ -12,6 +12,7 @@ use mathlib.Core.List.{List}
 use lib.Dec.{leb, ltb, eqb}
 use lib.IntN.{ℤ, pos}
 use lib.ListN.{length, take, drop}
+use Rattle.basis.specs.Limits.{max-rules, max-constructs, max-variables, max-literal-bytes, max-width}
 use Rattle.basis.specs.Bits.{value, frameBits, same}
 use Rattle.basis.specs.Lookahead.{lookahead, number}
 use Rattle.term_evaluation.specs.Meaning.{membership, condition}
@@ -20,15 +21,15 @@ use Rattle.term_evaluation.specs.declared.Counted.{Counted}
 use Rattle.term_evaluation.specs.declared.Tested.{Tested}
 use Rattle.table_layout.specs.Places.{rule-word, construct-word, rule-count, construct-count, variable-count, term-count}
 use Rattle.table_layout.specs.Constructs.{pick, both, constructAt}
-use Rattle.table_layout.specs.Held.{term-words, terms-of, size-of, literal-bytes}
+use Rattle.table_layout.specs.Held.{term-words, terms-of, size-of, literal-bytes, opening}
 use Rattle.table_layout.specs.declared.Construct.{Construct}
 use Rattle.table_layout.specs.declared.Passes.{Passes}
 use Rattle.run_actions.specs.Stored.{stored, prediction-at, follow-at}
 use Rattle.run_actions.specs.declared.Act.{Act}
 
--- "An entry isn't in the table": a number past the 256 or past the table's count
+-- "An entry isn't in the table": a number past the limit or past the table's count
 abbrev pub in-table : List ℕ → ℕ → Bool
-in-table ws i = both (ltb i 256) (ltb i (construct-count ws))
+in-table ws i = both (ltb i max-constructs) (ltb i (construct-count ws))
 
 -- the whole of a construct is in the table, its parts too: where not, "a table entry missing"
 abbrev pub whole-in-table : List ℕ → ℕ → Bool
@@ -175,14 +176,14 @@ end-act fs p = pick (eqb p (bits-of fs)) Act.Leave Act.Fail
 -- what holds of every construct i that `constructAt` answers
 abbrev pub Fine : ℕ → Construct → Type 0
 Fine i Construct.Missing = Unit {0}
-Fine i (Construct.Alternative size) = i + size ≤ 256
-Fine i (Construct.Concatenation size) = i + size ≤ 256
-Fine i (Construct.Repetition size passes) = (i + size ≤ 256) × (2 ≤ size)
-Fine i (Construct.Switch size) = i + size ≤ 256
-Fine i (Construct.Use rule) = rule < 64
-Fine i (Construct.Literal n) = (n ≤ 32) × (1 ≤ n)
+Fine i (Construct.Alternative size) = i + size ≤ max-constructs
+Fine i (Construct.Concatenation size) = i + size ≤ max-constructs
+Fine i (Construct.Repetition size passes) = (i + size ≤ max-constructs) × (2 ≤ size)
+Fine i (Construct.Switch size) = i + size ≤ max-constructs
+Fine i (Construct.Use rule) = rule < max-rules
+Fine i (Construct.Literal n) = (n ≤ max-literal-bytes) × (1 ≤ n)
 Fine i (Construct.Range low high) = Unit {0}
-Fine i (Construct.Uint width start end binder) = (width ≤ 32) × (binder ≤ 64) × (1 ≤ width)
+Fine i (Construct.Uint width start end binder) = (width ≤ max-width) × (binder ≤ max-variables) × (1 ≤ width)
 Fine i Construct.Eod = Unit {0}
 
 -- what is done with the first entry, by what its construct is
@@ -198,9 +199,9 @@ construct-act ws fs vs p i k (Construct.Range low high) = range-act fs p low hig
 construct-act ws fs vs p i k (Construct.Uint width start end binder) = uint-act ws fs vs p width start end binder
 construct-act ws fs vs p i k Construct.Eod = end-act fs p
 
--- the opening use of the start rule has number 256
+-- the opening use of the start rule has a number of its own
 unfoldable pub actOf : List ℕ → List ℕ → List ℤ → ℕ → ℕ → ℕ → Act
-actOf ws fs vs p i k = pick (eqb i 256) (open-rule ws 0) (pick (whole-in-table ws i) (construct-act ws fs (known-values ws vs) p i k (constructAt ws i)) Act.Broken)
+actOf ws fs vs p i k = pick (eqb i opening) (open-rule ws 0) (pick (whole-in-table ws i) (construct-act ws fs (known-values ws vs) p i k (constructAt ws i)) Act.Broken)
 
 -- how many parts stand from number `start` up to number `end`
 abbrev pub part-count : List ℕ → ℕ → ℕ → ℕ
@@ -210,8 +211,8 @@ part-count ws start end = walk (λ j rest. rest + 1) 0 0 (end - start) ws start 
 abbrev pub Doable : List ℕ → List ℕ → ℕ → Act → Type 0
 Doable ws fs p Act.Broken = Unit {0}
 Doable ws fs p Act.Fail = Unit {0}
-Doable ws fs p (Act.Enter b) = (b < 256) × (b < construct-count ws)
-Doable ws fs p (Act.Members start end n) = (end ≤ 256) × (n ≤ 256) × (end ≤ construct-count ws) × (n ≡ part-count ws start end)
-Doable ws fs p (Act.Again b) = (b < 256) × (b < construct-count ws)
+Doable ws fs p (Act.Enter b) = (b < max-constructs) × (b < construct-count ws)
+Doable ws fs p (Act.Members start end n) = (end ≤ max-constructs) × (n ≤ max-constructs) × (end ≤ construct-count ws) × (n ≡ part-count ws start end)
+Doable ws fs p (Act.Again b) = (b < max-constructs) × (b < construct-count ws)
 Doable ws fs p Act.Leave = Unit {0}
-Doable ws fs p (Act.Take width binder n) = (p + width ≤ bits-of fs) × (binder ≤ 64) × (n < 4294967296) × (1 ≤ width)
+Doable ws fs p (Act.Take width binder n) = (p + width ≤ bits-of fs) × (binder ≤ max-variables) × (n < 4294967296) × (1 ≤ width)

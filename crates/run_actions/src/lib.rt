@@ -3,14 +3,22 @@ ghost use mathlib.Core.Path.{_≡_};
 ghost use Prim.Native.Nat.{ℕ, _+_, _*_, _^_, _≤_, _<_};
 ghost use lib.IntN.{pos};
 ghost use lib.ListN.{length, take, drop};
+ghost use Rattle.basis.specs.Limits.{max-rules, max-constructs, max-literal-bytes, max-width, table-words, max-frame-bytes};
 ghost use Rattle.basis.specs.Bits.{value, frameBits};
 ghost use Rattle.table_layout.specs.Constructs.{constructAt};
 ghost use Rattle.term_evaluation.specs.Meaning.{membership};
-ghost use Rattle.table_layout.specs.Held.{term-words, terms-of, size-of, literal-byte};
+ghost use Rattle.table_layout.specs.Held.{term-words, terms-of, size-of, literal-byte, opening};
 ghost use Rattle.run_actions.specs.Stored.{stored as storedOf};
 ghost use Rattle.run_actions.specs.Acts.{in-table, known-values, enter as enterOf, open-rule, ahead-at, branch-act, case-test, case-act, members-act, choice-act, turn-act, counted as countedOf, literal-holds, literal-act, by-set, range-act, bits-act, uint-act, end-act, Fine, construct-act, actOf};
+use basis::MAX_CONSTRUCTS;
+use table_layout::CONSTRUCTS_AT;
 use table_layout::Construct;
+use table_layout::LITERALS_AT;
+use table_layout::OPENING;
 use table_layout::Passes;
+use table_layout::RULES_AT;
+use table_layout::SETS_AT;
+use table_layout::TERMS_AT;
 use term_evaluation::Counted;
 use term_evaluation::Tested;
 use term_integers::power;
@@ -47,7 +55,7 @@ pub enum Act {
 
 // Whether the string with number n is in the set whose words begin at `base`.
 fn stored(table: &[u32], base: usize, n: u64) -> bool
-    requires { ⌜ (base < 16384) × (n < 512) ⌝ }
+    requires { ⌜ (base < table-words) × (n < 512) ⌝ }
     ensures { λ r. ⌜ r ≡ storedOf (now (table .entry)) base n ⌝ }
 {
     let at = (n / 32) as usize;
@@ -57,19 +65,19 @@ fn stored(table: &[u32], base: usize, n: u64) -> bool
 
 // How many constructs construct j is; a missing one is none.
 pub fn size_at(table: &[u32], j: usize) -> usize
-    ensures { λ r. ⌜ (r ≡ size-of (constructAt (now (table .entry)) j)) × (r ≤ 256) ⌝ }
+    ensures { λ r. ⌜ (r ≡ size-of (constructAt (now (table .entry)) j)) × (r ≤ max-constructs) ⌝ }
 {
     table_layout::size_of(table_layout::construct_at(table, j))
 }
 
 // The first branch whose prediction set holds what comes next, number n.
 fn branch(table: &[u32], n: u64, start: usize, end: usize) -> Act
-    requires { ⌜ (n < 512) × (end ≤ 256) ⌝ }
+    requires { ⌜ (n < 512) × (end ≤ max-constructs) ⌝ }
     ensures { λ r. ⌜ r ≡ branch-act (now (table .entry)) n start end ⌝ }
 {
     let mut j = start;
     while j < end {
-        if stored(table, 7744 + 32 * j, n) {
+        if stored(table, SETS_AT + 32 * j, n) {
             return Act::Enter { construct: j };
         }
         let step = size_at(table, j);
@@ -83,19 +91,19 @@ fn branch(table: &[u32], n: u64, start: usize, end: usize) -> Act
 
 // The words of the terms.
 fn terms(table: &[u32]) -> &[u32]
-    requires { ⌜ 16384 ≤ length (now table) ⌝ }
+    requires { ⌜ table-words ≤ length (now table) ⌝ }
     ensures { λ r. ⌜ now r ≡ term-words (now (table .entry)) ⌝ }
 {
-    &table[2624..5696]
+    &table[TERMS_AT..LITERALS_AT]
 }
 
 // Whether the case j of a switch is to be taken; one without a condition is the default.
 fn case_holds(table: &[u32], values: &[i64], j: usize) -> Tested
-    requires { ⌜ (16384 ≤ length (now table)) × (j < 256) ⌝ }
+    requires { ⌜ (table-words ≤ length (now table)) × (j < max-constructs) ⌝ }
     ensures { λ r. ⌜ r ≡ case-test (now (table .entry)) (now (values .entry)) j ⌝ }
 {
-    let start = table_layout::word(table, 576 + 8 * j + 6);
-    let end = table_layout::word(table, 576 + 8 * j + 7);
+    let start = table_layout::word(table, CONSTRUCTS_AT + 8 * j + 6);
+    let end = table_layout::word(table, CONSTRUCTS_AT + 8 * j + 7);
     if start < end {
         if table_layout::word(table, 4) < end {
             return Tested::Malformed;
@@ -107,7 +115,7 @@ fn case_holds(table: &[u32], values: &[i64], j: usize) -> Tested
 
 // The first case to be taken.
 fn case(table: &[u32], values: &[i64], start: usize, end: usize) -> Act
-    requires { ⌜ (16384 ≤ length (now table)) × (end ≤ 256) ⌝ }
+    requires { ⌜ (table-words ≤ length (now table)) × (end ≤ max-constructs) ⌝ }
     ensures { λ r. ⌜ r ≡ case-act (now (table .entry)) (now (values .entry)) start end ⌝ }
 {
     let mut j = start;
@@ -135,7 +143,7 @@ fn case(table: &[u32], values: &[i64], start: usize, end: usize) -> Act
 
 // The members of a concatenation, counted.
 fn members(table: &[u32], start: usize, end: usize) -> Act
-    requires { ⌜ end ≤ 256 ⌝ }
+    requires { ⌜ end ≤ max-constructs ⌝ }
     ensures { λ r. ⌜ r ≡ members-act (now (table .entry)) start end ⌝ }
 {
     let mut count = 0;
@@ -155,7 +163,7 @@ fn members(table: &[u32], start: usize, end: usize) -> Act
 fn enter(table: &[u32], i: usize) -> Act
     ensures { λ r. ⌜ r ≡ enterOf (now (table .entry)) i ⌝ }
 {
-    if i < 256 {
+    if i < MAX_CONSTRUCTS {
         if i < table_layout::word(table, 2) {
             return Act::Enter { construct: i };
         }
@@ -165,24 +173,24 @@ fn enter(table: &[u32], i: usize) -> Act
 
 // A rule's use becomes its body, where there is such a rule.
 fn open_rule(table: &[u32], rule: usize) -> Act
-    requires { ⌜ rule < 64 ⌝ }
+    requires { ⌜ rule < max-rules ⌝ }
     ensures { λ r. ⌜ r ≡ open-rule (now (table .entry)) rule ⌝ }
 {
     if rule < table_layout::word(table, 1) {
-        return enter(table, table_layout::word(table, 64 + 4 * rule));
+        return enter(table, table_layout::word(table, RULES_AT + 4 * rule));
     }
     Act::Broken
 }
 
 // Lookahead is asked only where the counts leave a choice.
 fn choice(table: &[u32], n: u64, i: usize) -> Act
-    requires { ⌜ (n < 512) × (i < 255) ⌝ }
+    requires { ⌜ (n < 512) × (i + 1 < max-constructs) ⌝ }
     ensures { λ r. ⌜ r ≡ choice-act (now (table .entry)) n i ⌝ }
 {
-    if stored(table, 7744 + 32 * (i + 1), n) {
+    if stored(table, SETS_AT + 32 * (i + 1), n) {
         return Act::Again { body: i + 1 };
     }
-    if stored(table, 7744 + 32 * i + 16, n) {
+    if stored(table, SETS_AT + 32 * i + 16, n) {
         return Act::Leave;
     }
     Act::Fail
@@ -190,7 +198,7 @@ fn choice(table: &[u32], n: u64, i: usize) -> Act
 
 // How many passes the terms from `start` up to `end` allow, if the table has them.
 fn counts_of(table: &[u32], values: &[i64], start: usize, end: usize) -> Counted
-    requires { ⌜ 16384 ≤ length (now table) ⌝ }
+    requires { ⌜ table-words ≤ length (now table) ⌝ }
     ensures { λ r. ⌜ r ≡ countedOf (now (table .entry)) (now (values .entry)) (Passes.Counted start end) ⌝ }
 {
     if table_layout::word(table, 4) < end {
@@ -200,7 +208,7 @@ fn counts_of(table: &[u32], values: &[i64], start: usize, end: usize) -> Counted
 }
 
 fn counts(table: &[u32], values: &[i64], passes: Passes) -> Counted
-    requires { ⌜ 16384 ≤ length (now table) ⌝ }
+    requires { ⌜ table-words ≤ length (now table) ⌝ }
     ensures { λ r. ⌜ r ≡ countedOf (now (table .entry)) (now (values .entry)) passes ⌝ }
 {
     match passes {
@@ -213,7 +221,7 @@ fn counts(table: &[u32], values: &[i64], passes: Passes) -> Counted
 
 // What a repetition with k passes begun does.
 fn turn(table: &[u32], frame: &[u8], p: usize, i: usize, k: u64, counts: Counted) -> Act
-    requires { ⌜ (i < 255) × (p ≤ 8 * length (now frame)) × (length (now frame) ≤ 256) ⌝ }
+    requires { ⌜ (i + 1 < max-constructs) × (p ≤ 8 * length (now frame)) × (length (now frame) ≤ max-frame-bytes) ⌝ }
     ensures { λ r. ⌜ r ≡ turn-act (now (table .entry)) (ahead-at (now (frame .entry)) p) i k counts ⌝ }
 {
     match counts {
@@ -240,7 +248,7 @@ fn turn(table: &[u32], frame: &[u8], p: usize, i: usize, k: u64, counts: Counted
 
 // The number of what comes next, which is below 512.
 fn ahead(frame: &[u8], p: usize) -> u64
-    requires { ⌜ (p ≤ 8 * length (now frame)) × (length (now frame) ≤ 256) ⌝ }
+    requires { ⌜ (p ≤ 8 * length (now frame)) × (length (now frame) ≤ max-frame-bytes) ⌝ }
     ensures { λ r. ⌜ (r ≡ ahead-at (now (frame .entry)) p) × (r < 512) ⌝ }
 {
     run_frame::ahead(frame, p)
@@ -248,17 +256,17 @@ fn ahead(frame: &[u8], p: usize) -> u64
 
 // Byte k of the literal of construct i.
 fn literal_byte(table: &[u32], i: usize, k: usize) -> u64
-    requires { ⌜ (i < 256) × (k < 32) ⌝ }
+    requires { ⌜ (i < max-constructs) × (k < max-literal-bytes) ⌝ }
     ensures { λ r. ⌜ (r ≡ literal-byte (now (table .entry)) i k) × (r < 256) ⌝ }
 {
-    let w = table_layout::word(table, 5696 + 8 * i + k / 4) as u64;
+    let w = table_layout::word(table, LITERALS_AT + 8 * i + k / 4) as u64;
     let place = (k % 4) as u64;
     w / power(8 * place) % 256
 }
 
 // Whether the n bytes of a literal stand at bit p.
 fn literal_holds(table: &[u32], frame: &[u8], p: usize, i: usize, n: usize) -> bool
-    requires { ⌜ (p + 8 * n ≤ 8 * length (now frame)) × (length (now frame) ≤ 256) × (i < 256) × (n ≤ 32) ⌝ }
+    requires { ⌜ (p + 8 * n ≤ 8 * length (now frame)) × (length (now frame) ≤ max-frame-bytes) × (i < max-constructs) × (n ≤ max-literal-bytes) ⌝ }
     ensures { λ r. ⌜ r ≡ literal-holds (now (table .entry)) (now (frame .entry)) p i 0 n ⌝ }
 {
     let mut k = 0;
@@ -273,7 +281,7 @@ fn literal_holds(table: &[u32], frame: &[u8], p: usize, i: usize, n: usize) -> b
 }
 
 fn literal(table: &[u32], frame: &[u8], p: usize, i: usize, n: usize) -> Act
-    requires { ⌜ (p ≤ 8 * length (now frame)) × (length (now frame) ≤ 256) × (i < 256) × (n ≤ 32) ⌝ }
+    requires { ⌜ (p ≤ 8 * length (now frame)) × (length (now frame) ≤ max-frame-bytes) × (i < max-constructs) × (n ≤ max-literal-bytes) ⌝ }
     ensures { λ r. ⌜ r ≡ literal-act (now (table .entry)) (now (frame .entry)) p i n ⌝ }
 {
     if p + 8 * n <= 8 * frame.len() {
@@ -289,7 +297,7 @@ fn literal(table: &[u32], frame: &[u8], p: usize, i: usize, n: usize) -> Act
 }
 
 fn range(frame: &[u8], p: usize, low: usize, high: usize) -> Act
-    requires { ⌜ (p ≤ 8 * length (now frame)) × (length (now frame) ≤ 256) ⌝ }
+    requires { ⌜ (p ≤ 8 * length (now frame)) × (length (now frame) ≤ max-frame-bytes) ⌝ }
     ensures { λ r. ⌜ r ≡ range-act (now (frame .entry)) p low high ⌝ }
 {
     if p + 8 <= 8 * frame.len() {
@@ -318,7 +326,7 @@ fn uint(
     end: usize,
     binder: usize,
 ) -> Act
-    requires { ⌜ (16384 ≤ length (now table)) × (p ≤ 8 * length (now frame)) × (length (now frame) ≤ 256) × (width ≤ 32) ⌝ }
+    requires { ⌜ (table-words ≤ length (now table)) × (p ≤ 8 * length (now frame)) × (length (now frame) ≤ max-frame-bytes) × (width ≤ max-width) ⌝ }
     ensures { λ r. ⌜ r ≡ uint-act (now (table .entry)) (now (frame .entry)) (now (values .entry)) p width start end binder ⌝ }
 {
     if table_layout::word(table, 4) < end {
@@ -340,7 +348,7 @@ fn bits(
     end: usize,
     binder: usize,
 ) -> Act
-    requires { ⌜ (16384 ≤ length (now table)) × (p ≤ 8 * length (now frame)) × (length (now frame) ≤ 256) × (width ≤ 32) ⌝ }
+    requires { ⌜ (table-words ≤ length (now table)) × (p ≤ 8 * length (now frame)) × (length (now frame) ≤ max-frame-bytes) × (width ≤ max-width) ⌝ }
     ensures { λ r. ⌜ r ≡ bits-act (now (table .entry)) (now (frame .entry)) (now (values .entry)) p width start end binder ⌝ }
 {
     if p + width <= 8 * frame.len() {
@@ -357,7 +365,7 @@ fn bits(
 
 // Whether a field's value is in the set of these terms.
 fn set_holds(table: &[u32], values: &[i64], start: usize, end: usize, value: u64) -> Tested
-    requires { ⌜ (16384 ≤ length (now table)) × (value < 4294967296) ⌝ }
+    requires { ⌜ (table-words ≤ length (now table)) × (value < 4294967296) ⌝ }
     ensures { λ r. ⌜ r ≡ membership (now (values .entry)) (pos value) start (terms-of (now (table .entry)) start end) ⌝ }
 {
     term_evaluation::contains(terms(table), start, end, values, whole(value))
@@ -395,14 +403,14 @@ fn repeat(
     k: u64,
     passes: Passes,
 ) -> Act
-    requires { ⌜ (16384 ≤ length (now table)) × (i < 255) × (p ≤ 8 * length (now frame)) × (length (now frame) ≤ 256) ⌝ }
+    requires { ⌜ (table-words ≤ length (now table)) × (i + 1 < max-constructs) × (p ≤ 8 * length (now frame)) × (length (now frame) ≤ max-frame-bytes) ⌝ }
     ensures { λ r. ⌜ r ≡ turn-act (now (table .entry)) (ahead-at (now (frame .entry)) p) i k (countedOf (now (table .entry)) (now (values .entry)) passes) ⌝ }
 {
     turn(table, frame, p, i, k, counts(table, values, passes))
 }
 
 fn end(frame: &[u8], p: usize) -> Act
-    requires { ⌜ length (now frame) ≤ 256 ⌝ }
+    requires { ⌜ length (now frame) ≤ max-frame-bytes ⌝ }
     ensures { λ r. ⌜ r ≡ end-act (now (frame .entry)) p ⌝ }
 {
     if p == 8 * frame.len() {
@@ -412,7 +420,7 @@ fn end(frame: &[u8], p: usize) -> Act
 }
 
 fn alternative(table: &[u32], frame: &[u8], p: usize, i: usize, size: usize) -> Act
-    requires { ⌜ (i + size ≤ 256) × (p ≤ 8 * length (now frame)) × (length (now frame) ≤ 256) ⌝ }
+    requires { ⌜ (i + size ≤ max-constructs) × (p ≤ 8 * length (now frame)) × (length (now frame) ≤ max-frame-bytes) ⌝ }
     ensures { λ r. ⌜ r ≡ branch-act (now (table .entry)) (ahead-at (now (frame .entry)) p) (i + 1) (i + size) ⌝ }
 {
     branch(table, ahead(frame, p), i + 1, i + size)
@@ -428,7 +436,7 @@ fn of_construct(
     k: u64,
     construct: Construct,
 ) -> Act
-    requires { ⌜ (16384 ≤ length (now table)) × (i < 256) × (p ≤ 8 * length (now frame)) × (length (now frame) ≤ 256) × Fine i construct ⌝ }
+    requires { ⌜ (table-words ≤ length (now table)) × (i < max-constructs) × (p ≤ 8 * length (now frame)) × (length (now frame) ≤ max-frame-bytes) × Fine i construct ⌝ }
     ensures { λ r. ⌜ r ≡ construct-act (now (table .entry)) (now (frame .entry)) (now (values .entry)) p i k construct ⌝ }
 {
     match construct {
@@ -460,7 +468,7 @@ fn of_known(
     k: u64,
     construct: Construct,
 ) -> Act
-    requires { ⌜ (16384 ≤ length (now table)) × (i < 256) × (p ≤ 8 * length (now frame)) × (length (now frame) ≤ 256) × Fine i construct ⌝ }
+    requires { ⌜ (table-words ≤ length (now table)) × (i < max-constructs) × (p ≤ 8 * length (now frame)) × (length (now frame) ≤ max-frame-bytes) × Fine i construct ⌝ }
     ensures { λ r. ⌜ r ≡ construct-act (now (table .entry)) (now (frame .entry)) (known-values (now (table .entry)) (now (values .entry))) p i k construct ⌝ }
 {
     let count = table_layout::word(table, 3);
@@ -472,10 +480,10 @@ fn of_known(
 
 // What a step does with the entry (i, k) of a run at bit p: nothing is written.
 pub fn decide(table: &[u32], frame: &[u8], values: &[i64], p: usize, i: usize, k: u64) -> Act
-    requires { ⌜ (16384 ≤ length (now table)) × (i ≤ 256) × (p ≤ 8 * length (now frame)) × (length (now frame) ≤ 256) ⌝ }
+    requires { ⌜ (table-words ≤ length (now table)) × (i ≤ opening) × (p ≤ 8 * length (now frame)) × (length (now frame) ≤ max-frame-bytes) ⌝ }
     ensures { λ r. ⌜ r ≡ actOf (now (table .entry)) (now (frame .entry)) (now (values .entry)) p i k ⌝ }
 {
-    if i == 256 {
+    if i == OPENING {
         return open_rule(table, 0);
     }
     let construct = table_layout::construct_at(table, i);

@@ -2,6 +2,7 @@
 ghost use mathlib.Core.Path.{_≡_};
 ghost use Prim.Native.Nat.{ℕ, _+_, _*_, _≤_, _<_, _^_};
 ghost use lib.ListN.{length, take, drop};
+ghost use Rattle.basis.specs.Limits.{max-width, max-frame-bytes};
 ghost use Rattle.basis.specs.Bits.{value, frameBits};
 ghost use Rattle.basis.specs.Lookahead.{lookahead, number};
 ghost use Rattle.basis.proofs.Frames.{bytes-value};
@@ -29,7 +30,7 @@ fn bytes(frame: &[u8], q: usize, n: usize) -> u64
 
 // w bits from bit p on, at most 32, as a number.
 pub fn bits(frame: &[u8], p: usize, w: usize) -> u64
-    requires { ⌜ (p + w ≤ 8 * length (now frame)) × (w ≤ 32) × (length (now frame) ≤ 256) ⌝ }
+    requires { ⌜ (p + w ≤ 8 * length (now frame)) × (w ≤ max-width) × (length (now frame) ≤ max-frame-bytes) ⌝ }
     ensures { λ r. ⌜ (r ≡ value (take w (drop p (frameBits (now (frame .entry)))))) × (r < 2 ^ w) ⌝ }
 {
     let q = p / 8;
@@ -42,7 +43,7 @@ pub fn bits(frame: &[u8], p: usize, w: usize) -> u64
 
 // The number of what comes next at bit p (document 01's window).
 pub fn ahead(frame: &[u8], p: usize) -> u64
-    requires { ⌜ (p ≤ 8 * length (now frame)) × (length (now frame) ≤ 256) ⌝ }
+    requires { ⌜ (p ≤ 8 * length (now frame)) × (length (now frame) ≤ max-frame-bytes) ⌝ }
     ensures { λ r. ⌜ r ≡ number (lookahead (drop p (frameBits (now (frame .entry))))) ⌝ }
 {
     let left = 8 * frame.len() - p;

@@ -12,9 +12,10 @@ use lib.Dec.{leb, ltb, eqb}
 use lib.IntN.{ℤ}
 use lib.ListN.{length, getD, set, length-set}
 use lib.Seq.{getD-set-same, getD-set-other}
+use Rattle.basis.specs.Limits.{max-constructs, max-entries}
 use Rattle.table_layout.specs.Places.{construct-count}
 use Rattle.table_layout.specs.Constructs.{pick, both, constructAt}
-use Rattle.table_layout.specs.Held.{size-of}
+use Rattle.table_layout.specs.Held.{size-of, opening}
 use Rattle.run_actions.specs.Acts.{in-table, bits-of, walk, actOf, part-count, Doable}
 use Rattle.run_actions.specs.declared.Act.{Act}
 use Rattle.run_actions.proofs.Sizes.{both-true}
@@ -91,14 +92,14 @@ module _ (Q : ℕ → Type 0) where
 
 -- "an entry isn't in the table or counts more passes than the frame's bits and one": neither
 abbrev pub Known : List ℕ → ℕ → Type 0
-Known ws i = pick (eqb i 256) true (in-table ws i) ≡ true
+Known ws i = pick (eqb i opening) true (in-table ws i) ≡ true
 
 abbrev pub Few : List ℕ → ℕ → Type 0
 Few fs k = k ≤ bits-of fs + 1
 
 module _ (ws fs : List ℕ) where
-  known : (b : ℕ) → b < 256 → b < construct-count ws → Known ws b
-  known b l c = rw (ne-eqb b 256 (λ e. omega arith), lt-ltb b 256 l, lt-ltb b (construct-count ws) c) refl
+  known : (b : ℕ) → b < max-constructs → b < construct-count ws → Known ws b
+  known b l c = rw (ne-eqb b opening (λ e. omega arith), lt-ltb b max-constructs l, lt-ltb b (construct-count ws) c) refl
 
   abbrev pub Entries : Whole → Type 0
   Entries (whole cs ps vs rs h) = Below (Known ws) (h .count) cs × Below (Few fs) (h .count) ps
@@ -116,8 +117,8 @@ module _ (ws fs : List ℕ) where
   entries-each cs ps (suc n) e =
       let i : ℕ = getD cs n 0 in
       let k : ℕ = getD ps n 0 in
-      let x = both-true (both (leb k (bits-of fs + 1)) (pick (eqb i 256) true (in-table ws i))) (entries-fit ws (bits-of fs) cs ps n) e in
-      let y = both-true (leb k (bits-of fs + 1)) (pick (eqb i 256) true (in-table ws i)) (x .0) in
+      let x = both-true (both (leb k (bits-of fs + 1)) (pick (eqb i opening) true (in-table ws i))) (entries-fit ws (bits-of fs) cs ps n) e in
+      let y = both-true (leb k (bits-of fs + 1)) (pick (eqb i opening) true (in-table ws i)) (x .0) in
       let z = entries-each cs ps n (x .1) in
       (last-below (Known ws) n cs (y .1) (z .0), last-below (Few fs) n ps (leb-true k (bits-of fs + 1) (y .0)) (z .1))
 
@@ -139,11 +140,11 @@ module _ (ws fs : List ℕ) where
     members-entries : (start end n : ℕ) → Doable ws fs (h .position) (Act.Members start end n) → Entries (members-done ws fs cs ps vs rs h start end n)
     members-entries start end n d =
         let at : ℕ = h .count - 1 + n in
-        picked (leb (h .count + n) 257)
+        picked (leb (h .count + n) (max-entries + 1))
         (whole (placed (λ j. j) ws start end at cs) (placed (λ j. 0) ws start end at ps) vs rs (taken fs h at (h .position) (h .captures)))
         (whole cs ps vs rs (break h))
         (λ e.
-        let l : h .count + n ≤ 257 = leb-true (h .count + n) 257 e in
+        let l : h .count + n ≤ (max-entries + 1) = leb-true (h .count + n) (max-entries + 1) e in
         let m : at ≡ h .count - 1 + part-count ws start end = ap (λ (k : ℕ). h .count - 1 + k) (d .3) in
         let c : (j : ℕ) → j < end → Known ws j = λ j b. known j (omega (arith, d .0)) (omega (arith, d .2)) in (
           placed-below (Known ws) (λ j. j) ws end (h .count - 1) at c start cs m (omega (arith, f .3)) (after-first .0),
@@ -155,12 +156,12 @@ module _ (ws fs : List ℕ) where
     again-entries b z =
         let k : ℕ = getD ps (h .count - 1) 0 in
         let ps′ : List ℕ = set ps (h .count - 1) (k + 1) in
-        picked (both (ltb (h .count) 256) (ltb k (bits-of fs + 1)))
+        picked (both (ltb (h .count) max-entries) (ltb k (bits-of fs + 1)))
         (whole (set cs (h .count) b) (set ps′ (h .count) 0) vs rs (taken fs h (h .count + 1) (h .position) (h .captures)))
         (whole cs ps vs rs (break h))
         (λ e.
-        let t = both-true (ltb (h .count) 256) (ltb k (bits-of fs + 1)) e in
-        let l : h .count < 256 = ltb-true (h .count) 256 (t .0) in
+        let t = both-true (ltb (h .count) max-entries) (ltb k (bits-of fs + 1)) e in
+        let l : h .count < max-entries = ltb-true (h .count) max-entries (t .0) in
         let m : k < bits-of fs + 1 = ltb-true k (bits-of fs + 1) (t .1) in
         let same : length ps′ ≡ length ps = length-set ps (h .count - 1) (k + 1) in (
           one-more (Known ws) (h .count) b cs z (omega (arith, f .3)) (g .0),

@@ -9,6 +9,7 @@ use mathlib.Core.List.{List}
 use lib.Dec.{leb}
 use lib.IntN.{ℤ}
 use lib.ListN.{length, getD}
+use Rattle.basis.specs.Limits.{table-words, max-entries}
 use Rattle.table_layout.specs.Constructs.{both}
 use Rattle.run_actions.specs.Acts.{bits-of}
 use Rattle.run_actions.proofs.Sizes.{both-true}
@@ -55,10 +56,10 @@ no-room room captures unread l = lt-leb (2 * (captures + unread)) room (omega ar
 
 -- what 24 asks beside the entries
 pub record Rest (ws fs : List ℕ) (room : ℕ) (h : Head) : Type 0 where
-  pub table : 16384 ≤ length ws
+  pub table : table-words ≤ length ws
   pub position : h .position ≤ bits-of fs
   pub verdict : h .verdict ≤ 4
-  pub count : h .count ≤ 256
+  pub count : h .count ≤ max-entries
   pub roomy : 2 * (h .captures + (bits-of fs - h .position)) ≤ room
 
 module _ (ws fs : List ℕ) (room : ℕ) (cs ps : List ℕ) (h : Head) where
@@ -67,15 +68,15 @@ module _ (ws fs : List ℕ) (room : ℕ) (cs ps : List ℕ) (h : Head) where
   fitting-rest e =
       let all : Bool = entries-fit ws (bits-of fs) cs ps (h .count) in
       let last : Bool = leb (2 * (h .captures + (bits-of fs - h .position))) room in
-      let a = both-true (leb 16384 (length ws)) (both (leb (h .position) (bits-of fs)) (both (leb (h .verdict) 4) (both (leb (h .count) 256) (both all last)))) e in
-      let b = both-true (leb (h .position) (bits-of fs)) (both (leb (h .verdict) 4) (both (leb (h .count) 256) (both all last))) (a .1) in
-      let v = both-true (leb (h .verdict) 4) (both (leb (h .count) 256) (both all last)) (b .1) in
-      let n = both-true (leb (h .count) 256) (both all last) (v .1) in
+      let a = both-true (leb table-words (length ws)) (both (leb (h .position) (bits-of fs)) (both (leb (h .verdict) 4) (both (leb (h .count) max-entries) (both all last)))) e in
+      let b = both-true (leb (h .position) (bits-of fs)) (both (leb (h .verdict) 4) (both (leb (h .count) max-entries) (both all last))) (a .1) in
+      let v = both-true (leb (h .verdict) 4) (both (leb (h .count) max-entries) (both all last)) (b .1) in
+      let n = both-true (leb (h .count) max-entries) (both all last) (v .1) in
       record {
-        table = leb-true 16384 (length ws) (a .0);
+        table = leb-true table-words (length ws) (a .0);
         position = leb-true (h .position) (bits-of fs) (b .0);
         verdict = leb-true (h .verdict) 4 (v .0);
-        count = leb-true (h .count) 256 (n .0);
+        count = leb-true (h .count) max-entries (n .0);
         roomy = leb-true (2 * (h .captures + (bits-of fs - h .position))) room (both-true all last (n .1) .1);
       }
 
@@ -89,8 +90,8 @@ module _ (ws fs : List ℕ) (room : ℕ) (cs ps : List ℕ) (h : Head) where
       both-last false = refl
 
 -- what passes 24 may take steps
-pub fitting-fits : (ws fs : List ℕ) (cs ps : List ℕ) (vs : List ℤ) (rs : List ℕ) (h : Head) → length cs ≡ 256 → length ps ≡ 256 → fitting ws fs (length rs) cs ps h ≡ true
-    → (16384 ≤ length ws) × Fits fs (whole cs ps vs rs h)
+pub fitting-fits : (ws fs : List ℕ) (cs ps : List ℕ) (vs : List ℤ) (rs : List ℕ) (h : Head) → length cs ≡ max-entries → length ps ≡ max-entries → fitting ws fs (length rs) cs ps h ≡ true
+    → (table-words ≤ length ws) × Fits fs (whole cs ps vs rs h)
 fitting-fits ws fs cs ps vs rs h lc lp e =
     let r = fitting-rest ws fs (length rs) cs ps h e in
     let m : 2 * (h .captures + (bits-of fs - h .position)) ≤ length rs = r .roomy in

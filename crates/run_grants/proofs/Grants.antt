@@ -8,6 +8,7 @@ use mathlib.Core.Bool.{Bool, true, false}
 use mathlib.Core.List.{List}
 use lib.Dec.{leb}
 use lib.ListN.{length}
+use Rattle.basis.specs.Limits.{table-words, max-frame-bytes}
 use Rattle.table_layout.specs.Constructs.{pick, both}
 use Rattle.run_actions.specs.Acts.{bits-of}
 use Rattle.run_steps.specs.Steps.{Whole, whole, step-of, steps-of}
@@ -50,7 +51,7 @@ module _ (ws fs : List ℕ) where
   -- the answer's number is the refusal's
   pub refusal-told : (rs : List ℕ) (run : Run) (n : ℕ) → number-of (answer-in (grant-of ws fs rs run n)) ≡ refusal-of ws fs rs run
   unfolding grant-of
-  refusal-told rs run n = by (leb (length fs) 256) (fit rs run) (steps-of ws fs n (whole-of rs run))
+  refusal-told rs run n = by (leb (length fs) max-frame-bytes) (fit rs run) (steps-of ws fs n (whole-of rs run))
     where
       by : (s t : Bool) (w : Whole) → number-of (answer-in (pick s (pick t (after-steps (run .steps) w) (after run rs Answer.Unfit)) (after run rs Answer.LongFrame))) ≡ pick s (pick t 0 24) 21
       by true true (whole cs ps vs zs h) = refl
@@ -60,7 +61,7 @@ module _ (ws fs : List ℕ) where
   -- a refused grant changes nothing and takes no step
   pub refused : (rs : List ℕ) (run : Run) (n : ℕ) → (refusal-of ws fs rs run ≡ 0 → ⊥) → Unchanged run rs (grant-of ws fs rs run n)
   unfolding grant-of
-  refused rs run n h = by (leb (length fs) 256) (fit rs run) (after-steps (run .steps) (steps-of ws fs n (whole-of rs run))) h
+  refused rs run n h = by (leb (length fs) max-frame-bytes) (fit rs run) (after-steps (run .steps) (steps-of ws fs n (whole-of rs run))) h
     where
       by : (s t : Bool) (x : After) → (_≡_ {A = ℕ} (pick s (pick t 0 24) 21) 0 → ⊥) → Unchanged run rs (pick s (pick t x (after run rs Answer.Unfit)) (after run rs Answer.LongFrame))
       by true true x k = absurd (k refl)
@@ -70,7 +71,7 @@ module _ (ws fs : List ℕ) where
   -- not refused, it is so many steps
   pub granted : (rs : List ℕ) (run : Run) (n : ℕ) → refusal-of ws fs rs run ≡ 0 → grant-of ws fs rs run n ≡ after-steps (run .steps) (steps-of ws fs n (whole-of rs run))
   unfolding grant-of
-  granted rs run n ok = let e = none-refused (leb (length fs) 256) (fit rs run) ok in simp (e .0, e .1)
+  granted rs run n ok = let e = none-refused (leb (length fs) max-frame-bytes) (fit rs run) ok in simp (e .0, e .1)
 
   -- and so is one that was answered with steps taken
   answered : (rs : List ℕ) (run : Run) (n : ℕ) (run′ : Run) (rs′ : List ℕ) (k : ℕ) → grant-of ws fs rs run n ≡ after run′ rs′ (Answer.Taken k) → refusal-of ws fs rs run ≡ 0
@@ -92,7 +93,7 @@ module _ (ws fs : List ℕ) where
       by (suc k) e = refused rs run n (λ z. absurd (omega (arith, e, z)))
 
   -- an opened run fits where the table is whole, the frame is not too long and there is room for each of its bits
-  pub opened-fits : (rs : List ℕ) → 16384 ≤ length ws → length fs ≤ 256 → 2 * bits-of fs ≤ length rs → refusal-of ws fs rs opened-run ≡ 0
+  pub opened-fits : (rs : List ℕ) → table-words ≤ length ws → length fs ≤ max-frame-bytes → 2 * bits-of fs ≤ length rs → refusal-of ws fs rs opened-run ≡ 0
   unfolding entries-fit
   opened-fits rs table frame room =
       let k : Rest ws fs (length rs) (head-of opened-run) = record { table = table; position = omega arith; verdict = omega arith; count = omega arith; roomy = omega arith } in
@@ -164,7 +165,7 @@ module _ (ws fs rs : List ℕ) (run : Run) (m n : ℕ) (lengths : Arrays run) wh
       let w₂ : Whole = steps-of ws fs n w₁ in
       let ex : x ≡ after-steps (run .steps) w₁ = granted ws fs rs run m ok in
       let state : whole-of (reading-in x) (run-in x) ≡ w₁ = ap (λ (a : After). whole-of (reading-in a) (run-in a)) ex ∙ made (run .steps) w₁ in
-      let e = none-refused (leb (length fs) 256) (fit ws fs rs run) ok in
+      let e = none-refused (leb (length fs) max-frame-bytes) (fit ws fs rs run) ok in
       let passes : fits ws fs (whole-of (reading-in x) (run-in x)) ≡ true = ap (fits ws fs) state ∙ fitting-kept ws fs rs run m lengths (e .1) in
       let ok₁ : refusal-of ws fs (reading-in x) (run-in x) ≡ 0 = simp (e .0, passes) in
       let s : run-in x .steps ≡ steps-in w₁ = ap steps-in state in

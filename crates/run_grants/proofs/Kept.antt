@@ -9,6 +9,7 @@ use mathlib.Core.List.{List}
 use lib.Dec.{eqb}
 use lib.IntN.{ℤ}
 use lib.ListN.{length, set, length-set}
+use Rattle.basis.specs.Limits.{table-words}
 use Rattle.table_layout.specs.Constructs.{pick}
 use Rattle.run_actions.specs.Acts.{bits-of}
 use Rattle.run_steps.specs.Steps.{Whole, whole, verdict-after, step-of, steps-of, Fits}
@@ -58,7 +59,7 @@ module _ (ws fs : List ℕ) where
   fitting-known : (cs ps : List ℕ) (vs : List ℤ) (rs : List ℕ) (h : Head) → fits ws fs (whole cs ps vs rs h) ≡ true → entries-fit ws (bits-of fs) cs ps (h .count) ≡ true
   fitting-known cs ps vs rs h e = sym (rest-fitting ws fs (length rs) cs ps h (fitting-rest ws fs (length rs) cs ps h e)) ∙ e
 
-  put-together : (most : ℕ) (w : Whole) → 16384 ≤ length ws → Fits fs w → Roomy ws fs most w → Entries ws fs w → fits ws fs w ≡ true
+  put-together : (most : ℕ) (w : Whole) → table-words ≤ length ws → Fits fs w → Roomy ws fs most w → Entries ws fs w → fits ws fs w ≡ true
   put-together most (whole cs ps vs rs h) t f g e =
       let m : 2 * (h .captures + (bits-of fs - h .position)) ≤ most = g .2 in
       rest-fitting ws fs (length rs) cs ps h (record { table = t; position = f .0; verdict = g .0; count = f .1; roomy = omega (arith, g .1) }) ∙ entries-all ws fs cs ps (h .count) (e .0) (e .1)

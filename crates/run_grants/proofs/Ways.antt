@@ -6,6 +6,7 @@ use mathlib.Core.List.{List}
 use lib.Dec.{leb, ltb}
 use lib.IntN.{ℤ}
 use lib.ListN.{length, getD, set}
+use Rattle.basis.specs.Limits.{max-entries}
 use Rattle.table_layout.specs.Constructs.{pick, both}
 use Rattle.run_actions.specs.Acts.{actOf, bits-of, Doable}
 use Rattle.run_actions.specs.declared.Act.{Act}
@@ -37,11 +38,11 @@ module _ (fs : List ℕ) (P : Whole → Type 0) (cs ps : List ℕ) (vs : List �
         let at : ℕ = h .count - 1 + n in
         let cs′ : List ℕ = placed (λ j. j) ws start end at cs in
         let ps′ : List ℕ = placed (λ j. 0) ws start end at ps in
-        picked (leb (h .count + n) 257) (whole cs′ ps′ vs rs (taken fs h at (h .position) (h .captures))) (whole cs ps vs rs (break h)) (w .moved cs′ ps′ at) (w .broke)
+        picked (leb (h .count + n) (max-entries + 1)) (whole cs′ ps′ vs rs (taken fs h at (h .position) (h .captures))) (whole cs ps vs rs (break h)) (w .moved cs′ ps′ at) (w .broke)
     effected i k (Act.Again b) d =
         let cs′ : List ℕ = set cs (h .count) b in
         let ps′ : List ℕ = set (set ps (h .count - 1) (k + 1)) (h .count) 0 in
-        picked (both (ltb (h .count) 256) (ltb k (bits-of fs + 1))) (whole cs′ ps′ vs rs (taken fs h (h .count + 1) (h .position) (h .captures))) (whole cs ps vs rs (break h)) (w .moved cs′ ps′ (h .count + 1)) (w .broke)
+        picked (both (ltb (h .count) max-entries) (ltb k (bits-of fs + 1))) (whole cs′ ps′ vs rs (taken fs h (h .count + 1) (h .position) (h .captures))) (whole cs ps vs rs (break h)) (w .moved cs′ ps′ (h .count + 1)) (w .broke)
     effected i k Act.Leave d = w .moved cs ps (h .count - 1)
     effected i k (Act.Take width binder n) d =
         picked (leb (2 * h .captures + 2) (length rs))

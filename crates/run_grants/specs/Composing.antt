@@ -5,6 +5,7 @@ use mathlib.Core.Path.{_≡_}
 use mathlib.Core.Bool.{Bool, true}
 use mathlib.Core.List.{List}
 use lib.ListN.{length}
+use Rattle.basis.specs.Limits.{max-entries}
 use Rattle.run_steps.specs.Steps.{Whole, whole, steps-of}
 use Rattle.run_grants.specs.Runs.{whole-of, fitting, After, run-in, reading-in, answer-in, grant-of, number-of, taken-of}
 use Rattle.run_grants.specs.declared.Run.{Run}
@@ -13,9 +14,9 @@ use Rattle.run_grants.specs.declared.Run.{Run}
 abbrev pub fits : List ℕ → List ℕ → Whole → Bool
 fits ws fs (whole cs ps vs rs h) = fitting ws fs (length rs) cs ps h
 
--- a run by value has two arrays of 256 words for its list
+-- a run by value has two arrays for its list
 abbrev pub Arrays : Run → Type 0
-Arrays run = (length (run .constructs) ≡ 256) × (length (run .passes) ≡ 256)
+Arrays run = (length (run .constructs) ≡ max-entries) × (length (run .passes) ≡ max-entries)
 
 -- a run that 24 lets pass passes it after any number of steps, over the same table, frame and reading
 abbrev pub FittingKept : Type 0

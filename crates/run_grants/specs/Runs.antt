@@ -6,6 +6,8 @@ use mathlib.Core.List.{List}
 use lib.Dec.{leb, eqb}
 use lib.IntN.{ℤ, pos}
 use lib.ListN.{length, getD, set, replicate}
+use Rattle.table_layout.specs.Held.{opening}
+use Rattle.basis.specs.Limits.{max-variables, max-frame-bytes, max-entries}
 use Rattle.table_layout.specs.Constructs.{pick, both}
 use Rattle.table_layout.specs.Places.{table-words}
 use Rattle.run_actions.specs.Acts.{bits-of, in-table}
@@ -29,15 +31,15 @@ whole-of rs run = whole (run .constructs) (run .passes) (run .values) rs (head-o
 -- "It opens undecided, with a use of the start rule on its list and the rest 0."
 abbrev pub opened-run : Run
 opened-run =
-    record { position = 0; count = 1; captures = 0; steps = 0; verdict = undecided; constructs = set (replicate 256 0) 0 256; passes = replicate 256 0; values = replicate 64 (pos 0) }
+    record { position = 0; count = 1; captures = 0; steps = 0; verdict = undecided; constructs = set (replicate max-entries 0) 0 opening; passes = replicate max-entries 0; values = replicate max-variables (pos 0) }
 
 -- "a refused open gives a closed run (empty list, no steps, verdict closed, which no grant changes)"
 abbrev pub closed-run : Run
-closed-run = record { position = 0; count = 0; captures = 0; steps = 0; verdict = closed; constructs = replicate 256 0; passes = replicate 256 0; values = replicate 64 (pos 0) }
+closed-run = record { position = 0; count = 0; captures = 0; steps = 0; verdict = closed; constructs = replicate max-entries 0; passes = replicate max-entries 0; values = replicate max-variables (pos 0) }
 
--- "an entry isn't in the table or counts more passes than the frame's bits and one"; the opening use of the start rule, number 256, is in every table
+-- "an entry isn't in the table or counts more passes than the frame's bits and one"; the opening use of the start rule is in every table
 abbrev pub entry-fits : List ℕ → ℕ → ℕ → ℕ → Bool
-entry-fits ws bits i k = both (leb k (bits + 1)) (pick (eqb i 256) true (in-table ws i))
+entry-fits ws bits i k = both (leb k (bits + 1)) (pick (eqb i opening) true (in-table ws i))
 
 -- every pending entry
 unfoldable pub entries-fit : List ℕ → ℕ → List ℕ → List ℕ → ℕ → Bool
@@ -52,13 +54,13 @@ fitting ws fs room cs ps h =
     both (leb table-words (length ws))
     (both (leb (h .position) (bits-of fs))
     (both (leb (h .verdict) broken)
-    (both (leb (h .count) 256)
+    (both (leb (h .count) max-entries)
     (both (entries-fit ws (bits-of fs) cs ps (h .count))
     (leb (2 * (h .captures + (bits-of fs - h .position))) room)))))
 
 -- "it tries 21, then 24": one of three
 abbrev pub tries : {A : Type 0} → List ℕ → List ℕ → List ℕ → Run → A → A → A → A
-tries ws fs rs run long unfit granted = pick (leb (length fs) 256) (pick (fitting ws fs (length rs) (run .constructs) (run .passes) (head-of run)) granted unfit) long
+tries ws fs rs run long unfit granted = pick (leb (length fs) max-frame-bytes) (pick (fitting ws fs (length rs) (run .constructs) (run .passes) (head-of run)) granted unfit) long
 
 -- the number with which a grant is refused; 0 where it is not
 abbrev pub refusal-of : List ℕ → List ℕ → List ℕ → Run → ℕ

@@ -3,10 +3,17 @@ ghost use mathlib.Core.Path.{_≡_};
 ghost use Prim.Native.Nat.{ℕ, _+_, _*_, _-_, _≤_, _<_};
 ghost use lib.Dec.{leb};
 ghost use lib.ListN.{length, getD};
+ghost use Rattle.basis.specs.Limits.{max-frame-bytes, max-frame-bits, max-entries};
 ghost use Rattle.table_layout.specs.Places.{table-of};
 ghost use Rattle.run_actions.specs.Acts.{bits-of};
 ghost use Rattle.run_grants.specs.Runs.{entry-fits, entries-fit, fitting, run-of, after, grant-of, opened-run, closed-run};
+use basis::MAX_CONSTRUCTS;
+use basis::MAX_ENTRIES;
+use basis::MAX_FRAME_BYTES;
+use basis::MAX_VARIABLES;
+use basis::TABLE_WORDS;
 use run_steps::Head;
+use table_layout::OPENING;
 
 // The first of `count` pending entries stands last; what stands beyond them may be anything.
 pub struct Run {
@@ -15,9 +22,9 @@ pub struct Run {
     pub captures: u64,
     pub steps: u64,
     pub verdict: u32,
-    pub constructs: [u32; 256],
-    pub passes: [u32; 256],
-    pub values: [i64; 64],
+    pub constructs: [u32; MAX_ENTRIES],
+    pub passes: [u32; MAX_ENTRIES],
+    pub values: [i64; MAX_VARIABLES],
 }
 
 // What a grant is answered.
@@ -40,10 +47,10 @@ pub struct Granted {
 pub fn opened() -> Run
     ensures { λ r. ⌜ r ≡ opened-run ⌝ }
 {
-    let mut constructs = [0u32; 256];
-    constructs[0] = 256;
-    let passes = [0u32; 256];
-    let values = [0i64; 64];
+    let mut constructs = [0u32; MAX_ENTRIES];
+    constructs[0] = OPENING as u32;
+    let passes = [0u32; MAX_ENTRIES];
+    let values = [0i64; MAX_VARIABLES];
     Run {
         position: 0,
         count: 1,
@@ -60,9 +67,9 @@ pub fn opened() -> Run
 pub fn closed() -> Run
     ensures { λ r. ⌜ r ≡ closed-run ⌝ }
 {
-    let constructs = [0u32; 256];
-    let passes = [0u32; 256];
-    let values = [0i64; 64];
+    let constructs = [0u32; MAX_ENTRIES];
+    let passes = [0u32; MAX_ENTRIES];
+    let values = [0i64; MAX_VARIABLES];
     Run {
         position: 0,
         count: 0,
@@ -77,15 +84,15 @@ pub fn closed() -> Run
 
 // Whether an entry is in the table and counts no more passes than there may be.
 fn entry_fits(table: &[u32], bits: usize, construct: u32, passes: u32) -> bool
-    requires { ⌜ bits ≤ 2048 ⌝ }
+    requires { ⌜ bits ≤ max-frame-bits ⌝ }
     ensures { λ r. ⌜ r ≡ entry-fits (now (table .entry)) bits construct passes ⌝ }
 {
     let i = construct as usize;
     if passes as usize <= bits + 1 {
-        if i == 256 {
+        if i == OPENING {
             return true;
         }
-        if i < 256 {
+        if i < MAX_CONSTRUCTS {
             return i < table_layout::word(table, 2);
         }
     }
@@ -96,11 +103,11 @@ fn entry_fits(table: &[u32], bits: usize, construct: u32, passes: u32) -> bool
 fn entries_fit(
     table: &[u32],
     bits: usize,
-    constructs: &[u32; 256],
-    passes: &[u32; 256],
+    constructs: &[u32; MAX_ENTRIES],
+    passes: &[u32; MAX_ENTRIES],
     count: usize,
 ) -> bool
-    requires { ⌜ (bits ≤ 2048) × (count ≤ 256) ⌝ }
+    requires { ⌜ (bits ≤ max-frame-bits) × (count ≤ max-entries) ⌝ }
     ensures { λ r. ⌜ r ≡ entries-fit (now (table .entry)) bits (now (constructs .entry)) (now (passes .entry)) count ⌝ }
 {
     let mut left = count;
@@ -129,11 +136,11 @@ fn fits(
     table: &[u32],
     frame: &[u8],
     room: usize,
-    constructs: &[u32; 256],
-    passes: &[u32; 256],
+    constructs: &[u32; MAX_ENTRIES],
+    passes: &[u32; MAX_ENTRIES],
     head: Head,
 ) -> bool
-    requires { ⌜ length (now frame) ≤ 256 ⌝ }
+    requires { ⌜ length (now frame) ≤ max-frame-bytes ⌝ }
     ensures { λ r. ⌜ r ≡ fitting (now (table .entry)) (now (frame .entry)) room (now (constructs .entry)) (now (passes .entry)) head ⌝ }
 {
     let position = head.position;
@@ -141,7 +148,7 @@ fn fits(
     let captures = head.captures;
     let verdict = head.verdict;
     let bits = 8 * frame.len();
-    if table.len() < 16384 {
+    if table.len() < TABLE_WORDS {
         return false;
     }
     if bits < position {
@@ -150,7 +157,7 @@ fn fits(
     if 4 < verdict {
         return false;
     }
-    if 256 < count {
+    if MAX_ENTRIES < count {
         return false;
     }
     if entries_fit(table, bits, constructs, passes, count) {
@@ -162,9 +169,9 @@ fn fits(
 // The run is put together after steps.
 fn put_together(
     head: Head,
-    constructs: [u32; 256],
-    passes: [u32; 256],
-    values: [i64; 64],
+    constructs: [u32; MAX_ENTRIES],
+    passes: [u32; MAX_ENTRIES],
+    values: [i64; MAX_VARIABLES],
     taken: u64,
 ) -> Granted
     ensures { λ r. ⌜ (r .run ≡ run-of head constructs passes values) × (r .answer ≡ Answer.Taken taken) ⌝ }
@@ -188,7 +195,7 @@ fn put_together(
 fn advance_words(table: &[u32], frame: &[u8], reading: &mut [u32], run: Run, steps: u64) -> Granted
     ensures { λ r. ⌜ after (r .run) (now (reading .exit)) (r .answer) ≡ grant-of (now (table .entry)) (now (frame .entry)) (now (reading .entry)) run steps ⌝ }
 {
-    if 256 < frame.len() {
+    if MAX_FRAME_BYTES < frame.len() {
         return Granted {
             run,
             answer: Answer::LongFrame,
@@ -231,10 +238,10 @@ fn advance_words(table: &[u32], frame: &[u8], reading: &mut [u32], run: Run, ste
 pub fn advance(table: &[u32], frame: &[u8], reading: &mut [u32], run: Run, steps: u64) -> Granted
     ensures { λ r. ⌜ after (r .run) (now (reading .exit)) (r .answer) ≡ grant-of (table-of (now (table .entry))) (now (frame .entry)) (now (reading .entry)) run steps ⌝ }
 {
-    if table.len() < 16384 {
+    if table.len() < TABLE_WORDS {
         return advance_words(table, frame, reading, run, steps);
     }
-    advance_words(&table[0..16384], frame, reading, run, steps)
+    advance_words(&table[0..TABLE_WORDS], frame, reading, run, steps)
 }
 
 // One step.

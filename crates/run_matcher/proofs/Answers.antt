@@ -6,6 +6,7 @@ use mathlib.Core.Path.{_≡_, refl}
 use mathlib.Core.Bool.{Bool, true, false, not, false≢true}
 use mathlib.Core.List.{List}
 use lib.ListN.{length}
+use Rattle.basis.specs.Limits.{max-frame-bytes}
 use Rattle.lookahead.specs.Sets.{Decides}
 use Rattle.run_actions.specs.Acts.{bits-of}
 use Rattle.table_judge.specs.Sound.{SoundTable}
@@ -31,7 +32,7 @@ answer-once ws fs rs Answer.Opened Answer.SmallReading x y = absurd (omega (arit
 answer-once ws fs rs Answer.Opened Answer.Opened x y = refl
 
 -- the first refusal by three tests
-pub answered : (ws fs rs : List ℕ) (sound long small : Bool) → Decides sound (SoundTable ws) → (long ≡ true → 256 < length fs) → (long ≡ false → length fs ≤ 256)
+pub answered : (ws fs rs : List ℕ) (sound long small : Bool) → Decides sound (SoundTable ws) → (long ≡ true → max-frame-bytes < length fs) → (long ≡ false → length fs ≤ max-frame-bytes)
     → (small ≡ true → length rs < 2 * bits-of fs) → (small ≡ false → 2 * bits-of fs ≤ length rs) → Answered ws fs rs (first-refusal (not sound) long small)
 answered ws fs rs false long small s a b c d = λ x. false≢true (s .1 x)
 answered ws fs rs true true small s a b c d = (s .0 refl, a refl)

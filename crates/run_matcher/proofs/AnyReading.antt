@@ -10,6 +10,8 @@ use mathlib.Core.List.{List, [], _∷_}
 use lib.Dec.{leb, ltb, eqb}
 use lib.IntN.{ℤ}
 use lib.ListN.{length, getD}
+use Rattle.table_layout.specs.Held.{opening}
+use Rattle.basis.specs.Limits.{max-frame-bytes, max-entries}
 use Rattle.table_layout.specs.Places.{table-of}
 use Rattle.table_layout.specs.Constructs.{pick, both}
 use Rattle.run_actions.specs.Acts.{bits-of, actOf, Doable}
@@ -55,8 +57,8 @@ module _ (ws fs cs ps : List ℕ) (vs : List ℤ) (h : Head) (rs rs′ : List �
   effect-alike r r′ i k Act.Broken d = refl
   effect-alike r r′ i k Act.Fail d = refl
   effect-alike r r′ i k (Act.Enter b) d = refl
-  effect-alike r r′ i k (Act.Members start end n) d = picked (leb (h .count + n) 257) _ _ _ _ refl refl
-  effect-alike r r′ i k (Act.Again b) d = picked (both (ltb (h .count) 256) (ltb k (bits-of fs + 1))) _ _ _ _ refl refl
+  effect-alike r r′ i k (Act.Members start end n) d = picked (leb (h .count + n) (max-entries + 1)) _ _ _ _ refl refl
+  effect-alike r r′ i k (Act.Again b) d = picked (both (ltb (h .count) max-entries) (ltb k (bits-of fs + 1))) _ _ _ _ refl refl
   effect-alike r r′ i k Act.Leave d = refl
   effect-alike r r′ i k (Act.Take width binder n) d =
       rw (le-leb (2 * h .captures + 2) (length rs) (omega (arith, d .0, d .3)), le-leb (2 * h .captures + 2) (length rs′) (omega (arith, d .0, d .3))) refl
@@ -69,7 +71,7 @@ module _ (ws fs cs ps : List ℕ) (vs : List ℤ) (h : Head) (rs rs′ : List �
       picked (eqb (h .verdict) 0) _ _ _ _
       (picked (in-bound ws fs (h .steps)) _ _ _ _
       (picked (eqb (h .count) 0) _ _ _ _ refl
-      (picked (leb i 256) _ _ _ _ (effect-alike r r′ i k (actOf ws fs vs (h .position) i k) (doable ws fs vs (h .position) i k)) refl))
+      (picked (leb i opening) _ _ _ _ (effect-alike r r′ i k (actOf ws fs vs (h .position) i k) (doable ws fs vs (h .position) i k)) refl))
       refl)
       refl
 
@@ -150,11 +152,11 @@ module _ (ws fs rs : List ℕ) (o : Opened ws fs rs) where
     room-there : refusal-of t fs zs run ≡ 0 → room-for fs run ≤ length zs
     room-there z =
         fitting-rest t fs (length zs) (run .constructs) (run .passes) (head-of run)
-        (none-refused (leb (length fs) 256) (fitting t fs (length zs) (run .constructs) (run .passes) (head-of run)) z) .roomy
+        (none-refused (leb (length fs) max-frame-bytes) (fitting t fs (length zs) (run .constructs) (run .passes) (head-of run)) z) .roomy
 
     refused-24 : length zs < room-for fs run → refusal-of t fs zs run ≡ 24
     refused-24 l =
-        let q : leb (length fs) 256 ≡ true = le-leb (length fs) 256 (o .1) in
+        let q : leb (length fs) max-frame-bytes ≡ true = le-leb (length fs) max-frame-bytes (o .1) in
         let f : Bool = fitting t fs (length zs) (run .constructs) (run .passes) (head-of run) in
         ap (λ (s : Bool). pick s (pick f 0 24) 21) q
         ∙ refused-or-not f (λ z. (let r : room-for fs run ≤ length zs = room-there (ap (λ (s : Bool). pick s (pick f 0 24) 21) q ∙ z) in omega arith))

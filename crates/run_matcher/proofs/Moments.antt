@@ -9,6 +9,7 @@ use mathlib.Core.Bool.{Bool, true, false}
 use mathlib.Core.List.{List, _++_}
 use lib.Dec.{eqb}
 use lib.ListN.{length, getD, replicate, drop, length-set, length-replicate}
+use Rattle.basis.specs.Limits.{max-constructs, max-frame-bytes, max-entries}
 use Rattle.basis.specs.Bits.{frameBits}
 use Rattle.theory.specs.Grammar.{Grammar}
 use Rattle.theory.specs.Derivation.{Tree, captures, Derivation}
@@ -42,17 +43,17 @@ use Rattle.run_matcher.specs.Opening.{Opened}
 
 -- ---- what fits passes 21 and 24
 
--- at most 256 constructs are counted
-in-table-true : (ws : List ℕ) (i : ℕ) → construct-count ws ≤ 256 → InTable ws i → pick (eqb i 256) true (in-table ws i) ≡ true
-in-table-true ws i few (inl e) = rw (eq-eqb i 256 e) refl
+-- no more constructs are counted than there may be
+in-table-true : (ws : List ℕ) (i : ℕ) → construct-count ws ≤ max-constructs → InTable ws i → pick (eqb i opening) true (in-table ws i) ≡ true
+in-table-true ws i few (inl e) = rw (eq-eqb i opening e) refl
 in-table-true ws i few (inr l) =
-    rw (lt-ltb i (construct-count ws) l, lt-ltb i 256 (let z : i < 256 = omega arith in z)) (by (eqb i 256))
+    rw (lt-ltb i (construct-count ws) l, lt-ltb i max-constructs (let z : i < max-constructs = omega arith in z)) (by (eqb i opening))
   where
     by : (t : Bool) → pick t true true ≡ true
     by true = refl
     by false = refl
 
-module _ (ws : List ℕ) (few : construct-count ws ≤ 256) (bits : ℕ) (cs ps : List ℕ) where
+module _ (ws : List ℕ) (few : construct-count ws ≤ max-constructs) (bits : ℕ) (cs ps : List ℕ) where
   all-fit : (n : ℕ) → ((j : ℕ) → j < n → InTable ws (getD cs j 0) × (getD ps j 0 ≤ bits + 1)) → entries-fit ws bits cs ps n ≡ true
   unfolding entries-fit
   all-fit zero each = refl
@@ -60,11 +61,11 @@ module _ (ws : List ℕ) (few : construct-count ws ≤ 256) (bits : ℕ) (cs ps 
       let x = each n (omega arith) in
       simp (le-leb (getD ps n 0) (bits + 1) (x .1), in-table-true ws (getD cs n 0) few (x .0)) (all-fit n (λ j l. each j (omega arith)))
 
-pub admitted : (ws fs rs : List ℕ) (run : Run) → construct-count ws ≤ 256 → table-words ≤ length ws → length fs ≤ 256 → Fitting ws fs (whole-of rs run) → refusal-of ws fs rs run ≡ 0
+pub admitted : (ws fs rs : List ℕ) (run : Run) → construct-count ws ≤ max-constructs → table-words ≤ length ws → length fs ≤ max-frame-bytes → Fitting ws fs (whole-of rs run) → refusal-of ws fs rs run ≡ 0
 admitted ws fs rs run few long short f =
     let r : Rest ws fs (length rs) (head-of run) = record { table = long; position = f .fits .0; verdict = omega (arith, f .verdict); count = f .fits .1; roomy = f .room } in
     let e = rest-fitting ws fs (length rs) (run .constructs) (run .passes) (head-of run) r ∙ all-fit ws few (bits-of fs) (run .constructs) (run .passes) (run .count) (f .entry) in
-    simp (le-leb (length fs) 256 short, e)
+    simp (le-leb (length fs) max-frame-bytes short, e)
 
 module _ (ws fs rs : List ℕ) (o : Opened ws fs rs) where
   -- the table's own words
@@ -78,8 +79,8 @@ module _ (ws fs rs : List ℕ) (o : Opened ws fs rs) where
   begun =
       record {
         short = o .1;
-        constructs = length-set {A = ℕ} (replicate 256 0) 0 256 ∙ length-replicate {A = ℕ} 256 0;
-        passes = length-replicate {A = ℕ} 256 0;
+        constructs = length-set {A = ℕ} (replicate max-entries 0) 0 opening ∙ length-replicate {A = ℕ} max-entries 0;
+        passes = length-replicate {A = ℕ} max-entries 0;
         first = refl;
         none-begun = refl;
         room = o .2;

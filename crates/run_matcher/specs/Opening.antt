@@ -4,6 +4,7 @@ use Prim.Native.Nat.{ℕ, _*_, _≤_, _<_}
 use mathlib.Core.Bool.{Bool}
 use mathlib.Core.List.{List}
 use lib.ListN.{length}
+use Rattle.basis.specs.Limits.{max-frame-bytes}
 use Rattle.table_layout.specs.Constructs.{pick}
 use Rattle.run_actions.specs.Acts.{bits-of}
 use Rattle.table_judge.specs.Sound.{SoundTable}
@@ -33,9 +34,9 @@ run-given Answer.Opened = opened-run
 -- one of the four holds (`answer-once`).
 abbrev pub Answered : List ℕ → List ℕ → List ℕ → Answer → Type 0
 Answered ws fs rs Answer.Unsound = SoundTable ws → ⊥
-Answered ws fs rs Answer.LongFrame = SoundTable ws × (256 < length fs)
-Answered ws fs rs Answer.SmallReading = SoundTable ws × (length fs ≤ 256) × (length rs < 2 * bits-of fs)
-Answered ws fs rs Answer.Opened = SoundTable ws × (length fs ≤ 256) × (2 * bits-of fs ≤ length rs)
+Answered ws fs rs Answer.LongFrame = SoundTable ws × (max-frame-bytes < length fs)
+Answered ws fs rs Answer.SmallReading = SoundTable ws × (length fs ≤ max-frame-bytes) × (length rs < 2 * bits-of fs)
+Answered ws fs rs Answer.Opened = SoundTable ws × (length fs ≤ max-frame-bytes) × (2 * bits-of fs ≤ length rs)
 
 -- a run was opened on this table, frame and reading
 abbrev pub Opened : List ℕ → List ℕ → List ℕ → Type 0

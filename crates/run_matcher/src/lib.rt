@@ -1,6 +1,7 @@
 // A run is opened; steps are granted by `run_grants`. Any words are answered or refused.
 ghost use mathlib.Core.Path.{_≡_};
 ghost use Rattle.run_matcher.specs.Opening.{first-refusal, run-given, Answered};
+use basis::MAX_FRAME_BYTES;
 use run_grants::Run;
 
 // What an opening is answered.
@@ -41,7 +42,7 @@ fn tried(table: &[u32], frame: &[u8], reading: &[u32]) -> Answer
 {
     let unsound = !table_judge::sound::sound(table);
     let bytes = frame.len();
-    let long = 256 < bytes;
+    let long = MAX_FRAME_BYTES < bytes;
     // two words for each bit; 16 * bytes may not fit
     let small = reading.len() / 16 < bytes;
     first_refusal(unsound, long, small)

@@ -22,7 +22,7 @@ use Rattle.theory.specs.Machine.{entry, state, Turn, fail, again, leave, turn, 
 use Rattle.theory.proofs.Turns.{decide}
 use Rattle.table_layout.specs.Places.{rule-word, rule-count}
 use Rattle.table_layout.specs.Constructs.{pick, both, constructAt}
-use Rattle.table_layout.specs.Held.{Context, first-context, Values, HeldNode, terms-of, parts, isYes, passes-allowed, passes-static, passes-fixed, first-case, literal-bytes, bound, literal-node, range-node, uint-node, use-node, in-set, node-of, held}
+use Rattle.table_layout.specs.Held.{Context, first-context, Values, HeldNode, terms-of, parts, isYes, passes-allowed, passes-static, passes-fixed, first-case, literal-bytes, bound, literal-node, range-node, uint-node, use-node, in-set, node-of, held, opening}
 use Rattle.table_layout.specs.declared.Construct.{Construct}
 use Rattle.table_layout.specs.declared.Passes.{Passes}
 use Rattle.run_actions.specs.Stored.{stored, prediction-at, follow-at, tests-of}
@@ -213,7 +213,7 @@ module _ (ws fs : List ℕ) (vs : List ℤ) (p i k : ℕ) (others : List HeldEnt
     unfolding held actOf
     does s =
         let c : Construct = constructAt ws i in
-        elim (decide (eqb i 256)) [
+        elim (decide (eqb i opening)) [
           | inl e ↦ rw e (does-open 0 (rw e at s))
           | inr e ↦ rw e (does-guarded (node-of ws i c) (whole-in-table ws i) (construct-act ws fs (known-values ws vs) p i k c) known (rw e at s))
         ]

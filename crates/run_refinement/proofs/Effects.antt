@@ -12,6 +12,7 @@ use lib.Dec.{leb, ltb, eqb}
 use lib.IntN.{ℤ}
 use lib.ListN.{length, getD, set, drop, length-drop, length-set}
 use lib.Seq.{drop-drop, getD-set-same}
+use Rattle.basis.specs.Limits.{max-entries}
 use Rattle.basis.specs.Bits.{Bits, frameBits}
 use Rattle.basis.proofs.Frames.{frame-length}
 use Rattle.theory.specs.Derivation.{Capture}
@@ -100,8 +101,8 @@ module _ (ws fs cs ps : List ℕ) (vs : List ℤ) (rs : List ℕ) (h : Head) (f 
       let at : ℕ = n - 1 + m in
       let e : m ≡ length js = x .2 in
       let there : Whole = whole (placed construct-put ws start end at cs) (placed passes-put ws start end at ps) vs rs (taken fs h at (h .position) (h .captures)) in
-      let t : leb (n + m) 257 ≡ true = first-kept (leb (n + m) 257) there (whole cs ps vs rs (break h)) refl u in
-      let l : n + m ≤ 257 = leb-true (n + m) 257 t in
+      let t : leb (n + m) (max-entries + 1) ≡ true = first-kept (leb (n + m) (max-entries + 1)) there (whole cs ps vs rs (break h)) refl u in
+      let l : n + m ≤ (max-entries + 1) = leb-true (n + m) (max-entries + 1) t in
       let lc : n - 1 + length js ≤ length cs = omega (arith, f .3) in
       let lp : n - 1 + length js ≤ length ps = omega (arith, f .4) in
       let q : parts (end - start) ws start end ≡ js = row-parts (end - start) (x .1) (omega arith) in
@@ -115,8 +116,8 @@ module _ (ws fs cs ps : List ℕ) (vs : List ℤ) (rs : List ℕ) (h : Head) (f 
   does-again b u =
       let ps′ : List ℕ = set ps (n - 1) (k + 1) in
       let there : Whole = whole (set cs n b) (set ps′ n 0) vs rs (taken fs h (n + 1) (h .position) (h .captures)) in
-      let t : both (ltb n 256) (ltb k (bits-of fs + 1)) ≡ true = first-kept (both (ltb n 256) (ltb k (bits-of fs + 1))) there (whole cs ps vs rs (break h)) refl u in
-      let l : n < 256 = ltb-true n 256 (both-true (ltb n 256) (ltb k (bits-of fs + 1)) t .0) in
+      let t : both (ltb n max-entries) (ltb k (bits-of fs + 1)) ≡ true = first-kept (both (ltb n max-entries) (ltb k (bits-of fs + 1))) there (whole cs ps vs rs (break h)) refl u in
+      let l : n < max-entries = ltb-true n max-entries (both-true (ltb n max-entries) (ltb k (bits-of fs + 1)) t .0) in
       let ep : length ps′ ≡ length ps = length-set ps (n - 1) (k + 1) in
       let lc : n < length cs = omega (arith, f .3) in
       let lp : n < length ps′ = omega (arith, f .4) in

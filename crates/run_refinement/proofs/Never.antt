@@ -9,9 +9,10 @@ use mathlib.Core.Bool.{true}
 use mathlib.Core.List.{List, [], _∷_, _++_}
 use lib.IntN.{ℤ}
 use lib.ListN.{length, getD, length-append, length-map}
+use Rattle.basis.specs.Limits.{max-entries}
 use Rattle.theory.specs.Derivation.{Capture}
 use Rattle.theory.specs.Machine.{entry, pending-of, captures-of, Passes, state-of, entries, stepped}
-use Rattle.table_layout.specs.Held.{Context, first-context, parts, held}
+use Rattle.table_layout.specs.Held.{Context, first-context, parts, held, opening}
 use Rattle.run_actions.specs.Stored.{tests-of}
 use Rattle.run_actions.specs.Acts.{bits-of, actOf}
 use Rattle.run_actions.specs.declared.Act.{Act}
@@ -53,7 +54,7 @@ module _ (ws fs cs ps : List ℕ) (vs : List ℤ) (rs : List ℕ) (h : Head) whe
   next a = state-of (after (state-held fs w) (h .steps) (done ws fs vs (h .position) i k others rc a))
 
   -- where the theory's next state has room, so have the arrays
-  effect-unbroken : (widest : List ℤ) → 0 < h .count → (a : Act) → Safe ws widest a → Membered ws a → Passes (pending-of (next a)) (bits-of fs + 1) → length (pending-of (next a)) ≤ 256 → 2 * length (captures-of (next a)) ≤ length rs
+  effect-unbroken : (widest : List ℤ) → 0 < h .count → (a : Act) → Safe ws widest a → Membered ws a → Passes (pending-of (next a)) (bits-of fs + 1) → length (pending-of (next a)) ≤ max-entries → 2 * length (captures-of (next a)) ≤ length rs
       → Unbroken (effect ws fs i k cs ps vs rs h a)
   effect-unbroken widest m Act.Broken s x p room words = absurd s
   effect-unbroken widest m Act.Fail s x p room words = λ e. omega arith
@@ -63,10 +64,10 @@ module _ (ws fs cs ps : List ℕ) (vs : List ℤ) (rs : List ℕ) (h : Head) whe
       let e : js ≡ x .0 = row-parts (end - start) (x .1) (omega arith) in
       let q : length (entries first-context js ++ others) ≡ length js + (h .count - 1) = length-append (entries first-context js) others ∙ ap₂ _+_ (length-map js (λ j. entry j first-context 0)) (pending-length cs ps (h .count - 1)) in
       let y : length js ≡ n = ap length e ∙ sym (x .2) in
-      rw (le-leb (h .count + n) 257 (omega arith)) (verdict-unbroken fs (h .count - 1 + n) (h .position))
+      rw (le-leb (h .count + n) (max-entries + 1) (omega arith)) (verdict-unbroken fs (h .count - 1 + n) (h .position))
   effect-unbroken widest m (Act.Again b) s x p room words =
       let q : length others ≡ h .count - 1 = pending-length cs ps (h .count - 1) in
-      rw (lt-ltb (h .count) 256 (omega arith), lt-ltb k (bits-of fs + 1) (p .1 .0)) (verdict-unbroken fs (h .count + 1) (h .position))
+      rw (lt-ltb (h .count) max-entries (omega arith), lt-ltb k (bits-of fs + 1) (p .1 .0)) (verdict-unbroken fs (h .count + 1) (h .position))
   effect-unbroken widest m Act.Leave s x p room words = verdict-unbroken fs (h .count - 1) (h .position)
   effect-unbroken widest m (Act.Take width binder n) s x p room words =
       let q : length (rc ++ (record { construct = i; first-bit = h .position } ∷ [])) ≡ h .captures + 1 = length-append rc (record { construct = i; first-bit = h .position } ∷ []) ∙ ap (_+ 1) (recorded-length rs (h .captures)) in
@@ -75,9 +76,9 @@ module _ (ws fs cs ps : List ℕ) (vs : List ℤ) (rs : List ℕ) (h : Head) whe
   abbrev act-of : Act
   act-of = actOf ws fs vs (h .position) i k
 
-  step-is : h .verdict ≡ 0 → in-bound ws fs (h .steps) ≡ true → 0 < h .count → i ≤ 256 → step-of ws fs w ≡ effect ws fs i k cs ps vs rs h act-of
+  step-is : h .verdict ≡ 0 → in-bound ws fs (h .steps) ≡ true → 0 < h .count → i ≤ opening → step-of ws fs w ≡ effect ws fs i k cs ps vs rs h act-of
   unfolding step-of
-  step-is e b m l = rw (eq-eqb (h .verdict) 0 e, b, ne-eqb (h .count) 0 (λ z. omega arith), le-leb i 256 l)
+  step-is e b m l = rw (eq-eqb (h .verdict) 0 e, b, ne-eqb (h .count) 0 (λ z. omega arith), le-leb i opening l)
 
   -- the theory's next state is steady, and where it has room the step is not broken
   module _ (widest : List ℤ) {weight rooms : Context → ℕ → ℕ} (r : Reliable ws widest weight rooms) (f : Fits fs w) (e : h .verdict ≡ 0) (st : Steady ws widest (run-of fs w)) where
@@ -87,7 +88,7 @@ module _ (ws fs cs ps : List ℕ) (vs : List ℤ) (rs : List ℕ) (h : Head) whe
     table-entries : InTable ws i × There ws others
     table-entries = rw (pending-first cs ps (h .count) some-entry) at (st .there)
 
-    small : InTable ws i → i ≤ 256
+    small : InTable ws i → i ≤ opening
     small (inl z) = omega arith
     small (inr z) = omega (arith, r .laid .counts .constructs)
 
@@ -105,7 +106,7 @@ module _ (ws fs cs ps : List ℕ) (vs : List ℤ) (rs : List ℕ) (h : Head) whe
 
     pub step-unbroken : in-bound ws fs (h .steps) ≡ true
         → Passes (pending-of (state-of (stepped (held ws) (tests-of ws) (run-of fs w)))) (bits-of fs + 1)
-        → length (pending-of (state-of (stepped (held ws) (tests-of ws) (run-of fs w)))) ≤ 256
+        → length (pending-of (state-of (stepped (held ws) (tests-of ws) (run-of fs w)))) ≤ max-entries
         → 2 * length (captures-of (state-of (stepped (held ws) (tests-of ws) (run-of fs w)))) ≤ length rs
         → Unbroken (step-of ws fs w)
     step-unbroken b p room words =

@@ -10,6 +10,7 @@ use mathlib.Core.Bool.{true}
 use mathlib.Core.List.{List, [], _∷_}
 use lib.IntN.{ℤ}
 use lib.ListN.{length, getD}
+use Rattle.basis.specs.Limits.{max-weight, max-frame-bytes, max-entries}
 use Rattle.basis.specs.Bits.{Bits, frameBits}
 use Rattle.basis.proofs.Frames.{frame-length}
 use Rattle.theory.specs.Machine.{entry, state, pending-of, captures-of, Passes, undecided, run, verdict-of, state-of, taken-of, stepped, open-state, opened, granted, taken}
@@ -40,9 +41,9 @@ opening-head = record { position = 0; count = 1; captures = 0; steps = 0; verdic
 -- what an opening gives: the arrays' first words, a frame of at most 256 bytes, and two words for each of its bits in the reading, which may
 -- be any words
 pub record Opening (fs cs ps rs : List ℕ) : Type 0 where
-  pub short : length fs ≤ 256
-  pub constructs : length cs ≡ 256
-  pub passes : length ps ≡ 256
+  pub short : length fs ≤ max-frame-bytes
+  pub constructs : length cs ≡ max-entries
+  pub passes : length ps ≡ max-entries
   pub first : getD cs 0 0 ≡ opening
   pub none-begun : getD ps 0 0 ≡ 0
   pub room : 2 * bits-of fs ≤ length rs
@@ -84,12 +85,12 @@ module _ (ws : List ℕ) (widest : List ℤ) (weight rooms : Context → ℕ →
       let t : taken-of (at n) - 0 ≡ min n (d .needed) = d .taken-min n in
       let b : d .needed ≤ weight first-context opening * (length s + 1) = d .within-bound in
       let m : weight first-context opening * (length s + 1) ≤ weight-of ws * (bits-of fs + 1) = mul-le-mul (r .weight-stored) (omega (arith, frame-length fs)) in
-      rw (le-leb (weight-of ws) 65535 (r .laid .counts .weight)) (lt-ltb (taken-of (at n)) (weight-of ws * (bits-of fs + 1)) (omega arith))
+      rw (le-leb (weight-of ws) max-weight (r .laid .counts .weight)) (lt-ltb (taken-of (at n)) (weight-of ws * (bits-of fs + 1)) (omega arith))
 
   moment : (n : ℕ) → Moment (held ws) (tests-of ws) weight s (state-of (at n))
   moment n = Theory.moments (held ws) (tests-of ws) weight (r .hypotheses) (r .weighs) s n
 
-  few-entries : (n : ℕ) → length (pending-of (state-of (at n))) ≤ 256
+  few-entries : (n : ℕ) → length (pending-of (state-of (at n))) ≤ max-entries
   unfolding held
   few-entries n = omega (arith, Theory.room (held ws) (tests-of ws) rooms (r .hypotheses) (r .houses) s n, r .room-most)
 
@@ -122,7 +123,7 @@ module _ (ws : List ℕ) (widest : List ℤ) (weight rooms : Context → ℕ →
         let u : Unbroken (step-of ws fs w) =
         step-unbroken ws fs cs′ ps′ vs′ rs′ h widest r f q st b
         (subst (λ (y : HeldRun). Passes (pending-of (state-of y)) (bits-of fs + 1)) x (few-passes (suc n)))
-        (subst (λ (y : HeldRun). length (pending-of (state-of y)) ≤ 256) x (few-entries (suc n)))
+        (subst (λ (y : HeldRun). length (pending-of (state-of y)) ≤ max-entries) x (few-entries (suc n)))
         (rw long (subst (λ (y : HeldRun). 2 * length (captures-of (state-of y)) ≤ length rs) x (few-captures (suc n)))) in
         (u, subst (Steady ws widest) (sym (step-agrees ws fs w f u)) (step-steady ws fs cs′ ps′ vs′ rs′ h widest r f q st))
 

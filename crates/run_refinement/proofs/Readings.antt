@@ -9,6 +9,7 @@ use lib.Dec.{leb, ltb}
 use lib.IntN.{ℤ}
 use lib.ListN.{length, getD, set, take, drop, length-set, take-append-drop}
 use lib.Seq.{take-suc, take-take, take-set-le, drop-set-lt, drop-drop}
+use Rattle.basis.specs.Limits.{max-entries}
 use Rattle.theory.specs.Derivation.{Capture}
 use Rattle.table_layout.specs.Constructs.{both}
 use Rattle.run_actions.specs.Acts.{bits-of, actOf}
@@ -74,8 +75,8 @@ module _ (ws fs cs ps : List ℕ) (vs : List ℤ) (rs : List ℕ) (h : Head) whe
   effect-records i k Act.Broken = stays _ _ _ _ refl
   effect-records i k Act.Fail = stays _ _ _ _ refl
   effect-records i k (Act.Enter b) = stays _ _ _ _ refl
-  effect-records i k (Act.Members start end n) = either-way (Recorded w) (leb (h .count + n) 257) (stays _ _ _ _ refl) (stays _ _ _ _ refl)
-  effect-records i k (Act.Again b) = either-way (Recorded w) (both (ltb (h .count) 256) (ltb k (bits-of fs + 1))) (stays _ _ _ _ refl) (stays _ _ _ _ refl)
+  effect-records i k (Act.Members start end n) = either-way (Recorded w) (leb (h .count + n) (max-entries + 1)) (stays _ _ _ _ refl) (stays _ _ _ _ refl)
+  effect-records i k (Act.Again b) = either-way (Recorded w) (both (ltb (h .count) max-entries) (ltb k (bits-of fs + 1))) (stays _ _ _ _ refl) (stays _ _ _ _ refl)
   effect-records i k Act.Leave = stays _ _ _ _ refl
   effect-records i k (Act.Take width binder n) = take-records i width binder n
 

@@ -9,6 +9,7 @@ use mathlib.Core.List.{List}
 use lib.Dec.{eqb}
 use lib.IntN.{ℤ, pos}
 use lib.ListN.{length, getD, length-replicate, getD-replicate}
+use Rattle.basis.specs.Limits.{max-variables, max-width, max-entries}
 use Rattle.term_words.specs.declared.Kind.{Kind}
 use Rattle.term_evaluation.specs.declared.Counted.{Counted}
 use Rattle.term_sizes.specs.Sizes.{sizes, countSizes}
@@ -35,8 +36,8 @@ pub record Reliable (ws : List ℕ) (widest : List ℤ) (weight rooms : Context 
   -- laid out as docs/TABLE.md says (`table_wellformed`): constructs below the count are there, and so is all that they lead to
   pub laid : Laid ws
   -- refusal 8, "variables at their widest": 64 sizes, each the largest value of the variable's width
-  pub variables : length widest ≡ 64
-  pub each-widest : (x : ℕ) → x < 64 → getD widest x (pos 0) ≡ pos (2 ^ min 32 (variable-word ws x 1) - 1)
+  pub variables : length widest ≡ max-variables
+  pub each-widest : (x : ℕ) → x < max-variables → getD widest x (pos 0) ≡ pos (2 ^ min max-width (variable-word ws x 1) - 1)
   -- refusal 8: no list of terms has a size past 2^62 (that none is malformed is in `laid`)
   pub conditions-within : (i : ℕ) → i < construct-count ws → construct-word ws i 6 < construct-word ws i 7
       → (at : ℕ) → sizes Kind.Condition widest (construct-word ws i 6) (terms-of ws (construct-word ws i 6) (construct-word ws i 7)) ≡ Sized.Exceeds at → ⊥
@@ -48,7 +49,7 @@ pub record Reliable (ws : List ℕ) (widest : List ℤ) (weight rooms : Context 
   pub weighs : Outweighs (held ws) weight
   pub weight-stored : weight first-context opening ≤ weight-of ws
   pub houses : Houses (held ws) rooms
-  pub room-most : rooms first-context opening ≤ 256
+  pub room-most : rooms first-context opening ≤ max-entries
   -- what the theory asks: 6, 7, 9, 10, and stored sets = computed sets
   pub hypotheses : Hypotheses (held ws) (tests-of ws)
 
@@ -61,11 +62,11 @@ module _ {ws : List ℕ} {widest : List ℤ} {weight rooms : Context → ℕ →
   pub zero-inside : Inside zero-values widest
   zero-inside =
       record {
-        same = length-replicate 64 (pos 0) ∙ sym (r .variables);
+        same = length-replicate max-variables (pos 0) ∙ sym (r .variables);
         each =
             λ k l.
-            let m : k < 64 = omega (arith, r .variables) in
-            rw (getD-replicate 64 k (pos 0) (pos 0) m) record { size = 2 ^ min 32 (variable-word ws k 1) - 1; is = r .each-widest k m; le = omega arith };
+            let m : k < max-variables = omega (arith, r .variables) in
+            rw (getD-replicate max-variables k (pos 0) (pos 0) m) record { size = 2 ^ min max-width (variable-word ws k 1) - 1; is = r .each-widest k m; le = omega arith };
       }
 
   -- so every list comes to an answer

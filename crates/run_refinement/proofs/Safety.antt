@@ -10,6 +10,7 @@ use mathlib.Core.List.{List}
 use lib.Dec.{leb, ltb, eqb}
 use lib.IntN.{ℤ, pos}
 use lib.ListN.{take, drop, getD}
+use Rattle.basis.specs.Limits.{max-constructs, max-width}
 use Rattle.basis.specs.Bits.{value, frameBits}
 use Rattle.basis.specs.Counts.{Counts, from, within}
 use Rattle.basis.proofs.Frames.{value-take-less}
@@ -103,11 +104,11 @@ module _ (ws : List ℕ) (widest : List ℤ) {weight rooms : Context → ℕ →
   ends i n h e = omega (arith, rule-holds (r .laid) i h, rule-within (r .laid) (rule-of (r .laid) i h .rule) (rule-of (r .laid) i h .exists))
 
   -- a value that a binder gives is within its variable's size
-  binds-within : (i width start end binder n : ℕ) → i < construct-count ws → constructAt ws i ≡ Construct.Uint width start end binder → n < 2 ^ width → width ≤ 32 → Binds widest binder n
+  binds-within : (i width start end binder n : ℕ) → i < construct-count ws → constructAt ws i ≡ Construct.Uint width start end binder → n < 2 ^ width → width ≤ max-width → Binds widest binder n
   binds-within i width start end zero n h e l w = tt
   binds-within i width start end (suc x) n h e l w =
       let b = binder-width (r .laid) i width start end x h e in
-      let m : min 32 (variable-word ws x 1) ≡ width = omega (arith, b .width-is) in
+      let m : min max-width (variable-word ws x 1) ≡ width = omega (arith, b .width-is) in
       (2 ^ width - 1, r .each-widest x (b .known) ∙ ap (λ (k : ℕ). pos (2 ^ k - 1)) m, (let z : n ≤ 2 ^ width - 1 = omega arith in z))
 
   -- a binder is one of the table's variables
@@ -116,7 +117,7 @@ module _ (ws : List ℕ) (widest : List ℤ) {weight rooms : Context → ℕ →
   binder-counted i width start end (suc x) h e = binder-width (r .laid) i width start end x h e .counted
 
   enter-safe : (b : ℕ) → b < construct-count ws → Good (enter ws b)
-  enter-safe b l = rw (lt-ltb b 256 (omega (arith, r .laid .counts .constructs)), lt-ltb b (construct-count ws) l) l
+  enter-safe b l = rw (lt-ltb b max-constructs (omega (arith, r .laid .counts .constructs)), lt-ltb b (construct-count ws) l) l
 
   open-safe : (rule : ℕ) → rule < rule-count ws → Good (open-rule ws rule)
   open-safe rule l = rw (lt-ltb rule (rule-count ws) l) (enter-safe (rule-word ws rule 0) (body-exists (r .laid) rule l))
@@ -201,6 +202,6 @@ module _ (ws : List ℕ) (widest : List ℤ) {weight rooms : Context → ℕ →
 
   pub act-safe : (i k : ℕ) → InTable ws i → Good (actOf ws fs vs p i k)
   unfolding actOf
-  act-safe i k (inl e) = rw (eq-eqb i 256 e) (open-safe 0 (r .laid .counts .some-rule))
+  act-safe i k (inl e) = rw (eq-eqb i opening e) (open-safe 0 (r .laid .counts .some-rule))
   act-safe i k (inr l) =
-      rw (ne-eqb i 256 (λ e. omega (arith, r .laid .counts .constructs)), le-leb (i + size-at ws i) (construct-count ws) (ends i (size-at ws i) l refl)) (construct-safe i k (constructAt ws i) l refl)
+      rw (ne-eqb i opening (λ e. omega (arith, r .laid .counts .constructs)), le-leb (i + size-at ws i) (construct-count ws) (ends i (size-at ws i) l refl)) (construct-safe i k (constructAt ws i) l refl)

@@ -14,7 +14,7 @@ use Rattle.basis.specs.Bits.{frameBits}
 use Rattle.theory.specs.Derivation.{Capture}
 use Rattle.theory.specs.Machine.{entry, state, undecided, run, step, stepped}
 use Rattle.table_layout.specs.Constructs.{pick}
-use Rattle.table_layout.specs.Held.{first-context, held}
+use Rattle.table_layout.specs.Held.{first-context, held, opening}
 use Rattle.run_actions.specs.Stored.{tests-of}
 use Rattle.run_actions.specs.Acts.{bits-of, actOf}
 use Rattle.run_actions.specs.declared.Act.{Act}
@@ -40,7 +40,7 @@ stepped-after ws σ n (some τ) e = rw (e, stepped)
 pub record Taken (ws fs cs ps : List ℕ) (vs : List ℤ) (rs : List ℕ) (h : Head) : Type 0 where
   pub bound : in-bound ws fs (h .steps) ≡ true
   pub entries : 0 < h .count
-  pub number : getD cs (h .count - 1) 0 ≤ 256
+  pub number : getD cs (h .count - 1) 0 ≤ opening
   pub is : step-of ws fs (whole cs ps vs rs h)
       ≡ effect ws fs (getD cs (h .count - 1) 0) (getD ps (h .count - 1) 0) cs ps vs rs h (actOf ws fs vs (h .position) (getD cs (h .count - 1) 0) (getD ps (h .count - 1) 0))
 
@@ -69,7 +69,7 @@ module _ (ws fs cs ps : List ℕ) (vs : List ℤ) (rs : List ℕ) (h : Head) whe
   step-taken e u =
       let bad : Whole = whole cs ps vs rs (break h) in
       let did : Whole = effect ws fs i k cs ps vs rs h a in
-      let first : Whole = pick (leb i 256) did bad in
+      let first : Whole = pick (leb i opening) did bad in
       let here : Whole = pick (eqb (h .count) 0) bad first in
       let v : eqb (h .verdict) 0 ≡ true = eq-eqb (h .verdict) 0 e in
       let u₁ : Unbroken (pick (in-bound ws fs (h .steps)) here bad) = rw v at u in
@@ -77,11 +77,11 @@ module _ (ws fs cs ps : List ℕ) (vs : List ℤ) (rs : List ℕ) (h : Head) whe
       let u₂ : Unbroken here = rw b at u₁ in
       let c : eqb (h .count) 0 ≡ false = second-kept (eqb (h .count) 0) bad first refl u₂ in
       let u₃ : Unbroken first = rw c at u₂ in
-      let m : leb i 256 ≡ true = first-kept (leb i 256) did bad refl u₃ in
+      let m : leb i opening ≡ true = first-kept (leb i opening) did bad refl u₃ in
       record {
         bound = b;
         entries = (let z : h .count ≡ 0 → ⊥ = eqb-false (h .count) 0 c in positive (h .count) z);
-        number = leb-true i 256 m;
+        number = leb-true i opening m;
         is = rw (v, b, c, m);
       }
 

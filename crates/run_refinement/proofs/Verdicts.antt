@@ -8,6 +8,7 @@ use mathlib.Core.List.{List}
 use lib.Dec.{leb, ltb, eqb}
 use lib.IntN.{ℤ}
 use lib.ListN.{length, getD}
+use Rattle.basis.specs.Limits.{max-entries}
 use Rattle.theory.specs.Machine.{undecided, matched, unmatched}
 use Rattle.table_layout.specs.Constructs.{both}
 use Rattle.run_actions.specs.Acts.{bits-of, actOf}
@@ -31,8 +32,8 @@ effect-few : (ws fs : List ℕ) (i k : ℕ) (cs ps : List ℕ) (vs : List ℤ) (
 effect-few ws fs i k cs ps vs rs h Act.Broken = inl refl
 effect-few ws fs i k cs ps vs rs h Act.Fail = inr (omega arith)
 effect-few ws fs i k cs ps vs rs h (Act.Enter b) = inr (after-few fs (h .count) (h .position))
-effect-few ws fs i k cs ps vs rs h (Act.Members start end n) = either-way Few (leb (h .count + n) 257) (inr (after-few fs (h .count - 1 + n) (h .position))) (inl refl)
-effect-few ws fs i k cs ps vs rs h (Act.Again b) = either-way Few (both (ltb (h .count) 256) (ltb k (bits-of fs + 1))) (inr (after-few fs (h .count + 1) (h .position))) (inl refl)
+effect-few ws fs i k cs ps vs rs h (Act.Members start end n) = either-way Few (leb (h .count + n) (max-entries + 1)) (inr (after-few fs (h .count - 1 + n) (h .position))) (inl refl)
+effect-few ws fs i k cs ps vs rs h (Act.Again b) = either-way Few (both (ltb (h .count) max-entries) (ltb k (bits-of fs + 1))) (inr (after-few fs (h .count + 1) (h .position))) (inl refl)
 effect-few ws fs i k cs ps vs rs h Act.Leave = inr (after-few fs (h .count - 1) (h .position))
 effect-few ws fs i k cs ps vs rs h (Act.Take width binder n) = either-way Few (leb (2 * h .captures + 2) (length rs)) (inr (after-few fs (h .count - 1) (h .position + width))) (inl refl)
 

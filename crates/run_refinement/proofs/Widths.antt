@@ -7,6 +7,7 @@ use mathlib.Core.Path.{_≡_, refl, sym, _∙_, ap}
 use mathlib.Core.Bool.{Bool, true}
 use mathlib.Core.List.{List}
 use lib.Dec.{leb, ltb, eqb}
+use Rattle.basis.specs.Limits.{max-constructs, max-variables, max-rules, max-literal-bytes, max-width}
 use Rattle.term_words.specs.declared.Kind.{Kind}
 use Rattle.table_layout.specs.Places.{construct-word, variable-word, construct-count, variable-count}
 use Rattle.table_layout.specs.Constructs.{pick, both, branches, listed, repetitionOf, innerOf, leafOf, constructOf, constructAt}
@@ -44,10 +45,10 @@ inner-width x kind size a b c =
 
 leaf-width : (kind a b c d : ℕ) → HasWidth a (leafOf kind a b c d)
 leaf-width kind a b c d =
-    either-way (HasWidth a) (eqb kind 5) (either-way (HasWidth a) (ltb a 64) tt tt)
-    (either-way (HasWidth a) (eqb kind 6) (either-way (HasWidth a) (both (leb 1 a) (leb a 32)) tt tt)
+    either-way (HasWidth a) (eqb kind 5) (either-way (HasWidth a) (ltb a max-rules) tt tt)
+    (either-way (HasWidth a) (eqb kind 6) (either-way (HasWidth a) (both (leb 1 a) (leb a max-literal-bytes)) tt tt)
     (either-way (HasWidth a) (eqb kind 7) (either-way (HasWidth a) (both (ltb a 128) (ltb b 128)) tt tt)
-    (either-way (HasWidth a) (eqb kind 8) (either-way (HasWidth a) (both (both (leb 1 a) (leb a 32)) (both (listed b c) (leb d 64))) refl tt)
+    (either-way (HasWidth a) (eqb kind 8) (either-way (HasWidth a) (both (both (leb 1 a) (leb a max-width)) (both (listed b c) (leb d max-variables))) refl tt)
     (either-way (HasWidth a) (eqb kind 9) tt tt))))
 
 construct-width : (ws : List ℕ) (i : ℕ) → HasWidth (construct-word ws i 2) (constructAt ws i)
@@ -56,7 +57,7 @@ construct-width ws i =
     let x : ℕ = construct-word ws i 2 in
     let kind : ℕ = construct-word ws i 0 in
     let size : ℕ = construct-word ws i 1 in
-    either-way (HasWidth x) (ltb i 256)
+    either-way (HasWidth x) (ltb i max-constructs)
     (either-way (HasWidth x) (both (leb 1 kind) (leb kind 4))
     (either-way (HasWidth x) (branches i size) (inner-width x kind size x (construct-word ws i 3) (construct-word ws i 4)) tt)
     (either-way (HasWidth x) (eqb size 1) (leaf-width kind x (construct-word ws i 3) (construct-word ws i 4) (construct-word ws i 5)) tt))
@@ -64,7 +65,7 @@ construct-width ws i =
 
 -- a binder's variable, and its width
 pub record Binder (ws : List ℕ) (x width : ℕ) : Type 0 where
-  pub known : x < 64
+  pub known : x < max-variables
   pub counted : suc x ≤ variable-count ws
   pub width-is : variable-word ws x 1 ≡ width
 

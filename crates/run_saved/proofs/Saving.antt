@@ -7,26 +7,27 @@ use mathlib.Core.List.{List, _++_}
 use lib.IntN.{ℤ}
 use lib.ListN.{length, drop, length-append}
 use lib.Seq.{sets}
+use Rattle.basis.specs.Limits.{max-variables, max-entries}
 use Rattle.run_grants.specs.Runs.{closed-run}
 use Rattle.run_grants.specs.declared.Run.{Run}
-use Rattle.run_saved.specs.Saved.{bytes, number, pattern, whole, plain, listed, numbers, encoded, decoded, restored, stored}
+use Rattle.run_saved.specs.Saved.{bytes, number, pattern, whole, plain, listed, numbers, encoded, decoded, restored, stored, values-at, verdict-at, entries-at, passes-at, saved-bytes}
 use Rattle.run_saved.proofs.Bytes.{bytes-length, listed-length, sets-next, sets-whole}
 
-pub restored-is : (bs : List ℕ) → length bs ≡ 2596 → restored bs ≡ decoded bs
-restored-is bs e = simp (eq-eqb (length bs) 2596 e)
+pub restored-is : (bs : List ℕ) → length bs ≡ saved-bytes → restored bs ≡ decoded bs
+restored-is bs e = simp (eq-eqb (length bs) saved-bytes e)
 
-pub restored-not : (bs : List ℕ) → (length bs ≡ 2596 → ⊥) → restored bs ≡ closed-run
-restored-not bs e = simp (ne-eqb (length bs) 2596 e)
+pub restored-not : (bs : List ℕ) → (length bs ≡ saved-bytes → ⊥) → restored bs ≡ closed-run
+restored-not bs e = simp (ne-eqb (length bs) saved-bytes e)
 
-pub stored-is : (run : Run) (out : List ℕ) → length out ≡ 2596 → stored run out ≡ encoded run
-stored-is run out e = simp (eq-eqb (length out) 2596 e)
+pub stored-is : (run : Run) (out : List ℕ) → length out ≡ saved-bytes → stored run out ≡ encoded run
+stored-is run out e = simp (eq-eqb (length out) saved-bytes e)
 
-pub stored-not : (run : Run) (out : List ℕ) → (length out ≡ 2596 → ⊥) → stored run out ≡ out
-stored-not run out e = simp (ne-eqb (length out) 2596 e)
+pub stored-not : (run : Run) (out : List ℕ) → (length out ≡ saved-bytes → ⊥) → stored run out ≡ out
+stored-not run out e = simp (ne-eqb (length out) saved-bytes e)
 
 pub all-read : (bs : List ℕ) (position count captures steps verdict : ℕ) (constructs passes : List ℕ) (values : List ℤ)
-    → position ≡ number 8 bs → count ≡ number 8 (drop 8 bs) → captures ≡ number 8 (drop 16 bs) → steps ≡ number 8 (drop 24 bs) → values ≡ numbers whole 8 64 (drop 32 bs)
-    → verdict ≡ number 4 (drop 544 bs) → constructs ≡ numbers plain 4 256 (drop 548 bs) → passes ≡ numbers plain 4 256 (drop 1572 bs)
+    → position ≡ number 8 bs → count ≡ number 8 (drop 8 bs) → captures ≡ number 8 (drop 16 bs) → steps ≡ number 8 (drop 24 bs) → values ≡ numbers whole 8 max-variables (drop values-at bs)
+    → verdict ≡ number 4 (drop verdict-at bs) → constructs ≡ numbers plain 4 max-entries (drop entries-at bs) → passes ≡ numbers plain 4 max-entries (drop passes-at bs)
     → _≡_ {A = Run} (record { position = position; count = count; captures = captures; steps = steps; verdict = verdict; constructs = constructs; passes = passes; values = values }) (decoded bs)
 unfolding decoded
 all-read bs position count captures steps verdict constructs passes values a b d e f g h i =
@@ -34,22 +35,22 @@ all-read bs position count captures steps verdict constructs passes values a b d
 
 -- the arrays of a run
 pub record Sized (run : Run) : Type 0 where
-  pub values : length (run .values) ≡ 64
-  pub constructs : length (run .constructs) ≡ 256
-  pub passes : length (run .passes) ≡ 256
+  pub values : length (run .values) ≡ max-variables
+  pub constructs : length (run .constructs) ≡ max-entries
+  pub passes : length (run .passes) ≡ max-entries
 
-pub encoded-length : (run : Run) → Sized run → length (encoded run) ≡ 2596
+pub encoded-length : (run : Run) → Sized run → length (encoded run) ≡ saved-bytes
 unfolding encoded
 encoded-length run h =
-    let v : length (listed pattern 8 (run .values)) ≡ 512 = listed-length pattern 8 (run .values) ∙ ap (8 *_) (h .values) in
-    let k : length (listed plain 4 (run .constructs)) ≡ 1024 = listed-length plain 4 (run .constructs) ∙ ap (4 *_) (h .constructs) in
-    let p : length (listed plain 4 (run .passes)) ≡ 1024 = listed-length plain 4 (run .passes) ∙ ap (4 *_) (h .passes) in
+    let v : length (listed pattern 8 (run .values)) ≡ 8 * max-variables = listed-length pattern 8 (run .values) ∙ ap (8 *_) (h .values) in
+    let k : length (listed plain 4 (run .constructs)) ≡ 4 * max-entries = listed-length plain 4 (run .constructs) ∙ ap (4 *_) (h .constructs) in
+    let p : length (listed plain 4 (run .passes)) ≡ 4 * max-entries = listed-length plain 4 (run .passes) ∙ ap (4 *_) (h .passes) in
     simp (length-append, bytes-length, v, k, p)
 
 -- eight stores, each where the one before ends
-pub all-written : (run : Run) (out a b d e f g h i : List ℕ) → length out ≡ 2596 → Sized run
+pub all-written : (run : Run) (out a b d e f g h i : List ℕ) → length out ≡ saved-bytes → Sized run
     → a ≡ sets out 0 (bytes 8 (run .position)) → b ≡ sets a 8 (bytes 8 (run .count)) → d ≡ sets b 16 (bytes 8 (run .captures)) → e ≡ sets d 24 (bytes 8 (run .steps))
-    → f ≡ sets e 32 (listed pattern 8 (run .values)) → g ≡ sets f 544 (bytes 4 (run .verdict)) → h ≡ sets g 548 (listed plain 4 (run .constructs)) → i ≡ sets h 1572 (listed plain 4 (run .passes))
+    → f ≡ sets e values-at (listed pattern 8 (run .values)) → g ≡ sets f verdict-at (bytes 4 (run .verdict)) → h ≡ sets g entries-at (listed plain 4 (run .constructs)) → i ≡ sets h passes-at (listed plain 4 (run .passes))
     → i ≡ encoded run
 unfolding encoded
 all-written run out a b d e f g h i l s pa pb pd pe pf pg ph pi =
@@ -60,12 +61,12 @@ all-written run out a b d e f g h i l s pa pb pd pe pf pg ph pi =
     let rd : List ℕ = bytes 8 (run .steps) ++ re in
     let rb : List ℕ = bytes 8 (run .captures) ++ rd in
     let ra : List ℕ = bytes 8 (run .count) ++ rb in
-    let all : sets out 0 (encoded run) ≡ sets h 1572 rh =
+    let all : sets out 0 (encoded run) ≡ sets h passes-at rh =
     sets-next (bytes 8 (run .position)) ra out a 0 8 pa (ap (0 +_) (bytes-length 8 (run .position)))
     ∙ sets-next (bytes 8 (run .count)) rb a b 8 16 pb (ap (8 +_) (bytes-length 8 (run .count)))
     ∙ sets-next (bytes 8 (run .captures)) rd b d 16 24 pd (ap (16 +_) (bytes-length 8 (run .captures)))
-    ∙ sets-next (bytes 8 (run .steps)) re d e 24 32 pe (ap (24 +_) (bytes-length 8 (run .steps)))
-    ∙ sets-next (listed pattern 8 (run .values)) rf e f 32 544 pf (ap (32 +_) (listed-length pattern 8 (run .values) ∙ ap (8 *_) (s .values)))
-    ∙ sets-next (bytes 4 (run .verdict)) rg f g 544 548 pg (ap (544 +_) (bytes-length 4 (run .verdict)))
-    ∙ sets-next (listed plain 4 (run .constructs)) rh g h 548 1572 ph (ap (548 +_) (listed-length plain 4 (run .constructs) ∙ ap (4 *_) (s .constructs)))
+    ∙ sets-next (bytes 8 (run .steps)) re d e 24 values-at pe (ap (24 +_) (bytes-length 8 (run .steps)))
+    ∙ sets-next (listed pattern 8 (run .values)) rf e f values-at verdict-at pf (ap (values-at +_) (listed-length pattern 8 (run .values) ∙ ap (8 *_) (s .values)))
+    ∙ sets-next (bytes 4 (run .verdict)) rg f g verdict-at entries-at pg (ap (verdict-at +_) (bytes-length 4 (run .verdict)))
+    ∙ sets-next (listed plain 4 (run .constructs)) rh g h entries-at passes-at ph (ap (entries-at +_) (listed-length plain 4 (run .constructs) ∙ ap (4 *_) (s .constructs)))
     in pi ∙ sym all ∙ sets-whole (encoded run) out (l ∙ sym (encoded-length run s))

@@ -5,13 +5,27 @@ use mathlib.Core.List.{List, [], _∷_, _++_}
 use lib.Dec.{eqb, ltb}
 use lib.IntN.{ℤ, pos, negsuc}
 use lib.ListN.{length, drop}
+use Rattle.basis.specs.Limits.{max-variables, max-entries}
 use Rattle.table_layout.specs.Constructs.{pick}
 use Rattle.run_grants.specs.Runs.{closed-run}
 use Rattle.run_grants.specs.declared.Run.{Run}
 
+-- where the values, the verdict and the two words of each entry begin, behind four numbers of eight bytes
+abbrev pub values-at : ℕ
+values-at = 32
+
+abbrev pub verdict-at : ℕ
+verdict-at = values-at + 8 * max-variables
+
+abbrev pub entries-at : ℕ
+entries-at = verdict-at + 4
+
+abbrev pub passes-at : ℕ
+passes-at = entries-at + 4 * max-entries
+
 -- how many bytes a saved run has
 abbrev pub saved-bytes : ℕ
-saved-bytes = 2596
+saved-bytes = passes-at + 4 * max-entries
 
 -- a number in so many bytes, the lowest first
 unfoldable pub bytes : ℕ → ℕ → List ℕ
@@ -59,7 +73,7 @@ encoded run =
     ++ (listed plain 4 (run .constructs)
     ++ listed plain 4 (run .passes)))))))
 
--- and the run that 2,596 bytes are
+-- and the run that so many bytes are
 unfoldable pub decoded : List ℕ → Run
 decoded bs =
     record {
@@ -67,10 +81,10 @@ decoded bs =
       count = number 8 (drop 8 bs);
       captures = number 8 (drop 16 bs);
       steps = number 8 (drop 24 bs);
-      verdict = number 4 (drop 544 bs);
-      constructs = numbers plain 4 256 (drop 548 bs);
-      passes = numbers plain 4 256 (drop 1572 bs);
-      values = numbers whole 8 64 (drop 32 bs);
+      verdict = number 4 (drop verdict-at bs);
+      constructs = numbers plain 4 max-entries (drop entries-at bs);
+      passes = numbers plain 4 max-entries (drop passes-at bs);
+      values = numbers whole 8 max-variables (drop values-at bs);
     }
 
 -- bytes of any length: a closed run, where they are no saved run

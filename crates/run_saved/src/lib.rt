@@ -1,4 +1,4 @@
-// A saved run as bytes: 2,596 of them, numbers with the lowest byte first (docs/TABLE.md, "The saved run").
+// A saved run as bytes: `SAVED_BYTES` of them, numbers with the lowest byte first (docs/TABLE.md, "The saved run").
 ghost use mathlib.Core.Path.{_≡_};
 ghost use mathlib.Core.Bool.{true};
 ghost use Prim.Native.Nat.{_+_, _*_, _^_, _≤_, _<_};
@@ -6,8 +6,22 @@ ghost use lib.Dec.{eqb};
 ghost use lib.IntN.{negsuc};
 ghost use lib.ListN.{length, drop};
 ghost use lib.Seq.{sets};
+ghost use Rattle.basis.specs.Limits.{max-variables, max-entries};
 ghost use Rattle.run_saved.specs.Saved.{saved-bytes, bytes, number, pattern, whole, plain, listed, numbers, encoded, restored, stored};
+use basis::MAX_ENTRIES;
+use basis::MAX_VARIABLES;
 use run_grants::Run;
+
+// Where the values, the verdict and the two words of each entry begin, and where the bytes end.
+pub const VALUES_AT: usize = 32;
+
+pub const VERDICT_AT: usize = VALUES_AT + 8 * MAX_VARIABLES;
+
+pub const ENTRIES_AT: usize = VERDICT_AT + 4;
+
+pub const PASSES_AT: usize = ENTRIES_AT + 4 * MAX_ENTRIES;
+
+pub const SAVED_BYTES: usize = PASSES_AT + 4 * MAX_ENTRIES;
 
 // The number that `width` bytes are.
 fn read(bytes: &[u8], at: usize, width: usize) -> u64
@@ -45,13 +59,13 @@ fn read_word(bytes: &[u8], at: usize) -> u32
     n as u32
 }
 
-fn read_words(bytes: &[u8], at: usize) -> [u32; 256]
-    requires { ⌜ at + 1024 ≤ length (now bytes) ⌝ }
-    ensures { λ r. ⌜ r ≡ numbers plain 4 256 (drop at (now (bytes .entry))) ⌝ }
+fn read_words(bytes: &[u8], at: usize) -> [u32; MAX_ENTRIES]
+    requires { ⌜ at + 4 * max-entries ≤ length (now bytes) ⌝ }
+    ensures { λ r. ⌜ r ≡ numbers plain 4 max-entries (drop at (now (bytes .entry))) ⌝ }
 {
-    let mut words = [0u32; 256];
+    let mut words = [0u32; MAX_ENTRIES];
     let mut i = 0usize;
-    while i < 256 {
+    while i < MAX_ENTRIES {
         let word = read_word(bytes, at + 4 * i);
         words[i] = word;
         i += 1;
@@ -101,13 +115,13 @@ fn unsigned(z: i64) -> u64
     }
 }
 
-fn read_values(bytes: &[u8], at: usize) -> [i64; 64]
-    requires { ⌜ at + 512 ≤ length (now bytes) ⌝ }
-    ensures { λ r. ⌜ r ≡ numbers whole 8 64 (drop at (now (bytes .entry))) ⌝ }
+fn read_values(bytes: &[u8], at: usize) -> [i64; MAX_VARIABLES]
+    requires { ⌜ at + 8 * max-variables ≤ length (now bytes) ⌝ }
+    ensures { λ r. ⌜ r ≡ numbers whole 8 max-variables (drop at (now (bytes .entry))) ⌝ }
 {
-    let mut values = [0i64; 64];
+    let mut values = [0i64; MAX_VARIABLES];
     let mut i = 0usize;
-    while i < 64 {
+    while i < MAX_VARIABLES {
         let value = signed(read(bytes, at + 8 * i, 8));
         values[i] = value;
         i += 1;
@@ -127,21 +141,21 @@ fn write_values(out: &mut [u8], at: usize, values: &[i64])
     }
 }
 
-// The run that the bytes are; a closed run where there are not 2,596 of them.
+// The run that the bytes are; a closed run where there are not so many.
 pub fn decode(bytes: &[u8]) -> Run
     ensures { λ r. ⌜ (r ≡ restored (now (bytes .entry))) × (length (now (bytes .entry)) ≡ saved-bytes → encoded r ≡ now (bytes .entry)) ⌝ }
 {
-    if bytes.len() != 2596 {
+    if bytes.len() != SAVED_BYTES {
         return run_grants::closed();
     }
     let position = read(bytes, 0, 8);
     let count = read(bytes, 8, 8);
     let captures = read(bytes, 16, 8);
     let steps = read(bytes, 24, 8);
-    let values = read_values(bytes, 32);
-    let verdict = read_word(bytes, 544);
-    let constructs = read_words(bytes, 548);
-    let passes = read_words(bytes, 1572);
+    let values = read_values(bytes, VALUES_AT);
+    let verdict = read_word(bytes, VERDICT_AT);
+    let constructs = read_words(bytes, ENTRIES_AT);
+    let passes = read_words(bytes, PASSES_AT);
     Run {
         position,
         count,
@@ -154,11 +168,11 @@ pub fn decode(bytes: &[u8]) -> Run
     }
 }
 
-// The run's bytes are written, which `decode` reads as that run, and true is answered; nothing is written where there is not room for exactly 2,596.
+// The run's bytes are written, which `decode` reads as that run, and true is answered; nothing is written where there is not room for exactly those.
 pub fn encode(run: Run, out: &mut [u8]) -> bool
     ensures { λ r. ⌜ (now (out .exit) ≡ stored run (now (out .entry))) × (r ≡ eqb (length (now (out .entry))) saved-bytes) × (r ≡ true → restored (now (out .exit)) ≡ run) ⌝ }
 {
-    if out.len() != 2596 {
+    if out.len() != SAVED_BYTES {
         return false;
     }
     let values = run.values;
@@ -173,9 +187,9 @@ pub fn encode(run: Run, out: &mut [u8]) -> bool
     write(out, 8, 8, count);
     write(out, 16, 8, captures);
     write(out, 24, 8, steps);
-    write_values(out, 32, &values);
-    write(out, 544, 4, verdict as u64);
-    write_words(out, 548, &constructs);
-    write_words(out, 1572, &passes);
+    write_values(out, VALUES_AT, &values);
+    write(out, VERDICT_AT, 4, verdict as u64);
+    write_words(out, ENTRIES_AT, &constructs);
+    write_words(out, PASSES_AT, &passes);
     true
 }

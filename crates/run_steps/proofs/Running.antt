@@ -9,6 +9,8 @@ use mathlib.Core.List.{List}
 use lib.Dec.{leb, ltb, eqb}
 use lib.IntN.{ℤ}
 use lib.ListN.{length, getD, set, length-set}
+use Rattle.table_layout.specs.Held.{opening}
+use Rattle.basis.specs.Limits.{max-entries}
 use Rattle.table_layout.specs.Constructs.{pick, both}
 use Rattle.run_actions.specs.Acts.{bits-of, actOf, Doable}
 use Rattle.run_actions.specs.declared.Act.{Act}
@@ -61,7 +63,7 @@ module _ (ws fs : List ℕ) where
         by-test (eqb (h .count) 0) ended first (λ z. broke)
         (λ z.
         let some : 0 < h .count = positive (h .count) (eqb-false (h .count) 0 z) in
-        by-test (leb i 256) (effect ws fs i k cs ps vs rs h (actOf ws fs vs (h .position) i k)) ended (λ l. acts some) (λ l. broke)))
+        by-test (leb i opening) (effect ws fs i k cs ps vs rs h (actOf ws fs vs (h .position) i k)) ended (λ l. acts some) (λ l. broke)))
         (λ b. broke))
         (λ e. same)
 
@@ -73,22 +75,22 @@ module _ (ws fs : List ℕ) where
     members-fit : (start end n : ℕ) → Fits fs (members-done ws fs cs ps vs rs h start end n)
     members-fit start end n =
         let at : ℕ = h .count - 1 + n in
-        picked (leb (h .count + n) 257)
+        picked (leb (h .count + n) (max-entries + 1))
         (whole (placed (λ j. j) ws start end at cs) (placed (λ j. 0) ws start end at ps) vs rs (taken fs h at (h .position) (h .captures)))
         (whole cs ps vs rs (break h))
         (λ e.
-        let l : h .count + n ≤ 257 = leb-true (h .count + n) 257 e in
-        (f .0, (let z : h .count - 1 + n ≤ 256 = omega arith in z), f .2, placed-length (λ j. j) ws start end at cs ∙ f .3, placed-length (λ j. 0) ws start end at ps ∙ f .4))
+        let l : h .count + n ≤ (max-entries + 1) = leb-true (h .count + n) (max-entries + 1) e in
+        (f .0, (let z : h .count - 1 + n ≤ max-entries = omega arith in z), f .2, placed-length (λ j. j) ws start end at cs ∙ f .3, placed-length (λ j. 0) ws start end at ps ∙ f .4))
         f
 
     again-fits : (k b : ℕ) → Fits fs (again-done fs cs ps vs rs h k b)
     again-fits k b =
-        picked (both (ltb (h .count) 256) (ltb k (bits-of fs + 1)))
+        picked (both (ltb (h .count) max-entries) (ltb k (bits-of fs + 1)))
         (whole (set cs (h .count) b) (set (set ps (h .count - 1) (k + 1)) (h .count) 0) vs rs (taken fs h (h .count + 1) (h .position) (h .captures)))
         (whole cs ps vs rs (break h))
         (λ e.
-        let l : h .count < 256 = ltb-true (h .count) 256 (both-true (ltb (h .count) 256) (ltb k (bits-of fs + 1)) e .0) in
-        (f .0, (let z : h .count + 1 ≤ 256 = omega arith in z), f .2, length-set cs (h .count) b ∙ f .3, length-set (set ps (h .count - 1) (k + 1)) (h .count) 0 ∙ (length-set ps (h .count - 1) (k + 1) ∙ f .4)))
+        let l : h .count < max-entries = ltb-true (h .count) max-entries (both-true (ltb (h .count) max-entries) (ltb k (bits-of fs + 1)) e .0) in
+        (f .0, (let z : h .count + 1 ≤ max-entries = omega arith in z), f .2, length-set cs (h .count) b ∙ f .3, length-set (set ps (h .count - 1) (k + 1)) (h .count) 0 ∙ (length-set ps (h .count - 1) (k + 1) ∙ f .4)))
         f
 
     take-fits : (i width binder n : ℕ) → h .position + width ≤ bits-of fs → Fits fs (take-done fs cs ps vs rs h i width binder n)
@@ -99,7 +101,7 @@ module _ (ws fs : List ℕ) where
         (λ e.
         let l : 2 * h .captures + 2 ≤ length rs = leb-true (2 * h .captures + 2) (length rs) e in
         let m : length (set (set rs (2 * h .captures) i) (2 * h .captures + 1) (h .position)) ≡ length rs = length-set (set rs (2 * h .captures) i) (2 * h .captures + 1) (h .position) ∙ length-set rs (2 * h .captures) i in
-        (w, (let z : h .count - 1 ≤ 256 = omega (arith, f .1) in z), (let z : 2 * (h .captures + 1) ≤ length (set (set rs (2 * h .captures) i) (2 * h .captures + 1) (h .position)) = omega arith in z), f .3, f .4))
+        (w, (let z : h .count - 1 ≤ max-entries = omega (arith, f .1) in z), (let z : 2 * (h .captures + 1) ≤ length (set (set rs (2 * h .captures) i) (2 * h .captures + 1) (h .position)) = omega arith in z), f .3, f .4))
         f
 
     effect-fits : (i k : ℕ) (a : Act) → Doable ws fs (h .position) a → Fits fs (effect ws fs i k cs ps vs rs h a)
@@ -108,7 +110,7 @@ module _ (ws fs : List ℕ) where
     effect-fits i k (Act.Enter b) d = (f .0, f .1, f .2, length-set cs (h .count - 1) b ∙ f .3, length-set ps (h .count - 1) 0 ∙ f .4)
     effect-fits i k (Act.Members start end n) d = members-fit start end n
     effect-fits i k (Act.Again b) d = again-fits k b
-    effect-fits i k Act.Leave d = (f .0, (let z : h .count - 1 ≤ 256 = omega (arith, f .1) in z), f .2, f .3, f .4)
+    effect-fits i k Act.Leave d = (f .0, (let z : h .count - 1 ≤ max-entries = omega (arith, f .1) in z), f .2, f .3, f .4)
     effect-fits i k (Act.Take width binder n) d = take-fits i width binder n (d .0)
 
   pub step-fits : (w : Whole) → Fits fs w → Fits fs (step-of ws fs w)

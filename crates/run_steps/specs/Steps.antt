@@ -8,6 +8,8 @@ use mathlib.Core.List.{List}
 use lib.Dec.{leb, ltb, eqb}
 use lib.IntN.{ℤ, pos}
 use lib.ListN.{length, getD, set}
+use Rattle.table_layout.specs.Held.{opening}
+use Rattle.basis.specs.Limits.{max-weight, max-entries}
 use Rattle.table_layout.specs.Places.{weight-of}
 use Rattle.table_layout.specs.Constructs.{pick, both}
 use Rattle.run_actions.specs.Acts.{walk, bits-of, actOf}
@@ -70,14 +72,14 @@ bind (suc x) n vs = set vs x (pos n)
 -- the members of a concatenation in the place of the first entry
 abbrev pub members-done : List ℕ → List ℕ → List ℕ → List ℕ → List ℤ → List ℕ → Head → ℕ → ℕ → ℕ → Whole
 members-done ws fs cs ps vs rs h start end n =
-    pick (leb (h .count + n) 257)
+    pick (leb (h .count + n) (max-entries + 1))
     (whole (placed (λ j. j) ws start end (h .count - 1 + n) cs) (placed (λ j. 0) ws start end (h .count - 1 + n) ps) vs rs (taken fs h (h .count - 1 + n) (h .position) (h .captures)))
     (whole cs ps vs rs (break h))
 
 -- the first entry with one pass more than k, below its body; a list has room for "the frame's bits and one" passes, as 24 says
 abbrev pub again-done : List ℕ → List ℕ → List ℕ → List ℤ → List ℕ → Head → ℕ → ℕ → Whole
 again-done fs cs ps vs rs h k b =
-    pick (both (ltb (h .count) 256) (ltb k (bits-of fs + 1)))
+    pick (both (ltb (h .count) max-entries) (ltb k (bits-of fs + 1)))
     (whole (set cs (h .count) b) (set (set ps (h .count - 1) (k + 1)) (h .count) 0) vs rs (taken fs h (h .count + 1) (h .position) (h .captures)))
     (whole cs ps vs rs (break h))
 
@@ -112,11 +114,11 @@ TakeDone fs vs rs h i width binder n vs′ rs′ h′ = (cs ps : List ℕ) → w
 
 -- "condition 3's bound": weight × (bits + 1), from the table's weight word, which past 65,535 is against the layout
 abbrev pub in-bound : List ℕ → List ℕ → ℕ → Bool
-in-bound ws fs n = pick (leb (weight-of ws) 65535) (ltb n (weight-of ws * (bits-of fs + 1))) false
+in-bound ws fs n = pick (leb (weight-of ws) max-weight) (ltb n (weight-of ws * (bits-of fs + 1))) false
 
--- "A step takes the first entry"; a number past 256 is "a table entry missing"
+-- "A step takes the first entry"; a number past the opening use's is "a table entry missing"
 abbrev pub first-step : List ℕ → List ℕ → ℕ → ℕ → List ℕ → List ℕ → List ℤ → List ℕ → Head → Whole
-first-step ws fs i k cs ps vs rs h = pick (leb i 256) (effect ws fs i k cs ps vs rs h (actOf ws fs vs (h .position) i k)) (whole cs ps vs rs (break h))
+first-step ws fs i k cs ps vs rs h = pick (leb i opening) (effect ws fs i k cs ps vs rs h (actOf ws fs vs (h .position) i k)) (whole cs ps vs rs (break h))
 
 -- a step of an undecided run; "A decided, closed or broken run takes no more steps."
 unfoldable pub step-of : List ℕ → List ℕ → Whole → Whole
@@ -132,6 +134,6 @@ unfoldable pub steps-of : List ℕ → List ℕ → ℕ → Whole → Whole
 steps-of ws fs zero w = w
 steps-of ws fs (suc n) w = steps-of ws fs n (step-of ws fs w)
 
--- what 24 asks of a run that may take steps: position within the frame, at most 256 entries, room for the fields recorded
+-- what 24 asks of a run that may take steps: position within the frame, no more entries than there may be, room for the fields recorded
 abbrev pub Fits : List ℕ → Whole → Type 0
-Fits fs (whole cs ps vs rs h) = (h .position ≤ 8 * length fs) × (h .count ≤ 256) × (2 * h .captures ≤ length rs) × (length cs ≡ 256) × (length ps ≡ 256)
+Fits fs (whole cs ps vs rs h) = (h .position ≤ 8 * length fs) × (h .count ≤ max-entries) × (2 * h .captures ≤ length rs) × (length cs ≡ max-entries) × (length ps ≡ max-entries)

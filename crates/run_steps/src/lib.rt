@@ -2,9 +2,18 @@
 ghost use mathlib.Core.Path.{_≡_};
 ghost use Prim.Native.Nat.{ℕ, _+_, _*_, _-_, _≤_, _<_};
 ghost use lib.ListN.{length, getD, set};
+ghost use Rattle.table_layout.specs.Held.{opening};
+ghost use Rattle.basis.specs.Limits.{max-constructs, max-variables, table-words, max-frame-bytes, max-entries};
 ghost use Rattle.run_actions.specs.Acts.{bits-of, Doable};
 ghost use Rattle.run_steps.specs.Steps.{break as breakOf, fail as failOf, verdict-after, taken as takenOf, placed, bind as bindOf, MembersDone, AgainDone, TakeDone, Whole, whole, effect as effectOf, in-bound, first-step, step-of, steps-of, Fits};
+use basis::MAX_ENTRIES;
+use basis::MAX_VARIABLES;
+use basis::MAX_WEIGHT;
 use run_actions::Act;
+use table_layout::OPENING;
+
+// Where the first entry is counted too, whose place its members take.
+const MEMBERS_ROOM: usize = MAX_ENTRIES + 1;
 
 // What a run holds beside its arrays.
 pub struct Head {
@@ -41,7 +50,7 @@ fn failed(head: Head) -> Head
 }
 
 fn verdict(frame: &[u8], count: usize, position: usize) -> u32
-    requires { ⌜ length (now frame) ≤ 256 ⌝ }
+    requires { ⌜ length (now frame) ≤ max-frame-bytes ⌝ }
     ensures { λ r. ⌜ r ≡ verdict-after (now (frame .entry)) count position ⌝ }
 {
     if count == 0 {
@@ -54,7 +63,7 @@ fn verdict(frame: &[u8], count: usize, position: usize) -> u32
 }
 
 fn taken(frame: &[u8], head: Head, count: usize, position: usize, captures: usize) -> Head
-    requires { ⌜ (length (now frame) ≤ 256) × (head .steps < 18446744073709551615) ⌝ }
+    requires { ⌜ (length (now frame) ≤ max-frame-bytes) × (head .steps < 18446744073709551615) ⌝ }
     ensures { λ r. ⌜ r ≡ takenOf (now (frame .entry)) head count position captures ⌝ }
 {
     let after = verdict(frame, count, position);
@@ -69,19 +78,24 @@ fn taken(frame: &[u8], head: Head, count: usize, position: usize, captures: usiz
 
 // Whether the bound of condition 3 leaves a step.
 fn bounded(table: &[u32], frame: &[u8], steps: u64) -> bool
-    requires { ⌜ length (now frame) ≤ 256 ⌝ }
+    requires { ⌜ length (now frame) ≤ max-frame-bytes ⌝ }
     ensures { λ r. ⌜ r ≡ in-bound (now (table .entry)) (now (frame .entry)) steps ⌝ }
 {
     let weight = table_layout::word(table, 5);
-    if weight <= 65535 {
+    if weight <= MAX_WEIGHT {
         return steps < (weight * (8 * frame.len() + 1)) as u64;
     }
     false
 }
 
 // A construct takes the first entry's place.
-fn enter(constructs: &mut [u32; 256], passes: &mut [u32; 256], count: usize, construct: usize)
-    requires { ⌜ (0 < count) × (count ≤ 256) × (construct < 4294967296) ⌝ }
+fn enter(
+    constructs: &mut [u32; MAX_ENTRIES],
+    passes: &mut [u32; MAX_ENTRIES],
+    count: usize,
+    construct: usize,
+)
+    requires { ⌜ (0 < count) × (count ≤ max-entries) × (construct < 4294967296) ⌝ }
     ensures { λ r. ⌜ (now (constructs .exit) ≡ set (now (constructs .entry)) (count - 1) construct) × (now (passes .exit) ≡ set (now (passes .entry)) (count - 1) 0) ⌝ }
 {
     constructs[count - 1] = construct as u32;
@@ -89,8 +103,14 @@ fn enter(constructs: &mut [u32; 256], passes: &mut [u32; 256], count: usize, con
 }
 
 // The first entry again with one pass more, below its body.
-fn again(constructs: &mut [u32; 256], passes: &mut [u32; 256], count: usize, k: u32, body: usize)
-    requires { ⌜ (0 < count) × (count < 256) × (k < 4294967295) × (body < 4294967296) ⌝ }
+fn again(
+    constructs: &mut [u32; MAX_ENTRIES],
+    passes: &mut [u32; MAX_ENTRIES],
+    count: usize,
+    k: u32,
+    body: usize,
+)
+    requires { ⌜ (0 < count) × (count < max-entries) × (k < 4294967295) × (body < 4294967296) ⌝ }
     ensures { λ r. ⌜ (now (constructs .exit) ≡ set (now (constructs .entry)) count body) × (now (passes .exit) ≡ set (set (now (passes .entry)) (count - 1) (k + 1)) count 0) ⌝ }
 {
     passes[count - 1] = k + 1;
@@ -106,8 +126,8 @@ fn record(reading: &mut [u32], captures: usize, construct: usize, position: usiz
     reading[2 * captures + 1] = position as u32;
 }
 
-fn bind(values: &mut [i64; 64], binder: usize, value: u64)
-    requires { ⌜ (binder ≤ 64) × (value < 4294967296) ⌝ }
+fn bind(values: &mut [i64; MAX_VARIABLES], binder: usize, value: u64)
+    requires { ⌜ (binder ≤ max-variables) × (value < 4294967296) ⌝ }
     ensures { λ r. ⌜ now (values .exit) ≡ bindOf binder value (now (values .entry)) ⌝ }
 {
     if 0 < binder {
@@ -118,13 +138,13 @@ fn bind(values: &mut [i64; 64], binder: usize, value: u64)
 // The members from `start` up to `end` below each other, the first one last, ending below place `at`.
 fn place(
     table: &[u32],
-    constructs: &mut [u32; 256],
-    passes: &mut [u32; 256],
+    constructs: &mut [u32; MAX_ENTRIES],
+    passes: &mut [u32; MAX_ENTRIES],
     start: usize,
     end: usize,
     at: usize,
 )
-    requires { ⌜ (end ≤ 256) × (at ≤ 256) × (length (now constructs) ≡ 256) × (length (now passes) ≡ 256) ⌝ }
+    requires { ⌜ (end ≤ max-constructs) × (at ≤ max-entries) × (length (now constructs) ≡ max-entries) × (length (now passes) ≡ max-entries) ⌝ }
     ensures { λ r. ⌜ (now (constructs .exit) ≡ placed (λ (j : ℕ). j) (now (table .entry)) start end at (now (constructs .entry))) × (now (passes .exit) ≡ placed (λ (j : ℕ). 0) (now (table .entry)) start end at (now (passes .entry))) ⌝ }
 {
     let mut j = start;
@@ -148,18 +168,18 @@ fn place(
 fn do_members(
     table: &[u32],
     frame: &[u8],
-    constructs: &mut [u32; 256],
-    passes: &mut [u32; 256],
+    constructs: &mut [u32; MAX_ENTRIES],
+    passes: &mut [u32; MAX_ENTRIES],
     head: Head,
     start: usize,
     end: usize,
     n: usize,
 ) -> Head
-    requires { ⌜ (length (now frame) ≤ 256) × (head .steps < 18446744073709551615) × (0 < head .count) × (head .count ≤ 256) × (end ≤ 256) × (n ≤ 256) × (length (now constructs) ≡ 256) × (length (now passes) ≡ 256) ⌝ }
+    requires { ⌜ (length (now frame) ≤ max-frame-bytes) × (head .steps < 18446744073709551615) × (0 < head .count) × (head .count ≤ max-entries) × (end ≤ max-constructs) × (n ≤ max-constructs) × (length (now constructs) ≡ max-entries) × (length (now passes) ≡ max-entries) ⌝ }
     ensures { λ r. ⌜ MembersDone (now (table .entry)) (now (frame .entry)) (now (constructs .entry)) (now (passes .entry)) head start end n (now (constructs .exit)) (now (passes .exit)) r ⌝ }
 {
     let count = head.count;
-    if count + n <= 257 {
+    if count + n <= MEMBERS_ROOM {
         let top = count - 1 + n;
         place(table, constructs, passes, start, end, top);
         let position = head.position;
@@ -172,17 +192,17 @@ fn do_members(
 // One pass more, where there is room.
 fn do_again(
     frame: &[u8],
-    constructs: &mut [u32; 256],
-    passes: &mut [u32; 256],
+    constructs: &mut [u32; MAX_ENTRIES],
+    passes: &mut [u32; MAX_ENTRIES],
     head: Head,
     k: u32,
     body: usize,
 ) -> Head
-    requires { ⌜ (length (now frame) ≤ 256) × (head .steps < 18446744073709551615) × (0 < head .count) × (head .count ≤ 256) × (body < 256) ⌝ }
+    requires { ⌜ (length (now frame) ≤ max-frame-bytes) × (head .steps < 18446744073709551615) × (0 < head .count) × (head .count ≤ max-entries) × (body < max-constructs) ⌝ }
     ensures { λ r. ⌜ AgainDone (now (frame .entry)) (now (constructs .entry)) (now (passes .entry)) head k body (now (constructs .exit)) (now (passes .exit)) r ⌝ }
 {
     let count = head.count;
-    if 256 <= count {
+    if MAX_ENTRIES <= count {
         return broken(head);
     }
     if 8 * frame.len() + 1 <= k as usize {
@@ -197,7 +217,7 @@ fn do_again(
 // A field is recorded and its value bound, where the reading has room.
 fn do_take(
     frame: &[u8],
-    values: &mut [i64; 64],
+    values: &mut [i64; MAX_VARIABLES],
     reading: &mut [u32],
     head: Head,
     i: usize,
@@ -205,7 +225,7 @@ fn do_take(
     binder: usize,
     value: u64,
 ) -> Head
-    requires { ⌜ (length (now frame) ≤ 256) × (head .steps < 18446744073709551615) × (0 < head .count) × (2 * head .captures ≤ length (now reading)) × (i < 4294967296) × (head .position + width ≤ 8 * length (now frame)) × (binder ≤ 64) × (value < 4294967296) ⌝ }
+    requires { ⌜ (length (now frame) ≤ max-frame-bytes) × (head .steps < 18446744073709551615) × (0 < head .count) × (2 * head .captures ≤ length (now reading)) × (i < 4294967296) × (head .position + width ≤ 8 * length (now frame)) × (binder ≤ max-variables) × (value < 4294967296) ⌝ }
     ensures { λ r. ⌜ TakeDone (now (frame .entry)) (now (values .entry)) (now (reading .entry)) head i width binder value (now (values .exit)) (now (reading .exit)) r ⌝ }
 {
     let captures = head.captures;
@@ -223,16 +243,16 @@ fn do_take(
 fn do_act(
     table: &[u32],
     frame: &[u8],
-    constructs: &mut [u32; 256],
-    passes: &mut [u32; 256],
-    values: &mut [i64; 64],
+    constructs: &mut [u32; MAX_ENTRIES],
+    passes: &mut [u32; MAX_ENTRIES],
+    values: &mut [i64; MAX_VARIABLES],
     reading: &mut [u32],
     head: Head,
     i: usize,
     k: u32,
     act: Act,
 ) -> Head
-    requires { ⌜ (length (now frame) ≤ 256) × (head .steps < 18446744073709551615) × (0 < head .count) × (head .count ≤ 256) × (2 * head .captures ≤ length (now reading)) × (i ≤ 256) × (length (now constructs) ≡ 256) × (length (now passes) ≡ 256) × Doable (now table) (now frame) (head .position) act ⌝ }
+    requires { ⌜ (length (now frame) ≤ max-frame-bytes) × (head .steps < 18446744073709551615) × (0 < head .count) × (head .count ≤ max-entries) × (2 * head .captures ≤ length (now reading)) × (i ≤ opening) × (length (now constructs) ≡ max-entries) × (length (now passes) ≡ max-entries) × Doable (now table) (now frame) (head .position) act ⌝ }
     ensures { λ r. ⌜ whole (now (constructs .exit)) (now (passes .exit)) (now (values .exit)) (now (reading .exit)) r ≡ effectOf (now (table .entry)) (now (frame .entry)) i k (now (constructs .entry)) (now (passes .entry)) (now (values .entry)) (now (reading .entry)) head act ⌝ }
 {
     let count = head.count;
@@ -261,8 +281,8 @@ fn do_act(
 }
 
 // The number in the first entry.
-fn first_of(entries: &[u32; 256], count: usize) -> u32
-    requires { ⌜ (0 < count) × (count ≤ 256) ⌝ }
+fn first_of(entries: &[u32; MAX_ENTRIES], count: usize) -> u32
+    requires { ⌜ (0 < count) × (count ≤ max-entries) ⌝ }
     ensures { λ r. ⌜ r ≡ getD (now (entries .entry)) (count - 1) 0 ⌝ }
 {
     entries[count - 1]
@@ -272,19 +292,19 @@ fn first_of(entries: &[u32; 256], count: usize) -> u32
 fn take_first(
     table: &[u32],
     frame: &[u8],
-    constructs: &mut [u32; 256],
-    passes: &mut [u32; 256],
-    values: &mut [i64; 64],
+    constructs: &mut [u32; MAX_ENTRIES],
+    passes: &mut [u32; MAX_ENTRIES],
+    values: &mut [i64; MAX_VARIABLES],
     reading: &mut [u32],
     head: Head,
 ) -> Head
-    requires { ⌜ (16384 ≤ length (now table)) × (length (now frame) ≤ 256) × (head .position ≤ 8 * length (now frame)) × (0 < head .count) × (head .count ≤ 256) × (2 * head .captures ≤ length (now reading)) × (head .steps < 18446744073709551615) × (length (now constructs) ≡ 256) × (length (now passes) ≡ 256) ⌝ }
+    requires { ⌜ (table-words ≤ length (now table)) × (length (now frame) ≤ max-frame-bytes) × (head .position ≤ 8 * length (now frame)) × (0 < head .count) × (head .count ≤ max-entries) × (2 * head .captures ≤ length (now reading)) × (head .steps < 18446744073709551615) × (length (now constructs) ≡ max-entries) × (length (now passes) ≡ max-entries) ⌝ }
     ensures { λ r. ⌜ whole (now (constructs .exit)) (now (passes .exit)) (now (values .exit)) (now (reading .exit)) r ≡ first-step (now (table .entry)) (now (frame .entry)) (getD (now (constructs .entry)) (head .count - 1) 0) (getD (now (passes .entry)) (head .count - 1) 0) (now (constructs .entry)) (now (passes .entry)) (now (values .entry)) (now (reading .entry)) head ⌝ }
 {
     let count = head.count;
     let i = first_of(constructs, count) as usize;
     let k = first_of(passes, count);
-    if i <= 256 {
+    if i <= OPENING {
         let position = head.position;
         let act = run_actions::decide(table, frame, values, position, i, k as u64);
         return do_act(
@@ -307,13 +327,13 @@ fn take_first(
 pub fn step(
     table: &[u32],
     frame: &[u8],
-    constructs: &mut [u32; 256],
-    passes: &mut [u32; 256],
-    values: &mut [i64; 64],
+    constructs: &mut [u32; MAX_ENTRIES],
+    passes: &mut [u32; MAX_ENTRIES],
+    values: &mut [i64; MAX_VARIABLES],
     reading: &mut [u32],
     head: Head,
 ) -> Head
-    requires { ⌜ (16384 ≤ length (now table)) × (length (now frame) ≤ 256) × (head .position ≤ 8 * length (now frame)) × (head .count ≤ 256) × (2 * head .captures ≤ length (now reading)) × (length (now constructs) ≡ 256) × (length (now passes) ≡ 256) ⌝ }
+    requires { ⌜ (table-words ≤ length (now table)) × (length (now frame) ≤ max-frame-bytes) × (head .position ≤ 8 * length (now frame)) × (head .count ≤ max-entries) × (2 * head .captures ≤ length (now reading)) × (length (now constructs) ≡ max-entries) × (length (now passes) ≡ max-entries) ⌝ }
     ensures { λ r. ⌜ whole (now (constructs .exit)) (now (passes .exit)) (now (values .exit)) (now (reading .exit)) r ≡ step-of (now (table .entry)) (now (frame .entry)) (whole (now (constructs .entry)) (now (passes .entry)) (now (values .entry)) (now (reading .entry)) head) ⌝ }
 {
     let verdict = head.verdict;
@@ -335,14 +355,14 @@ pub fn step(
 pub fn advance(
     table: &[u32],
     frame: &[u8],
-    constructs: &mut [u32; 256],
-    passes: &mut [u32; 256],
-    values: &mut [i64; 64],
+    constructs: &mut [u32; MAX_ENTRIES],
+    passes: &mut [u32; MAX_ENTRIES],
+    values: &mut [i64; MAX_VARIABLES],
     reading: &mut [u32],
     head: Head,
     grant: u64,
 ) -> Head
-    requires { ⌜ (16384 ≤ length (now table)) × (length (now frame) ≤ 256) × Fits (now frame) (whole (now constructs) (now passes) (now values) (now reading) head) ⌝ }
+    requires { ⌜ (table-words ≤ length (now table)) × (length (now frame) ≤ max-frame-bytes) × Fits (now frame) (whole (now constructs) (now passes) (now values) (now reading) head) ⌝ }
     ensures { λ r. ⌜ whole (now (constructs .exit)) (now (passes .exit)) (now (values .exit)) (now (reading .exit)) r ≡ steps-of (now (table .entry)) (now (frame .entry)) grant (whole (now (constructs .entry)) (now (passes .entry)) (now (values .entry)) (now (reading .entry)) head) ⌝ }
 {
     let mut run = head;

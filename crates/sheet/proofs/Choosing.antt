@@ -105,7 +105,7 @@ two-follows : Follow g 1 two
 unfolding grammar bitsOf
 two-follows =
     Follow.of-member {i = 0} [] (3 ∷ []) refl (First.more-members ((first-two two) .1 (List·Memᴰ·head refl)) First.no-members refl)
-    (Follow.of-rule {i = 256} refl (Follow.of-start refl)) refl
+    (Follow.of-rule {i = opening} refl (Follow.of-start refl)) refl
 
 follow-star : Exactly (Follow g 1) (two ∷ [])
 unfolding grammar
@@ -153,7 +153,7 @@ passing-K6 =
       bounded = bounded-K6;
       no-empty-body = filled-as (rules-in K6) state-K6 ((((tt, tt), field-first g 2 3), tt), tt);
       no-conflict = no-conflict;
-      weighs = λ w e. weigh-starred (w first-context 256) (w first-context 0) (w first-context 1) (w first-context 2) (w first-context 3) (e first-context 256) (e first-context 0) (e first-context 1) (e first-context 2) (e first-context 3);
+      weighs = λ w e. weigh-starred (w first-context opening) (w first-context 0) (w first-context 1) (w first-context 2) (w first-context 3) (e first-context opening) (e first-context 0) (e first-context 1) (e first-context 2) (e first-context 3);
       light = omega arith;
     }
 

@@ -6,6 +6,7 @@ use Prim.Native.String.{String}
 use mathlib.Core.Path.{_≡_, subst, subst₂, _∙_}
 use mathlib.Core.List.{List, [], _∷_}
 use lib.ListN.{length}
+use Rattle.basis.specs.Limits.{max-frame-bytes}
 use Rattle.theory.specs.Grammar.{Grammar}
 use Rattle.theory.specs.Derivation.{Capture}
 use Rattle.theory.specs.Hypotheses.{Hypotheses}
@@ -33,7 +34,7 @@ module _ (rules : String) (st : State) (weight : ℕ) (p : Passing rules st weig
   g = meant (rules-in rules) st
 
   -- whatever the table's sets are, if they are the grammar's
-  runs-as : (frame : List ℕ) → length frame ≤ 256 → (d : Verdict) (n : ℕ) (values : List ℕ) (cs : List Capture)
+  runs-as : (frame : List ℕ) → length frame ≤ max-frame-bytes → (d : Verdict) (n : ℕ) (values : List ℕ) (cs : List Capture)
       → ((tests : Tests) → Hypotheses g tests → Makes g tests frame d n values cs) → Says (row rules (run weight frame d n values (words-of cs)))
   runs-as frame short d n values cs m old new answer l a =
       let e : answer ≡ Admission.Admitted weight = admitted rules st weight p old l new answer a in
@@ -53,7 +54,7 @@ module _ (rules : String) (st : State) (weight : ℕ) (p : Passing rules st weig
 pub record RunShown (rules : String) (weight : ℕ) (frame : List ℕ) (d : Verdict) (n : ℕ) (values reading : List ℕ) : Type 0 where
   pub st : State
   pub passing : Passing rules st weight
-  pub short : length frame ≤ 256
+  pub short : length frame ≤ max-frame-bytes
   pub captures : List Capture
   pub recorded : words-of captures ≡ reading
   pub makes : (tests : Tests) → Hypotheses (meant (rules-in rules) st) tests → Makes (meant (rules-in rules) st) tests frame d n values captures

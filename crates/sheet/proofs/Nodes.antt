@@ -5,6 +5,7 @@ use Prim.Native.String.{String}
 use mathlib.Core.Path.{_≡_, refl}
 use mathlib.Core.List.{[], _∷_}
 use native.Mathlib.Omega.{arith}
+use Rattle.basis.specs.Limits.{max-weight}
 use Rattle.basis.specs.Bits.{Bits}
 use Rattle.theory.specs.Lookahead.{Conflict, EmptyBody}
 use Rattle.theory.specs.Weight.{Weighs, weigh, sum, largest}
@@ -26,7 +27,7 @@ pub record Passing (rules : String) (st : State) (weight : ℕ) : Type 0 where
   pub no-empty-body : (i : ℕ) → EmptyBody (meant (rules-in rules) st) i → ⊥
   pub no-conflict : (i : ℕ) (x : Bits) → Conflict (meant (rules-in rules) st) i x → ⊥
   pub weighs : (w : Context → ℕ → ℕ) → Weighs (meant (rules-in rules) st) w → w first-context opening ≡ weight
-  pub light : weight ≤ 65535
+  pub light : weight ≤ max-weight
 
 -- a concatenation of a field and `{n}` of another
 weigh-counted : (a b c d e : ℕ) → a ≡ 1 + b → b ≡ 1 + (c + (d + 0)) → c ≡ 1 → d ≡ 2 * e + 1 → e ≡ 1 → a ≡ 6
@@ -40,7 +41,7 @@ passing-G =
       bounded = bounded-G;
       no-empty-body = filled-as (rules-in G) state-G ((((tt, tt), tt), field-first (grammar G state-G) 3 7), tt);
       no-conflict = quiet-as (rules-in G) state-G ((((tt, tt), tt), refl), tt);
-      weighs = λ w e. weigh-counted (w first-context 256) (w first-context 0) (w first-context 1) (w first-context 2) (w first-context 3) (e first-context 256) (e first-context 0) (e first-context 1) (e first-context 2) (e first-context 3);
+      weighs = λ w e. weigh-counted (w first-context opening) (w first-context 0) (w first-context 1) (w first-context 2) (w first-context 3) (e first-context opening) (e first-context 0) (e first-context 1) (e first-context 2) (e first-context 3);
       light = omega arith;
     }
 
@@ -52,7 +53,7 @@ passing-K9 =
       bounded = bounded-K9;
       no-empty-body = filled-as (rules-in K9) state-K9 ((((tt, tt), tt), field-first (grammar K9 state-K9) 3 7), tt);
       no-conflict = quiet-as (rules-in K9) state-K9 ((((tt, tt), tt), refl), tt);
-      weighs = λ w e. weigh-counted (w first-context 256) (w first-context 0) (w first-context 1) (w first-context 2) (w first-context 3) (e first-context 256) (e first-context 0) (e first-context 1) (e first-context 2) (e first-context 3);
+      weighs = λ w e. weigh-counted (w first-context opening) (w first-context 0) (w first-context 1) (w first-context 2) (w first-context 3) (e first-context opening) (e first-context 0) (e first-context 1) (e first-context 2) (e first-context 3);
       light = omega arith;
     }
 
@@ -68,6 +69,6 @@ passing-K10 =
       bounded = bounded-K10;
       no-empty-body = filled-as (rules-in K10) state-K10 (((((tt, tt), tt), tt), tt), tt);
       no-conflict = quiet-as (rules-in K10) state-K10 (((((tt, tt), tt), tt), tt), tt);
-      weighs = λ w e. weigh-switched (w first-context 256) (w first-context 0) (w first-context 1) (w first-context 2) (w first-context 3) (w first-context 4) (e first-context 256) (e first-context 0) (e first-context 1) (e first-context 2) (e first-context 3) (e first-context 4);
+      weighs = λ w e. weigh-switched (w first-context opening) (w first-context 0) (w first-context 1) (w first-context 2) (w first-context 3) (w first-context 4) (e first-context opening) (e first-context 0) (e first-context 1) (e first-context 2) (e first-context 3) (e first-context 4);
       light = omega arith;
     }

@@ -14,7 +14,7 @@ use Rattle.theory.specs.Grammar.{Grammar, _∈_}
 use Rattle.theory.specs.Derivation.{construct}
 use Rattle.theory.specs.Lookahead.{First, Follow, Predicted, Conflict, EmptyBody}
 use Rattle.theory.proofs.Sheet.Sets.{of-two, Exactly, literal-first, predicted-full}
-use Rattle.table_layout.specs.Held.{Context, Values, held, literal-node}
+use Rattle.table_layout.specs.Held.{Context, Values, held, literal-node, opening}
 use Rattle.table_conflicts.specs.Conflicts.{Conflicting, LeastWindow, Answered}
 use Rattle.table_conflicts.specs.declared.Clash.{Clash}
 use Rattle.table_judge.specs.Judged.{Least}
@@ -82,7 +82,7 @@ predicted-A : (i byte : ℕ) → g₅ .node i ≡ literal-node (0x41 ∷ byte �
 unfolding grammar frameBits bitsOf
 predicted-A i byte e m =
     predicted-full g₅ i (letter-A ∷ []) (literal-first g₅ i (0x41 ∷ byte ∷ []) e) (λ x h. ap length (List·Memᴰ·eq-of-singleton h)) []
-    (Follow.of-branch {i = 0} refl m (Follow.of-rule {i = 256} refl (Follow.of-start refl)))
+    (Follow.of-branch {i = 0} refl m (Follow.of-rule {i = opening} refl (Follow.of-start refl)))
 
 predicted-branch : (i : ℕ) → i ∈ (1 ∷ 2 ∷ []) → Exactly (Predicted g₅ i) (letter-A ∷ [])
 unfolding grammar

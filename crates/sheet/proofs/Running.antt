@@ -6,6 +6,7 @@ use mathlib.Core.List.{List, [], _∷_, _++_, map}
 use native.Mathlib.Omega.{arith}
 use lib.IntN.{pos}
 use lib.ListN.{length, drop, replicate}
+use Rattle.basis.specs.Limits.{max-variables}
 use Rattle.basis.specs.Bits.{frameBits}
 use Rattle.theory.specs.Grammar.{Grammar}
 use Rattle.theory.specs.Derivation.{Capture}
@@ -56,12 +57,12 @@ made g tests fs n = granted g tests n (opened g tests (frameBits fs))
 pub record Makes (g : Grammar Context Values) (tests : Tests) (fs : List ℕ) (d : Said) (n : ℕ) (values : List ℕ) (cs : List Capture) : Type 0 where
   pub verdict : verdict-of (made g tests fs n) ≡ said d
   pub steps : taken-of (made g tests fs n) ≡ n
-  pub values-are : state-values (state-of (made g tests fs n)) ≡ map pos values ++ replicate (64 - length values) (pos 0)
+  pub values-are : state-values (state-of (made g tests fs n)) ≡ map pos values ++ replicate (max-variables - length values) (pos 0)
   pub captures : captures-of (state-of (made g tests fs n)) ≡ cs
 
 pub makes : {g : Grammar Context Values} {tests : Tests} {fs : List ℕ} {d : Said} {n : ℕ} {values : List ℕ} {cs : List Capture}
     → verdict-of (made g tests fs n) ≡ said d → taken-of (made g tests fs n) ≡ n
-    → state-values (state-of (made g tests fs n)) ≡ map pos values ++ replicate (64 - length values) (pos 0) → captures-of (state-of (made g tests fs n)) ≡ cs
+    → state-values (state-of (made g tests fs n)) ≡ map pos values ++ replicate (max-variables - length values) (pos 0) → captures-of (state-of (made g tests fs n)) ≡ cs
     → Makes g tests fs d n values cs
 makes a b c d = record { verdict = a; steps = b; values-are = c; captures = d }
 

@@ -8,6 +8,7 @@ use mathlib.Core.List.{List, [], _∷_}
 use borrow.Author.Tests.{eqb-true}
 use lib.Dec.{eqb}
 use lib.ListN.{length}
+use Rattle.basis.specs.Limits.{max-text-bytes}
 use Rattle.table_layout.specs.Constructs.{both}
 use Rattle.text_header.specs.Header.{header-of}
 use Rattle.text_header.specs.declared.Heading.{Heading}
@@ -53,10 +54,10 @@ is-true (right (state ns ts rs n t b r)) (state ns′ ts′ rs′ n′ t′ b′
 -- the text of these rules has a right size and header, and these words are read of it
 pub record Formed (rules : String) (st : State) : Type 0 where
   pub some : 1 ≤ length (text-of rules)
-  pub short : length (text-of rules) ≤ 8192
+  pub short : length (text-of rules) ≤ max-text-bytes
   pub header : header-of (text-of rules) ≡ Heading.Rules 16
   pub formed : form (rules-in rules) ≡ right st
 
-pub formed-as : (rules : String) (st : State) → heading rules ≡ Heading.Rules 16 → is-state (read rules) st ≡ true → 1 ≤ length (text-of rules) → length (text-of rules) ≤ 8192 → Formed rules st
+pub formed-as : (rules : String) (st : State) → heading rules ≡ Heading.Rules 16 → is-state (read rules) st ≡ true → 1 ≤ length (text-of rules) → length (text-of rules) ≤ max-text-bytes → Formed rules st
 unfolding heading read
 formed-as rules st h e a b = record { some = a; short = b; header = h; formed = is-true (read rules) st e }

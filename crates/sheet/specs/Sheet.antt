@@ -9,6 +9,7 @@ use mathlib.Core.List.{List, [], _∷_, _++_, map}
 use mathlib.Core.Option.{some}
 use lib.IntN.{pos}
 use lib.ListN.{length, drop, replicate}
+use Rattle.basis.specs.Limits.{max-variables}
 use Rattle.table_layout.specs.Places.{table-words}
 use Rattle.run_actions.specs.Acts.{bits-of}
 use Rattle.admission.specs.Admitted.{window-in, Answers}
@@ -65,7 +66,7 @@ pub record Ended (k : Kept) (rs : List ℕ) (verdict : Verdict) (steps : ℕ) (v
   pub verdict-is : run-kept k .verdict ≡ stored verdict
   pub steps-are : run-kept k .steps ≡ steps
   -- and 0 is the value of every further variable
-  pub values-are : run-kept k .values ≡ map pos values ++ replicate (64 - length values) (pos 0)
+  pub values-are : run-kept k .values ≡ map pos values ++ replicate (max-variables - length values) (pos 0)
   pub fields-are : 2 * run-kept k .captures ≡ length reading
   -- and the words beyond are as they were
   pub reading-is : reading-kept k ≡ reading ++ drop (length reading) rs

@@ -9,13 +9,14 @@ use lib.Dec.{eqb}
 use lib.IntN.{pos}
 use lib.ListN.{length, getD, set, drop, length-replicate, List·getD-eq-default}
 use lib.Seq.{sets}
+use Rattle.basis.specs.Limits.{max-variables}
 use Rattle.table_layout.specs.Constructs.{pick}
 use Rattle.table_layout.specs.Places.{table-of}
 use Rattle.run_grants.specs.Runs.{After, after, grant-of, closed-run, run-in, reading-in, answer-in, number-of, taken-of, refusal-of}
 use Rattle.run_grants.specs.declared.Run.{Run}
 use Rattle.run_grants.specs.declared.Answer.{Answer}
 use Rattle.run_grants.proofs.Grants.{Unchanged, refusal-told, refused}
-use Rattle.run_saved.specs.Saved.{whole, encoded, decoded, restored, stored}
+use Rattle.run_saved.specs.Saved.{whole, encoded, decoded, restored, stored, values-at, saved-bytes}
 use Rattle.run_saved.proofs.Bytes.{numbers-length}
 use Rattle.run_saved.proofs.Saving.{restored-is, stored-is}
 use Rattle.songrafter.specs.Calls.{granted, Grants}
@@ -27,7 +28,7 @@ five-stores l l₀ l₁ l₂ l₃ l₄ a b c d e p₀ p₁ p₂ p₃ p₄ =
 
 -- a grant on a saved run: decoded, advanced, encoded, and the count of the steps taken put down
 pub grants-run : (table frame reading reading′ run run′ taken taken′ : List ℕ) (steps number count : ℕ) (r d : Run) (a : Answer)
-    → length run ≡ 2596 → length run′ ≡ length run → r ≡ restored run → encoded r ≡ run → restored run′ ≡ d → after d reading′ a ≡ grant-of (table-of table) frame reading r steps → run′ ≡ stored d run
+    → length run ≡ saved-bytes → length run′ ≡ length run → r ≡ restored run → encoded r ≡ run → restored run′ ≡ d → after d reading′ a ≡ grant-of (table-of table) frame reading r steps → run′ ≡ stored d run
     → count ≡ taken-of a → taken′ ≡ set taken 0 count → number ≡ number-of a
     → Grants table frame reading reading′ run run′ taken taken′ steps number
 grants-run table frame reading reading′ run run′ taken taken′ steps number count r d a full kept read whole-read read-back grant wrote counted put answered =
@@ -43,10 +44,10 @@ grants-run table frame reading reading′ run run′ taken taken′ steps number
     }
 
 -- a run has 64 values, whatever the bytes
-values-of : (bs : List ℕ) (b : Bool) → length (pick b (decoded bs) closed-run .values) ≡ 64
+values-of : (bs : List ℕ) (b : Bool) → length (pick b (decoded bs) closed-run .values) ≡ max-variables
 unfolding decoded
-values-of bs true = numbers-length whole 8 64 (drop 32 bs)
-values-of bs false = length-replicate 64 (pos 0)
+values-of bs true = numbers-length whole 8 max-variables (drop values-at bs)
+values-of bs false = length-replicate max-variables (pos 0)
 
-pub values-end : (bs : List ℕ) (k : ℕ) → 64 ≤ k → getD (restored bs .values) k (pos 0) ≡ pos 0
-values-end bs k h = List·getD-eq-default (restored bs .values) (pos 0) (omega (arith, values-of bs (eqb (length bs) 2596)))
+pub values-end : (bs : List ℕ) (k : ℕ) → max-variables ≤ k → getD (restored bs .values) k (pos 0) ≡ pos 0
+values-end bs k h = List·getD-eq-default (restored bs .values) (pos 0) (omega (arith, values-of bs (eqb (length bs) saved-bytes)))

@@ -6,6 +6,7 @@ use mathlib.Core.List.{List, [], _∷_}
 use lib.Dec.{ltb, eqb}
 use lib.ListN.{length, set}
 use lib.Seq.{sets}
+use Rattle.basis.specs.Limits.{max-frame-bytes}
 use Rattle.table_conflicts.specs.declared.Clash.{Clash}
 use Rattle.table_layout.specs.Constructs.{pick}
 use Rattle.table_layout.specs.Places.{table-of}
@@ -71,7 +72,7 @@ GrantsRun table frame reading reading′ run run′ taken taken′ steps number 
 
 -- a slice that is no saved run
 abbrev pub no-run-number : List ℕ → ℕ
-no-run-number frame = pick (ltb 256 (length frame)) 21 24
+no-run-number frame = pick (ltb max-frame-bytes (length frame)) 21 24
 
 -- they are none: nothing changes, and the count is 0
 abbrev pub GrantsNone : (frame reading reading′ run run′ taken taken′ : List ℕ) → (number : ℕ) → Type 0

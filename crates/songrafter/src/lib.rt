@@ -1,9 +1,12 @@
 // The calls of a C program: numbers and slices, each a pointer with a length. Nothing is trusted: any bytes and words, of any lengths, are
 // answered or refused by document 01's numbers. include/songrafter.h says the same in C.
 use admission::Admission;
+use basis::MAX_FRAME_BYTES;
+use basis::MAX_VARIABLES;
 use run_grants::Granted;
 use run_grants::Run;
 use run_matcher::Answer;
+use run_saved::SAVED_BYTES;
 use table_conflicts::Clash;
 ghost use mathlib.Core.Path.{_≡_};
 ghost use mathlib.Core.List.{[], _∷_};
@@ -97,7 +100,7 @@ fn with_room(number: usize, room: usize) -> usize
     ensures { λ r. ⌜ r ≡ number-with-room number room ⌝ }
 {
     if number == 0 {
-        if room == 2596 {
+        if room == SAVED_BYTES {
             return 0;
         }
         return 24;
@@ -155,7 +158,7 @@ fn no_run(frame: &[u8], taken: &mut [u64]) -> usize
     ensures { λ r. ⌜ (r ≡ no-run-number (now (frame .entry))) × (now (taken .exit) ≡ set (now (taken .entry)) 0 0) ⌝ }
 {
     put_count(taken, 0);
-    if 256 < frame.len() {
+    if MAX_FRAME_BYTES < frame.len() {
         return 21;
     }
     24
@@ -186,7 +189,7 @@ pub extern "C" fn songrafter_grant(
 ) -> usize
     ensures { λ r. ⌜ Grants (now (table .entry)) (now (frame .entry)) (now (reading .entry)) (now (reading .exit)) (now (run .entry)) (now (run .exit)) (now (taken .entry)) (now (taken .exit)) steps r ⌝ }
 {
-    if run.len() != 2596 {
+    if run.len() != SAVED_BYTES {
         return no_run(frame, taken);
     }
     let done = grant_in_place(table, frame, reading, run_saved::decode(run), steps);
@@ -232,7 +235,7 @@ pub extern "C" fn songrafter_value(run: &[u8], k: usize) -> i64
     ensures { λ r. ⌜ r ≡ getD (restored (now (run .entry)) .values) k (pos 0) ⌝ }
 {
     let values = run_saved::decode(run).values;
-    if k < 64 {
+    if k < MAX_VARIABLES {
         return values[k];
     }
     0

@@ -7,6 +7,7 @@ use mathlib.Core.Logic.{_⊎_, inl, inr, _↔_}
 use mathlib.Core.List.{List, [], _∷_, _++_, List·Memᴰ·head, List·Memᴰ·tail, List·Memᴰ·not-nil}
 use native.Mathlib.Omega.{arith}
 use native.Mathlib.Decide.{decLt, ℕ-discrete}
+use Rattle.basis.specs.Limits.{max-constructs}
 use Rattle.basis.specs.Bits.{Bits}
 use Rattle.theory.specs.Grammar.{alternative, concatenation, repetition, switch, use-of, field, eod, _∈_}
 use Rattle.theory.specs.Derivation.{passes}
@@ -14,7 +15,7 @@ use Rattle.theory.specs.Lookahead.{First, Follow, Predicted, Continues}
 use Rattle.theory.proofs.Prediction.{FollowsPass, follows-pass, continue-predicted, predicted-continue}
 use Rattle.table_layout.specs.Places.{rule-count, construct-count}
 use Rattle.table_layout.specs.Constructs.{constructAt}
-use Rattle.table_layout.specs.Held.{HeldNode, size-of, held, node-of, passes-allowed, passes-static, passes-fixed}
+use Rattle.table_layout.specs.Held.{HeldNode, size-of, held, node-of, passes-allowed, passes-static, passes-fixed, opening}
 use Rattle.table_layout.specs.declared.Construct.{Construct}
 use Rattle.table_layout.specs.declared.Passes.{Passes}
 use Rattle.table_wellformed.specs.Rules.{body}
@@ -57,7 +58,7 @@ module _ {ws : List ℕ} (l : Laid ws) where
   below-by j b (Construct.Uint width start end binder) h e n = absurd n
   below-by j b Construct.Eod h e n = absurd n
 
-  inside : (j b : ℕ) → j < construct-count ws → j < 256 → Names (held ws .node j) b → Below ws j b
+  inside : (j b : ℕ) → j < construct-count ws → j < max-constructs → Names (held ws .node j) b → Below ws j b
   inside j b h k n =
       elim (below-by j b (constructAt ws j) h refl (subst (λ (x : HeldNode). Names x b) (node-inside ws j k) n)) [ inl m ↦ inl (h, m) | inr r ↦ inr r ]
 
@@ -66,9 +67,9 @@ module _ {ws : List ℕ} (l : Laid ws) where
   below j b n =
       elim (decLt j (construct-count ws)) [
         | yes h ↦ inside j b h (omega (arith, l .counts .constructs)) n
-        | no h ↦ elim (ℕ-discrete j 256) [
+        | no h ↦ elim (ℕ-discrete j opening) [
           | yes e ↦ inr (0, l .counts .some-rule, subst (λ (x : HeldNode). Names x b) (node-opening ws j e) n)
-          | no e ↦ elim (decLt j 256) [
+          | no e ↦ elim (decLt j max-constructs) [
             | yes k ↦ absurd (List·Memᴰ·not-nil (subst (λ (x : HeldNode). Names x b) (node-inside ws j k ∙ ap (node-of ws j) (missing-past l j (omega arith))) n))
             | no k ↦ absurd (List·Memᴰ·not-nil (subst (λ (x : HeldNode). Names x b) (node-past ws j (omega arith)) n))
           ]

@@ -6,6 +6,7 @@ use mathlib.Core.Logic.{_↔_}
 use mathlib.Core.Bool.{Bool, true, false}
 use mathlib.Core.List.{List, [], List·Memᴰ·not-nil}
 use native.Mathlib.Omega.{arith}
+use Rattle.basis.specs.Limits.{max-constructs}
 use Rattle.basis.specs.Bits.{Bits}
 use Rattle.basis.specs.Counts.{Counts}
 use Rattle.theory.specs.Grammar.{alternative, concatenation, repetition, switch, use-of, field, eod, _∈_}
@@ -123,7 +124,7 @@ module _ (ws : List ℕ) (i : ℕ) where
     )
 
 module _ {ws : List ℕ} (l : Laid ws) (i : ℕ) (h : i < construct-count ws) where
-  small : i < 256
+  small : i < max-constructs
   small = omega (arith, l .counts .constructs)
 
   node-by : (c : Construct) → constructAt ws i ≡ c → held ws .node i ≡ node-of ws i c
@@ -167,7 +168,7 @@ module _ {ws : List ℕ} (l : Laid ws) (i : ℕ) (h : i < construct-count ws) wh
 
 -- ---- refusal 9
 
-module _ (ws : List ℕ) (first : List ℕ) (fs : FirstSets ws first) (i : ℕ) (h : i < 256) where
+module _ (ws : List ℕ) (first : List ℕ) (fs : FirstSets ws first) (i : ℕ) (h : i < max-constructs) where
   abbrev EmptyBy : HeldNode → Type 0
   EmptyBy (alternative is) = ⊥
   EmptyBy (concatenation is) = ⊥

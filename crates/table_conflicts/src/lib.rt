@@ -2,6 +2,8 @@
 ghost use mathlib.Core.Path.{_≡_};
 ghost use Prim.Native.Nat.{_+_, _-_, _≤_, _<_};
 ghost use lib.ListN.{length};
+ghost use Rattle.table_first_follow.specs.Sets.{family-words};
+ghost use Rattle.basis.specs.Limits.{max-constructs, table-words};
 ghost use Rattle.table_layout.specs.Constructs.{constructAt};
 ghost use Rattle.table_layout.specs.Held.{isExact, passes-fixed};
 ghost use Rattle.term_evaluation.specs.Counts.{formOf};
@@ -63,7 +65,7 @@ fn before(end: usize) -> usize
 
 // Whether a repetition is written `{n}`.
 fn fixed(table: &[u32], passes: Passes) -> bool
-    requires { ⌜ 16384 ≤ length (now table) ⌝ }
+    requires { ⌜ table-words ≤ length (now table) ⌝ }
     ensures { λ r. ⌜ r ≡ passes-fixed (now (table .entry)) passes ⌝ }
 {
     match passes {
@@ -76,7 +78,7 @@ fn fixed(table: &[u32], passes: Passes) -> bool
 
 // The parts from `start` up to `end` are an alternative's branches.
 fn branches(table: &[u32], prediction: &[u64], start: usize, end: usize) -> Clash
-    requires { ⌜ (length (now prediction) ≡ 2056) × (end ≤ 256) ⌝ }
+    requires { ⌜ (length (now prediction) ≡ family-words) × (end ≤ max-constructs) ⌝ }
     ensures { λ r. ⌜ Branching (strings (now (prediction .entry))) (siblings (now (table .entry)) start end) r ⌝ }
 {
     let window = windows::least_shared(table, prediction, start, end);
@@ -94,7 +96,7 @@ fn branches(table: &[u32], prediction: &[u64], start: usize, end: usize) -> Clas
 
 // A repetition continues by its body's prediction set, and exits by its FOLLOW set.
 fn turns(follow: &[u64], prediction: &[u64], i: usize) -> Clash
-    requires { ⌜ (length (now follow) ≡ 2056) × (length (now prediction) ≡ 2056) × (i < 256) ⌝ }
+    requires { ⌜ (length (now follow) ≡ family-words) × (length (now prediction) ≡ family-words) × (i < max-constructs) ⌝ }
     ensures { λ r. ⌜ Turning (strings (now (prediction .entry)) (i + 1)) (strings (now (follow .entry)) i) r ⌝ }
 {
     let window = windows::shared(set_of(prediction, i + 1), set_of(follow, i));
@@ -105,7 +107,7 @@ fn turns(follow: &[u64], prediction: &[u64], i: usize) -> Clash
 }
 
 fn unfixed(follow: &[u64], prediction: &[u64], i: usize, fixed: bool) -> Clash
-    requires { ⌜ (length (now follow) ≡ 2056) × (length (now prediction) ≡ 2056) × (i < 256) ⌝ }
+    requires { ⌜ (length (now follow) ≡ family-words) × (length (now prediction) ≡ family-words) × (i < max-constructs) ⌝ }
     ensures { λ r. ⌜ Repeating fixed (strings (now (prediction .entry)) (i + 1)) (strings (now (follow .entry)) i) r ⌝ }
 {
     if fixed {
@@ -121,7 +123,7 @@ fn clash_of(
     i: usize,
     construct: Construct,
 ) -> Clash
-    requires { ⌜ (16384 ≤ length (now table)) × (length (now follow) ≡ 2056) × (length (now prediction) ≡ 2056) × (i < 256) × Fine i construct ⌝ }
+    requires { ⌜ (table-words ≤ length (now table)) × (length (now follow) ≡ family-words) × (length (now prediction) ≡ family-words) × (i < max-constructs) × Fine i construct ⌝ }
     ensures { λ r. ⌜ ClashOf (now (table .entry)) (strings (now (follow .entry))) (strings (now (prediction .entry))) i construct r ⌝ }
 {
     match construct {
@@ -147,14 +149,14 @@ fn clash_of(
 
 // The conflict of construct i, if it has one.
 pub fn conflict(table: &[u32], follow: &[u64], prediction: &[u64], i: usize) -> Clash
-    requires { ⌜ (16384 ≤ length (now table)) × (length (now follow) ≡ 2056) × (length (now prediction) ≡ 2056) × (i < 256) ⌝ }
+    requires { ⌜ (table-words ≤ length (now table)) × (length (now follow) ≡ family-words) × (length (now prediction) ≡ family-words) × (i < max-constructs) ⌝ }
     ensures { λ r. ⌜ ClashOf (now (table .entry)) (strings (now (follow .entry))) (strings (now (prediction .entry))) i (constructAt (now (table .entry)) i) r ⌝ }
 {
     clash_of(table, follow, prediction, i, construct_at(table, i))
 }
 
 fn may_be_empty(first: &[u64], i: usize, construct: Construct) -> bool
-    requires { ⌜ (length (now first) ≡ 2056) × (i < 256) ⌝ }
+    requires { ⌜ (length (now first) ≡ family-words) × (i < max-constructs) ⌝ }
     ensures { λ r. ⌜ Decides r (EmptyAt (strings (now (first .entry))) i construct) ⌝ }
 {
     match construct {
@@ -180,7 +182,7 @@ fn may_be_empty(first: &[u64], i: usize, construct: Construct) -> bool
 
 // Whether construct i is a repetition whose body may be empty (01's empty first window).
 pub fn empty_body(table: &[u32], first: &[u64], i: usize) -> bool
-    requires { ⌜ (length (now first) ≡ 2056) × (i < 256) ⌝ }
+    requires { ⌜ (length (now first) ≡ family-words) × (i < max-constructs) ⌝ }
     ensures { λ r. ⌜ Decides r (EmptyAt (strings (now (first .entry))) i (constructAt (now (table .entry)) i)) ⌝ }
 {
     may_be_empty(first, i, construct_at(table, i))

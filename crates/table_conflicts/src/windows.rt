@@ -2,6 +2,8 @@
 ghost use mathlib.Core.Path.{_≡_};
 ghost use Prim.Native.Nat.{_≤_};
 ghost use lib.ListN.{length};
+ghost use Rattle.table_first_follow.specs.Sets.{family-words};
+ghost use Rattle.basis.specs.Limits.{max-constructs};
 ghost use Rattle.basis.specs.Bits.{Bits};
 ghost use Rattle.lookahead.specs.Sets.{Has, Decides};
 ghost use Rattle.table_first_follow.specs.Rounds.{strings};
@@ -40,7 +42,7 @@ fn lower(a: usize, b: usize) -> usize
 
 // The least window of two of the parts from `start` up to `end`: each part's with all those before it.
 pub fn least_shared(table: &[u32], family: &[u64], start: usize, end: usize) -> usize
-    requires { ⌜ (length (now family) ≡ 2056) × (end ≤ 256) ⌝ }
+    requires { ⌜ (length (now family) ≡ family-words) × (end ≤ max-constructs) ⌝ }
     ensures { λ r. ⌜ Lowest (Shared (strings (now (family .entry))) (siblings (now (table .entry)) start end)) r ⌝ }
 {
     let mut seen = lookahead::empty();
@@ -60,7 +62,7 @@ pub fn least_shared(table: &[u32], family: &[u64], start: usize, end: usize) -> 
 }
 
 fn holds(family: &[u64], at: usize, from: usize, n: usize) -> bool
-    requires { ⌜ length (now family) ≡ 2056 ⌝ }
+    requires { ⌜ length (now family) ≡ family-words ⌝ }
     ensures { λ r. ⌜ Decides r ((from ≤ at) × HasNumber (strings (now (family .entry))) at n) ⌝ }
 {
     if from <= at {
@@ -78,7 +80,7 @@ pub fn holder(
     from: usize,
     n: usize,
 ) -> usize
-    requires { ⌜ (length (now family) ≡ 2056) × (end ≤ 256) ⌝ }
+    requires { ⌜ (length (now family) ≡ family-words) × (end ≤ max-constructs) ⌝ }
     ensures { λ r. ⌜ FirstFrom (strings (now (family .entry))) (siblings (now (table .entry)) start end) from n end r ⌝ }
 {
     let mut at = start;

@@ -20,7 +20,7 @@ use Rattle.table_structure.proofs.Facts.{Laid, facts}
 use Rattle.table_scope.proofs.RuledLaw.{ruled}
 use Rattle.table_weights.proofs.Heights.{weight-at}
 use Rattle.table_weights.proofs.Theorems.{weights-exist}
-use Rattle.table_first_follow.specs.Sets.{FollowSets, PredictionSets}
+use Rattle.table_first_follow.specs.Sets.{FollowSets, PredictionSets, sets-held}
 use Rattle.table_first_follow.proofs.HeldLaws.{node-opening}
 use Rattle.table_judge.specs.Judged.{Passed7, Judged}
 use Rattle.table_judge.specs.Sound.{Stands, Sound}
@@ -94,7 +94,7 @@ module _ (ws middle last follow prediction : List ℕ) (weight : ℕ) (j : Judge
   completed = (
     sound-local alike ended (j .0) (λ f k. j .1 f k ∙ sym stored-weight)
         (λ i h.
-        let small : i < 257 = omega (arith, laid-words .counts .constructs) in (
+        let small : i < sets-held = omega (arith, laid-words .counts .constructs) in (
           stand (prediction-at i) (Predicted (held ws) i) (part i prediction) (omega arith) (ps i small) (w .prediction-stands i h),
           stand (follow-at i) (Follow (held ws) i) (part i follow) (omega arith) (fs i small) (w .follow-stands i h),
         )),

@@ -1,20 +1,21 @@
 -- A set that a construct's words give is what the rule of its node makes of the family's sets.
 -- Assumes nothing.
-use Prim.Native.Nat.{ℕ, zero, suc, _+_, _-_, _<_}
+use Prim.Native.Nat.{ℕ, zero, suc, _+_, _-_, _<_, _*_}
 use mathlib.Core.Path.{_≡_, sym, ap, _∙_, subst}
 use mathlib.Core.Bool.{true, false}
 use mathlib.Core.List.{List, []}
 use lib.ListN.{length, take, drop, length-drop, drop-of-length-le}
 use lib.Seq.{take-all}
 use native.Mathlib.Omega.{arith}
+use Rattle.basis.specs.Limits.{max-constructs, max-terms}
 use Rattle.basis.specs.Bits.{Bits}
 use Rattle.basis.specs.Counts.{Counts}
 use Rattle.lookahead.specs.Sets.{Has, Is, Passes, Repeated}
 use Rattle.lookahead.proofs.LanguageLaws.{Strings, joined-map}
 use Rattle.lookahead.proofs.PassLaws.{is-map}
-use Rattle.table_layout.specs.Places.{rule-word}
+use Rattle.table_layout.specs.Places.{rule-word, terms-at, literals-at}
 use Rattle.table_layout.specs.Constructs.{constructAt}
-use Rattle.table_layout.specs.Held.{held, node-of, parts, allowed, passes-static, HeldNode, term-words}
+use Rattle.table_layout.specs.Held.{held, node-of, parts, allowed, passes-static, HeldNode, term-words, opening}
 use Rattle.table_layout.specs.declared.Construct.{Construct}
 use Rattle.table_layout.specs.declared.Passes as Times
 use Rattle.term_evaluation.specs.declared.Counted.{Counted}
@@ -26,15 +27,15 @@ use Rattle.table_first_follow.proofs.PartLaws.{parts-siblings, united, 
 
 -- ---- the words of the terms, of a table that may be too short
 
-pub no-terms : (ws : List ℕ) → length ws < 2624 → take (length ws - length ws) (drop (length ws) ws) ≡ term-words ws
+pub no-terms : (ws : List ℕ) → length ws < terms-at → take (length ws - length ws) (drop (length ws) ws) ≡ term-words ws
 no-terms ws h =
     ap (λ (l : List ℕ). take (length ws - length ws) l) (drop-of-length-le ws {i = length ws} (omega arith))
-    ∙ take-all (length ws - length ws) [] (omega arith) ∙ sym (ap (take 3072) (drop-of-length-le ws {i = 2624} (omega arith)))
+    ∙ take-all (length ws - length ws) [] (omega arith) ∙ sym (ap (take (3 * max-terms)) (drop-of-length-le ws {i = terms-at} (omega arith)))
 
-pub few-terms : (ws : List ℕ) → length ws < 5696 → take (length ws - 2624) (drop 2624 ws) ≡ term-words ws
+pub few-terms : (ws : List ℕ) → length ws < literals-at → take (length ws - terms-at) (drop terms-at ws) ≡ term-words ws
 few-terms ws h =
-    let l : length (drop 2624 ws) ≡ length ws - 2624 = length-drop 2624 ws in
-    take-all (length ws - 2624) (drop 2624 ws) (omega arith) ∙ sym (take-all 3072 (drop 2624 ws) (omega arith))
+    let l : length (drop terms-at ws) ≡ length ws - terms-at = length-drop terms-at ws in
+    take-all (length ws - terms-at) (drop terms-at ws) (omega arith) ∙ sym (take-all (3 * max-terms) (drop terms-at ws) (omega arith))
 
 -- ---- passes of a set that is given by its words
 
@@ -47,7 +48,7 @@ is-repeated set out A counts s r =
     is-map out (Repeated (Has set) counts) (Repeated A counts)
     (λ x. ((λ q. (q .0, q .1, passes-map (Has set) A (λ y h. s .strings y .0 h) (q .0) x (q .2))), (λ q. (q .0, q .1, passes-map A (Has set) (λ y h. s .strings y .1 h) (q .0) x (q .2))))) r
 
-module _ (ws words : List ℕ) (i : ℕ) (h : i < 256) (r : Construct) (e : r ≡ constructAt ws i) where
+module _ (ws words : List ℕ) (i : ℕ) (h : i < max-constructs) (r : Construct) (e : r ≡ constructAt ws i) where
   module _ (out : List ℕ) where
     abbrev F : Family
     F = strings words
@@ -94,6 +95,6 @@ module _ (ws words : List ℕ) (i : ℕ) (h : i < 256) (r : Construct) (e : r �
     unfolding node-of
     of-use rule b p q s = placed (Construct.Use rule) p (subst (λ (k : ℕ). Is out (F k)) q s)
 
-pub of-opening : (ws words : List ℕ) (i : ℕ) (out : List ℕ) (b : ℕ) → i ≡ 256 → b ≡ rule-word ws 0 0 → Is out (strings words b) → Is out (Applied (strings words) (held ws .node i))
+pub of-opening : (ws words : List ℕ) (i : ℕ) (out : List ℕ) (b : ℕ) → i ≡ opening → b ≡ rule-word ws 0 0 → Is out (strings words b) → Is out (Applied (strings words) (held ws .node i))
 of-opening ws words i out b p q s =
     subst (λ (n : HeldNode). Is out (Applied (strings words) n)) (sym (node-opening ws i p)) (subst (λ (k : ℕ). Is out (strings words k)) q s)

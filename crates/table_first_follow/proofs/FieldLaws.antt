@@ -14,6 +14,8 @@ use lib.IntN.{pos}
 use lib.ListN.{length, length-take}
 use lib.Seq.{take-at}
 use lib.Pow.{pow-mono}
+use Rattle.table_first_follow.specs.Sets.{sets-held}
+use Rattle.basis.specs.Limits.{max-constructs}
 use Rattle.basis.specs.Bits.{Bits, bitsOf, value, frameBits, same}
 use Rattle.basis.specs.Lookahead.{lookahead, number}
 use Rattle.basis.proofs.Frames.{frame-length}
@@ -185,14 +187,14 @@ module _ (ws : List ℕ) (start end : ℕ) where
 
 -- ---- a construct's seed
 
-module _ (ws : List ℕ) (i : ℕ) (h : i < 257) (r : Construct) (e : r ≡ constructAt ws i) (out : List ℕ) where
+module _ (ws : List ℕ) (i : ℕ) (h : i < sets-held) (r : Construct) (e : r ≡ constructAt ws i) (out : List ℕ) where
   abbrev Right : Type 0
   Right = Is out (Seeded (held ws .node i))
 
   -- the opening use has none, as a construct that is missing
   pub seed-placed : (c : Construct) → r ≡ c → Is out (Seeded (node-of ws i c)) → Right
   unfolding node-of
-  seed-placed c p s = elim (decLt i 256) [
+  seed-placed c p s = elim (decLt i max-constructs) [
     | yes l ↦ subst (λ (n : HeldNode). Is out (Seeded n)) (sym (node-inside ws i l ∙ ap (node-of ws i) (sym e ∙ p))) s
     | no l ↦
         subst (λ (n : HeldNode). Is out (Seeded n)) (sym (node-opening ws i (omega arith)))

@@ -9,6 +9,7 @@ use native.Mathlib.Decide.{decLt}
 use native.Mathlib.Omega.{arith}
 use lib.ListN.{length, getD, take, drop, length-take, drop-of-length-le}
 use lib.Seq.{drop-cons, getD-take}
+use Rattle.basis.specs.Limits.{max-constructs}
 use Rattle.basis.specs.Bits.{Bits}
 use Rattle.lookahead.specs.Sets.{Has, Is, Proper, Joined}
 use Rattle.lookahead_slices.specs.Family.{part}
@@ -125,8 +126,8 @@ module _ (ws : List ℕ) (joined : Bool) (set is : List ℕ) where
 pub placed-at : (n k : ℕ) (places is : List ℕ) → take n places ≡ is → k < n → getD places k 0 ≡ getD is k 0
 placed-at n k places is e h = sym (getD-take n places k 0 h) ∙ ap (λ (l : List ℕ). getD l k 0) e
 
-pub placed-length : (n : ℕ) (places is : List ℕ) → length places ≡ 256 → n ≤ 256 → take n places ≡ is → n ≡ length is
-placed-length n places is l h e = (let z : n ≡ min n 256 = omega arith in z) ∙ ap (min n) (sym l) ∙ sym (length-take n places) ∙ ap length e
+pub placed-length : (n : ℕ) (places is : List ℕ) → length places ≡ max-constructs → n ≤ max-constructs → take n places ≡ is → n ≡ length is
+placed-length n places is l h e = (let z : n ≡ min n max-constructs = omega arith in z) ∙ ap (min n) (sym l) ∙ sym (length-take n places) ∙ ap length e
 
 -- ---- prediction sets
 

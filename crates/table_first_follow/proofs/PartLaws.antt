@@ -11,6 +11,7 @@ use borrow.Author.Tests.{le-ltb, lt-ltb, ne-eqb, eq-eqb}
 use lib.ListN.{length, take, set, length-set}
 use lib.Seq.{take-suc-set}
 use native.Mathlib.Numerals.{add-one}
+use Rattle.basis.specs.Limits.{max-constructs}
 use Rattle.basis.specs.Bits.{Bits}
 use Rattle.lookahead.specs.Sets.{Has, Is, Proper, Union}
 use Rattle.lookahead.proofs.LanguageLaws.{Strings, Short, joined-short, joined-map, joined-assoc, joined-unit-left, joined-unit-right}
@@ -26,7 +27,7 @@ use Rattle.table_first_follow.proofs.HeldLaws.{Fine, fine}
 
 -- ---- the walk
 
-size-fine : (i : ℕ) (c : Construct) → Fine i c → size-of c ≤ 256
+size-fine : (i : ℕ) (c : Construct) → Fine i c → size-of c ≤ max-constructs
 size-fine i Construct.Missing f = omega arith
 size-fine i (Construct.Alternative size) f = omega (arith, f .1)
 size-fine i (Construct.Concatenation size) f = omega (arith, f .1)
@@ -38,7 +39,7 @@ size-fine i (Construct.Range low high) f = omega arith
 size-fine i (Construct.Uint width start end binder) f = omega arith
 size-fine i Construct.Eod f = omega arith
 
-pub size-small : (ws : List ℕ) (i : ℕ) → size-of (constructAt ws i) ≤ 256
+pub size-small : (ws : List ℕ) (i : ℕ) → size-of (constructAt ws i) ≤ max-constructs
 size-small ws i = size-fine i (constructAt ws i) (fine ws i)
 
 module _ (ws : List ℕ) (end : ℕ) where
@@ -207,14 +208,14 @@ disjoint F (m ∷ is) x j = joined-map (F m) (Members F is) (F m) (Gathered true
 
 -- n numbers are written, and with those still to come they are the whole
 pub record Placing (whole : List ℕ) (n : ℕ) (out rest : List ℕ) : Type 0 where
-  pub size : length out ≡ 256
+  pub size : length out ≡ max-constructs
   pub list : take n out ++ rest ≡ whole
 
 module _ (whole : List ℕ) where
-  pub place-none : (out : List ℕ) → length out ≡ 256 → Placing whole 0 out whole
+  pub place-none : (out : List ℕ) → length out ≡ max-constructs → Placing whole 0 out whole
   place-none out e = record { size = e; list = refl }
 
-  pub place-more : (n j : ℕ) (out rest all : List ℕ) → n < 256 → all ≡ j ∷ rest → Placing whole n out all → Placing whole (n + 1) (set out n j) rest
+  pub place-more : (n j : ℕ) (out rest all : List ℕ) → n < max-constructs → all ≡ j ∷ rest → Placing whole n out all → Placing whole (n + 1) (set out n j) rest
   place-more n j out rest all h e p =
       let z : n < length out = omega (arith, p .size) in
       record {

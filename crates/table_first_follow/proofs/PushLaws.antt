@@ -7,6 +7,7 @@ use mathlib.Core.Logic.{inl, inr}
 use mathlib.Core.List.{List, [], _∷_, _++_, append-assoc, List·Memᴰ·not-nil, List·Memᴰ·head, List·Memᴰ·tail, List·Memᴰ·cases-cons}
 use native.Mathlib.Omega.{arith}
 use lib.ListN.{length}
+use Rattle.basis.specs.Limits.{max-constructs}
 use Rattle.basis.specs.Bits.{Bits}
 use Rattle.basis.specs.Counts.{from}
 use Rattle.basis.specs.Lookahead.{join}
@@ -14,7 +15,7 @@ use Rattle.lookahead.specs.Sets.{Has, Is, Joined, Passes, Repeated}
 use Rattle.lookahead.proofs.LanguageLaws.{Strings}
 use Rattle.table_layout.specs.Places.{rule-word}
 use Rattle.table_layout.specs.Constructs.{constructAt}
-use Rattle.table_layout.specs.Held.{held, node-of}
+use Rattle.table_layout.specs.Held.{held, node-of, opening}
 use Rattle.table_layout.specs.declared.Construct.{Construct}
 use Rattle.table_layout.specs.declared.Passes as Times
 use Rattle.theory.specs.Grammar.{alternative, concatenation, use-of, _∈_}
@@ -93,7 +94,7 @@ module _ (ws first old : List ℕ) (l : length first ≡ family-words) (f : Firs
 
   -- ---- a construct inside the table
 
-  module _ (g : i < 256) (o : Construct) (eo : o ≡ constructAt ws i) where
+  module _ (g : i < max-constructs) (o : Construct) (eo : o ≡ constructAt ws i) where
     node-as : (c : Construct) → o ≡ c → held ws .node i ≡ node-of ws i c
     node-as c p = node-inside ws i g ∙ ap (node-of ws i) (sym eo ∙ p)
 
@@ -176,5 +177,5 @@ module _ (ws first old : List ℕ) (l : length first ≡ family-words) (f : Firs
         step-map (follow-low ws) (follow-of ws) (λ words. Unit {0}) (FollowClosed ws i) old old false
         (λ words u. subst (Keeps (held ws) (within words) i) (sym (node-as c p)) (k words)) (no-step (follow-low ws) (follow-of ws) old)
 
-  pub opening-pushed : (new : List ℕ) (r : Bool) (c : ℕ) → i ≡ 256 → c ≡ rule-word ws 0 0 → Given old new c set r → Pushed new r
+  pub opening-pushed : (new : List ℕ) (r : Bool) (c : ℕ) → i ≡ opening → c ≡ rule-word ws 0 0 → Given old new c set r → Pushed new r
   opening-pushed new r c p q v = use-pushed new r _ _ _ (rule-word ws 0 0) c (node-opening ws i p) q v

@@ -219,8 +219,8 @@ pub started-elsewhere : (i : ℕ) (none : List ℕ) → (i ≡ opening → ⊥) 
 started-elsewhere i none n s = is-map none (λ (x : Bits). ⊥) (Started i) (λ x. ((λ z. absurd z), (λ q. n (q .0)))) s
 
 -- a round that goes up
-pub from-turned : (Closed : ℕ → List ℕ → Type 0) (words : List ℕ) → From (λ n ws. Closed (256 - n) ws) 0 words → From Closed 0 words
-from-turned Closed words c j h l = subst (λ (n : ℕ). Closed n words) (let z : 256 - (256 - j) ≡ j = omega arith in z) (c (256 - j) (omega arith) (omega arith))
+pub from-turned : (Closed : ℕ → List ℕ → Type 0) (words : List ℕ) → From (λ n ws. Closed (opening - n) ws) 0 words → From Closed 0 words
+from-turned Closed words c j h l = subst (λ (n : ℕ). Closed n words) (let z : opening - (opening - j) ≡ j = omega arith in z) (c (opening - j) (omega arith) (omega arith))
 
 module _ (ws : List ℕ) where
   pub starts-between : (words : List ℕ) → length words ≡ family-words → StartSets words → Between (follow-low ws) (follow-of ws) words

@@ -1,6 +1,8 @@
 // The FIRST sets of constructs without parts: they are worked out once, before the rounds.
 ghost use mathlib.Core.Path.{_≡_};
 ghost use Prim.Native.Nat.{_+_, _^_, _≤_, _<_, min};
+ghost use Rattle.table_first_follow.specs.Sets.{sets-held};
+ghost use Rattle.basis.specs.Limits.{max-width};
 ghost use Rattle.lookahead.specs.Sets.{Is};
 ghost use Rattle.table_layout.specs.Held.{held, term-words as termWords};
 ghost use Rattle.table_first_follow.specs.Rules.{Seeded};
@@ -8,6 +10,7 @@ ghost use Rattle.table_first_follow.specs.Fields.{Numbered, Any, Led};
 use crate::rules::term_words;
 use lookahead::Set;
 use table_layout::Construct;
+use table_layout::LITERALS_AT;
 use table_layout::construct_at;
 
 // The strings with numbers from `low` up to `high`.
@@ -51,7 +54,7 @@ fn strings_of(width: usize) -> usize
 }
 
 fn uint(table: &[u32], width: usize, start: usize, end: usize) -> Set
-    requires { ⌜ width ≤ 32 ⌝ }
+    requires { ⌜ width ≤ max-width ⌝ }
     ensures { λ r. ⌜ Is (r .words) (Numbered (2 ^ min 8 width) (2 ^ min 8 width + 2 ^ min 8 width) (Led width (termWords (now (table .entry))) start end)) ⌝ }
 {
     let strings = strings_of(width);
@@ -67,7 +70,7 @@ fn uint(table: &[u32], width: usize, start: usize, end: usize) -> Set
 
 // The strings of construct i, if it is a field or eod.
 pub fn seed(table: &[u32], i: usize) -> Set
-    requires { ⌜ i < 257 ⌝ }
+    requires { ⌜ i < sets-held ⌝ }
     ensures { λ r. ⌜ Is (r .words) (Seeded (held (now (table .entry)) .node i)) ⌝ }
 {
     match construct_at(table, i) {
@@ -78,7 +81,7 @@ pub fn seed(table: &[u32], i: usize) -> Set
         Construct::Switch { size: _ } => lookahead::empty(),
         Construct::Use { rule: _ } => lookahead::empty(),
         Construct::Literal { length: _ } => {
-            lookahead::single(256 + table_layout::word(table, 5696 + 8 * i) % 256)
+            lookahead::single(256 + table_layout::word(table, LITERALS_AT + 8 * i) % 256)
         }
         Construct::Range { low, high } => numbered(256 + low, 257 + high),
         Construct::Uint {

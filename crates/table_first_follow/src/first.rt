@@ -3,14 +3,15 @@ ghost use mathlib.Core.Path.{_≡_};
 ghost use Prim.Native.Nat.{_<_};
 ghost use lib.ListN.{length};
 ghost use Rattle.table_first_follow.specs.Rounds.{Between, FirstStep, FirstClosed, From, first-low as firstLow, first-of as firstOf};
-ghost use Rattle.table_first_follow.specs.Sets.{FirstSets};
+ghost use Rattle.table_first_follow.specs.Sets.{FirstSets, sets-held, family-words};
+use crate::SETS_HELD;
 use crate::fields;
 use crate::parts::either;
 use crate::rules;
 
 // What the rule of construct i makes of the sets is added to its own; whether a word grew.
 fn apply(table: &[u32], family: &mut [u64], i: usize) -> bool
-    requires { ⌜ (length (now family) ≡ 2056) × (i < 257) ⌝ }
+    requires { ⌜ (length (now family) ≡ family-words) × (i < sets-held) ⌝ }
     ensures { λ r. ⌜ FirstStep (now (table .entry)) (FirstClosed (now (table .entry)) i) (now (family .entry)) (now (family .exit)) r ⌝ }
 {
     let set = rules::applied(table, family, i);
@@ -19,11 +20,11 @@ fn apply(table: &[u32], family: &mut [u64], i: usize) -> bool
 
 // From the last construct down, so that parts come before their owners.
 fn round(table: &[u32], family: &mut [u64]) -> bool
-    requires { ⌜ length (now family) ≡ 2056 ⌝ }
+    requires { ⌜ length (now family) ≡ family-words ⌝ }
     ensures { λ r. ⌜ FirstStep (now (table .entry)) (From (FirstClosed (now (table .entry))) 0) (now (family .entry)) (now (family .exit)) r ⌝ }
 {
     let mut grew = false;
-    let mut i = 257;
+    let mut i = SETS_HELD;
     while 0 < i {
         i -= 1;
         grew = either(grew, apply(table, family, i));
@@ -33,11 +34,11 @@ fn round(table: &[u32], family: &mut [u64]) -> bool
 
 // The sets of fields and eods, and for all others none.
 fn seeds(table: &[u32], family: &mut [u64])
-    requires { ⌜ length (now family) ≡ 2056 ⌝ }
+    requires { ⌜ length (now family) ≡ family-words ⌝ }
     ensures { λ r. ⌜ Between (firstLow (now (table .entry))) (firstOf (now (table .entry))) (now (family .exit)) ⌝ }
 {
     let mut i = 0;
-    while i < 257 {
+    while i < SETS_HELD {
         lookahead_slices::family::store(family, i, fields::seed(table, i));
         i += 1;
     }
@@ -45,7 +46,7 @@ fn seeds(table: &[u32], family: &mut [u64])
 
 // FIRST of each construct, and of the opening use, in the family's words, whatever they were.
 pub fn first(table: &[u32], family: &mut [u64])
-    requires { ⌜ length (now family) ≡ 2056 ⌝ }
+    requires { ⌜ length (now family) ≡ family-words ⌝ }
     ensures { λ r. ⌜ FirstSets (now (table .entry)) (now (family .exit)) ⌝ }
 {
     seeds(table, family);

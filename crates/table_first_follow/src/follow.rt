@@ -2,31 +2,35 @@
 ghost use mathlib.Core.Path.{_≡_};
 ghost use Prim.Native.Nat.{_≤_, _<_};
 ghost use lib.ListN.{length};
+ghost use Rattle.basis.specs.Limits.{max-constructs};
 ghost use Rattle.lookahead.specs.Sets.{Has, Is, Proper};
 ghost use Rattle.table_first_follow.specs.Parts.{siblings};
 ghost use Rattle.table_first_follow.specs.Rounds.{Between, strings, within, first-of as firstOf, follow-of as followOf, follow-low as followLow, FollowStep, FollowClosed, From};
 ghost use Rattle.table_first_follow.specs.Follows.{Given, Before, Handed, Started, StartSets};
-ghost use Rattle.table_first_follow.specs.Sets.{FirstSets, FollowSets};
+ghost use Rattle.table_first_follow.specs.Sets.{FirstSets, FollowSets, sets-held, family-words};
+use crate::SETS_HELD;
 use crate::parts;
 use crate::parts::either;
 use crate::rules;
+use basis::MAX_CONSTRUCTS;
 use lookahead::Set;
 use table_layout::Construct;
+use table_layout::OPENING;
 use table_layout::construct_at;
 
 // A number past the family's is of no construct, and nothing is kept for it.
 fn give(family: &mut [u64], b: usize, set: Set) -> bool
-    requires { ⌜ length (now family) ≡ 2056 ⌝ }
+    requires { ⌜ length (now family) ≡ family-words ⌝ }
     ensures { λ r. ⌜ Given (now (family .entry)) (now (family .exit)) b (set .words) r ⌝ }
 {
-    if b < 257 {
+    if b < SETS_HELD {
         return lookahead_slices::family::add(family, b, set);
     }
     false
 }
 
 fn before(first: &[u64], m: usize, tail: Set, joined: bool) -> Set
-    requires { ⌜ (length (now first) ≡ 2056) × Proper (tail .words) ⌝ }
+    requires { ⌜ (length (now first) ≡ family-words) × Proper (tail .words) ⌝ }
     ensures { λ r. ⌜ Is (r .words) (Before joined (strings (now (first .entry)) m) (Has (tail .words))) ⌝ }
 {
     if joined {
@@ -46,10 +50,10 @@ fn hand(
     set: Set,
     joined: bool,
 ) -> bool
-    requires { ⌜ (length (now family) ≡ 2056) × (length (now first) ≡ 2056) × (end ≤ 256) × FirstSets (now table) (now first) × Proper (set .words) × Handed joined (firstOf (now table)) (Has (set .words)) (followOf (now table)) (siblings (now table) start end) ⌝ }
+    requires { ⌜ (length (now family) ≡ family-words) × (length (now first) ≡ family-words) × (end ≤ max-constructs) × FirstSets (now table) (now first) × Proper (set .words) × Handed joined (firstOf (now table)) (Has (set .words)) (followOf (now table)) (siblings (now table) start end) ⌝ }
     ensures { λ r. ⌜ FollowStep (now (table .entry)) (λ words. Handed joined (firstOf (now (table .entry))) (Has (set .words)) (within words) (siblings (now (table .entry)) start end)) (now (family .entry)) (now (family .exit)) r ⌝ }
 {
-    let mut places = [0usize; 256];
+    let mut places = [0usize; MAX_CONSTRUCTS];
     let mut k = parts::places(table, start, end, &mut places);
     let mut tail = set;
     let mut grew = false;
@@ -63,7 +67,7 @@ fn hand(
 }
 
 fn push_inside(table: &[u32], first: &[u64], family: &mut [u64], i: usize) -> bool
-    requires { ⌜ (i < 256) × (length (now first) ≡ 2056) × FirstSets (now table) (now first) × Between (followLow (now table)) (followOf (now table)) (now family) ⌝ }
+    requires { ⌜ (i < max-constructs) × (length (now first) ≡ family-words) × FirstSets (now table) (now first) × Between (followLow (now table)) (followOf (now table)) (now family) ⌝ }
     ensures { λ r. ⌜ FollowStep (now (table .entry)) (FollowClosed (now (table .entry)) i) (now (family .entry)) (now (family .exit)) r ⌝ }
 {
     let set = parts::set_of(family, i);
@@ -91,10 +95,10 @@ fn push_inside(table: &[u32], first: &[u64], family: &mut [u64], i: usize) -> bo
 
 // What follows construct i, as far as the family has it, goes on to its parts; whether a word grew.
 fn push(table: &[u32], first: &[u64], family: &mut [u64], i: usize) -> bool
-    requires { ⌜ (i < 257) × (length (now first) ≡ 2056) × FirstSets (now table) (now first) × Between (followLow (now table)) (followOf (now table)) (now family) ⌝ }
+    requires { ⌜ (i < sets-held) × (length (now first) ≡ family-words) × FirstSets (now table) (now first) × Between (followLow (now table)) (followOf (now table)) (now family) ⌝ }
     ensures { λ r. ⌜ FollowStep (now (table .entry)) (FollowClosed (now (table .entry)) i) (now (family .entry)) (now (family .exit)) r ⌝ }
 {
-    if i < 256 {
+    if i < MAX_CONSTRUCTS {
         return push_inside(table, first, family, i);
     }
     let set = parts::set_of(family, i);
@@ -103,14 +107,14 @@ fn push(table: &[u32], first: &[u64], family: &mut [u64], i: usize) -> bool
 
 // From construct 0 up: an owner comes before its parts.
 fn push_all(table: &[u32], first: &[u64], family: &mut [u64]) -> bool
-    requires { ⌜ (length (now first) ≡ 2056) × FirstSets (now table) (now first) × Between (followLow (now table)) (followOf (now table)) (now family) ⌝ }
+    requires { ⌜ (length (now first) ≡ family-words) × FirstSets (now table) (now first) × Between (followLow (now table)) (followOf (now table)) (now family) ⌝ }
     ensures { λ r. ⌜ FollowStep (now (table .entry)) (From (FollowClosed (now (table .entry))) 0) (now (family .entry)) (now (family .exit)) r ⌝ }
 {
     let mut grew = false;
-    let mut i = 257;
+    let mut i = SETS_HELD;
     while 0 < i {
         i -= 1;
-        grew = either(grew, push(table, first, family, 256 - i));
+        grew = either(grew, push(table, first, family, OPENING - i));
     }
     grew
 }
@@ -118,7 +122,7 @@ fn push_all(table: &[u32], first: &[u64], family: &mut [u64]) -> bool
 fn start(i: usize) -> Set
     ensures { λ r. ⌜ Is (r .words) (Started i) ⌝ }
 {
-    if i == 256 {
+    if i == OPENING {
         return lookahead::single(1);
     }
     lookahead::empty()
@@ -126,11 +130,11 @@ fn start(i: usize) -> Set
 
 // The empty string follows the opening use of the start rule.
 fn starts(family: &mut [u64])
-    requires { ⌜ length (now family) ≡ 2056 ⌝ }
+    requires { ⌜ length (now family) ≡ family-words ⌝ }
     ensures { λ r. ⌜ StartSets (now (family .exit)) ⌝ }
 {
     let mut i = 0;
-    while i < 257 {
+    while i < SETS_HELD {
         lookahead_slices::family::store(family, i, start(i));
         i += 1;
     }
@@ -138,7 +142,7 @@ fn starts(family: &mut [u64])
 
 // FOLLOW of each construct, and of the opening use, in the family's words, whatever they were; `first` has FIRST.
 pub fn follow(table: &[u32], first: &[u64], family: &mut [u64])
-    requires { ⌜ (length (now family) ≡ 2056) × (length (now first) ≡ 2056) × FirstSets (now table) (now first) ⌝ }
+    requires { ⌜ (length (now family) ≡ family-words) × (length (now first) ≡ family-words) × FirstSets (now table) (now first) ⌝ }
     ensures { λ r. ⌜ FollowSets (now (table .entry)) (now (family .exit)) ⌝ }
 {
     starts(family);

@@ -2,27 +2,30 @@
 ghost use mathlib.Core.Path.{_≡_};
 ghost use Prim.Native.Nat.{_≤_};
 ghost use lib.ListN.{length, take};
+ghost use Rattle.table_first_follow.specs.Sets.{family-words};
+ghost use Rattle.basis.specs.Limits.{max-constructs};
 ghost use Rattle.lookahead.specs.Sets.{Has, Is};
 ghost use Rattle.table_layout.specs.Constructs.{constructAt};
 ghost use Rattle.table_layout.specs.Held.{size-of as sizeOf};
 ghost use Rattle.table_first_follow.specs.Rounds.{strings, either-of as eitherOf};
 ghost use Rattle.table_first_follow.specs.Parts.{siblings, Combined, Neutral, Gathered};
+use crate::SETS_HELD;
 use lookahead::Set;
 use table_layout::Construct;
 use table_layout::construct_at;
 
 pub fn size_at(table: &[u32], i: usize) -> usize
-    ensures { λ r. ⌜ (r ≡ sizeOf (constructAt (now (table .entry)) i)) × (r ≤ 256) ⌝ }
+    ensures { λ r. ⌜ (r ≡ sizeOf (constructAt (now (table .entry)) i)) × (r ≤ max-constructs) ⌝ }
 {
     table_layout::size_of(construct_at(table, i))
 }
 
 // Set i of a family in the one form of a set; a number past the family's has none.
 pub fn set_of(family: &[u64], i: usize) -> Set
-    requires { ⌜ length (now family) ≡ 2056 ⌝ }
+    requires { ⌜ length (now family) ≡ family-words ⌝ }
     ensures { λ r. ⌜ Is (r .words) (strings (now (family .entry)) i) ⌝ }
 {
-    if i < 257 {
+    if i < SETS_HELD {
         return lookahead::union(
             lookahead::empty(),
             lookahead_slices::family::load(family, i),
@@ -51,7 +54,7 @@ fn combine(joined: bool, a: Set, b: Set) -> Set
 
 // The sets of the parts from `start` up to `end`, all joined or all united.
 pub fn gather(table: &[u32], family: &[u64], start: usize, end: usize, joined: bool) -> Set
-    requires { ⌜ (length (now family) ≡ 2056) × (end ≤ 256) ⌝ }
+    requires { ⌜ (length (now family) ≡ family-words) × (end ≤ max-constructs) ⌝ }
     ensures { λ r. ⌜ Is (r .words) (Gathered joined (strings (now (family .entry))) (siblings (now (table .entry)) start end)) ⌝ }
 {
     let mut out = neutral(joined);
@@ -69,8 +72,8 @@ pub fn gather(table: &[u32], family: &[u64], start: usize, end: usize, joined: b
 
 // The numbers of the parts from `start` up to `end`; how many there are.
 pub fn places(table: &[u32], start: usize, end: usize, out: &mut [usize]) -> usize
-    requires { ⌜ (length (now out) ≡ 256) × (end ≤ 256) ⌝ }
-    ensures { λ r. ⌜ (take r (now (out .exit)) ≡ siblings (now (table .entry)) start end) × (r ≤ 256) ⌝ }
+    requires { ⌜ (length (now out) ≡ max-constructs) × (end ≤ max-constructs) ⌝ }
+    ensures { λ r. ⌜ (take r (now (out .exit)) ≡ siblings (now (table .entry)) start end) × (r ≤ max-constructs) ⌝ }
 {
     let mut n = 0;
     let mut at = start;

@@ -2,15 +2,21 @@
 ghost use mathlib.Core.Path.{_≡_};
 ghost use Prim.Native.Nat.{_<_, min};
 ghost use lib.ListN.{length};
+ghost use Rattle.table_first_follow.specs.Sets.{sets-held, family-words};
+ghost use Rattle.basis.specs.Limits.{max-rules, max-constructs};
 ghost use Rattle.lookahead.specs.Sets.{Has, Is, Repeated};
 ghost use Rattle.table_layout.specs.Places.{rule-word as ruleWord};
 ghost use Rattle.table_layout.specs.Held.{held, term-words as termWords, allowed, passes-static as passesStatic};
 ghost use Rattle.table_first_follow.specs.Rules.{Applied};
 ghost use Rattle.table_first_follow.specs.Rounds.{strings};
 use crate::parts;
+use basis::MAX_CONSTRUCTS;
 use lookahead::Set;
 use table_layout::Construct;
+use table_layout::LITERALS_AT;
 use table_layout::Passes;
+use table_layout::RULES_AT;
+use table_layout::TERMS_AT;
 use table_layout::construct_at;
 use term_evaluation::Counted;
 
@@ -19,13 +25,13 @@ pub fn term_words(table: &[u32]) -> &[u32]
     ensures { λ r. ⌜ now r ≡ termWords (now (table .entry)) ⌝ }
 {
     let n = table.len();
-    if n < 2624 {
+    if n < TERMS_AT {
         return &table[n..n];
     }
-    if n < 5696 {
-        return &table[2624..n];
+    if n < LITERALS_AT {
+        return &table[TERMS_AT..n];
     }
-    &table[2624..5696]
+    &table[TERMS_AT..LITERALS_AT]
 }
 
 // The counts that the terms from `start` up to `end` allow; with a variable, all.
@@ -76,14 +82,14 @@ fn repeated(body: Set, counts: Counted) -> Set
 
 // The construct that is a rule's body.
 pub fn body_of(table: &[u32], rule: usize) -> usize
-    requires { ⌜ rule < 64 ⌝ }
+    requires { ⌜ rule < max-rules ⌝ }
     ensures { λ r. ⌜ r ≡ ruleWord (now (table .entry)) rule 0 ⌝ }
 {
-    table_layout::word(table, 64 + 4 * rule)
+    table_layout::word(table, RULES_AT + 4 * rule)
 }
 
 fn inside(table: &[u32], family: &[u64], i: usize) -> Set
-    requires { ⌜ (length (now family) ≡ 2056) × (i < 256) ⌝ }
+    requires { ⌜ (length (now family) ≡ family-words) × (i < max-constructs) ⌝ }
     ensures { λ r. ⌜ Is (r .words) (Applied (strings (now (family .entry))) (held (now (table .entry)) .node i)) ⌝ }
 {
     match construct_at(table, i) {
@@ -109,10 +115,10 @@ fn inside(table: &[u32], family: &[u64], i: usize) -> Set
 
 // What the rule of construct i, or of the opening use, makes of the family's sets.
 pub fn applied(table: &[u32], family: &[u64], i: usize) -> Set
-    requires { ⌜ (length (now family) ≡ 2056) × (i < 257) ⌝ }
+    requires { ⌜ (length (now family) ≡ family-words) × (i < sets-held) ⌝ }
     ensures { λ r. ⌜ Is (r .words) (Applied (strings (now (family .entry))) (held (now (table .entry)) .node i)) ⌝ }
 {
-    if i < 256 {
+    if i < MAX_CONSTRUCTS {
         return inside(table, family, i);
     }
     parts::set_of(family, body_of(table, 0))

@@ -9,6 +9,7 @@ use native.Mathlib.Decide.{decLt}
 use borrow.Author.Tests.{leb-true, eqb-true, eqb-false}
 use lib.Dec.{leb, ltb, eqb}
 use lib.ListN.{length, getD, List·getD-eq-default}
+use Rattle.basis.specs.Limits.{max-rules, max-constructs, max-variables, max-literal-bytes, max-width}
 use Rattle.table_layout.specs.Places.{word, constructs-at, rule-count, construct-word}
 use Rattle.table_layout.specs.Constructs.{both, branches, listed, repetitionOf, innerOf, leafOf, constructOf, constructAt}
 use Rattle.table_layout.specs.declared.Construct.{Construct}
@@ -79,11 +80,11 @@ module _ (i kind size a b c d : ℕ) where
 
   leaf-says : size ≡ 1 → Says (leafOf kind a b c d)
   leaf-says s =
-      picked Says (eqb kind 5) (λ e. picked Says (ltb a 64) (λ t. (eqb-true kind 5 e, (s, (refl, tt)))) (λ t. tt)) (λ e.
-      picked Says (eqb kind 6) (λ e. picked Says (both (leb 1 a) (leb a 32)) (λ t. (eqb-true kind 6 e, (s, (refl, tt)))) (λ t. tt)) (λ e.
+      picked Says (eqb kind 5) (λ e. picked Says (ltb a max-rules) (λ t. (eqb-true kind 5 e, (s, (refl, tt)))) (λ t. tt)) (λ e.
+      picked Says (eqb kind 6) (λ e. picked Says (both (leb 1 a) (leb a max-literal-bytes)) (λ t. (eqb-true kind 6 e, (s, (refl, tt)))) (λ t. tt)) (λ e.
       picked Says (eqb kind 7) (λ e. picked Says (both (ltb a 128) (ltb b 128)) (λ t. (eqb-true kind 7 e, (s, (refl, (refl, tt))))) (λ t. tt)) (λ e.
       picked Says (eqb kind 8)
-      (λ e. picked Says (both (both (leb 1 a) (leb a 32)) (both (listed b c) (leb d 64))) (λ t. (eqb-true kind 8 e, (s, (refl, (refl, (refl, (refl, tt))))))) (λ t. tt))
+      (λ e. picked Says (both (both (leb 1 a) (leb a max-width)) (both (listed b c) (leb d max-variables))) (λ t. (eqb-true kind 8 e, (s, (refl, (refl, (refl, (refl, tt))))))) (λ t. tt))
       (λ e. picked Says (eqb kind 9) (λ e. (eqb-true kind 9 e, (s, tt))) (λ t. tt)))))
 
   says : Says (constructOf i kind size a b c d)
@@ -102,7 +103,7 @@ module _ (ws : List ℕ) (i : ℕ) where
   read-says : Starts (code (constructAt ws i)) six
   unfolding constructAt
   read-says =
-      picked (λ x. Starts (code x) six) (ltb i 256)
+      picked (λ x. Starts (code x) six) (ltb i max-constructs)
       (λ t. says i (construct-word ws i 0) (construct-word ws i 1) (construct-word ws i 2) (construct-word ws i 3) (construct-word ws i 4) (construct-word ws i 5)) (λ t. tt)
 
   -- what was read is read from the first words, and the others are 0

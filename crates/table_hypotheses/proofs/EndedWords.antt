@@ -7,6 +7,7 @@ use mathlib.Core.List.{List}
 use native.Mathlib.Omega.{arith}
 use borrow.Author.Tests.{eqb-true, le-leb, eq-eqb}
 use lib.Dec.{eqb}
+use Rattle.basis.specs.Limits.{max-weight}
 use Rattle.table_layout.specs.Places.{word, table-words, rules-at, variables-at, constructs-at, terms-at, literals-at, sets-at, rule-count, construct-count, variable-count, term-count, weight-of}
 use Rattle.table_layout.specs.Constructs.{both}
 use Rattle.table_wellformed.specs.Checks.{limited, every, from-to, all-zero}
@@ -29,8 +30,8 @@ ended-of {ws} l =
       zeros = λ k low high. eqb-true (word ws k) 0 (each (λ u. eqb (word ws u) 0) table-words (sets-at + 32 * construct-count ws) k zeros low high);
     }
 
-pub weight-limited : {ws : List ℕ} → Ended ws → limited 1 (weight-of ws) 65535 ≡ true
-weight-limited {ws} e = rw (le-leb 1 (weight-of ws) (e .some-weight), le-leb (weight-of ws) 65535 (omega (arith, e .weight))) refl
+pub weight-limited : {ws : List ℕ} → Ended ws → limited 1 (weight-of ws) max-weight ≡ true
+weight-limited {ws} e = rw (le-leb 1 (weight-of ws) (e .some-weight), le-leb (weight-of ws) max-weight (omega (arith, e .weight))) refl
 
 all-true : (start end : ℕ) → from-to start end (λ k. true) ≡ true
 unfolding every

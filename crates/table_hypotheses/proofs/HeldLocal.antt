@@ -12,6 +12,7 @@ use lib.Dec.{ltb, eqb}
 use lib.IntN.{pos}
 use lib.ListN.{length, drop, replicate, length-take, length-drop}
 use lib.Seq.{ext-getD, getD-take, getD-drop}
+use Rattle.basis.specs.Limits.{max-rules, max-constructs, max-variables, max-terms, max-literal-bytes}
 use Rattle.basis.specs.Bits.{value}
 use Rattle.basis.specs.Counts.{zero-or-more}
 use Rattle.term_words.specs.Words.{termAt, terms}
@@ -20,7 +21,7 @@ use Rattle.term_evaluation.specs.Counts.{counts, formOf}
 use Rattle.term_evaluation.specs.Variables.{hasVariable}
 use Rattle.theory.specs.Grammar.{alternative, concatenation, repetition, switch, use-of, field}
 use Rattle.theory.proofs.Turns.{decide}
-use Rattle.table_layout.specs.Places.{rule-word, variable-word, construct-word, terms-at}
+use Rattle.table_layout.specs.Places.{rule-word, variable-word, construct-word, terms-at, rules-at, variables-at, constructs-at, literals-at}
 use Rattle.table_layout.specs.Constructs.{pick, constructAt}
 use Rattle.table_layout.specs.Held.{first-context, Values, term-words, size-of, parts, isYes, passes-allowed, passes-static, passes-fixed, first-case, literal-byte, literal-bytes, literal-node, bound, use-node, node-of, opening, held, allowed, isExact}
 use Rattle.table_layout.specs.declared.Construct.{Construct}
@@ -31,33 +32,33 @@ use Rattle.table_hypotheses.specs.OneTable.{Alike}
 module _ {ws ws′ : List ℕ} (a : Alike ws ws′) where
   -- ---- words
 
-  pub construct-words : (i k : ℕ) → i < 256 → k < 8 → construct-word ws i k ≡ construct-word ws′ i k
-  construct-words i k h l = a .same (576 + 8 * i + k) (omega arith) (λ e. omega arith)
+  pub construct-words : (i k : ℕ) → i < max-constructs → k < 8 → construct-word ws i k ≡ construct-word ws′ i k
+  construct-words i k h l = a .same (constructs-at + 8 * i + k) (omega arith) (λ e. omega arith)
 
-  pub rule-words : (r k : ℕ) → r < 64 → k < 4 → rule-word ws r k ≡ rule-word ws′ r k
-  rule-words r k h l = a .same (64 + 4 * r + k) (omega arith) (λ e. omega arith)
+  pub rule-words : (r k : ℕ) → r < max-rules → k < 4 → rule-word ws r k ≡ rule-word ws′ r k
+  rule-words r k h l = a .same (rules-at + 4 * r + k) (omega arith) (λ e. omega arith)
 
-  pub variable-words : (x k : ℕ) → x < 64 → k < 4 → variable-word ws x k ≡ variable-word ws′ x k
-  variable-words x k h l = a .same (320 + 4 * x + k) (omega arith) (λ e. omega arith)
+  pub variable-words : (x k : ℕ) → x < max-variables → k < 4 → variable-word ws x k ≡ variable-word ws′ x k
+  variable-words x k h l = a .same (variables-at + 4 * x + k) (omega arith) (λ e. omega arith)
 
   pub constructs-same : (i : ℕ) → constructAt ws i ≡ constructAt ws′ i
   unfolding constructAt
   constructs-same i =
-      elim (decide (ltb i 256)) [
+      elim (decide (ltb i max-constructs)) [
         | inl t ↦
-            let h : i < 256 = ltb-true i 256 t in
+            let h : i < max-constructs = ltb-true i max-constructs t in
             rw (t, construct-words i 0 h (omega arith), construct-words i 1 h (omega arith), construct-words i 2 h (omega arith), construct-words i 3 h (omega arith), construct-words i 4 h (omega arith), construct-words i 5 h (omega arith))
         | inr t ↦ rw t
       ]
 
   pub terms-same : term-words ws ≡ term-words ws′
   terms-same =
-      let m : length (term-words ws) ≡ 3072 = length-take 3072 (drop terms-at ws) ∙ omega (arith, length-drop terms-at ws, a .long) in
-      let n : length (term-words ws′) ≡ 3072 = length-take 3072 (drop terms-at ws′) ∙ omega (arith, length-drop terms-at ws′, a .long′) in
+      let m : length (term-words ws) ≡ (3 * max-terms) = length-take (3 * max-terms) (drop terms-at ws) ∙ omega (arith, length-drop terms-at ws, a .long) in
+      let n : length (term-words ws′) ≡ (3 * max-terms) = length-take (3 * max-terms) (drop terms-at ws′) ∙ omega (arith, length-drop terms-at ws′, a .long′) in
       ext-getD 0 (term-words ws) (term-words ws′) (m ∙ sym n)
       (λ i h.
-      getD-take 3072 (drop terms-at ws) i 0 (omega arith) ∙ getD-drop terms-at ws i 0 ∙ a .same (terms-at + i) (omega arith) (λ e. omega arith)
-      ∙ sym (getD-drop terms-at ws′ i 0) ∙ sym (getD-take 3072 (drop terms-at ws′) i 0 (omega arith)))
+      getD-take (3 * max-terms) (drop terms-at ws) i 0 (omega arith) ∙ getD-drop terms-at ws i 0 ∙ a .same (terms-at + i) (omega arith) (λ e. omega arith)
+      ∙ sym (getD-drop terms-at ws′ i 0) ∙ sym (getD-take (3 * max-terms) (drop terms-at ws′) i 0 (omega arith)))
 
   -- ---- nodes
 
@@ -71,15 +72,15 @@ module _ {ws ws′ : List ℕ} (a : Alike ws ws′) where
   -- all numbers of the list are constructs'
   abbrev Small : List ℕ → Type 0
   Small [] = Unit {0}
-  Small (b ∷ bs) = (b < 256) × Small bs
+  Small (b ∷ bs) = (b < max-constructs) × Small bs
 
-  small-parts : (n j end : ℕ) → end ≤ 256 → Small (parts n ws j end)
+  small-parts : (n j end : ℕ) → end ≤ max-constructs → Small (parts n ws j end)
   unfolding parts
   small-parts zero j end h = tt
   small-parts (suc n) j end h =
       elim (decide (ltb j end)) [
         | inl t ↦
-            let l : j < 256 = omega (arith, ltb-true j end t) in
+            let l : j < max-constructs = omega (arith, ltb-true j end t) in
             elim (decide (eqb (size-of (constructAt ws j)) 0)) [
               | inl s ↦ rw (t, s, parts) (l, tt)
               | inr s ↦ rw (t, s, parts) (l, small-parts n (j + size-of (constructAt ws j)) end h)
@@ -115,15 +116,15 @@ module _ {ws ws′ : List ℕ} (a : Alike ws ws′) where
   fixed-same Passes.Some = refl
   fixed-same (Passes.Counted start end) = λ t. isExact (formOf (termAt (terms-same t) (end - 1)))
 
-  pub literal-same : (i k : ℕ) → i < 256 → k < 32 → literal-byte ws i k ≡ literal-byte ws′ i k
-  literal-same i k h l = ap (λ (w : ℕ). w / 2 ^ (8 * (k % 4)) % 256) (a .same (5696 + 8 * i + k / 4) (omega arith) (λ e. omega arith))
+  pub literal-same : (i k : ℕ) → i < max-constructs → k < max-literal-bytes → literal-byte ws i k ≡ literal-byte ws′ i k
+  literal-same i k h l = ap (λ (w : ℕ). w / 2 ^ (8 * (k % 4)) % 256) (a .same (literals-at + 8 * i + k / 4) (omega arith) (λ e. omega arith))
 
-  literals-same : (i k n : ℕ) → i < 256 → k + n ≤ 32 → literal-bytes ws i k n ≡ literal-bytes ws′ i k n
+  literals-same : (i k n : ℕ) → i < max-constructs → k + n ≤ max-literal-bytes → literal-bytes ws i k n ≡ literal-bytes ws′ i k n
   unfolding literal-bytes
   literals-same i k zero h l = refl
   literals-same i k (suc n) h l = λ t. literal-same i k h (omega arith) t ∷ literals-same i (k + 1) n h (omega arith) t
 
-  use-same : (r : ℕ) → r < 64 → use-node ws r ≡ use-node ws′ r
+  use-same : (r : ℕ) → r < max-rules → use-node ws r ≡ use-node ws′ r
   use-same r h = λ t. use-of (λ c. some c) (λ c v. v) (λ v v′. v′) (rule-words r 0 h (omega arith) t)
 
   node-same : (i : ℕ) (c : Construct) → Fine i c → node-of ws i c ≡ node-of ws′ i c
@@ -151,4 +152,4 @@ module _ {ws ws′ : List ℕ} (a : Alike ws ws′) where
   held-local =
       let nodes : (i : ℕ) → pick (eqb i opening) (use-node ws 0) (node-of ws i (constructAt ws i)) ≡ pick (eqb i opening) (use-node ws′ 0) (node-of ws′ i (constructAt ws′ i)) =
       λ i t. pick (eqb i opening) (use-same 0 (omega arith) t) ((node-same i (constructAt ws i) (fine ws i) ∙ ap (node-of ws′ i) (constructs-same i)) t) in
-      λ t. record { node = λ i. nodes i t; start = opening; context = first-context; values = replicate 64 (pos 0) }
+      λ t. record { node = λ i. nodes i t; start = opening; context = first-context; values = replicate max-variables (pos 0) }

@@ -7,6 +7,7 @@ use mathlib.Core.List.{List}
 use native.Mathlib.Omega.{arith}
 use native.Mathlib.Decide.{decLt}
 use lib.Dec.{leb, ltb, eqb}
+use Rattle.basis.specs.Limits.{max-constructs, max-variables, max-literal-bytes}
 use Rattle.term_words.specs.Words.{terms}
 use Rattle.term_words.specs.declared.Kind.{Kind}
 use Rattle.term_sizes.specs.Sizes.{sizes, countSizes}
@@ -63,19 +64,19 @@ module _ {ws ws′ : List ℕ} (a : Alike ws ws′) where
       ]
 
   -- past the constructs a walk ends, whatever else is asked
-  pub guarded : (j : ℕ) (c c′ : Bool) → (j < 256 → c ≡ c′) → both (ltb 0 (size-at ws j)) c ≡ both (ltb 0 (size-at ws′ j)) c′
+  pub guarded : (j : ℕ) (c c′ : Bool) → (j < max-constructs → c ≡ c′) → both (ltb 0 (size-at ws j)) c ≡ both (ltb 0 (size-at ws′ j)) c′
   guarded j c c′ h =
-      elim (decLt j 256) [
+      elim (decLt j max-constructs) [
         | yes l ↦ λ t. both (ltb 0 (size-same j t)) (h l t)
         | no l ↦ rw (missing ws j (omega arith), missing ws′ j (omega arith)) refl
       ]
 
   -- ---- parts
 
-  pub unconditioned-same : (i : ℕ) → i < 256 → unconditioned ws i ≡ unconditioned ws′ i
+  pub unconditioned-same : (i : ℕ) → i < max-constructs → unconditioned ws i ≡ unconditioned ws′ i
   unconditioned-same i h = λ t. both (eqb (construct-words a i 6 h (omega arith) t) 0) (eqb (construct-words a i 7 h (omega arith) t) 0)
 
-  part-same : (switch : Bool) (first j end : ℕ) → j < 256 → part-laid ws switch first j end ≡ part-laid ws′ switch first j end
+  part-same : (switch : Bool) (first j end : ℕ) → j < max-constructs → part-laid ws switch first j end ≡ part-laid ws′ switch first j end
   part-same switch first j end h =
       let from = construct-words a j 6 h (omega arith) in
       let upto = construct-words a j 7 h (omega arith) in
@@ -91,13 +92,13 @@ module _ {ws ws′ : List ℕ} (a : Alike ws ws′) where
 
   -- ---- constructs
 
-  operands-same : (i k : ℕ) → i < 256 → operands-zero ws i k ≡ operands-zero ws′ i k
+  operands-same : (i k : ℕ) → i < max-constructs → operands-zero ws i k ≡ operands-zero ws′ i k
   operands-same i k h = zeros-same (constructs-at + 8 * i + k) (constructs-at + 8 * i + 6) (omega arith) (omega arith)
 
-  chain-same : (i : ℕ) → i < 256 → chain-laid ws i ≡ chain-laid ws′ i
+  chain-same : (i : ℕ) → i < max-constructs → chain-laid ws i ≡ chain-laid ws′ i
   chain-same i h = λ t. both (operands-same i 2 h t) (both (ltb (i + 1 + size-same (i + 1) t) (i + size-same i t)) (parts-laid-same false (i + 1) (i + size-same i t) t))
 
-  passes-same : (i : ℕ) (p : Passes) → i < 256 → passes-laid ws i p ≡ passes-laid ws′ i p
+  passes-same : (i : ℕ) (p : Passes) → i < max-constructs → passes-laid ws i p ≡ passes-laid ws′ i p
   passes-same i Passes.Optional h = operands-same i 3 h
   passes-same i Passes.Any h = operands-same i 3 h
   passes-same i Passes.Some h = operands-same i 3 h
@@ -106,10 +107,10 @@ module _ {ws ws′ : List ℕ} (a : Alike ws ws′) where
   list-same : (kind : Kind) (start end : ℕ) → list-formed kind ws start end ≡ list-formed kind ws′ start end
   list-same kind start end = λ t. formed (sizes kind zero-values start (terms (terms-same a t) start end))
 
-  named-same : (i binder : ℕ) → binder ≤ 64 → named-back ws i binder ≡ named-back ws′ i binder
+  named-same : (i binder : ℕ) → binder ≤ max-variables → named-back ws i binder ≡ named-back ws′ i binder
   named-same i binder h = λ t. pick (eqb binder 0) true (both (leb binder (header-same 3 (omega arith) t)) (eqb (variable-words a (binder - 1) 0 (omega arith) (omega arith) t) i))
 
-  kind-same : (i : ℕ) (c : Construct) → i < 256 → Fine i c → kind-laid ws i c ≡ kind-laid ws′ i c
+  kind-same : (i : ℕ) (c : Construct) → i < max-constructs → Fine i c → kind-laid ws i c ≡ kind-laid ws′ i c
   kind-same i Construct.Missing h f = refl
   kind-same i (Construct.Alternative size) h f = chain-same i h
   kind-same i (Construct.Concatenation size) h f = chain-same i h
@@ -122,19 +123,19 @@ module _ {ws ws′ : List ℕ} (a : Alike ws ws′) where
   kind-same i (Construct.Uint width start end binder) h f = λ t. both (named-same i binder (f .5) t) (list-same Kind.Set start end t)
   kind-same i Construct.Eod h f = operands-same i 2 h
 
-  byte-same : (i k : ℕ) → i < 256 → k < 32 → byte-laid ws i (literal-length (constructAt ws i)) k ≡ byte-laid ws′ i (literal-length (constructAt ws′ i)) k
+  byte-same : (i k : ℕ) → i < max-constructs → k < max-literal-bytes → byte-laid ws i (literal-length (constructAt ws i)) k ≡ byte-laid ws′ i (literal-length (constructAt ws′ i)) k
   byte-same i k h l =
       let w : word ws (literals-at + 8 * i + k / 4) ≡ word ws′ (literals-at + 8 * i + k / 4) = a .same (literals-at + 8 * i + k / 4) (omega arith) (λ e. omega arith) in
       λ t. ltb (w t / 256 ^ (k % 4) % 256) (pick (ltb k (literal-length (constructs-same a i t))) 128 1)
 
-  condition-same : (i : ℕ) → i < 256 → condition-formed ws i ≡ condition-formed ws′ i
+  condition-same : (i : ℕ) → i < max-constructs → condition-formed ws i ≡ condition-formed ws′ i
   condition-same i h =
       let from = construct-words a i 6 h (omega arith) in
       let upto = construct-words a i 7 h (omega arith) in
       λ t. pick (ltb (from t) (upto t)) (list-same Kind.Condition (from t) (upto t) t) true
 
-  pub construct-laid-same : (i : ℕ) → i < 256 → construct-laid ws i ≡ construct-laid ws′ i
+  pub construct-laid-same : (i : ℕ) → i < max-constructs → construct-laid ws i ≡ construct-laid ws′ i
   construct-laid-same i h =
       let kind : kind-laid ws i (constructAt ws i) ≡ kind-laid ws′ i (constructAt ws′ i) = kind-same i (constructAt ws i) h (fine ws i) ∙ ap (kind-laid ws′ i) (constructs-same a i) in
-      let bytes = from-to-same (byte-laid ws i (literal-length (constructAt ws i))) (byte-laid ws′ i (literal-length (constructAt ws′ i))) 0 32 (λ k l m. byte-same i k h m) in
+      let bytes = from-to-same (byte-laid ws i (literal-length (constructAt ws i))) (byte-laid ws′ i (literal-length (constructAt ws′ i))) 0 max-literal-bytes (λ k l m. byte-same i k h m) in
       λ t. both (kind t) (both (bytes t) (condition-same i h t))

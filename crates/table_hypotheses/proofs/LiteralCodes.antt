@@ -10,6 +10,7 @@ use borrow.Author.Tests.{ltb-true, le-ltb}
 use lib.Dec.{ltb}
 use lib.ListN.{getD}
 use lib.Pow.{pow-add, shr-shr}
+use Rattle.basis.specs.Limits.{max-literal-bytes}
 use Rattle.table_layout.specs.Places.{word, literals-at, construct-count}
 use Rattle.table_layout.specs.Constructs.{constructAt}
 use Rattle.table_layout.specs.Held.{literal-byte, literal-bytes}
@@ -49,11 +50,11 @@ byte-of ws i j zero (suc n) y h e = ap (literal-byte ws i) (let z : j ≡ y = om
 byte-of ws i j (suc k) (suc n) y h e = byte-of ws i (j + 1) k n y (omega arith) (omega arith)
 
 -- past a literal's length bytes are 0
-zero-byte : {ws : List ℕ} → Laid ws → (i k : ℕ) → i < construct-count ws → k < 32 → literal-length (constructAt ws i) ≤ k → literal-byte ws i k ≡ 0
+zero-byte : {ws : List ℕ} → Laid ws → (i k : ℕ) → i < construct-count ws → k < max-literal-bytes → literal-length (constructAt ws i) ≤ k → literal-byte ws i k ≡ 0
 zero-byte {ws} l i k h b past =
     let n : ℕ = literal-length (constructAt ws i) in
     let w : ℕ = word ws (literals-at + 8 * i + k / 4) in
-    let t : byte-laid ws i n k ≡ true = each (byte-laid ws i n) 32 0 k (l .bytes i h) (omega arith) b in
+    let t : byte-laid ws i n k ≡ true = each (byte-laid ws i n) max-literal-bytes 0 k (l .bytes i h) (omega arith) b in
     let f : ltb (w / 256 ^ (k % 4) % 256) 1 ≡ true = rw (le-ltb k n past) at t in
     let z : w / 256 ^ (k % 4) % 256 < 1 = ltb-true (w / 256 ^ (k % 4) % 256) 1 f in
     ap (λ (p : ℕ). w / p % 256) (powers (k % 4)) ∙ (let q : w / 256 ^ (k % 4) % 256 ≡ 0 = omega arith in q)
@@ -75,7 +76,7 @@ module _ {ws ws′ : List ℕ} (g : SameGrammar ws ws′) (l : Laid ws) (l′ : 
   inside (Construct.Uint width start end binder) e k b = absurd (omega arith)
   inside Construct.Eod e k b = absurd (omega arith)
 
-  same-byte : (k : ℕ) → k < 32 → literal-byte ws i k ≡ literal-byte ws′ i k
+  same-byte : (k : ℕ) → k < max-literal-bytes → literal-byte ws i k ≡ literal-byte ws′ i k
   same-byte k b =
       elim (decLt k (literal-length (constructAt ws i))) [
         | yes m ↦ inside (constructAt ws i) refl k m

@@ -6,6 +6,7 @@ use mathlib.Core.List.{List}
 use native.Mathlib.Omega.{arith}
 use lib.ListN.{length, length-take}
 use lib.Seq.{getD-take}
+use Rattle.basis.specs.Limits.{max-constructs}
 use Rattle.basis.specs.Bits.{Bits}
 use Rattle.theory.specs.Lookahead.{Follow, Predicted}
 use Rattle.table_layout.specs.Places.{table-of, word, table-words, construct-count, weight-of}
@@ -48,7 +49,7 @@ module _ (ws : List ℕ) where
   sound-long (long, s) =
       sound-local (table-alike long) (kept-end long (ended-of (laid-of-sound s))) (s .passed) (λ weight w. s .weight weight w ∙ kept 5 (omega arith))
       (λ i h.
-      let few : i < 256 = omega (arith, laid-of-sound s .counts .constructs) in (
+      let few : i < max-constructs = omega (arith, laid-of-sound s .counts .constructs) in (
         kept-set (prediction-at i) (Predicted (held (table-of ws)) i) (omega arith) (s .sets i h .prediction),
         kept-set (follow-at i) (Follow (held (table-of ws)) i) (omega arith) (s .sets i h .follow),
       ))

@@ -141,21 +141,21 @@ module _ {ws ws′ : List ℕ} (s : Sound ws) (s′ : Sound ws′) (fits : (k : 
         | yes b ↦ header k b apart
         | no a₁ ↦ elim (decLt k variables-at) [
           | yes b ↦
-              let o : (k - 64) % 4 < 4 = omega arith in
-              area rules-at 4 (rule-count ws) (rule-count ws′) variables-at k ((k - 64) / 4) ((k - 64) % 4) (g .rules) (z .rules) (z′ .rules) (λ e. rule-word-same ((k - 64) / 4) e ((k - 64) % 4) (omega arith) o) (omega arith) b
+              let o : (k - rules-at) % 4 < 4 = omega arith in
+              area rules-at 4 (rule-count ws) (rule-count ws′) variables-at k ((k - rules-at) / 4) ((k - rules-at) % 4) (g .rules) (z .rules) (z′ .rules) (λ e. rule-word-same ((k - rules-at) / 4) e ((k - rules-at) % 4) (omega arith) o) (omega arith) b
           | no a₂ ↦ elim (decLt k constructs-at) [
             | yes b ↦
-                let o : (k - 320) % 4 < 4 = omega arith in
-                area variables-at 4 (variable-count ws) (variable-count ws′) constructs-at k ((k - 320) / 4) ((k - 320) % 4) (g .variables) (z .variables) (z′ .variables) (λ e. variable-word-same ((k - 320) / 4) e ((k - 320) % 4) (omega arith) o) (omega arith) b
+                let o : (k - variables-at) % 4 < 4 = omega arith in
+                area variables-at 4 (variable-count ws) (variable-count ws′) constructs-at k ((k - variables-at) / 4) ((k - variables-at) % 4) (g .variables) (z .variables) (z′ .variables) (λ e. variable-word-same ((k - variables-at) / 4) e ((k - variables-at) % 4) (omega arith) o) (omega arith) b
             | no a₃ ↦ elim (decLt k terms-at) [
-              | yes b ↦ area constructs-at 8 (construct-count ws) (construct-count ws′) terms-at k ((k - 576) / 8) ((k - 576) % 8) (g .constructs) (z .constructs) (z′ .constructs) (λ e. construct-word-same ((k - 576) / 8) e ((k - 576) % 8) (omega arith)) (omega arith) b
+              | yes b ↦ area constructs-at 8 (construct-count ws) (construct-count ws′) terms-at k ((k - constructs-at) / 8) ((k - constructs-at) % 8) (g .constructs) (z .constructs) (z′ .constructs) (λ e. construct-word-same ((k - constructs-at) / 8) e ((k - constructs-at) % 8) (omega arith)) (omega arith) b
               | no a₄ ↦ elim (decLt k literals-at) [
                 | yes b ↦
-                    let o : (k - 2624) % 3 < 3 = omega arith in
-                    area terms-at 3 (term-count ws) (term-count ws′) literals-at k ((k - 2624) / 3) ((k - 2624) % 3) (g .terms) (z .terms) (z′ .terms) (λ e. term-word-same ((k - 2624) / 3) e ((k - 2624) % 3) (omega arith) o) (omega arith) b
+                    let o : (k - terms-at) % 3 < 3 = omega arith in
+                    area terms-at 3 (term-count ws) (term-count ws′) literals-at k ((k - terms-at) / 3) ((k - terms-at) % 3) (g .terms) (z .terms) (z′ .terms) (λ e. term-word-same ((k - terms-at) / 3) e ((k - terms-at) % 3) (omega arith) o) (omega arith) b
                 | no a₅ ↦
-                    let i : ℕ = (k - 5696) / 8 in
-                    let m : ℕ = (k - 5696) % 8 in
+                    let i : ℕ = (k - literals-at) / 8 in
+                    let m : ℕ = (k - literals-at) % 8 in
                     area literals-at 8 (construct-count ws) (construct-count ws′) sets-at k i m (g .constructs) (z .literals) (z′ .literals)
                     (λ e. same-literal g l l′ i e m (omega arith) (fits (literals-at + 8 * i + m)) (fits′ (literals-at + 8 * i + m))) (omega arith) h
               ]

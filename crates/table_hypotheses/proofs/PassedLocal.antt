@@ -6,6 +6,7 @@ use mathlib.Core.Path.{_≡_, refl, sym, subst, ap, _∙_}
 use mathlib.Core.List.{List, _∷_}
 use native.Mathlib.Omega.{arith}
 use lib.Dec.{ltb}
+use Rattle.basis.specs.Limits.{max-constructs, max-variables}
 use Rattle.term_words.specs.Words.{terms}
 use Rattle.term_words.specs.declared.Kind.{Kind}
 use Rattle.term_sizes.specs.Sizes.{sizes, countSizes}
@@ -61,15 +62,15 @@ module _ {ws ws′ : List ℕ} (a : Alike ws ws′) where
 
   -- ---- 8
 
-  widest-same : (n x : ℕ) → x + n ≤ 64 → widest-from n ws x ≡ widest-from n ws′ x
+  widest-same : (n x : ℕ) → x + n ≤ max-variables → widest-from n ws x ≡ widest-from n ws′ x
   unfolding widest-from
   widest-same zero x h = refl
   widest-same (suc n) x h = λ t. largest (variable-words a x 1 (omega arith) (omega arith) t) ∷ widest-same n (x + 1) (omega arith) t
 
   pub widest-local : widest ws ≡ widest ws′
-  widest-local = widest-same 64 0 (omega arith)
+  widest-local = widest-same max-variables 0 (omega arith)
 
-  condition-size-same : (i : ℕ) → i < 256 → condition-size ws i ≡ condition-size ws′ i
+  condition-size-same : (i : ℕ) → i < max-constructs → condition-size ws i ≡ condition-size ws′ i
   condition-size-same i h =
       let from = construct-words a i 6 h (omega arith) in
       let upto = construct-words a i 7 h (omega arith) in
@@ -93,7 +94,7 @@ module _ {ws ws′ : List ℕ} (a : Alike ws ws′) where
   own-size-same (Construct.Uint width start end binder) = λ t. sizes Kind.Set (widest-local t) start (terms (terms-same a t) start end)
   own-size-same Construct.Eod = refl
 
-  pub oversized-local : (i : ℕ) → i < 256 → oversized ws i ≡ oversized ws′ i
+  pub oversized-local : (i : ℕ) → i < max-constructs → oversized ws i ≡ oversized ws′ i
   oversized-local i h =
       let own : own-size ws (constructAt ws i) ≡ own-size ws′ (constructAt ws′ i) = own-size-same (constructAt ws i) ∙ ap (own-size ws′) (constructs-same a i) in
       λ t. either (exceeds (condition-size-same i h t)) (exceeds (own t))

@@ -7,11 +7,12 @@ use mathlib.Core.Bool.{Bool}
 use mathlib.Core.List.{List}
 use native.Mathlib.Omega.{arith}
 use native.Mathlib.Decide.{decLt, ℕ-discrete}
+use Rattle.basis.specs.Limits.{max-constructs}
 use Rattle.basis.specs.Counts.{Counts}
 use Rattle.theory.specs.Grammar.{alternative, concatenation, repetition, switch, use-of, field, eod, _∈_}
 use Rattle.table_layout.specs.Places.{rule-count, construct-count}
 use Rattle.table_layout.specs.Constructs.{constructAt}
-use Rattle.table_layout.specs.Held.{Context, Values, HeldNode, node-of, held}
+use Rattle.table_layout.specs.Held.{Context, Values, HeldNode, node-of, held, opening}
 use Rattle.table_layout.specs.declared.Construct.{Construct}
 use Rattle.table_layout.specs.declared.Passes.{Passes}
 use Rattle.table_wellformed.specs.Rules.{body}
@@ -56,9 +57,9 @@ module _ {ws : List ℕ} (l : Laid ws) where
   repeated : (i : ℕ) → Repeated ws i (held ws .node i)
   unfolding node-of
   repeated i =
-      elim (ℕ-discrete i 256) [
+      elim (ℕ-discrete i opening) [
         | yes e ↦ rw (node-opening ws i e) tt
-        | no e ↦ elim (decLt i 256) [
+        | no e ↦ elim (decLt i max-constructs) [
           | yes k ↦ rw (node-inside ws i k)
               (elim (decLt i (construct-count ws)) [ yes h ↦ repeated-by i (constructAt ws i) h refl | no h ↦ rw (missing-past l i (omega arith), node-of) tt ])
           | no k ↦ rw (node-past ws i (omega arith)) tt

@@ -8,6 +8,7 @@ use native.Mathlib.Omega.{arith}
 use borrow.Author.Tests.{lt-ltb}
 use lib.IntN.{pos}
 use lib.ListN.{getD}
+use Rattle.basis.specs.Limits.{max-variables, max-entries}
 use Rattle.term_words.specs.declared.Kind.{Kind}
 use Rattle.term_sizes.specs.Sizes.{sizes}
 use Rattle.term_sizes.specs.declared.Sized.{Sized}
@@ -78,15 +79,15 @@ module _ {ws : List ℕ} (s : Sound ws) where
   pub housed : Houses (held ws) (rooms ws)
   housed = rooms-enough ws rules-lie none-recursive .0
 
-  pub room-most : rooms ws first-context opening ≤ 256
+  pub room-most : rooms ws first-context opening ≤ max-entries
   room-most = rooms-enough ws rules-lie none-recursive .1
 
   pub reliable : Reliable ws (widest ws) (λ c i. weight-at ws i) (rooms ws)
   reliable =
       record {
         laid = laid-of-sound s;
-        variables = widest-length 64 ws 0;
-        each-widest = λ x h. widest-each 64 ws 0 x x h (omega arith);
+        variables = widest-length max-variables ws 0;
+        each-widest = λ x h. widest-each max-variables ws 0 x x h (omega arith);
         conditions-within = condition-within ws (s .passed .passed .passed .sized);
         counts-within = λ i n start end h e. own-within ws (s .passed .passed .passed .sized) i h (Construct.Repetition n (Passes.Counted start end)) e;
         sets-within = λ i width start end binder h e. own-within ws (s .passed .passed .passed .sized) i h (Construct.Uint width start end binder) e;

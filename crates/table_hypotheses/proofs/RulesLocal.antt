@@ -9,6 +9,7 @@ use native.Mathlib.Omega.{arith}
 use borrow.Author.Tests.{ltb-true, eqb-true, le-leb}
 use lib.Dec.{leb, ltb, eqb}
 use lib.ListN.{length}
+use Rattle.basis.specs.Limits.{max-rules, max-constructs, max-variables, max-terms, max-weight}
 use Rattle.term_words.specs.Words.{termAt}
 use Rattle.term_words.specs.declared.Operation.{Operation}
 use Rattle.term_words.specs.declared.Term.{Term}
@@ -39,8 +40,8 @@ variables-end {ws} l (suc n) r e =
     let next : rule-end ws r 1 ≡ rule-word ws (r + 1) 1 = next-begins ws r 1 (omega arith) in
     omega (arith, rule-fact l (r + 1) (omega arith) .variables)
 
--- what binds is a construct, and its variable one of the 64
-binder-small : (i : ℕ) (c : Construct) (x : ℕ) → Fine i c → binder-of c ≡ x + 1 → (i < 256) × (x < 64)
+-- what binds is a construct, and its variable one that there may be
+binder-small : (i : ℕ) (c : Construct) (x : ℕ) → Fine i c → binder-of c ≡ x + 1 → (i < max-constructs) × (x < max-variables)
 binder-small i Construct.Missing x f e = absurd (omega arith)
 binder-small i (Construct.Alternative size) x f e = absurd (omega arith)
 binder-small i (Construct.Concatenation size) x f e = absurd (omega arith)
@@ -55,19 +56,19 @@ binder-small i Construct.Eod x f e = absurd (omega arith)
 module _ {ws ws′ : List ℕ} (a : Alike ws ws′) where
   -- ---- lists of terms
 
-  lists-begin-same : (i p : ℕ) → i < 256 → lists-begin ws i p ≡ lists-begin ws′ i p
+  lists-begin-same : (i p : ℕ) → i < max-constructs → lists-begin ws i p ≡ lists-begin ws′ i p
   lists-begin-same i p h =
       let from = construct-words a i 6 h (omega arith) in
       let upto = construct-words a i 7 h (omega arith) in
       λ t. both (begins p (from t) (upto t)) (begins (after p (from t) (upto t)) (own-start (constructs-same a i t)) (own-end (constructs-same a i t)))
 
-  after-lists-same : (i p : ℕ) → i < 256 → after-lists ws i p ≡ after-lists ws′ i p
+  after-lists-same : (i p : ℕ) → i < max-constructs → after-lists ws i p ≡ after-lists ws′ i p
   after-lists-same i p h =
       let from = construct-words a i 6 h (omega arith) in
       let upto = construct-words a i 7 h (omega arith) in
       λ t. after (after p (from t) (upto t)) (own-start (constructs-same a i t)) (own-end (constructs-same a i t))
 
-  lists-same : (n i p : ℕ) → i + n ≤ 256 → lists-from n ws i p ≡ lists-from n ws′ i p
+  lists-same : (n i p : ℕ) → i + n ≤ max-constructs → lists-from n ws i p ≡ lists-from n ws′ i p
   unfolding lists-from
   lists-same zero i p h = λ t. eqb p (header-same a 4 (omega arith) t)
   lists-same (suc n) i p h =
@@ -75,7 +76,7 @@ module _ {ws ws′ : List ℕ} (a : Alike ws ws′) where
       let next = after-lists-same i p (omega arith) in
       λ t. elim (here t) [ true ↦ lists-same n (i + 1) (next t) (omega arith) t | false ↦ false ]
 
-  term-same : (k : ℕ) → k < 1024 → term-laid ws k ≡ term-laid ws′ k
+  term-same : (k : ℕ) → k < max-terms → term-laid ws k ≡ term-laid ws′ k
   term-same k h =
       let tag : word ws (terms-at + 3 * k) ≡ word ws′ (terms-at + 3 * k) = a .same (terms-at + 3 * k) (omega arith) (λ e. omega arith) in
       let low : word ws (terms-at + 3 * k + 1) ≡ word ws′ (terms-at + 3 * k + 1) = a .same (terms-at + 3 * k + 1) (omega arith) (λ e. omega arith) in
@@ -106,14 +107,14 @@ module _ {ws ws′ : List ℕ} (a : Alike ws ws′) where
 
   -- ---- uses
 
-  visible-same : (first last i y : ℕ) → last ≤ 64 → visible ws first last i y ≡ visible ws′ first last i y
+  visible-same : (first last i y : ℕ) → last ≤ max-variables → visible ws first last i y ≡ visible ws′ first last i y
   visible-same first last i y h =
       elim (decide (ltb y last)) [
         | inl s ↦ λ t. both (ltb y last) (both (leb first y) (ltb (variable-words a y 0 (omega (arith, ltb-true y last s)) (omega arith) t) i))
         | inr s ↦ rw s
       ]
 
-  operation-same : (first last i : ℕ) (o : Operation) → last ≤ 64 → operation-named ws first last i o ≡ operation-named ws′ first last i o
+  operation-same : (first last i : ℕ) (o : Operation) → last ≤ max-variables → operation-named ws first last i o ≡ operation-named ws′ first last i o
   operation-same first last i (Operation.Number n) h = refl
   operation-same first last i (Operation.Variable y) h = visible-same first last i y h
   operation-same first last i Operation.Add h = refl
@@ -122,7 +123,7 @@ module _ {ws ws′ : List ℕ} (a : Alike ws ws′) where
   operation-same first last i Operation.Negate h = refl
   operation-same first last i Operation.Unknown h = refl
 
-  term-named-same : (first last i : ℕ) (x : Term) → last ≤ 64 → term-named ws first last i x ≡ term-named ws′ first last i x
+  term-named-same : (first last i : ℕ) (x : Term) → last ≤ max-variables → term-named ws first last i x ≡ term-named ws′ first last i x
   term-named-same first last i (Term.Part o) h = operation-same first last i o h
   term-named-same first last i (Term.Single o) h = operation-same first last i o h
   term-named-same first last i Term.All h = refl
@@ -135,12 +136,12 @@ module _ {ws ws′ : List ℕ} (a : Alike ws ws′) where
   term-named-same first last i (Term.Compare k) h = refl
   term-named-same first last i Term.Bad h = refl
 
-  list-named-same : (first last i start end : ℕ) → last ≤ 64 → list-named ws first last i start end ≡ list-named ws′ first last i start end
+  list-named-same : (first last i start end : ℕ) → last ≤ max-variables → list-named ws first last i start end ≡ list-named ws′ first last i start end
   list-named-same first last i start end h =
       from-to-same (λ t. term-named ws first last i (termAt (term-words ws) t)) (λ t. term-named ws′ first last i (termAt (term-words ws′) t)) start end
       (λ k l m. term-named-same first last i (termAt (term-words ws) k) h ∙ ap (λ (w : List ℕ). term-named ws′ first last i (termAt w k)) (terms-same a))
 
-  construct-named-same : (first last i : ℕ) → last ≤ 64 → i < 256 → construct-named ws first last i ≡ construct-named ws′ first last i
+  construct-named-same : (first last i : ℕ) → last ≤ max-variables → i < max-constructs → construct-named ws first last i ≡ construct-named ws′ first last i
   construct-named-same first last i h l =
       λ t.
       both (list-named-same first last i (construct-words a i 6 l (omega arith) t) (construct-words a i 7 l (omega arith) t) h t)
@@ -157,19 +158,19 @@ module _ {ws ws′ : List ℕ} (a : Alike ws ws′) where
         ]
 
     module _ (r : ℕ) (h : r < rule-count ws) where
-      small : r < 64
+      small : r < max-rules
       small = omega (arith, l .counts .rules)
 
-      body-small : body ws r < 256
+      body-small : body ws r < max-constructs
       body-small = omega (arith, body-exists l r h, l .counts .constructs)
 
-      variables-small : rule-end ws r 1 ≤ 64
+      variables-small : rule-end ws r 1 ≤ max-variables
       variables-small = omega (arith, variables-end l (rule-count ws - (r + 1)) r (omega arith), l .counts .variables)
 
       own : (k : ℕ) → k < 4 → rule-word ws r k ≡ rule-word ws′ r k
       own k b = rule-words a r k small b
 
-      at-body : (A : Type 0) (f g : ℕ → A) → ((i : ℕ) → i < 256 → f i ≡ g i) → f (body ws r) ≡ g (body ws′ r)
+      at-body : (A : Type 0) (f g : ℕ → A) → ((i : ℕ) → i < max-constructs → f i ≡ g i) → f (body ws r) ≡ g (body ws′ r)
       at-body A f g e = e (body ws r) body-small ∙ ap g (own 0 (omega arith))
 
       rule-same : rule-laid ws r ≡ rule-laid ws′ r
@@ -201,7 +202,7 @@ module _ {ws ws′ : List ℕ} (a : Alike ws ws′) where
       let l : Laid ws = facts ws h in
       let e : Ended ws = ended-of l in
       let long : leb table-words (length ws) ≡ leb table-words (length ws′) = le-leb table-words (length ws) (e .long) ∙ sym (le-leb table-words (length ws′) (ended .long)) in
-      let weight : limited 1 (weight-of ws) 65535 ≡ limited 1 (weight-of ws′) 65535 = weight-limited e ∙ sym (weight-limited ended) in
+      let weight : limited 1 (weight-of ws) max-weight ≡ limited 1 (weight-of ws′) max-weight = weight-limited e ∙ sym (weight-limited ended) in
       let past : all-zero ws (sets-at + 32 * construct-count ws) table-words ≡ all-zero ws′ (sets-at + 32 * construct-count ws′) table-words = all-past e ∙ sym (all-past ended) in
       let count = header-same a in
       let zeros : (start width k : ℕ) (b : k < 5) (end : ℕ) → 6 ≤ start → end ≤ sets-at → all-zero ws (start + width * word ws k) end ≡ all-zero ws′ (start + width * word ws′ k) end =
@@ -217,7 +218,7 @@ module _ {ws ws′ : List ℕ} (a : Alike ws ws′) where
       λ t.
       both (long t)
       (both
-      (both (both (eqb (count 0 (omega arith) t) 1399811687) (both (both (limited 1 (count 1 (omega arith) t) 64) (limited 1 (count 2 (omega arith) t) 256)) (both (leb (count 3 (omega arith) t) 64) (leb (count 4 (omega arith) t) 1024))))
+      (both (both (eqb (count 0 (omega arith) t) 1399811687) (both (both (limited 1 (count 1 (omega arith) t) max-rules) (limited 1 (count 2 (omega arith) t) max-constructs)) (both (leb (count 3 (omega arith) t) max-variables) (leb (count 4 (omega arith) t) max-terms))))
       (both (weight t) (zeros-same a 6 rules-at (omega arith) (omega arith) t)))
       (both
       (both

@@ -11,6 +11,7 @@ use borrow.Author.Tests.{eqb-true, lt-ltb}
 use lib.Dec.{ltb, eqb}
 use lib.ListN.{length, getD, drop, length-take, length-drop}
 use lib.Seq.{getD-take, getD-drop}
+use Rattle.basis.specs.Limits.{max-terms}
 use Rattle.term_words.specs.Words.{termOf, termAt}
 use Rattle.theory.proofs.Turns.{decide}
 use Rattle.table_layout.specs.Places.{word, terms-at, construct-count, term-count, construct-word}
@@ -108,10 +109,10 @@ module _ {ws : List ℕ} (s : Sound ws) where
     abbrev high : ℕ
     high = word ws (terms-at + 3 * j + 2)
 
-    read : (k n : ℕ) → k < 3072 → terms-at + k ≡ n → getD (term-words ws) k 0 ≡ word ws n
-    read k n l e = getD-take 3072 (drop terms-at ws) k 0 l ∙ getD-drop terms-at ws k 0 ∙ ap (word ws) e
+    read : (k n : ℕ) → k < (3 * max-terms) → terms-at + k ≡ n → getD (term-words ws) k 0 ≡ word ws n
+    read k n l e = getD-take (3 * max-terms) (drop terms-at ws) k 0 l ∙ getD-drop terms-at ws k 0 ∙ ap (word ws) e
 
-    few : j < 1024
+    few : j < max-terms
     few = omega (arith, laid-of-sound s .counts .terms)
 
     no-high : high ≡ 0
@@ -120,7 +121,7 @@ module _ {ws : List ℕ} (s : Sound ws) where
     decoded : termAt (term-words ws) j ≡ termOf tag low 0
     unfolding termAt
     decoded =
-        let n : length (term-words ws) ≡ 3072 = length-take 3072 (drop terms-at ws) ∙ omega (arith, length-drop terms-at ws, laid-of-sound s .long) in
+        let n : length (term-words ws) ≡ (3 * max-terms) = length-take (3 * max-terms) (drop terms-at ws) ∙ omega (arith, length-drop terms-at ws, laid-of-sound s .long) in
         let t : ltb j (length (term-words ws) / 3) ≡ true = lt-ltb j (length (term-words ws) / 3) (omega (arith, few)) in
         rw (t, read (j * 3) (terms-at + 3 * j) (omega (arith, few)) (omega arith), read (j * 3 + 1) (terms-at + 3 * j + 1) (omega (arith, few)) (omega arith), read (j * 3 + 2) (terms-at + 3 * j + 2) (omega (arith, few)) (omega arith))
         (ap (termOf tag low) no-high)

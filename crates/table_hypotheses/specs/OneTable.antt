@@ -4,6 +4,7 @@ use Prim.Native.Nat.{ℕ, _+_, _*_, _^_, _≤_, _<_}
 use mathlib.Core.Path.{_≡_}
 use mathlib.Core.List.{List}
 use lib.ListN.{length}
+use Rattle.basis.specs.Limits.{max-weight}
 use Rattle.term_words.specs.Words.{termAt}
 use Rattle.table_layout.specs.Places.{word, table-words, sets-at, rule-count, construct-count, variable-count, term-count, weight-of, rule-word, variable-word, construct-word}
 use Rattle.table_layout.specs.Constructs.{constructAt}
@@ -21,7 +22,7 @@ pub record Alike (ws ws′ : List ℕ) : Type 0 where
 pub record Ended (ws : List ℕ) : Type 0 where
   pub long : table-words ≤ length ws
   pub some-weight : 1 ≤ weight-of ws
-  pub weight : weight-of ws ≤ 65535
+  pub weight : weight-of ws ≤ max-weight
   pub zeros : (k : ℕ) → sets-at + 32 * construct-count ws ≤ k → k < table-words → word ws k ≡ 0
 
 -- The words hold the same grammar: rules, variables, constructs, terms and bytes of literals are the same as they are read, whatever their

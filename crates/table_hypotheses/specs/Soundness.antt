@@ -4,6 +4,7 @@ use Prim.Native.Nat.{ℕ, _≤_}
 use mathlib.Core.Path.{_≡_}
 use mathlib.Core.Bool.{Bool}
 use mathlib.Core.List.{List}
+use Rattle.basis.specs.Limits.{max-entries}
 use Rattle.basis.specs.Bits.{Bits}
 use Rattle.theory.specs.Grammar.{field}
 use Rattle.theory.specs.Hypotheses.{Static, Hypotheses}
@@ -29,7 +30,7 @@ pub record Trusted (ws : List ℕ) : Type 0 where
   -- 24, "the list is longer than 256": no run from an opening has more entries pending
   pub rooms : Context → ℕ → ℕ
   pub houses : Houses (held ws) rooms
-  pub room-most : rooms first-context opening ≤ 256
+  pub room-most : rooms first-context opening ≤ max-entries
   -- 22, "two u32 words for each frame bit": a field takes at least one bit, so no bit has two captures
   pub one-capture-a-bit : (i : ℕ) {w : Bits → ℕ} {admits : Context → Values → Bits → Bool} {static : Bits → Bool} {binds : Context → Values → Bits → Values}
       → held ws .node i ≡ field w admits static binds → (s : Bits) → 1 ≤ w s

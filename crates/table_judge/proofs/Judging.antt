@@ -8,6 +8,7 @@ use native.Mathlib.Omega.{arith}
 use native.Mathlib.Decide.{decLt, ℕ-discrete}
 use borrow.Author.Tests.{eqb-true, eq-eqb}
 use lib.Dec.{eqb}
+use Rattle.basis.specs.Limits.{max-constructs, max-weight}
 use Rattle.lookahead.specs.Sets.{Decides}
 use Rattle.table_reach.specs.Reaching.{Reaches}
 use Rattle.basis.specs.Bits.{Bits}
@@ -43,9 +44,9 @@ module _ {ws : List ℕ} (l : Laid ws) where
   idle : (i : ℕ) → construct-count ws ≤ i → Idle (held ws .node i)
   unfolding node-of
   idle i h =
-      elim (ℕ-discrete i 256) [
+      elim (ℕ-discrete i opening) [
         | yes e ↦ rw (node-opening ws i e) tt
-        | no e ↦ elim (decLt i 256) [
+        | no e ↦ elim (decLt i max-constructs) [
           | yes k ↦ rw (node-inside ws i k, missing-past l i h) refl
           | no k ↦ rw (node-past ws i (omega arith)) refl
         ]
@@ -86,10 +87,10 @@ module _ (ws : List ℕ) (p : Passed7 ws) (n : ℕ) (w : Weight ws n) where
   weighed : Weighing ws (λ m. n ≡ capped m)
   weighed weight k = w (ruled ws (p .laid-out)) (p .acyclic) weight k
 
-  pub overweight : 65535 < n → Weighing ws (λ m. 65535 < m)
+  pub overweight : max-weight < n → Weighing ws (λ m. max-weight < m)
   overweight h weight k = let e : n ≡ capped (weight first-context opening) = weighed weight k in omega arith
 
-  pub exact-weight : n ≤ 65535 → Weighing ws (λ m. m ≡ n)
+  pub exact-weight : n ≤ max-weight → Weighing ws (λ m. m ≡ n)
   exact-weight h weight k = let e : n ≡ capped (weight first-context opening) = weighed weight k in omega arith
 
 -- ---- what is passed

@@ -5,6 +5,7 @@ use mathlib.Core.Path.{_≡_, sym, _∙_}
 use mathlib.Core.Bool.{Bool, false, false≢true}
 use mathlib.Core.List.{List}
 use native.Mathlib.Omega.{arith}
+use Rattle.basis.specs.Limits.{max-weight}
 use Rattle.lookahead.specs.Sets.{Decides}
 use Rattle.theory.specs.Weight.{Weighs}
 use Rattle.table_layout.specs.Places.{construct-count, weight-of}
@@ -45,7 +46,7 @@ module _ (ws : List ℕ) where
       unsound
       (λ s.
       let p = s .passed .passed .passed .passed in
-      let a : 65535 < weight-at ws opening = j .1 (weight-of-all ws p) (gives ws p) in
+      let a : max-weight < weight-at ws opening = j .1 (weight-of-all ws p) (gives ws p) in
       let b : weight-at ws opening ≡ weight-of ws = s .weight (weight-of-all ws p) (gives ws p) in
       omega (arith, facts ws (p .laid-out) .counts .weight))
 

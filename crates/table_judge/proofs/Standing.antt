@@ -6,6 +6,7 @@ use mathlib.Core.Logic.{_↔_}
 use mathlib.Core.Bool.{Bool, false, false≢true}
 use mathlib.Core.List.{List}
 use native.Mathlib.Omega.{arith}
+use Rattle.basis.specs.Limits.{max-constructs}
 use Rattle.basis.specs.Bits.{Bits}
 use Rattle.lookahead.specs.Sets.{Is, SameWords, Decides}
 use Rattle.lookahead.proofs.SetLaws.{same-words}
@@ -28,7 +29,7 @@ one-form ws at A set i = (
   λ s k h. s .there k h ∙ same-half (s .set) set (same-words (s .set) set (s .is .proper) (i .proper) (λ x. ((λ p. i .strings x .1 (s .is .strings x .0 p)), (λ p. s .is .strings x .1 (i .strings x .0 p))))) k h,
 )
 
-module _ (ws follow prediction : List ℕ) (fs : FollowSets ws follow) (ps : PredictionSets ws prediction) (i : ℕ) (h : i < 256) where
+module _ (ws follow prediction : List ℕ) (fs : FollowSets ws follow) (ps : PredictionSets ws prediction) (i : ℕ) (h : i < max-constructs) where
   pub prediction-stands : StandsAt ws (prediction-at i) (part i prediction) ↔ Stands ws (prediction-at i) (Predicted (held ws) i)
   prediction-stands = one-form ws (prediction-at i) (Predicted (held ws) i) (part i prediction) (ps i (omega arith))
 

@@ -4,6 +4,7 @@ use Prim.Native.Nat.{ℕ, _≤_, _<_}
 use mathlib.Core.Path.{_≡_}
 use mathlib.Core.Bool.{true}
 use mathlib.Core.List.{List}
+use Rattle.basis.specs.Limits.{max-weight}
 use Rattle.theory.specs.Lookahead.{EmptyBody}
 use Rattle.theory.specs.Weight.{Weighs}
 use Rattle.table_layout.specs.Places.{construct-count}
@@ -67,5 +68,5 @@ module _ (ws : List ℕ) where
   -- 10: "clash; the answer carries the least common window"
   Judged (Judgement.Conflict construct clash) = Passed9 × Least ws (Conflicting ws) construct × Answered ws construct clash
   -- 11: "weight over 65,535"
-  Judged Judgement.Overweight = Passed10 × Weighing ws (λ n. 65535 < n)
-  Judged (Judgement.Passes weight) = Passed10 × Weighing ws (λ n. n ≡ weight) × (weight ≤ 65535)
+  Judged Judgement.Overweight = Passed10 × Weighing ws (λ n. max-weight < n)
+  Judged (Judgement.Passes weight) = Passed10 × Weighing ws (λ n. n ≡ weight) × (weight ≤ max-weight)

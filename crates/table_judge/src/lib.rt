@@ -4,9 +4,10 @@ ghost use mathlib.Core.Bool.{true};
 ghost use lib.ListN.{length};
 ghost use Rattle.lookahead.specs.Sets.{Decides};
 ghost use Rattle.table_wellformed.specs.Laid.{laid as laidOf};
-ghost use Rattle.table_first_follow.specs.Sets.{FirstSets, FollowSets, PredictionSets};
+ghost use Rattle.table_first_follow.specs.Sets.{FirstSets, FollowSets, PredictionSets, family-words};
 ghost use Rattle.table_judge.specs.Judged.{Passed8, Passed9, Passed10, Judged};
 ghost use Rattle.table_judge.specs.Clashing.{is-clash};
+use basis::MAX_WEIGHT;
 use table_conflicts::Clash;
 use table_layout::word;
 use table_reach::Recursion;
@@ -63,7 +64,7 @@ fn judge_weight(table: &[u32]) -> Judgement
     ensures { λ r. ⌜ Judged (now (table .entry)) r ⌝ }
 {
     let weight = table_weights::weigh(table).grammar;
-    if 65535 < weight {
+    if MAX_WEIGHT < weight {
         return Judgement::Overweight;
     }
     Judgement::Passes { weight }
@@ -71,7 +72,7 @@ fn judge_weight(table: &[u32]) -> Judgement
 
 // 10 and 11: the first construct with a conflict
 fn judge_conflicts(table: &[u32], follow: &[u64], prediction: &[u64]) -> Judgement
-    requires { ⌜ Passed9 (now table) × (length (now follow) ≡ 2056) × (length (now prediction) ≡ 2056) × FollowSets (now table) (now follow) × PredictionSets (now table) (now prediction) ⌝ }
+    requires { ⌜ Passed9 (now table) × (length (now follow) ≡ family-words) × (length (now prediction) ≡ family-words) × FollowSets (now table) (now follow) × PredictionSets (now table) (now prediction) ⌝ }
     ensures { λ r. ⌜ Judged (now (table .entry)) r ⌝ }
 {
     let count = word(table, 2);
@@ -91,7 +92,7 @@ fn judge_conflicts(table: &[u32], follow: &[u64], prediction: &[u64]) -> Judgeme
 
 // 9 to 11: the first construct whose repeated body may be empty
 fn judge_bodies(table: &[u32], first: &[u64], follow: &[u64], prediction: &[u64]) -> Judgement
-    requires { ⌜ Passed8 (now table) × (length (now first) ≡ 2056) × (length (now follow) ≡ 2056) × (length (now prediction) ≡ 2056) × FirstSets (now table) (now first) × FollowSets (now table) (now follow) × PredictionSets (now table) (now prediction) ⌝ }
+    requires { ⌜ Passed8 (now table) × (length (now first) ≡ family-words) × (length (now follow) ≡ family-words) × (length (now prediction) ≡ family-words) × FirstSets (now table) (now first) × FollowSets (now table) (now follow) × PredictionSets (now table) (now prediction) ⌝ }
     ensures { λ r. ⌜ Judged (now (table .entry)) r ⌝ }
 {
     let count = word(table, 2);
@@ -112,7 +113,7 @@ pub fn judge(
     follow: &mut [u64],
     prediction: &mut [u64],
 ) -> Judgement
-    requires { ⌜ Passed8 (now table) × (length (now first) ≡ 2056) × (length (now follow) ≡ 2056) × (length (now prediction) ≡ 2056) ⌝ }
+    requires { ⌜ Passed8 (now table) × (length (now first) ≡ family-words) × (length (now follow) ≡ family-words) × (length (now prediction) ≡ family-words) ⌝ }
     ensures { λ r. ⌜ Judged (now (table .entry)) r ⌝ }
     ensures { λ r. ⌜ FirstSets (now (table .entry)) (now (first .exit)) ⌝ }
     ensures { λ r. ⌜ FollowSets (now (table .entry)) (now (follow .exit)) × PredictionSets (now (table .entry)) (now (prediction .exit)) ⌝ }

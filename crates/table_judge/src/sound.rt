@@ -3,31 +3,35 @@ ghost use mathlib.Core.Path.{_≡_};
 ghost use mathlib.Core.Bool.{true};
 ghost use Prim.Native.Nat.{ℕ, _≤_, _<_};
 ghost use lib.ListN.{length};
+ghost use Rattle.basis.specs.Limits.{max-constructs, table-words};
 ghost use Rattle.lookahead.specs.Sets.{Decides};
 ghost use Rattle.table_layout.specs.Places.{construct-count};
-ghost use Rattle.table_first_follow.specs.Sets.{FollowSets, PredictionSets};
+ghost use Rattle.table_first_follow.specs.Sets.{FollowSets, PredictionSets, family-words};
 ghost use Rattle.table_judge.specs.Sound.{Sound, SoundTable, SetsStand};
 use crate::Judgement;
 use crate::formed;
 use crate::judge;
+use basis::TABLE_WORDS;
 use lookahead_slices::family;
 use lookahead_slices::narrow;
+use table_first_follow::FAMILY_WORDS;
+use table_layout::SETS_AT;
 use table_layout::word;
 
 // Whether construct i's two sets stand in the table word for word.
 fn stands(table: &[u32], follow: &[u64], prediction: &[u64], i: usize) -> bool
-    requires { ⌜ (16384 ≤ length (now table)) × (length (now follow) ≡ 2056) × (length (now prediction) ≡ 2056) × FollowSets (now table) (now follow) × PredictionSets (now table) (now prediction) × (i < 256) ⌝ }
+    requires { ⌜ (table-words ≤ length (now table)) × (length (now follow) ≡ family-words) × (length (now prediction) ≡ family-words) × FollowSets (now table) (now follow) × PredictionSets (now table) (now prediction) × (i < max-constructs) ⌝ }
     ensures { λ r. ⌜ Decides r (SetsStand (now (table .entry)) i) ⌝ }
 {
-    if narrow::same(table, 7744 + 32 * i, family::load(prediction, i)) {
-        return narrow::same(table, 7744 + 32 * i + 16, family::load(follow, i));
+    if narrow::same(table, SETS_AT + 32 * i, family::load(prediction, i)) {
+        return narrow::same(table, SETS_AT + 32 * i + 16, family::load(follow, i));
     }
     false
 }
 
 // The same of every construct.
 fn all_stand(table: &[u32], follow: &[u64], prediction: &[u64]) -> bool
-    requires { ⌜ (16384 ≤ length (now table)) × (construct-count (now table) ≤ 256) × (length (now follow) ≡ 2056) × (length (now prediction) ≡ 2056) × FollowSets (now table) (now follow) × PredictionSets (now table) (now prediction) ⌝ }
+    requires { ⌜ (table-words ≤ length (now table)) × (construct-count (now table) ≤ max-constructs) × (length (now follow) ≡ family-words) × (length (now prediction) ≡ family-words) × FollowSets (now table) (now follow) × PredictionSets (now table) (now prediction) ⌝ }
     ensures { λ r. ⌜ Decides r ((i : ℕ) → i < construct-count (now (table .entry)) → SetsStand (now (table .entry)) i) ⌝ }
 {
     let count = word(table, 2);
@@ -49,9 +53,9 @@ fn sound_words(table: &[u32]) -> bool
     if !formed(table) {
         return false;
     }
-    let mut first = [0u64; 2056];
-    let mut follow = [0u64; 2056];
-    let mut prediction = [0u64; 2056];
+    let mut first = [0u64; FAMILY_WORDS];
+    let mut follow = [0u64; FAMILY_WORDS];
+    let mut prediction = [0u64; FAMILY_WORDS];
     match judge(table, &mut first, &mut follow, &mut prediction) {
         Judgement::EmptyBody { construct: _ } => false,
         Judgement::Conflict {
@@ -72,7 +76,7 @@ fn sound_words(table: &[u32]) -> bool
 pub fn sound(table: &[u32]) -> bool
     ensures { λ r. ⌜ Decides r (SoundTable (now (table .entry))) ⌝ }
 {
-    if table.len() < 16384 {
+    if table.len() < TABLE_WORDS {
         return false;
     }
     sound_words(&table[0..16384])

@@ -4,6 +4,7 @@ use Prim.Native.Nat.{ℕ, _+_}
 use mathlib.Core.Bool.{Bool, true, false}
 use mathlib.Core.List.{List}
 use lib.Dec.{leb, ltb, eqb}
+use Rattle.basis.specs.Limits.{max-rules, max-constructs, max-variables, max-terms, max-literal-bytes, max-width}
 use Rattle.table_layout.specs.Places.{construct-word}
 use Rattle.table_layout.specs.declared.Construct.{Construct}
 use Rattle.table_layout.specs.declared.Passes.{Passes}
@@ -18,13 +19,13 @@ abbrev pub both : Bool → Bool → Bool
 both true b = b
 both false b = false
 
--- a construct with parts: its size leaves it within the 256
+-- a construct with parts: its size leaves it within the limit
 abbrev pub branches : ℕ → ℕ → Bool
-branches i size = both (leb 2 size) (leb (i + size) 256)
+branches i size = both (leb 2 size) (leb (i + size) max-constructs)
 
 -- terms from and up to
 abbrev pub listed : ℕ → ℕ → Bool
-listed start end = both (leb start end) (leb end 1024)
+listed start end = both (leb start end) (leb end max-terms)
 
 -- `?`, `*`, `+` or `{…}`
 abbrev pub repetitionOf : ℕ → ℕ → ℕ → ℕ → Construct
@@ -45,11 +46,11 @@ innerOf kind size a b c =
 -- "width a number from 1 to 32"; a binder is 1 + one of 64 variables, 0 binds none
 abbrev pub uintOf : ℕ → ℕ → ℕ → ℕ → Construct
 uintOf width start end binder =
-    pick (both (both (leb 1 width) (leb width 32)) (both (listed start end) (leb binder 64))) (Construct.Uint width start end binder) Construct.Missing
+    pick (both (both (leb 1 width) (leb width max-width)) (both (listed start end) (leb binder max-variables))) (Construct.Uint width start end binder) Construct.Missing
 
 -- "1 to 32 characters"
 abbrev pub literalOf : ℕ → Construct
-literalOf length = pick (both (leb 1 length) (leb length 32)) (Construct.Literal length) Construct.Missing
+literalOf length = pick (both (leb 1 length) (leb length max-literal-bytes)) (Construct.Literal length) Construct.Missing
 
 -- its two characters, "up to 7f" each
 abbrev pub rangeOf : ℕ → ℕ → Construct
@@ -58,7 +59,7 @@ rangeOf low high = pick (both (ltb low 128) (ltb high 128)) (Construct.Range low
 -- those without
 abbrev pub leafOf : ℕ → ℕ → ℕ → ℕ → ℕ → Construct
 leafOf kind a b c d =
-    pick (eqb kind 5) (pick (ltb a 64) (Construct.Use a) Construct.Missing)
+    pick (eqb kind 5) (pick (ltb a max-rules) (Construct.Use a) Construct.Missing)
     (pick (eqb kind 6) (literalOf a)
     (pick (eqb kind 7) (rangeOf a b)
     (pick (eqb kind 8) (uintOf a b c d)
@@ -79,6 +80,6 @@ constructOf i kind size a b c d =
 unfoldable pub constructAt : List ℕ → ℕ → Construct
 unfolding constructOf
 constructAt ws i =
-    pick (ltb i 256)
+    pick (ltb i max-constructs)
     (constructOf i (construct-word ws i 0) (construct-word ws i 1) (construct-word ws i 2) (construct-word ws i 3) (construct-word ws i 4) (construct-word ws i 5))
     Construct.Missing

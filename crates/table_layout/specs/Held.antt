@@ -7,6 +7,7 @@ use mathlib.Core.Option.{Option, none, some}
 use lib.Dec.{leb, ltb, eqb}
 use lib.IntN.{ℤ, pos}
 use lib.ListN.{length, take, drop, set, replicate}
+use Rattle.basis.specs.Limits.{max-constructs, max-variables, max-terms}
 use Rattle.basis.specs.Bits.{value, frameBits, same}
 use Rattle.basis.specs.Counts.{Counts, from, within, zero-or-one, zero-or-more, one-or-more}
 use Rattle.term_words.specs.Words.{termAt, terms}
@@ -41,7 +42,7 @@ HeldNode = Node Context Values
 
 -- the words of the terms
 abbrev pub term-words : List ℕ → List ℕ
-term-words ws = take 3072 (drop terms-at ws)
+term-words ws = take (3 * max-terms) (drop terms-at ws)
 
 -- the terms from number `start` up to number `end`
 abbrev pub terms-of : List ℕ → ℕ → ℕ → List Term
@@ -179,9 +180,9 @@ node-of ws i (Construct.Range low high) = range-node low high
 node-of ws i (Construct.Uint width start end binder) = uint-node ws width start end binder
 node-of ws i Construct.Eod = eod
 
--- the opening use of the start rule has number 256
+-- the opening use of the start rule has the first number past all constructs
 abbrev pub opening : ℕ
-opening = 256
+opening = max-constructs
 
 -- the constructs by number and the opening use; "the rest 0"
 unfoldable pub held : List ℕ → Grammar Context Values
@@ -191,5 +192,5 @@ held ws =
       node = λ i. pick (eqb i opening) (use-node ws 0) (node-of ws i (constructAt ws i));
       start = opening;
       context = first-context;
-      values = replicate 64 (pos 0);
+      values = replicate max-variables (pos 0);
     }

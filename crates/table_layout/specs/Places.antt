@@ -3,37 +3,36 @@
 use Prim.Native.Nat.{ℕ, _+_, _*_}
 use mathlib.Core.List.{List}
 use lib.ListN.{getD, take}
+pub use Rattle.basis.specs.Limits.{table-words}
+use Rattle.basis.specs.Limits.{max-rules, max-constructs, max-variables, max-terms}
 
 -- a word; past the end of a list there is nothing, read as 0
 abbrev pub word : List ℕ → ℕ → ℕ
 word ws k = getD ws k 0
 
--- a table "has 16,384 words"
-abbrev pub table-words : ℕ
-table-words = 16384
-
 -- "Words past 16,384 are neither read nor changed."
 abbrev pub table-of : List ℕ → List ℕ
 table-of ws = take table-words ws
 
--- where rules, variables, constructs, terms, bytes of literals and sets begin
+-- where rules, variables, constructs, terms, bytes of literals and sets begin: the header has 64 words, a rule and a variable four, a
+-- construct eight and 32 bytes, a term three
 abbrev pub rules-at : ℕ
 rules-at = 64
 
 abbrev pub variables-at : ℕ
-variables-at = 320
+variables-at = rules-at + 4 * max-rules
 
 abbrev pub constructs-at : ℕ
-constructs-at = 576
+constructs-at = variables-at + 4 * max-variables
 
 abbrev pub terms-at : ℕ
-terms-at = 2624
+terms-at = constructs-at + 8 * max-constructs
 
 abbrev pub literals-at : ℕ
-literals-at = 5696
+literals-at = terms-at + 3 * max-terms
 
 abbrev pub sets-at : ℕ
-sets-at = 7744
+sets-at = literals-at + 8 * max-constructs
 
 -- the header: its mark, how many rules, constructs, variables and terms there are, and the weight
 abbrev pub mark-of : List ℕ → ℕ

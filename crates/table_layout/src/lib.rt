@@ -1,9 +1,32 @@
 // The words of a table (docs/TABLE.md): where things stand, and what they say. Any words may arrive.
+use basis::MAX_CONSTRUCTS;
+use basis::MAX_LITERAL_BYTES;
+use basis::MAX_RULES;
+use basis::MAX_TERMS;
+use basis::MAX_VARIABLES;
+use basis::MAX_WIDTH;
 ghost use mathlib.Core.Path.{_≡_};
 ghost use Prim.Native.Nat.{ℕ, _+_, _*_, _<_};
+ghost use Rattle.basis.specs.Limits.{max-constructs};
 ghost use Rattle.table_layout.specs.Held.{size-of};
 ghost use Rattle.table_layout.specs.Places.{word as wordAt};
 ghost use Rattle.table_layout.specs.Constructs.{branches as branchesOf, listed as listedOf, repetitionOf, innerOf, uintOf, literalOf, rangeOf, leafOf, withoutParts, constructOf, constructAt};
+
+// Where rules, variables, constructs, terms, bytes of literals and sets begin.
+pub const RULES_AT: usize = 64;
+
+pub const VARIABLES_AT: usize = RULES_AT + 4 * MAX_RULES;
+
+pub const CONSTRUCTS_AT: usize = VARIABLES_AT + 4 * MAX_VARIABLES;
+
+pub const TERMS_AT: usize = CONSTRUCTS_AT + 8 * MAX_CONSTRUCTS;
+
+pub const LITERALS_AT: usize = TERMS_AT + 3 * MAX_TERMS;
+
+pub const SETS_AT: usize = LITERALS_AT + 8 * MAX_CONSTRUCTS;
+
+// The opening use of the start rule has the first number past all constructs.
+pub const OPENING: usize = MAX_CONSTRUCTS;
 
 // How often a repetition's body is passed: `?`, `*`, `+`, or the counts of the terms from `start` up to `end`.
 pub enum Passes {
@@ -65,16 +88,16 @@ pub fn word(table: &[u32], k: usize) -> usize
 }
 
 fn branches(i: usize, size: usize) -> bool
-    requires { ⌜ i < 256 ⌝ }
+    requires { ⌜ i < max-constructs ⌝ }
     ensures { λ r. ⌜ r ≡ branchesOf i size ⌝ }
 {
     if size < 2 {
         return false;
     }
-    if 256 < size {
+    if MAX_CONSTRUCTS < size {
         return false;
     }
-    i + size <= 256
+    i + size <= MAX_CONSTRUCTS
 }
 
 fn listed(start: usize, end: usize) -> bool
@@ -83,7 +106,7 @@ fn listed(start: usize, end: usize) -> bool
     if end < start {
         return false;
     }
-    end <= 1024
+    end <= MAX_TERMS
 }
 
 fn repetition(size: usize, how: usize, start: usize, end: usize) -> Construct
@@ -139,11 +162,11 @@ fn uint(width: usize, start: usize, end: usize, binder: usize) -> Construct
     if width < 1 {
         return Construct::Missing;
     }
-    if 32 < width {
+    if MAX_WIDTH < width {
         return Construct::Missing;
     }
     if listed(start, end) {
-        if binder <= 64 {
+        if binder <= MAX_VARIABLES {
             return Construct::Uint {
                 width,
                 start,
@@ -161,7 +184,7 @@ fn literal(length: usize) -> Construct
     if length < 1 {
         return Construct::Missing;
     }
-    if 32 < length {
+    if MAX_LITERAL_BYTES < length {
         return Construct::Missing;
     }
     Construct::Literal { length }
@@ -183,7 +206,7 @@ fn leaf(kind: usize, a: usize, b: usize, c: usize, d: usize) -> Construct
     ensures { λ r. ⌜ r ≡ leafOf kind a b c d ⌝ }
 {
     if kind == 5 {
-        if a < 64 {
+        if a < MAX_RULES {
             return Construct::Use { rule: a };
         }
         return Construct::Missing;
@@ -204,7 +227,7 @@ fn leaf(kind: usize, a: usize, b: usize, c: usize, d: usize) -> Construct
 }
 
 fn decoded(i: usize, kind: usize, size: usize, a: usize, b: usize, c: usize, d: usize) -> Construct
-    requires { ⌜ i < 256 ⌝ }
+    requires { ⌜ i < max-constructs ⌝ }
     ensures { λ r. ⌜ r ≡ constructOf i kind size a b c d ⌝ }
 {
     if kind < 1 {
@@ -232,10 +255,10 @@ fn without_parts(kind: usize, size: usize, a: usize, b: usize, c: usize, d: usiz
 pub fn construct_at(table: &[u32], i: usize) -> Construct
     ensures { λ r. ⌜ r ≡ constructAt (now (table .entry)) i ⌝ }
 {
-    if 256 <= i {
+    if MAX_CONSTRUCTS <= i {
         return Construct::Missing;
     }
-    let at = 576 + 8 * i;
+    let at = CONSTRUCTS_AT + 8 * i;
     decoded(
         i,
         word(table, at),

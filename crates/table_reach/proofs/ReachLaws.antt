@@ -8,6 +8,7 @@ use mathlib.Core.List.{List}
 use borrow.Author.Tests.{ltb-true, lt-ltb, eqb-true, eq-eqb}
 use lib.Dec.{ltb, eqb}
 use lib.ListN.{getD}
+use Rattle.basis.specs.Limits.{max-rules, max-constructs}
 use Rattle.table_layout.specs.Places.{rule-count}
 use Rattle.table_layout.specs.Constructs.{pick, constructAt}
 use Rattle.table_layout.specs.declared.Construct.{Construct}
@@ -29,7 +30,7 @@ chosen true n e = (refl, e)
 chosen false n e = absurd (omega arith)
 
 -- a construct that calls rule q is a use of it
-pub used-construct : (x : Construct) (q : ℕ) → q < 64 → used-rule x ≡ q → x ≡ Construct.Use q
+pub used-construct : (x : Construct) (q : ℕ) → q < max-rules → used-rule x ≡ q → x ≡ Construct.Use q
 used-construct Construct.Missing q h e = absurd (omega arith)
 used-construct (Construct.Alternative size) q h e = absurd (omega arith)
 used-construct (Construct.Concatenation size) q h e = absurd (omega arith)
@@ -45,61 +46,61 @@ module _ (ws : List ℕ) where
   pub calls-binary : (q i : ℕ) → calls ws q i ≤ 1
   calls-binary q i = chosen-binary (eqb (used-rule (constructAt ws i)) q) 1 (omega arith)
 
-  pub called : (q i : ℕ) → q < 64 → calls ws q i ≡ 1 → constructAt ws i ≡ Construct.Use q
+  pub called : (q i : ℕ) → q < max-rules → calls ws q i ≡ 1 → constructAt ws i ≡ Construct.Use q
   called q i h e = used-construct (constructAt ws i) q h (eqb-true (used-rule (constructAt ws i)) q (chosen (eqb (used-rule (constructAt ws i)) q) 1 e .0))
 
   pub calls-use : (q i : ℕ) → constructAt ws i ≡ Construct.Use q → calls ws q i ≡ 1
   calls-use q i e = rw (e, eq-eqb q q refl) refl
 
   pub uses-binary : (r q : ℕ) → uses ws r q ≤ 1
-  uses-binary r q = chosen-binary (ltb r (rule-count ws)) _ (some-binary (calls ws q) (calls-binary q) (min 256 (rule-end ws r) - body-of ws r) (body-of ws r))
+  uses-binary r q = chosen-binary (ltb r (rule-count ws)) _ (some-binary (calls ws q) (calls-binary q) (min max-constructs (rule-end ws r) - body-of ws r) (body-of ws r))
 
-  pub uses-row : (r q first end : ℕ) → r < rule-count ws → first ≡ body-of ws r → end ≡ min 256 (rule-end ws r) → uses-between ws first end q ≡ uses ws r q
+  pub uses-row : (r q first end : ℕ) → r < rule-count ws → first ≡ body-of ws r → end ≡ min max-constructs (rule-end ws r) → uses-between ws first end q ≡ uses ws r q
   uses-row r q first end h e f = rw (lt-ltb r (rule-count ws) h, e, f)
 
-  pub uses-found : (r q : ℕ) → q < 64 → uses ws r q ≡ 1 → Uses ws r q
+  pub uses-found : (r q : ℕ) → q < max-rules → uses ws r q ≡ 1 → Uses ws r q
   uses-found r q h e =
-      let c = chosen (ltb r (rule-count ws)) (uses-between ws (body-of ws r) (min 256 (rule-end ws r)) q) e in
-      let f = some-found (calls ws q) (calls-binary q) (min 256 (rule-end ws r) - body-of ws r) (body-of ws r) (c .1) in
+      let c = chosen (ltb r (rule-count ws)) (uses-between ws (body-of ws r) (min max-constructs (rule-end ws r)) q) e in
+      let f = some-found (calls ws q) (calls-binary q) (min max-constructs (rule-end ws r) - body-of ws r) (body-of ws r) (c .1) in
       record { at = f .0; rule = ltb-true r (rule-count ws) (c .0); from = f .1; upto = omega (arith, f .1, f .2); used = called q (f .0) h (f .3) }
 
   pub uses-there : (r q : ℕ) → Uses ws r q → uses ws r q ≡ 1
   uses-there r q u =
       rw (lt-ltb r (rule-count ws) (u .rule))
-      (some-there (calls ws q) (calls-binary q) (min 256 (rule-end ws r) - body-of ws r) (body-of ws r) (u .at) (u .from) (omega (arith, u .from, u .upto, use-below ws (u .at) q (u .used) .0))
+      (some-there (calls ws q) (calls-binary q) (min max-constructs (rule-end ws r) - body-of ws r) (body-of ws r) (u .at) (u .from) (omega (arith, u .from, u .upto, use-below ws (u .at) q (u .used) .0))
       (calls-use q (u .at) (u .used)))
 
   pub reaches-joined : {r p q : ℕ} → Reaches ws r p → Reaches ws p q → Reaches ws r q
   reaches-joined (Reaches.directly u) b = Reaches.through u b
   reaches-joined (Reaches.through u a) b = Reaches.through u (reaches-joined a b)
 
-  pub reaches-below : {r q : ℕ} → Reaches ws r q → q < 64
+  pub reaches-below : {r q : ℕ} → Reaches ws r q → q < max-rules
   reaches-below {q = q} (Reaches.directly u) = use-below ws (u .at) q (u .used) .1
   reaches-below (Reaches.through u a) = reaches-below a
 
-  chain-of : {r q : ℕ} → Reaches ws r q → Chain (uses ws) 64 r q
+  chain-of : {r q : ℕ} → Reaches ws r q → Chain (uses ws) max-rules r q
   chain-of {r} {q} (Reaches.directly u) = Chain.link (uses-there r q u)
   chain-of {r} (Reaches.through {p = p} u a) = Chain.longer (uses-there r p u) (use-below ws (u .at) p (u .used) .1) (chain-of a)
 
   -- rule r reaches rule q, as a number
   abbrev pub reach : ℕ → ℕ → ℕ
-  reach r q = closure (uses ws) 64 r q
+  reach r q = closure (uses ws) max-rules r q
 
   pub reach-binary : (r q : ℕ) → reach r q ≤ 1
-  reach-binary r q = closure-binary (uses ws) uses-binary 64 r q
+  reach-binary r q = closure-binary (uses ws) uses-binary max-rules r q
 
   pub reach-there : {r q : ℕ} → Reaches ws r q → reach r q ≡ 1
-  reach-there a = chain-closure (uses ws) uses-binary 64 (chain-of a)
+  reach-there a = chain-closure (uses ws) uses-binary max-rules (chain-of a)
 
-  pub reach-found : (r q : ℕ) → q < 64 → reach r q ≡ 1 → Reaches ws r q
+  pub reach-found : (r q : ℕ) → q < max-rules → reach r q ≡ 1 → Reaches ws r q
   reach-found r q h e =
-      closure-least (uses ws) uses-binary (λ r q. q < 64 → Reaches ws r q) 64 (λ r q e h. Reaches.directly (uses-found r q h e)) (λ r p q l a b h. reaches-joined (a l) (b h)) 64 r q
+      closure-least (uses ws) uses-binary (λ r q. q < max-rules → Reaches ws r q) max-rules (λ r q e h. Reaches.directly (uses-found r q h e)) (λ r p q l a b h. reaches-joined (a l) (b h)) max-rules r q
       (omega arith) e h
 
   -- the first row that has its own bit is the first rule that reaches itself
   module _ (rows : List ℕ) (m : Matrix rows (reach)) where
     none-there : (q : ℕ) → bit (getD rows q 0) q ≡ 0 → Reaches ws q q → ⊥
-    none-there q e a = let h : q < 64 = reaches-below a in omega (arith, m .entry q q h h, reach-there a)
+    none-there q e a = let h : q < max-rules = reaches-below a in omega (arith, m .entry q q h h, reach-there a)
 
     pub found : (x : Recursion) → Diagonal rows x → Found ws x
     found Recursion.None d = λ q a. none-there q (d q (reaches-below a)) a

@@ -13,6 +13,7 @@ use lib.Bits.{bitOr}
 use lib.Dec.{eqb}
 use lib.ListN.{length, getD, set, length-set}
 use lib.Seq.{getD-set-same, getD-set-other}
+use Rattle.basis.specs.Limits.{max-rules}
 use Rattle.table_layout.specs.Constructs.{pick}
 use Rattle.lookahead.specs.Sets.{bit}
 use Rattle.lookahead.proofs.BitLaws.{bit-lt, bit-or, bit-shl, bit-shl-low, bit-above, bit-first, shifted-one}
@@ -56,11 +57,11 @@ pub lacks-bit : (row via k q : ℕ) → eqb (bit row k) 1 ≡ false → bit row 
 lacks-bit row via k q e = let f : bit row k ≡ 0 = not-one row k e in omega arith
 
 -- the loop that mends row after row
-pub mended-none : (rows : List ℕ) (via k : ℕ) → length rows ≡ 64 → Mended rows rows via k 0
+pub mended-none : (rows : List ℕ) (via k : ℕ) → length rows ≡ max-rules → Mended rows rows via k 0
 mended-none rows via k e = record { many = e; changed = λ i q h. absurd (omega arith); kept = λ i h. refl }
 
 module _ {before rows : List ℕ} {via k i : ℕ} (m : Mended before rows via k i) where
-  pub mended-more : (w : ℕ) → i < 64 → ((q : ℕ) → bit w q ≡ max (bit (getD rows i 0) q) (min (bit (getD rows i 0) k) (bit via q))) → Mended before (set rows i w) via k (i + 1)
+  pub mended-more : (w : ℕ) → i < max-rules → ((q : ℕ) → bit w q ≡ max (bit (getD rows i 0) q) (min (bit (getD rows i 0) k) (bit via q))) → Mended before (set rows i w) via k (i + 1)
   mended-more w h e =
       let l : i < length rows = omega (arith, m .many) in
       record {
@@ -72,11 +73,11 @@ module _ {before rows : List ℕ} {via k i : ℕ} (m : Mended before rows via k 
         kept = λ r j. getD-set-other rows i r w 0 (λ z. omega arith) ∙ m .kept r (omega arith);
       }
 
-pub mended-all : (before rows : List ℕ) (via k i : ℕ) → Mended before rows via k i → 64 ≤ i → i ≤ 64 → Mended before rows via k 64
-mended-all before rows via k i m h l = let e : i ≡ 64 = omega arith in rw (← e) m
+pub mended-all : (before rows : List ℕ) (via k i : ℕ) → Mended before rows via k i → max-rules ≤ i → i ≤ max-rules → Mended before rows via k max-rules
+mended-all before rows via k i m h l = let e : i ≡ max-rules = omega arith in rw (← e) m
 
 -- one step of the closure
-pub matrix-next : (u : ℕ → ℕ → ℕ) (k : ℕ) (rows after : List ℕ) (via : ℕ) → k < 64 → via ≡ getD rows k 0 → Mended rows after via k 64 → Matrix rows (closure u k) → Matrix after (closure u (k + 1))
+pub matrix-next : (u : ℕ → ℕ → ℕ) (k : ℕ) (rows after : List ℕ) (via : ℕ) → k < max-rules → via ≡ getD rows k 0 → Mended rows after via k max-rules → Matrix rows (closure u k) → Matrix after (closure u (k + 1))
 unfolding closure
 matrix-next u k rows after via h e m x =
     record {
@@ -92,9 +93,9 @@ pub matrix-first : (u : ℕ → ℕ → ℕ) (rows : List ℕ) → Matrix rows u
 unfolding closure
 matrix-first u rows m = m
 
-pub matrix-last : (u : ℕ → ℕ → ℕ) (k : ℕ) (rows : List ℕ) → Matrix rows (closure u k) → 64 ≤ k → k ≤ 64 → Matrix rows (closure u 64)
-matrix-last u k rows m h l = let e : k ≡ 64 = omega arith in rw (← e) m
+pub matrix-last : (u : ℕ → ℕ → ℕ) (k : ℕ) (rows : List ℕ) → Matrix rows (closure u k) → max-rules ≤ k → k ≤ max-rules → Matrix rows (closure u max-rules)
+matrix-last u k rows m h l = let e : k ≡ max-rules = omega arith in rw (← e) m
 
--- no bit is marked past 64
-pub unmarked : (row p q : ℕ) → 64 ≤ p → q < 64 → bit row q ≡ max (bit row q) (pick (eqb p q) 1 0)
+-- no bit is marked past the rules
+pub unmarked : (row p q : ℕ) → max-rules ≤ p → q < max-rules → bit row q ≡ max (bit row q) (pick (eqb p q) 1 0)
 unmarked row p q h l = rw (ne-eqb p q (λ e. omega arith)) (omega arith)

@@ -5,6 +5,7 @@ use mathlib.Core.Path.{_≡_}
 use mathlib.Core.List.{List}
 use lib.Dec.{ltb, eqb}
 use lib.ListN.{length, getD}
+use Rattle.basis.specs.Limits.{max-rules, max-constructs}
 use Rattle.table_layout.specs.Places.{rule-count}
 use Rattle.table_layout.specs.Constructs.{pick, constructAt}
 use Rattle.table_layout.specs.declared.Construct.{Construct}
@@ -17,18 +18,18 @@ unfoldable pub some-of : ℕ → (ℕ → ℕ) → ℕ → ℕ
 some-of zero f i = 0
 some-of (suc n) f i = max (f i) (some-of n f (i + 1))
 
--- the rule that a construct uses; 64, which is no rule's number, where it uses none
+-- the rule that a construct uses; the first number past all rules, where it uses none
 abbrev pub used-rule : Construct → ℕ
-used-rule Construct.Missing = 64
-used-rule (Construct.Alternative size) = 64
-used-rule (Construct.Concatenation size) = 64
-used-rule (Construct.Repetition size passes) = 64
-used-rule (Construct.Switch size) = 64
+used-rule Construct.Missing = max-rules
+used-rule (Construct.Alternative size) = max-rules
+used-rule (Construct.Concatenation size) = max-rules
+used-rule (Construct.Repetition size passes) = max-rules
+used-rule (Construct.Switch size) = max-rules
 used-rule (Construct.Use rule) = rule
-used-rule (Construct.Literal length) = 64
-used-rule (Construct.Range low high) = 64
-used-rule (Construct.Uint width start end binder) = 64
-used-rule Construct.Eod = 64
+used-rule (Construct.Literal length) = max-rules
+used-rule (Construct.Range low high) = max-rules
+used-rule (Construct.Uint width start end binder) = max-rules
+used-rule Construct.Eod = max-rules
 
 -- whether construct i is a use of rule q
 abbrev pub calls : List ℕ → ℕ → ℕ → ℕ
@@ -40,25 +41,25 @@ uses-between ws first end q = some-of (end - first) (calls ws q) first
 
 -- whether rule r uses rule q
 abbrev pub uses : List ℕ → ℕ → ℕ → ℕ
-uses ws r q = pick (ltb r (rule-count ws)) (uses-between ws (body-of ws r) (min 256 (rule-end ws r)) q) 0
+uses ws r q = pick (ltb r (rule-count ws)) (uses-between ws (body-of ws r) (min max-constructs (rule-end ws r)) q) 0
 
 -- Warshall's closure of a relation: whether r reaches q by way of numbers below k alone
 unfoldable pub closure : (ℕ → ℕ → ℕ) → ℕ → ℕ → ℕ → ℕ
 closure u zero r q = u r q
 closure u (suc k) r q = max (closure u k r q) (min (closure u k r k) (closure u k k q))
 
--- 64 words that hold a relation, the row of each number below 64 as a word's bits
+-- words that hold a relation, the row of each rule's number as a word's bits
 pub record Matrix (rows : List ℕ) (u : ℕ → ℕ → ℕ) : Type 0 where
-  pub many : length rows ≡ 64
-  pub entry : (r q : ℕ) → r < 64 → q < 64 → bit (getD rows r 0) q ≡ u r q
+  pub many : length rows ≡ max-rules
+  pub entry : (r q : ℕ) → r < max-rules → q < max-rules → bit (getD rows r 0) q ≡ u r q
 
 -- rows below n that reach k have all that `via` has; the others are as they were
 pub record Mended (before after : List ℕ) (via k n : ℕ) : Type 0 where
-  pub many : length after ≡ 64
+  pub many : length after ≡ max-rules
   pub changed : (i q : ℕ) → i < n → bit (getD after i 0) q ≡ max (bit (getD before i 0) q) (min (bit (getD before i 0) k) (bit via q))
   pub kept : (i : ℕ) → n ≤ i → getD after i 0 ≡ getD before i 0
 
 -- the first row that has its own bit
 abbrev pub Diagonal : List ℕ → Recursion → Type 0
-Diagonal rows Recursion.None = (q : ℕ) → q < 64 → bit (getD rows q 0) q ≡ 0
-Diagonal rows (Recursion.Rule r) = (r < 64) × (bit (getD rows r 0) r ≡ 1) × ((q : ℕ) → q < r → bit (getD rows q 0) q ≡ 0)
+Diagonal rows Recursion.None = (q : ℕ) → q < max-rules → bit (getD rows q 0) q ≡ 0
+Diagonal rows (Recursion.Rule r) = (r < max-rules) × (bit (getD rows r 0) r ≡ 1) × ((q : ℕ) → q < r → bit (getD rows q 0) q ≡ 0)

@@ -1,4 +1,5 @@
 // Rules of a table that reach themselves.
+use basis::MAX_RULES;
 ghost use mathlib.Core.Path.{_≡_};
 ghost use Prim.Native.Nat.{min};
 ghost use Rattle.table_reach.specs.Reaching.{Found};
@@ -15,7 +16,7 @@ pub enum Recursion {
 pub fn recursive_rule(table: &[u32]) -> Recursion
     ensures { λ r. ⌜ Found (now (table .entry)) r ⌝ }
 {
-    let mut rows = [0u64; 64];
+    let mut rows = [0u64; MAX_RULES];
     reaching::fill(table, &mut rows);
     reaching::close(&mut rows);
     reaching::first_on_diagonal(&rows)

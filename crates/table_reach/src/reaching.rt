@@ -3,59 +3,63 @@ ghost use mathlib.Core.Path.{_≡_};
 ghost use Prim.Native.Nat.{ℕ, _<_, max, min};
 ghost use lib.Dec.{eqb};
 ghost use lib.ListN.{length};
+ghost use Rattle.basis.specs.Limits.{max-rules};
 ghost use Rattle.table_layout.specs.Constructs.{pick};
 ghost use Rattle.lookahead.specs.Sets.{bit};
 ghost use Rattle.table_reach.specs.Reaching.{rule-end};
 ghost use Rattle.table_reach.specs.Closure.{used-rule, uses-between, uses, closure, Matrix, Mended, Diagonal};
 use super::Recursion;
 use super::at_most;
+use basis::MAX_CONSTRUCTS;
+use basis::MAX_RULES;
 use table_layout::Construct;
+use table_layout::RULES_AT;
 use table_layout::construct_at;
 use table_layout::word;
 
 // Whether the row has a bit.
 fn has(row: u64, q: usize) -> bool
-    requires { ⌜ q < 64 ⌝ }
+    requires { ⌜ q < max-rules ⌝ }
     ensures { λ r. ⌜ r ≡ eqb (bit row q) 1 ⌝ }
 {
     (row >> q) % 2 == 1
 }
 
-// The rule that a construct uses; 64 where it uses none.
+// The rule that a construct uses; the first number past all rules where it uses none.
 fn rule_used(construct: Construct) -> usize
     ensures { λ r. ⌜ r ≡ used-rule construct ⌝ }
 {
     match construct {
-        Construct::Missing => 64,
-        Construct::Alternative { size: _ } => 64,
-        Construct::Concatenation { size: _ } => 64,
-        Construct::Repetition { size: _, passes: _ } => 64,
-        Construct::Switch { size: _ } => 64,
+        Construct::Missing => MAX_RULES,
+        Construct::Alternative { size: _ } => MAX_RULES,
+        Construct::Concatenation { size: _ } => MAX_RULES,
+        Construct::Repetition { size: _, passes: _ } => MAX_RULES,
+        Construct::Switch { size: _ } => MAX_RULES,
         Construct::Use { rule } => rule,
-        Construct::Literal { length: _ } => 64,
-        Construct::Range { low: _, high: _ } => 64,
+        Construct::Literal { length: _ } => MAX_RULES,
+        Construct::Range { low: _, high: _ } => MAX_RULES,
         Construct::Uint {
             width: _,
             start: _,
             end: _,
             binder: _,
-        } => 64,
-        Construct::Eod => 64,
+        } => MAX_RULES,
+        Construct::Eod => MAX_RULES,
     }
 }
 
 // The row with the use of a rule.
 fn with_use(row: u64, rule: usize) -> u64
-    ensures { λ r. ⌜ ((q : ℕ) → q < 64 → bit r q ≡ max (bit row q) (pick (eqb rule q) 1 0)) ⌝ }
+    ensures { λ r. ⌜ ((q : ℕ) → q < max-rules → bit r q ≡ max (bit row q) (pick (eqb rule q) 1 0)) ⌝ }
 {
-    if rule < 64 {
+    if rule < MAX_RULES {
         return row | (1u64 << rule);
     }
     row
 }
 
 fn row_between(table: &[u32], first: usize, end: usize) -> u64
-    ensures { λ r. ⌜ ((q : ℕ) → q < 64 → bit r q ≡ uses-between (now (table .entry)) first end q) ⌝ }
+    ensures { λ r. ⌜ ((q : ℕ) → q < max-rules → bit r q ≡ uses-between (now (table .entry)) first end q) ⌝ }
 {
     let mut row = 0u64;
     let mut i = first;
@@ -68,36 +72,36 @@ fn row_between(table: &[u32], first: usize, end: usize) -> u64
 
 // Where the constructs of rule r end.
 fn end_of(table: &[u32], r: usize) -> usize
-    requires { ⌜ r < 64 ⌝ }
+    requires { ⌜ r < max-rules ⌝ }
     ensures { λ n. ⌜ n ≡ rule-end (now (table .entry)) r ⌝ }
 {
     if r + 1 < word(table, 1) {
-        return word(table, 64 + 4 * (r + 1));
+        return word(table, RULES_AT + 4 * (r + 1));
     }
     word(table, 2)
 }
 
 fn row_of(table: &[u32], r: usize) -> u64
-    requires { ⌜ r < 64 ⌝ }
-    ensures { λ row. ⌜ ((q : ℕ) → q < 64 → bit row q ≡ uses (now (table .entry)) r q) ⌝ }
+    requires { ⌜ r < max-rules ⌝ }
+    ensures { λ row. ⌜ ((q : ℕ) → q < max-rules → bit row q ≡ uses (now (table .entry)) r q) ⌝ }
 {
     if word(table, 1) <= r {
         return 0;
     }
     row_between(
         table,
-        word(table, 64 + 4 * r),
-        at_most(256, end_of(table, r)),
+        word(table, RULES_AT + 4 * r),
+        at_most(MAX_CONSTRUCTS, end_of(table, r)),
     )
 }
 
 // The uses of every rule.
-pub fn fill(table: &[u32], rows: &mut [u64; 64])
-    requires { ⌜ length (now rows) ≡ 64 ⌝ }
+pub fn fill(table: &[u32], rows: &mut [u64; MAX_RULES])
+    requires { ⌜ length (now rows) ≡ max-rules ⌝ }
     ensures { λ r. ⌜ Matrix (now (rows .exit)) (uses (now (table .entry))) ⌝ }
 {
     let mut r = 0;
-    while r < 64 {
+    while r < MAX_RULES {
         rows[r] = row_of(table, r);
         r += 1;
     }
@@ -105,7 +109,7 @@ pub fn fill(table: &[u32], rows: &mut [u64; 64])
 
 // A row that reaches k reaches all that row k, `via`, reaches.
 fn mended(row: u64, via: u64, k: usize) -> u64
-    requires { ⌜ k < 64 ⌝ }
+    requires { ⌜ k < max-rules ⌝ }
     ensures { λ r. ⌜ ((q : ℕ) → bit r q ≡ max (bit row q) (min (bit row k) (bit via q))) ⌝ }
 {
     if has(row, k) {
@@ -114,35 +118,35 @@ fn mended(row: u64, via: u64, k: usize) -> u64
     row
 }
 
-fn through(rows: &mut [u64; 64], via: u64, k: usize)
-    requires { ⌜ (length (now rows) ≡ 64) × (k < 64) ⌝ }
-    ensures { λ r. ⌜ Mended (now (rows .entry)) (now (rows .exit)) via k 64 ⌝ }
+fn through(rows: &mut [u64; MAX_RULES], via: u64, k: usize)
+    requires { ⌜ (length (now rows) ≡ max-rules) × (k < max-rules) ⌝ }
+    ensures { λ r. ⌜ Mended (now (rows .entry)) (now (rows .exit)) via k max-rules ⌝ }
 {
     let mut i = 0;
-    while i < 64 {
+    while i < MAX_RULES {
         rows[i] = mended(rows[i], via, k);
         i += 1;
     }
 }
 
 // Warshall's closure, in place.
-pub fn close(rows: &mut [u64; 64])
-    requires { ⌜ length (now rows) ≡ 64 ⌝ }
-    ensures { λ r. ⌜ ((u : ℕ → ℕ → ℕ) → Matrix (now (rows .entry)) u → Matrix (now (rows .exit)) (closure u 64)) ⌝ }
+pub fn close(rows: &mut [u64; MAX_RULES])
+    requires { ⌜ length (now rows) ≡ max-rules ⌝ }
+    ensures { λ r. ⌜ ((u : ℕ → ℕ → ℕ) → Matrix (now (rows .entry)) u → Matrix (now (rows .exit)) (closure u max-rules)) ⌝ }
 {
     let mut k = 0;
-    while k < 64 {
+    while k < MAX_RULES {
         let via = rows[k];
         through(rows, via, k);
         k += 1;
     }
 }
 
-pub fn first_on_diagonal(rows: &[u64; 64]) -> Recursion
+pub fn first_on_diagonal(rows: &[u64; MAX_RULES]) -> Recursion
     ensures { λ r. ⌜ Diagonal (now (rows .entry)) r ⌝ }
 {
     let mut r = 0;
-    while r < 64 {
+    while r < MAX_RULES {
         if has(rows[r], r) {
             return Recursion::Rule(r);
         }

@@ -66,7 +66,7 @@ module _ {ws : List ℕ} (l : Laid ws) where
   unfolding held
   scoped i =
       picked (Scoped store (scope-of ws) i) (eqb i opening)
-      (λ t. let e : i ≡ 256 = eqb-true i opening t in (unbound i (omega (arith, l .counts .constructs)), λ c c′ v x z h. refl))
+      (λ t. let e : i ≡ opening = eqb-true i opening t in (unbound i (omega (arith, l .counts .constructs)), λ c c′ v x z h. refl))
       (λ t. scoped-construct i)
 
   -- an opening leaves a rule its number of variables, which are all that its body sees

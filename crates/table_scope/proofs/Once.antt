@@ -12,7 +12,7 @@ use Rattle.theory.specs.Scope.{MayBind}
 use Rattle.theory.proofs.Turns.{decide}
 use Rattle.table_layout.specs.Places.{construct-count, variable-word}
 use Rattle.table_layout.specs.Constructs.{constructAt}
-use Rattle.table_layout.specs.Held.{Context, held}
+use Rattle.table_layout.specs.Held.{Context, held, opening}
 use Rattle.table_wellformed.specs.Checks.{size-at}
 use Rattle.table_wellformed.specs.Rules.{body, rule-end, binder-of}
 use Rattle.table_reach.specs.Reaching.{Uses, Reaches, directly, through, Acyclic}
@@ -77,7 +77,7 @@ module _ {ws : List ℕ} (l : Laid ws) where
   children : (r i : ℕ) → Stands ws r i → Each (Child ws i) (held ws .node i)
   children r i s =
       let h : i < construct-count ws = stands-within l r i s
-      in held-children ws (ruled-of l) (Child ws i) i (λ e. let f : i ≡ 256 = e in absurd (omega (arith, l .counts .constructs))) (λ k c. c)
+      in held-children ws (ruled-of l) (Child ws i) i (λ e. let f : i ≡ opening = e in absurd (omega (arith, l .counts .constructs))) (λ k c. c)
 
   place : {c : Context} (r i x : ℕ) → Stands ws r i → i + size-at ws i ≤ rule-end ws r 0 → Below ws c i x → Place ws r i x
   place r i x s whole (MayBind.itself m e) = behind i (omega arith) s (subst (λ (y : ℕ). y ∈ bound-at ws i) (sym e) m)

@@ -6,6 +6,7 @@ use mathlib.Core.Bool.{Bool, true, false}
 use mathlib.Core.List.{List, [], _∷_}
 use lib.Dec.{ltb}
 use lib.IntN.{ℤ, pos}
+use Rattle.basis.specs.Limits.{max-variables, max-width}
 use Rattle.term_words.specs.declared.Kind.{Kind}
 use Rattle.term_sizes.specs.Sizes.{sizes, countSizes}
 use Rattle.term_sizes.specs.declared.Sized.{Sized}
@@ -16,18 +17,18 @@ use Rattle.table_layout.specs.declared.Construct.{Construct}
 use Rattle.table_layout.specs.declared.Passes.{Passes}
 use Rattle.table_wellformed.specs.Checks.{either}
 
--- "variables at their widest": the largest number of a width, which is at most 32
+-- "variables at their widest": the largest number of a width within the limit
 abbrev pub largest : ℕ → ℤ
-largest width = pos (2 ^ min 32 width - 1)
+largest width = pos (2 ^ min max-width width - 1)
 
 -- n variables from x on
 unfoldable pub widest-from : ℕ → List ℕ → ℕ → List ℤ
 widest-from zero ws x = []
 widest-from (suc n) ws x = largest (variable-word ws x 1) ∷ widest-from n ws (x + 1)
 
--- the 64 variables
+-- every variable
 abbrev pub widest : List ℕ → List ℤ
-widest ws = widest-from 64 ws 0
+widest ws = widest-from max-variables ws 0
 
 -- the sizes in a construct's condition, where it has one
 abbrev pub condition-size : List ℕ → ℕ → Sized

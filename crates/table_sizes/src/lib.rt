@@ -3,9 +3,12 @@ ghost use mathlib.Core.Path.{_≡_};
 ghost use mathlib.Core.Bool.{true};
 ghost use Prim.Native.Nat.{ℕ, _≤_, _<_};
 ghost use lib.ListN.{length};
+ghost use Rattle.basis.specs.Limits.{table-words};
 ghost use Rattle.table_layout.specs.Places.{construct-count};
 ghost use Rattle.table_layout.specs.Constructs.{constructAt};
 ghost use Rattle.table_sizes.specs.Measures.{largest as largestOf, widest as widestOf, condition-size, counts-size, own-size, exceeds as exceedsOf, oversized as oversizedOf, LeastOf};
+use basis::MAX_VARIABLES;
+use basis::MAX_WIDTH;
 use table_layout::Construct;
 use table_layout::Passes;
 use table_layout::construct_at;
@@ -25,7 +28,7 @@ use term_words::Kind;
 fn largest(width: usize) -> i64
     ensures { λ r. ⌜ r ≡ largestOf width ⌝ }
 {
-    if width < 32 {
+    if width < MAX_WIDTH {
         return signed(power(width as u64) - 1);
     }
     signed(4294967295)
@@ -33,15 +36,15 @@ fn largest(width: usize) -> i64
 
 // The size of each variable.
 pub struct Extents {
-    pub sizes: [i64; 64],
+    pub sizes: [i64; MAX_VARIABLES],
 }
 
 pub fn widest(table: &[u32]) -> Extents
     ensures { λ r. ⌜ r .sizes ≡ widestOf (now (table .entry)) ⌝ }
 {
-    let mut sizes = [0i64; 64];
+    let mut sizes = [0i64; MAX_VARIABLES];
     let mut x = 0;
-    while x < 64 {
+    while x < MAX_VARIABLES {
         sizes[x] = largest(variable_word(table, x, 1));
         x += 1;
     }
@@ -49,8 +52,8 @@ pub fn widest(table: &[u32]) -> Extents
 }
 
 // The sizes in a construct's condition.
-pub fn condition_sizes(table: &[u32], widest: &[i64; 64], i: usize) -> Sized
-    requires { ⌜ (16384 ≤ length (now table)) × (i ≤ 4294967296) × (now widest ≡ widestOf (now table)) ⌝ }
+pub fn condition_sizes(table: &[u32], widest: &[i64; MAX_VARIABLES], i: usize) -> Sized
+    requires { ⌜ (table-words ≤ length (now table)) × (i ≤ 4294967296) × (now widest ≡ widestOf (now table)) ⌝ }
     ensures { λ r. ⌜ r ≡ condition-size (now (table .entry)) i ⌝ }
 {
     let start = construct_word(table, i, 6);
@@ -61,8 +64,8 @@ pub fn condition_sizes(table: &[u32], widest: &[i64; 64], i: usize) -> Sized
     Sized::Passes
 }
 
-fn counts_sizes(table: &[u32], widest: &[i64; 64], passes: Passes) -> Sized
-    requires { ⌜ (16384 ≤ length (now table)) × (now widest ≡ widestOf (now table)) ⌝ }
+fn counts_sizes(table: &[u32], widest: &[i64; MAX_VARIABLES], passes: Passes) -> Sized
+    requires { ⌜ (table-words ≤ length (now table)) × (now widest ≡ widestOf (now table)) ⌝ }
     ensures { λ r. ⌜ r ≡ counts-size (now (table .entry)) passes ⌝ }
 {
     match passes {
@@ -73,8 +76,8 @@ fn counts_sizes(table: &[u32], widest: &[i64; 64], passes: Passes) -> Sized
     }
 }
 
-fn list_sizes(table: &[u32], widest: &[i64; 64], construct: Construct) -> Sized
-    requires { ⌜ (16384 ≤ length (now table)) × (now widest ≡ widestOf (now table)) ⌝ }
+fn list_sizes(table: &[u32], widest: &[i64; MAX_VARIABLES], construct: Construct) -> Sized
+    requires { ⌜ (table-words ≤ length (now table)) × (now widest ≡ widestOf (now table)) ⌝ }
     ensures { λ r. ⌜ r ≡ own-size (now (table .entry)) construct ⌝ }
 {
     match construct {
@@ -97,8 +100,8 @@ fn list_sizes(table: &[u32], widest: &[i64; 64], construct: Construct) -> Sized
 }
 
 // The sizes in its own list of terms.
-pub fn own_sizes(table: &[u32], widest: &[i64; 64], i: usize) -> Sized
-    requires { ⌜ (16384 ≤ length (now table)) × (now widest ≡ widestOf (now table)) ⌝ }
+pub fn own_sizes(table: &[u32], widest: &[i64; MAX_VARIABLES], i: usize) -> Sized
+    requires { ⌜ (table-words ≤ length (now table)) × (now widest ≡ widestOf (now table)) ⌝ }
     ensures { λ r. ⌜ r ≡ own-size (now (table .entry)) (constructAt (now (table .entry)) i) ⌝ }
 {
     list_sizes(table, widest, construct_at(table, i))
@@ -115,8 +118,8 @@ fn exceeds(sized: Sized) -> bool
 }
 
 // Whether a size in one of its lists may pass 2^62.
-fn oversized(table: &[u32], widest: &[i64; 64], i: usize) -> bool
-    requires { ⌜ (16384 ≤ length (now table)) × (i ≤ 4294967296) × (now widest ≡ widestOf (now table)) ⌝ }
+fn oversized(table: &[u32], widest: &[i64; MAX_VARIABLES], i: usize) -> bool
+    requires { ⌜ (table-words ≤ length (now table)) × (i ≤ 4294967296) × (now widest ≡ widestOf (now table)) ⌝ }
     ensures { λ r. ⌜ r ≡ oversizedOf (now (table .entry)) i ⌝ }
 {
     either(
@@ -127,15 +130,15 @@ fn oversized(table: &[u32], widest: &[i64; 64], i: usize) -> bool
 
 // The first construct with such a size; their number where there is none.
 pub fn first_oversized(table: &[u32]) -> usize
-    requires { ⌜ 16384 ≤ length (now table) ⌝ }
+    requires { ⌜ table-words ≤ length (now table) ⌝ }
     ensures { λ r. ⌜ LeastOf (λ (i : ℕ). oversizedOf (now (table .entry)) i ≡ true) (construct-count (now (table .entry))) r ⌝ }
 {
     let sizes = widest(table).sizes;
     search(table, &sizes)
 }
 
-fn search(table: &[u32], widest: &[i64; 64]) -> usize
-    requires { ⌜ (16384 ≤ length (now table)) × (now widest ≡ widestOf (now table)) ⌝ }
+fn search(table: &[u32], widest: &[i64; MAX_VARIABLES]) -> usize
+    requires { ⌜ (table-words ≤ length (now table)) × (now widest ≡ widestOf (now table)) ⌝ }
     ensures { λ r. ⌜ LeastOf (λ (i : ℕ). oversizedOf (now (table .entry)) i ≡ true) (construct-count (now (table .entry))) r ⌝ }
 {
     let count = word(table, 2);

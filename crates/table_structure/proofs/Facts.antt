@@ -9,6 +9,7 @@ use native.Mathlib.Omega.{arith}
 use borrow.Author.Tests.{leb-true, eqb-true, eqb-false, ltb-true, ltb-false}
 use lib.Dec.{leb, ltb, eqb}
 use lib.ListN.{length}
+use Rattle.basis.specs.Limits.{max-literal-bytes, max-weight}
 use Rattle.theory.proofs.Turns.{decide}
 use Rattle.table_layout.specs.Places.{table-words, rules-at, mark-of, weight-of, rule-count, construct-count, term-count, rule-word}
 use Rattle.table_layout.specs.Constructs.{both, constructAt}
@@ -61,7 +62,7 @@ pub record Laid (ws : List ℕ) : Type 0 where
   pub start-variables : rule-word ws 0 1 ≡ 0
   pub rule : (r : ℕ) → r < rule-count ws → rule-laid ws r ≡ true
   pub kind : (i : ℕ) → i < construct-count ws → kind-laid ws i (constructAt ws i) ≡ true
-  pub bytes : (i : ℕ) → i < construct-count ws → from-to 0 32 (byte-laid ws i (literal-length (constructAt ws i))) ≡ true
+  pub bytes : (i : ℕ) → i < construct-count ws → from-to 0 max-literal-bytes (byte-laid ws i (literal-length (constructAt ws i))) ≡ true
   pub condition : (i : ℕ) → i < construct-count ws → condition-formed ws i ≡ true
   pub lists : lists-laid ws ≡ true
   pub term : (t : ℕ) → t < term-count ws → term-laid ws t ≡ true
@@ -89,7 +90,7 @@ facts ws h =
     in let X : Bool = eqb (rule-word ws 0 1) 0
     in let R : Bool = from-to 0 (rule-count ws) (rule-laid ws)
     in let M : Bool = eqb (mark-of ws) 1399811687
-    in let W : Bool = limited 1 (weight-of ws) 65535
+    in let W : Bool = limited 1 (weight-of ws) max-weight
     in let H : Bool = all-zero ws 6 rules-at
     in let header : both (both M (counts-limited ws)) (both W H) ≡ true = both-first (headed ws) (both P (names-laid ws)) after-length
     in let starts : both B X ≡ true = both-first (both B X) R rules
@@ -102,15 +103,15 @@ facts ws h =
       start-body = eqb-true (body ws 0) 0 (both-first B X starts);
       start-variables = eqb-true (rule-word ws 0 1) 0 (both-second B X starts);
       rule = λ r l. each (rule-laid ws) (rule-count ws) 0 r (both-second (both B X) R rules) (omega arith) l;
-      kind = λ i l. both-first (kind-laid ws i (constructAt ws i)) (both (from-to 0 32 (byte-laid ws i (literal-length (constructAt ws i)))) (condition-formed ws i)) (each (construct-laid ws) (construct-count ws) 0 i constructs (omega arith) l);
+      kind = λ i l. both-first (kind-laid ws i (constructAt ws i)) (both (from-to 0 max-literal-bytes (byte-laid ws i (literal-length (constructAt ws i)))) (condition-formed ws i)) (each (construct-laid ws) (construct-count ws) 0 i constructs (omega arith) l);
       bytes =
           λ i l.
-          both-first (from-to 0 32 (byte-laid ws i (literal-length (constructAt ws i)))) (condition-formed ws i)
-          (both-second (kind-laid ws i (constructAt ws i)) (both (from-to 0 32 (byte-laid ws i (literal-length (constructAt ws i)))) (condition-formed ws i)) (each (construct-laid ws) (construct-count ws) 0 i constructs (omega arith) l));
+          both-first (from-to 0 max-literal-bytes (byte-laid ws i (literal-length (constructAt ws i)))) (condition-formed ws i)
+          (both-second (kind-laid ws i (constructAt ws i)) (both (from-to 0 max-literal-bytes (byte-laid ws i (literal-length (constructAt ws i)))) (condition-formed ws i)) (each (construct-laid ws) (construct-count ws) 0 i constructs (omega arith) l));
       condition =
           λ i l.
-          both-second (from-to 0 32 (byte-laid ws i (literal-length (constructAt ws i)))) (condition-formed ws i)
-          (both-second (kind-laid ws i (constructAt ws i)) (both (from-to 0 32 (byte-laid ws i (literal-length (constructAt ws i)))) (condition-formed ws i)) (each (construct-laid ws) (construct-count ws) 0 i constructs (omega arith) l));
+          both-second (from-to 0 max-literal-bytes (byte-laid ws i (literal-length (constructAt ws i)))) (condition-formed ws i)
+          (both-second (kind-laid ws i (constructAt ws i)) (both (from-to 0 max-literal-bytes (byte-laid ws i (literal-length (constructAt ws i)))) (condition-formed ws i)) (each (construct-laid ws) (construct-count ws) 0 i constructs (omega arith) l));
       lists = both-first (lists-laid ws) T terms;
       term = λ t l. each (term-laid ws) (term-count ws) 0 t (both-second (lists-laid ws) T terms) (omega arith) l;
       binders = λ r l. both-first (binders-laid ws r) (uses-laid ws r) (each (λ q. both (binders-laid ws q) (uses-laid ws q)) (rule-count ws) 0 r names (omega arith) l);

@@ -10,6 +10,7 @@ use native.Mathlib.Omega.{arith}
 use borrow.Author.Tests.{ltb-true, eqb-true}
 use lib.Dec.{ltb, eqb}
 use lib.ListN.{length}
+use Rattle.basis.specs.Limits.{max-constructs}
 use Rattle.basis.specs.Bits.{Bits}
 use Rattle.theory.specs.Grammar.{alternative, concatenation, repetition, switch, use-of, field, eod}
 use Rattle.theory.proofs.Turns.{decide}
@@ -82,7 +83,7 @@ pub present : {ws : List ℕ} → Laid ws → (i : ℕ) → i < construct-count 
 present {ws} l i h e = let f : kind-laid ws i Construct.Missing ≡ true = rw e at (l .kind i h) in let z : _≡_ {A = ℕ} 0 1 = cc in omega arith
 
 -- a construct past the count is missing
-zero-word : {ws : List ℕ} → Laid ws → (i k : ℕ) → construct-count ws ≤ i → i < 256 → k < 8 → construct-word ws i k ≡ 0
+zero-word : {ws : List ℕ} → Laid ws → (i k : ℕ) → construct-count ws ≤ i → i < max-constructs → k < 8 → construct-word ws i k ≡ 0
 zero-word {ws} l i k past room small =
     let R : Bool = all-zero ws (rules-at + 4 * rule-count ws) variables-at
     in let X : Bool = all-zero ws (variables-at + 4 * variable-count ws) constructs-at
@@ -99,9 +100,9 @@ missing-zero i a b c d = refl
 pub missing-past : {ws : List ℕ} → Laid ws → (i : ℕ) → construct-count ws ≤ i → constructAt ws i ≡ Construct.Missing
 unfolding constructAt
 missing-past {ws} l i past =
-    elim (decide (ltb i 256)) [
+    elim (decide (ltb i max-constructs)) [
       | inl t ↦
-          let room : i < 256 = ltb-true i 256 t
+          let room : i < max-constructs = ltb-true i max-constructs t
           in rw (t, zero-word l i 0 past room (omega arith), zero-word l i 1 past room (omega arith)) (missing-zero i (construct-word ws i 2) (construct-word ws i 3) (construct-word ws i 4) (construct-word ws i 5))
       | inr t ↦ rw t
     ]

@@ -8,6 +8,7 @@ use mathlib.Core.Path.{_≡_, refl, sym, ap, _∙_}
 use mathlib.Core.List.{List}
 use borrow.Author.Tests.{ne-eqb}
 use lib.Dec.{eqb}
+use Rattle.basis.specs.Limits.{max-constructs}
 use Rattle.theory.specs.Weight.{weigh, Weighs}
 use Rattle.table_layout.specs.Places.{rule-count, construct-count}
 use Rattle.table_layout.specs.Constructs.{pick}
@@ -35,17 +36,17 @@ rounds ws (suc n) i = weigh (λ c j. rounds ws n j) first-context (held ws .node
 
 -- rounds enough
 abbrev pub limit : List ℕ → ℕ
-limit ws = 257 + total (rule-count ws) all (rule-size ws)
+limit ws = max-constructs + 1 + total (rule-count ws) all (rule-size ws)
 
 abbrev pub weight-at : List ℕ → ℕ → ℕ
 weight-at ws i = rounds ws (suc (limit ws)) i
 
 module _ (ws : List ℕ) (ruled : Ruled ws) (acyclic : Acyclic ws) where
   -- what stands below is lower, and is a construct
-  pub child-lower : (i k : ℕ) → Child ws i k → (height ws k < height ws i) × (k < 256)
+  pub child-lower : (i k : ℕ) → Child ws i k → (height ws k < height ws i) × (k < max-constructs)
   child-lower i k (Child.inside a b c) = (
     omega (arith, spread-inside ws ruled (rule-size ws) i k (omega arith) b),
-    elim (decLt k 256) [
+    elim (decLt k max-constructs) [
       | yes h ↦ h
       | no h ↦ let e : size-at ws k ≡ 0 = ap size-of (missing-past ws k (omega arith)) in absurd (omega arith)
     ],
@@ -68,7 +69,7 @@ module _ (ws : List ℕ) (ruled : Ruled ws) (acyclic : Acyclic ws) where
   unfolding depth
   depth-opening = refl
 
-  pub start-there : body-of ws 0 < 256
+  pub start-there : body-of ws 0 < max-constructs
   start-there = omega (arith, ruled .body-there 0 (omega (arith, ruled .some-rule)), ruled .constructs-most)
 
   child-depth : (i k : ℕ) → Child ws i k → depth k < depth i
@@ -110,7 +111,7 @@ module _ (ws : List ℕ) (ruled : Ruled ws) (acyclic : Acyclic ws) where
       weigh-equal (λ c j. rounds ws n j) (λ c j. rounds ws (suc n) j) (held ws .node i)
       (each-map (λ k. (m : ℕ) × (n ≡ suc m) × (rounds ws (suc m) k ≡ rounds ws (suc (suc m)) k)) (λ k. rounds ws n k ≡ rounds ws (suc n) k) (λ k b. rw (b .1) (b .2)) (held ws .node i) below))
 
-  height-most : (i : ℕ) → i < 256 → height ws i ≤ 256 + total (rule-count ws) all (rule-size ws)
+  height-most : (i : ℕ) → i < max-constructs → height ws i ≤ max-constructs + total (rule-count ws) all (rule-size ws)
   height-most i h = omega (arith, size-within ws i h, spread-most ws ruled (rule-size ws) i)
 
   depth-most : (i : ℕ) → depth i ≤ limit ws

@@ -9,6 +9,7 @@ use mathlib.Core.Bool.{Bool, true, false}
 use mathlib.Core.List.{List, [], _∷_}
 use borrow.Author.Tests.{lt-ltb, le-ltb, eq-eqb, ne-eqb}
 use lib.ListN.{getD}
+use Rattle.basis.specs.Limits.{max-weight}
 use Rattle.theory.specs.Weight.{weigh}
 use Rattle.table_layout.specs.Constructs.{constructAt}
 use Rattle.table_layout.specs.Held.{first-context, parts, node-of}
@@ -100,7 +101,7 @@ module _ (ws : List ℕ) (f : ℕ → ℕ) (adds : Bool) (first end : ℕ) where
       ∙ ap (λ (x : ℕ). capped (joined adds s x)) (sym (gathered-more adds f j (parts end ws k end)) ∙ ap (gathered adds f) (sym e ∙ parts-fuel ws end (end + 1) end j (omega arith) (omega arith)))
       ∙ g
 
-  pub gathering-all : (j s : ℕ) → Gathering j s → end ≤ j → s ≤ 65536 → (n : ℕ) → end ≤ first + n → s ≡ capped (gathered adds f (parts n ws first end))
+  pub gathering-all : (j s : ℕ) → Gathering j s → end ≤ j → s ≤ (max-weight + 1) → (n : ℕ) → end ≤ first + n → s ≡ capped (gathered adds f (parts n ws first end))
   gathering-all j s g h l n m =
       (let e : s ≡ capped s = omega arith in e)
       ∙ ap capped (sym (joined-none adds s) ∙ ap (joined adds s) (sym (gathered-none adds f) ∙ ap (gathered adds f) (sym (parts-past ws end end j h))))

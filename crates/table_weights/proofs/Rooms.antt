@@ -10,6 +10,7 @@ use mathlib.Core.List.{List, [], _∷_}
 use borrow.Author.Tests.{lt-ltb, le-ltb, ne-eqb}
 use lib.Dec.{eqb}
 use lib.ListN.{length}
+use Rattle.basis.specs.Limits.{max-constructs, max-entries}
 use Rattle.theory.specs.Weight.{largest, members-room, room, Houses}
 use Rattle.table_layout.specs.Places.{rule-count, construct-count}
 use Rattle.table_layout.specs.Constructs.{pick, constructAt}
@@ -77,7 +78,7 @@ module _ (ws : List ℕ) (ruled : Ruled ws) (acyclic : Acyclic ws) where
           let f : rule-end ws r ≡ construct-count ws = rw (le-ltb (r + 1) (rule-count ws) (omega arith)) refl in
           omega (arith, ruled .body-whole r (omega arith), sizes-before r (omega arith))
 
-  module _ (c : Context) (i : ℕ) (here : i < 256) where
+  module _ (c : Context) (i : ℕ) (here : i < max-constructs) where
     -- a part has less room than its construct
     inside-most : (k : ℕ) → Child ws i k → rooms ws c k ≤ max 1 (height ws i)
     inside-most k ch = let l = child-lower ws ruled acyclic i k ch in omega (arith, l .0, rooms-of ws c k (λ e. omega (arith, l .1)))
@@ -134,6 +135,6 @@ module _ (ws : List ℕ) (ruled : Ruled ws) (acyclic : Acyclic ws) where
       go (no a) (no b) = let e : i ≡ opening = omega arith in rw (e, held-opening ws) (housed-opening c)
 
   -- "the list is longer than 256" never comes from an opening
-  pub opening-room : rooms ws first-context opening ≤ 256
+  pub opening-room : rooms ws first-context opening ≤ max-entries
   opening-room =
       omega (arith, rooms-opening ws first-context, spread-body ws ruled acyclic (rule-size ws) 0 (omega (arith, ruled .some-rule)), sizes-all, ruled .constructs-most)

@@ -8,6 +8,7 @@ use mathlib.Core.Path.{_≡_, sym, ap, ap₂, subst, _∙_}
 use mathlib.Core.List.{List}
 use lib.ListN.{length, getD, set, replicate, length-set, length-replicate, getD-replicate}
 use lib.Seq.{getD-set-same, getD-set-other}
+use Rattle.basis.specs.Limits.{max-rules, max-constructs, max-weight}
 use Rattle.theory.specs.Weight.{largest, weigh, Weighs}
 use Rattle.table_layout.specs.Places.{rule-count, construct-count}
 use Rattle.table_layout.specs.Constructs.{constructAt}
@@ -31,19 +32,19 @@ module _ (ws : List ℕ) (ruled : Ruled ws) (acyclic : Acyclic ws) (weight : Con
   abbrev Right : List ℕ → ℕ → Type 0
   Right xs i = getD xs i 0 ≡ capped (weight first-context i)
 
-  weight-node : (i : ℕ) → i < 256 → weight first-context i ≡ weigh weight first-context (node-of ws i (constructAt ws i))
+  weight-node : (i : ℕ) → i < max-constructs → weight first-context i ≡ weigh weight first-context (node-of ws i (constructAt ws i))
   weight-node i h = weighs first-context i ∙ ap (weigh weight first-context) (held-node ws i (λ e. omega arith))
 
-  weight-missing : (i : ℕ) → i < 256 → construct-count ws ≤ i → weight first-context i ≡ 1
+  weight-missing : (i : ℕ) → i < max-constructs → construct-count ws ≤ i → weight first-context i ≡ 1
   unfolding weigh node-of largest
   weight-missing i h l = weight-node i h ∙ ap (λ (x : Construct). weigh weight first-context (node-of ws i x)) (ruled .none-after i l)
 
   -- during sweep n: constructs from m on are done
   pub record State (n m : ℕ) (xs : List ℕ) : Type 0 where
-    pub many : length xs ≡ 256
-    pub before : (i : ℕ) → i < 256 → rank ws i < n → Right xs i
-    pub now : (i : ℕ) → i < 256 → m ≤ i → rank ws i ≤ n → Right xs i
-    pub rest : (i : ℕ) → i < 256 → construct-count ws ≤ i → Right xs i
+    pub many : length xs ≡ max-constructs
+    pub before : (i : ℕ) → i < max-constructs → rank ws i < n → Right xs i
+    pub now : (i : ℕ) → i < max-constructs → m ≤ i → rank ws i ≤ n → Right xs i
+    pub rest : (i : ℕ) → i < max-constructs → construct-count ws ≤ i → Right xs i
 
   module _ (n i : ℕ) (xs : List ℕ) (state : State n (suc i) xs) (here : i < construct-count ws) where
     child-right : rank ws i ≤ n → (k : ℕ) → Child ws i k → Right xs k
@@ -56,8 +57,8 @@ module _ (ws : List ℕ) (ruled : Ruled ws) (acyclic : Acyclic ws) (weight : Con
 
     weighed-right : rank ws i ≤ n → weighed ws xs i ≡ capped (weight first-context i)
     weighed-right h =
-        weigh-same 65536 (λ c j. getD xs j 0) weight (node-of ws i (constructAt ws i))
-        (children ws i (λ k. min 65536 (getD xs k 0) ≡ min 65536 (weight first-context k)) (λ k c. let r : getD xs k 0 ≡ min 65536 (weight first-context k) = child-right h k c in omega arith) ruled)
+        weigh-same (max-weight + 1) (λ c j. getD xs j 0) weight (node-of ws i (constructAt ws i))
+        (children ws i (λ k. min (max-weight + 1) (getD xs k 0) ≡ min (max-weight + 1) (weight first-context k)) (λ k c. let r : getD xs k 0 ≡ min (max-weight + 1) (weight first-context k) = child-right h k c in omega arith) ruled)
         ∙ ap capped (sym (weight-node i (omega (arith, ruled .constructs-most))))
 
     stored : (j : ℕ) → (j ≡ i → rank ws i ≤ n) → ((j ≡ i → ⊥) → Right xs j) → Right (set xs i (weighed ws xs i)) j
@@ -96,22 +97,22 @@ module _ (ws : List ℕ) (ruled : Ruled ws) (acyclic : Acyclic ws) (weight : Con
       subst (λ (m : ℕ). State m (construct-count ws) (settled ws (construct-count ws) k (swept ws (construct-count ws) xs))) e
       (settle-right k (suc n) (swept ws (construct-count ws) xs) (sweep-done n (swept ws (construct-count ws) xs) (sweep-right n (construct-count ws) xs (omega arith) s)))
 
-  first-state : State 0 (construct-count ws) (replicate 256 1)
+  first-state : State 0 (construct-count ws) (replicate max-constructs 1)
   first-state =
       record {
-        many = length-replicate {A = ℕ} 256 1;
+        many = length-replicate {A = ℕ} max-constructs 1;
         before = λ i h l. absurd (omega arith);
         now = λ i h m l. missing i h m;
         rest = missing;
       }
     where
-      missing : (i : ℕ) → i < 256 → construct-count ws ≤ i → Right (replicate 256 1) i
-      missing i h m = getD-replicate {A = ℕ} 256 i 1 0 h ∙ ap capped (sym (weight-missing i h m))
+      missing : (i : ℕ) → i < max-constructs → construct-count ws ≤ i → Right (replicate max-constructs 1) i
+      missing i h m = getD-replicate {A = ℕ} max-constructs i 1 0 h ∙ ap capped (sym (weight-missing i h m))
 
-  final : State (0 + (rule-count ws + 1)) (construct-count ws) (settled ws (construct-count ws) (rule-count ws + 1) (replicate 256 1))
-  final = settle-right (rule-count ws + 1) 0 (replicate 256 1) first-state
+  final : State (0 + (rule-count ws + 1)) (construct-count ws) (settled ws (construct-count ws) (rule-count ws + 1) (replicate max-constructs 1))
+  final = settle-right (rule-count ws + 1) 0 (replicate max-constructs 1) first-state
 
-  all-right : (i : ℕ) → i < 256 → Right (settled ws (construct-count ws) (rule-count ws + 1) (replicate 256 1)) i
+  all-right : (i : ℕ) → i < max-constructs → Right (settled ws (construct-count ws) (rule-count ws + 1) (replicate max-constructs 1)) i
   all-right i h = final .before i h (omega (arith, spread-most ws ruled (λ q. 1) i, total-ones (rule-count ws)))
 
   weight-opening : weight first-context opening ≡ 1 + weight first-context (body-of ws 0)
@@ -120,12 +121,12 @@ module _ (ws : List ℕ) (ruled : Ruled ws) (acyclic : Acyclic ws) (weight : Con
 
 -- the list that the function makes
 abbrev pub made : List ℕ → List ℕ
-made ws = settled ws (min 256 (construct-count ws)) (min 64 (rule-count ws) + 1) (replicate 256 1)
+made ws = settled ws (min max-constructs (construct-count ws)) (min max-rules (rule-count ws) + 1) (replicate max-constructs 1)
 
 pub made-right : (ws : List ℕ) → Weights ws (made ws)
 made-right ws ruled acyclic weight weighs i h =
-    let a : min 256 (construct-count ws) ≡ construct-count ws = omega (arith, ruled .constructs-most) in
-    let b : min 64 (rule-count ws) ≡ rule-count ws = omega (arith, ruled .rules-most) in
+    let a : min max-constructs (construct-count ws) ≡ construct-count ws = omega (arith, ruled .constructs-most) in
+    let b : min max-rules (rule-count ws) ≡ rule-count ws = omega (arith, ruled .rules-most) in
     rw (a, b) (all-right ws ruled acyclic weight weighs i h)
 
 pub grammar-right : (ws : List ℕ) (n g : ℕ) → n ≡ getD (made ws) (body-of ws 0) 0 → g ≡ capped (1 + n) → Weight ws g
@@ -135,8 +136,8 @@ grammar-right ws n g e f ruled acyclic weight weighs =
     let o : weight first-context opening ≡ 1 + weight first-context (body-of ws 0) = weight-opening ws ruled acyclic weight weighs in
     omega arith
 
-pub made-all : (ws xs : List ℕ) (n k b g : ℕ) → xs ≡ settled ws n (k + 1) (replicate 256 1) → n ≡ min 256 (construct-count ws) → k ≡ min 64 (rule-count ws)
+pub made-all : (ws xs : List ℕ) (n k b g : ℕ) → xs ≡ settled ws n (k + 1) (replicate max-constructs 1) → n ≡ min max-constructs (construct-count ws) → k ≡ min max-rules (rule-count ws)
     → b ≡ getD xs (body-of ws 0) 0 → g ≡ capped (1 + b) → Weights ws xs × Weight ws g
 made-all ws xs n k b g e f h o p =
-    let m : xs ≡ made ws = e ∙ ap₂ (λ (x y : ℕ). settled ws x (y + 1) (replicate 256 1)) f h in
+    let m : xs ≡ made ws = e ∙ ap₂ (λ (x y : ℕ). settled ws x (y + 1) (replicate max-constructs 1)) f h in
     (subst (Weights ws) (sym m) (made-right ws), grammar-right ws b g (o ∙ ap (λ (l : List ℕ). getD l (body-of ws 0) 0) m) p)

@@ -6,6 +6,7 @@ use mathlib.Core.Path.{_≡_}
 use mathlib.Core.Logic.{_↔_}
 use mathlib.Core.List.{List}
 use lib.ListN.{getD}
+use Rattle.basis.specs.Limits.{max-constructs, max-weight, max-entries}
 use Rattle.theory.specs.Weight.{Weighs, Houses}
 use Rattle.table_layout.specs.Held.{Context, first-context, held, opening}
 use Rattle.table_reach.specs.Reaching.{Acyclic}
@@ -24,19 +25,19 @@ module _ (ws : List ℕ) (ruled : Ruled ws) (acyclic : Acyclic ws) where
   weights-unique = unique ws ruled acyclic
 
   -- what the function's answer says of them
-  pub entry-weight : (xs : List ℕ) → Weights ws xs → (i : ℕ) → i < 256 → getD xs i 0 ≡ capped (weight-at ws i)
+  pub entry-weight : (xs : List ℕ) → Weights ws xs → (i : ℕ) → i < max-constructs → getD xs i 0 ≡ capped (weight-at ws i)
   entry-weight xs a = a ruled acyclic (λ c i. weight-at ws i) weights-exist
 
   pub grammar-weight : (n : ℕ) → Weight ws n → n ≡ capped (weight-at ws opening)
   grammar-weight n a = a ruled acyclic (λ c i. weight-at ws i) weights-exist
 
   -- refusal 11: "weight over 65,535"
-  pub within-limit : (n : ℕ) → Weight ws n → n ≤ 65535 → n ≡ weight-at ws opening
+  pub within-limit : (n : ℕ) → Weight ws n → n ≤ max-weight → n ≡ weight-at ws opening
   within-limit n a h = omega (arith, grammar-weight n a)
 
-  pub over-limit : (n : ℕ) → Weight ws n → (65535 < n) ↔ (65535 < weight-at ws opening)
+  pub over-limit : (n : ℕ) → Weight ws n → (max-weight < n) ↔ (max-weight < weight-at ws opening)
   over-limit n a = (λ h. omega (arith, grammar-weight n a), λ h. omega (arith, grammar-weight n a))
 
-  -- room for every entry, and at most 256 from an opening
-  pub rooms-enough : Houses (held ws) (rooms ws) × (rooms ws first-context opening ≤ 256)
+  -- room for every entry, and no more from an opening than the list has
+  pub rooms-enough : Houses (held ws) (rooms ws) × (rooms ws first-context opening ≤ max-entries)
   rooms-enough = (houses ws ruled acyclic, opening-room ws ruled acyclic)

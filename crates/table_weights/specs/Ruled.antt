@@ -3,6 +3,7 @@
 use Prim.Native.Nat.{ℕ, _+_, _≤_, _<_}
 use mathlib.Core.Path.{_≡_}
 use mathlib.Core.List.{List}
+use Rattle.basis.specs.Limits.{max-rules, max-constructs}
 use Rattle.table_layout.specs.Places.{rule-count, construct-count}
 use Rattle.table_layout.specs.Constructs.{constructAt}
 use Rattle.table_layout.specs.Held.{size-of}
@@ -35,8 +36,8 @@ Filled ws i Construct.Eod = Unit {0}
 pub record Ruled (ws : List ℕ) : Type 0 where
   -- "64 rules, 256 constructs"
   pub some-rule : 1 ≤ rule-count ws
-  pub rules-most : rule-count ws ≤ 64
-  pub constructs-most : construct-count ws ≤ 256
+  pub rules-most : rule-count ws ≤ max-rules
+  pub constructs-most : construct-count ws ≤ max-constructs
   -- "Rule 0 is the start rule, its body is construct 0"; "The constructs of rule r + 1 follow those of rule r"
   pub first-body : body-of ws 0 ≡ 0
   pub body-there : (r : ℕ) → r < rule-count ws → body-of ws r < construct-count ws

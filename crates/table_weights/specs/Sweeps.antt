@@ -4,13 +4,14 @@ use Prim.Native.Nat.{ℕ, zero, suc, _+_, max, min}
 use mathlib.Core.Bool.{Bool, true, false}
 use mathlib.Core.List.{List}
 use lib.ListN.{getD, set}
+use Rattle.basis.specs.Limits.{max-weight}
 use Rattle.theory.specs.Weight.{sum, largest, weigh}
 use Rattle.table_layout.specs.Constructs.{constructAt}
 use Rattle.table_layout.specs.Held.{first-context, node-of}
 
--- weights are kept up to 65,536, which stands for all that are over 65,535
+-- weights are kept up to one past the limit, which stands for all that are over it
 abbrev pub capped : ℕ → ℕ
-capped n = min 65536 n
+capped n = min (max-weight + 1) n
 
 -- the weight of construct i, given those in the list; past the list's end they are 0
 abbrev pub weighed : List ℕ → List ℕ → ℕ → ℕ

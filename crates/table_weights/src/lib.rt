@@ -1,17 +1,25 @@
-// Weights of a table's constructs, up to 65,536.
+// Weights of a table's constructs, up to one past the limit.
 ghost use mathlib.Core.Path.{_≡_};
 ghost use Prim.Native.Nat.{ℕ, _+_, _<_, _≤_};
 ghost use mathlib.Core.Bool.{false};
 ghost use mathlib.Core.List.{_∷_};
 ghost use lib.ListN.{length, getD};
+ghost use Rattle.basis.specs.Limits.{max-rules, max-constructs, max-weight};
 ghost use Rattle.table_layout.specs.Held.{parts};
 ghost use Rattle.table_reach.specs.Reaching.{body-of};
 ghost use Rattle.table_weights.specs.Sweeps.{capped, joined, weighed, gathered, swept, settled};
 ghost use Rattle.table_weights.specs.Weighed.{Weights, Weight};
+use basis::MAX_CONSTRUCTS;
+use basis::MAX_RULES;
+use basis::MAX_WEIGHT;
 use table_layout::Construct;
+use table_layout::RULES_AT;
 use table_layout::construct_at;
 use table_layout::word;
 use table_reach::at_most;
+
+// Stands for every weight over the limit.
+const CAP: usize = MAX_WEIGHT + 1;
 
 // The part after part j, or the end.
 fn next_part(table: &[u32], j: usize, end: usize) -> usize
@@ -32,26 +40,26 @@ fn one_more(n: usize) -> usize
     requires { ⌜ n < 9000000000 ⌝ }
     ensures { λ r. ⌜ r ≡ capped (1 + n) ⌝ }
 {
-    at_most(65536, n + 1)
+    at_most(CAP, n + 1)
 }
 
 // Two weights, added or the larger.
 fn combined(adds: bool, a: usize, b: usize) -> usize
-    requires { ⌜ (a ≤ 65536) × (b < 4294967296) ⌝ }
+    requires { ⌜ (a ≤ (max-weight + 1)) × (b < 4294967296) ⌝ }
     ensures { λ r. ⌜ r ≡ capped (joined adds a b) ⌝ }
 {
     if adds {
-        return at_most(65536, a + b);
+        return at_most(CAP, a + b);
     }
     if a < b {
-        return at_most(65536, b);
+        return at_most(CAP, b);
     }
     a
 }
 
 // The weights of the parts from number `first` up to `end`.
 fn gather(table: &[u32], weights: &[u32], adds: bool, first: usize, end: usize) -> usize
-    ensures { λ r. ⌜ ((n : ℕ) → end ≤ first + n → r ≡ capped (gathered adds (λ j. getD (now (weights .entry)) j 0) (parts n (now (table .entry)) first end))) × (r ≤ 65536) ⌝ }
+    ensures { λ r. ⌜ ((n : ℕ) → end ≤ first + n → r ≡ capped (gathered adds (λ j. getD (now (weights .entry)) j 0) (parts n (now (table .entry)) first end))) × (r ≤ (max-weight + 1)) ⌝ }
 {
     let mut sum = 0;
     let mut j = first;
@@ -63,14 +71,14 @@ fn gather(table: &[u32], weights: &[u32], adds: bool, first: usize, end: usize) 
 }
 
 fn body_weight(table: &[u32], weights: &[u32], rule: usize) -> usize
-    requires { ⌜ rule < 64 ⌝ }
+    requires { ⌜ rule < max-rules ⌝ }
     ensures { λ r. ⌜ (r ≡ getD (now (weights .entry)) (body-of (now (table .entry)) rule) 0) × (r < 4294967296) ⌝ }
 {
-    word(weights, word(table, 64 + 4 * rule))
+    word(weights, word(table, RULES_AT + 4 * rule))
 }
 
 fn weigh_at(table: &[u32], weights: &[u32], i: usize) -> usize
-    requires { ⌜ i < 256 ⌝ }
+    requires { ⌜ i < max-constructs ⌝ }
     ensures { λ r. ⌜ r ≡ weighed (now (table .entry)) (now (weights .entry)) i ⌝ }
 {
     let construct = construct_at(table, i);
@@ -96,7 +104,7 @@ fn weigh_at(table: &[u32], weights: &[u32], i: usize) -> usize
 
 // One sweep, from construct n − 1 to the first: whether it changed a weight.
 fn sweep(table: &[u32], weights: &mut [u32], n: usize) -> bool
-    requires { ⌜ (n ≤ 256) × (length (now weights) ≡ 256) ⌝ }
+    requires { ⌜ (n ≤ max-constructs) × (length (now weights) ≡ max-constructs) ⌝ }
     ensures { λ r. ⌜ (now (weights .exit) ≡ swept (now (table .entry)) n (now (weights .entry))) × (r ≡ false → now (weights .exit) ≡ now (weights .entry)) ⌝ }
 {
     let mut changed = false;
@@ -114,7 +122,7 @@ fn sweep(table: &[u32], weights: &mut [u32], n: usize) -> bool
 
 // Sweeps, at most `rounds`, until one changes nothing.
 fn settle(table: &[u32], weights: &mut [u32], n: usize, rounds: usize)
-    requires { ⌜ (n ≤ 256) × (length (now weights) ≡ 256) ⌝ }
+    requires { ⌜ (n ≤ max-constructs) × (length (now weights) ≡ max-constructs) ⌝ }
     ensures { λ r. ⌜ now (weights .exit) ≡ settled (now (table .entry)) n rounds (now (weights .entry)) ⌝ }
 {
     let mut k = rounds;
@@ -130,7 +138,7 @@ fn settle(table: &[u32], weights: &mut [u32], n: usize, rounds: usize)
 
 // The weights of the constructs, and the grammar's.
 pub struct Weighing {
-    pub constructs: [u32; 256],
+    pub constructs: [u32; MAX_CONSTRUCTS],
     pub grammar: usize,
 }
 
@@ -138,12 +146,12 @@ pub struct Weighing {
 pub fn weigh(table: &[u32]) -> Weighing
     ensures { λ r. ⌜ Weights (now (table .entry)) (r .constructs) × Weight (now (table .entry)) (r .grammar) ⌝ }
 {
-    let mut constructs = [1u32; 256];
+    let mut constructs = [1u32; MAX_CONSTRUCTS];
     settle(
         table,
         &mut constructs,
-        at_most(256, word(table, 2)),
-        at_most(64, word(table, 1)) + 1,
+        at_most(MAX_CONSTRUCTS, word(table, 2)),
+        at_most(MAX_RULES, word(table, 1)) + 1,
     );
     let grammar = one_more(body_weight(table, &constructs, 0));
     Weighing {

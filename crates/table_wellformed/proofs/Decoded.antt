@@ -1,4 +1,4 @@
--- What holds of a construct whatever its words: its size leaves it within the 256, and its operands are within their limits.
+-- What holds of a construct whatever its words: its size leaves it within the limit, and its operands are within their limits.
 -- Assumes nothing.
 use Prim.Native.Nat.{ℕ, _+_, _-_, _≤_, _<_}
 use mathlib.Core.Path.{_≡_, refl}
@@ -7,6 +7,7 @@ use mathlib.Core.List.{List}
 use native.Mathlib.Omega.{arith}
 use borrow.Author.Tests.{ltb-true, leb-true}
 use lib.Dec.{leb, ltb, eqb}
+use Rattle.basis.specs.Limits.{max-rules, max-constructs, max-variables, max-terms, max-literal-bytes, max-width}
 use Rattle.table_layout.specs.Places.{construct-word}
 use Rattle.table_layout.specs.Constructs.{pick, both, branches, listed, innerOf, uintOf, leafOf, constructOf, constructAt}
 use Rattle.table_layout.specs.Held.{size-of}
@@ -22,17 +23,17 @@ picked P false f g = g refl
 -- what the words of construct i are where they say something
 abbrev pub Fine : ℕ → Construct → Type 0
 Fine i Construct.Missing = Unit {0}
-Fine i (Construct.Alternative size) = (2 ≤ size) × (i + size ≤ 256)
-Fine i (Construct.Concatenation size) = (2 ≤ size) × (i + size ≤ 256)
-Fine i (Construct.Repetition size passes) = (2 ≤ size) × (i + size ≤ 256)
-Fine i (Construct.Switch size) = (2 ≤ size) × (i + size ≤ 256)
-Fine i (Construct.Use rule) = (i < 256) × (rule < 64)
-Fine i (Construct.Literal length) = (i < 256) × (1 ≤ length) × (length ≤ 32)
-Fine i (Construct.Range low high) = (i < 256) × (low < 128) × (high < 128)
-Fine i (Construct.Uint width start end binder) = (i < 256) × (1 ≤ width) × (width ≤ 32) × (start ≤ end) × (end ≤ 1024) × (binder ≤ 64)
-Fine i Construct.Eod = i < 256
+Fine i (Construct.Alternative size) = (2 ≤ size) × (i + size ≤ max-constructs)
+Fine i (Construct.Concatenation size) = (2 ≤ size) × (i + size ≤ max-constructs)
+Fine i (Construct.Repetition size passes) = (2 ≤ size) × (i + size ≤ max-constructs)
+Fine i (Construct.Switch size) = (2 ≤ size) × (i + size ≤ max-constructs)
+Fine i (Construct.Use rule) = (i < max-constructs) × (rule < max-rules)
+Fine i (Construct.Literal length) = (i < max-constructs) × (1 ≤ length) × (length ≤ max-literal-bytes)
+Fine i (Construct.Range low high) = (i < max-constructs) × (low < 128) × (high < 128)
+Fine i (Construct.Uint width start end binder) = (i < max-constructs) × (1 ≤ width) × (width ≤ max-width) × (start ≤ end) × (end ≤ max-terms) × (binder ≤ max-variables)
+Fine i Construct.Eod = i < max-constructs
 
-inner-fine : (i kind size a b c : ℕ) → (2 ≤ size) × (i + size ≤ 256) → Fine i (innerOf kind size a b c)
+inner-fine : (i kind size a b c : ℕ) → (2 ≤ size) × (i + size ≤ max-constructs) → Fine i (innerOf kind size a b c)
 inner-fine i kind size a b c h =
     picked (Fine i) (eqb kind 1) (λ e. h) (λ e.
     picked (Fine i) (eqb kind 2) (λ e. h) (λ e.
@@ -44,22 +45,22 @@ inner-fine i kind size a b c h =
     picked (Fine i) (both (eqb a 4) (listed b c)) (λ e. h) (λ e. tt)))))
     (λ e. h)))
 
-uint-fine : (i a b c d : ℕ) → i < 256 → Fine i (uintOf a b c d)
+uint-fine : (i a b c d : ℕ) → i < max-constructs → Fine i (uintOf a b c d)
 uint-fine i a b c d h =
-    let W : Bool = both (leb 1 a) (leb a 32)
+    let W : Bool = both (leb 1 a) (leb a max-width)
     in let L : Bool = listed b c
-    in picked (Fine i) (both W (both L (leb d 64)))
+    in picked (Fine i) (both W (both L (leb d max-variables)))
     (λ e.
-    let w : W ≡ true = both-first W (both L (leb d 64)) e
-    in let l : L ≡ true = both-first L (leb d 64) (both-second W (both L (leb d 64)) e)
-    in (h, leb-true 1 a (both-first (leb 1 a) (leb a 32) w), leb-true a 32 (both-second (leb 1 a) (leb a 32) w), leb-true b c (both-first (leb b c) (leb c 1024) l), leb-true c 1024 (both-second (leb b c) (leb c 1024) l), leb-true d 64 (both-second L (leb d 64) (both-second W (both L (leb d 64)) e))))
+    let w : W ≡ true = both-first W (both L (leb d max-variables)) e
+    in let l : L ≡ true = both-first L (leb d max-variables) (both-second W (both L (leb d max-variables)) e)
+    in (h, leb-true 1 a (both-first (leb 1 a) (leb a max-width) w), leb-true a max-width (both-second (leb 1 a) (leb a max-width) w), leb-true b c (both-first (leb b c) (leb c max-terms) l), leb-true c max-terms (both-second (leb b c) (leb c max-terms) l), leb-true d max-variables (both-second L (leb d max-variables) (both-second W (both L (leb d max-variables)) e))))
     (λ e. tt)
 
-leaf-fine : (i kind a b c d : ℕ) → i < 256 → Fine i (leafOf kind a b c d)
+leaf-fine : (i kind a b c d : ℕ) → i < max-constructs → Fine i (leafOf kind a b c d)
 leaf-fine i kind a b c d h =
-    picked (Fine i) (eqb kind 5) (λ e. picked (Fine i) (ltb a 64) (λ e. (h, ltb-true a 64 e)) (λ e. tt)) (λ e.
+    picked (Fine i) (eqb kind 5) (λ e. picked (Fine i) (ltb a max-rules) (λ e. (h, ltb-true a max-rules e)) (λ e. tt)) (λ e.
     picked (Fine i) (eqb kind 6)
-    (λ e. picked (Fine i) (both (leb 1 a) (leb a 32)) (λ e. (h, leb-true 1 a (both-first (leb 1 a) (leb a 32) e), leb-true a 32 (both-second (leb 1 a) (leb a 32) e))) (λ e. tt))
+    (λ e. picked (Fine i) (both (leb 1 a) (leb a max-literal-bytes)) (λ e. (h, leb-true 1 a (both-first (leb 1 a) (leb a max-literal-bytes) e), leb-true a max-literal-bytes (both-second (leb 1 a) (leb a max-literal-bytes) e))) (λ e. tt))
     (λ e.
     picked (Fine i) (eqb kind 7)
     (λ e. picked (Fine i) (both (ltb a 128) (ltb b 128)) (λ e. (h, ltb-true a 128 (both-first (ltb a 128) (ltb b 128) e), ltb-true b 128 (both-second (ltb a 128) (ltb b 128) e))) (λ e. tt))
@@ -70,14 +71,14 @@ leaf-fine i kind a b c d h =
 pub fine : (ws : List ℕ) (i : ℕ) → Fine i (constructAt ws i)
 unfolding constructAt constructOf
 fine ws i =
-    picked (Fine i) (ltb i 256)
+    picked (Fine i) (ltb i max-constructs)
     (λ h.
     picked (Fine i) (both (leb 1 kind) (leb kind 4))
     (λ e.
     picked (Fine i) (branches i size)
-    (λ e. inner-fine i kind size a b c (leb-true 2 size (both-first (leb 2 size) (leb (i + size) 256) e), leb-true (i + size) 256 (both-second (leb 2 size) (leb (i + size) 256) e)))
+    (λ e. inner-fine i kind size a b c (leb-true 2 size (both-first (leb 2 size) (leb (i + size) max-constructs) e), leb-true (i + size) max-constructs (both-second (leb 2 size) (leb (i + size) max-constructs) e)))
     (λ e. tt))
-    (λ e. picked (Fine i) (eqb size 1) (λ e. leaf-fine i kind a b c d (ltb-true i 256 h)) (λ e. tt)))
+    (λ e. picked (Fine i) (eqb size 1) (λ e. leaf-fine i kind a b c d (ltb-true i max-constructs h)) (λ e. tt)))
     (λ h. tt)
   where
     kind : ℕ
@@ -98,7 +99,7 @@ fine ws i =
     d : ℕ
     d = construct-word ws i 5
 
-fine-size : (i : ℕ) (c : Construct) → Fine i c → size-of c ≤ 256 - i
+fine-size : (i : ℕ) (c : Construct) → Fine i c → size-of c ≤ max-constructs - i
 fine-size i Construct.Missing f = omega arith
 fine-size i (Construct.Alternative size) f = omega (arith, f .1)
 fine-size i (Construct.Concatenation size) f = omega (arith, f .1)
@@ -110,5 +111,5 @@ fine-size i (Construct.Range low high) f = omega (arith, f .0)
 fine-size i (Construct.Uint width start end binder) f = omega (arith, f .0)
 fine-size i Construct.Eod f = omega arith
 
-pub size-fits : (ws : List ℕ) (i : ℕ) → size-at ws i ≤ 256 - i
+pub size-fits : (ws : List ℕ) (i : ℕ) → size-at ws i ≤ max-constructs - i
 size-fits ws i = fine-size i (constructAt ws i) (fine ws i)

@@ -6,6 +6,7 @@ use mathlib.Core.Bool.{Bool, true}
 use mathlib.Core.List.{List}
 use borrow.Author.Tests.{leb-true}
 use lib.Dec.{leb, eqb}
+use Rattle.basis.specs.Limits.{max-rules, max-constructs, max-variables, max-terms, max-weight}
 use Rattle.table_layout.specs.Places.{rules-at, mark-of, rule-count, construct-count, variable-count, term-count, weight-of}
 use Rattle.table_layout.specs.Constructs.{both}
 use Rattle.table_wellformed.specs.Checks.{limited, all-zero}
@@ -14,13 +15,13 @@ use Rattle.table_wellformed.proofs.Walks.{both-first, both-second}
 
 pub record Limits (ws : List ℕ) : Type 0 where
   pub some-rule : 1 ≤ rule-count ws
-  pub rules : rule-count ws ≤ 64
+  pub rules : rule-count ws ≤ max-rules
   pub some-construct : 1 ≤ construct-count ws
-  pub constructs : construct-count ws ≤ 256
-  pub variables : variable-count ws ≤ 64
-  pub terms : term-count ws ≤ 1024
+  pub constructs : construct-count ws ≤ max-constructs
+  pub variables : variable-count ws ≤ max-variables
+  pub terms : term-count ws ≤ max-terms
   pub some-weight : 1 ≤ weight-of ws
-  pub weight : weight-of ws ≤ 65535
+  pub weight : weight-of ws ≤ max-weight
 
 limited-low : (low n high : ℕ) → limited low n high ≡ true → low ≤ n
 limited-low low n high h = leb-true low n (both-first (leb low n) (leb n high) h)
@@ -31,11 +32,11 @@ limited-high low n high h = leb-true n high (both-second (leb low n) (leb n high
 pub limits : (ws : List ℕ) → headed ws ≡ true → Limits ws
 unfolding headed
 limits ws h =
-    let R : Bool = limited 1 (rule-count ws) 64
-    in let C : Bool = limited 1 (construct-count ws) 256
-    in let X : Bool = leb (variable-count ws) 64
-    in let T : Bool = leb (term-count ws) 1024
-    in let W : Bool = limited 1 (weight-of ws) 65535
+    let R : Bool = limited 1 (rule-count ws) max-rules
+    in let C : Bool = limited 1 (construct-count ws) max-constructs
+    in let X : Bool = leb (variable-count ws) max-variables
+    in let T : Bool = leb (term-count ws) max-terms
+    in let W : Bool = limited 1 (weight-of ws) max-weight
     in let marked : Bool = eqb (mark-of ws) 1399811687
     in let rest : Bool = all-zero ws 6 rules-at
     in let front : both marked (counts-limited ws) ≡ true = both-first (both marked (counts-limited ws)) (both W rest) h
@@ -44,12 +45,12 @@ limits ws h =
     in let upper : both R C ≡ true = both-first (both R C) (both X T) counted
     in let lower : both X T ≡ true = both-second (both R C) (both X T) counted
     in record {
-      some-rule = limited-low 1 (rule-count ws) 64 (both-first R C upper);
-      rules = limited-high 1 (rule-count ws) 64 (both-first R C upper);
-      some-construct = limited-low 1 (construct-count ws) 256 (both-second R C upper);
-      constructs = limited-high 1 (construct-count ws) 256 (both-second R C upper);
-      variables = leb-true (variable-count ws) 64 (both-first X T lower);
-      terms = leb-true (term-count ws) 1024 (both-second X T lower);
-      some-weight = limited-low 1 (weight-of ws) 65535 weighed;
-      weight = limited-high 1 (weight-of ws) 65535 weighed;
+      some-rule = limited-low 1 (rule-count ws) max-rules (both-first R C upper);
+      rules = limited-high 1 (rule-count ws) max-rules (both-first R C upper);
+      some-construct = limited-low 1 (construct-count ws) max-constructs (both-second R C upper);
+      constructs = limited-high 1 (construct-count ws) max-constructs (both-second R C upper);
+      variables = leb-true (variable-count ws) max-variables (both-first X T lower);
+      terms = leb-true (term-count ws) max-terms (both-second X T lower);
+      some-weight = limited-low 1 (weight-of ws) max-weight weighed;
+      weight = limited-high 1 (weight-of ws) max-weight weighed;
     }

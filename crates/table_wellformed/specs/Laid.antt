@@ -6,6 +6,7 @@ use mathlib.Core.Bool.{Bool, true, false}
 use mathlib.Core.List.{List}
 use lib.Dec.{leb, ltb, eqb}
 use lib.ListN.{length}
+use Rattle.basis.specs.Limits.{max-rules, max-constructs, max-variables, max-terms, max-literal-bytes, max-weight}
 use Rattle.term_words.specs.declared.Kind.{Kind}
 use Rattle.table_layout.specs.Places.{word, table-words, rules-at, variables-at, constructs-at, terms-at, literals-at, sets-at, mark-of, rule-count, construct-count, variable-count, term-count, weight-of}
 use Rattle.table_layout.specs.Constructs.{pick, both, constructAt}
@@ -20,11 +21,11 @@ use Rattle.table_wellformed.specs.Rules.{rules-laid, named-back, names-l
 
 abbrev pub counts-limited : List ℕ → Bool
 counts-limited ws =
-    both (both (limited 1 (rule-count ws) 64) (limited 1 (construct-count ws) 256)) (both (leb (variable-count ws) 64) (leb (term-count ws) 1024))
+    both (both (limited 1 (rule-count ws) max-rules) (limited 1 (construct-count ws) max-constructs)) (both (leb (variable-count ws) max-variables) (leb (term-count ws) max-terms))
 
 -- the mark, the counts, a weight that 11 allows, and 0 in the rest of the header
 unfoldable pub headed : List ℕ → Bool
-headed ws = both (both (eqb (mark-of ws) 1399811687) (counts-limited ws)) (both (limited 1 (weight-of ws) 65535) (all-zero ws 6 rules-at))
+headed ws = both (both (eqb (mark-of ws) 1399811687) (counts-limited ws)) (both (limited 1 (weight-of ws) max-weight) (all-zero ws 6 rules-at))
 
 -- ---- constructs
 
@@ -95,7 +96,7 @@ byte-laid ws i n k = ltb (literal-byte ws i k) (pick (ltb k n) 128 1)
 
 -- construct i: its words, the bytes of its literal and its condition
 abbrev pub construct-laid : List ℕ → ℕ → Bool
-construct-laid ws i = both (kind-laid ws i (constructAt ws i)) (both (from-to 0 32 (byte-laid ws i (literal-length (constructAt ws i)))) (condition-formed ws i))
+construct-laid ws i = both (kind-laid ws i (constructAt ws i)) (both (from-to 0 max-literal-bytes (byte-laid ws i (literal-length (constructAt ws i)))) (condition-formed ws i))
 
 -- ---- "Words that this page gives no meaning to are 0": everything past the counts
 

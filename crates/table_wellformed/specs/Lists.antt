@@ -6,6 +6,7 @@ use mathlib.Core.List.{List}
 use lib.Dec.{ltb, eqb}
 use lib.IntN.{ℤ, pos}
 use lib.ListN.{replicate}
+use Rattle.basis.specs.Limits.{max-variables}
 use Rattle.term_words.specs.Words.{terms}
 use Rattle.term_words.specs.declared.Kind.{Kind}
 use Rattle.term_sizes.specs.Sizes.{sizes, countSizes}
@@ -98,9 +99,9 @@ formed Sized.Passes = true
 formed Sized.Malformed = false
 formed (Sized.Exceeds at) = true
 
--- a list's form does not depend on the values: 64 variables, all 0
+-- a list's form does not depend on the values: all are 0
 abbrev pub zero-values : List ℤ
-zero-values = replicate 64 (pos 0)
+zero-values = replicate max-variables (pos 0)
 
 -- a set or a condition
 abbrev pub list-formed : Kind → List ℕ → ℕ → ℕ → Bool

@@ -1,9 +1,13 @@
 // Tests of many words at once, and words by their place.
+use table_layout::CONSTRUCTS_AT;
 use table_layout::Construct;
+use table_layout::RULES_AT;
+use table_layout::VARIABLES_AT;
 use table_layout::construct_at;
 use table_layout::word;
 ghost use mathlib.Core.Path.{_≡_};
 ghost use Prim.Native.Nat.{_+_, _*_, _-_, _<_, _≤_};
+ghost use Rattle.basis.specs.Limits.{max-constructs};
 ghost use Rattle.table_layout.specs.Places.{rule-word, variable-word, construct-word};
 ghost use Rattle.table_layout.specs.Constructs.{both as bothOf, pick};
 ghost use Rattle.table_layout.specs.Held.{size-of};
@@ -61,26 +65,26 @@ pub fn rule_word(table: &[u32], r: usize, k: usize) -> usize
     requires { ⌜ (r ≤ 4294967296) × (k < 4) ⌝ }
     ensures { λ w. ⌜ (w ≡ rule-word (now (table .entry)) r k) × (w < 4294967296) ⌝ }
 {
-    word(table, 64 + 4 * r + k)
+    word(table, RULES_AT + 4 * r + k)
 }
 
 pub fn variable_word(table: &[u32], x: usize, k: usize) -> usize
     requires { ⌜ (x ≤ 8589934592) × (k < 4) ⌝ }
     ensures { λ w. ⌜ (w ≡ variable-word (now (table .entry)) x k) × (w < 4294967296) ⌝ }
 {
-    word(table, 320 + 4 * x + k)
+    word(table, VARIABLES_AT + 4 * x + k)
 }
 
 pub fn construct_word(table: &[u32], i: usize, k: usize) -> usize
     requires { ⌜ (i ≤ 4294967296) × (k < 8) ⌝ }
     ensures { λ w. ⌜ (w ≡ construct-word (now (table .entry)) i k) × (w < 4294967296) ⌝ }
 {
-    word(table, 576 + 8 * i + k)
+    word(table, CONSTRUCTS_AT + 8 * i + k)
 }
 
-// How many constructs construct i is; none leaves the 256.
+// How many constructs construct i is; none leaves the limit.
 pub fn size_at(table: &[u32], i: usize) -> usize
-    ensures { λ r. ⌜ (r ≡ size-at (now (table .entry)) i) × (r ≤ 256 - i) ⌝ }
+    ensures { λ r. ⌜ (r ≡ size-at (now (table .entry)) i) × (r ≤ max-constructs - i) ⌝ }
 {
     table_layout::size_of(construct_at(table, i))
 }

@@ -8,7 +8,10 @@ use crate::lists::counts_formed;
 use crate::lists::list_formed;
 use crate::names::named_back;
 use crate::parts::parts;
+use basis::MAX_LITERAL_BYTES;
+use table_layout::CONSTRUCTS_AT;
 use table_layout::Construct;
+use table_layout::LITERALS_AT;
 use table_layout::Passes;
 use table_layout::construct_at;
 use table_layout::word;
@@ -16,6 +19,7 @@ use term_words::Kind;
 ghost use mathlib.Core.Path.{_≡_};
 ghost use Prim.Native.Nat.{_≤_, _<_, _^_};
 ghost use lib.ListN.{length};
+ghost use Rattle.basis.specs.Limits.{max-constructs, max-literal-bytes, table-words};
 ghost use Rattle.table_layout.specs.Places.{construct-count};
 ghost use Rattle.table_wellformed.specs.Checks.{from-to};
 ghost use Rattle.table_wellformed.specs.Laid.{operands-zero, second-part, construct-end, chain-laid, passes-laid, repetition-laid, switch-laid, kind-laid, literal-length, literal-byte, byte-laid, construct-laid};
@@ -25,7 +29,7 @@ fn operands_zero(table: &[u32], i: usize, k: usize) -> bool
     requires { ⌜ (i ≤ 4294967296) × (k < 8) ⌝ }
     ensures { λ r. ⌜ r ≡ operands-zero (now (table .entry)) i k ⌝ }
 {
-    let at = 576 + 8 * i;
+    let at = CONSTRUCTS_AT + 8 * i;
     zeros(table, at + k, at + 6)
 }
 
@@ -38,7 +42,7 @@ fn second_part(table: &[u32], i: usize) -> usize
 
 // An alternative or a concatenation.
 fn chain(table: &[u32], i: usize) -> bool
-    requires { ⌜ i ≤ 256 ⌝ }
+    requires { ⌜ i ≤ max-constructs ⌝ }
     ensures { λ r. ⌜ r ≡ chain-laid (now (table .entry)) i ⌝ }
 {
     let end = i + size_at(table, i);
@@ -49,7 +53,7 @@ fn chain(table: &[u32], i: usize) -> bool
 }
 
 fn passes_laid(table: &[u32], i: usize, passes: Passes) -> bool
-    requires { ⌜ (16384 ≤ length (now table)) × (i ≤ 256) ⌝ }
+    requires { ⌜ (table-words ≤ length (now table)) × (i ≤ max-constructs) ⌝ }
     ensures { λ r. ⌜ r ≡ passes-laid (now (table .entry)) i passes ⌝ }
 {
     match passes {
@@ -63,7 +67,7 @@ fn passes_laid(table: &[u32], i: usize, passes: Passes) -> bool
 }
 
 fn repetition(table: &[u32], i: usize, passes: Passes) -> bool
-    requires { ⌜ (16384 ≤ length (now table)) × (i ≤ 256) ⌝ }
+    requires { ⌜ (table-words ≤ length (now table)) × (i ≤ max-constructs) ⌝ }
     ensures { λ r. ⌜ r ≡ repetition-laid (now (table .entry)) i passes ⌝ }
 {
     let end = i + size_at(table, i);
@@ -77,7 +81,7 @@ fn repetition(table: &[u32], i: usize, passes: Passes) -> bool
 }
 
 fn switch(table: &[u32], i: usize) -> bool
-    requires { ⌜ i ≤ 256 ⌝ }
+    requires { ⌜ i ≤ max-constructs ⌝ }
     ensures { λ r. ⌜ r ≡ switch-laid (now (table .entry)) i ⌝ }
 {
     let end = i + size_at(table, i);
@@ -85,7 +89,7 @@ fn switch(table: &[u32], i: usize) -> bool
 }
 
 fn kind(table: &[u32], i: usize, construct: Construct) -> bool
-    requires { ⌜ (16384 ≤ length (now table)) × (i ≤ 256) ⌝ }
+    requires { ⌜ (table-words ≤ length (now table)) × (i ≤ max-constructs) ⌝ }
     ensures { λ r. ⌜ r ≡ kind-laid (now (table .entry)) i construct ⌝ }
 {
     match construct {
@@ -149,20 +153,20 @@ fn power(k: usize) -> usize
 }
 
 fn byte(table: &[u32], i: usize, n: usize, k: usize) -> bool
-    requires { ⌜ (i ≤ 4294967296) × (k < 32) ⌝ }
+    requires { ⌜ (i ≤ 4294967296) × (k < max-literal-bytes) ⌝ }
     ensures { λ r. ⌜ r ≡ byte-laid (now (table .entry)) i n k ⌝ }
 {
-    let value = word(table, 5696 + 8 * i + k / 4) / power(k % 4) % 256;
+    let value = word(table, LITERALS_AT + 8 * i + k / 4) / power(k % 4) % 256;
     value < choose(k < n, 128, 1)
 }
 
 // Whether construct i has n bytes below 128 in the area of literals, and zeros after them.
 fn bytes(table: &[u32], i: usize, n: usize) -> bool
     requires { ⌜ i ≤ 4294967296 ⌝ }
-    ensures { λ r. ⌜ r ≡ from-to 0 32 (byte-laid (now (table .entry)) i n) ⌝ }
+    ensures { λ r. ⌜ r ≡ from-to 0 max-literal-bytes (byte-laid (now (table .entry)) i n) ⌝ }
 {
     let mut k = 0;
-    while k < 32 {
+    while k < MAX_LITERAL_BYTES {
         if byte(table, i, n, k) {
             k += 1;
         } else {
@@ -173,7 +177,7 @@ fn bytes(table: &[u32], i: usize, n: usize) -> bool
 }
 
 fn construct_laid(table: &[u32], i: usize) -> bool
-    requires { ⌜ (16384 ≤ length (now table)) × (i ≤ 256) ⌝ }
+    requires { ⌜ (table-words ≤ length (now table)) × (i ≤ max-constructs) ⌝ }
     ensures { λ r. ⌜ r ≡ construct-laid (now (table .entry)) i ⌝ }
 {
     let construct = construct_at(table, i);
@@ -187,7 +191,7 @@ fn construct_laid(table: &[u32], i: usize) -> bool
 }
 
 pub fn constructs(table: &[u32]) -> bool
-    requires { ⌜ (16384 ≤ length (now table)) × (construct-count (now table) ≤ 256) ⌝ }
+    requires { ⌜ (table-words ≤ length (now table)) × (construct-count (now table) ≤ max-constructs) ⌝ }
     ensures { λ r. ⌜ r ≡ from-to 0 (construct-count (now (table .entry))) (construct-laid (now (table .entry))) ⌝ }
 {
     let count = word(table, 2);

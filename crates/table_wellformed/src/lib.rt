@@ -7,10 +7,23 @@ use crate::lists::lists;
 use crate::lists::terms_laid;
 use crate::names::names;
 use crate::rules::rules;
+use basis::MAX_CONSTRUCTS;
+use basis::MAX_RULES;
+use basis::MAX_TERMS;
+use basis::MAX_VARIABLES;
+use basis::MAX_WEIGHT;
+use basis::TABLE_WORDS;
+use table_layout::CONSTRUCTS_AT;
+use table_layout::LITERALS_AT;
+use table_layout::RULES_AT;
+use table_layout::SETS_AT;
+use table_layout::TERMS_AT;
+use table_layout::VARIABLES_AT;
 use table_layout::word;
 ghost use mathlib.Core.Path.{_≡_};
 ghost use Prim.Native.Nat.{_≤_};
 ghost use lib.ListN.{length};
+ghost use Rattle.basis.specs.Limits.{max-constructs, table-words};
 ghost use Rattle.table_layout.specs.Places.{construct-count};
 ghost use Rattle.table_wellformed.specs.Laid.{counts-limited, headed as headedOf, rest-zero, placed as placedOf, laid as laidOf};
 
@@ -26,10 +39,10 @@ fn counts(table: &[u32]) -> bool
 {
     both(
         both(
-            limited(1, word(table, 1), 64),
-            limited(1, word(table, 2), 256),
+            limited(1, word(table, 1), MAX_RULES),
+            limited(1, word(table, 2), MAX_CONSTRUCTS),
         ),
-        both(word(table, 3) <= 64, word(table, 4) <= 1024),
+        both(word(table, 3) <= MAX_VARIABLES, word(table, 4) <= MAX_TERMS),
     )
 }
 
@@ -38,7 +51,10 @@ fn headed(table: &[u32]) -> bool
 {
     both(
         both(word(table, 0) == 1399811687, counts(table)),
-        both(limited(1, word(table, 5), 65535), zeros(table, 6, 64)),
+        both(
+            limited(1, word(table, 5), MAX_WEIGHT),
+            zeros(table, 6, RULES_AT),
+        ),
     )
 }
 
@@ -49,24 +65,24 @@ fn rest(table: &[u32]) -> bool
     let constructs = word(table, 2);
     both(
         both(
-            zeros(table, 64 + 4 * word(table, 1), 320),
-            zeros(table, 320 + 4 * word(table, 3), 576),
+            zeros(table, RULES_AT + 4 * word(table, 1), VARIABLES_AT),
+            zeros(table, VARIABLES_AT + 4 * word(table, 3), CONSTRUCTS_AT),
         ),
         both(
             both(
-                zeros(table, 576 + 8 * constructs, 2624),
-                zeros(table, 2624 + 3 * word(table, 4), 5696),
+                zeros(table, CONSTRUCTS_AT + 8 * constructs, TERMS_AT),
+                zeros(table, TERMS_AT + 3 * word(table, 4), LITERALS_AT),
             ),
             both(
-                zeros(table, 5696 + 8 * constructs, 7744),
-                zeros(table, 7744 + 32 * constructs, 16384),
+                zeros(table, LITERALS_AT + 8 * constructs, SETS_AT),
+                zeros(table, SETS_AT + 32 * constructs, TABLE_WORDS),
             ),
         ),
     )
 }
 
 fn placed(table: &[u32]) -> bool
-    requires { ⌜ (16384 ≤ length (now table)) × (construct-count (now table) ≤ 256) ⌝ }
+    requires { ⌜ (table-words ≤ length (now table)) × (construct-count (now table) ≤ max-constructs) ⌝ }
     ensures { λ r. ⌜ r ≡ placedOf (now (table .entry)) ⌝ }
 {
     both(
@@ -79,7 +95,7 @@ fn placed(table: &[u32]) -> bool
 pub fn laid(table: &[u32]) -> bool
     ensures { λ r. ⌜ r ≡ laidOf (now (table .entry)) ⌝ }
 {
-    if table.len() < 16384 {
+    if table.len() < TABLE_WORDS {
         return false;
     }
     if headed(table) {

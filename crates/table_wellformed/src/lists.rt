@@ -4,8 +4,11 @@ use crate::checks::choose;
 use crate::checks::construct_word;
 use crate::checks::either;
 use crate::checks::limited;
+use basis::MAX_VARIABLES;
 use table_layout::Construct;
+use table_layout::LITERALS_AT;
 use table_layout::Passes;
+use table_layout::TERMS_AT;
 use table_layout::construct_at;
 use table_layout::word;
 use term_sizes::Sized;
@@ -15,6 +18,7 @@ use term_words::Kind;
 ghost use mathlib.Core.Path.{_≡_};
 ghost use Prim.Native.Nat.{_≤_};
 ghost use lib.ListN.{length};
+ghost use Rattle.basis.specs.Limits.{table-words};
 ghost use Rattle.table_layout.specs.Places.{term-count};
 ghost use Rattle.table_layout.specs.Held.{term-words};
 ghost use Rattle.table_wellformed.specs.Checks.{from-to};
@@ -146,10 +150,10 @@ pub fn lists(table: &[u32]) -> bool
 
 // The words of the terms.
 pub fn term_words(table: &[u32]) -> &[u32]
-    requires { ⌜ 16384 ≤ length (now table) ⌝ }
+    requires { ⌜ table-words ≤ length (now table) ⌝ }
     ensures { λ r. ⌜ now r ≡ term-words (now (table .entry)) ⌝ }
 {
-    &table[2624..5696]
+    &table[TERMS_AT..LITERALS_AT]
 }
 
 fn formed(sized: Sized) -> bool
@@ -164,23 +168,23 @@ fn formed(sized: Sized) -> bool
 
 // Whether the terms from `start` up to `end` are well formed.
 pub fn list_formed(kind: Kind, table: &[u32], start: usize, end: usize) -> bool
-    requires { ⌜ 16384 ≤ length (now table) ⌝ }
+    requires { ⌜ table-words ≤ length (now table) ⌝ }
     ensures { λ r. ⌜ r ≡ list-formed kind (now (table .entry)) start end ⌝ }
 {
-    let values = [0i64; 64];
+    let values = [0i64; MAX_VARIABLES];
     formed(measure(kind, term_words(table), start, end, &values))
 }
 
 pub fn counts_formed(table: &[u32], start: usize, end: usize) -> bool
-    requires { ⌜ 16384 ≤ length (now table) ⌝ }
+    requires { ⌜ table-words ≤ length (now table) ⌝ }
     ensures { λ r. ⌜ r ≡ counts-formed (now (table .entry)) start end ⌝ }
 {
-    let values = [0i64; 64];
+    let values = [0i64; MAX_VARIABLES];
     formed(measure_counts(term_words(table), start, end, &values))
 }
 
 pub fn condition_formed(table: &[u32], i: usize) -> bool
-    requires { ⌜ (16384 ≤ length (now table)) × (i ≤ 4294967296) ⌝ }
+    requires { ⌜ (table-words ≤ length (now table)) × (i ≤ 4294967296) ⌝ }
     ensures { λ r. ⌜ r ≡ condition-formed (now (table .entry)) i ⌝ }
 {
     let start = construct_word(table, i, 6);
@@ -201,7 +205,7 @@ fn term(table: &[u32], t: usize) -> bool
     requires { ⌜ t ≤ 4294967296 ⌝ }
     ensures { λ r. ⌜ r ≡ term-laid (now (table .entry)) t ⌝ }
 {
-    let at = 2624 + 3 * t;
+    let at = TERMS_AT + 3 * t;
     both(
         either(low_used(word(table, at)), word(table, at + 1) == 0),
         word(table, at + 2) == 0,

@@ -11,6 +11,7 @@ use crate::lists::own_start;
 use crate::lists::term_words;
 use crate::rules::rule_end;
 use table_layout::Construct;
+use table_layout::VARIABLES_AT;
 use table_layout::construct_at;
 use table_layout::word;
 use term_words::Operation;
@@ -20,6 +21,7 @@ ghost use mathlib.Core.Path.{_≡_};
 ghost use Prim.Native.Nat.{_+_, _≤_, _<_};
 ghost use lib.ListN.{length};
 ghost use lib.Dec.{ltb};
+ghost use Rattle.basis.specs.Limits.{table-words};
 ghost use Rattle.table_layout.specs.Constructs.{both as bothOf};
 ghost use Rattle.table_wellformed.specs.Checks.{size-at};
 ghost use Rattle.table_wellformed.specs.Rules.{next-variable, binder-of, named-back, variable-laid, member-laid, binders-from, is-concatenation, members-at, binders-laid, visible as visibleOf, operation-named, term-named, list-named, construct-named, uses-laid, names-laid};
@@ -64,7 +66,7 @@ fn variable(table: &[u32], x: usize, j: usize) -> bool
     requires { ⌜ (x ≤ 8589934592) × (j ≤ 4294967296) ⌝ }
     ensures { λ r. ⌜ r ≡ variable-laid (now (table .entry)) x j ⌝ }
 {
-    let at = 320 + 4 * x;
+    let at = VARIABLES_AT + 4 * x;
     both(
         both(
             binder(construct_at(table, j)) == x + 1,
@@ -220,7 +222,7 @@ fn list_visible(
     start: usize,
     end: usize,
 ) -> bool
-    requires { ⌜ (16384 ≤ length (now table)) × (last ≤ 4294967296) ⌝ }
+    requires { ⌜ (table-words ≤ length (now table)) × (last ≤ 4294967296) ⌝ }
     ensures { λ r. ⌜ r ≡ list-named (now (table .entry)) first last i start end ⌝ }
 {
     let words = term_words(table);
@@ -236,7 +238,7 @@ fn list_visible(
 }
 
 fn construct_visible(table: &[u32], first: usize, last: usize, i: usize) -> bool
-    requires { ⌜ (16384 ≤ length (now table)) × (last ≤ 4294967296) × (i ≤ 4294967296) ⌝ }
+    requires { ⌜ (table-words ≤ length (now table)) × (last ≤ 4294967296) × (i ≤ 4294967296) ⌝ }
     ensures { λ r. ⌜ r ≡ construct-named (now (table .entry)) first last i ⌝ }
 {
     let construct = construct_at(table, i);
@@ -256,7 +258,7 @@ fn construct_visible(table: &[u32], first: usize, last: usize, i: usize) -> bool
 }
 
 fn rule_uses(table: &[u32], r: usize) -> bool
-    requires { ⌜ (16384 ≤ length (now table)) × (r < 4294967296) ⌝ }
+    requires { ⌜ (table-words ≤ length (now table)) × (r < 4294967296) ⌝ }
     ensures { λ b. ⌜ b ≡ uses-laid (now (table .entry)) r ⌝ }
 {
     let first = rule_word(table, r, 1);
@@ -274,7 +276,7 @@ fn rule_uses(table: &[u32], r: usize) -> bool
 }
 
 pub fn names(table: &[u32]) -> bool
-    requires { ⌜ 16384 ≤ length (now table) ⌝ }
+    requires { ⌜ table-words ≤ length (now table) ⌝ }
     ensures { λ b. ⌜ b ≡ names-laid (now (table .entry)) ⌝ }
 {
     let count = word(table, 1);

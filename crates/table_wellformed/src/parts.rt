@@ -5,8 +5,9 @@ use crate::checks::either;
 use crate::checks::size_at;
 use table_layout::word;
 ghost use mathlib.Core.Path.{_≡_};
-ghost use Prim.Native.Nat.{_+_, _-_, _<_, _≤_};
+ghost use Prim.Native.Nat.{_+_, _-_, _<_, _≤_, _*_};
 ghost use lib.Dec.{ltb};
+ghost use Rattle.basis.specs.Limits.{max-constructs};
 ghost use Rattle.table_layout.specs.Constructs.{both as bothOf};
 ghost use Rattle.table_wellformed.specs.Checks.{size-at};
 ghost use Rattle.table_wellformed.specs.Parts.{conditioned as conditionedOf, unconditioned as unconditionedOf, default-at, part-laid, parts-laid};
@@ -31,7 +32,7 @@ pub fn unconditioned(table: &[u32], i: usize) -> bool
 }
 
 fn default_case(table: &[u32], first: usize, j: usize, end: usize) -> bool
-    requires { ⌜ j ≤ 512 ⌝ }
+    requires { ⌜ j ≤ 2 * max-constructs ⌝ }
     ensures { λ r. ⌜ r ≡ default-at (now (table .entry)) first j end ⌝ }
 {
     both(
@@ -41,7 +42,7 @@ fn default_case(table: &[u32], first: usize, j: usize, end: usize) -> bool
 }
 
 fn part(table: &[u32], switch: bool, first: usize, j: usize, end: usize) -> bool
-    requires { ⌜ j ≤ 512 ⌝ }
+    requires { ⌜ j ≤ 2 * max-constructs ⌝ }
     ensures { λ r. ⌜ r ≡ bothOf (ltb 0 (size-at (now (table .entry)) j)) (part-laid (now (table .entry)) switch first j end) ⌝ }
 {
     let present = 0 < size_at(table, j);
@@ -56,7 +57,7 @@ fn part(table: &[u32], switch: bool, first: usize, j: usize, end: usize) -> bool
 
 // Whether the parts from `first` on fill what is left up to `end`.
 pub fn parts(table: &[u32], switch: bool, first: usize, end: usize) -> bool
-    requires { ⌜ end ≤ 512 ⌝ }
+    requires { ⌜ end ≤ 2 * max-constructs ⌝ }
     ensures { λ r. ⌜ r ≡ parts-laid (now (table .entry)) switch first end ⌝ }
 {
     let mut j = first;

@@ -5,6 +5,8 @@ use mathlib.Core.Path.{_≡_, refl, ap, _∙_}
 use mathlib.Core.List.{List, [], _∷_, _++_}
 use native.Mathlib.Omega.{arith}
 use lib.ListN.{length, replicate}
+use Rattle.table_layout.specs.Places.{rules-at, variables-at, constructs-at, terms-at, literals-at}
+use Rattle.basis.specs.Limits.{table-words}
 use Rattle.text_store.specs.Words.{kind-of, node-size}
 use Rattle.text_encoding.specs.Lists.{flat, written}
 use Rattle.text_encoding.specs.Numbers.{condition-length, condition-start}
@@ -31,22 +33,22 @@ construct-written xs ns rs r i k ws w v u e f g =
 
 -- the areas of a table
 pub table-written : (xs ns ts rs : List ℕ) (n r : ℕ) (a b c d e f g : List ℕ)
-    → a ≡ replicate 16384 0
+    → a ≡ replicate table-words 0
     → b ≡ written a 0 (header-words ns n r)
-    → c ≡ written b 64 (flat r 0 (rule-words ns rs))
-    → d ≡ written c 320 (flat n 0 (variable-words xs ns))
-    → e ≡ written d 576 (flat n 0 (construct-words xs ns rs r))
-    → f ≡ written e 2624 (flat n 0 (lists-words xs ns ts rs r))
-    → g ≡ written f 5696 (flat n 0 (literal-words xs ns))
+    → c ≡ written b rules-at (flat r 0 (rule-words ns rs))
+    → d ≡ written c variables-at (flat n 0 (variable-words xs ns))
+    → e ≡ written d constructs-at (flat n 0 (construct-words xs ns rs r))
+    → f ≡ written e terms-at (flat n 0 (lists-words xs ns ts rs r))
+    → g ≡ written f literals-at (flat n 0 (literal-words xs ns))
     → g ≡ encoded xs ns ts rs n r
 unfolding encoded
 table-written xs ns ts rs n r a b c d e f g ea eb ec ed ee ef eg =
     eg
-    ∙ ap (λ (l : List ℕ). written l 5696 (flat n 0 (literal-words xs ns)))
+    ∙ ap (λ (l : List ℕ). written l literals-at (flat n 0 (literal-words xs ns)))
     (ef
-    ∙ ap (λ (l : List ℕ). written l 2624 (flat n 0 (lists-words xs ns ts rs r)))
+    ∙ ap (λ (l : List ℕ). written l terms-at (flat n 0 (lists-words xs ns ts rs r)))
     (ee
-    ∙ ap (λ (l : List ℕ). written l 576 (flat n 0 (construct-words xs ns rs r)))
+    ∙ ap (λ (l : List ℕ). written l constructs-at (flat n 0 (construct-words xs ns rs r)))
     (ed
-    ∙ ap (λ (l : List ℕ). written l 320 (flat n 0 (variable-words xs ns)))
-    (ec ∙ ap (λ (l : List ℕ). written l 64 (flat r 0 (rule-words ns rs))) (eb ∙ ap (λ (l : List ℕ). written l 0 (header-words ns n r)) ea)))))
+    ∙ ap (λ (l : List ℕ). written l variables-at (flat n 0 (variable-words xs ns)))
+    (ec ∙ ap (λ (l : List ℕ). written l rules-at (flat r 0 (rule-words ns rs))) (eb ∙ ap (λ (l : List ℕ). written l 0 (header-words ns n r)) ea)))))

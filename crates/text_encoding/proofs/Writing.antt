@@ -6,6 +6,7 @@ use mathlib.Core.List.{List, [], _∷_, _++_, map}
 use native.Mathlib.Omega.{arith}
 use lib.ListN.{length, getD, set, length-append}
 use lib.Seq.{length-sets}
+use Rattle.basis.specs.Limits.{max-literal-bytes}
 use Rattle.text_encoding.specs.Lists.{flat, narrow, written}
 use Rattle.text_encoding.specs.Encoded.{packed}
 
@@ -77,7 +78,7 @@ flat-same zero i f g h = refl
 flat-same (suc n) i f g h = ap₂ (λ (x y : List ℕ). x ++ y) (h i (omega arith)) (flat-same n (i + 1) f g (λ j l. h j (omega arith)))
 
 -- bytes that are the characters, four to a word
-pub bytes-same : (bytes cs : List ℕ) → ((k : ℕ) → k < 32 → getD bytes k 0 ≡ getD cs k 0) → flat 8 0 (λ (j : ℕ). packed bytes (4 * j) ∷ []) ≡ flat 8 0 (λ (j : ℕ). packed cs (4 * j) ∷ [])
+pub bytes-same : (bytes cs : List ℕ) → ((k : ℕ) → k < max-literal-bytes → getD bytes k 0 ≡ getD cs k 0) → flat 8 0 (λ (j : ℕ). packed bytes (4 * j) ∷ []) ≡ flat 8 0 (λ (j : ℕ). packed cs (4 * j) ∷ [])
 bytes-same bytes cs h =
     flat-same 8 0 (λ j. packed bytes (4 * j) ∷ []) (λ j. packed cs (4 * j) ∷ [])
     (λ j l. λ t. (h (4 * j) (omega arith) t + 256 * (h (4 * j + 1) (omega arith) t + 256 * (h (4 * j + 2) (omega arith) t + 256 * h (4 * j + 3) (omega arith) t))) ∷ [])

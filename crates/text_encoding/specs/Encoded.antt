@@ -5,6 +5,8 @@ use mathlib.Core.Bool.{cond}
 use mathlib.Core.List.{List, [], _∷_, _++_}
 use lib.Dec.{ltb, eqb}
 use lib.ListN.{getD, length, replicate}
+use Rattle.table_layout.specs.Places.{rules-at, variables-at, constructs-at, terms-at, literals-at}
+use Rattle.basis.specs.Limits.{table-words}
 use Rattle.text_literals.specs.Literals.{characters-at}
 use Rattle.text_store.specs.Words.{kind-of, node-size, place-of, node-mark, last-place, own-from, condition-from, is-binder, term-tag, term-value, term-at, is-use, first-node, last-node}
 use Rattle.text_encoding.specs.Lists.{flat, written}
@@ -85,10 +87,10 @@ encoded xs ns ts rs n r =
     written
     (written
     (written
-    (written (written (written (replicate 16384 0) 0 (header-words ns n r)) 64 (flat r 0 (rule-words ns rs))) 320 (flat n 0 (variable-words xs ns)))
-    576
+    (written (written (written (replicate table-words 0) 0 (header-words ns n r)) rules-at (flat r 0 (rule-words ns rs))) variables-at (flat n 0 (variable-words xs ns)))
+    constructs-at
     (flat n 0 (construct-words xs ns rs r)))
-    2624
+    terms-at
     (flat n 0 (lists-words xs ns ts rs r)))
-    5696
+    literals-at
     (flat n 0 (literal-words xs ns))

@@ -10,6 +10,8 @@ use crate::numbers::own_length;
 use crate::numbers::width;
 use crate::put::put_four;
 use crate::put::put_three;
+use table_layout::RULES_AT;
+use table_layout::VARIABLES_AT;
 use text_store::CONDITION_FROM;
 use text_store::FIRST_NODE;
 use text_store::LAST_NODE;
@@ -21,13 +23,16 @@ ghost use mathlib.Core.Path.{_≡_};
 ghost use mathlib.Core.List.{List};
 ghost use Prim.Native.Nat.{ℕ, _+_, _*_, _≤_, _<_};
 ghost use lib.ListN.{length, replicate};
+ghost use Rattle.table_layout.specs.Places.{rules-at, variables-at, constructs-at, terms-at, literals-at};
+ghost use Rattle.text_store.specs.Words.{nodes-room, terms-room, rules-room};
+ghost use Rattle.basis.specs.Limits.{max-rules, max-constructs, max-terms, table-words};
 ghost use Rattle.text_encoding.specs.Lists.{flat, written};
 ghost use Rattle.text_encoding.specs.Numbers.{binders-before as binders-beforeOf, condition-start};
 ghost use Rattle.text_encoding.specs.Encoded.{header-words, rule-words, variable-words, construct-words, two-lists, lists-words, literal-words, encoded};
 
 // Where the terms of construct n begin: how many there are before it.
 fn terms_before(nodes: &[usize], n: usize) -> usize
-    requires { ⌜ (length (now nodes) ≡ 2560) × (condition-start (now nodes) n ≤ 1024) ⌝ }
+    requires { ⌜ (length (now nodes) ≡ nodes-room) × (condition-start (now nodes) n ≤ max-terms) ⌝ }
     ensures { λ r. ⌜ r ≡ condition-start (now (nodes .entry)) n ⌝ }
 {
     let mut q = 0;
@@ -40,7 +45,7 @@ fn terms_before(nodes: &[usize], n: usize) -> usize
 }
 
 fn put_header(nodes: &[usize], n: usize, r: usize, table: &mut [u32])
-    requires { ⌜ (length (now nodes) ≡ 2560) × (condition-start (now nodes) n ≤ 1024) ⌝ }
+    requires { ⌜ (length (now nodes) ≡ nodes-room) × (condition-start (now nodes) n ≤ max-terms) ⌝ }
     ensures { λ _. ⌜ now (table .exit) ≡ written (now (table .entry)) 0 (header-words (now (nodes .entry)) n r) ⌝ }
 {
     put_three(table, 0, 1399811687, r, n);
@@ -54,34 +59,41 @@ fn put_header(nodes: &[usize], n: usize, r: usize, table: &mut [u32])
 }
 
 fn put_rules(nodes: &[usize], rules: &[usize], r: usize, table: &mut [u32])
-    requires { ⌜ (length (now nodes) ≡ 2560) × (length (now rules) ≡ 325) × (r ≤ 64) ⌝ }
-    ensures { λ _. ⌜ now (table .exit) ≡ written (now (table .entry)) 64 (flat r 0 (rule-words (now (nodes .entry)) (now (rules .entry)))) ⌝ }
+    requires { ⌜ (length (now nodes) ≡ nodes-room) × (length (now rules) ≡ rules-room) × (r ≤ max-rules) ⌝ }
+    ensures { λ _. ⌜ now (table .exit) ≡ written (now (table .entry)) rules-at (flat r 0 (rule-words (now (nodes .entry)) (now (rules .entry)))) ⌝ }
 {
     let mut k = 0;
     while k < r {
         let first = rule_word(rules, k, FIRST_NODE);
         let before = binders_before(nodes, first);
         let after = binders_before(nodes, rule_word(rules, k, LAST_NODE));
-        put_four(table, 64 + 4 * k, first, before, less(after, before), 0);
+        put_four(
+            table,
+            RULES_AT + 4 * k,
+            first,
+            before,
+            less(after, before),
+            0,
+        );
         k += 1;
     }
 }
 
 // The variable that node i binds, if it binds one, as variable x. Answers the number of the next.
 fn put_variable(text: &[u8], nodes: &[usize], i: usize, x: usize, table: &mut [u32]) -> usize
-    requires { ⌜ (length (now nodes) ≡ 2560) × (i < 256) × (x ≡ binders-beforeOf (now nodes) i) ⌝ }
-    ensures { λ r. ⌜ (now (table .exit) ≡ written (now (table .entry)) (320 + 4 * x) (variable-words (now (text .entry)) (now (nodes .entry)) i)) × (r ≡ binders-beforeOf (now (nodes .entry)) (i + 1)) ⌝ }
+    requires { ⌜ (length (now nodes) ≡ nodes-room) × (i < max-constructs) × (x ≡ binders-beforeOf (now nodes) i) ⌝ }
+    ensures { λ r. ⌜ (now (table .exit) ≡ written (now (table .entry)) (variables-at + 4 * x) (variable-words (now (text .entry)) (now (nodes .entry)) i)) × (r ≡ binders-beforeOf (now (nodes .entry)) (i + 1)) ⌝ }
 {
     if binder(nodes, i) {
-        put_four(table, 320 + 4 * x, i, width(text, nodes, i), 0, 0);
+        put_four(table, VARIABLES_AT + 4 * x, i, width(text, nodes, i), 0, 0);
         return x + 1;
     }
     x
 }
 
 fn put_variables(text: &[u8], nodes: &[usize], n: usize, table: &mut [u32])
-    requires { ⌜ (length (now nodes) ≡ 2560) × (n ≤ 256) ⌝ }
-    ensures { λ _. ⌜ now (table .exit) ≡ written (now (table .entry)) 320 (flat n 0 (variable-words (now (text .entry)) (now (nodes .entry)))) ⌝ }
+    requires { ⌜ (length (now nodes) ≡ nodes-room) × (n ≤ max-constructs) ⌝ }
+    ensures { λ _. ⌜ now (table .exit) ≡ written (now (table .entry)) variables-at (flat n 0 (variable-words (now (text .entry)) (now (nodes .entry)))) ⌝ }
 {
     let mut x = 0;
     let mut i = 0;
@@ -99,8 +111,8 @@ fn put_constructs(
     r: usize,
     table: &mut [u32],
 )
-    requires { ⌜ (length (now nodes) ≡ 2560) × (length (now rules) ≡ 325) × (n ≤ 256) × (condition-start (now nodes) n ≤ 1024) ⌝ }
-    ensures { λ _. ⌜ now (table .exit) ≡ written (now (table .entry)) 576 (flat n 0 (construct-words (now (text .entry)) (now (nodes .entry)) (now (rules .entry)) r)) ⌝ }
+    requires { ⌜ (length (now nodes) ≡ nodes-room) × (length (now rules) ≡ rules-room) × (n ≤ max-constructs) × (condition-start (now nodes) n ≤ max-terms) ⌝ }
+    ensures { λ _. ⌜ now (table .exit) ≡ written (now (table .entry)) constructs-at (flat n 0 (construct-words (now (text .entry)) (now (nodes .entry)) (now (rules .entry)) r)) ⌝ }
 {
     let mut q = 0;
     let mut i = 0;
@@ -121,8 +133,8 @@ fn put_lists(
     q: usize,
     table: &mut [u32],
 )
-    requires { ⌜ (length (now nodes) ≡ 2560) × (length (now terms) ≡ 4096) × (a ≤ i) × (q ≡ condition-start (now nodes) i) × (condition-start (now nodes) (i + 1) ≤ 1024) ⌝ }
-    ensures { λ _. ⌜ now (table .exit) ≡ written (now (table .entry)) (2624 + 3 * q) (two-lists (now (text .entry)) (now (nodes .entry)) (now (terms .entry)) a i) ⌝ }
+    requires { ⌜ (length (now nodes) ≡ nodes-room) × (length (now terms) ≡ terms-room) × (a ≤ i) × (q ≡ condition-start (now nodes) i) × (condition-start (now nodes) (i + 1) ≤ max-terms) ⌝ }
+    ensures { λ _. ⌜ now (table .exit) ≡ written (now (table .entry)) (terms-at + 3 * q) (two-lists (now (text .entry)) (now (nodes .entry)) (now (terms .entry)) a i) ⌝ }
 {
     let n = condition_length(nodes, i);
     list(
@@ -159,8 +171,8 @@ fn put_terms(
     r: usize,
     table: &mut [u32],
 )
-    requires { ⌜ (length (now nodes) ≡ 2560) × (length (now terms) ≡ 4096) × (length (now rules) ≡ 325) × (n ≤ 256) × (condition-start (now nodes) n ≤ 1024) ⌝ }
-    ensures { λ _. ⌜ now (table .exit) ≡ written (now (table .entry)) 2624 (flat n 0 (lists-words (now (text .entry)) (now (nodes .entry)) (now (terms .entry)) (now (rules .entry)) r)) ⌝ }
+    requires { ⌜ (length (now nodes) ≡ nodes-room) × (length (now terms) ≡ terms-room) × (length (now rules) ≡ rules-room) × (n ≤ max-constructs) × (condition-start (now nodes) n ≤ max-terms) ⌝ }
+    ensures { λ _. ⌜ now (table .exit) ≡ written (now (table .entry)) terms-at (flat n 0 (lists-words (now (text .entry)) (now (nodes .entry)) (now (terms .entry)) (now (rules .entry)) r)) ⌝ }
 {
     let mut q = 0;
     let mut i = 0;
@@ -172,8 +184,8 @@ fn put_terms(
 }
 
 fn put_literals(text: &[u8], nodes: &[usize], n: usize, table: &mut [u32])
-    requires { ⌜ (length (now nodes) ≡ 2560) × (n ≤ 256) ⌝ }
-    ensures { λ _. ⌜ now (table .exit) ≡ written (now (table .entry)) 5696 (flat n 0 (literal-words (now (text .entry)) (now (nodes .entry)))) ⌝ }
+    requires { ⌜ (length (now nodes) ≡ nodes-room) × (n ≤ max-constructs) ⌝ }
+    ensures { λ _. ⌜ now (table .exit) ≡ written (now (table .entry)) literals-at (flat n 0 (literal-words (now (text .entry)) (now (nodes .entry)))) ⌝ }
 {
     let mut i = 0;
     while i < n {
@@ -192,7 +204,7 @@ pub fn encode(
     r: usize,
     table: &mut [u32],
 )
-    requires { ⌜ (length (now nodes) ≡ 2560) × (length (now terms) ≡ 4096) × (length (now rules) ≡ 325) × (n ≤ 256) × (r ≤ 64) × (condition-start (now nodes) n ≤ 1024) × (now table ≡ replicate 16384 0) ⌝ }
+    requires { ⌜ (length (now nodes) ≡ nodes-room) × (length (now terms) ≡ terms-room) × (length (now rules) ≡ rules-room) × (n ≤ max-constructs) × (r ≤ max-rules) × (condition-start (now nodes) n ≤ max-terms) × (now table ≡ replicate table-words 0) ⌝ }
     ensures { λ _. ⌜ now (table .exit) ≡ encoded (now (text .entry)) (now (nodes .entry)) (now (terms .entry)) (now (rules .entry)) n r ⌝ }
 {
     put_header(nodes, n, r, table);

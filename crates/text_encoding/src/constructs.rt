@@ -9,6 +9,10 @@ use crate::put::put_four;
 use crate::put::put_one;
 use crate::put::put_three;
 use crate::put::put_two;
+use basis::MAX_LITERAL_BYTES;
+use table_layout::CONSTRUCTS_AT;
+use table_layout::LITERALS_AT;
+use table_layout::TERMS_AT;
 use text_literals::count_at;
 use text_literals::spell;
 use text_store::KIND;
@@ -28,8 +32,10 @@ ghost use mathlib.Core.Bool.{cond};
 ghost use mathlib.Core.List.{[], _∷_};
 ghost use Prim.Native.Nat.{ℕ, _+_, _*_, _≤_, _<_};
 ghost use lib.ListN.{length, getD};
+ghost use Rattle.table_layout.specs.Places.{constructs-at, terms-at, literals-at};
+ghost use Rattle.basis.specs.Limits.{max-constructs, max-terms, max-literal-bytes};
 ghost use Rattle.text_literals.specs.Literals.{characters-at};
-ghost use Rattle.text_store.specs.Words.{kind-of, is-binder};
+ghost use Rattle.text_store.specs.Words.{kind-of, is-binder, nodes-room, terms-room, rules-room};
 ghost use Rattle.text_encoding.specs.Lists.{flat, written};
 ghost use Rattle.text_encoding.specs.Numbers.{binders-before as binders-beforeOf, condition-start, own-start, condition-length as condition-lengthOf};
 ghost use Rattle.text_encoding.specs.Encoded.{start-word, end-word, operands as operandsOf, construct-words, term-words, list-words, packed as packedOf, literal-words};
@@ -44,7 +50,7 @@ fn start_word(start: usize, n: usize) -> usize
 }
 
 fn end_word(start: usize, n: usize) -> usize
-    requires { ⌜ start + n ≤ 1024 ⌝ }
+    requires { ⌜ start + n ≤ max-terms ⌝ }
     ensures { λ r. ⌜ r ≡ end-word start n ⌝ }
 {
     if 0 < n {
@@ -55,7 +61,7 @@ fn end_word(start: usize, n: usize) -> usize
 
 // 1 + the variable that a uint binds, or 0.
 fn binder_word(nodes: &[usize], i: usize) -> usize
-    requires { ⌜ (length (now nodes) ≡ 2560) × (i < 256) ⌝ }
+    requires { ⌜ (length (now nodes) ≡ nodes-room) × (i < max-constructs) ⌝ }
     ensures { λ r. ⌜ r ≡ cond (is-binder (now (nodes .entry)) i) (binders-beforeOf (now (nodes .entry)) i + 1) 0 ⌝ }
 {
     if binder(nodes, i) {
@@ -76,8 +82,8 @@ fn characters(text: &[u8], p: usize) -> usize
 
 // The bytes of the literal at p, over zeros.
 fn spelled(text: &[u8], p: usize, bytes: &mut [u8])
-    requires { ⌜ (length (now bytes) ≡ 32) × ((k : ℕ) → getD (now bytes) k 0 ≡ 0) ⌝ }
-    ensures { λ r. ⌜ ((k : ℕ) → k < 32 → getD (now (bytes .exit)) k 0 ≡ getD (characters-at (now (text .entry)) p) k 0) ⌝ }
+    requires { ⌜ (length (now bytes) ≡ max-literal-bytes) × ((k : ℕ) → getD (now bytes) k 0 ≡ 0) ⌝ }
+    ensures { λ r. ⌜ ((k : ℕ) → k < max-literal-bytes → getD (now (bytes .exit)) k 0 ≡ getD (characters-at (now (text .entry)) p) k 0) ⌝ }
 {
     if p < text.len() {
         spell(text, p, bytes);
@@ -95,7 +101,7 @@ fn byte(bytes: &[u8], k: usize) -> usize
 fn character(text: &[u8], p: usize) -> usize
     ensures { λ r. ⌜ r ≡ getD (characters-at (now (text .entry)) p) 0 0 ⌝ }
 {
-    let mut bytes = [0u8; 32];
+    let mut bytes = [0u8; MAX_LITERAL_BYTES];
     spelled(text, p, &mut bytes);
     byte(&bytes, 0)
 }
@@ -111,7 +117,7 @@ fn operands(
     k: usize,
     table: &mut [u32],
 )
-    requires { ⌜ (length (now nodes) ≡ 2560) × (length (now rules) ≡ 325) × (i < 256) × (own ≡ own-start (now nodes) i) × (condition-start (now nodes) (i + 1) ≤ 1024) × (k < 65536) ⌝ }
+    requires { ⌜ (length (now nodes) ≡ nodes-room) × (length (now rules) ≡ rules-room) × (i < max-constructs) × (own ≡ own-start (now nodes) i) × (condition-start (now nodes) (i + 1) ≤ max-terms) × (k < 65536) ⌝ }
     ensures { λ r. ⌜ now (table .exit) ≡ written (now (table .entry)) k (operandsOf (now (text .entry)) (now (nodes .entry)) (now (rules .entry)) count i (kind-of (now (nodes .entry)) i)) ⌝ }
 {
     let kind = node_word(nodes, i, KIND);
@@ -171,10 +177,10 @@ pub fn construct(
     start: usize,
     table: &mut [u32],
 )
-    requires { ⌜ (length (now nodes) ≡ 2560) × (length (now rules) ≡ 325) × (i < 256) × (start ≡ condition-start (now nodes) i) × (condition-start (now nodes) (i + 1) ≤ 1024) ⌝ }
-    ensures { λ r. ⌜ now (table .exit) ≡ written (now (table .entry)) (576 + 8 * i) (construct-words (now (text .entry)) (now (nodes .entry)) (now (rules .entry)) count i) ⌝ }
+    requires { ⌜ (length (now nodes) ≡ nodes-room) × (length (now rules) ≡ rules-room) × (i < max-constructs) × (start ≡ condition-start (now nodes) i) × (condition-start (now nodes) (i + 1) ≤ max-terms) ⌝ }
+    ensures { λ r. ⌜ now (table .exit) ≡ written (now (table .entry)) (constructs-at + 8 * i) (construct-words (now (text .entry)) (now (nodes .entry)) (now (rules .entry)) count i) ⌝ }
 {
-    let k = 576 + 8 * i;
+    let k = CONSTRUCTS_AT + 8 * i;
     let n = condition_length(nodes, i);
     put_two(
         table,
@@ -196,7 +202,7 @@ fn term(
     k: usize,
     table: &mut [u32],
 )
-    requires { ⌜ (length (now nodes) ≡ 2560) × (length (now terms) ≡ 4096) × (a ≤ i) × (k < 65536) ⌝ }
+    requires { ⌜ (length (now nodes) ≡ nodes-room) × (length (now terms) ≡ terms-room) × (a ≤ i) × (k < 65536) ⌝ }
     ensures { λ r. ⌜ now (table .exit) ≡ written (now (table .entry)) k (term-words (now (text .entry)) (now (nodes .entry)) (now (terms .entry)) a i t) ⌝ }
 {
     let tag = term_word(terms, t, TAG);
@@ -226,18 +232,27 @@ pub fn list(
     q: usize,
     table: &mut [u32],
 )
-    requires { ⌜ (length (now nodes) ≡ 2560) × (length (now terms) ≡ 4096) × (a ≤ i) × (q + n ≤ 1024) × (t + n ≤ 18446744073709551615) ⌝ }
-    ensures { λ r. ⌜ now (table .exit) ≡ written (now (table .entry)) (2624 + 3 * q) (list-words (now (text .entry)) (now (nodes .entry)) (now (terms .entry)) a i t n) ⌝ }
+    requires { ⌜ (length (now nodes) ≡ nodes-room) × (length (now terms) ≡ terms-room) × (a ≤ i) × (q + n ≤ max-terms) × (t + n ≤ 18446744073709551615) ⌝ }
+    ensures { λ r. ⌜ now (table .exit) ≡ written (now (table .entry)) (terms-at + 3 * q) (list-words (now (text .entry)) (now (nodes .entry)) (now (terms .entry)) a i t n) ⌝ }
 {
     let mut j = 0;
     while j < n {
-        term(text, nodes, terms, a, i, t + j, 2624 + 3 * (q + j), table);
+        term(
+            text,
+            nodes,
+            terms,
+            a,
+            i,
+            t + j,
+            TERMS_AT + 3 * (q + j),
+            table,
+        );
         j += 1;
     }
 }
 
 fn packed(bytes: &[u8], k: usize) -> usize
-    requires { ⌜ (length (now bytes) ≡ 32) × (k + 4 ≤ 32) ⌝ }
+    requires { ⌜ (length (now bytes) ≡ max-literal-bytes) × (k + 4 ≤ max-literal-bytes) ⌝ }
     ensures { λ r. ⌜ r ≡ packedOf (now (bytes .entry)) k ⌝ }
 {
     let d = byte(bytes, k + 3);
@@ -247,7 +262,7 @@ fn packed(bytes: &[u8], k: usize) -> usize
 }
 
 fn put_bytes(bytes: &[u8], k: usize, table: &mut [u32])
-    requires { ⌜ (length (now bytes) ≡ 32) × (k < 65536) ⌝ }
+    requires { ⌜ (length (now bytes) ≡ max-literal-bytes) × (k < 65536) ⌝ }
     ensures { λ r. ⌜ now (table .exit) ≡ written (now (table .entry)) k (flat 8 0 (λ (j : ℕ). packedOf (now (bytes .entry)) (4 * j) ∷ [])) ⌝ }
 {
     let mut j = 0;
@@ -259,12 +274,12 @@ fn put_bytes(bytes: &[u8], k: usize, table: &mut [u32])
 
 // The bytes of construct i; the table has zeros there.
 pub fn literal(text: &[u8], nodes: &[usize], i: usize, table: &mut [u32])
-    requires { ⌜ (length (now nodes) ≡ 2560) × (i < 256) ⌝ }
-    ensures { λ r. ⌜ now (table .exit) ≡ written (now (table .entry)) (5696 + 8 * i) (literal-words (now (text .entry)) (now (nodes .entry)) i) ⌝ }
+    requires { ⌜ (length (now nodes) ≡ nodes-room) × (i < max-constructs) ⌝ }
+    ensures { λ r. ⌜ now (table .exit) ≡ written (now (table .entry)) (literals-at + 8 * i) (literal-words (now (text .entry)) (now (nodes .entry)) i) ⌝ }
 {
-    let k = 5696 + 8 * i;
+    let k = LITERALS_AT + 8 * i;
     if node_word(nodes, i, KIND) == 6 {
-        let mut bytes = [0u8; 32];
+        let mut bytes = [0u8; MAX_LITERAL_BYTES];
         spelled(text, node_word(nodes, i, PLACE), &mut bytes);
         put_bytes(&bytes, k, table);
         return;

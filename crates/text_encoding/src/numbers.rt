@@ -16,6 +16,7 @@ use text_tokens::numbers::number_at;
 ghost use mathlib.Core.Path.{_≡_};
 ghost use Prim.Native.Nat.{ℕ, _+_, _-_, _≤_, _<_};
 ghost use lib.ListN.{length};
+ghost use Rattle.text_store.specs.Words.{nodes-room, rules-room};
 ghost use Rattle.text_encoding.specs.Lists.{sum};
 ghost use Rattle.text_encoding.specs.Numbers.{rule-of, first-at as first-atOf, binds-one, binders-before as binders-beforeOf, binder-of, variable-of, width-of, condition-length as condition-lengthOf, own-length as own-lengthOf};
 
@@ -31,7 +32,7 @@ pub fn less(n: usize, m: usize) -> usize
 
 // The first of `count` rules with the name at p; `count` where none has it.
 pub fn rule_number(text: &[u8], rules: &[usize], count: usize, p: usize) -> usize
-    requires { ⌜ length (now rules) ≡ 325 ⌝ }
+    requires { ⌜ length (now rules) ≡ rules-room ⌝ }
     ensures { λ r. ⌜ r ≡ rule-of (now (text .entry)) (now (rules .entry)) count p ⌝ }
 {
     let mut j = 0;
@@ -46,7 +47,7 @@ pub fn rule_number(text: &[u8], rules: &[usize], count: usize, p: usize) -> usiz
 
 // The first node of the rule that node i is in.
 pub fn first_at(rules: &[usize], count: usize, i: usize) -> usize
-    requires { ⌜ length (now rules) ≡ 325 ⌝ }
+    requires { ⌜ length (now rules) ≡ rules-room ⌝ }
     ensures { λ r. ⌜ (r ≡ first-atOf (now (rules .entry)) count i) × (r ≤ i) ⌝ }
 {
     let mut k = count;
@@ -61,7 +62,7 @@ pub fn first_at(rules: &[usize], count: usize, i: usize) -> usize
 }
 
 fn binds_one(nodes: &[usize], j: usize) -> usize
-    requires { ⌜ length (now nodes) ≡ 2560 ⌝ }
+    requires { ⌜ length (now nodes) ≡ nodes-room ⌝ }
     ensures { λ r. ⌜ (r ≡ binds-one (now (nodes .entry)) j) × (r ≤ 1) ⌝ }
 {
     if binder(nodes, j) {
@@ -72,7 +73,7 @@ fn binds_one(nodes: &[usize], j: usize) -> usize
 
 // How many binders stand before node i.
 pub fn binders_before(nodes: &[usize], i: usize) -> usize
-    requires { ⌜ length (now nodes) ≡ 2560 ⌝ }
+    requires { ⌜ length (now nodes) ≡ nodes-room ⌝ }
     ensures { λ r. ⌜ (r ≡ binders-beforeOf (now (nodes .entry)) i) × (r ≤ i) ⌝ }
 {
     let mut n = 0;
@@ -86,7 +87,7 @@ pub fn binders_before(nodes: &[usize], i: usize) -> usize
 
 // The first node from a up to i that binds the name at p; i where none does.
 fn binder_of(text: &[u8], nodes: &[usize], a: usize, i: usize, p: usize) -> usize
-    requires { ⌜ (length (now nodes) ≡ 2560) × (a ≤ i) ⌝ }
+    requires { ⌜ (length (now nodes) ≡ nodes-room) × (a ≤ i) ⌝ }
     ensures { λ r. ⌜ r ≡ binder-of (now (text .entry)) (now (nodes .entry)) a i p ⌝ }
 {
     let mut j = a;
@@ -101,7 +102,7 @@ fn binder_of(text: &[u8], nodes: &[usize], a: usize, i: usize, p: usize) -> usiz
 
 // The variable that the name at p is in node i of a rule whose first node is a.
 pub fn variable_number(text: &[u8], nodes: &[usize], a: usize, i: usize, p: usize) -> usize
-    requires { ⌜ (length (now nodes) ≡ 2560) × (a ≤ i) ⌝ }
+    requires { ⌜ (length (now nodes) ≡ nodes-room) × (a ≤ i) ⌝ }
     ensures { λ r. ⌜ r ≡ variable-of (now (text .entry)) (now (nodes .entry)) a i p ⌝ }
 {
     binders_before(nodes, binder_of(text, nodes, a, i, p))
@@ -109,7 +110,7 @@ pub fn variable_number(text: &[u8], nodes: &[usize], a: usize, i: usize, p: usiz
 
 // A uint's width, at most 33.
 pub fn width(text: &[u8], nodes: &[usize], i: usize) -> usize
-    requires { ⌜ length (now nodes) ≡ 2560 ⌝ }
+    requires { ⌜ length (now nodes) ≡ nodes-room ⌝ }
     ensures { λ r. ⌜ r ≡ width-of (now (text .entry)) (now (nodes .entry)) i ⌝ }
 {
     let p = node_word(nodes, i, WIDTH_PLACE);
@@ -120,7 +121,7 @@ pub fn width(text: &[u8], nodes: &[usize], i: usize) -> usize
 }
 
 pub fn condition_length(nodes: &[usize], i: usize) -> usize
-    requires { ⌜ length (now nodes) ≡ 2560 ⌝ }
+    requires { ⌜ length (now nodes) ≡ nodes-room ⌝ }
     ensures { λ r. ⌜ r ≡ condition-lengthOf (now (nodes .entry)) i ⌝ }
 {
     less(
@@ -130,7 +131,7 @@ pub fn condition_length(nodes: &[usize], i: usize) -> usize
 }
 
 pub fn own_length(nodes: &[usize], i: usize) -> usize
-    requires { ⌜ length (now nodes) ≡ 2560 ⌝ }
+    requires { ⌜ length (now nodes) ≡ nodes-room ⌝ }
     ensures { λ r. ⌜ r ≡ own-lengthOf (now (nodes .entry)) i ⌝ }
 {
     less(node_word(nodes, i, OWN_END), node_word(nodes, i, OWN_FROM))

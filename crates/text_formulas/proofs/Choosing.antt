@@ -5,6 +5,7 @@ use mathlib.Core.Path.{_≡_, refl, sym, subst}
 use mathlib.Core.Bool.{true, false}
 use mathlib.Core.List.{List, [], _∷_}
 use borrow.Author.Tests.{ne-eqb, lt-ltb, le-ltb}
+use Rattle.basis.specs.Limits.{max-nesting}
 use Rattle.text_parsing.specs.Terminals.{begin-like}
 use Rattle.text_store.specs.Store.{put-single}
 use Rattle.text_parsing.specs.Symbols.{want, sign, calculation, item, item-tail, bound, exception, excluded, alternative, alternatives, value-set, counts, counts-tail}
@@ -75,13 +76,13 @@ alternative-only {xs} {c} {a} d i h ns =
     (then (i ns) (skip-then {qs = []} {m = a} refl (λ rs ks. rw (ne-eqb (a .code) 33 h, feed)) nothing))
 
 module _ {xs : List ℕ} {c m k r : Cursor} {ts ts′ : List ℕ} (d : ℕ) where
-  pub excluded-set : c .code ≡ 40 → d < 16 → m ≡ next xs c → ReadsTerms xs (value-set (d + 1) ∷ []) m ts k ts′ → ReadsOn xs (want 41 ∷ []) k r → ReadsTerms xs (excluded d ∷ []) c ts r ts′
+  pub excluded-set : c .code ≡ 40 → d < max-nesting → m ≡ next xs c → ReadsTerms xs (value-set (d + 1) ∷ []) m ts k ts′ → ReadsOn xs (want 41 ∷ []) k r → ReadsTerms xs (excluded d ∷ []) c ts r ts′
   unfolding feed
-  excluded-set e h n a w ns = take-then {qs = value-set (d + 1) ∷ want 41 ∷ []} (rw e refl) n (λ rs ks. rw (e, feed) (rw (lt-ltb d 16 h) refl)) (then (a ns) (w ns ts′))
+  excluded-set e h n a w ns = take-then {qs = value-set (d + 1) ∷ want 41 ∷ []} (rw e refl) n (λ rs ks. rw (e, feed) (rw (lt-ltb d max-nesting h) refl)) (then (a ns) (w ns ts′))
 
-pub excluded-deep : {xs : List ℕ} {c r : Cursor} {ts : List ℕ} (d : ℕ) → c .code ≡ 40 → 16 ≤ d → r ≡ fail c → ReadsTerms xs (excluded d ∷ []) c ts r ts
+pub excluded-deep : {xs : List ℕ} {c r : Cursor} {ts : List ℕ} (d : ℕ) → c .code ≡ 40 → max-nesting ≤ d → r ≡ fail c → ReadsTerms xs (excluded d ∷ []) c ts r ts
 unfolding feed
-excluded-deep {c = c} d e h n ns = fault-only n (λ rs ks. rw (e, feed) (rw (le-ltb d 16 h) refl))
+excluded-deep {c = c} d e h n ns = fault-only n (λ rs ks. rw (e, feed) (rw (le-ltb d max-nesting h) refl))
 
 pub excluded-item : {xs : List ℕ} {c r : Cursor} {ts ts′ : List ℕ} (d : ℕ) → (c .code ≡ 40 → ⊥) → ReadsTerms xs (item ∷ []) c ts r ts′ → ReadsTerms xs (excluded d ∷ []) c ts r ts′
 unfolding feed

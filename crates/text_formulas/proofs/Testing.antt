@@ -6,6 +6,7 @@ use mathlib.Core.Bool.{true, false, not}
 use mathlib.Core.List.{List, [], _∷_}
 use borrow.Author.Tests.{eq-eqb, ne-eqb, lt-ltb, le-ltb}
 use lib.Dec.{eqb}
+use Rattle.basis.specs.Limits.{max-nesting}
 use Rattle.text_parsing.specs.Terminals.{live}
 use Rattle.text_parsing.specs.Symbols.{want, sign, calculation, test, comparison, condition, joined, chain}
 use Rattle.text_parsing.specs.Form.{test-begins, comparison-tag, feed}
@@ -30,13 +31,13 @@ unfolding feed
 comparison-fault {c = c} tag z h n ns = fault-only n (λ rs ks. let w : eqb (comparison-tag (c .code)) 0 ≡ true = eq-eqb (comparison-tag (c .code)) 0 (sym z ∙ h) in rw (w, feed))
 
 module _ {xs : List ℕ} {c m k r : Cursor} {ts ts′ : List ℕ} (d : ℕ) where
-  pub test-group : c .code ≡ 40 → d < 16 → m ≡ next xs c → ReadsTerms xs (condition (d + 1) ∷ []) m ts k ts′ → ReadsOn xs (want 41 ∷ []) k r → ReadsTerms xs (test d ∷ []) c ts r ts′
+  pub test-group : c .code ≡ 40 → d < max-nesting → m ≡ next xs c → ReadsTerms xs (condition (d + 1) ∷ []) m ts k ts′ → ReadsOn xs (want 41 ∷ []) k r → ReadsTerms xs (test d ∷ []) c ts r ts′
   unfolding feed test-begins
-  test-group e h n a w ns = take-then {qs = condition (d + 1) ∷ want 41 ∷ []} (rw e refl) n (λ rs ks. rw (e, test-begins) (rw (lt-ltb d 16 h) refl)) (then (a ns) (w ns ts′))
+  test-group e h n a w ns = take-then {qs = condition (d + 1) ∷ want 41 ∷ []} (rw e refl) n (λ rs ks. rw (e, test-begins) (rw (lt-ltb d max-nesting h) refl)) (then (a ns) (w ns ts′))
 
-pub test-deep : {xs : List ℕ} {c r : Cursor} {ts : List ℕ} (d : ℕ) → c .code ≡ 40 → 16 ≤ d → r ≡ fail c → ReadsTerms xs (test d ∷ []) c ts r ts
+pub test-deep : {xs : List ℕ} {c r : Cursor} {ts : List ℕ} (d : ℕ) → c .code ≡ 40 → max-nesting ≤ d → r ≡ fail c → ReadsTerms xs (test d ∷ []) c ts r ts
 unfolding feed test-begins
-test-deep {c = c} d e h n ns = fault-only n (λ rs ks. rw (e, test-begins) (rw (le-ltb d 16 h) refl))
+test-deep {c = c} d e h n ns = fault-only n (λ rs ks. rw (e, test-begins) (rw (le-ltb d max-nesting h) refl))
 
 pub test-plain : {xs : List ℕ} {c m r : Cursor} {ts ts₁ ts′ : List ℕ} (d : ℕ) → (c .code ≡ 40 → ⊥) → ReadsTerms xs (calculation ∷ []) c ts m ts₁ → ReadsTerms xs (comparison ∷ []) m ts₁ r ts′ → ReadsTerms xs (test d ∷ []) c ts r ts′
 unfolding feed test-begins

@@ -5,6 +5,7 @@ use text_parsing::reading::name;
 use text_parsing::reading::passed;
 use text_parsing::words::add_sign;
 use text_parsing::words::add_term;
+use text_store::TERMS_ROOM;
 ghost use mathlib.Core.Path.{_≡_};
 ghost use mathlib.Core.List.{[], _∷_};
 ghost use Rattle.text_parsing.specs.Cursors.{ReadsTerms};
@@ -12,7 +13,7 @@ ghost use Rattle.text_parsing.specs.Form.{sum-tag};
 ghost use Rattle.text_parsing.specs.Symbols.{primary as primaryOf, operand as operandOf, factors as factorsOf, summands as summandsOf, calculation as calculationOf};
 
 // A number or a variable's use.
-fn primary(text: &[u8], c: Cursor, o: usize, terms: &mut [usize; 4096]) -> Cursor
+fn primary(text: &[u8], c: Cursor, o: usize, terms: &mut [usize; TERMS_ROOM]) -> Cursor
     ensures { λ r. ⌜ ReadsTerms (now (text .entry)) (primaryOf o ∷ []) c (now (terms .entry)) r (now (terms .exit)) ⌝ }
 {
     if c.code == 2 {
@@ -24,7 +25,7 @@ fn primary(text: &[u8], c: Cursor, o: usize, terms: &mut [usize; 4096]) -> Curso
     failed(c)
 }
 
-fn operand(text: &[u8], c: Cursor, o: usize, terms: &mut [usize; 4096]) -> Cursor
+fn operand(text: &[u8], c: Cursor, o: usize, terms: &mut [usize; TERMS_ROOM]) -> Cursor
     ensures { λ r. ⌜ ReadsTerms (now (text .entry)) (operandOf o ∷ []) c (now (terms .entry)) r (now (terms .exit)) ⌝ }
 {
     if c.code == 45 {
@@ -34,7 +35,7 @@ fn operand(text: &[u8], c: Cursor, o: usize, terms: &mut [usize; 4096]) -> Curso
     primary(text, c, o, terms)
 }
 
-fn factors(text: &[u8], from: Cursor, o: usize, terms: &mut [usize; 4096]) -> Cursor
+fn factors(text: &[u8], from: Cursor, o: usize, terms: &mut [usize; TERMS_ROOM]) -> Cursor
     ensures { λ r. ⌜ ReadsTerms (now (text .entry)) (factorsOf o ∷ []) from (now (terms .entry)) r (now (terms .exit)) ⌝ }
 {
     let mut c = from;
@@ -57,7 +58,7 @@ fn sum_tag(code: usize) -> usize
     }
 }
 
-fn summands(text: &[u8], from: Cursor, o: usize, terms: &mut [usize; 4096]) -> Cursor
+fn summands(text: &[u8], from: Cursor, o: usize, terms: &mut [usize; TERMS_ROOM]) -> Cursor
     ensures { λ r. ⌜ ReadsTerms (now (text .entry)) (summandsOf o ∷ []) from (now (terms .entry)) r (now (terms .exit)) ⌝ }
 {
     let mut c = from;
@@ -71,7 +72,7 @@ fn summands(text: &[u8], from: Cursor, o: usize, terms: &mut [usize; 4096]) -> C
     c
 }
 
-pub fn calculation(text: &[u8], c: Cursor, terms: &mut [usize; 4096]) -> Cursor
+pub fn calculation(text: &[u8], c: Cursor, terms: &mut [usize; TERMS_ROOM]) -> Cursor
     ensures { λ r. ⌜ ReadsTerms (now (text .entry)) (calculationOf ∷ []) c (now (terms .entry)) r (now (terms .exit)) ⌝ }
 {
     let o = c.start;

@@ -1,10 +1,12 @@
 // Conditions of switches.
 use crate::calculations::calculation;
+use basis::MAX_NESTING;
 use text_parsing::Cursor;
 use text_parsing::reading::failed;
 use text_parsing::reading::passed;
 use text_parsing::reading::want;
 use text_parsing::words::add_sign;
+use text_store::TERMS_ROOM;
 ghost use mathlib.Core.Path.{_≡_};
 ghost use mathlib.Core.List.{[], _∷_};
 ghost use Rattle.text_parsing.specs.Cursors.{ReadsTerms};
@@ -28,7 +30,7 @@ fn comparison_tag(code: usize) -> usize
     }
 }
 
-fn comparison(text: &[u8], c: Cursor, terms: &mut [usize; 4096]) -> Cursor
+fn comparison(text: &[u8], c: Cursor, terms: &mut [usize; TERMS_ROOM]) -> Cursor
     ensures { λ r. ⌜ ReadsTerms (now (text .entry)) (comparisonOf ∷ []) c (now (terms .entry)) r (now (terms .exit)) ⌝ }
 {
     let tag = comparison_tag(c.code);
@@ -39,11 +41,11 @@ fn comparison(text: &[u8], c: Cursor, terms: &mut [usize; 4096]) -> Cursor
     add_sign(r, tag, c.start, 0, terms)
 }
 
-fn test(text: &[u8], c: Cursor, d: usize, terms: &mut [usize; 4096]) -> Cursor
+fn test(text: &[u8], c: Cursor, d: usize, terms: &mut [usize; TERMS_ROOM]) -> Cursor
     ensures { λ r. ⌜ ReadsTerms (now (text .entry)) (testOf d ∷ []) c (now (terms .entry)) r (now (terms .exit)) ⌝ }
 {
     if c.code == 40 {
-        if d < 16 {
+        if d < MAX_NESTING {
             let r = condition(text, passed(text, c), d + 1, terms);
             return want(text, r, 41);
         }
@@ -59,7 +61,7 @@ fn chain(
     code: usize,
     tag: usize,
     d: usize,
-    terms: &mut [usize; 4096],
+    terms: &mut [usize; TERMS_ROOM],
 ) -> Cursor
     requires { ⌜ live code ≡ true ⌝ }
     ensures { λ r. ⌜ ReadsTerms (now (text .entry)) (chainOf code tag d ∷ []) from (now (terms .entry)) r (now (terms .exit)) ⌝ }
@@ -73,7 +75,7 @@ fn chain(
     c
 }
 
-pub fn condition(text: &[u8], c: Cursor, d: usize, terms: &mut [usize; 4096]) -> Cursor
+pub fn condition(text: &[u8], c: Cursor, d: usize, terms: &mut [usize; TERMS_ROOM]) -> Cursor
     ensures { λ r. ⌜ ReadsTerms (now (text .entry)) (conditionOf d ∷ []) c (now (terms .entry)) r (now (terms .exit)) ⌝ }
 {
     let r = test(text, c, d, terms);

@@ -1,11 +1,13 @@
 // Sets of values, and counts in braces.
 use crate::calculations::calculation;
+use basis::MAX_NESTING;
 use text_parsing::Cursor;
 use text_parsing::reading::begins;
 use text_parsing::reading::failed;
 use text_parsing::reading::passed;
 use text_parsing::reading::want;
 use text_parsing::words::add_sign;
+use text_store::TERMS_ROOM;
 use text_store::stores::mark_single;
 ghost use mathlib.Core.Path.{_≡_};
 ghost use mathlib.Core.List.{[], _∷_};
@@ -19,7 +21,7 @@ fn bound(
     some: usize,
     none: usize,
     p: usize,
-    terms: &mut [usize; 4096],
+    terms: &mut [usize; TERMS_ROOM],
 ) -> Cursor
     ensures { λ r. ⌜ ReadsTerms (now (text .entry)) (boundOf some none p ∷ []) c (now (terms .entry)) r (now (terms .exit)) ⌝ }
 {
@@ -30,7 +32,7 @@ fn bound(
     add_sign(c, none, p, 0, terms)
 }
 
-fn item_tail(text: &[u8], c: Cursor, terms: &mut [usize; 4096]) -> Cursor
+fn item_tail(text: &[u8], c: Cursor, terms: &mut [usize; TERMS_ROOM]) -> Cursor
     ensures { λ r. ⌜ ReadsTerms (now (text .entry)) (item-tail ∷ []) c (now (terms .entry)) r (now (terms .exit)) ⌝ }
 {
     if c.code == 126 {
@@ -40,7 +42,7 @@ fn item_tail(text: &[u8], c: Cursor, terms: &mut [usize; 4096]) -> Cursor
     c
 }
 
-fn item(text: &[u8], c: Cursor, terms: &mut [usize; 4096]) -> Cursor
+fn item(text: &[u8], c: Cursor, terms: &mut [usize; TERMS_ROOM]) -> Cursor
     ensures { λ r. ⌜ ReadsTerms (now (text .entry)) (itemOf ∷ []) c (now (terms .entry)) r (now (terms .exit)) ⌝ }
 {
     if c.code == 126 {
@@ -51,11 +53,11 @@ fn item(text: &[u8], c: Cursor, terms: &mut [usize; 4096]) -> Cursor
 }
 
 // After `!`.
-fn excluded(text: &[u8], c: Cursor, d: usize, terms: &mut [usize; 4096]) -> Cursor
+fn excluded(text: &[u8], c: Cursor, d: usize, terms: &mut [usize; TERMS_ROOM]) -> Cursor
     ensures { λ r. ⌜ ReadsTerms (now (text .entry)) (excludedOf d ∷ []) c (now (terms .entry)) r (now (terms .exit)) ⌝ }
 {
     if c.code == 40 {
-        if d < 16 {
+        if d < MAX_NESTING {
             let r = value_set(text, passed(text, c), d + 1, terms);
             return want(text, r, 41);
         }
@@ -64,7 +66,7 @@ fn excluded(text: &[u8], c: Cursor, d: usize, terms: &mut [usize; 4096]) -> Curs
     item(text, c, terms)
 }
 
-fn alternative(text: &[u8], c: Cursor, d: usize, terms: &mut [usize; 4096]) -> Cursor
+fn alternative(text: &[u8], c: Cursor, d: usize, terms: &mut [usize; TERMS_ROOM]) -> Cursor
     ensures { λ r. ⌜ ReadsTerms (now (text .entry)) (alternativeOf d ∷ []) c (now (terms .entry)) r (now (terms .exit)) ⌝ }
 {
     let a = item(text, c, terms);
@@ -75,7 +77,7 @@ fn alternative(text: &[u8], c: Cursor, d: usize, terms: &mut [usize; 4096]) -> C
     a
 }
 
-pub fn value_set(text: &[u8], from: Cursor, d: usize, terms: &mut [usize; 4096]) -> Cursor
+pub fn value_set(text: &[u8], from: Cursor, d: usize, terms: &mut [usize; TERMS_ROOM]) -> Cursor
     ensures { λ r. ⌜ ReadsTerms (now (text .entry)) (value-set d ∷ []) from (now (terms .entry)) r (now (terms .exit)) ⌝ }
 {
     let mut c = alternative(text, from, d, terms);
@@ -87,7 +89,7 @@ pub fn value_set(text: &[u8], from: Cursor, d: usize, terms: &mut [usize; 4096])
     c
 }
 
-fn counts_tail(text: &[u8], c: Cursor, terms: &mut [usize; 4096]) -> Cursor
+fn counts_tail(text: &[u8], c: Cursor, terms: &mut [usize; TERMS_ROOM]) -> Cursor
     ensures { λ r. ⌜ ReadsTerms (now (text .entry)) (counts-tail ∷ []) c (now (terms .entry)) r (now (terms .exit)) ⌝ }
 {
     if c.code == 126 {
@@ -96,7 +98,7 @@ fn counts_tail(text: &[u8], c: Cursor, terms: &mut [usize; 4096]) -> Cursor
     c
 }
 
-pub fn counts(text: &[u8], c: Cursor, terms: &mut [usize; 4096]) -> Cursor
+pub fn counts(text: &[u8], c: Cursor, terms: &mut [usize; TERMS_ROOM]) -> Cursor
     ensures { λ r. ⌜ ReadsTerms (now (text .entry)) (countsOf ∷ []) c (now (terms .entry)) r (now (terms .exit)) ⌝ }
 {
     if c.code == 126 {

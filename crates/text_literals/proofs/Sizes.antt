@@ -9,6 +9,7 @@ use native.Mathlib.Omega.{arith}
 use borrow.Author.Tests.{leb-true, eqb-true}
 use lib.Dec.{leb, eqb}
 use lib.ListN.{length, getD, drop}
+use Rattle.basis.specs.Limits.{max-literal-bytes}
 use Rattle.text_header.specs.Bytes.{is-printable, digit-of, in-radix}
 use Rattle.text_header.proofs.Tests.{both-first, both-second, within-high, which, picked}
 use Rattle.text_literals.specs.Literals.{is-quote, between, escaped, widened, part-after, stops, counted, literal-reach, literal-at, is-closed, is-right, with-character, characters, characters-at}
@@ -146,9 +147,9 @@ closed-one n Closed e h = h
 closed-one n Wrong e h = let z : _≡_ {A = ℕ} 0 1 = cc in absurd (omega arith)
 
 -- "1 to 32 characters"
-pub right-sized : (xs : List ℕ) (i : ℕ) → is-right (literal-at xs i) ≡ true → (1 ≤ length (characters-at xs i)) × (length (characters-at xs i) ≤ 32)
+pub right-sized : (xs : List ℕ) (i : ℕ) → is-right (literal-at xs i) ≡ true → (1 ≤ length (characters-at xs i)) × (length (characters-at xs i) ≤ max-literal-bytes)
 right-sized xs i e =
     let n : literal-at xs i .count ≡ 0 + length (characters-at xs i) = reach-count (getD xs i 0) Start 0 (i + 1) (drop (i + 1) xs)
-    in let low : 1 ≤ literal-at xs i .count = closed-one (literal-at xs i .count) (literal-at xs i .part) (both-first (is-closed (literal-at xs i .part)) (leb (literal-at xs i .count) 32) e) (reach-counts (getD xs i 0) Start 0 (i + 1) (drop (i + 1) xs) tt)
-    in let high : literal-at xs i .count ≤ 32 = leb-true (literal-at xs i .count) 32 (both-second (is-closed (literal-at xs i .part)) (leb (literal-at xs i .count) 32) e)
+    in let low : 1 ≤ literal-at xs i .count = closed-one (literal-at xs i .count) (literal-at xs i .part) (both-first (is-closed (literal-at xs i .part)) (leb (literal-at xs i .count) max-literal-bytes) e) (reach-counts (getD xs i 0) Start 0 (i + 1) (drop (i + 1) xs) tt)
+    in let high : literal-at xs i .count ≤ max-literal-bytes = leb-true (literal-at xs i .count) max-literal-bytes (both-second (is-closed (literal-at xs i .part)) (leb (literal-at xs i .count) max-literal-bytes) e)
     in (omega arith, omega arith)

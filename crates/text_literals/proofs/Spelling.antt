@@ -7,6 +7,7 @@ use native.Mathlib.Omega.{arith}
 use native.Mathlib.Decide.{decLt}
 use lib.ListN.{length, getD, set, replicate, length-set}
 use lib.Seq.{getD-set-same, getD-set-other}
+use Rattle.basis.specs.Limits.{max-literal-bytes}
 use Rattle.text_literals.specs.Literals.{counted, with-character, value-of}
 use Rattle.text_literals.specs.declared.Part.{Part}
 use Rattle.text_literals.specs.declared.Part.the-variants.{Start, Escape, Bracket, Digits, Character, Closed, Wrong}
@@ -32,12 +33,12 @@ set-zero (x ∷ xs) (suc n) (suc k) h = set-zero xs n k h
 
 -- n characters of `all` are put, and these are to come
 pub record Spelling (all bytes : List ℕ) (n : ℕ) (rest : List ℕ) : Type 0 where
-  pub room : length bytes ≡ 32
-  pub put : (k : ℕ) → k < n → k < 32 → getD bytes k 0 ≡ getD all k 0
+  pub room : length bytes ≡ max-literal-bytes
+  pub put : (k : ℕ) → k < n → k < max-literal-bytes → getD bytes k 0 ≡ getD all k 0
   pub zeros : (k : ℕ) → n ≤ k → getD bytes k 0 ≡ 0
   pub to-come : (k : ℕ) → getD all (n + k) 0 ≡ getD rest k 0
 
-pub spelling-start : {all bytes : List ℕ} → length bytes ≡ 32 → ((k : ℕ) → getD bytes k 0 ≡ 0) → Spelling all bytes 0 all
+pub spelling-start : {all bytes : List ℕ} → length bytes ≡ max-literal-bytes → ((k : ℕ) → getD bytes k 0 ≡ 0) → Spelling all bytes 0 all
 spelling-start {all} h z =
     record { room = h; put = λ k l. absurd (omega arith); zeros = λ k l. z k; to-come = λ k. ap (λ (j : ℕ). getD all j 0) (let e : 0 + k ≡ k = omega arith in e) }
 
@@ -74,7 +75,7 @@ module _ {all bytes : List ℕ} {n : ℕ} where
   spelling-turn Closed h = no-character h
   spelling-turn Wrong h = no-character h
 
-  pub spelling-end : Spelling all bytes n [] → (k : ℕ) → k < 32 → getD bytes k 0 ≡ getD all k 0
+  pub spelling-end : Spelling all bytes n [] → (k : ℕ) → k < max-literal-bytes → getD bytes k 0 ≡ getD all k 0
   spelling-end h k m =
       elim (decLt k n) [
         | yes q ↦ h .put k q m

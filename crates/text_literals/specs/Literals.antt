@@ -5,6 +5,7 @@ use mathlib.Core.Bool.{Bool, true, false, cond, _&&_, _||_}
 use mathlib.Core.List.{List, [], _∷_}
 use lib.Dec.{leb, eqb}
 use lib.ListN.{getD, drop}
+use Rattle.basis.specs.Limits.{max-literal-bytes}
 use Rattle.text_header.specs.Bytes.{is-printable, digit-of, in-radix}
 use Rattle.text_literals.specs.declared.Part.{Part}
 use Rattle.text_literals.specs.declared.Part.the-variants.{Start, Escape, Bracket, Digits, Character, Closed, Wrong}
@@ -90,7 +91,7 @@ is-closed Wrong = false
 
 -- "1 to 32 characters"; an empty one is wrong at its closing quote
 abbrev pub is-right : Extent → Bool
-is-right r = is-closed (r .part) && leb (r .count) 32
+is-right r = is-closed (r .part) && leb (r .count) max-literal-bytes
 
 -- ---- the characters, "8 bits a character"
 

@@ -1,4 +1,5 @@
 // Literals and their characters.
+use basis::MAX_LITERAL_BYTES;
 use text_header::bytes::both;
 use text_header::bytes::digit_value;
 use text_header::bytes::either;
@@ -6,6 +7,7 @@ use text_header::bytes::printable;
 ghost use mathlib.Core.Path.{_≡_};
 ghost use Prim.Native.Nat.{ℕ, _+_, _≤_, _<_};
 ghost use lib.ListN.{length, getD, set};
+ghost use Rattle.basis.specs.Limits.{max-literal-bytes};
 ghost use Rattle.text_literals.specs.Literals.{is-quote, between as betweenOf, escaped as escapedOf, widened as widenedOf, part-after, stops as stopsOf, counted as countedOf, literal-at, is-closed, is-right, characters-at, value-of};
 
 // How far a literal is read.
@@ -198,7 +200,7 @@ pub fn right(r: Extent) -> bool
     ensures { λ b. ⌜ b ≡ is-right r ⌝ }
 {
     let part = r.part;
-    both(closed(part), r.count <= 32)
+    both(closed(part), r.count <= MAX_LITERAL_BYTES)
 }
 
 // How many characters the literal at `at` has.
@@ -233,8 +235,8 @@ fn keep(bytes: &mut [u8], n: usize, b: u8)
 
 // The first 32 characters of the literal at `at`, over zeros. What is no character is kept as 0, where the next one goes.
 pub fn spell(text: &[u8], at: usize, bytes: &mut [u8])
-    requires { ⌜ (at < length (now text)) × (length (now bytes) ≡ 32) × ((k : ℕ) → getD (now bytes) k 0 ≡ 0) ⌝ }
-    ensures { λ r. ⌜ ((k : ℕ) → k < 32 → getD (now (bytes .exit)) k 0 ≡ getD (characters-at (now (text .entry)) at) k 0) ⌝ }
+    requires { ⌜ (at < length (now text)) × (length (now bytes) ≡ max-literal-bytes) × ((k : ℕ) → getD (now bytes) k 0 ≡ 0) ⌝ }
+    ensures { λ r. ⌜ ((k : ℕ) → k < max-literal-bytes → getD (now (bytes .exit)) k 0 ≡ getD (characters-at (now (text .entry)) at) k 0) ⌝ }
 {
     let quote = text[at];
     let mut part = Part::Start;

@@ -6,6 +6,7 @@ use mathlib.Core.List.{List}
 use native.Mathlib.Omega.{arith}
 use lib.IntN.{pos}
 use lib.ListN.{length}
+use Rattle.basis.specs.Limits.{max-variables}
 use Rattle.term_words.specs.Words.{terms}
 use Rattle.term_words.specs.declared.Kind.{Kind}
 use Rattle.term_words.specs.declared.Mode.{Mode}
@@ -44,7 +45,7 @@ judged-any Kind.Calculation r a b at e = calculated-any (numberOf r) a b at e
 judged-any Kind.Set r a b at e = tested-any (verdictOf r) a b at e
 judged-any Kind.Condition r a b at e = tested-any (verdictOf r) a b at e
 
-module _ (v widest : Values) (many : length widest ≡ 64) (inside : Inside v widest) where
+module _ (v widest : Values) (many : length widest ≡ max-variables) (inside : Inside v widest) where
   pub list-fits : (kind : Kind) (list : List Term) (i : ℕ) → ((at : ℕ) → sizes kind widest i list ≡ Sized.Exceeds at → ⊥) → ListFits kind list v
   unfolding sizes
   list-fits kind list i small =

@@ -11,9 +11,10 @@ use borrow.Author.Tests.{ltb-true, ltb-false}
 use lib.Dec.{eqb, ltb}
 use lib.IntN.{pos}
 use lib.ListN.{length, replicate}
+use Rattle.basis.specs.Limits.{max-constructs, max-variables}
 use Rattle.text_header.proofs.Tests.{which}
 use Rattle.theory.specs.Grammar.{alternative, use-of}
-use Rattle.table_layout.specs.Places.{construct-word}
+use Rattle.table_layout.specs.Places.{construct-word, constructs-at}
 use Rattle.table_layout.specs.Constructs.{pick, constructOf, constructAt}
 use Rattle.table_layout.specs.Held.{first-context, use-node, node-of, opening, held}
 use Rattle.table_layout.specs.declared.Construct.{Construct}
@@ -31,18 +32,18 @@ module _ {xs ns ts rs : List ℕ} {n t b r : ℕ} (text : Readable xs ns ts rs n
   ws = encoded xs ns ts rs n r
 
   -- the words of a number that is no node are 0
-  zero-word : (i k : ℕ) → n ≤ i → i < 256 → k < 8 → construct-word ws i k ≡ 0
-  zero-word i k l h m = words-by-place text stored places .constructs-rest (576 + 8 * i + k) (omega arith) (omega arith)
+  zero-word : (i k : ℕ) → n ≤ i → i < max-constructs → k < 8 → construct-word ws i k ≡ 0
+  zero-word i k l h m = words-by-place text stored places .constructs-rest (constructs-at + 8 * i + k) (omega arith) (omega arith)
 
   past : (i : ℕ) → n ≤ i → constructAt ws i ≡ Construct.Missing
   unfolding constructAt constructOf
   past i l =
       ⊎-elim
-      (λ (e : ltb i 256 ≡ true).
-      let h : i < 256 = ltb-true i 256 e in
+      (λ (e : ltb i max-constructs ≡ true).
+      let h : i < max-constructs = ltb-true i max-constructs e in
       rw (e, zero-word i 0 l h (omega arith), zero-word i 1 l h (omega arith)) refl)
-      (λ (e : ltb i 256 ≡ false). rw e refl)
-      (which (ltb i 256))
+      (λ (e : ltb i max-constructs ≡ false). rw e refl)
+      (which (ltb i max-constructs))
 
   node-is : (i : ℕ) → node-of ws i (constructAt ws i) ≡ pick (ltb i n) (meant-node xs ns ts rs r i) (alternative [])
   unfolding node-of
@@ -54,4 +55,4 @@ module _ {xs ns ts rs : List ℕ} {n t b r : ℕ} (text : Readable xs ns ts rs n
 
   pub holds-text : held (encoded xs ns ts rs n r) ≡ grammar-of xs ns ts rs n r
   unfolding held grammar-of
-  holds-text = λ t. record { node = λ i. pick (eqb i opening) (opening-is t) (node-is i t); start = opening; context = first-context; values = replicate 64 (pos 0) }
+  holds-text = λ t. record { node = λ i. pick (eqb i opening) (opening-is t) (node-is i t); start = opening; context = first-context; values = replicate max-variables (pos 0) }

@@ -6,6 +6,7 @@ use mathlib.Core.List.{List, map}
 use mathlib.Core.Option.{some}
 use native.Mathlib.Omega.{arith}
 use lib.ListN.{length}
+use Rattle.basis.specs.Limits.{max-variables}
 use Rattle.term_words.specs.Words.{terms}
 use Rattle.table_layout.specs.Held.{term-words}
 use Rattle.text_shapes.specs.TermShapes.{read-terms, rename-term, SetShape, ConditionShape, CountsShape}
@@ -58,7 +59,7 @@ module _ {xs ns ts rs : List ℕ} {n t b r : ℕ} (text : Readable xs ns ts rs n
 
   module _ (i : ℕ) (h : i < n) where
     -- under any numbers that are the variables' own below 64
-    module _ (g : ℕ → ℕ) (same : (p : ℕ) → variable-of xs ns (first-at rs r i) i p < 64 → variable-of xs ns (first-at rs r i) i p ≡ g p) where
+    module _ (g : ℕ → ℕ) (same : (p : ℕ) → variable-of xs ns (first-at rs r i) i p < max-variables → variable-of xs ns (first-at rs r i) i p ≡ g p) where
       pub own-under : OwnShape ns ts t i → terms (term-words ws) (own-start ns i) (own-start ns i + own-length ns i) ≡ map (rename-term g) (read-terms ts (own-from ns i) (own-length ns i))
       own-under o = terms-named (own-listed (words-by-place text stored places) (nodes text) text (few-binders text stored places) (few-terms text stored places) (term-placed text stored places) i h (o .within)) g same (o .known)
 

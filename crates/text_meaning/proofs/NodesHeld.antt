@@ -13,6 +13,7 @@ use lib.Dec.{eqb, ltb}
 use lib.IntN.{pos}
 use lib.ListN.{length, getD, drop, set}
 use lib.Seq.{drop-cons, drop-length}
+use Rattle.basis.specs.Limits.{max-literal-bytes}
 use Rattle.text_header.proofs.Tests.{which}
 use Rattle.basis.specs.Bits.{value}
 use Rattle.basis.specs.Counts.{Counts}
@@ -24,7 +25,7 @@ use Rattle.term_evaluation.specs.Meaning.{membership, condition}
 use Rattle.term_evaluation.specs.Counts.{formOf, counts}
 use Rattle.term_evaluation.specs.Variables.{hasVariable}
 use Rattle.theory.specs.Grammar.{_∈_, alternative, concatenation, repetition, switch, use-of, field}
-use Rattle.table_layout.specs.Places.{word, construct-word}
+use Rattle.table_layout.specs.Places.{word, construct-word, literals-at}
 use Rattle.table_layout.specs.Constructs.{pick, constructAt}
 use Rattle.table_layout.specs.Held.{Values, HeldNode, term-words, size-of, parts, allowed, isYes, isExact, passes-allowed, passes-static, passes-fixed, first-case, literal-byte, literal-bytes, literal-node, bound, node-of}
 use Rattle.table_layout.specs.declared.Construct.{Construct}
@@ -221,9 +222,9 @@ module _ {xs ns ts rs : List ℕ} {n t b r : ℕ} (text : Readable xs ns ts rs n
         let list : List ℕ = characters-at xs (place-of ns i) in
         let at : (j : ℕ) → j < length list → literal-byte ws i j ≡ getD list j 0 =
         λ j l.
-        let m : j < 32 = omega (arith, literal-small text stored places i h k .0) in
+        let m : j < max-literal-bytes = omega (arith, literal-small text stored places i h k .0) in
         let p : 2 ^ (8 * (j % 4)) ≡ 256 ^ (j % 4) = powers (j % 4) (omega arith) in
-        ap (λ (d : ℕ). word ws (5696 + 8 * i + j / 4) / d % 256) p ∙ byte-is (words-by-place text stored places) (constructs-known text stored places) (literal-small text stored places) i j h m k in
+        ap (λ (d : ℕ). word ws (literals-at + 8 * i + j / 4) / d % 256) p ∙ byte-is (words-by-place text stored places) (constructs-known text stored places) (literal-small text stored places) i j h m k in
         rw k (ap literal-node (bytes-same ws i list at (length list) 0 (omega arith)))
 
     range-held : kind-of ns i ≡ 7 → Held

@@ -10,6 +10,7 @@ use native.Mathlib.Omega.{arith}
 use lib.IntN.{ℤ, pos}
 use lib.ListN.{length, length-append}
 use lib.Seq.{getD-append-add}
+use Rattle.basis.specs.Limits.{max-variables}
 use Rattle.text_header.proofs.Tests.{which}
 use Rattle.basis.specs.Counts.{Counts, zero-or-more}
 use Rattle.term_words.specs.Words.{terms}
@@ -51,12 +52,12 @@ allowed-shown (Counts.from low) = refl
 allowed-shown (Counts.within low more) = refl
 
 -- what is neither malformed nor too large passes
-passes : (kind : Kind) (list : List Term) (v : Values) (f : ListFits kind list v) → ((w : List ℤ) → length w ≡ 64 → sizes kind w 0 list ≡ Sized.Malformed → ⊥) → sizes kind (f .widest) 0 list ≡ Sized.Passes
+passes : (kind : Kind) (list : List Term) (v : Values) (f : ListFits kind list v) → ((w : List ℤ) → length w ≡ max-variables → sizes kind w 0 list ≡ Sized.Malformed → ⊥) → sizes kind (f .widest) 0 list ≡ Sized.Passes
 passes kind list v f formed = list-passes v (f .widest) (f .inside) kind 0 list (formed v (f .inside .same ∙ f .many)) (f .small)
 
 -- ---- a set, and a condition: `tree` is the tree, `small` the same with the variables cut at 63
 
-module _ (list : List Term) (tree small : ValueSet) (is : list ≡ setTerms tree) (cut : list ≡ setTerms small) (room : SetRoom 64 small 0) where
+module _ (list : List Term) (tree small : ValueSet) (is : list ≡ setTerms tree) (cut : list ≡ setTerms small) (room : SetRoom max-variables small 0) where
   pub set-has : (v : Values) → ListFits Kind.Set list v → (n : ℕ) → in-set list v n ≡ has v tree (pos n)
   set-has v f n =
       let p : sizes Kind.Set (f .widest) 0 list ≡ Sized.Passes =
@@ -67,7 +68,7 @@ module _ (list : List Term) (tree small : ValueSet) (is : list ≡ setTerms tree
   set-first v f n =
       ⊎-elim (λ (e : hasVariable list ≡ true). rw e refl) (λ (e : hasVariable list ≡ false). rw e (ap isYes (membership-constant [] v (pos n) 0 list e) ∙ set-has v f n)) (which (hasVariable list))
 
-pub condition-has : (list : List Term) (tree small : Condition) → list ≡ conditionTerms tree → list ≡ conditionTerms small → ConditionRoom 64 small 0 → (v : Values) → ListFits Kind.Condition list v → isYes (condition v 0 list) ≡ true-at v tree
+pub condition-has : (list : List Term) (tree small : Condition) → list ≡ conditionTerms tree → list ≡ conditionTerms small → ConditionRoom max-variables small 0 → (v : Values) → ListFits Kind.Condition list v → isYes (condition v 0 list) ≡ true-at v tree
 condition-has list tree small is cut room v f =
     let p : sizes Kind.Condition (f .widest) 0 list ≡ Sized.Passes =
     passes Kind.Condition list v f (λ w l z. condition-formed w 0 small (rw l room) (sym (ap (sizes Kind.Condition w 0) cut) ∙ z)) in
@@ -97,11 +98,11 @@ form-is (on-from a) = ap (λ (y : Term). isExact (formOf y)) (last-end (calculat
 form-is (up-to b) = ap (λ (y : Term). isExact (formOf y)) (last-end (calculationTerms b) Term.UpTo)
 form-is (spanning a b) = ap (λ (y : Term). isExact (formOf y)) (last-end (calculationTerms a ++ calculationTerms b) Term.Range)
 
-module _ (ws : List ℕ) (s e : ℕ) (some-terms : s < e) (list : List Term) (there : terms ws s e ≡ list) (tree small : Repeats) (is : list ≡ repeatTerms tree) (cut : list ≡ repeatTerms small) (room : RepeatsRoom 64 small) where
+module _ (ws : List ℕ) (s e : ℕ) (some-terms : s < e) (list : List Term) (there : terms ws s e ≡ list) (tree small : Repeats) (is : list ≡ repeatTerms tree) (cut : list ≡ repeatTerms small) (room : RepeatsRoom max-variables small) where
   counts-pass : (v : Values) (f : CountsFit list v) → countSizes (f .widest) ws s e ≡ Sized.Passes
   unfolding countSizes
   counts-pass v f =
-      let l : length v ≡ 64 = f .inside .same ∙ f .many in
+      let l : length v ≡ max-variables = f .inside .same ∙ f .many in
       counts-passes v (f .widest) (f .inside) ws s e (not-malformed (countSizes v ws s e) (counts-formed v ws s e small (rw l room) (there ∙ cut)))
       (λ at z.
       let o : tallied Mode.Sizes (f .widest) ws s e .counted ≡ Counted.Overflow = overflow-of (tallied Mode.Sizes (f .widest) ws s e .counted) (tallied Mode.Sizes (f .widest) ws s e .at) at z in

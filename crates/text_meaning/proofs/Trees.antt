@@ -18,7 +18,7 @@ use Rattle.term_trees.specs.Postfix.{setTerms, conditionTerms, repeatTerms}
 use Rattle.theory.specs.Grammar.{_∈_, repetition, switch}
 use Rattle.theory.specs.Machine.{choose}
 use Rattle.table_layout.specs.Constructs.{pick}
-use Rattle.table_layout.specs.Held.{Values, HeldNode, term-words, isExact}
+use Rattle.table_layout.specs.Held.{Values, HeldNode, term-words, isExact, opening}
 use Rattle.text_shapes.specs.TermShapes.{read-terms, rename-term, renamed-set, renamed-condition, renamed-repeats, SetShape, CountsShape}
 use Rattle.text_shapes.specs.NodeShapes.{Conditioned}
 use Rattle.text_shapes.specs.Stored.{Stored}
@@ -60,7 +60,7 @@ module _ {xs ns ts rs : List ℕ} {n t b r : ℕ} (text : Readable xs ns ts rs n
   -- a number below n is its node
   node-below : (i : ℕ) → i < n → grammar-of xs ns ts rs n r .node i ≡ meant-node xs ns ts rs r i
   unfolding grammar-of
-  node-below i h = rw (ne-eqb i 256 (λ z. omega (arith, text .nodes-limit)), lt-ltb i n h) refl
+  node-below i h = rw (ne-eqb i opening (λ z. omega (arith, text .nodes-limit)), lt-ltb i n h) refl
 
   module _ (i : ℕ) (h : i < n) where
     -- the numbers of variables at node i

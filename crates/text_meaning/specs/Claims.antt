@@ -7,6 +7,7 @@ use mathlib.Core.List.{List, [], _∷_}
 use mathlib.Core.Option.{Option, none, some}
 use lib.IntN.{ℤ, pos}
 use lib.ListN.{length, set}
+use Rattle.basis.specs.Limits.{max-variables}
 use Rattle.basis.specs.Bits.{Bits, value}
 use Rattle.basis.specs.Counts.{Counts, zero-or-more}
 use Rattle.term_words.specs.declared.Kind.{Kind}
@@ -30,7 +31,7 @@ use Rattle.text_meaning.specs.Meaning.{counted, parts-of, own-list, cond
 -- lie within sizes of the 64 variables at which no calculation of a list passes 2^62.
 pub record Fits (sized : List ℤ → Sized) (v : Values) : Type 0 where
   pub widest : List ℤ
-  pub many : length widest ≡ 64
+  pub many : length widest ≡ max-variables
   pub inside : Inside v widest
   pub small : (at : ℕ) → sized widest ≡ Sized.Exceeds at → ⊥
 

@@ -8,6 +8,7 @@ use mathlib.Core.Option.{Option, none, some}
 use lib.Dec.{eqb, ltb}
 use lib.IntN.{pos}
 use lib.ListN.{length, getD, take, set, replicate}
+use Rattle.basis.specs.Limits.{max-variables}
 use Rattle.basis.specs.Bits.{value}
 use Rattle.basis.specs.Counts.{Counts, zero-or-one, zero-or-more, one-or-more}
 use Rattle.text_literals.specs.Literals.{characters-at}
@@ -144,5 +145,5 @@ grammar-of xs ns ts rs n r =
       node = λ i. pick (eqb i opening) (opened rs 0) (pick (ltb i n) (meant-node xs ns ts rs r i) (alternative []));
       start = opening;
       context = first-context;
-      values = replicate 64 (pos 0);
+      values = replicate max-variables (pos 0);
     }

@@ -5,12 +5,13 @@ use Prim.Native.Nat.{ℕ}
 use mathlib.Core.Bool.{Bool, _||_}
 use mathlib.Core.List.{List}
 use lib.Dec.{leb, ltb}
+use Rattle.basis.specs.Limits.{max-rules, max-constructs, max-variables, max-terms}
 use Rattle.text_names.specs.Counting.{place-if, least-between}
 use Rattle.text_store.specs.Words.{named-at, last-node, terms-at-end, binders-at-end}
 
 -- within rule k, or at its end, a total is past its limit
 abbrev pub passed-in : List ℕ → ℕ → Bool
-passed-in rs k = leb 64 k || (ltb 256 (last-node rs k) || (ltb 1024 (terms-at-end rs k) || ltb 64 (binders-at-end rs k)))
+passed-in rs k = leb max-rules k || (ltb max-constructs (last-node rs k) || (ltb max-terms (terms-at-end rs k) || ltb max-variables (binders-at-end rs k)))
 
 -- rule k's name, if so
 abbrev pub limit-place : List ℕ → ℕ → ℕ

@@ -18,6 +18,7 @@ ghost use mathlib.Core.Path.{_≡_};
 ghost use mathlib.Core.Bool.{true};
 ghost use Prim.Native.Nat.{_≤_};
 ghost use lib.ListN.{length};
+ghost use Rattle.text_store.specs.Words.{nodes-room, rules-room};
 ghost use Rattle.text_names.specs.Names.{name-at, same-name, is-reserved, rule-named, binds as bindsOf, bound-between, rule-fault, use-fault, holds as holdsOf, held as heldOf, held-between, is-misplaced, binder-fault, variable-fault};
 
 fn name_at(text: &[u8], p: usize) -> &[u8]
@@ -44,7 +45,7 @@ fn reserved_at(text: &[u8], p: usize) -> bool
 
 // Whether one of the first `count` rules has the name at p.
 fn named(text: &[u8], rules: &[usize], count: usize, p: usize) -> bool
-    requires { ⌜ length (now rules) ≡ 325 ⌝ }
+    requires { ⌜ length (now rules) ≡ rules-room ⌝ }
     ensures { λ r. ⌜ r ≡ rule-named (now (text .entry)) (now (rules .entry)) count p ⌝ }
 {
     let mut j = 0;
@@ -58,7 +59,7 @@ fn named(text: &[u8], rules: &[usize], count: usize, p: usize) -> bool
 }
 
 pub fn binds(text: &[u8], nodes: &[usize], p: usize, j: usize) -> bool
-    requires { ⌜ length (now nodes) ≡ 2560 ⌝ }
+    requires { ⌜ length (now nodes) ≡ nodes-room ⌝ }
     ensures { λ r. ⌜ r ≡ bindsOf (now (text .entry)) (now (nodes .entry)) p j ⌝ }
 {
     if binder(nodes, j) {
@@ -69,7 +70,7 @@ pub fn binds(text: &[u8], nodes: &[usize], p: usize, j: usize) -> bool
 
 // Whether one of the nodes from a up to e binds the name at p.
 fn bound(text: &[u8], nodes: &[usize], a: usize, e: usize, p: usize) -> bool
-    requires { ⌜ length (now nodes) ≡ 2560 ⌝ }
+    requires { ⌜ length (now nodes) ≡ nodes-room ⌝ }
     ensures { λ r. ⌜ r ≡ bound-between (now (text .entry)) (now (nodes .entry)) a e p ⌝ }
 {
     let mut j = a;
@@ -83,7 +84,7 @@ fn bound(text: &[u8], nodes: &[usize], a: usize, e: usize, p: usize) -> bool
 }
 
 pub fn rule_fault(text: &[u8], rules: &[usize], k: usize) -> bool
-    requires { ⌜ length (now rules) ≡ 325 ⌝ }
+    requires { ⌜ length (now rules) ≡ rules-room ⌝ }
     ensures { λ r. ⌜ r ≡ rule-fault (now (text .entry)) (now (rules .entry)) k ⌝ }
 {
     let p = rule_word(rules, k, NAMED_AT);
@@ -99,7 +100,7 @@ pub fn use_fault(
     e: usize,
     p: usize,
 ) -> bool
-    requires { ⌜ (length (now nodes) ≡ 2560) × (length (now rules) ≡ 325) ⌝ }
+    requires { ⌜ (length (now nodes) ≡ nodes-room) × (length (now rules) ≡ rules-room) ⌝ }
     ensures { λ r. ⌜ r ≡ use-fault (now (text .entry)) (now (nodes .entry)) (now (rules .entry)) count a e p ⌝ }
 {
     either(
@@ -112,7 +113,7 @@ pub fn use_fault(
 }
 
 fn held(nodes: &[usize], a: usize, i: usize, j: usize) -> bool
-    requires { ⌜ (length (now nodes) ≡ 2560) × (j ≤ i) ⌝ }
+    requires { ⌜ (length (now nodes) ≡ nodes-room) × (j ≤ i) ⌝ }
     ensures { λ r. ⌜ r ≡ heldOf (now (nodes .entry)) a i j ⌝ }
 {
     both(
@@ -123,7 +124,7 @@ fn held(nodes: &[usize], a: usize, i: usize, j: usize) -> bool
 
 // Whether a node from a up to i, but for the rule's top concatenation, holds node i.
 fn held_between(nodes: &[usize], a: usize, i: usize) -> bool
-    requires { ⌜ length (now nodes) ≡ 2560 ⌝ }
+    requires { ⌜ length (now nodes) ≡ nodes-room ⌝ }
     ensures { λ r. ⌜ r ≡ held-between (now (nodes .entry)) a i ⌝ }
 {
     let mut j = a;
@@ -137,7 +138,7 @@ fn held_between(nodes: &[usize], a: usize, i: usize) -> bool
 }
 
 fn misplaced(nodes: &[usize], a: usize, i: usize) -> bool
-    requires { ⌜ length (now nodes) ≡ 2560 ⌝ }
+    requires { ⌜ length (now nodes) ≡ nodes-room ⌝ }
     ensures { λ r. ⌜ r ≡ is-misplaced (now (nodes .entry)) a i ⌝ }
 {
     either(
@@ -147,7 +148,7 @@ fn misplaced(nodes: &[usize], a: usize, i: usize) -> bool
 }
 
 pub fn binder_fault(text: &[u8], nodes: &[usize], a: usize, i: usize, p: usize) -> bool
-    requires { ⌜ length (now nodes) ≡ 2560 ⌝ }
+    requires { ⌜ length (now nodes) ≡ nodes-room ⌝ }
     ensures { λ r. ⌜ r ≡ binder-fault (now (text .entry)) (now (nodes .entry)) a i p ⌝ }
 {
     either(
@@ -157,7 +158,7 @@ pub fn binder_fault(text: &[u8], nodes: &[usize], a: usize, i: usize, p: usize) 
 }
 
 pub fn variable_fault(text: &[u8], nodes: &[usize], a: usize, i: usize, p: usize) -> bool
-    requires { ⌜ length (now nodes) ≡ 2560 ⌝ }
+    requires { ⌜ length (now nodes) ≡ nodes-room ⌝ }
     ensures { λ r. ⌜ r ≡ variable-fault (now (text .entry)) (now (nodes .entry)) a i p ⌝ }
 {
     either(reserved_at(text, p), not(bound(text, nodes, a, i, p)))

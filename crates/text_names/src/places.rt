@@ -24,6 +24,7 @@ use text_store::words::term_word;
 use text_store::words::variable;
 ghost use mathlib.Core.Path.{_≡_};
 ghost use lib.ListN.{length};
+ghost use Rattle.text_store.specs.Words.{nodes-room, terms-room, rules-room};
 ghost use Rattle.text_names.specs.Names.{name-place, term-place, list-place, node-place, nodes-place, rule-place, refusal-6};
 
 fn name_place(
@@ -35,7 +36,7 @@ fn name_place(
     e: usize,
     i: usize,
 ) -> usize
-    requires { ⌜ (length (now nodes) ≡ 2560) × (length (now rules) ≡ 325) ⌝ }
+    requires { ⌜ (length (now nodes) ≡ nodes-room) × (length (now rules) ≡ rules-room) ⌝ }
     ensures { λ r. ⌜ r ≡ name-place (now (text .entry)) (now (nodes .entry)) (now (rules .entry)) count a e i ⌝ }
 {
     if node_word(nodes, i, KIND) == 5 {
@@ -50,7 +51,7 @@ fn name_place(
 }
 
 fn term_place(text: &[u8], nodes: &[usize], terms: &[usize], a: usize, i: usize, t: usize) -> usize
-    requires { ⌜ (length (now nodes) ≡ 2560) × (length (now terms) ≡ 4096) ⌝ }
+    requires { ⌜ (length (now nodes) ≡ nodes-room) × (length (now terms) ≡ terms-room) ⌝ }
     ensures { λ r. ⌜ r ≡ term-place (now (text .entry)) (now (nodes .entry)) (now (terms .entry)) a i t ⌝ }
 {
     let p = term_word(terms, t, TERM_PLACE);
@@ -70,7 +71,7 @@ fn list_place(
     f: usize,
     g: usize,
 ) -> usize
-    requires { ⌜ (length (now nodes) ≡ 2560) × (length (now terms) ≡ 4096) ⌝ }
+    requires { ⌜ (length (now nodes) ≡ nodes-room) × (length (now terms) ≡ terms-room) ⌝ }
     ensures { λ r. ⌜ r ≡ list-place (now (text .entry)) (now (nodes .entry)) (now (terms .entry)) a i f g ⌝ }
 {
     let mut least = 18446744073709551615;
@@ -92,7 +93,7 @@ fn node_place(
     e: usize,
     i: usize,
 ) -> usize
-    requires { ⌜ (length (now nodes) ≡ 2560) × (length (now terms) ≡ 4096) × (length (now rules) ≡ 325) ⌝ }
+    requires { ⌜ (length (now nodes) ≡ nodes-room) × (length (now terms) ≡ terms-room) × (length (now rules) ≡ rules-room) ⌝ }
     ensures { λ r. ⌜ r ≡ node-place (now (text .entry)) (now (nodes .entry)) (now (terms .entry)) (now (rules .entry)) count a e i ⌝ }
 {
     let own = name_place(text, nodes, rules, count, a, e, i);
@@ -127,7 +128,7 @@ fn nodes_place(
     a: usize,
     e: usize,
 ) -> usize
-    requires { ⌜ (length (now nodes) ≡ 2560) × (length (now terms) ≡ 4096) × (length (now rules) ≡ 325) ⌝ }
+    requires { ⌜ (length (now nodes) ≡ nodes-room) × (length (now terms) ≡ terms-room) × (length (now rules) ≡ rules-room) ⌝ }
     ensures { λ r. ⌜ r ≡ nodes-place (now (text .entry)) (now (nodes .entry)) (now (terms .entry)) (now (rules .entry)) count a e ⌝ }
 {
     let mut least = 18446744073709551615;
@@ -147,7 +148,7 @@ fn rule_place(
     count: usize,
     k: usize,
 ) -> usize
-    requires { ⌜ (length (now nodes) ≡ 2560) × (length (now terms) ≡ 4096) × (length (now rules) ≡ 325) ⌝ }
+    requires { ⌜ (length (now nodes) ≡ nodes-room) × (length (now terms) ≡ terms-room) × (length (now rules) ≡ rules-room) ⌝ }
     ensures { λ r. ⌜ r ≡ rule-place (now (text .entry)) (now (nodes .entry)) (now (terms .entry)) (now (rules .entry)) count k ⌝ }
 {
     let own = place_if(rule_fault(text, rules, k), rule_word(rules, k, NAMED_AT));
@@ -171,7 +172,7 @@ pub fn first_fault(
     rules: &[usize],
     count: usize,
 ) -> usize
-    requires { ⌜ (length (now nodes) ≡ 2560) × (length (now terms) ≡ 4096) × (length (now rules) ≡ 325) ⌝ }
+    requires { ⌜ (length (now nodes) ≡ nodes-room) × (length (now terms) ≡ terms-room) × (length (now rules) ≡ rules-room) ⌝ }
     ensures { λ r. ⌜ r ≡ refusal-6 (now (text .entry)) (now (nodes .entry)) (now (terms .entry)) (now (rules .entry)) count ⌝ }
 {
     let mut least = 18446744073709551615;

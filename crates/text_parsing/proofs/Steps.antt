@@ -8,6 +8,7 @@ use native.Mathlib.Omega.{arith}
 use borrow.Author.Tests.{eq-eqb, ne-eqb, lt-ltb, le-ltb}
 use lib.Dec.{eqb}
 use lib.ListN.{length}
+use Rattle.basis.specs.Limits.{max-nesting}
 use Rattle.text_tokens.specs.Tokens.{token-of}
 use Rattle.text_tokens.specs.declared.Token.{Token}
 use Rattle.text_parsing.specs.Terminals.{code-of, sight, seen, sight-of, live}
@@ -126,13 +127,13 @@ module _ (xs : List ℕ) (c r : Cursor) (k : ℕ) where
       subst (λ (q : Cursor). left xs q < left xs c) (sym n)
       (omega (arith, left-failed xs (c .start) (c .end) (c .value), left-some xs (sight-at c) l))
 
-pub paren-reads : {xs : List ℕ} {c r : Cursor} {d : ℕ} → d < 16 → ReadsOn xs (want 40 ∷ []) c r → ReadsOn xs (paren d ∷ []) c r
+pub paren-reads : {xs : List ℕ} {c r : Cursor} {d : ℕ} → d < max-nesting → ReadsOn xs (want 40 ∷ []) c r → ReadsOn xs (paren d ∷ []) c r
 unfolding feed
-paren-reads {xs} {c} {r} {d} l a ns ts = skip-then {m = c} {ns₁ = ns} {ts₁ = ts} refl (λ rs ks. rw (lt-ltb d 16 l, feed)) (a ns ts)
+paren-reads {xs} {c} {r} {d} l a ns ts = skip-then {m = c} {ns₁ = ns} {ts₁ = ts} refl (λ rs ks. rw (lt-ltb d max-nesting l, feed)) (a ns ts)
 
-pub paren-deep : {xs : List ℕ} {c r : Cursor} {d : ℕ} → 16 ≤ d → r ≡ fail c → ReadsOn xs (paren d ∷ []) c r
+pub paren-deep : {xs : List ℕ} {c r : Cursor} {d : ℕ} → max-nesting ≤ d → r ≡ fail c → ReadsOn xs (paren d ∷ []) c r
 unfolding feed
-paren-deep {xs} {c} {r} {d} h n ns ts = fault-only n (λ rs ks. rw (le-ltb d 16 h, feed))
+paren-deep {xs} {c} {r} {d} h n ns ts = fault-only n (λ rs ks. rw (le-ltb d max-nesting h, feed))
 
 pub sign-reads : {xs : List ℕ} {c r : Cursor} {ts ts′ : List ℕ} {tag p o : ℕ} → r ≡ term-more c → ts′ ≡ put-term ts (c .terms) tag 0 p o → ReadsTerms xs (sign tag p o ∷ []) c ts r ts′
 unfolding feed

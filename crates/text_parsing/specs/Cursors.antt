@@ -7,6 +7,7 @@ use mathlib.Core.Bool.{true, false}
 use mathlib.Core.List.{List, _∷_, _++_}
 use lib.Dec.{eqb}
 use lib.ListN.{length}
+use Rattle.basis.specs.Limits.{max-rules, max-constructs, max-variables, max-terms}
 use Rattle.text_parsing.specs.Terminals.{sight, sight-of, sights-after}
 use Rattle.text_store.specs.Store.{State, state, counted}
 use Rattle.text_parsing.specs.Symbols.{Symbol}
@@ -25,19 +26,19 @@ state-at c ns ts rs = state ns ts rs (c .nodes) (c .terms) (c .binders) (c .rule
 -- one term, node, binder or rule more
 abbrev pub term-more : Cursor → Cursor
 term-more c =
-    record { code = c .code; start = c .start; end = c .end; value = c .value; nodes = c .nodes; terms = counted 1024 (c .terms); binders = c .binders; rules = c .rules }
+    record { code = c .code; start = c .start; end = c .end; value = c .value; nodes = c .nodes; terms = counted max-terms (c .terms); binders = c .binders; rules = c .rules }
 
 abbrev pub node-more : Cursor → Cursor
 node-more c =
-    record { code = c .code; start = c .start; end = c .end; value = c .value; nodes = counted 256 (c .nodes); terms = c .terms; binders = c .binders; rules = c .rules }
+    record { code = c .code; start = c .start; end = c .end; value = c .value; nodes = counted max-constructs (c .nodes); terms = c .terms; binders = c .binders; rules = c .rules }
 
 abbrev pub binder-more : Cursor → Cursor
 binder-more c =
-    record { code = c .code; start = c .start; end = c .end; value = c .value; nodes = c .nodes; terms = c .terms; binders = counted 64 (c .binders); rules = c .rules }
+    record { code = c .code; start = c .start; end = c .end; value = c .value; nodes = c .nodes; terms = c .terms; binders = counted max-variables (c .binders); rules = c .rules }
 
 abbrev pub rule-more : Cursor → Cursor
 rule-more c =
-    record { code = c .code; start = c .start; end = c .end; value = c .value; nodes = c .nodes; terms = c .terms; binders = c .binders; rules = counted 64 (c .rules) }
+    record { code = c .code; start = c .start; end = c .end; value = c .value; nodes = c .nodes; terms = c .terms; binders = c .binders; rules = counted max-rules (c .rules) }
 
 -- a cursor at a terminal, with what another has counted
 abbrev pub counts-of : Sight → Cursor → Cursor

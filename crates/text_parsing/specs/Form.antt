@@ -5,6 +5,7 @@ use Prim.Native.Nat.{ℕ, _+_}
 use mathlib.Core.Bool.{Bool, true, false, cond, _&&_}
 use mathlib.Core.List.{List, [], _∷_}
 use lib.Dec.{ltb, eqb}
+use Rattle.basis.specs.Limits.{max-nesting}
 use Rattle.text_parsing.specs.Terminals.{is, is-name, begins}
 use Rattle.text_store.specs.Store.{State, nodes-of, terms-of, add, single, insert, leaf, condition-on, bind, close-rule}
 use Rattle.text_parsing.specs.Symbols.{Symbol, want, sign, paren, primary, operand, factors, summands, calculation, item, item-tail, bound, exception, excluded, alternative, alternatives, value-set, counts, counts-tail, test, comparison, condition, joined, chain, atom, factor, concatenation, expression, marked, counts-end, members, branches, character-tail, last-character, width, field-set, bound-name, field-end, colon, case-end, cases, switch-end, rules, rule-end}
@@ -18,7 +19,7 @@ pub data Fed : Type 0 where
 
 -- "parentheses and switch brackets of every kind go at most 16 deep"
 abbrev pub within-depth : ℕ → Fed → Fed
-within-depth d next = cond (ltb d 16) next fault
+within-depth d next = cond (ltb d max-nesting) next fault
 
 -- ---- how parts begin; `ks` waits after them
 
@@ -85,7 +86,7 @@ unfoldable pub feed : Sight → State → List Symbol → Fed
 feed s st [] = fault
 feed s st (want k ∷ ks) = elim (is k s) [ true ↦ go st ks | false ↦ fault ]
 feed s st (sign tag p o ∷ ks) = feed s (add tag 0 p o st) ks
-feed s st (paren d ∷ ks) = elim (ltb d 16) [ true ↦ elim (is 40 s) [ true ↦ go st ks | false ↦ fault ] | false ↦ fault ]
+feed s st (paren d ∷ ks) = elim (ltb d max-nesting) [ true ↦ elim (is 40 s) [ true ↦ go st ks | false ↦ fault ] | false ↦ fault ]
 -- calculations
 feed s st (primary o ∷ ks) = primary-begins o s st ks
 feed s st (operand o ∷ ks) = operand-begins o s st ks

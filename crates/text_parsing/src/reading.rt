@@ -1,6 +1,7 @@
 // A cursor over the terminals of a text.
 use crate::Cursor;
 use crate::terminals::look;
+use basis::MAX_NESTING;
 use text_header::bytes::both;
 use text_header::bytes::either;
 ghost use mathlib.Core.Path.{_≡_};
@@ -89,7 +90,7 @@ pub fn want(text: &[u8], c: Cursor, code: usize) -> Cursor
 pub fn open(text: &[u8], c: Cursor, d: usize) -> Cursor
     ensures { λ r. ⌜ ReadsOn (now (text .entry)) (paren d ∷ []) c r ⌝ }
 {
-    if d < 16 {
+    if d < MAX_NESTING {
         return want(text, c, 40);
     }
     failed(c)

@@ -1,5 +1,12 @@
 // What is read, counted and put into words, with the cursor.
 use crate::Cursor;
+use basis::MAX_CONSTRUCTS;
+use basis::MAX_RULES;
+use basis::MAX_TERMS;
+use basis::MAX_VARIABLES;
+use text_store::NODES_ROOM;
+use text_store::RULES_ROOM;
+use text_store::TERMS_ROOM;
 use text_store::stores::counted;
 use text_store::stores::less;
 use text_store::stores::put_node;
@@ -8,6 +15,7 @@ use text_store::stores::put_term;
 ghost use mathlib.Core.Path.{_≡_};
 ghost use mathlib.Core.List.{List, [], _∷_};
 ghost use Prim.Native.Nat.{ℕ, _-_};
+ghost use Rattle.basis.specs.Limits.{max-constructs};
 ghost use Rattle.text_store.specs.Store.{counted as countedOf, put-term as put-termOf, put-node as put-nodeOf, put-rule as put-ruleOf};
 ghost use Rattle.text_parsing.specs.Symbols.{sign};
 ghost use Rattle.text_parsing.specs.Cursors.{term-more, node-more, binder-more, rule-more, ReadsTerms};
@@ -19,7 +27,7 @@ pub fn add_term(
     value: usize,
     place: usize,
     origin: usize,
-    terms: &mut [usize; 4096],
+    terms: &mut [usize; TERMS_ROOM],
 ) -> Cursor
     ensures { λ r. ⌜ (r ≡ term-more c) × (now (terms .exit) ≡ put-termOf (now (terms .entry)) (c .terms) tag value place origin) ⌝ }
 {
@@ -30,7 +38,7 @@ pub fn add_term(
         end: c.end,
         value: c.value,
         nodes: c.nodes,
-        terms: counted(1024, c.terms),
+        terms: counted(MAX_TERMS, c.terms),
         binders: c.binders,
         rules: c.rules,
     }
@@ -42,7 +50,7 @@ pub fn add_sign(
     tag: usize,
     place: usize,
     origin: usize,
-    terms: &mut [usize; 4096],
+    terms: &mut [usize; TERMS_ROOM],
 ) -> Cursor
     ensures { λ r. ⌜ ((xs : List ℕ) → ReadsTerms xs (sign tag place origin ∷ []) c (now (terms .entry)) r (now (terms .exit))) ⌝ }
 {
@@ -60,11 +68,11 @@ pub fn insert_node(
     f: usize,
     e: usize,
     how: usize,
-    nodes: &mut [usize; 2560],
+    nodes: &mut [usize; NODES_ROOM],
 ) -> Cursor
-    ensures { λ r. ⌜ (r ≡ node-more c) × (now (nodes .exit) ≡ put-nodeOf (now (nodes .entry)) i kind (countedOf 256 (c .nodes) - i) place a b f e how) ⌝ }
+    ensures { λ r. ⌜ (r ≡ node-more c) × (now (nodes .exit) ≡ put-nodeOf (now (nodes .entry)) i kind (countedOf max-constructs (c .nodes) - i) place a b f e how) ⌝ }
 {
-    let n = counted(256, c.nodes);
+    let n = counted(MAX_CONSTRUCTS, c.nodes);
     put_node(nodes, i, kind, less(n, i), place, a, b, f, e, how);
     Cursor {
         code: c.code,
@@ -88,12 +96,12 @@ pub fn bind(c: Cursor) -> Cursor
         value: c.value,
         nodes: c.nodes,
         terms: c.terms,
-        binders: counted(64, c.binders),
+        binders: counted(MAX_VARIABLES, c.binders),
         rules: c.rules,
     }
 }
 
-pub fn close_rule(c: Cursor, place: usize, first: usize, rules: &mut [usize; 325]) -> Cursor
+pub fn close_rule(c: Cursor, place: usize, first: usize, rules: &mut [usize; RULES_ROOM]) -> Cursor
     ensures { λ r. ⌜ (r ≡ rule-more c) × (now (rules .exit) ≡ put-ruleOf (now (rules .entry)) (c .rules) place first (c .nodes) (c .terms) (c .binders)) ⌝ }
 {
     put_rule(rules, c.rules, place, first, c.nodes, c.terms, c.binders);
@@ -105,6 +113,6 @@ pub fn close_rule(c: Cursor, place: usize, first: usize, rules: &mut [usize; 325
         nodes: c.nodes,
         terms: c.terms,
         binders: c.binders,
-        rules: counted(64, c.rules),
+        rules: counted(MAX_RULES, c.rules),
     }
 }

@@ -8,6 +8,7 @@ use native.Mathlib.Omega.{arith}
 use borrow.Author.Tests.{ltb-true}
 use lib.Dec.{ltb, eqb}
 use lib.ListN.{length}
+use Rattle.basis.specs.Limits.{max-nesting}
 use Rattle.text_header.proofs.Tests.{both-first, choice, picked}
 use Rattle.text_parsing.specs.Terminals.{is, is-name, begins, sight-of, sights, sights-from}
 use Rattle.text_store.specs.Store.{State, nodes-of, terms-of, insert}
@@ -79,7 +80,7 @@ module _ {xs : List ℕ} (s : Sight) (v : Seen xs s) where
   test-leads : (d : ℕ) (st : State) (ks : List Symbol) → Leads xs st (test d ∷ ks) (test-begins d s st ks)
   unfolding test-begins
   test-leads d st ks =
-      by-test (is 40 s) (λ e. picked (Leads xs st (test d ∷ ks)) (ltb d 16) (λ l. made (test-group (ltb-true d 16 l) refl) (λ g. g) taken) (λ l. faults))
+      by-test (is 40 s) (λ e. picked (Leads xs st (test d ∷ ks)) (ltb d max-nesting) (λ l. made (test-group (ltb-true d max-nesting l) refl) (λ g. g) taken) (λ l. faults))
       (λ e. made test-compare (λ g. g) (calculation-leads st (comparison ∷ ks)))
 
   condition-leads : (d : ℕ) (st : State) (ks : List Symbol) → Leads xs st (condition d ∷ ks) (test-begins d s st (joined d ∷ ks))
@@ -93,8 +94,8 @@ module _ {xs : List ℕ} (s : Sight) (v : Seen xs s) where
       (λ e₂. picked P (is 6 s) (λ e. made (field-atom refl) (λ g. g) taken)
       (λ e₃. picked P (is 7 s) (λ e. made (eod-atom (s .start) refl) (λ g. g) taken)
       (λ e₄. picked P (is-name s) (λ e. made (use-atom v e refl) (λ g. g) taken)
-      (λ e₅. picked P (is 40 s) (λ e. picked P (ltb d 16) (λ l. made (group-atom (ltb-true d 16 l) refl) (λ g. g) taken) (λ l. faults))
-      (λ e₆. picked P (is 91 s) (λ e. picked P (ltb d 16) (λ l. made (switch-atom (ltb-true d 16 l) refl refl refl) (λ g. g) taken) (λ l. faults))
+      (λ e₅. picked P (is 40 s) (λ e. picked P (ltb d max-nesting) (λ l. made (group-atom (ltb-true d max-nesting l) refl) (λ g. g) taken) (λ l. faults))
+      (λ e₆. picked P (is 91 s) (λ e. picked P (ltb d max-nesting) (λ l. made (switch-atom (ltb-true d max-nesting l) refl refl refl) (λ g. g) taken) (λ l. faults))
       (λ e₇. faults)))))))
     where
       P : Fed → Type 0
@@ -129,7 +130,7 @@ module _ {xs : List ℕ} (s : Sight) (v : Seen xs s) where
   fed st [] = faults
   fed st (want k ∷ ks) = by-test (is k s) (λ e. made terminal (λ g. g) taken) (λ e. faults)
   fed st (sign tag p o ∷ ks) = made (signed refl) (λ g. g) (fed _ ks)
-  fed st (paren d ∷ ks) = by-test (ltb d 16) (λ l. by-test (is 40 s) (λ e. made (opened (ltb-true d 16 l)) (λ g. g) taken) (λ e. faults)) (λ l. faults)
+  fed st (paren d ∷ ks) = by-test (ltb d max-nesting) (λ l. by-test (is 40 s) (λ e. made (opened (ltb-true d max-nesting l)) (λ g. g) taken) (λ e. faults)) (λ l. faults)
   -- calculations
   fed st (primary o ∷ ks) = primary-leads o st ks
   fed st (operand o ∷ ks) = operand-leads o st ks
@@ -141,7 +142,7 @@ module _ {xs : List ℕ} (s : Sight) (v : Seen xs s) where
   fed st (item-tail ∷ ks) = by-test (is 126 s) (λ e. made to-bound (λ g. g) taken) (λ e. made (alone refl) (λ g. g) (fed _ ks))
   fed st (bound some none p ∷ ks) = by-test (begins s) (λ e. made some-bound (λ g. g) (calculation-leads st (sign some p 0 ∷ ks))) (λ e. made (no-bound refl) (λ g. g) (fed _ ks))
   fed st (exception d ∷ ks) = by-test (is 33 s) (λ e. made except (λ g. g) taken) (λ e. made no-exception (λ g. g) (fed st ks))
-  fed st (excluded d ∷ ks) = by-test (is 40 s) (λ e. picked (Leads xs st (excluded d ∷ ks)) (ltb d 16) (λ l. made (except-set (ltb-true d 16 l) refl) (λ g. g) taken) (λ l. faults)) (λ e. made except-item (λ g. g) (item-leads st ks))
+  fed st (excluded d ∷ ks) = by-test (is 40 s) (λ e. picked (Leads xs st (excluded d ∷ ks)) (ltb d max-nesting) (λ l. made (except-set (ltb-true d max-nesting l) refl) (λ g. g) taken) (λ l. faults)) (λ e. made except-item (λ g. g) (item-leads st ks))
   fed st (alternative d ∷ ks) = made set-alternative (λ g. g) (item-leads st (exception d ∷ ks))
   fed st (alternatives d ∷ ks) = by-test (is 124 s) (λ e. made or-alternative (λ g. g) taken) (λ e. made no-alternative (λ g. g) (fed st ks))
   fed st (value-set d ∷ ks) = set-leads d st ks

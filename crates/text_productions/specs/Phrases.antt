@@ -6,6 +6,7 @@ use mathlib.Core.Path.{_≡_}
 use mathlib.Core.Bool.{Bool, true, false, cond}
 use mathlib.Core.List.{List, [], _∷_}
 use lib.Dec.{eqb}
+use Rattle.basis.specs.Limits.{max-nesting}
 use Rattle.text_parsing.specs.Terminals.{is, is-name, sight-of}
 use Rattle.text_store.specs.Store.{State, nodes-of, terms-of, add, single, insert, leaf, condition-on, bind, close-rule}
 use Rattle.text_parsing.specs.Symbols.{Symbol, want, sign, paren, primary, operand, factors, summands, calculation, item, item-tail, bound, exception, excluded, alternative, alternatives, value-set, counts, counts-tail, test, comparison, condition, joined, chain, atom, factor, concatenation, expression, marked, counts-end, members, branches, character-tail, last-character, width, field-set, bound-name, field-end, colon, case-end, cases, switch-end, rules, rule-end}
@@ -21,7 +22,7 @@ pub record Seen (xs : List ℕ) (s : Sight) : Type 0 where
 pub data Production (xs : List ℕ) : Symbol → State → State → List Symbol → Type 0 where
   terminal : {k : ℕ} {a : State} → Production xs (want k) a a []
   signed : {tag p o : ℕ} {a b : State} → b ≡ add tag 0 p o a → Production xs (sign tag p o) a b []
-  opened : {d : ℕ} {a : State} → d < 16 → Production xs (paren d) a a []
+  opened : {d : ℕ} {a : State} → d < max-nesting → Production xs (paren d) a a []
   -- calculations
   number : {o : ℕ} {a b : State} {s : Sight} → Seen xs s → is 2 s ≡ true → b ≡ add 1 (s .value) (s .start) o a → Production xs (primary o) a b []
   variable : {o : ℕ} {a b : State} {s : Sight} → Seen xs s → is-name s ≡ true → b ≡ add 2 0 (s .start) o a → Production xs (primary o) a b []
@@ -42,7 +43,7 @@ pub data Production (xs : List ℕ) : Symbol → State → State → List Symbol
   no-bound : {some none p : ℕ} {a b : State} → b ≡ add none 0 p 0 a → Production xs (bound some none p) a b []
   no-exception : {d : ℕ} {a : State} → Production xs (exception d) a a []
   except : {d p : ℕ} {a : State} → Production xs (exception d) a a (excluded d ∷ sign 12 p 0 ∷ [])
-  except-set : {d e : ℕ} {a : State} → d < 16 → e ≡ d + 1 → Production xs (excluded d) a a (value-set e ∷ want 41 ∷ [])
+  except-set : {d e : ℕ} {a : State} → d < max-nesting → e ≡ d + 1 → Production xs (excluded d) a a (value-set e ∷ want 41 ∷ [])
   except-item : {d : ℕ} {a : State} → Production xs (excluded d) a a (item ∷ [])
   set-alternative : {d : ℕ} {a : State} → Production xs (alternative d) a a (item ∷ exception d ∷ [])
   no-alternative : {d : ℕ} {a : State} → Production xs (alternatives d) a a []
@@ -54,7 +55,7 @@ pub data Production (xs : List ℕ) : Symbol → State → State → List Symbol
   counts-exact : {a : State} → Production xs counts-tail a a []
   counts-range : {p : ℕ} {a : State} → Production xs counts-tail a a (bound 8 9 p ∷ [])
   -- conditions
-  test-group : {d e : ℕ} {a : State} → d < 16 → e ≡ d + 1 → Production xs (test d) a a (condition e ∷ want 41 ∷ [])
+  test-group : {d e : ℕ} {a : State} → d < max-nesting → e ≡ d + 1 → Production xs (test d) a a (condition e ∷ want 41 ∷ [])
   test-compare : {d : ℕ} {a : State} → Production xs (test d) a a (calculation ∷ comparison ∷ [])
   compare : {tag p : ℕ} {a : State} → 14 ≤ tag → tag ≤ 19 → Production xs comparison a a (calculation ∷ sign tag p 0 ∷ [])
   tests : {d : ℕ} {a : State} → Production xs (condition d) a a (test d ∷ joined d ∷ [])
@@ -69,8 +70,8 @@ pub data Production (xs : List ℕ) : Symbol → State → State → List Symbol
   field-atom : {d e p : ℕ} {a : State} → e ≡ d + 1 → Production xs (atom d) a a (paren d ∷ width e p ∷ [])
   eod-atom : {d : ℕ} {a b : State} (p : ℕ) → b ≡ leaf 9 p 0 0 0 0 0 a → Production xs (atom d) a b []
   use-atom : {d : ℕ} {a b : State} {s : Sight} → Seen xs s → is-name s ≡ true → b ≡ leaf 5 (s .start) 0 0 0 0 0 a → Production xs (atom d) a b []
-  group-atom : {d e : ℕ} {a : State} → d < 16 → e ≡ d + 1 → Production xs (atom d) a a (expression e ∷ want 41 ∷ [])
-  switch-atom : {d e f p i : ℕ} {a : State} → d < 16 → e ≡ d + 1 → f ≡ terms-of a → i ≡ nodes-of a → Production xs (atom d) a a (condition e ∷ colon e f ∷ cases e p i ∷ [])
+  group-atom : {d e : ℕ} {a : State} → d < max-nesting → e ≡ d + 1 → Production xs (atom d) a a (expression e ∷ want 41 ∷ [])
+  switch-atom : {d e f p i : ℕ} {a : State} → d < max-nesting → e ≡ d + 1 → f ≡ terms-of a → i ≡ nodes-of a → Production xs (atom d) a a (condition e ∷ colon e f ∷ cases e p i ∷ [])
   -- expressions
   an-item : {d p i : ℕ} {a : State} → i ≡ nodes-of a → Production xs (factor d) a a (atom d ∷ marked p i ∷ [])
   one-member : {d p i : ℕ} {a : State} → i ≡ nodes-of a → Production xs (concatenation d) a a (factor d ∷ members d p i false ∷ [])

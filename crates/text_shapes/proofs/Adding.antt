@@ -8,8 +8,9 @@ use native.Mathlib.Omega.{arith}
 use borrow.Author.Tests.{leb-false, le-leb}
 use lib.Dec.{leb}
 use lib.ListN.{length, getD, length-append}
+use Rattle.basis.specs.Limits.{max-terms}
 use Rattle.text_header.proofs.Tests.{picked}
-use Rattle.text_store.specs.Words.{term-start, is-use}
+use Rattle.text_store.specs.Words.{term-start, is-use, terms-room}
 use Rattle.term_words.specs.Words.{termOf}
 use Rattle.term_words.specs.declared.Term.{Term}
 use Rattle.text_store.specs.Store.{State, state, nodes-of, terms-of, counted, put-term, add, node-words, term-words, rule-words, binders-of, rules-of}
@@ -62,7 +63,7 @@ pub record Adds (P : List Term → Type 0) (a b : State) : Type 0 where
 
 pub record Reads (P : List Term → Type 0) (a b : State) : Type 0 where
   pub only : TermsOnly a b
-  pub adds : terms-of b ≤ 1024 → length (term-words a) ≡ 4096 → Adds P a b
+  pub adds : terms-of b ≤ max-terms → length (term-words a) ≡ terms-room → Adds P a b
 
 only-none : {a : State} → TermsOnly a a
 only-none = record { same-nodes = refl; same-rules = refl; nodes-count = refl; binders-count = refl; rules-count = refl; same-length = refl; grows = omega arith }
@@ -120,7 +121,7 @@ reads-as f p =
 abbrev pub term-read : ℕ → ℕ → ℕ → Term
 term-read tag value place = termOf tag (cond (is-use tag) place value) 0
 
-module _ (ts : List ℕ) (t tag value place origin : ℕ) (w : length ts ≡ 4096) (h : t < 1024) where
+module _ (ts : List ℕ) (t tag value place origin : ℕ) (w : length ts ≡ terms-room) (h : t < max-terms) where
   put-read : read-term (put-term ts t tag value place origin) t ≡ term-read tag value place
   put-read =
       let put = term-put ts t tag value place origin h w in
@@ -135,16 +136,16 @@ adds-term tag value place origin (state ns ts rs n t b r) =
     record {
       only = record { same-nodes = refl; same-rules = refl; nodes-count = refl; binders-count = refl; rules-count = refl; same-length = length-put-term ts t tag value place origin; grows = more };
       adds = λ h w.
-          let k : t < 1024 = less h in
+          let k : t < max-terms = less h in
           record {
             list = term-read tag value place ∷ [];
             is = refl;
-            added = rw (le-leb t 1024 (omega arith)) (put-added ts t tag value place origin w k ns rs n b r);
+            added = rw (le-leb t max-terms (omega arith)) (put-added ts t tag value place origin w k ns rs n b r);
           };
     }
   where
-    more : t ≤ counted 1024 t
-    more = picked (λ (m : ℕ). t ≤ m) (leb t 1024) (λ e. omega arith) (λ e. omega arith)
+    more : t ≤ counted max-terms t
+    more = picked (λ (m : ℕ). t ≤ m) (leb t max-terms) (λ e. omega arith) (λ e. omega arith)
 
-    less : counted 1024 t ≤ 1024 → t < 1024
-    less = picked (λ (m : ℕ). m ≤ 1024 → t < 1024) (leb t 1024) (λ e h. omega arith) (λ e h. absurd (omega (arith, leb-false t 1024 e)))
+    less : counted max-terms t ≤ max-terms → t < max-terms
+    less = picked (λ (m : ℕ). m ≤ max-terms → t < max-terms) (leb t max-terms) (λ e h. omega arith) (λ e h. absurd (omega (arith, leb-false t max-terms e)))

@@ -8,6 +8,7 @@ use mathlib.Core.List.{List, [], _∷_}
 use native.Mathlib.Omega.{arith}
 use borrow.Author.Tests.{le-leb}
 use lib.Dec.{eqb}
+use Rattle.basis.specs.Limits.{max-nesting, max-variables}
 use Rattle.text_store.proofs.Numbers.{at-place, at-last-place, at-width-place, at-bound, at-own-from, at-own-end, at-how-bound}
 use Rattle.text_parsing.specs.Terminals.{is, is-name}
 use Rattle.text_parsing.specs.Symbols.{want, paren, value-set, expression, character-tail, last-character, width, field-set, bound-name, field-end}
@@ -60,7 +61,7 @@ abbrev Binding : List ℕ → (q how β : ℕ) → Type 0
 Binding xs q how β = ((how ≡ 0) × (β ≡ 0)) ⊎ (((how ≡ 1) ⊎ (how ≡ 2)) × (β ≡ 1) × NameAt xs q)
 
 -- the set is read from a to c, and then the node is put
-field-made : (p : ℕ) {xs : List ℕ} {d w q how f : ℕ} {a c b : State} → TermFacts xs → d ≤ 16 → f ≡ terms-of a → NumberAt xs w → (u β : ℕ) → binders-of a ≡ u + β → Binding xs q how β → Fine a → Phrases xs (value-set d ∷ []) a c → Fine c → b ≡ leaf 8 p w q f (terms-of c) how c → Fine b → Gives xs (nodes-of a) (terms-of a) u a b
+field-made : (p : ℕ) {xs : List ℕ} {d w q how f : ℕ} {a c b : State} → TermFacts xs → d ≤ max-nesting → f ≡ terms-of a → NumberAt xs w → (u β : ℕ) → binders-of a ≡ u + β → Binding xs q how β → Fine a → Phrases xs (value-set d ∷ []) a c → Fine c → b ≡ leaf 8 p w q f (terms-of c) how c → Fine b → Gives xs (nodes-of a) (terms-of a) u a b
 field-made p {xs} {d} {w} {q} {how} {f} {a} {c} {b} facts h y number u β z how-is fine s fine-c v fine′ =
     let r : SetShape (term-words c) (terms-of a) (terms-of c) × TermsOnly a c = facts .set-read d a c s (fine .term-length) (fine-c .terms) h
     in let n : Inserted (nodes-of c) 8 p w q f (terms-of c) how c b = leaf-in 8 p w q f (terms-of c) how v fine-c fine′
@@ -93,7 +94,7 @@ bind-one : {a b : State} → b ≡ bind a → Fine a → binders-of b ≡ binder
 bind-one {a} {b} z f = subst (λ (k : State). binders-of k ≡ binders-of a + 1) (sym z) (from a f)
   where
     from : (k : State) → Fine k → binders-of (bind k) ≡ binders-of k + 1
-    from (state ns ts rs n t v r) g = rw (le-leb v 64 (g .binders))
+    from (state ns ts rs n t v r) g = rw (le-leb v max-variables (g .binders))
 
 bind-terms : (a : State) {b : State} → b ≡ bind a → terms-of a ≡ terms-of b
 bind-terms a {b} z = subst (λ (k : State). terms-of a ≡ terms-of k) (sym z) (from a)
@@ -115,22 +116,22 @@ module _ {xs : List ℕ} {a c : State} where
   pub to-character-claim : {p : ℕ} → Reads xs (last-character p ∷ []) a c → CharacterAt xs p → Whole xs a c
   to-character-claim (next x f end) z = x z
 
-  pub group-claim : {d e : ℕ} → d < 16 → e ≡ d + 1 → Reads xs (expression e ∷ want 41 ∷ []) a c → Whole xs a c
+  pub group-claim : {d e : ℕ} → d < max-nesting → e ≡ d + 1 → Reads xs (expression e ∷ want 41 ∷ []) a c → Whole xs a c
   group-claim h z (next x f (next still g end)) = x (omega arith)
 
   pub field-atom-claim : {d e p : ℕ} → e ≡ d + 1 → Reads xs (paren d ∷ width e p ∷ []) a c → Whole xs a c
   field-atom-claim z (next (opened l) f (next y g end)) = y (omega arith)
 
-  pub width-claim : {d p w : ℕ} {s : Sight} → Seen xs s → is 2 s ≡ true → w ≡ s .start → Reads xs (want 44 ∷ field-set d p w ∷ []) a c → d ≤ 16 → Whole xs a c
+  pub width-claim : {d p w : ℕ} {s : Sight} → Seen xs s → is 2 s ≡ true → w ≡ s .start → Reads xs (want 44 ∷ field-set d p w ∷ []) a c → d ≤ max-nesting → Whole xs a c
   width-claim {s = s} seen t z (next still f (next y g end)) h = y h (record { sight = s; seen = seen; number = t; place = z })
 
   pub binding-claim : {d e p w : ℕ} → e ≡ d + 1 → Reads xs (paren d ∷ bound-name e p w ∷ []) a c → NumberAt xs w → Whole xs a c
   binding-claim z (next (opened l) f (next y g end)) n = y (omega arith) n
 
-  pub not-binding-claim : {d p w f : ℕ} → TermFacts xs → Fine a → f ≡ terms-of a → Reads xs (value-set d ∷ field-end p w 0 0 f ∷ []) a c → d ≤ 16 → NumberAt xs w → Whole xs a c
+  pub not-binding-claim : {d p w f : ℕ} → TermFacts xs → Fine a → f ≡ terms-of a → Reads xs (value-set d ∷ field-end p w 0 0 f ∷ []) a c → d ≤ max-nesting → NumberAt xs w → Whole xs a c
   not-binding-claim {p = p} facts fine z (next x f (next y g end)) h n = field-made p facts h z n (binders-of a) 0 (omega arith) (inl (refl, refl)) fine x f y g
 
-pub binder-claim : {xs : List ℕ} {d p w q how f : ℕ} {a b c : State} {s : Sight} → TermFacts xs → Fine a → Seen xs s → is-name s ≡ true → b ≡ bind a → q ≡ s .start → how ≡ cond (eqb d 2) 1 2 → f ≡ terms-of a → Reads xs (want 44 ∷ value-set d ∷ want 41 ∷ field-end p w q how f ∷ []) b c → d ≤ 16 → NumberAt xs w → Whole xs a c
+pub binder-claim : {xs : List ℕ} {d p w q how f : ℕ} {a b c : State} {s : Sight} → TermFacts xs → Fine a → Seen xs s → is-name s ≡ true → b ≡ bind a → q ≡ s .start → how ≡ cond (eqb d 2) 1 2 → f ≡ terms-of a → Reads xs (want 44 ∷ value-set d ∷ want 41 ∷ field-end p w q how f ∷ []) b c → d ≤ max-nesting → NumberAt xs w → Whole xs a c
 binder-claim {d = d} {p = p} {how = how} {a = a} {s = s} facts fine seen t z place how-is from (next still fb (next x fx (next still fy (next y fc end)))) h n =
     bind-back z
     (field-made p facts h (from ∙ bind-terms a z) n (binders-of a) 1 (bind-one z fine) (inr (how-binds (eqb d 2) how how-is, refl, record { sight = s; seen = seen; name = t; place = place })) fb x fx y fc)

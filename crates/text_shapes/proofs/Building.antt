@@ -6,6 +6,7 @@ use mathlib.Core.List.{List}
 use native.Mathlib.Omega.{arith}
 use borrow.Author.Tests.{le-leb}
 use lib.ListN.{getD}
+use Rattle.basis.specs.Limits.{max-constructs}
 use Rattle.text_store.specs.Words.{node-start, node-word}
 use Rattle.text_store.specs.Store.{State, state, nodes-of, terms-of, counted, insert, node-words, term-words, rule-words, binders-of, rules-of}
 use Rattle.text_store.proofs.Numbers.{at-kind, at-size, at-condition-from, at-condition-end}
@@ -80,9 +81,9 @@ counted-on limit n h = rw (le-leb n limit h)
 
 insert-fine : (kind place i a b c d e : ℕ) (st : State) → Fine st → Fine (insert kind place i a b c d e st) → i ≤ nodes-of st → Inserted i kind place a b c d e st (insert kind place i a b c d e st)
 insert-fine kind place i a b c d e (state ns ts rs n t u r) f g h =
-    let z : counted 256 n ≡ n + 1 = counted-on 256 n (f .nodes)
-    in let y : counted 256 n ≤ 256 = g .nodes
-    in let x : i < 256 = omega arith
+    let z : counted max-constructs n ≡ n + 1 = counted-on max-constructs n (f .nodes)
+    in let y : counted max-constructs n ≤ max-constructs = g .nodes
+    in let x : i < max-constructs = omega arith
     in record {
       count = z;
       below = h;
@@ -91,9 +92,9 @@ insert-fine kind place i a b c d e (state ns ts rs n t u r) f g h =
       terms-same = refl;
       binders-same = refl;
       rules-same = refl;
-      before = node-before ns i kind (counted 256 n - i) place a b c d e x (f .node-length);
-      at = node-at ns i kind (counted 256 n - i) place a b c d e x (f .node-length);
-      after = λ j k p q l. node-after ns i kind (counted 256 n - i) place a b c d e x (f .node-length) (node-start j + k) (node-start (j + 1) + k) (omega arith) (omega arith) (omega arith);
+      before = node-before ns i kind (counted max-constructs n - i) place a b c d e x (f .node-length);
+      at = node-at ns i kind (counted max-constructs n - i) place a b c d e x (f .node-length);
+      after = λ j k p q l. node-after ns i kind (counted max-constructs n - i) place a b c d e x (f .node-length) (node-start j + k) (node-start (j + 1) + k) (omega arith) (omega arith) (omega arith);
     }
 
 pub inserted : (kind place i a b c d e : ℕ) {st st′ : State} → st′ ≡ insert kind place i a b c d e st → Fine st → Fine st′ → i ≤ nodes-of st → Inserted i kind place a b c d e st st′

@@ -6,6 +6,7 @@ use mathlib.Core.Logic.{_⊎_}
 use mathlib.Core.Bool.{Bool, true, false}
 use mathlib.Core.List.{List, [], _∷_}
 use native.Mathlib.Omega.{arith}
+use Rattle.basis.specs.Limits.{max-nesting}
 use Rattle.text_store.proofs.Numbers.{at-mark, at-own-from, at-own-end}
 use Rattle.text_parsing.specs.Symbols.{counts, atom, marked, counts-end}
 use Rattle.text_store.specs.Store.{State, nodes-of, terms-of, insert, node-words, term-words, binders-of}
@@ -81,14 +82,14 @@ only-tree z (more-trees w s (more-trees v t r y) x) = absurd (omega arith)
 pub counts-claim : {xs : List ℕ} {p i mark m : ℕ} {a c : State} → TermFacts xs → Fine a → m ≡ terms-of a → Reads xs (counts ∷ counts-end p i mark m ∷ []) a c → (f u : ℕ) → Part xs tree i f u a → Unconditioned (node-words a) i → Gives xs i f u a c
 counts-claim {p = p} {mark = mark} facts fine e (next x fx (next y fy end)) f u t v = counted-made facts p mark e fine x fx y fy t v
 
-pub item-claim : {xs : List ℕ} {d p i : ℕ} {a c : State} → i ≡ nodes-of a → Reads xs (atom d ∷ marked p i ∷ []) a c → d ≤ 16 → Whole xs a c
+pub item-claim : {xs : List ℕ} {d p i : ℕ} {a c : State} → i ≡ nodes-of a → Reads xs (atom d ∷ marked p i ∷ []) a c → d ≤ max-nesting → Whole xs a c
 item-claim {xs} {d} {p} {i} {a} {c} e (next {c = b} x fx (next y fy end)) h =
     let g : Gives xs i (terms-of a) (binders-of a) a b = rw e (x h)
     in subst (λ (j : ℕ). Gives xs j (terms-of a) (binders-of a) a c) e (gives-after g (y (terms-of a) (binders-of a) (g .part) (g .free)))
 
 -- the same of members and of branches
 
-pub chain-begins : {xs : List ℕ} {d i : ℕ} {a b c : State} → i ≡ nodes-of a → (d ≤ 16 → Whole xs a b) → Chained xs d i false b c → d ≤ 16 → Whole xs a c
+pub chain-begins : {xs : List ℕ} {d i : ℕ} {a b c : State} → i ≡ nodes-of a → (d ≤ max-nesting → Whole xs a b) → Chained xs d i false b c → d ≤ max-nesting → Whole xs a c
 chain-begins {xs} {d} {i} {a} {b} {c} e x y h =
     let g : Gives xs i (terms-of a) (binders-of a) a b = rw e (x h)
     in subst (λ (j : ℕ). Gives xs j (terms-of a) (binders-of a) a c) e (gives-after g (y h 1 (terms-of a) (binders-of a) refl (one-tree (g .part) (g .free))))
@@ -97,7 +98,7 @@ several-more : (many : Bool) (k : ℕ) → Several many k → 2 ≤ suc k
 several-more true k h = omega arith
 several-more false k h = omega arith
 
-pub chain-goes : {xs : List ℕ} {d i : ℕ} {a b c : State} (many : Bool) → TermsSame → (d ≤ 16 → Whole xs a b) → Chained xs d i true b c → Chained xs d i many a c
+pub chain-goes : {xs : List ℕ} {d i : ℕ} {a b c : State} (many : Bool) → TermsSame → (d ≤ max-nesting → Whole xs a b) → Chained xs d i true b c → Chained xs d i many a c
 chain-goes {xs} {d} {i} {a} {b} {c} many same x y h k f u s t =
     let g : Whole xs a b = x h
     in let l : i ≤ nodes-of a = extent (t .holds) .0

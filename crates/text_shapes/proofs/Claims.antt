@@ -5,7 +5,8 @@ use mathlib.Core.Path.{_≡_}
 use mathlib.Core.Bool.{Bool, true, false}
 use mathlib.Core.List.{List, [], _∷_}
 use lib.ListN.{length, getD}
-use Rattle.text_store.specs.Words.{node-start, term-start, rule-start}
+use Rattle.basis.specs.Limits.{max-nesting, max-terms}
+use Rattle.text_store.specs.Words.{node-start, term-start, rule-start, terms-room}
 use Rattle.text_parsing.specs.Symbols.{Symbol, want, sign, paren, primary, operand, factors, summands, calculation, item, item-tail, bound, exception, excluded, alternative, alternatives, value-set, counts, counts-tail, test, comparison, condition, joined, chain, atom, factor, concatenation, expression, marked, counts-end, members, branches, character-tail, last-character, width, field-set, bound-name, field-end, colon, case-end, cases, switch-end, rules, rule-end}
 use Rattle.text_store.specs.Store.{State, nodes-of, terms-of, insert, leaf, condition-on, close-rule, node-words, term-words, rule-words, binders-of, rules-of}
 use Rattle.text_productions.specs.Phrases.{Phrases}
@@ -23,15 +24,15 @@ pub record TermsOnly (a b : State) : Type 0 where
   pub nodes-same : nodes-of b ≡ nodes-of a
   pub binders-same : binders-of b ≡ binders-of a
   pub rules-same : rules-of b ≡ rules-of a
-  pub length-is : length (term-words b) ≡ 4096
+  pub length-is : length (term-words b) ≡ terms-room
   pub grow : terms-of a ≤ terms-of b
   pub kept : (k : ℕ) → k < term-start (terms-of a) → getD (term-words b) k 0 ≡ getD (term-words a) k 0
 
 pub record TermFacts (xs : List ℕ) : Type 0 where
   pub same : TermsSame
-  pub set-read : (d : ℕ) (a b : State) → Phrases xs (value-set d ∷ []) a b → length (term-words a) ≡ 4096 → terms-of b ≤ 1024 → d ≤ 16 → SetShape (term-words b) (terms-of a) (terms-of b) × TermsOnly a b
-  pub condition-read : (d : ℕ) (a b : State) → Phrases xs (condition d ∷ []) a b → length (term-words a) ≡ 4096 → terms-of b ≤ 1024 → d ≤ 16 → ConditionShape (term-words b) (terms-of a) (terms-of b) × TermsOnly a b
-  pub counts-read : (a b : State) → Phrases xs (counts ∷ []) a b → length (term-words a) ≡ 4096 → terms-of b ≤ 1024 → CountsShape (term-words b) (terms-of a) (terms-of b) × TermsOnly a b
+  pub set-read : (d : ℕ) (a b : State) → Phrases xs (value-set d ∷ []) a b → length (term-words a) ≡ terms-room → terms-of b ≤ max-terms → d ≤ max-nesting → SetShape (term-words b) (terms-of a) (terms-of b) × TermsOnly a b
+  pub condition-read : (d : ℕ) (a b : State) → Phrases xs (condition d ∷ []) a b → length (term-words a) ≡ terms-room → terms-of b ≤ max-terms → d ≤ max-nesting → ConditionShape (term-words b) (terms-of a) (terms-of b) × TermsOnly a b
+  pub counts-read : (a b : State) → Phrases xs (counts ∷ []) a b → length (term-words a) ≡ terms-room → terms-of b ≤ max-terms → CountsShape (term-words b) (terms-of a) (terms-of b) × TermsOnly a b
 
 -- ---- what a part leaves
 
@@ -84,7 +85,7 @@ pub data Still : State → State → Type 0 where
   still : {a : State} → Still a a
 
 pub data Opened (d : ℕ) : State → State → Type 0 where
-  opened : {a : State} → d < 16 → Opened d a a
+  opened : {a : State} → d < max-nesting → Opened d a a
 
 -- how many trees there are before it is known whether there is one or several
 abbrev pub Several : Bool → ℕ → Type 0
@@ -93,7 +94,7 @@ Several false k = k ≡ 1
 
 -- trees from i on become one tree
 abbrev pub Chained : List ℕ → (d i : ℕ) (many : Bool) → State → State → Type 0
-Chained xs d i many a b = d ≤ 16 → (k f u : ℕ) → Several many k → Part xs (forest k) i f u a → Gives xs i f u a b
+Chained xs d i many a b = d ≤ max-nesting → (k f u : ℕ) → Several many k → Part xs (forest k) i f u a → Gives xs i f u a b
 
 -- ---- the claims
 
@@ -121,23 +122,23 @@ Claim xs comparison a b = Unit {0}
 Claim xs (condition d) a b = Phrases xs (condition d ∷ []) a b
 Claim xs (joined d) a b = Unit {0}
 Claim xs (chain code tag d) a b = Unit {0}
-Claim xs (atom d) a b = d ≤ 16 → Whole xs a b
-Claim xs (factor d) a b = d ≤ 16 → Whole xs a b
-Claim xs (concatenation d) a b = d ≤ 16 → Whole xs a b
-Claim xs (expression d) a b = d ≤ 16 → Whole xs a b
+Claim xs (atom d) a b = d ≤ max-nesting → Whole xs a b
+Claim xs (factor d) a b = d ≤ max-nesting → Whole xs a b
+Claim xs (concatenation d) a b = d ≤ max-nesting → Whole xs a b
+Claim xs (expression d) a b = d ≤ max-nesting → Whole xs a b
 Claim xs (marked p i) a b = (f u : ℕ) → Part xs tree i f u a → Unconditioned (node-words a) i → Gives xs i f u a b
 Claim xs (counts-end p i mark f) a b = b ≡ insert 3 p i 4 mark f (terms-of a) 0 a
 Claim xs (members d p i many) a b = Chained xs d i many a b
 Claim xs (branches d p i many) a b = Chained xs d i many a b
 Claim xs (character-tail p) a b = CharacterAt xs p → Whole xs a b
 Claim xs (last-character p) a b = CharacterAt xs p → Whole xs a b
-Claim xs (width d p) a b = d ≤ 16 → Whole xs a b
-Claim xs (field-set d p w) a b = d ≤ 16 → NumberAt xs w → Whole xs a b
-Claim xs (bound-name d p w) a b = d ≤ 16 → NumberAt xs w → Whole xs a b
+Claim xs (width d p) a b = d ≤ max-nesting → Whole xs a b
+Claim xs (field-set d p w) a b = d ≤ max-nesting → NumberAt xs w → Whole xs a b
+Claim xs (bound-name d p w) a b = d ≤ max-nesting → NumberAt xs w → Whole xs a b
 Claim xs (field-end p w q how f) a b = b ≡ leaf 8 p w q f (terms-of a) how a
-Claim xs (colon d f) a b = d ≤ 16 → ConditionShape (term-words a) f (terms-of a) → CaseRead xs f a b
+Claim xs (colon d f) a b = d ≤ max-nesting → ConditionShape (term-words a) f (terms-of a) → CaseRead xs f a b
 Claim xs (case-end i f e) a b = b ≡ condition-on i f e a
-Claim xs (cases d p i) a b = d ≤ 16 → (f u : ℕ) → Open xs i f u a → Gives xs i f u a b
+Claim xs (cases d p i) a b = d ≤ max-nesting → (f u : ℕ) → Open xs i f u a → Gives xs i f u a b
 Claim xs (switch-end p i) a b = b ≡ insert 4 p i 0 0 0 0 0 a
 Claim xs (rules any) a b = RulesRead xs any a b
 Claim xs (rule-end p i) a b = b ≡ close-rule p i a

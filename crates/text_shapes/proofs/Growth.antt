@@ -6,6 +6,8 @@ use mathlib.Core.List.{List}
 use native.Mathlib.Omega.{arith}
 use lib.Dec.{leb}
 use lib.ListN.{length}
+use Rattle.text_store.specs.Words.{nodes-room, terms-room, rules-room}
+use Rattle.basis.specs.Limits.{max-rules, max-constructs, max-variables, max-terms}
 use Rattle.text_header.proofs.Tests.{picked}
 use Rattle.text_parsing.specs.Symbols.{Symbol}
 use Rattle.text_store.specs.Store.{State, state, nodes-of, terms-of, counted, add, single, insert, condition-on, bind, close-rule, node-words, term-words, rule-words, binders-of, rules-of}
@@ -48,7 +50,7 @@ counted-grows limit n = picked (λ (k : ℕ). n ≤ k) (leb n limit) (λ z. omeg
 
 add-grows : (tag value place origin : ℕ) (a : State) → Grows a (add tag value place origin a)
 add-grows tag value place origin (state ns ts rs n t b r) =
-    record { nodes = omega arith; terms = counted-grows 1024 t; binders = omega arith; rules = omega arith; node-length = refl; term-length = length-put-term ts t tag value place origin; rule-length = refl }
+    record { nodes = omega arith; terms = counted-grows max-terms t; binders = omega arith; rules = omega arith; node-length = refl; term-length = length-put-term ts t tag value place origin; rule-length = refl }
 
 single-grows : (a : State) → Grows a (single a)
 single-grows (state ns ts rs n t b r) =
@@ -56,7 +58,7 @@ single-grows (state ns ts rs n t b r) =
 
 insert-grows : (kind place i a b c d e : ℕ) (st : State) → Grows st (insert kind place i a b c d e st)
 insert-grows kind place i a b c d e (state ns ts rs n t u r) =
-    record { nodes = counted-grows 256 n; terms = omega arith; binders = omega arith; rules = omega arith; node-length = length-put-node ns i kind _ place a b c d e; term-length = refl; rule-length = refl }
+    record { nodes = counted-grows max-constructs n; terms = omega arith; binders = omega arith; rules = omega arith; node-length = length-put-node ns i kind _ place a b c d e; term-length = refl; rule-length = refl }
 
 condition-grows : (i from end : ℕ) (st : State) → Grows st (condition-on i from end st)
 condition-grows i from end (state ns ts rs n t b r) =
@@ -64,11 +66,11 @@ condition-grows i from end (state ns ts rs n t b r) =
 
 bind-grows : (st : State) → Grows st (bind st)
 bind-grows (state ns ts rs n t b r) =
-    record { nodes = omega arith; terms = omega arith; binders = counted-grows 64 b; rules = omega arith; node-length = refl; term-length = refl; rule-length = refl }
+    record { nodes = omega arith; terms = omega arith; binders = counted-grows max-variables b; rules = omega arith; node-length = refl; term-length = refl; rule-length = refl }
 
 rule-grows : (place first : ℕ) (st : State) → Grows st (close-rule place first st)
 rule-grows place first (state ns ts rs n t b r) =
-    record { nodes = omega arith; terms = omega arith; binders = omega arith; rules = counted-grows 64 r; node-length = refl; term-length = refl; rule-length = length-put-rule rs r place first n t b }
+    record { nodes = omega arith; terms = omega arith; binders = omega arith; rules = counted-grows max-rules r; node-length = refl; term-length = refl; rule-length = length-put-rule rs r place first n t b }
 
 change-grows : {xs : List ℕ} {k : Symbol} {a b : State} → Change xs k a b → Grows a b
 change-grows (same e) = along e grows-refl
@@ -89,13 +91,13 @@ phrases-grow (then p u v) = grows-trans (production-grows p) (grows-trans (phras
 -- ---- what is within the limits
 
 pub record Fine (st : State) : Type 0 where
-  pub nodes : nodes-of st ≤ 256
-  pub terms : terms-of st ≤ 1024
-  pub binders : binders-of st ≤ 64
-  pub rules : rules-of st ≤ 64
-  pub node-length : length (node-words st) ≡ 2560
-  pub term-length : length (term-words st) ≡ 4096
-  pub rule-length : length (rule-words st) ≡ 325
+  pub nodes : nodes-of st ≤ max-constructs
+  pub terms : terms-of st ≤ max-terms
+  pub binders : binders-of st ≤ max-variables
+  pub rules : rules-of st ≤ max-rules
+  pub node-length : length (node-words st) ≡ nodes-room
+  pub term-length : length (term-words st) ≡ terms-room
+  pub rule-length : length (rule-words st) ≡ rules-room
 
 -- between two that are, what grew from the one and grows to the other is
 pub fine-between : {a b c : State} → Fine a → Grows a b → Grows b c → Fine c → Fine b

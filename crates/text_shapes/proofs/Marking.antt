@@ -9,8 +9,9 @@ use native.Mathlib.Omega.{arith}
 use borrow.Author.Tests.{lt-ltb, le-ltb, ne-eqb, ltb-true, eqb-true, eqb-false}
 use lib.Dec.{ltb, eqb}
 use lib.ListN.{length, length-append}
+use Rattle.basis.specs.Limits.{max-terms}
 use Rattle.text_header.proofs.Tests.{which}
-use Rattle.text_store.specs.Words.{term-start, term-tag, term-value, term-at, is-use}
+use Rattle.text_store.specs.Words.{term-start, term-tag, term-value, term-at, is-use, terms-room}
 use Rattle.term_words.specs.Numbers.{pick}
 use Rattle.term_words.specs.Words.{operationOf, signOf, termOf}
 use Rattle.term_words.specs.declared.Operation.{Operation}
@@ -99,7 +100,7 @@ marked-last ts k o h e =
     rw (marked-here ts k h, marked-other ts k (term-start k + at-value) (omega arith), marked-other ts k (term-start k + at-term) (omega arith))
     (marked-read (term-tag ts k) (term-value ts k) (term-at ts k) o e)
 
-pub marked-added : (M : List Term) (o : Operation) (a b : State) → length (term-words b) ≡ 4096 → terms-of b ≤ 1024 → Added (M ++ (Term.Part o ∷ [])) a b → Added (M ++ (Term.Single o ∷ [])) a (single b)
+pub marked-added : (M : List Term) (o : Operation) (a b : State) → length (term-words b) ≡ terms-room → terms-of b ≤ max-terms → Added (M ++ (Term.Part o ∷ [])) a b → Added (M ++ (Term.Single o ∷ [])) a (single b)
 marked-added M o a (state ns ts rs n t c r) w h p =
     let m : length (M ++ (Term.Part o ∷ [])) ≡ length M + 1 = length-append M (Term.Part o ∷ []) in
     let m′ : length (M ++ (Term.Single o ∷ [])) ≡ length M + 1 = length-append M (Term.Single o ∷ []) in

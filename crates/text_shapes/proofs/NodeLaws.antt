@@ -7,6 +7,8 @@ use mathlib.Core.Bool.{false}
 use mathlib.Core.List.{List, [], _∷_}
 use native.Mathlib.Omega.{arith}
 use lib.ListN.{length, replicate, length-replicate}
+use Rattle.text_store.specs.Words.{nodes-room, terms-room, rules-room}
+use Rattle.basis.specs.Limits.{max-rules, max-constructs, max-variables, max-terms}
 use Rattle.text_parsing.specs.Symbols.{Symbol, rules}
 use Rattle.text_store.specs.Store.{State, state, blank}
 use Rattle.text_productions.specs.Phrases.{Production, terminal, signed, opened as opens, number, variable, negated, plain, no-factor, times, no-summand, plus, minus, sum, open-item, value-item, to-bound, alone, some-bound, no-bound, no-exception, except, except-set, except-item, set-alternative, no-alternative, or-alternative, set, counts-to, counts-from, counts-exact, counts-range, test-group, test-compare, compare, tests, one-test, all-of, any-of, no-link, link, literal-atom, character-atom, field-atom, eod-atom, use-atom, group-atom, switch-atom, an-item, one-member, one-branch, no-mark, a-mark, counted-mark, counted as counted-end, and-member, last-member, or-branch, last-branch, to-character, one-character, range, field-width, binding, not-binding, binder, field, a-case, case-done, no-default, default, further-case, switched, no-rule, a-rule as a-rule-made, ruled, Phrases, nothing, then}
@@ -113,19 +115,19 @@ blank-fine =
       terms = omega arith;
       binders = omega arith;
       rules = omega arith;
-      node-length = zeros 2560;
-      term-length = zeros 4096;
-      rule-length = zeros 325;
+      node-length = zeros nodes-room;
+      term-length = zeros terms-room;
+      rule-length = zeros rules-room;
     }
 
-pub shape-of : (xs : List ℕ) → TermFacts xs → (ns ts rs : List ℕ) (n t b r : ℕ) → Phrases xs (rules false ∷ []) blank (state ns ts rs n t b r) → n ≤ 256 → t ≤ 1024 → b ≤ 64 → r ≤ 64 → Rules xs ns ts rs r n t b 0 0 0 0 × (1 ≤ r)
+pub shape-of : (xs : List ℕ) → TermFacts xs → (ns ts rs : List ℕ) (n t b r : ℕ) → Phrases xs (rules false ∷ []) blank (state ns ts rs n t b r) → n ≤ max-constructs → t ≤ max-terms → b ≤ max-variables → r ≤ max-rules → Rules xs ns ts rs r n t b 0 0 0 0 × (1 ≤ r)
 shape-of xs facts ns ts rs n t b r p h i j k = from (reads facts p blank-fine fine)
   where
     grows : Grows blank (state ns ts rs n t b r)
     grows = phrases-grow p
 
     fine : Fine (state ns ts rs n t b r)
-    fine = record { nodes = h; terms = i; binders = j; rules = k; node-length = grows .node-length ∙ zeros 2560; term-length = grows .term-length ∙ zeros 4096; rule-length = grows .rule-length ∙ zeros 325 }
+    fine = record { nodes = h; terms = i; binders = j; rules = k; node-length = grows .node-length ∙ zeros nodes-room; term-length = grows .term-length ∙ zeros terms-room; rule-length = grows .rule-length ∙ zeros rules-room }
 
     from : Reads xs (rules false ∷ []) blank (state ns ts rs n t b r) → Rules xs ns ts rs r n t b 0 0 0 0 × (1 ≤ r)
     from (next x f end) = (x .rules, x .some refl)

@@ -8,6 +8,7 @@ use mathlib.Core.List.{List, [], _∷_}
 use native.Mathlib.Omega.{arith}
 use lib.Dec.{ltb, eqb}
 use lib.ListN.{length}
+use Rattle.basis.specs.Limits.{max-nesting}
 use Rattle.text_header.proofs.Tests.{choice, picked}
 use Rattle.text_tokens.specs.Tokens.{token-of}
 use Rattle.text_tokens.proofs.Bounds as bounds
@@ -87,7 +88,7 @@ by-test {most} = choice (Leaves most)
 
 -- ... or by the depth
 deep : {most : ℕ} (d : ℕ) {x : Fed} → Leaves most x → Leaves most (within-depth d x)
-deep {most} d p = picked (Leaves most) (ltb d 16) (λ e. p) (λ e. faults)
+deep {most} d p = picked (Leaves most) (ltb d max-nesting) (λ e. p) (λ e. faults)
 
 -- ---- a terminal
 
@@ -136,7 +137,7 @@ module _ {most : ℕ} (s : Sight) (v : s .start ≤ most) where
   fed st [] g w = faults
   fed st (want k ∷ ks) g (h and w) = by-test (is k s) (goes g w) faults
   fed st (sign tag p o ∷ ks) g (h and w) = fed _ ks (add-bounded tag 0 p o st (h .0) (h .1) g) w
-  fed st (paren d ∷ ks) g (h and w) = by-test (ltb d 16) (by-test (is 40 s) (goes g w) faults) faults
+  fed st (paren d ∷ ks) g (h and w) = by-test (ltb d max-nesting) (by-test (is 40 s) (goes g w) faults) faults
   -- calculations
   fed st (primary o ∷ ks) g (h and w) = primary-placed o h st ks g w
   fed st (operand o ∷ ks) g (h and w) = operand-placed o h st ks g w

@@ -7,7 +7,8 @@ use mathlib.Core.List.{List, [], _∷_}
 use native.Mathlib.Omega.{arith}
 use borrow.Author.Tests.{le-leb}
 use lib.ListN.{getD}
-use Rattle.text_store.specs.Words.{rule-start, rule-word}
+use Rattle.basis.specs.Limits.{max-rules}
+use Rattle.text_store.specs.Words.{rule-start, rule-word, rules-kept}
 use Rattle.text_store.proofs.Numbers.{at-name, at-first-node, at-last-node, at-terms, at-binders}
 use Rattle.text_parsing.specs.Terminals.{is-name}
 use Rattle.text_parsing.specs.Symbols.{want, expression, rules, rule-end}
@@ -33,14 +34,14 @@ record Closed (p i : ℕ) (a b : State) : Type 0 where
 
 close-fine : (p i : ℕ) (a : State) → Fine a → Closed p i a (close-rule p i a)
 close-fine p i (state ns ts rs n t b r) f =
-    let h : r < 65 = omega (arith, f .rules)
+    let h : r < rules-kept = omega (arith, f .rules)
     in record {
       node-words-same = refl;
       term-words-same = refl;
       nodes-same = refl;
       terms-same = refl;
       binders-same = refl;
-      count = rw (le-leb r 64 (f .rules));
+      count = rw (le-leb r max-rules (f .rules));
       before = rule-before rs r p i n t b h;
       at = rule-at rs r p i n t b h (f .rule-length);
     }

@@ -4,6 +4,7 @@ use Prim.Native.Nat.{ℕ, zero, suc, _+_, _*_, _-_, _≤_, _<_}
 use mathlib.Core.Path.{_≡_, refl, sym, ap, subst, _∙_}
 use mathlib.Core.List.{List, [], _∷_, _++_, append-nil}
 use native.Mathlib.Omega.{arith}
+use Rattle.basis.specs.Limits.{max-rules, max-variables}
 use Rattle.term_words.specs.Words.{termOf}
 use Rattle.term_words.specs.declared.Comparison.{Comparison}
 use Rattle.term_words.specs.declared.Operation.{Operation}
@@ -42,7 +43,7 @@ pub data Bound (some none p : ℕ) (L : List Term) : Type 0 where
   no-limit : L ≡ term-read none 0 p ∷ [] → Bound some none p L
 
 abbrev pub CountsRoom : Repeats → Type 0
-CountsRoom x = (g : ℕ → ℕ) → ((k : ℕ) → g k < 64) → RepeatsRoom 64 (renamed-repeats g x)
+CountsRoom x = (g : ℕ → ℕ) → ((k : ℕ) → g k < max-rules) → RepeatsRoom max-variables (renamed-repeats g x)
 
 abbrev pub Times : List Term → Type 0
 Times = Spells repeatTerms CountsRoom

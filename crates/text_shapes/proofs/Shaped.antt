@@ -5,6 +5,8 @@ use mathlib.Core.Path.{_≡_, _∙_}
 use mathlib.Core.Bool.{false}
 use mathlib.Core.List.{List, [], _∷_}
 use lib.ListN.{length, length-replicate}
+use Rattle.text_store.specs.Words.{nodes-room, terms-room, rules-room}
+use Rattle.basis.specs.Limits.{max-rules, max-constructs, max-variables, max-terms}
 use Rattle.text_parsing.specs.Terminals.{sights-from}
 use Rattle.text_store.specs.Store.{State, state, term-words, blank}
 use Rattle.text_parsing.specs.Symbols.{rules}
@@ -21,7 +23,7 @@ use Rattle.text_shapes.proofs.Claims.{TermsOnly, TermFacts}
 use Rattle.text_shapes.proofs.NodeLaws.{shape-of}
 use Rattle.text_shapes.proofs.StoredLaws as words
 
-only : {a b : State} → length (term-words a) ≡ 4096 → adding.TermsOnly a b → Before a b → TermsOnly a b
+only : {a b : State} → length (term-words a) ≡ terms-room → adding.TermsOnly a b → Before a b → TermsOnly a b
 only l t k =
     record {
       node-words-same = t .same-nodes;
@@ -46,12 +48,12 @@ facts xs =
 pub record Shaped (xs ns ts rs : List ℕ) (n t b r : ℕ) : Type 0 where
   pub rules : Rules xs ns ts rs r n t b 0 0 0 0
   pub some : 1 ≤ r
-  pub node-length : length ns ≡ 2560
-  pub term-length : length ts ≡ 4096
-  pub rule-length : length rs ≡ 325
+  pub node-length : length ns ≡ nodes-room
+  pub term-length : length ts ≡ terms-room
+  pub rule-length : length rs ≡ rules-room
   pub stored : Stored xs ns ts
 
-pub shaped : (xs ns ts rs : List ℕ) (n t b r : ℕ) → run (sights-from xs 0) blank (rules false ∷ []) ≡ right (state ns ts rs n t b r) → n ≤ 256 → t ≤ 1024 → b ≤ 64 → r ≤ 64 → Shaped xs ns ts rs n t b r
+pub shaped : (xs ns ts rs : List ℕ) (n t b r : ℕ) → run (sights-from xs 0) blank (rules false ∷ []) ≡ right (state ns ts rs n t b r) → n ≤ max-constructs → t ≤ max-terms → b ≤ max-variables → r ≤ max-rules → Shaped xs ns ts rs n t b r
 shaped xs ns ts rs n t b r e h i j k =
     let p : Phrases xs (rules false ∷ []) blank (state ns ts rs n t b r) = derived xs blank (state ns ts rs n t b r) e
     in let g : Grows blank (state ns ts rs n t b r) = phrases-grow p
@@ -59,8 +61,8 @@ shaped xs ns ts rs n t b r e h i j k =
     in record {
       rules = q .0;
       some = q .1;
-      node-length = g .node-length ∙ length-replicate {A = ℕ} 2560 0;
-      term-length = g .term-length ∙ length-replicate {A = ℕ} 4096 0;
-      rule-length = g .rule-length ∙ length-replicate {A = ℕ} 325 0;
+      node-length = g .node-length ∙ length-replicate {A = ℕ} nodes-room 0;
+      term-length = g .term-length ∙ length-replicate {A = ℕ} terms-room 0;
+      rule-length = g .rule-length ∙ length-replicate {A = ℕ} rules-room 0;
       stored = words.stored xs ns ts rs n t b r p;
     }

@@ -4,6 +4,7 @@ use Prim.Native.Nat.{ℕ, suc, _+_, _*_, _≤_, _<_}
 use mathlib.Core.Path.{_≡_, sym, ap, _∙_}
 use mathlib.Core.List.{List, [], _∷_, _++_, append-assoc, append-nil}
 use native.Mathlib.Omega.{arith}
+use Rattle.basis.specs.Limits.{max-nesting, max-rules, max-variables}
 use Rattle.term_words.specs.declared.Term.{Term}
 use Rattle.term_trees.specs.Trees.{Calculation, ValueSet, Condition}
 use Rattle.term_trees.specs.Rooms.{Room, SetRoom, ConditionRoom}
@@ -68,13 +69,13 @@ module _ {T : Type 0} {terms : T → List Term} {ok : T → Type 0} where
 -- ---- room, whatever numbers the variables get
 
 abbrev pub CalculationRoom : Calculation → ℕ → Type 0
-CalculationRoom c n = (g : ℕ → ℕ) → ((k : ℕ) → g k < 64) → Room 64 (renamed g c) n
+CalculationRoom c n = (g : ℕ → ℕ) → ((k : ℕ) → g k < max-rules) → Room max-variables (renamed g c) n
 
 abbrev pub SetsRoom : ValueSet → ℕ → Type 0
-SetsRoom x n = (g : ℕ → ℕ) → ((k : ℕ) → g k < 64) → SetRoom 64 (renamed-set g x) n
+SetsRoom x n = (g : ℕ → ℕ) → ((k : ℕ) → g k < max-rules) → SetRoom max-variables (renamed-set g x) n
 
 abbrev pub TestsRoom : Condition → ℕ → Type 0
-TestsRoom x n = (g : ℕ → ℕ) → ((k : ℕ) → g k < 64) → ConditionRoom 64 (renamed-condition g x) n
+TestsRoom x n = (g : ℕ → ℕ) → ((k : ℕ) → g k < max-rules) → ConditionRoom max-variables (renamed-condition g x) n
 
 -- wherever at most so many wait before it
 pub record Within {T : Type 0} (room : T → ℕ → Type 0) (e : ℕ) (x : T) : Type 0 where
@@ -82,7 +83,7 @@ pub record Within {T : Type 0} (room : T → ℕ → Type 0) (e : ℕ) (x : T) :
 
 -- the same within d parentheses of at most 16: two tests wait for each
 pub record Deep {T : Type 0} (room : T → ℕ → Type 0) (e d : ℕ) (x : T) : Type 0 where
-  pub deep : d ≤ 16 → Within room (2 * d + e) x
+  pub deep : d ≤ max-nesting → Within room (2 * d + e) x
 
 module _ {T : Type 0} {room : T → ℕ → Type 0} where
   pub less : {e : ℕ} (f : ℕ) {x : T} → f ≤ e → Within room e x → Within room f x
@@ -100,5 +101,5 @@ module _ {T : Type 0} {room : T → ℕ → Type 0} where
   pub shallow : {d : ℕ} (e : ℕ) {x : T} → e ≤ 29 → Within room 61 x → Deep room e d x
   shallow {d} e h w = record { deep = λ k. less (2 * d + e) (omega arith) w }
 
-  pub inner : {e d : ℕ} (f : ℕ) {x : T} → d < 16 → f ≤ e + 2 → Deep room e (d + 1) x → Deep room f d x
+  pub inner : {e d : ℕ} (f : ℕ) {x : T} → d < max-nesting → f ≤ e + 2 → Deep room e (d + 1) x → Deep room f d x
   inner {e} {d} f l h p = record { deep = λ k. less (2 * d + f) (omega arith) (p .deep (omega arith)) }

@@ -9,8 +9,9 @@ use native.Mathlib.Omega.{arith}
 use borrow.Author.Tests.{ltb-true, ltb-false, leb-true, eqb-true, eqb-false, ne-eqb}
 use lib.Dec.{eqb, ltb, leb}
 use lib.ListN.{length, length-replicate}
+use Rattle.basis.specs.Limits.{max-constructs, max-terms}
 use Rattle.text_header.proofs.Tests.{which, picked, both-first, both-second}
-use Rattle.text_store.specs.Words.{node-start, term-start, node-word, term-word, term-tag, is-use}
+use Rattle.text_store.specs.Words.{node-start, term-start, node-word, term-word, term-tag, is-use, nodes-room, terms-room}
 use Rattle.text_store.proofs.Numbers.{at-kind, at-mark, at-own-from, at-own-end, at-tag, at-value, at-term}
 use Rattle.text_parsing.specs.Symbols.{Symbol, rules}
 use Rattle.text_store.specs.Store.{State, state, node-words, term-words, marked-tag, put-term, put-single, put-node, put-condition, blank}
@@ -39,19 +40,19 @@ own-moved e (no-list a b) = no-list (e at-own-from (omega arith) ∙ a) (e at-ow
 
 -- every node has
 abbrev Lists : List ℕ → Type 0
-Lists ns = (j : ℕ) → j < 256 → OwnList ns j
+Lists ns = (j : ℕ) → j < max-constructs → OwnList ns j
 
 module _ (ns : List ℕ) (all : Lists ns) where
   -- a node in front of node i: those before it stay, it is new, and those after it are old ones, each moved by one
-  node-lists : (i kind size place a b c d e : ℕ) → length ns ≡ 2560 → OwnList (ten kind size place a b c d e) 0 → Lists (put-node ns i kind size place a b c d e)
+  node-lists : (i kind size place a b c d e : ℕ) → length ns ≡ nodes-room → OwnList (ten kind size place a b c d e) 0 → Lists (put-node ns i kind size place a b c d e)
   unfolding put-node
   node-lists i kind size place a b c d e l new j h =
       ⊎-elim
-      (λ (z : ltb i 256 ≡ true). inside (ltb-true i 256 z))
-      (λ (z : ltb i 256 ≡ false). rw (z, put-node) (all j h))
-      (which (ltb i 256))
+      (λ (z : ltb i max-constructs ≡ true). inside (ltb-true i max-constructs z))
+      (λ (z : ltb i max-constructs ≡ false). rw (z, put-node) (all j h))
+      (which (ltb i max-constructs))
     where
-      inside : i < 256 → OwnList (put-node ns i kind size place a b c d e) j
+      inside : i < max-constructs → OwnList (put-node ns i kind size place a b c d e) j
       inside g =
           compared j i
           (λ y. own-moved (λ w v. node-before ns i kind size place a b c d e g l (node-start j + w) (omega arith)) (all j h))
@@ -64,11 +65,11 @@ module _ (ns : List ℕ) (all : Lists ns) where
   unfolding put-condition
   condition-lists i from end j h =
       ⊎-elim
-      (λ (z : ltb i 256 ≡ true). own-moved (inside (ltb-true i 256 z)) (all j h))
-      (λ (z : ltb i 256 ≡ false). rw (z, put-condition) (all j h))
-      (which (ltb i 256))
+      (λ (z : ltb i max-constructs ≡ true). own-moved (inside (ltb-true i max-constructs z)) (all j h))
+      (λ (z : ltb i max-constructs ≡ false). rw (z, put-condition) (all j h))
+      (which (ltb i max-constructs))
     where
-      inside : i < 256 → (w : ℕ) → w < 8 → node-word (put-condition ns i from end) j w ≡ node-word ns j w
+      inside : i < max-constructs → (w : ℕ) → w < 8 → node-word (put-condition ns i from end) j w ≡ node-word ns j w
       inside g w v =
           compared j i
           (λ y. condition-before ns i from end g (node-start j + w) (omega arith))
@@ -84,7 +85,7 @@ term-moved e (a-sign a b c) = a-sign (rw (e at-tag (omega arith)) a) (rw (e at-t
 
 -- every term has
 abbrev Terms : List ℕ → List ℕ → Type 0
-Terms xs ts = (j : ℕ) → j < 1024 → TermWords xs ts j
+Terms xs ts = (j : ℕ) → j < max-terms → TermWords xs ts j
 
 -- 32 more in the tag: a sign's tag is no use's then either
 unused-marked : (w : ℕ) → is-use w ≡ false → is-use (marked-tag w) ≡ false
@@ -108,16 +109,16 @@ marked-words e f (a-use (inr a) b c) = a-use (inr (e ∙ rw a)) (f at-value (ome
 marked-words {ts = ts} {k = k} e f (a-sign a b c) =
     a-sign (rw e (unused-marked (term-tag ts k) a)) (rw e (small-marked (term-tag ts k) b)) (f at-value (omega arith) (omega arith) ∙ c)
 
-module _ {xs : List ℕ} (ts : List ℕ) (l : length ts ≡ 4096) (all : Terms xs ts) where
+module _ {xs : List ℕ} (ts : List ℕ) (l : length ts ≡ terms-room) (all : Terms xs ts) where
   term-terms : (t tag value place origin : ℕ) → TermWords xs (tag ∷ value ∷ place ∷ origin ∷ []) 0 → Terms xs (put-term ts t tag value place origin)
   unfolding put-term
   term-terms t tag value place origin new j h =
       ⊎-elim
-      (λ (z : ltb t 1024 ≡ true). inside (ltb-true t 1024 z))
-      (λ (z : ltb t 1024 ≡ false). rw (z, put-term) (all j h))
-      (which (ltb t 1024))
+      (λ (z : ltb t max-terms ≡ true). inside (ltb-true t max-terms z))
+      (λ (z : ltb t max-terms ≡ false). rw (z, put-term) (all j h))
+      (which (ltb t max-terms))
     where
-      inside : t < 1024 → TermWords xs (put-term ts t tag value place origin) j
+      inside : t < max-terms → TermWords xs (put-term ts t tag value place origin) j
       inside g =
           compared j t
           (λ y. term-moved (λ w v. term-before ts t tag value place origin g (term-start j + w) (omega arith)) (all j h))
@@ -125,7 +126,7 @@ module _ {xs : List ℕ} (ts : List ℕ) (l : length ts ≡ 4096) (all : Terms x
           rw y (term-moved (λ w v. let q : term-start 0 + w ≡ w = omega arith in rw q (term-put ts t tag value place origin g l w (omega arith))) new))
           (λ y. term-moved (λ w v. term-after ts t tag value place origin g (term-start j + w) (omega arith)) (all j h))
 
-  marked-terms : (k : ℕ) → k < 1024 → Terms xs (marked-at ts k)
+  marked-terms : (k : ℕ) → k < max-terms → Terms xs (marked-at ts k)
   marked-terms k g j h = compared j k (λ y. elsewhere (omega arith)) (λ (y : j ≡ k). rw y here) (λ y. elsewhere (omega arith))
     where
       elsewhere : j ≢ k → TermWords xs (marked-at ts k) j
@@ -137,13 +138,13 @@ module _ {xs : List ℕ} (ts : List ℕ) (l : length ts ≡ 4096) (all : Terms x
 
   single-terms : (t : ℕ) → Terms xs (put-single ts t)
   unfolding put-single
-  single-terms t = picked (Terms xs) (leb t 1024) (λ z. marked-terms (t - 1) (omega (arith, leb-true t 1024 z))) (λ z. all)
+  single-terms t = picked (Terms xs) (leb t max-terms) (λ z. marked-terms (t - 1) (omega (arith, leb-true t max-terms z))) (λ z. all)
 
 -- ---- what is read
 
 record Kept (xs : List ℕ) (st : State) : Type 0 where
-  node-length : length (node-words st) ≡ 2560
-  term-length : length (term-words st) ≡ 4096
+  node-length : length (node-words st) ≡ nodes-room
+  term-length : length (term-words st) ≡ terms-room
   all : Stored xs (node-words st) (term-words st)
 
 along : {xs : List ℕ} {b c : State} → b ≡ c → Stored xs (node-words c) (term-words c) → Stored xs (node-words b) (term-words b)
@@ -176,8 +177,8 @@ phrases-kept {xs} (then {k = k} {ks = ks} {b = b} p u v) f s =
 blank-kept : {xs : List ℕ} → Kept xs blank
 blank-kept {xs} =
     record {
-      node-length = length-replicate {A = ℕ} 2560 0;
-      term-length = length-replicate {A = ℕ} 4096 0;
+      node-length = length-replicate {A = ℕ} nodes-room 0;
+      term-length = length-replicate {A = ℕ} terms-room 0;
       all =
           record {
             lists = λ j h. no-list (node-blank j at-own-from h (omega arith)) (node-blank j at-own-end h (omega arith));
@@ -185,7 +186,7 @@ blank-kept {xs} =
           };
     }
   where
-    zero-term : (t : ℕ) → t < 1024 → TermWords xs (term-words blank) t
+    zero-term : (t : ℕ) → t < max-terms → TermWords xs (term-words blank) t
     zero-term t h =
         let e : term-tag (term-words blank) t ≡ 0 = term-blank t at-tag h (omega arith) in
         a-sign (rw e) (rw e (omega arith)) (term-blank t at-value h (omega arith))

@@ -6,6 +6,7 @@ use mathlib.Core.List.{List, [], _∷_}
 use native.Mathlib.Omega.{arith}
 use native.Mathlib.Nat.{add-zero}
 use lib.ListN.{getD}
+use Rattle.basis.specs.Limits.{max-nesting, max-constructs}
 use Rattle.text_store.specs.Words.{node-start, condition-from, condition-end}
 use Rattle.text_store.proofs.Numbers.{at-condition-from, at-condition-end}
 use Rattle.text_parsing.specs.Symbols.{want, condition, expression, colon, case-end, cases, switch-end}
@@ -33,7 +34,7 @@ record Conditions (i f h : ℕ) (a b : State) : Type 0 where
   from-is : condition-from (node-words b) i ≡ f
   end-is : condition-end (node-words b) i ≡ h
 
-condition-fine : (i f h : ℕ) (a : State) → Fine a → i < 256 → Conditions i f h a (condition-on i f h a)
+condition-fine : (i f h : ℕ) (a : State) → Fine a → i < max-constructs → Conditions i f h a (condition-on i f h a)
 condition-fine i f h (state ns ts rs n t b r) fine l =
     record {
       nodes-same = refl;
@@ -48,7 +49,7 @@ condition-fine i f h (state ns ts rs n t b r) fine l =
       end-is = end-put ns i f h l (fine .node-length);
     }
 
-conditions : (i f h : ℕ) {a b : State} → b ≡ condition-on i f h a → Fine a → i < 256 → Conditions i f h a b
+conditions : (i f h : ℕ) {a b : State} → b ≡ condition-on i f h a → Fine a → i < max-constructs → Conditions i f h a b
 conditions i f h {a} z fine l = subst (Conditions i f h a) (sym z) (condition-fine i f h a fine l)
 
 -- ---- one case
@@ -98,7 +99,7 @@ case-from {xs} {a} {b} {c} t r =
       case = rw (← t .nodes-same) (r .case);
     }
 
-case-read : {xs : List ℕ} {d f : ℕ} {a b c : State} → TermFacts xs → Fine a → Fine b → f ≡ terms-of a → d ≤ 16 → Phrases xs (condition d ∷ []) a b → (d ≤ 16 → ConditionShape (term-words b) f (terms-of b) → CaseRead xs f b c) → Case xs a c
+case-read : {xs : List ℕ} {d f : ℕ} {a b c : State} → TermFacts xs → Fine a → Fine b → f ≡ terms-of a → d ≤ max-nesting → Phrases xs (condition d ∷ []) a b → (d ≤ max-nesting → ConditionShape (term-words b) f (terms-of b) → CaseRead xs f b c) → Case xs a c
 case-read {xs} {d} {f} {a} {b} {c} facts fine fine′ e h s x =
     let r : ConditionShape (term-words b) (terms-of a) (terms-of b) × TermsOnly a b = facts .condition-read d a b s (fine .term-length) (fine′ .terms) h
     in case-from (r .1) (subst (λ (j : ℕ). CaseRead xs j b c) e (x h (rw e (r .0))))
@@ -142,22 +143,22 @@ switch-made {xs} {i} {f} {u} {a} {c} {b} same p γ o k s v h fine z fine′ =
 
 -- ---- productions
 
-pub colon-claim : {xs : List ℕ} {d f i e : ℕ} {a c : State} → TermsSame → i ≡ nodes-of a → e ≡ terms-of a → Reads xs (expression d ∷ case-end i f e ∷ []) a c → d ≤ 16 → ConditionShape (term-words a) f (terms-of a) → CaseRead xs f a c
+pub colon-claim : {xs : List ℕ} {d f i e : ℕ} {a c : State} → TermsSame → i ≡ nodes-of a → e ≡ terms-of a → Reads xs (expression d ∷ case-end i f e ∷ []) a c → d ≤ max-nesting → ConditionShape (term-words a) f (terms-of a) → CaseRead xs f a c
 colon-claim same z y (next x fx (next v fv end)) h s = colon-made same z y (x h) fx v s
 
 pub no-default-claim : {xs : List ℕ} {i : ℕ} {a c : State} (p : ℕ) → TermsSame → Fine a → c ≡ insert 4 p i 0 0 0 0 0 a → Fine c → (f u : ℕ) → Open xs i f u a → Gives xs i f u a c
 no-default-claim {a = a} p same fine z fine′ f u o = switch-made same p 0 o (kept-refl (nodes-of a) a) refl (omega arith) (no-further refl) fine z fine′
 
-pub default-claim : {xs : List ℕ} {d p i : ℕ} {a c : State} → TermsSame → Reads xs (expression d ∷ want 59 ∷ switch-end p i ∷ []) a c → d ≤ 16 → (f u : ℕ) → Open xs i f u a → Gives xs i f u a c
+pub default-claim : {xs : List ℕ} {d p i : ℕ} {a c : State} → TermsSame → Reads xs (expression d ∷ want 59 ∷ switch-end p i ∷ []) a c → d ≤ max-nesting → (f u : ℕ) → Open xs i f u a → Gives xs i f u a c
 default-claim {p = p} same (next x fx (next still fy (next z fz end))) h f u o =
     let g = x h in switch-made same p (g .part .count) o (g .kept) (g .steady) (g .part .bound) (a-default (g .free) (g .part .holds)) fx z fz
 
-pub further-claim : {xs : List ℕ} {d p i m : ℕ} {a c : State} → TermFacts xs → Fine a → m ≡ terms-of a → Reads xs (condition d ∷ colon d m ∷ cases d p i ∷ []) a c → d ≤ 16 → (f u : ℕ) → Open xs i f u a → Gives xs i f u a c
+pub further-claim : {xs : List ℕ} {d p i m : ℕ} {a c : State} → TermFacts xs → Fine a → m ≡ terms-of a → Reads xs (condition d ∷ colon d m ∷ cases d p i ∷ []) a c → d ≤ max-nesting → (f u : ℕ) → Open xs i f u a → Gives xs i f u a c
 further-claim {xs} {i = i} {a = a} facts fine e (next {c = b} x fx (next {c = c′} y fy (next z fz end))) h f u o =
     let r : Case xs a c′ = case-read facts fine fx e h x y
     in gives-from (kept-less i (o .begins) (r .kept)) (r .steady) (z h f u (more-open (facts .same) r o))
 
-pub switch-claim : {xs : List ℕ} {d e f p i : ℕ} {a c : State} → TermFacts xs → Fine a → d < 16 → e ≡ d + 1 → f ≡ terms-of a → i ≡ nodes-of a → Reads xs (condition e ∷ colon e f ∷ cases e p i ∷ []) a c → Whole xs a c
+pub switch-claim : {xs : List ℕ} {d e f p i : ℕ} {a c : State} → TermFacts xs → Fine a → d < max-nesting → e ≡ d + 1 → f ≡ terms-of a → i ≡ nodes-of a → Reads xs (condition e ∷ colon e f ∷ cases e p i ∷ []) a c → Whole xs a c
 switch-claim {xs} {i = i} {a = a} {c = c} facts fine h l m n (next {c = b} x fx (next {c = c′} y fy (next z fz end))) =
     let r : Case xs a c′ = case-read facts fine fx m (omega arith) x y
     in let g : Gives xs (nodes-of a) (terms-of a) (binders-of a) c′ c =

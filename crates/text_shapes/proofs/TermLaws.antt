@@ -5,7 +5,8 @@ use mathlib.Core.Path.{_≡_, refl, sym, ap, subst, _∙_}
 use mathlib.Core.List.{List, [], _∷_, _++_}
 use native.Mathlib.Omega.{arith}
 use lib.ListN.{length, getD, length-append}
-use Rattle.text_store.specs.Words.{term-start}
+use Rattle.basis.specs.Limits.{max-nesting, max-terms}
+use Rattle.text_store.specs.Words.{term-start, terms-room}
 use Rattle.text_store.specs.Store.{State, state, terms-of, single, term-words}
 use Rattle.text_parsing.specs.Symbols.{Symbol, want, sign, paren, primary, operand, factors, summands, calculation, item, item-tail, bound, exception, excluded, alternative, alternatives, value-set, counts, counts-tail, test, comparison, condition, joined, chain, atom, factor, concatenation, expression, marked, counts-end, members, branches, character-tail, last-character, width, field-set, bound-name, field-end, colon, case-end, cases, switch-end, rules, rule-end}
 use Rattle.term_words.specs.declared.Term.{Term}
@@ -240,7 +241,7 @@ record Read {T : Type 0} (terms : T → List Term) (ok : T → Type 0) (a b : St
   ends : terms-of b ≡ terms-of a + length (terms tree)
   kept : (k : ℕ) → k < term-start (terms-of a) → getD (term-words b) k 0 ≡ getD (term-words a) k 0
 
-read-tree : {T : Type 0} {terms : T → List Term} {ok : T → Type 0} {a b : State} → Reads (Spells terms ok) a b → length (term-words a) ≡ 4096 → terms-of b ≤ 1024 → Read terms ok a b
+read-tree : {T : Type 0} {terms : T → List Term} {ok : T → Type 0} {a b : State} → Reads (Spells terms ok) a b → length (term-words a) ≡ terms-room → terms-of b ≤ max-terms → Read terms ok a b
 read-tree {T} {terms} {ok} {a} {b} r w h =
     let l = r .adds h w in
     let n : terms-of b ≡ terms-of a + length (l .list) = l .added .count in
@@ -267,19 +268,19 @@ module _ {xs : List ℕ} {a b : State} where
   pub counts-only : Phrases xs (counts ∷ []) a b → TermsOnly a b
   counts-only p = claimed p .only
 
-  pub set-read : {d : ℕ} → Phrases xs (value-set d ∷ []) a b → length (term-words a) ≡ 4096 → terms-of b ≤ 1024 → d ≤ 16 → SetShape (term-words b) (terms-of a) (terms-of b) × TermsOnly a b × Before a b
+  pub set-read : {d : ℕ} → Phrases xs (value-set d ∷ []) a b → length (term-words a) ≡ terms-room → terms-of b ≤ max-terms → d ≤ max-nesting → SetShape (term-words b) (terms-of a) (terms-of b) × TermsOnly a b × Before a b
   set-read p w h l =
       let r = read-tree (claimed p) w h in
       let some : 0 < length (setTerms (r .tree)) = set-some (r .tree) in
       (record { some = omega (arith, r .ends); tree = r .tree; is = r .is; room = r .fine .deep l .at 0 (omega arith) }, set-only p, r .kept)
 
-  pub condition-read : {d : ℕ} → Phrases xs (condition d ∷ []) a b → length (term-words a) ≡ 4096 → terms-of b ≤ 1024 → d ≤ 16 → ConditionShape (term-words b) (terms-of a) (terms-of b) × TermsOnly a b × Before a b
+  pub condition-read : {d : ℕ} → Phrases xs (condition d ∷ []) a b → length (term-words a) ≡ terms-room → terms-of b ≤ max-terms → d ≤ max-nesting → ConditionShape (term-words b) (terms-of a) (terms-of b) × TermsOnly a b × Before a b
   condition-read p w h l =
       let r = read-tree (claimed p) w h in
       let some : 0 < length (conditionTerms (r .tree)) = condition-some (r .tree) in
       (record { some = omega (arith, r .ends); tree = r .tree; is = r .is; room = r .fine .deep l .at 0 (omega arith) }, condition-only p, r .kept)
 
-  pub counts-read : Phrases xs (counts ∷ []) a b → length (term-words a) ≡ 4096 → terms-of b ≤ 1024 → CountsShape (term-words b) (terms-of a) (terms-of b) × TermsOnly a b × Before a b
+  pub counts-read : Phrases xs (counts ∷ []) a b → length (term-words a) ≡ terms-room → terms-of b ≤ max-terms → CountsShape (term-words b) (terms-of a) (terms-of b) × TermsOnly a b × Before a b
   counts-read p w h =
       let r = read-tree (claimed p) w h in
       let some : 0 < length (repeatTerms (r .tree)) = repeats-some (r .tree) in

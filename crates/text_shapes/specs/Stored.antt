@@ -5,6 +5,7 @@ use mathlib.Core.Path.{_≡_}
 use mathlib.Core.Logic.{_⊎_}
 use mathlib.Core.Bool.{false}
 use mathlib.Core.List.{List}
+use Rattle.basis.specs.Limits.{max-constructs, max-terms}
 use Rattle.text_store.specs.Words.{kind-of, node-mark, own-from, own-end, term-tag, term-value, term-at, is-use}
 use Rattle.text_shapes.specs.NodeShapes.{NameAt}
 
@@ -22,5 +23,5 @@ pub data TermWords (xs ts : List ℕ) (t : ℕ) : Type 0 where
 
 -- 256 nodes and 1,024 terms have room
 pub record Stored (xs ns ts : List ℕ) : Type 0 where
-  pub lists : (j : ℕ) → j < 256 → OwnList ns j
-  pub terms : (t : ℕ) → t < 1024 → TermWords xs ts t
+  pub lists : (j : ℕ) → j < max-constructs → OwnList ns j
+  pub terms : (t : ℕ) → t < max-terms → TermWords xs ts t

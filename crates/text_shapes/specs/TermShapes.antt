@@ -5,6 +5,7 @@ use Prim.Native.Nat.{ℕ, zero, suc, _+_, _-_, _<_}
 use mathlib.Core.Path.{_≡_}
 use mathlib.Core.Bool.{cond}
 use mathlib.Core.List.{List, [], _∷_}
+use Rattle.basis.specs.Limits.{max-rules, max-variables}
 use Rattle.text_store.specs.Words.{term-tag, term-value, term-at, is-use}
 use Rattle.term_words.specs.Words.{termOf}
 use Rattle.term_words.specs.declared.Operation.{Operation}
@@ -94,18 +95,18 @@ pub record SetShape (ts : List ℕ) (f e : ℕ) : Type 0 where
   pub some : f < e
   pub tree : ValueSet
   pub is : read-terms ts f (e - f) ≡ setTerms tree
-  pub room : (g : ℕ → ℕ) → ((k : ℕ) → g k < 64) → SetRoom 64 (renamed-set g tree) 0
+  pub room : (g : ℕ → ℕ) → ((k : ℕ) → g k < max-rules) → SetRoom max-variables (renamed-set g tree) 0
 
 -- a condition, likewise
 pub record ConditionShape (ts : List ℕ) (f e : ℕ) : Type 0 where
   pub some : f < e
   pub tree : Condition
   pub is : read-terms ts f (e - f) ≡ conditionTerms tree
-  pub room : (g : ℕ → ℕ) → ((k : ℕ) → g k < 64) → ConditionRoom 64 (renamed-condition g tree) 0
+  pub room : (g : ℕ → ℕ) → ((k : ℕ) → g k < max-rules) → ConditionRoom max-variables (renamed-condition g tree) 0
 
 -- counts, likewise
 pub record CountsShape (ts : List ℕ) (f e : ℕ) : Type 0 where
   pub some : f < e
   pub tree : Repeats
   pub is : read-terms ts f (e - f) ≡ repeatTerms tree
-  pub room : (g : ℕ → ℕ) → ((k : ℕ) → g k < 64) → RepeatsRoom 64 (renamed-repeats g tree)
+  pub room : (g : ℕ → ℕ) → ((k : ℕ) → g k < max-rules) → RepeatsRoom max-variables (renamed-repeats g tree)

@@ -13,9 +13,10 @@ use lib.Dec.{ltb, leb}
 use lib.ListN.{length, getD, set, replicate, List·getD-eq-default}
 use lib.Seq.{sets}
 use borrow.Author.Tests.{ltb-true, ltb-false}
+use Rattle.basis.specs.Limits.{max-constructs, max-terms}
 use Rattle.text_header.proofs.Tests.{which, picked}
 use Rattle.text_store.specs.Store.{State, state, blank, nodes-of, counted, marked-tag, put-term, add, put-single, single, room, put-node, insert, leaf, put-condition, condition-on, bind, put-rule, close-rule, node-words, term-words, rule-words}
-use Rattle.text_store.specs.Words.{place-of, second-place, term-at, term-origin, named-at}
+use Rattle.text_store.specs.Words.{place-of, second-place, term-at, term-origin, named-at, nodes-room, terms-room, rules-kept, rules-room}
 use Rattle.text_store.proofs.Rooms.{length-room, room-below, room-above, room-beyond}
 use Rattle.text_store.proofs.StoreLaws.{ten, words-sets}
 
@@ -66,13 +67,13 @@ room-column ns i w most h c j =
     later : 10 * j + w < length ns → i + 1 ≤ j → getD (room ns i) (10 * j + w) 0 ≤ most
     later l g =
         ⊎-elim
-        (λ (e : ltb j 256 ≡ true). (
-        let m : j < 256 = ltb-true j 256 e in
+        (λ (e : ltb j max-constructs ≡ true). (
+        let m : j < max-constructs = ltb-true j max-constructs e in
         let z : 10 * j + w - 10 ≡ 10 * (j - 1) + w = omega arith in
         rw (room-above ns i (10 * j + w) (omega arith) (omega arith) l, z) (c (j - 1))
         ))
-        (λ (e : ltb j 256 ≡ false). (let m : 256 ≤ j = ltb-false j 256 e in rw (room-beyond ns i (10 * j + w) (omega arith) (omega arith) l) (c j)))
-        (which (ltb j 256))
+        (λ (e : ltb j max-constructs ≡ false). (let m : max-constructs ≤ j = ltb-false j max-constructs e in rw (room-beyond ns i (10 * j + w) (omega arith) (omega arith) l) (c j)))
+        (which (ltb j max-constructs))
 
     inside : 10 * j + w < length ns → getD (room ns i) (10 * j + w) 0 ≤ most
     inside l =
@@ -84,14 +85,14 @@ room-column ns i w most h c j =
 node-column : (ns : List ℕ) (i kind size place a b c d e w most : ℕ) → w < 10 → getD (ten kind size place a b c d e) w 0 ≤ most → Column 10 w most ns → Column 10 w most (put-node ns i kind size place a b c d e)
 unfolding put-node
 node-column ns i kind size place a b c d e w most h z f =
-    picked (Column 10 w most) (ltb i 256)
+    picked (Column 10 w most) (ltb i max-constructs)
     (λ y. rw words-sets (entry-put 10 w most i (ten kind size place a b c d e) (room ns i) (omega arith) h z (room-column ns i w most h f)))
     (λ y. f)
 
 condition-column : (ns : List ℕ) (i from end w most : ℕ) → w < 8 → Column 10 w most ns → Column 10 w most (put-condition ns i from end)
 unfolding put-condition
 condition-column ns i from end w most h f =
-    picked (Column 10 w most) (ltb i 256)
+    picked (Column 10 w most) (ltb i max-constructs)
     (λ y j. set-most (set ns (10 * i + 8) from) (10 * i + 9) end (10 * j + w) most (set-most ns (10 * i + 8) from (10 * j + w) most (f j) (λ z. absurd (omega arith))) (λ z. absurd (omega arith)))
     (λ y. f)
 
@@ -100,18 +101,18 @@ condition-column ns i from end w most h f =
 term-column : (ts : List ℕ) (t tag value place origin w most : ℕ) → w < 4 → getD (tag ∷ value ∷ place ∷ origin ∷ []) w 0 ≤ most → Column 4 w most ts → Column 4 w most (put-term ts t tag value place origin)
 unfolding put-term
 term-column ts t tag value place origin w most h z f =
-    picked (Column 4 w most) (ltb t 1024) (λ y. simp towards-suc (entry-put 4 w most t (tag ∷ value ∷ place ∷ origin ∷ []) ts (omega arith) h z f)) (λ y. f)
+    picked (Column 4 w most) (ltb t max-terms) (λ y. simp towards-suc (entry-put 4 w most t (tag ∷ value ∷ place ∷ origin ∷ []) ts (omega arith) h z f)) (λ y. f)
 
 -- only a tag changes
 single-column : (ts : List ℕ) (t w most : ℕ) → suc w < 4 → Column 4 (suc w) most ts → Column 4 (suc w) most (put-single ts t)
 unfolding put-single
 single-column ts t w most h f =
-    picked (Column 4 (suc w) most) (leb t 1024) (λ y. entry-put 4 (suc w) most (t - 1) (marked-tag (getD ts (4 * (t - 1)) 0) ∷ []) ts (omega arith) h (omega arith) f) (λ y. f)
+    picked (Column 4 (suc w) most) (leb t max-terms) (λ y. entry-put 4 (suc w) most (t - 1) (marked-tag (getD ts (4 * (t - 1)) 0) ∷ []) ts (omega arith) h (omega arith) f) (λ y. f)
 
 rule-column : (rs : List ℕ) (r place first nodes terms binders w most : ℕ) → w < 5 → getD (place ∷ first ∷ nodes ∷ terms ∷ binders ∷ []) w 0 ≤ most → Column 5 w most rs → Column 5 w most (put-rule rs r place first nodes terms binders)
 unfolding put-rule
 rule-column rs r place first nodes terms binders w most h z f =
-    picked (Column 5 w most) (ltb r 65) (λ y. simp towards-suc (entry-put 5 w most r (place ∷ first ∷ nodes ∷ terms ∷ binders ∷ []) rs (omega arith) h z f)) (λ y. f)
+    picked (Column 5 w most) (ltb r rules-kept) (λ y. simp towards-suc (entry-put 5 w most r (place ∷ first ∷ nodes ∷ terms ∷ binders ∷ []) rs (omega arith) h z f)) (λ y. f)
 
 -- ---- all that is read
 
@@ -126,11 +127,11 @@ pub record Bounded (most : ℕ) (st : State) : Type 0 where
 pub blank-bounded : {most : ℕ} → Bounded most blank
 blank-bounded {most} =
     record {
-      nodes = λ j. zeros-most 2560 (10 * j + 2) most;
-      seconds = λ j. zeros-most 2560 (10 * j + 4) most;
-      terms = λ j. zeros-most 4096 (4 * j + 2) most;
-      origins = λ j. zeros-most 4096 (4 * j + 3) most;
-      rules = λ j. zeros-most 325 (5 * j + 0) most;
+      nodes = λ j. zeros-most nodes-room (10 * j + 2) most;
+      seconds = λ j. zeros-most nodes-room (10 * j + 4) most;
+      terms = λ j. zeros-most terms-room (4 * j + 2) most;
+      origins = λ j. zeros-most terms-room (4 * j + 3) most;
+      rules = λ j. zeros-most rules-room (5 * j + 0) most;
     }
 
 module _ {most : ℕ} where
@@ -151,8 +152,8 @@ module _ {most : ℕ} where
   pub insert-bounded : (kind place i a b c d e : ℕ) (st : State) → place ≤ most → b ≤ most → Bounded most st → Bounded most (insert kind place i a b c d e st)
   insert-bounded kind place i a b c d e (state ns ts rs n t u r) p q g =
       record {
-        nodes = node-column ns i kind (counted 256 n - i) place a b c d e 2 most (omega arith) p (g .nodes);
-        seconds = node-column ns i kind (counted 256 n - i) place a b c d e 4 most (omega arith) q (g .seconds);
+        nodes = node-column ns i kind (counted max-constructs n - i) place a b c d e 2 most (omega arith) p (g .nodes);
+        seconds = node-column ns i kind (counted max-constructs n - i) place a b c d e 4 most (omega arith) q (g .seconds);
         terms = g .terms;
         origins = g .origins;
         rules = g .rules;

@@ -10,6 +10,8 @@ use borrow.Author.Tests.{eqb-true, eqb-false, ltb-true, ltb-false}
 use lib.Dec.{eqb, ltb}
 use lib.ListN.{length, getD, set, take, drop, length-set, length-append, length-take, length-drop, List·getD-append}
 use lib.Seq.{getD-set-same, getD-set-other, getD-take, getD-drop, getD-append-add, ext-getD}
+use Rattle.text_store.specs.Words.{nodes-room}
+use Rattle.basis.specs.Limits.{max-constructs}
 use Rattle.text_header.proofs.Tests.{which}
 use Rattle.text_store.specs.Store.{over, room}
 
@@ -48,12 +50,12 @@ module _ (ns : List ℕ) (i : ℕ) where
   kept = take (k + 10) ns
 
   abbrev moving : List ℕ
-  moving = over (2550 - k) (drop k ns) (drop (k + 10) ns)
+  moving = over (nodes-room - 10 - k) (drop k ns) (drop (k + 10) ns)
 
   pub length-room : length (room ns i) ≡ length ns
   unfolding room
   length-room =
-      omega (arith, length-append kept moving, length-take (k + 10) ns, length-over (2550 - k) (drop k ns) (drop (k + 10) ns), length-drop (k + 10) ns)
+      omega (arith, length-append kept moving, length-take (k + 10) ns, length-over (nodes-room - 10 - k) (drop k ns) (drop (k + 10) ns), length-drop (k + 10) ns)
 
   pub room-below : (j : ℕ) → j < k + 10 → j < length ns → getD (room ns i) j 0 ≡ getD ns j 0
   unfolding room
@@ -65,17 +67,17 @@ module _ (ns : List ℕ) (i : ℕ) where
       let e : q ≡ length kept + (q - (k + 10)) = omega (arith, length-take (k + 10) ns) in
       ap (λ (x : ℕ). getD (kept ++ moving) x 0) e ∙ getD-append-add kept moving (q - (k + 10)) 0
 
-  pub room-above : (q : ℕ) → k + 10 ≤ q → q < 2560 → q < length ns → getD (room ns i) q 0 ≡ getD ns (q - 10) 0
+  pub room-above : (q : ℕ) → k + 10 ≤ q → q < nodes-room → q < length ns → getD (room ns i) q 0 ≡ getD ns (q - 10) 0
   room-above q h g l =
       past q h l
-      ∙ over-written (2550 - k) (drop k ns) (drop (k + 10) ns) (q - (k + 10)) (omega arith) (omega (arith, length-drop (k + 10) ns)) (omega (arith, length-drop (k + 10) ns, length-drop k ns))
+      ∙ over-written (nodes-room - 10 - k) (drop k ns) (drop (k + 10) ns) (q - (k + 10)) (omega arith) (omega (arith, length-drop (k + 10) ns)) (omega (arith, length-drop (k + 10) ns, length-drop k ns))
       ∙ getD-drop k ns (q - (k + 10)) 0
       ∙ ap (λ (x : ℕ). getD ns x 0) (let z : k + (q - (k + 10)) ≡ q - 10 = omega arith in z)
 
-  pub room-beyond : (q : ℕ) → k + 10 ≤ q → 2560 ≤ q → q < length ns → getD (room ns i) q 0 ≡ getD ns q 0
+  pub room-beyond : (q : ℕ) → k + 10 ≤ q → nodes-room ≤ q → q < length ns → getD (room ns i) q 0 ≡ getD ns q 0
   room-beyond q h g l =
       past q h l
-      ∙ over-left (2550 - k) (drop k ns) (drop (k + 10) ns) (q - (k + 10)) (omega arith)
+      ∙ over-left (nodes-room - 10 - k) (drop k ns) (drop (k + 10) ns) (q - (k + 10)) (omega arith)
       ∙ getD-drop (k + 10) ns (q - (k + 10)) 0
       ∙ ap (λ (x : ℕ). getD ns x 0) (let z : k + 10 + (q - (k + 10)) ≡ q = omega arith in z)
 
@@ -125,27 +127,27 @@ moved-at (suc n) ns k j q a b e h =
     (which (eqb j (k + n)))
 
 -- the loop's result
-pub moved-room : (ns : List ℕ) (i : ℕ) → i < 256 → moved (2550 - 10 * i) ns (10 * i) ≡ room ns i
+pub moved-room : (ns : List ℕ) (i : ℕ) → i < max-constructs → moved (nodes-room - 10 - 10 * i) ns (10 * i) ≡ room ns i
 moved-room ns i h =
-    ext-getD 0 (moved (2550 - 10 * i) ns (10 * i)) (room ns i) (length-moved (2550 - 10 * i) ns (10 * i) ∙ sym (length-room ns i))
-    (λ j g. each j (omega (arith, length-moved (2550 - 10 * i) ns (10 * i))))
+    ext-getD 0 (moved (nodes-room - 10 - 10 * i) ns (10 * i)) (room ns i) (length-moved (nodes-room - 10 - 10 * i) ns (10 * i) ∙ sym (length-room ns i))
+    (λ j g. each j (omega (arith, length-moved (nodes-room - 10 - 10 * i) ns (10 * i))))
   where
-    later : (j : ℕ) → j < length ns → 10 * i + 10 ≤ j → getD (moved (2550 - 10 * i) ns (10 * i)) j 0 ≡ getD (room ns i) j 0
+    later : (j : ℕ) → j < length ns → 10 * i + 10 ≤ j → getD (moved (nodes-room - 10 - 10 * i) ns (10 * i)) j 0 ≡ getD (room ns i) j 0
     later j g b =
         ⊎-elim
-        (λ (e : ltb j 2560 ≡ true). (
-        let m : j < 2560 = ltb-true j 2560 e in
-        moved-at (2550 - 10 * i) ns (10 * i) (j - 10) j (omega arith) (omega arith) (omega arith) g ∙ sym (room-above ns i j b m g)
+        (λ (e : ltb j nodes-room ≡ true). (
+        let m : j < nodes-room = ltb-true j nodes-room e in
+        moved-at (nodes-room - 10 - 10 * i) ns (10 * i) (j - 10) j (omega arith) (omega arith) (omega arith) g ∙ sym (room-above ns i j b m g)
         ))
-        (λ (e : ltb j 2560 ≡ false). (
-        let m : 2560 ≤ j = ltb-false j 2560 e in
-        moved-above (2550 - 10 * i) ns (10 * i) j (omega arith) ∙ sym (room-beyond ns i j b m g)
+        (λ (e : ltb j nodes-room ≡ false). (
+        let m : nodes-room ≤ j = ltb-false j nodes-room e in
+        moved-above (nodes-room - 10 - 10 * i) ns (10 * i) j (omega arith) ∙ sym (room-beyond ns i j b m g)
         ))
-        (which (ltb j 2560))
+        (which (ltb j nodes-room))
 
-    each : (j : ℕ) → j < length ns → getD (moved (2550 - 10 * i) ns (10 * i)) j 0 ≡ getD (room ns i) j 0
+    each : (j : ℕ) → j < length ns → getD (moved (nodes-room - 10 - 10 * i) ns (10 * i)) j 0 ≡ getD (room ns i) j 0
     each j g =
         ⊎-elim
-        (λ (e : ltb j (10 * i + 10) ≡ true). moved-below (2550 - 10 * i) ns (10 * i) j (ltb-true j (10 * i + 10) e) ∙ sym (room-below ns i j (ltb-true j (10 * i + 10) e) g))
+        (λ (e : ltb j (10 * i + 10) ≡ true). moved-below (nodes-room - 10 - 10 * i) ns (10 * i) j (ltb-true j (10 * i + 10) e) ∙ sym (room-below ns i j (ltb-true j (10 * i + 10) e) g))
         (λ (e : ltb j (10 * i + 10) ≡ false). later j g (ltb-false j (10 * i + 10) e))
         (which (ltb j (10 * i + 10)))

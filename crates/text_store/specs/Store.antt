@@ -6,6 +6,8 @@ use mathlib.Core.Bool.{cond}
 use mathlib.Core.List.{List, [], _∷_, _++_}
 use lib.Dec.{leb, ltb}
 use lib.ListN.{getD, set, take, drop, replicate}
+use Rattle.text_store.specs.Words.{nodes-room, terms-room, rules-kept, rules-room}
+use Rattle.basis.specs.Limits.{max-rules, max-constructs, max-variables, max-terms}
 
 -- the words of nodes, terms and rules, and how many nodes, terms, binders and rules there are
 pub data State : Type 0 where
@@ -13,7 +15,7 @@ pub data State : Type 0 where
 
 -- nothing is read yet
 abbrev pub blank : State
-blank = state (replicate 2560 0) (replicate 4096 0) (replicate 325 0) 0 0 0 0
+blank = state (replicate nodes-room 0) (replicate terms-room 0) (replicate rules-room 0) 0 0 0 0
 
 -- the parts of what is read, in this order
 abbrev pub node-words : State → List ℕ
@@ -44,11 +46,11 @@ counted limit n = cond (leb n limit) (n + 1) n
 -- A term: tag, value of a number, place, first byte of the calculation it is in. Tags as in crate `term_words`.
 unfoldable pub put-term : List ℕ → ℕ → ℕ → ℕ → ℕ → ℕ → List ℕ
 put-term ts t tag value place origin =
-    cond (ltb t 1024) (set (set (set (set ts (4 * t) tag) (4 * t + 1) value) (4 * t + 2) place) (4 * t + 3) origin) ts
+    cond (ltb t max-terms) (set (set (set (set ts (4 * t) tag) (4 * t + 1) value) (4 * t + 2) place) (4 * t + 3) origin) ts
 
 -- one term more
 abbrev pub add : ℕ → ℕ → ℕ → ℕ → State → State
-add tag value place origin (state ns ts rs n t b r) = state ns (put-term ts t tag value place origin) rs n (counted 1024 t) b r
+add tag value place origin (state ns ts rs n t b r) = state ns (put-term ts t tag value place origin) rs n (counted max-terms t) b r
 
 -- the last term ends a calculation that is an item of a set: 32 more in its tag
 abbrev pub marked-tag : ℕ → ℕ
@@ -56,7 +58,7 @@ marked-tag tag = cond (ltb tag 32) (tag + 32) tag
 
 -- so that the item `a` of a set is told from an end of `a~b`
 unfoldable pub put-single : List ℕ → ℕ → List ℕ
-put-single ts t = cond (leb t 1024) (set ts (4 * (t - 1)) (marked-tag (getD ts (4 * (t - 1)) 0))) ts
+put-single ts t = cond (leb t max-terms) (set ts (4 * (t - 1)) (marked-tag (getD ts (4 * (t - 1)) 0))) ts
 
 -- the same in what is read
 abbrev pub single : State → State
@@ -77,16 +79,16 @@ over (suc n) (a ∷ olds) (b ∷ news) = a ∷ over n olds news
 -- all nodes from node i on move by one; what goes past the 256th is lost
 unfoldable pub room : List ℕ → ℕ → List ℕ
 unfolding over
-room ns i = take (10 * i + 10) ns ++ over (2550 - 10 * i) (drop (10 * i) ns) (drop (10 * i + 10) ns)
+room ns i = take (10 * i + 10) ns ++ over (nodes-room - 10 - 10 * i) (drop (10 * i) ns) (drop (10 * i + 10) ns)
 
 -- a node in front of node i, which it holds with all after it
 unfoldable pub put-node : List ℕ → ℕ → (kind size place a b c d e : ℕ) → List ℕ
-put-node ns i kind size place a b c d e = cond (ltb i 256) (put-words (room ns i) (10 * i) kind size place a b c d e) ns
+put-node ns i kind size place a b c d e = cond (ltb i max-constructs) (put-words (room ns i) (10 * i) kind size place a b c d e) ns
 
 -- the same in what is read; the new node is as large as all nodes from i on, itself counted
 abbrev pub insert : (kind place i a b c d e : ℕ) → State → State
 insert kind place i a b c d e (state ns ts rs n t bs r) =
-    state (put-node ns i kind (counted 256 n - i) place a b c d e) ts rs (counted 256 n) t bs r
+    state (put-node ns i kind (counted max-constructs n - i) place a b c d e) ts rs (counted max-constructs n) t bs r
 
 -- a node without parts, after all others
 abbrev pub leaf : (kind place a b c d e : ℕ) → State → State
@@ -94,7 +96,7 @@ leaf kind place a b c d e st = insert kind place (nodes-of st) a b c d e st
 
 -- the condition of the case whose body is node i
 unfoldable pub put-condition : List ℕ → ℕ → ℕ → ℕ → List ℕ
-put-condition ns i from end = cond (ltb i 256) (set (set ns (10 * i + 8) from) (10 * i + 9) end) ns
+put-condition ns i from end = cond (ltb i max-constructs) (set (set ns (10 * i + 8) from) (10 * i + 9) end) ns
 
 -- the same in what is read
 abbrev pub condition-on : ℕ → ℕ → ℕ → State → State
@@ -102,14 +104,14 @@ condition-on i from end (state ns ts rs n t b r) = state (put-condition ns i fro
 
 -- a binder
 abbrev pub bind : State → State
-bind (state ns ts rs n t b r) = state ns ts rs n t (counted 64 b) r
+bind (state ns ts rs n t b r) = state ns ts rs n t (counted max-variables b) r
 
 -- A rule, five words: place of its name, its first node, and the nodes, terms and binders there are at its end. The first rule past the limit
 -- is kept too, since refusal 5 is at its place.
 unfoldable pub put-rule : List ℕ → ℕ → (place first nodes terms binders : ℕ) → List ℕ
 put-rule rs r place first nodes terms binders =
-    cond (ltb r 65) (set (set (set (set (set rs (5 * r) place) (5 * r + 1) first) (5 * r + 2) nodes) (5 * r + 3) terms) (5 * r + 4) binders) rs
+    cond (ltb r rules-kept) (set (set (set (set (set rs (5 * r) place) (5 * r + 1) first) (5 * r + 2) nodes) (5 * r + 3) terms) (5 * r + 4) binders) rs
 
 -- a rule ends here
 abbrev pub close-rule : ℕ → ℕ → State → State
-close-rule place first (state ns ts rs n t b r) = state ns ts (put-rule rs r place first n t b) n t b (counted 64 r)
+close-rule place first (state ns ts rs n t b r) = state ns ts (put-rule rs r place first n t b) n t b (counted max-rules r)

@@ -5,6 +5,7 @@ use mathlib.Core.Bool.{Bool, not, _&&_, _||_}
 use mathlib.Core.List.{List}
 use lib.Dec.{eqb}
 use lib.ListN.{getD}
+use Rattle.basis.specs.Limits.{max-rules, max-constructs, max-terms}
 
 -- where the words of node i, of term t, of rule r begin
 abbrev pub node-start : ℕ → ℕ
@@ -15,6 +16,19 @@ term-start t = 4 * t
 
 abbrev pub rule-start : ℕ → ℕ
 rule-start r = 5 * r
+
+-- how many words there are: a node for each construct, the terms, and one rule more than there may be, so that its place is known
+abbrev pub nodes-room : ℕ
+nodes-room = node-start max-constructs
+
+abbrev pub terms-room : ℕ
+terms-room = term-start max-terms
+
+abbrev pub rules-kept : ℕ
+rules-kept = max-rules + 1
+
+abbrev pub rules-room : ℕ
+rules-room = rule-start rules-kept
 
 -- word k of a node, of a term, of a rule
 abbrev pub node-word : List ℕ → ℕ → ℕ → ℕ

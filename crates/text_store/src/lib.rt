@@ -1,7 +1,20 @@
 // What is read, as words: nodes of ten, terms of four, rules of five. Words are written (`stores`) and read (`words`) here alone, and others name
 // them by these numbers.
+use basis::MAX_CONSTRUCTS;
+use basis::MAX_RULES;
+use basis::MAX_TERMS;
+
 pub mod stores;
 pub mod words;
+
+// How many words there are: a node for each construct, the terms, and one rule more than there may be, so that its place is known.
+pub const NODES_ROOM: usize = 10 * MAX_CONSTRUCTS;
+
+pub const TERMS_ROOM: usize = 4 * MAX_TERMS;
+
+pub const RULES_KEPT: usize = MAX_RULES + 1;
+
+pub const RULES_ROOM: usize = 5 * RULES_KEPT;
 
 // A node: kind, size and place; three operands by its kind; the terms of its own; how it binds; the terms of its condition.
 pub const KIND: usize = 0;

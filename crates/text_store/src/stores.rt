@@ -1,6 +1,13 @@
 // Words written into what is read.
+use crate::NODES_ROOM;
+use crate::RULES_KEPT;
+use crate::RULES_ROOM;
+use crate::TERMS_ROOM;
+use basis::MAX_CONSTRUCTS;
+use basis::MAX_TERMS;
 ghost use mathlib.Core.Path.{_≡_};
 ghost use Prim.Native.Nat.{_-_, _<_};
+ghost use Rattle.basis.specs.Limits.{max-constructs};
 ghost use Rattle.text_store.specs.Store.{counted as countedOf, put-words as put-wordsOf, put-term as put-termOf, marked-tag, put-single, room, put-node as put-nodeOf, put-condition as put-conditionOf, put-rule as put-ruleOf};
 
 pub fn counted(limit: usize, n: usize) -> usize
@@ -14,7 +21,7 @@ pub fn counted(limit: usize, n: usize) -> usize
 }
 
 pub fn put_term(
-    terms: &mut [usize; 4096],
+    terms: &mut [usize; TERMS_ROOM],
     t: usize,
     tag: usize,
     value: usize,
@@ -23,7 +30,7 @@ pub fn put_term(
 )
     ensures { λ r. ⌜ now (terms .exit) ≡ put-termOf (now (terms .entry)) t tag value place origin ⌝ }
 {
-    if 1024 <= t {
+    if MAX_TERMS <= t {
         return;
     }
     let k = 4 * t;
@@ -43,10 +50,10 @@ fn marked_tag(tag: usize) -> usize
 }
 
 // The last term ends an item of a set.
-pub fn mark_single(t: usize, terms: &mut [usize; 4096])
+pub fn mark_single(t: usize, terms: &mut [usize; TERMS_ROOM])
     ensures { λ r. ⌜ now (terms .exit) ≡ put-single (now (terms .entry)) t ⌝ }
 {
-    if 1024 < t {
+    if MAX_TERMS < t {
         return;
     }
     if t == 0 {
@@ -58,11 +65,11 @@ pub fn mark_single(t: usize, terms: &mut [usize; 4096])
 }
 
 // All words from node i on move by one node.
-fn make_room(i: usize, nodes: &mut [usize; 2560])
-    requires { ⌜ i < 256 ⌝ }
+fn make_room(i: usize, nodes: &mut [usize; NODES_ROOM])
+    requires { ⌜ i < max-constructs ⌝ }
     ensures { λ r. ⌜ now (nodes .exit) ≡ room (now (nodes .entry)) i ⌝ }
 {
-    let mut k = 2560;
+    let mut k = NODES_ROOM;
     while 10 * i + 10 < k {
         k -= 1;
         nodes[k] = nodes[k - 10];
@@ -80,7 +87,7 @@ pub fn less(n: usize, i: usize) -> usize
 
 // Eight words of a node from place k on.
 fn put_words(
-    nodes: &mut [usize; 2560],
+    nodes: &mut [usize; NODES_ROOM],
     k: usize,
     kind: usize,
     size: usize,
@@ -107,7 +114,7 @@ fn put_words(
 }
 
 pub fn put_node(
-    nodes: &mut [usize; 2560],
+    nodes: &mut [usize; NODES_ROOM],
     i: usize,
     kind: usize,
     size: usize,
@@ -120,7 +127,7 @@ pub fn put_node(
 )
     ensures { λ r. ⌜ now (nodes .exit) ≡ put-nodeOf (now (nodes .entry)) i kind size place a b f e how ⌝ }
 {
-    if 256 <= i {
+    if MAX_CONSTRUCTS <= i {
         return;
     }
     make_room(i, nodes);
@@ -128,10 +135,10 @@ pub fn put_node(
 }
 
 // The condition of the case whose body is node i.
-pub fn put_condition(i: usize, from: usize, end: usize, nodes: &mut [usize; 2560])
+pub fn put_condition(i: usize, from: usize, end: usize, nodes: &mut [usize; NODES_ROOM])
     ensures { λ r. ⌜ now (nodes .exit) ≡ put-conditionOf (now (nodes .entry)) i from end ⌝ }
 {
-    if 256 <= i {
+    if MAX_CONSTRUCTS <= i {
         return;
     }
     nodes[10 * i + 8] = from;
@@ -139,7 +146,7 @@ pub fn put_condition(i: usize, from: usize, end: usize, nodes: &mut [usize; 2560
 }
 
 pub fn put_rule(
-    rules: &mut [usize; 325],
+    rules: &mut [usize; RULES_ROOM],
     r: usize,
     place: usize,
     first: usize,
@@ -149,7 +156,7 @@ pub fn put_rule(
 )
     ensures { λ _. ⌜ now (rules .exit) ≡ put-ruleOf (now (rules .entry)) r place first nodes terms binders ⌝ }
 {
-    if 65 <= r {
+    if RULES_KEPT <= r {
         return;
     }
     let k = 5 * r;

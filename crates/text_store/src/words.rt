@@ -1,13 +1,16 @@
 // The words of what is read, by number.
 use crate::HOW_BOUND;
 use crate::KIND;
+use crate::RULES_KEPT;
+use basis::MAX_CONSTRUCTS;
+use basis::MAX_TERMS;
 use text_header::bytes::both;
 use text_header::bytes::either;
 ghost use mathlib.Core.Path.{_≡_};
 ghost use mathlib.Core.Bool.{not as notOf};
 ghost use Prim.Native.Nat.{_<_};
 ghost use lib.ListN.{length, getD};
-ghost use Rattle.text_store.specs.Words.{node-word, term-word, rule-word, is-binder, is-use};
+ghost use Rattle.text_store.specs.Words.{node-word, term-word, rule-word, is-binder, is-use, nodes-room, terms-room, rules-room};
 
 pub fn not(a: bool) -> bool
     ensures { λ r. ⌜ r ≡ notOf a ⌝ }
@@ -29,30 +32,30 @@ fn at(words: &[usize], k: usize) -> usize
 }
 
 pub fn node_word(nodes: &[usize], i: usize, k: usize) -> usize
-    requires { ⌜ (length (now nodes) ≡ 2560) × (k < 10) ⌝ }
+    requires { ⌜ (length (now nodes) ≡ nodes-room) × (k < 10) ⌝ }
     ensures { λ r. ⌜ r ≡ node-word (now (nodes .entry)) i k ⌝ }
 {
-    if i < 256 {
+    if i < MAX_CONSTRUCTS {
         return at(nodes, 10 * i + k);
     }
     0
 }
 
 pub fn term_word(terms: &[usize], t: usize, k: usize) -> usize
-    requires { ⌜ (length (now terms) ≡ 4096) × (k < 4) ⌝ }
+    requires { ⌜ (length (now terms) ≡ terms-room) × (k < 4) ⌝ }
     ensures { λ r. ⌜ r ≡ term-word (now (terms .entry)) t k ⌝ }
 {
-    if t < 1024 {
+    if t < MAX_TERMS {
         return at(terms, 4 * t + k);
     }
     0
 }
 
 pub fn rule_word(rules: &[usize], r: usize, k: usize) -> usize
-    requires { ⌜ (length (now rules) ≡ 325) × (k < 5) ⌝ }
+    requires { ⌜ (length (now rules) ≡ rules-room) × (k < 5) ⌝ }
     ensures { λ w. ⌜ w ≡ rule-word (now (rules .entry)) r k ⌝ }
 {
-    if r < 65 {
+    if r < RULES_KEPT {
         return at(rules, 5 * r + k);
     }
     0
@@ -60,7 +63,7 @@ pub fn rule_word(rules: &[usize], r: usize, k: usize) -> usize
 
 // Whether a node is a uint that binds.
 pub fn binder(nodes: &[usize], i: usize) -> bool
-    requires { ⌜ length (now nodes) ≡ 2560 ⌝ }
+    requires { ⌜ length (now nodes) ≡ nodes-room ⌝ }
     ensures { λ r. ⌜ r ≡ is-binder (now (nodes .entry)) i ⌝ }
 {
     both(

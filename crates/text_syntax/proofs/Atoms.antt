@@ -6,6 +6,7 @@ use mathlib.Core.Bool.{true, false, cond, not}
 use mathlib.Core.List.{List, [], _∷_, _++_}
 use borrow.Author.Tests.{eq-eqb, ne-eqb}
 use lib.Dec.{eqb}
+use Rattle.basis.specs.Limits.{max-constructs}
 use Rattle.text_parsing.specs.Terminals.{name-like, live}
 use Rattle.text_store.specs.Store.{counted, put-node, insert}
 use Rattle.text_parsing.specs.Symbols.{Symbol, want, value-set, counts, paren, atom, marked, counts-end, character-tail, last-character, width, field-set, bound-name, field-end}
@@ -16,14 +17,14 @@ use Rattle.text_parsing.proofs.Steps.{then, take-then, take-more, take-only, sk
 use Rattle.text_parsing.proofs.Loops.{name-not, name-live, test-live}
 
 -- a terminal that is taken is a node in front of node i
-pub take-node : {xs : List ℕ} {ps : List Symbol} {c m r : Cursor} {ns ns′ : List ℕ} (i kind place a b f e how : ℕ) → live (c .code) ≡ true → m ≡ node-more c → ns′ ≡ put-node ns i kind (counted 256 (c .nodes) - i) place a b f e how → r ≡ next xs m → ((ts rs : List ℕ) (ks : List Symbol) → feed (sight-at c) (state-at c ns ts rs) (ps ++ ks) ≡ go (insert kind place i a b f e how (state-at c ns ts rs)) ks) → ReadsNodes xs ps c ns r ns′
+pub take-node : {xs : List ℕ} {ps : List Symbol} {c m r : Cursor} {ns ns′ : List ℕ} (i kind place a b f e how : ℕ) → live (c .code) ≡ true → m ≡ node-more c → ns′ ≡ put-node ns i kind (counted max-constructs (c .nodes) - i) place a b f e how → r ≡ next xs m → ((ts rs : List ℕ) (ks : List Symbol) → feed (sight-at c) (state-at c ns ts rs) (ps ++ ks) ≡ go (insert kind place i a b f e how (state-at c ns ts rs)) ks) → ReadsNodes xs ps c ns r ns′
 take-node {xs} {ps} {c} {m} {r} {ns} {ns′} i kind place a b f e how l z w n g ts =
     subst (λ (k : List ℕ). Reads xs ps c ns ts r k ts) (sym w) (take-only {d = node-more c} l (n ∙ ap (next xs) z) refl (λ rs ks. g ts rs ks))
 
 -- ---- ranges of characters
 
 module _ {xs : List ℕ} {c m r : Cursor} {ns ns′ : List ℕ} (p : ℕ) where
-  pub last-reads : c .code ≡ 9 → m ≡ node-more c → ns′ ≡ put-node ns (c .nodes) 7 (counted 256 (c .nodes) - c .nodes) p (c .start) 0 0 0 0 → r ≡ next xs m → ReadsNodes xs (last-character p ∷ []) c ns r ns′
+  pub last-reads : c .code ≡ 9 → m ≡ node-more c → ns′ ≡ put-node ns (c .nodes) 7 (counted max-constructs (c .nodes) - c .nodes) p (c .start) 0 0 0 0 → r ≡ next xs m → ReadsNodes xs (last-character p ∷ []) c ns r ns′
   unfolding feed
   last-reads e z w n = take-node (c .nodes) 7 p (c .start) 0 0 0 0 (rw e refl) z w n (λ ts rs ks. rw (e, feed))
 
@@ -35,17 +36,17 @@ pub last-fault : {xs : List ℕ} {c r : Cursor} {ns : List ℕ} (p : ℕ) → (c
 unfolding feed
 last-fault {c = c} p h n ts = fault-only n (λ rs ks. rw (ne-eqb (c .code) 9 h, feed))
 
-pub character-reads : {xs : List ℕ} {c r : Cursor} {ns ns′ : List ℕ} (p : ℕ) → (c .code ≡ 126 → ⊥) → r ≡ node-more c → ns′ ≡ put-node ns (c .nodes) 6 (counted 256 (c .nodes) - c .nodes) p 0 0 0 0 0 → ReadsNodes xs (character-tail p ∷ []) c ns r ns′
+pub character-reads : {xs : List ℕ} {c r : Cursor} {ns ns′ : List ℕ} (p : ℕ) → (c .code ≡ 126 → ⊥) → r ≡ node-more c → ns′ ≡ put-node ns (c .nodes) 6 (counted max-constructs (c .nodes) - c .nodes) p 0 0 0 0 0 → ReadsNodes xs (character-tail p ∷ []) c ns r ns′
 unfolding feed
 character-reads {xs} {c} {r} {ns} {ns′} p h z w ts =
     subst (λ (q : Cursor). Reads xs (character-tail p ∷ []) c ns ts q ns′ ts) (sym z)
     (subst (λ (k : List ℕ). Reads xs (character-tail p ∷ []) c ns ts (node-more c) k ts) (sym w)
-    (skip-then {qs = []} {m = node-more c} {ns₁ = put-node ns (c .nodes) 6 (counted 256 (c .nodes) - c .nodes) p 0 0 0 0 0} {ts₁ = ts} refl (λ rs ks. rw (ne-eqb (c .code) 126 h, feed)) nothing))
+    (skip-then {qs = []} {m = node-more c} {ns₁ = put-node ns (c .nodes) 6 (counted max-constructs (c .nodes) - c .nodes) p 0 0 0 0 0} {ts₁ = ts} refl (λ rs ks. rw (ne-eqb (c .code) 126 h, feed)) nothing))
 
 -- ---- uint
 
 module _ {xs : List ℕ} {c m r : Cursor} {ns ns′ : List ℕ} (p w name how f : ℕ) where
-  pub field-ends : c .code ≡ 41 → m ≡ node-more c → ns′ ≡ put-node ns (c .nodes) 8 (counted 256 (c .nodes) - c .nodes) p w name f (c .terms) how → r ≡ next xs m → ReadsNodes xs (field-end p w name how f ∷ []) c ns r ns′
+  pub field-ends : c .code ≡ 41 → m ≡ node-more c → ns′ ≡ put-node ns (c .nodes) 8 (counted max-constructs (c .nodes) - c .nodes) p w name f (c .terms) how → r ≡ next xs m → ReadsNodes xs (field-end p w name how f ∷ []) c ns r ns′
   unfolding feed
   field-ends e z q n = take-node (c .nodes) 8 p w name f (c .terms) how (rw e refl) z q n (λ ts rs ks. rw (e, feed))
 
@@ -83,15 +84,15 @@ field-reads {xs} {c} {w} {ns = ns} {ts = ts} d p o a b g =
 -- ---- items
 
 module _ {xs : List ℕ} {c m r : Cursor} {ns ns′ : List ℕ} (d : ℕ) where
-  pub atom-literal : c .code ≡ 3 → m ≡ node-more c → ns′ ≡ put-node ns (c .nodes) 6 (counted 256 (c .nodes) - c .nodes) (c .start) 0 0 0 0 0 → r ≡ next xs m → ReadsNodes xs (atom d ∷ []) c ns r ns′
+  pub atom-literal : c .code ≡ 3 → m ≡ node-more c → ns′ ≡ put-node ns (c .nodes) 6 (counted max-constructs (c .nodes) - c .nodes) (c .start) 0 0 0 0 0 → r ≡ next xs m → ReadsNodes xs (atom d ∷ []) c ns r ns′
   unfolding feed atom-begins
   atom-literal e z w n = take-node (c .nodes) 6 (c .start) 0 0 0 0 0 (rw e refl) z w n (λ ts rs ks. rw e)
 
-  pub atom-eod : c .code ≡ 7 → m ≡ node-more c → ns′ ≡ put-node ns (c .nodes) 9 (counted 256 (c .nodes) - c .nodes) (c .start) 0 0 0 0 0 → r ≡ next xs m → ReadsNodes xs (atom d ∷ []) c ns r ns′
+  pub atom-eod : c .code ≡ 7 → m ≡ node-more c → ns′ ≡ put-node ns (c .nodes) 9 (counted max-constructs (c .nodes) - c .nodes) (c .start) 0 0 0 0 0 → r ≡ next xs m → ReadsNodes xs (atom d ∷ []) c ns r ns′
   unfolding feed atom-begins
   atom-eod e z w n = take-node (c .nodes) 9 (c .start) 0 0 0 0 0 (rw e refl) z w n (λ ts rs ks. rw e)
 
-  pub atom-use : (c .code ≡ 6 → ⊥) → (c .code ≡ 7 → ⊥) → name-like (c .code) ≡ true → m ≡ node-more c → ns′ ≡ put-node ns (c .nodes) 5 (counted 256 (c .nodes) - c .nodes) (c .start) 0 0 0 0 0 → r ≡ next xs m → ReadsNodes xs (atom d ∷ []) c ns r ns′
+  pub atom-use : (c .code ≡ 6 → ⊥) → (c .code ≡ 7 → ⊥) → name-like (c .code) ≡ true → m ≡ node-more c → ns′ ≡ put-node ns (c .nodes) 5 (counted max-constructs (c .nodes) - c .nodes) (c .start) 0 0 0 0 0 → r ≡ next xs m → ReadsNodes xs (atom d ∷ []) c ns r ns′
   unfolding feed atom-begins
   atom-use h i e z w n =
       take-node (c .nodes) 5 (c .start) 0 0 0 0 0 (name-live (c .code) e) z w n
@@ -116,7 +117,7 @@ mark-live : (n : ℕ) → (mark-of n ≡ 0 → ⊥) → live n ≡ true
 mark-live n h = test-live (λ (k : ℕ). not (eqb (mark-of k) 0)) refl refl n (ap not (ne-eqb (mark-of n) 0 h))
 
 module _ {xs : List ℕ} {c m k q r : Cursor} {ns ts ns′ ts′ : List ℕ} (p i : ℕ) where
-  pub mark-counts : c .code ≡ 123 → m ≡ next xs c → ReadsTerms xs (counts ∷ []) m ts k ts′ → k .code ≡ 125 → q ≡ node-more k → ns′ ≡ put-node ns i 3 (counted 256 (k .nodes) - i) p 4 (c .start) (c .terms) (k .terms) 0 → r ≡ next xs q → Reads xs (marked p i ∷ []) c ns ts r ns′ ts′
+  pub mark-counts : c .code ≡ 123 → m ≡ next xs c → ReadsTerms xs (counts ∷ []) m ts k ts′ → k .code ≡ 125 → q ≡ node-more k → ns′ ≡ put-node ns i 3 (counted max-constructs (k .nodes) - i) p 4 (c .start) (c .terms) (k .terms) 0 → r ≡ next xs q → Reads xs (marked p i ∷ []) c ns ts r ns′ ts′
   unfolding feed
   mark-counts e n a f z w o =
       take-then {qs = counts ∷ counts-end p i (c .start) (c .terms) ∷ []} (rw e refl) n (λ rs ks. rw (e, feed))
@@ -134,7 +135,7 @@ mark-none {c = c} p i how h z e =
     skip-then {qs = []} {m = c} refl (λ rs ks. let w : eqb (mark-of (c .code)) 0 ≡ true = eq-eqb (mark-of (c .code)) 0 (sym z ∙ e) in rw (ne-eqb (c .code) 123 h, feed) (rw w refl)) nothing
 
 module _ {xs : List ℕ} {c m r : Cursor} {ns ts ns′ : List ℕ} (p i how : ℕ) where
-  pub mark-sign : (c .code ≡ 123 → ⊥) → how ≡ mark-of (c .code) → (how ≡ 0 → ⊥) → m ≡ node-more c → ns′ ≡ put-node ns i 3 (counted 256 (c .nodes) - i) p how (c .start) 0 0 0 → r ≡ next xs m → Reads xs (marked p i ∷ []) c ns ts r ns′ ts
+  pub mark-sign : (c .code ≡ 123 → ⊥) → how ≡ mark-of (c .code) → (how ≡ 0 → ⊥) → m ≡ node-more c → ns′ ≡ put-node ns i 3 (counted max-constructs (c .nodes) - i) p how (c .start) 0 0 0 → r ≡ next xs m → Reads xs (marked p i ∷ []) c ns ts r ns′ ts
   unfolding feed
   mark-sign h z e q w n =
       take-node i 3 p how (c .start) 0 0 0 (mark-live (c .code) (λ x. e (z ∙ x))) q w n

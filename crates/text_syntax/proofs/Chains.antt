@@ -8,6 +8,7 @@ use mathlib.Core.List.{List, [], _∷_, _++_}
 use native.Mathlib.Omega.{arith}
 use borrow.Author.Tests.{ne-eqb, lt-ltb, le-ltb}
 use lib.Dec.{eqb}
+use Rattle.basis.specs.Limits.{max-nesting, max-constructs}
 use Rattle.text_header.proofs.Tests.{which}
 use Rattle.text_parsing.specs.Terminals.{live}
 use Rattle.text_store.specs.Store.{State, counted, put-node, put-condition}
@@ -81,25 +82,25 @@ factor-reads {xs} {c} d a b = skip-then {qs = atom d ∷ marked (c .start) (c .n
 -- ---- groups and switches
 
 module _ {xs : List ℕ} {c m k r : Cursor} {ns ts ns′ ts′ : List ℕ} (d : ℕ) where
-  pub atom-group : c .code ≡ 40 → d < 16 → m ≡ next xs c → Reads xs (expression (d + 1) ∷ []) m ns ts k ns′ ts′ → ReadsOn xs (want 41 ∷ []) k r → Reads xs (atom d ∷ []) c ns ts r ns′ ts′
+  pub atom-group : c .code ≡ 40 → d < max-nesting → m ≡ next xs c → Reads xs (expression (d + 1) ∷ []) m ns ts k ns′ ts′ → ReadsOn xs (want 41 ∷ []) k r → Reads xs (atom d ∷ []) c ns ts r ns′ ts′
   unfolding feed atom-begins
-  atom-group e h n a w = take-then {qs = expression (d + 1) ∷ want 41 ∷ []} (rw e refl) n (λ rs ks. rw (e, lt-ltb d 16 h)) (then a (w ns′ ts′))
+  atom-group e h n a w = take-then {qs = expression (d + 1) ∷ want 41 ∷ []} (rw e refl) n (λ rs ks. rw (e, lt-ltb d max-nesting h)) (then a (w ns′ ts′))
 
 module _ {xs : List ℕ} {c m r : Cursor} {ns ts ns′ ts′ : List ℕ} (d : ℕ) where
-  pub atom-switch : c .code ≡ 91 → d < 16 → m ≡ next xs c → Reads xs (condition (d + 1) ∷ colon (d + 1) (m .terms) ∷ cases (d + 1) (c .start) (c .nodes) ∷ []) m ns ts r ns′ ts′ → Reads xs (atom d ∷ []) c ns ts r ns′ ts′
+  pub atom-switch : c .code ≡ 91 → d < max-nesting → m ≡ next xs c → Reads xs (condition (d + 1) ∷ colon (d + 1) (m .terms) ∷ cases (d + 1) (c .start) (c .nodes) ∷ []) m ns ts r ns′ ts′ → Reads xs (atom d ∷ []) c ns ts r ns′ ts′
   unfolding feed atom-begins
   atom-switch e h n a =
       let b : Reads xs (condition (d + 1) ∷ colon (d + 1) (c .terms) ∷ cases (d + 1) (c .start) (c .nodes) ∷ []) (next xs c) ns ts r ns′ ts′ = subst (λ (k : Cursor). Reads xs (condition (d + 1) ∷ colon (d + 1) (k .terms) ∷ cases (d + 1) (c .start) (c .nodes) ∷ []) k ns ts r ns′ ts′) n a
-      in take-then {qs = condition (d + 1) ∷ colon (d + 1) (c .terms) ∷ cases (d + 1) (c .start) (c .nodes) ∷ []} (rw e refl) refl (λ rs ks. rw (e, lt-ltb d 16 h)) b
+      in take-then {qs = condition (d + 1) ∷ colon (d + 1) (c .terms) ∷ cases (d + 1) (c .start) (c .nodes) ∷ []} (rw e refl) refl (λ rs ks. rw (e, lt-ltb d max-nesting h)) b
 
 module _ {xs : List ℕ} {c r : Cursor} {ns ts : List ℕ} (d : ℕ) where
-  pub group-deep : c .code ≡ 40 → 16 ≤ d → r ≡ fail c → Reads xs (atom d ∷ []) c ns ts r ns ts
+  pub group-deep : c .code ≡ 40 → max-nesting ≤ d → r ≡ fail c → Reads xs (atom d ∷ []) c ns ts r ns ts
   unfolding feed atom-begins
-  group-deep e h n = fault-only n (λ rs ks. rw (e, le-ltb d 16 h))
+  group-deep e h n = fault-only n (λ rs ks. rw (e, le-ltb d max-nesting h))
 
-  pub switch-deep : c .code ≡ 91 → 16 ≤ d → r ≡ fail c → Reads xs (atom d ∷ []) c ns ts r ns ts
+  pub switch-deep : c .code ≡ 91 → max-nesting ≤ d → r ≡ fail c → Reads xs (atom d ∷ []) c ns ts r ns ts
   unfolding feed atom-begins
-  switch-deep e h n = fault-only n (λ rs ks. rw (e, le-ltb d 16 h))
+  switch-deep e h n = fault-only n (λ rs ks. rw (e, le-ltb d max-nesting h))
 
 pub case-ends : {xs : List ℕ} {c r : Cursor} {ns ns′ : List ℕ} (i f end : ℕ) → ns′ ≡ put-condition ns i f end → ReadsOn xs (want 59 ∷ []) c r → ReadsNodes xs (case-end i f end ∷ []) c ns r ns′
 unfolding feed
@@ -115,7 +116,7 @@ module _ {xs : List ℕ} {c a b k r : Cursor} {ns ts ns₁ ts₁ ts′ ns′ : L
       (skip-then {qs = want 58 ∷ expression d ∷ case-end (a .nodes) (c .terms) (a .terms) ∷ []} {m = a} refl (λ rs ks. refl) (then (y ns ts₁) (then z (w ts′))))
 
 module _ {xs : List ℕ} {c m r : Cursor} {ns ns′ : List ℕ} (p i : ℕ) where
-  pub switch-ends : c .code ≡ 93 → m ≡ node-more c → ns′ ≡ put-node ns i 4 (counted 256 (c .nodes) - i) p 0 0 0 0 0 → r ≡ next xs m → ReadsNodes xs (switch-end p i ∷ []) c ns r ns′
+  pub switch-ends : c .code ≡ 93 → m ≡ node-more c → ns′ ≡ put-node ns i 4 (counted max-constructs (c .nodes) - i) p 0 0 0 0 0 → r ≡ next xs m → ReadsNodes xs (switch-end p i ∷ []) c ns r ns′
   unfolding feed
   switch-ends e z w n = take-node i 4 p 0 0 0 0 0 (rw e refl) z w n (λ ts rs ks. rw (e, feed))
 
@@ -184,7 +185,7 @@ pub case-falls : (xs : List ℕ) (c a b k r : Cursor) → left xs a ≤ left xs 
 case-falls xs c a b k r x y z w v e =
     ⊎-elim (λ (q : eqb (a .code) 0 ≡ true). omega (arith, left-dead xs (sight-at a) q, left-some xs (sight-at c) e)) (λ (q : eqb (a .code) 0 ≡ false). omega (arith, y q)) (which (eqb (a .code) 0))
 
-pub chained-many : (c r : Cursor) (ns ns′ : List ℕ) (kind p i : ℕ) (many : Bool) → many ≡ true → r ≡ node-more c → ns′ ≡ put-node ns i kind (counted 256 (c .nodes) - i) p 0 0 0 0 0 → (sight-at r ≡ sight-at c) × ((ts rs : List ℕ) → state-at r ns′ ts rs ≡ chained kind many p i (state-at c ns ts rs))
+pub chained-many : (c r : Cursor) (ns ns′ : List ℕ) (kind p i : ℕ) (many : Bool) → many ≡ true → r ≡ node-more c → ns′ ≡ put-node ns i kind (counted max-constructs (c .nodes) - i) p 0 0 0 0 0 → (sight-at r ≡ sight-at c) × ((ts rs : List ℕ) → state-at r ns′ ts rs ≡ chained kind many p i (state-at c ns ts rs))
 chained-many c r ns ns′ kind p i many e z w =
     (ap sight-at z, λ ts rs. rw e (ap (λ (q : Cursor). state-at q ns′ ts rs) z ∙ ap (λ (l : List ℕ). state-at (node-more c) l ts rs) w))
 

@@ -2,18 +2,22 @@
 use crate::fields::chained;
 use crate::fields::mark;
 use crate::fields::simple;
+use basis::MAX_NESTING;
 use text_formulas::conditions::condition;
 use text_parsing::Cursor;
 use text_parsing::reading::failed;
 use text_parsing::reading::passed;
 use text_parsing::reading::want;
 use text_parsing::words::insert_node;
+use text_store::NODES_ROOM;
+use text_store::TERMS_ROOM;
 use text_store::stores::put_condition;
 ghost use mathlib.Core.Path.{_≡_};
 ghost use mathlib.Core.Bool.{not, _||_, false};
 ghost use mathlib.Core.List.{[], _∷_};
 ghost use Prim.Native.Nat.{_≤_, _<_};
 ghost use lib.Dec.{eqb};
+ghost use Rattle.basis.specs.Limits.{max-nesting};
 ghost use Rattle.text_parsing.specs.Cursors.{left as leftOf, Reads, ReadsNodes};
 ghost use Rattle.text_parsing.specs.Symbols.{atom, factor as factorOf, concatenation as concatenationOf, expression as expressionOf, condition as conditionOf, colon, case-end, cases, switch-end};
 
@@ -21,10 +25,10 @@ pub fn expression(
     text: &[u8],
     from: Cursor,
     d: usize,
-    nodes: &mut [usize; 2560],
-    terms: &mut [usize; 4096],
+    nodes: &mut [usize; NODES_ROOM],
+    terms: &mut [usize; TERMS_ROOM],
 ) -> Cursor
-    requires { ⌜ d ≤ 16 ⌝ }
+    requires { ⌜ d ≤ max-nesting ⌝ }
     ensures { λ r. ⌜ Reads (now (text .entry)) (expressionOf d ∷ []) from (now (nodes .entry)) (now (terms .entry)) r (now (nodes .exit)) (now (terms .exit)) ⌝ }
 {
     let p = from.start;
@@ -42,10 +46,10 @@ fn concatenation(
     text: &[u8],
     from: Cursor,
     d: usize,
-    nodes: &mut [usize; 2560],
-    terms: &mut [usize; 4096],
+    nodes: &mut [usize; NODES_ROOM],
+    terms: &mut [usize; TERMS_ROOM],
 ) -> Cursor
-    requires { ⌜ d ≤ 16 ⌝ }
+    requires { ⌜ d ≤ max-nesting ⌝ }
     ensures { λ r. ⌜ Reads (now (text .entry)) (concatenationOf d ∷ []) from (now (nodes .entry)) (now (terms .entry)) r (now (nodes .exit)) (now (terms .exit)) ⌝ }
 {
     let p = from.start;
@@ -63,10 +67,10 @@ fn factor(
     text: &[u8],
     c: Cursor,
     d: usize,
-    nodes: &mut [usize; 2560],
-    terms: &mut [usize; 4096],
+    nodes: &mut [usize; NODES_ROOM],
+    terms: &mut [usize; TERMS_ROOM],
 ) -> Cursor
-    requires { ⌜ d ≤ 16 ⌝ }
+    requires { ⌜ d ≤ max-nesting ⌝ }
     ensures { λ r. ⌜ Reads (now (text .entry)) (factorOf d ∷ []) c (now (nodes .entry)) (now (terms .entry)) r (now (nodes .exit)) (now (terms .exit)) ⌝ }
 {
     let r = item(text, c, d, nodes, terms);
@@ -77,21 +81,21 @@ fn item(
     text: &[u8],
     c: Cursor,
     d: usize,
-    nodes: &mut [usize; 2560],
-    terms: &mut [usize; 4096],
+    nodes: &mut [usize; NODES_ROOM],
+    terms: &mut [usize; TERMS_ROOM],
 ) -> Cursor
-    requires { ⌜ d ≤ 16 ⌝ }
+    requires { ⌜ d ≤ max-nesting ⌝ }
     ensures { λ r. ⌜ Reads (now (text .entry)) (atom d ∷ []) c (now (nodes .entry)) (now (terms .entry)) r (now (nodes .exit)) (now (terms .exit)) ⌝ }
 {
     if c.code == 40 {
-        if d < 16 {
+        if d < MAX_NESTING {
             let r = expression(text, passed(text, c), d + 1, nodes, terms);
             return want(text, r, 41);
         }
         return failed(c);
     }
     if c.code == 91 {
-        if d < 16 {
+        if d < MAX_NESTING {
             return switch(text, passed(text, c), d + 1, c.start, c.nodes, nodes, terms);
         }
         return failed(c);
@@ -106,7 +110,7 @@ fn case_end(
     i: usize,
     from: usize,
     end: usize,
-    nodes: &mut [usize; 2560],
+    nodes: &mut [usize; NODES_ROOM],
 ) -> Cursor
     ensures { λ r. ⌜ ReadsNodes (now (text .entry)) (case-end i from end ∷ []) c (now (nodes .entry)) r (now (nodes .exit)) ⌝ }
 {
@@ -118,10 +122,10 @@ fn case(
     text: &[u8],
     c: Cursor,
     d: usize,
-    nodes: &mut [usize; 2560],
-    terms: &mut [usize; 4096],
+    nodes: &mut [usize; NODES_ROOM],
+    terms: &mut [usize; TERMS_ROOM],
 ) -> Cursor
-    requires { ⌜ d ≤ 16 ⌝ }
+    requires { ⌜ d ≤ max-nesting ⌝ }
     ensures { λ r. ⌜ Reads (now (text .entry)) (conditionOf d ∷ colon d (c .terms) ∷ []) c (now (nodes .entry)) (now (terms .entry)) r (now (nodes .exit)) (now (terms .exit)) ⌝ }
     ensures { λ r. ⌜ (eqb (c .code) 0 ≡ false → leftOf (now (text .entry)) r < leftOf (now (text .entry)) c) ⌝ }
 {
@@ -142,7 +146,7 @@ fn further(code: usize) -> bool
     }
 }
 
-fn switch_end(text: &[u8], c: Cursor, p: usize, i: usize, nodes: &mut [usize; 2560]) -> Cursor
+fn switch_end(text: &[u8], c: Cursor, p: usize, i: usize, nodes: &mut [usize; NODES_ROOM]) -> Cursor
     ensures { λ r. ⌜ ReadsNodes (now (text .entry)) (switch-end p i ∷ []) c (now (nodes .entry)) r (now (nodes .exit)) ⌝ }
 {
     if c.code == 93 {
@@ -158,10 +162,10 @@ fn ending(
     d: usize,
     p: usize,
     i: usize,
-    nodes: &mut [usize; 2560],
-    terms: &mut [usize; 4096],
+    nodes: &mut [usize; NODES_ROOM],
+    terms: &mut [usize; TERMS_ROOM],
 ) -> Cursor
-    requires { ⌜ (d ≤ 16) × (not (eqb (c .code) 0 || (eqb (c .code) 58 || eqb (c .code) 93)) ≡ false) ⌝ }
+    requires { ⌜ (d ≤ max-nesting) × (not (eqb (c .code) 0 || (eqb (c .code) 58 || eqb (c .code) 93)) ≡ false) ⌝ }
     ensures { λ r. ⌜ Reads (now (text .entry)) (cases d p i ∷ []) c (now (nodes .entry)) (now (terms .entry)) r (now (nodes .exit)) (now (terms .exit)) ⌝ }
 {
     if c.code == 58 {
@@ -179,10 +183,10 @@ fn switch(
     d: usize,
     p: usize,
     i: usize,
-    nodes: &mut [usize; 2560],
-    terms: &mut [usize; 4096],
+    nodes: &mut [usize; NODES_ROOM],
+    terms: &mut [usize; TERMS_ROOM],
 ) -> Cursor
-    requires { ⌜ d ≤ 16 ⌝ }
+    requires { ⌜ d ≤ max-nesting ⌝ }
     ensures { λ r. ⌜ Reads (now (text .entry)) (conditionOf d ∷ colon d (from .terms) ∷ cases d p i ∷ []) from (now (nodes .entry)) (now (terms .entry)) r (now (nodes .exit)) (now (terms .exit)) ⌝ }
 {
     let mut c = case(text, from, d, nodes, terms);

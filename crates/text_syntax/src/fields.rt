@@ -9,24 +9,27 @@ use text_parsing::reading::passed;
 use text_parsing::reading::want;
 use text_parsing::words::bind;
 use text_parsing::words::insert_node;
+use text_store::NODES_ROOM;
+use text_store::TERMS_ROOM;
 ghost use mathlib.Core.Path.{_≡_};
 ghost use mathlib.Core.Bool.{cond};
 ghost use mathlib.Core.List.{List, [], _∷_};
 ghost use Prim.Native.Nat.{ℕ, _+_, _-_, _<_};
 ghost use lib.Dec.{eqb};
+ghost use Rattle.basis.specs.Limits.{max-constructs};
 ghost use Rattle.text_store.specs.Store.{counted, put-node};
 ghost use Rattle.text_parsing.specs.Form.{mark-of, chained as chainedOf};
 ghost use Rattle.text_parsing.specs.Cursors.{sight-at, state-at, node-more, Reads, ReadsNodes};
 ghost use Rattle.text_parsing.specs.Symbols.{paren, atom, marked, character-tail, last-character, width, field-set, bound-name, field-end};
 
 // A node without parts, after all others.
-fn leaf(c: Cursor, kind: usize, place: usize, a: usize, nodes: &mut [usize; 2560]) -> Cursor
-    ensures { λ r. ⌜ (r ≡ node-more c) × (now (nodes .exit) ≡ put-node (now (nodes .entry)) (c .nodes) kind (counted 256 (c .nodes) - c .nodes) place a 0 0 0 0) ⌝ }
+fn leaf(c: Cursor, kind: usize, place: usize, a: usize, nodes: &mut [usize; NODES_ROOM]) -> Cursor
+    ensures { λ r. ⌜ (r ≡ node-more c) × (now (nodes .exit) ≡ put-node (now (nodes .entry)) (c .nodes) kind (counted max-constructs (c .nodes) - c .nodes) place a 0 0 0 0) ⌝ }
 {
     insert_node(c, c.nodes, kind, place, a, 0, 0, 0, 0, nodes)
 }
 
-fn last_character(text: &[u8], c: Cursor, p: usize, nodes: &mut [usize; 2560]) -> Cursor
+fn last_character(text: &[u8], c: Cursor, p: usize, nodes: &mut [usize; NODES_ROOM]) -> Cursor
     ensures { λ r. ⌜ ReadsNodes (now (text .entry)) (last-character p ∷ []) c (now (nodes .entry)) r (now (nodes .exit)) ⌝ }
 {
     if c.code == 9 {
@@ -36,7 +39,7 @@ fn last_character(text: &[u8], c: Cursor, p: usize, nodes: &mut [usize; 2560]) -
 }
 
 // After a literal of one character.
-fn character_tail(text: &[u8], c: Cursor, p: usize, nodes: &mut [usize; 2560]) -> Cursor
+fn character_tail(text: &[u8], c: Cursor, p: usize, nodes: &mut [usize; NODES_ROOM]) -> Cursor
     ensures { λ r. ⌜ ReadsNodes (now (text .entry)) (character-tail p ∷ []) c (now (nodes .entry)) r (now (nodes .exit)) ⌝ }
 {
     if c.code == 126 {
@@ -54,7 +57,7 @@ fn field_end(
     name: usize,
     how: usize,
     from: usize,
-    nodes: &mut [usize; 2560],
+    nodes: &mut [usize; NODES_ROOM],
 ) -> Cursor
     ensures { λ r. ⌜ ReadsNodes (now (text .entry)) (field-end p w name how from ∷ []) c (now (nodes .entry)) r (now (nodes .exit)) ⌝ }
 {
@@ -83,8 +86,8 @@ fn bound_name(
     d: usize,
     p: usize,
     w: usize,
-    nodes: &mut [usize; 2560],
-    terms: &mut [usize; 4096],
+    nodes: &mut [usize; NODES_ROOM],
+    terms: &mut [usize; TERMS_ROOM],
 ) -> Cursor
     ensures { λ r. ⌜ Reads (now (text .entry)) (bound-name d p w ∷ []) c (now (nodes .entry)) (now (terms .entry)) r (now (nodes .exit)) (now (terms .exit)) ⌝ }
 {
@@ -104,8 +107,8 @@ fn field_set(
     d: usize,
     p: usize,
     w: usize,
-    nodes: &mut [usize; 2560],
-    terms: &mut [usize; 4096],
+    nodes: &mut [usize; NODES_ROOM],
+    terms: &mut [usize; TERMS_ROOM],
 ) -> Cursor
     requires { ⌜ d < 18446744073709551615 ⌝ }
     ensures { λ r. ⌜ Reads (now (text .entry)) (field-set d p w ∷ []) c (now (nodes .entry)) (now (terms .entry)) r (now (nodes .exit)) (now (terms .exit)) ⌝ }
@@ -125,8 +128,8 @@ fn field(
     c: Cursor,
     d: usize,
     p: usize,
-    nodes: &mut [usize; 2560],
-    terms: &mut [usize; 4096],
+    nodes: &mut [usize; NODES_ROOM],
+    terms: &mut [usize; TERMS_ROOM],
 ) -> Cursor
     requires { ⌜ d < 18446744073709551614 ⌝ }
     ensures { λ r. ⌜ Reads (now (text .entry)) (paren d ∷ width (d + 1) p ∷ []) c (now (nodes .entry)) (now (terms .entry)) r (now (nodes .exit)) (now (terms .exit)) ⌝ }
@@ -140,8 +143,8 @@ pub fn simple(
     text: &[u8],
     c: Cursor,
     d: usize,
-    nodes: &mut [usize; 2560],
-    terms: &mut [usize; 4096],
+    nodes: &mut [usize; NODES_ROOM],
+    terms: &mut [usize; TERMS_ROOM],
 ) -> Cursor
     requires { ⌜ (d < 18446744073709551614) × (c .code ≡ 40 → ⊥) × (c .code ≡ 91 → ⊥) ⌝ }
     ensures { λ r. ⌜ Reads (now (text .entry)) (atom d ∷ []) c (now (nodes .entry)) (now (terms .entry)) r (now (nodes .exit)) (now (terms .exit)) ⌝ }
@@ -182,8 +185,8 @@ pub fn mark(
     c: Cursor,
     p: usize,
     i: usize,
-    nodes: &mut [usize; 2560],
-    terms: &mut [usize; 4096],
+    nodes: &mut [usize; NODES_ROOM],
+    terms: &mut [usize; TERMS_ROOM],
 ) -> Cursor
     ensures { λ r. ⌜ Reads (now (text .entry)) (marked p i ∷ []) c (now (nodes .entry)) (now (terms .entry)) r (now (nodes .exit)) (now (terms .exit)) ⌝ }
 {
@@ -212,7 +215,7 @@ pub fn chained(
     many: bool,
     p: usize,
     i: usize,
-    nodes: &mut [usize; 2560],
+    nodes: &mut [usize; NODES_ROOM],
 ) -> Cursor
     ensures { λ r. ⌜ (sight-at r ≡ sight-at c) × ((ts rs : List ℕ) → state-at r (now (nodes .exit)) ts rs ≡ chainedOf kind many p i (state-at c (now (nodes .entry)) ts rs)) ⌝ }
 {

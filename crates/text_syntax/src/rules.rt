@@ -7,6 +7,9 @@ use text_parsing::reading::name;
 use text_parsing::reading::passed;
 use text_parsing::reading::want;
 use text_parsing::words::close_rule;
+use text_store::NODES_ROOM;
+use text_store::RULES_ROOM;
+use text_store::TERMS_ROOM;
 ghost use mathlib.Core.Path.{_≡_};
 ghost use mathlib.Core.Bool.{true, false, _&&_};
 ghost use mathlib.Core.List.{List, [], _∷_};
@@ -18,7 +21,7 @@ ghost use Rattle.text_parsing.specs.Cursors.{resume};
 ghost use Rattle.text_syntax.specs.Rules.{Ends, ReadsRule, form-of, outcome-of};
 
 // The `;` of a rule.
-fn rule_end(text: &[u8], c: Cursor, p: usize, i: usize, rules: &mut [usize; 325]) -> Cursor
+fn rule_end(text: &[u8], c: Cursor, p: usize, i: usize, rules: &mut [usize; RULES_ROOM]) -> Cursor
     ensures { λ r. ⌜ Ends (now (text .entry)) p i c (now (rules .entry)) r (now (rules .exit)) ⌝ }
 {
     if c.code == 59 {
@@ -30,9 +33,9 @@ fn rule_end(text: &[u8], c: Cursor, p: usize, i: usize, rules: &mut [usize; 325]
 fn rule(
     text: &[u8],
     c: Cursor,
-    nodes: &mut [usize; 2560],
-    terms: &mut [usize; 4096],
-    rules: &mut [usize; 325],
+    nodes: &mut [usize; NODES_ROOM],
+    terms: &mut [usize; TERMS_ROOM],
+    rules: &mut [usize; RULES_ROOM],
 ) -> Cursor
     requires { ⌜ name-like (c .code) ≡ true ⌝ }
     ensures { λ r. ⌜ ReadsRule (now (text .entry)) c (now (nodes .entry)) (now (terms .entry)) (now (rules .entry)) r (now (nodes .exit)) (now (terms .exit)) (now (rules .exit)) ⌝ }
@@ -59,9 +62,9 @@ fn text_end(c: Cursor, any: bool) -> Cursor
 // The rules of a text after its header. Code 0: refusal 4, at the cursor's start.
 pub fn read(
     text: &[u8],
-    nodes: &mut [usize; 2560],
-    terms: &mut [usize; 4096],
-    rules: &mut [usize; 325],
+    nodes: &mut [usize; NODES_ROOM],
+    terms: &mut [usize; TERMS_ROOM],
+    rules: &mut [usize; RULES_ROOM],
 ) -> Cursor
     ensures { λ r. ⌜ form-of (now (text .entry)) (now (nodes .entry)) (now (terms .entry)) (now (rules .entry)) ≡ outcome-of r (now (nodes .exit)) (now (terms .exit)) (now (rules .exit)) ⌝ }
 {

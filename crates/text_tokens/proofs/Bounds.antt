@@ -9,6 +9,7 @@ use native.Mathlib.Omega.{arith}
 use borrow.Author.Tests.{lt-ltb, ltb-true, ltb-false, leb-true, eqb-true, eqb-false}
 use lib.Dec.{leb, ltb, eqb}
 use lib.ListN.{length, getD, drop, length-drop, List·getD-eq-default}
+use Rattle.basis.specs.Limits.{max-name-bytes, max-literal-bytes}
 use Rattle.text_header.specs.Bytes.{is-letter, is-digit, lower-case, in-radix}
 use Rattle.text_header.specs.Spans.{span-end}
 use Rattle.text_header.specs.declared.Class.{Class}
@@ -32,9 +33,9 @@ byte-inside xs i h = ⊎-elim (λ e. ltb-true i (length xs) e) (λ e. absurd (h 
 -- ---- kinds: what holds of a token from i up to e; one that begins is not the end
 
 abbrev pub Fine : List ℕ → ℕ → ℕ → Kind → Type 0
-Fine xs i e Kind.Name = e ≤ i + 32
+Fine xs i e Kind.Name = e ≤ i + max-name-bytes
 Fine xs i e Kind.Number = Unit {0}
-Fine xs i e Kind.Literal = (1 ≤ length (characters-at xs i)) × (length (characters-at xs i) ≤ 32)
+Fine xs i e Kind.Literal = (1 ≤ length (characters-at xs i)) × (length (characters-at xs i) ≤ max-literal-bytes)
 Fine xs i e Kind.Equal = Unit {0}
 Fine xs i e Kind.Semicolon = Unit {0}
 Fine xs i e Kind.Bar = Unit {0}
@@ -170,7 +171,7 @@ module _ (xs : List ℕ) (i : ℕ) (l : i < length xs) where
         here = refl;
         moves = omega (arith, s, span-grows Class.Name (i + 1) (drop (i + 1) xs));
         inside = omega (arith, span-within Class.Name xs i);
-        fine = picked (Fine xs i (span-end Class.Name i (drop i xs))) (leb (span-end Class.Name i (drop i xs) - i) 32) (λ z. let h : span-end Class.Name i (drop i xs) - i ≤ 32 = leb-true (span-end Class.Name i (drop i xs) - i) 32 z in omega arith) (λ z. tt);
+        fine = picked (Fine xs i (span-end Class.Name i (drop i xs))) (leb (span-end Class.Name i (drop i xs) - i) max-name-bytes) (λ z. let h : span-end Class.Name i (drop i xs) - i ≤ max-name-bytes = leb-true (span-end Class.Name i (drop i xs) - i) max-name-bytes z in omega arith) (λ z. tt);
       }
 
   number-begun : is-digit (getD xs i 0) ≡ true → Begun xs i (number-token xs i)
@@ -217,8 +218,8 @@ pub record Placed (xs : List ℕ) (at : ℕ) (t : Token) : Type 0 where
   pub inside : t .end ≤ length xs
   pub moves : (t .kind ≡ Kind.End → ⊥) → t .start < t .end
   pub ends : t .kind ≡ Kind.End → t .start ≡ length xs
-  pub name : t .kind ≡ Kind.Name → t .end ≤ t .start + 32
-  pub literal : t .kind ≡ Kind.Literal → (1 ≤ length (characters-at xs (t .start))) × (length (characters-at xs (t .start)) ≤ 32)
+  pub name : t .kind ≡ Kind.Name → t .end ≤ t .start + max-name-bytes
+  pub literal : t .kind ≡ Kind.Literal → (1 ≤ length (characters-at xs (t .start))) × (length (characters-at xs (t .start)) ≤ max-literal-bytes)
 
 some-placed : (xs : List ℕ) (at i : ℕ) (t : Token) → at ≤ i → Begun xs i t → Placed xs at t
 some-placed xs at i t h b =
@@ -228,9 +229,9 @@ some-placed xs at i t h b =
       inside = b .inside;
       moves = λ z. omega (arith, b .here, b .moves);
       ends = λ z. absurd (subst (Fine xs i (t .end)) z (b .fine));
-      name = λ z. let h : t .end ≤ i + 32 = subst (Fine xs i (t .end)) z (b .fine) in omega (arith, b .here);
+      name = λ z. let h : t .end ≤ i + max-name-bytes = subst (Fine xs i (t .end)) z (b .fine) in omega (arith, b .here);
       literal = λ z.
-          subst (λ (k : ℕ). (1 ≤ length (characters-at xs k)) × (length (characters-at xs k) ≤ 32)) (sym (b .here)) (subst (Fine xs i (t .end)) z (b .fine));
+          subst (λ (k : ℕ). (1 ≤ length (characters-at xs k)) × (length (characters-at xs k) ≤ max-literal-bytes)) (sym (b .here)) (subst (Fine xs i (t .end)) z (b .fine));
     }
 
 pub placed : (xs : List ℕ) (at : ℕ) → at ≤ length xs → Placed xs at (token-of xs at)

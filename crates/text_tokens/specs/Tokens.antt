@@ -5,6 +5,7 @@ use mathlib.Core.Bool.{Bool, true, false, cond, not, _&&_, _||_}
 use mathlib.Core.List.{List, [], _∷_}
 use lib.Dec.{leb, ltb, eqb}
 use lib.ListN.{length, getD, drop}
+use Rattle.basis.specs.Limits.{max-name-bytes}
 use Rattle.text_header.specs.Bytes.{is-letter, is-digit, is-separator}
 use Rattle.text_header.specs.Spans.{span-end}
 use Rattle.text_header.specs.declared.Class.{Class}
@@ -72,7 +73,7 @@ token start end kind = record { start = start; end = end; kind = kind }
 -- "Names: an ASCII letter, then letters, digits, `_`, at most 32 bytes"; 4: "a name or literal, too long or unclosed too, is one token"
 unfoldable pub name-token : List ℕ → ℕ → Token
 name-token xs i =
-    token i (span-end Class.Name i (drop i xs)) (cond (leb (span-end Class.Name i (drop i xs) - i) 32) Kind.Name Kind.Fault)
+    token i (span-end Class.Name i (drop i xs)) (cond (leb (span-end Class.Name i (drop i xs) - i) max-name-bytes) Kind.Name Kind.Fault)
 
 -- a number of any length; whether it is too large is refusal 8
 unfoldable pub number-token : List ℕ → ℕ → Token

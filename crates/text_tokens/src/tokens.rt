@@ -3,6 +3,7 @@ use crate::Kind;
 use crate::Token;
 use crate::gaps::gap;
 use crate::numbers::number_end;
+use basis::MAX_NAME_BYTES;
 use text_header::Class;
 use text_header::bytes::both;
 use text_header::bytes::digit;
@@ -66,7 +67,7 @@ fn name(text: &[u8], at: usize) -> Token
     ensures { λ r. ⌜ r ≡ name-token (now (text .entry)) at ⌝ }
 {
     let end = span(Class::Name, text, at);
-    if end - at <= 32 {
+    if end - at <= MAX_NAME_BYTES {
         return Token {
             start: at,
             end,

@@ -8,8 +8,9 @@ use mathlib.Core.List.{List}
 use native.Mathlib.Omega.{arith}
 use borrow.Author.Tests.{lt-ltb, eq-eqb, eqb-true, ne-eqb}
 use lib.Dec.{eqb, ltb}
+use Rattle.basis.specs.Limits.{max-variables}
 use Rattle.text_header.proofs.Tests.{which}
-use Rattle.table_layout.specs.Places.{word, construct-word}
+use Rattle.table_layout.specs.Places.{word, construct-word, variables-at}
 use Rattle.table_layout.specs.Held.{size-of}
 use Rattle.table_layout.specs.Constructs.{both, constructAt}
 use Rattle.table_wellformed.specs.Checks.{all-zero, size-at, walk}
@@ -53,7 +54,7 @@ neither : (a b : Bool) → b ≡ false → (a && b) ≡ false
 neither true b e = e
 neither false b e = refl
 
-module _ {xs ns ts rs : List ℕ} {n t b r : ℕ} {ws : List ℕ} (W : Words xs ns ts rs n r ws) (K : Known xs ns rs n r ws) (N : Nodes xs ns ts n t) (R : Readable xs ns ts rs n t b r) (few-binders : binders-before ns n ≤ 64) where
+module _ {xs ns ts rs : List ℕ} {n t b r : ℕ} {ws : List ℕ} (W : Words xs ns ts rs n r ws) (K : Known xs ns rs n r ws) (N : Nodes xs ns ts n t) (R : Readable xs ns ts rs n t b r) (few-binders : binders-before ns n ≤ max-variables) where
   -- ---- one member
 
   binder-at : (j : ℕ) → j < n → (t : Bool) → is-binder ns j ≡ t → Rules.binder-of (constructAt ws j) ≡ cond t (binders-before ns j + 1) 0
@@ -62,13 +63,13 @@ module _ {xs ns ts rs : List ℕ} {n t b r : ℕ} {ws : List ℕ} (W : Words xs 
   width-at : (j : ℕ) → j < n → is-binder ns j ≡ true → construct-word ws j 2 ≡ narrow (width-of xs ns j)
   width-at j h e = let k : kind-of ns j ≡ 8 = binder-kind ns j e in W .construct-at j 2 h (omega arith) ∙ rw k refl
 
-  variable-rest : (j : ℕ) → j < n → is-binder ns j ≡ true → all-zero ws (320 + 4 * binders-before ns j + 2) (320 + 4 * binders-before ns j + 4) ≡ true
+  variable-rest : (j : ℕ) → j < n → is-binder ns j ≡ true → all-zero ws (variables-at + 4 * binders-before ns j + 2) (variables-at + 4 * binders-before ns j + 4) ≡ true
   variable-rest j h e =
-      from-to-all (320 + 4 * binders-before ns j + 2) (320 + 4 * binders-before ns j + 4) (λ q. eqb (word ws q) 0)
+      from-to-all (variables-at + 4 * binders-before ns j + 2) (variables-at + 4 * binders-before ns j + 4) (λ q. eqb (word ws q) 0)
       (λ q l m.
-      ⊎-elim (λ (z : 320 + 4 * binders-before ns j + 2 ≡ q). eq-eqb (word ws q) 0 (ap (word ws) (sym z) ∙ variable-is W R few-binders j 2 h e (omega arith)))
-      (λ (y : 320 + 4 * binders-before ns j + 2 + 1 ≤ q).
-      let z : 320 + 4 * binders-before ns j + 3 ≡ q = omega arith in eq-eqb (word ws q) 0 (ap (word ws) (sym z) ∙ variable-is W R few-binders j 3 h e (omega arith)))
+      ⊎-elim (λ (z : variables-at + 4 * binders-before ns j + 2 ≡ q). eq-eqb (word ws q) 0 (ap (word ws) (sym z) ∙ variable-is W R few-binders j 2 h e (omega arith)))
+      (λ (y : variables-at + 4 * binders-before ns j + 2 + 1 ≤ q).
+      let z : variables-at + 4 * binders-before ns j + 3 ≡ q = omega arith in eq-eqb (word ws q) 0 (ap (word ws) (sym z) ∙ variable-is W R few-binders j 3 h e (omega arith)))
       (here-or-after l))
 
   binder-laid : (j : ℕ) → j < n → is-binder ns j ≡ true → variable-laid ws (binders-before ns j) j ≡ true

@@ -9,9 +9,10 @@ use native.Mathlib.Omega.{arith}
 use borrow.Author.Tests.{lt-ltb, eqb-true, ltb-false}
 use lib.Dec.{ltb, eqb}
 use lib.ListN.{length, getD, getD-replicate, List·getD-eq-default}
+use Rattle.basis.specs.Limits.{max-literal-bytes}
 use Rattle.text_header.proofs.Tests.{which}
 use Rattle.text_literals.specs.Literals.{characters-at}
-use Rattle.table_layout.specs.Places.{word}
+use Rattle.table_layout.specs.Places.{word, literals-at}
 use Rattle.table_layout.specs.Constructs.{pick, constructAt}
 use Rattle.table_wellformed.specs.Laid.{literal-length, literal-byte, byte-laid}
 use Rattle.text_store.specs.Words.{kind-of, place-of}
@@ -68,22 +69,22 @@ no-byte true = refl
 no-byte false = refl
 
 module _ {xs ns ts rs : List ℕ} {n r : ℕ} {ws : List ℕ} (W : Words xs ns ts rs n r ws) (K : Known xs ns rs n r ws)
-    (characters-small : (i : ℕ) → i < n → kind-of ns i ≡ 6 → (length (characters-at xs (place-of ns i)) ≤ 32) × ((k : ℕ) → getD (characters-at xs (place-of ns i)) k 0 < 128)) where
-  byte-of : (i k : ℕ) → i < n → k < 32 → (bytes : List ℕ) → ((k : ℕ) → getD bytes k 0 < 128) → getD (literal-words xs ns i) (k / 4) 0 ≡ packed bytes (4 * (k / 4)) → literal-byte ws i k ≡ getD bytes k 0
+    (characters-small : (i : ℕ) → i < n → kind-of ns i ≡ 6 → (length (characters-at xs (place-of ns i)) ≤ max-literal-bytes) × ((k : ℕ) → getD (characters-at xs (place-of ns i)) k 0 < 128)) where
+  byte-of : (i k : ℕ) → i < n → k < max-literal-bytes → (bytes : List ℕ) → ((k : ℕ) → getD bytes k 0 < 128) → getD (literal-words xs ns i) (k / 4) 0 ≡ packed bytes (4 * (k / 4)) → literal-byte ws i k ≡ getD bytes k 0
   byte-of i k h l bytes small e =
       let z : 4 * (k / 4) + k % 4 ≡ k = omega arith
       in let q : k / 4 < 8 = omega arith
-      in let w : word ws (5696 + 8 * i + k / 4) ≡ narrow (packed bytes (4 * (k / 4))) = W .literal-at i (k / 4) h q ∙ ap narrow e
+      in let w : word ws (literals-at + 8 * i + k / 4) ≡ narrow (packed bytes (4 * (k / 4))) = W .literal-at i (k / 4) h q ∙ ap narrow e
       in rw w (byte-packed bytes small (4 * (k / 4)) (k % 4) (omega arith) ∙ ap (λ (p : ℕ). getD bytes p 0) z)
 
   -- byte k of a literal is its character k
-  pub byte-is : (i k : ℕ) → i < n → k < 32 → kind-of ns i ≡ 6 → literal-byte ws i k ≡ getD (characters-at xs (place-of ns i)) k 0
+  pub byte-is : (i k : ℕ) → i < n → k < max-literal-bytes → kind-of ns i ≡ 6 → literal-byte ws i k ≡ getD (characters-at xs (place-of ns i)) k 0
   byte-is i k h l e = byte-of i k h l (characters-at xs (place-of ns i)) (characters-small i h e .1) (literal-at-six xs ns i (k / 4) e (omega arith))
 
-  literal-laid : (i k : ℕ) → i < n → k < 32 → kind-of ns i ≡ 6 → byte-laid ws i (literal-length (constructAt ws i)) k ≡ true
+  literal-laid : (i k : ℕ) → i < n → k < max-literal-bytes → kind-of ns i ≡ 6 → byte-laid ws i (literal-length (constructAt ws i)) k ≡ true
   literal-laid i k h l e = rw (K i h, length-six xs ns rs r i e) (byte-tested (characters-at xs (place-of ns i)) (characters-small i h e .1) (literal-byte ws i k) k (byte-is i k h l e))
 
-  other-laid : (i k : ℕ) → i < n → k < 32 → eqb (kind-of ns i) 6 ≡ false → byte-laid ws i (literal-length (constructAt ws i)) k ≡ true
+  other-laid : (i k : ℕ) → i < n → k < max-literal-bytes → eqb (kind-of ns i) 6 ≡ false → byte-laid ws i (literal-length (constructAt ws i)) k ≡ true
   other-laid i k h l e =
       let q : k / 4 < 8 = omega arith
       in let z : getD (literal-words xs ns i) (k / 4) 0 ≡ 0 = rw e (getD-replicate 8 (k / 4) 0 0 q)
@@ -91,5 +92,5 @@ module _ {xs ns ts rs : List ℕ} {n r : ℕ} {ws : List ℕ} (W : Words xs ns t
 
   pub bytes-laid : BytesLaid n ws
   bytes-laid i h =
-      from-to-all 0 32 (byte-laid ws i (literal-length (constructAt ws i)))
+      from-to-all 0 max-literal-bytes (byte-laid ws i (literal-length (constructAt ws i)))
       (λ k a l. ⊎-elim (λ e. literal-laid i k h l (eqb-true (kind-of ns i) 6 e)) (λ (e : eqb (kind-of ns i) 6 ≡ false). other-laid i k h l e) (which (eqb (kind-of ns i) 6)))

@@ -8,6 +8,7 @@ use native.Mathlib.Omega.{arith}
 use borrow.Author.Tests.{lt-ltb}
 use lib.Dec.{ltb}
 use lib.ListN.{length, getD}
+use Rattle.basis.specs.Limits.{max-constructs, max-variables, max-terms}
 use Rattle.text_header.proofs.Tests.{picked}
 use Rattle.text_literals.specs.Literals.{characters-at}
 use Rattle.text_literals.proofs.Sizes.{character-small}
@@ -62,16 +63,16 @@ module _ {xs ns ts rs ws : List ℕ} {n r : ℕ} (words : Words xs ns ts rs n r 
 -- ---- lists and binders within their limits
 
 module _ {xs ns ts rs : List ℕ} {n t b r : ℕ} (known : Readable xs ns ts rs n t b r) (i : ℕ) (h : i < n) where
-  pub list-end : Quiet ns n → own-start ns i + own-length ns i ≤ 1024
+  pub list-end : Quiet ns n → own-start ns i + own-length ns i ≤ max-terms
   list-end quiet = omega (arith, total-last (lists-length ns) i, sum-below (lists-length ns) (i + 1) n (omega arith), terms-total known quiet, known .terms-limit)
 
   -- 1 + the variable that a node binds, or 0
   abbrev pub binder-word : ℕ
   binder-word = cond (is-binder ns i) (binders-before ns i + 1) 0
 
-  pub binder-limit : binder-word ≤ 64
+  pub binder-limit : binder-word ≤ max-variables
   binder-limit =
-      picked (λ (m : ℕ). m ≤ 64) (is-binder ns i)
+      picked (λ (m : ℕ). m ≤ max-variables) (is-binder ns i)
       (λ e.
       let one : binds-one ns i ≡ 1 = rw e in
       omega (arith, total-last (binds-one ns) i, sum-below (binds-one ns) (i + 1) n (omega arith), binders-total known, known .binders-limit))
@@ -80,11 +81,11 @@ module _ {xs ns ts rs : List ℕ} {n t b r : ℕ} (known : Readable xs ns ts rs 
 -- ---- by kind
 
 module _ {xs ns ts rs ws : List ℕ} {n t b r : ℕ} (known : Readable xs ns ts rs n t b r) (words : Words xs ns ts rs n r ws) (i : ℕ) (h : i < n) where
-  plain-coded : (kind size : ℕ) → kind-of ns i ≡ kind → node-size ns i ≡ size → size ≤ 256 → kind ≤ 9 → operands xs ns rs r i kind ≡ 0 ∷ 0 ∷ 0 ∷ 0 ∷ [] → Coded ws i kind size 0 0 0 0
+  plain-coded : (kind size : ℕ) → kind-of ns i ≡ kind → node-size ns i ≡ size → size ≤ max-constructs → kind ≤ 9 → operands xs ns rs r i kind ≡ 0 ∷ 0 ∷ 0 ∷ 0 ∷ [] → Coded ws i kind size 0 0 0 0
   plain-coded kind size k s l m e =
       coded words i h kind size 0 0 0 0 k s (omega arith) (omega arith) (record { are = e; small-a = omega arith; small-b = omega arith; small-c = omega arith; small-d = omega arith })
 
-  module _ (size : ℕ) (s : node-size ns i ≡ size) (limit : size ≤ 256) where
+  module _ (size : ℕ) (s : node-size ns i ≡ size) (limit : size ≤ max-constructs) where
     pub alternative-coded : kind-of ns i ≡ 1 → Coded ws i 1 size 0 0 0 0
     alternative-coded k = plain-coded 1 size k s limit (omega arith) refl
 
@@ -105,7 +106,7 @@ module _ {xs ns ts rs ws : List ℕ} {n t b r : ℕ} (known : Readable xs ns ts 
     pub counted-coded : Quiet ns n → kind-of ns i ≡ 3 → node-mark ns i ≡ 4 → 0 < own-length ns i → Coded ws i 3 size 4 (own-start ns i) (own-start ns i + own-length ns i) 0
     counted-coded quiet k w l =
         let e : ltb 0 (own-length ns i) ≡ true = lt-ltb 0 (own-length ns i) l in
-        let m : own-start ns i + own-length ns i ≤ 1024 = list-end known i h quiet in
+        let m : own-start ns i + own-length ns i ≤ max-terms = list-end known i h quiet in
         coded words i h 3 size 4 (own-start ns i) (own-start ns i + own-length ns i) 0 k s (omega arith) (omega arith)
         (record { are = rw (w, e); small-a = omega arith; small-b = omega arith; small-c = omega arith; small-d = omega arith })
 
@@ -133,7 +134,7 @@ module _ {xs ns ts rs ws : List ℕ} {n t b r : ℕ} (known : Readable xs ns ts 
     pub uint-coded : Quiet ns n → kind-of ns i ≡ 8 → 0 < own-length ns i → Coded ws i 8 size (width-of xs ns i) (own-start ns i) (own-start ns i + own-length ns i) (binder-word known i h)
     uint-coded quiet k l =
         let e : ltb 0 (own-length ns i) ≡ true = lt-ltb 0 (own-length ns i) l in
-        let m : own-start ns i + own-length ns i ≤ 1024 = list-end known i h quiet in
+        let m : own-start ns i + own-length ns i ≤ max-terms = list-end known i h quiet in
         coded words i h 8 size (width-of xs ns i) (own-start ns i) (own-start ns i + own-length ns i) (binder-word known i h) k s (omega arith) (omega arith)
         (record {
           are = rw e;

@@ -8,6 +8,7 @@ use native.Mathlib.Omega.{arith}
 use borrow.Author.Tests.{lt-ltb, le-leb}
 use lib.Dec.{leb, ltb, eqb}
 use lib.ListN.{getD}
+use Rattle.basis.specs.Limits.{max-terms}
 use Rattle.text_header.proofs.Tests.{picked}
 use Rattle.table_layout.specs.Places.{construct-word}
 use Rattle.table_wellformed.specs.Parts.{conditioned, unconditioned}
@@ -41,15 +42,15 @@ module _ {xs ns ts rs ws : List ℕ} {n t b r : ℕ} (known : Readable xs ns ts 
   pub condition-end : condition-start ns i + condition-length ns i ≤ condition-start ns n
   condition-end = omega (arith, total-last (lists-length ns) i, sum-below (lists-length ns) (i + 1) n (omega arith))
 
-  condition-small : condition-start ns i + condition-length ns i ≤ 1024
+  condition-small : condition-start ns i + condition-length ns i ≤ max-terms
   condition-small = omega (arith, condition-end, terms-total known quiet, known .terms-limit)
 
-  pub condition-from : (v : ℕ) → start-word (condition-start ns i) (condition-length ns i) ≡ v → v ≤ 1024 → construct-word ws i 6 ≡ v
+  pub condition-from : (v : ℕ) → start-word (condition-start ns i) (condition-length ns i) ≡ v → v ≤ max-terms → construct-word ws i 6 ≡ v
   condition-from v e l =
       construct-is words i h 6 v (omega arith)
       (word-6 xs ns rs r i (kind-of ns i) (start-word (condition-start ns i) (condition-length ns i)) (end-word (condition-start ns i) (condition-length ns i)) ∙ e) (omega arith)
 
-  pub condition-to : (v : ℕ) → end-word (condition-start ns i) (condition-length ns i) ≡ v → v ≤ 1024 → construct-word ws i 7 ≡ v
+  pub condition-to : (v : ℕ) → end-word (condition-start ns i) (condition-length ns i) ≡ v → v ≤ max-terms → construct-word ws i 7 ≡ v
   condition-to v e l =
       construct-is words i h 7 v (omega arith)
       (word-7 xs ns rs r i (kind-of ns i) (start-word (condition-start ns i) (condition-length ns i)) (end-word (condition-start ns i) (condition-length ns i)) ∙ e) (omega arith)

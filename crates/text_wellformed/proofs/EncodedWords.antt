@@ -8,7 +8,8 @@ use native.Mathlib.Omega.{arith}
 use native.Mathlib.Nat.{zero-add, mod-eq-of-lt}
 use lib.ListN.{length, getD, replicate, length-replicate, getD-replicate, List·getD-append}
 use lib.Seq.{getD-append-add}
-use Rattle.table_layout.specs.Places.{word}
+use Rattle.basis.specs.Limits.{max-rules, max-constructs, max-variables, max-terms, table-words}
+use Rattle.table_layout.specs.Places.{word, rules-at, variables-at, constructs-at, terms-at, literals-at}
 use Rattle.text_store.specs.Words.{own-from, condition-from, is-binder}
 use Rattle.text_encoding.proofs.Writing.{written-length}
 use Rattle.text_encoding.proofs.Sizes.{variable-length, construct-length, term-length, list-length, lists-words-length, literal-length}
@@ -56,8 +57,8 @@ module _ (xs ns ts rs : List ℕ) (r i m j : ℕ) (l : j < 3) where
 -- ---- words that are 0 from a place on
 
 record Blank (ws : List ℕ) (top : ℕ) : Type 0 where
-  many : length ws ≡ 16384
-  zeros : (j : ℕ) → top ≤ j → j < 16384 → word ws j ≡ 0
+  many : length ws ≡ table-words
+  zeros : (j : ℕ) → top ≤ j → j < table-words → word ws j ≡ 0
 
 next : {ws : List ℕ} {top : ℕ} → Blank ws top → (a : ℕ) (list : List ℕ) → top ≤ a → Blank (written ws a list) (a + length list)
 next {ws} b a list h =
@@ -70,21 +71,21 @@ module _ (xs ns ts rs : List ℕ) (n r : ℕ) (zs : List ℕ) where
   with-header = written zs 0 (header-words ns n r)
 
   abbrev with-rules : List ℕ
-  with-rules = written with-header 64 (flat r 0 (rule-words ns rs))
+  with-rules = written with-header rules-at (flat r 0 (rule-words ns rs))
 
   abbrev with-variables : List ℕ
-  with-variables = written with-rules 320 (flat n 0 (variable-words xs ns))
+  with-variables = written with-rules variables-at (flat n 0 (variable-words xs ns))
 
   abbrev with-constructs : List ℕ
-  with-constructs = written with-variables 576 (flat n 0 (construct-words xs ns rs r))
+  with-constructs = written with-variables constructs-at (flat n 0 (construct-words xs ns rs r))
 
   abbrev with-terms : List ℕ
-  with-terms = written with-constructs 2624 (flat n 0 (lists-words xs ns ts rs r))
+  with-terms = written with-constructs terms-at (flat n 0 (lists-words xs ns ts rs r))
 
   abbrev with-literals : List ℕ
-  with-literals = written with-terms 5696 (flat n 0 (literal-words xs ns))
+  with-literals = written with-terms literals-at (flat n 0 (literal-words xs ns))
 
-  module _ (nodes : n ≤ 256) (rules : r ≤ 64) (binders : binders-before ns n ≤ 64) (terms : condition-start ns n ≤ 1024) (blank : Blank zs 0) where
+  module _ (nodes : n ≤ max-constructs) (rules : r ≤ max-rules) (binders : binders-before ns n ≤ max-variables) (terms : condition-start ns n ≤ max-terms) (blank : Blank zs 0) where
     rules-size : length (flat r 0 (rule-words ns rs)) ≡ 4 * r
     rules-size = flat-length 4 (rule-words ns rs) one (rule-length ns rs) r 0 ∙ ap (λ (z : ℕ). 4 * z) (sum-ones r 0)
 
@@ -104,36 +105,36 @@ module _ (xs ns ts rs : List ℕ) (n r : ℕ) (zs : List ℕ) where
     header-blank : Blank with-header 6
     header-blank = next blank 0 (header-words ns n r) (omega arith)
 
-    rules-blank : Blank with-rules (64 + length (flat r 0 (rule-words ns rs)))
-    rules-blank = next header-blank 64 (flat r 0 (rule-words ns rs)) (omega arith)
+    rules-blank : Blank with-rules (rules-at + length (flat r 0 (rule-words ns rs)))
+    rules-blank = next header-blank rules-at (flat r 0 (rule-words ns rs)) (omega arith)
 
-    variables-blank : Blank with-variables (320 + length (flat n 0 (variable-words xs ns)))
-    variables-blank = next rules-blank 320 (flat n 0 (variable-words xs ns)) (omega (arith, rules-size))
+    variables-blank : Blank with-variables (variables-at + length (flat n 0 (variable-words xs ns)))
+    variables-blank = next rules-blank variables-at (flat n 0 (variable-words xs ns)) (omega (arith, rules-size))
 
-    constructs-blank : Blank with-constructs (576 + length (flat n 0 (construct-words xs ns rs r)))
-    constructs-blank = next variables-blank 576 (flat n 0 (construct-words xs ns rs r)) (omega (arith, variables-size))
+    constructs-blank : Blank with-constructs (constructs-at + length (flat n 0 (construct-words xs ns rs r)))
+    constructs-blank = next variables-blank constructs-at (flat n 0 (construct-words xs ns rs r)) (omega (arith, variables-size))
 
-    terms-blank : Blank with-terms (2624 + length (flat n 0 (lists-words xs ns ts rs r)))
-    terms-blank = next constructs-blank 2624 (flat n 0 (lists-words xs ns ts rs r)) (omega (arith, constructs-size))
+    terms-blank : Blank with-terms (terms-at + length (flat n 0 (lists-words xs ns ts rs r)))
+    terms-blank = next constructs-blank terms-at (flat n 0 (lists-words xs ns ts rs r)) (omega (arith, constructs-size))
 
-    literals-blank : Blank with-literals (5696 + length (flat n 0 (literal-words xs ns)))
-    literals-blank = next terms-blank 5696 (flat n 0 (literal-words xs ns)) (omega (arith, terms-size))
+    literals-blank : Blank with-literals (literals-at + length (flat n 0 (literal-words xs ns)))
+    literals-blank = next terms-blank literals-at (flat n 0 (literal-words xs ns)) (omega (arith, terms-size))
 
     -- what is before an area is not changed by those from it on
-    before-literals : (j : ℕ) → j < 5696 → word with-literals j ≡ word with-terms j
-    before-literals j h = written-below with-terms 5696 (flat n 0 (literal-words xs ns)) j h
+    before-literals : (j : ℕ) → j < literals-at → word with-literals j ≡ word with-terms j
+    before-literals j h = written-below with-terms literals-at (flat n 0 (literal-words xs ns)) j h
 
-    before-terms : (j : ℕ) → j < 2624 → word with-literals j ≡ word with-constructs j
-    before-terms j h = before-literals j (omega arith) ∙ written-below with-constructs 2624 (flat n 0 (lists-words xs ns ts rs r)) j h
+    before-terms : (j : ℕ) → j < terms-at → word with-literals j ≡ word with-constructs j
+    before-terms j h = before-literals j (omega arith) ∙ written-below with-constructs terms-at (flat n 0 (lists-words xs ns ts rs r)) j h
 
-    before-constructs : (j : ℕ) → j < 576 → word with-literals j ≡ word with-variables j
-    before-constructs j h = before-terms j (omega arith) ∙ written-below with-variables 576 (flat n 0 (construct-words xs ns rs r)) j h
+    before-constructs : (j : ℕ) → j < constructs-at → word with-literals j ≡ word with-variables j
+    before-constructs j h = before-terms j (omega arith) ∙ written-below with-variables constructs-at (flat n 0 (construct-words xs ns rs r)) j h
 
-    before-variables : (j : ℕ) → j < 320 → word with-literals j ≡ word with-rules j
-    before-variables j h = before-constructs j (omega arith) ∙ written-below with-rules 320 (flat n 0 (variable-words xs ns)) j h
+    before-variables : (j : ℕ) → j < variables-at → word with-literals j ≡ word with-rules j
+    before-variables j h = before-constructs j (omega arith) ∙ written-below with-rules variables-at (flat n 0 (variable-words xs ns)) j h
 
-    before-rules : (j : ℕ) → j < 64 → word with-literals j ≡ word with-header j
-    before-rules j h = before-variables j (omega arith) ∙ written-below with-header 64 (flat r 0 (rule-words ns rs)) j h
+    before-rules : (j : ℕ) → j < rules-at → word with-literals j ≡ word with-header j
+    before-rules j h = before-variables j (omega arith) ∙ written-below with-header rules-at (flat r 0 (rule-words ns rs)) j h
 
     -- a word of the header
     header-at : (j : ℕ) → j < 6 → word with-literals j ≡ narrow (getD (header-words ns n r) j 0)
@@ -141,41 +142,41 @@ module _ (xs ns ts rs : List ℕ) (n r : ℕ) (zs : List ℕ) where
         let e : j ≡ 0 + j = omega arith in
         before-rules j (omega arith) ∙ ap (word with-header) e ∙ written-at zs 0 (header-words ns n r) j (omega (arith, blank .many)) h
 
-    rule-at : (k j : ℕ) → k < r → j < 4 → word with-literals (64 + 4 * k + j) ≡ narrow (getD (rule-words ns rs k) j 0)
+    rule-at : (k j : ℕ) → k < r → j < 4 → word with-literals (rules-at + 4 * k + j) ≡ narrow (getD (rule-words ns rs k) j 0)
     rule-at k j h l =
-        before-variables (64 + 4 * k + j) (omega arith)
-        ∙ written-flat 4 (rule-words ns rs) one (rule-length ns rs) with-header 64 r k j (64 + 4 * k + j) (omega (arith, header-blank .many, sum-ones r 0)) h l (omega (arith, sum-ones k 0))
+        before-variables (rules-at + 4 * k + j) (omega arith)
+        ∙ written-flat 4 (rule-words ns rs) one (rule-length ns rs) with-header rules-at r k j (rules-at + 4 * k + j) (omega (arith, header-blank .many, sum-ones r 0)) h l (omega (arith, sum-ones k 0))
 
-    variable-at : (i j : ℕ) → i < n → is-binder ns i ≡ true → j < 4 → word with-literals (320 + 4 * binders-before ns i + j) ≡ narrow (getD (variable-words xs ns i) j 0)
+    variable-at : (i j : ℕ) → i < n → is-binder ns i ≡ true → j < 4 → word with-literals (variables-at + 4 * binders-before ns i + j) ≡ narrow (getD (variable-words xs ns i) j 0)
     variable-at i j h b l =
         let q : binds-one ns i ≡ 1 = rw b in
-        before-constructs (320 + 4 * binders-before ns i + j) (omega (arith, sum-part (binds-one ns) n i 0 h, ap (binds-one ns) (zero-add i)))
-        ∙ written-flat 4 (variable-words xs ns) (binds-one ns) (variable-length xs ns) with-rules 320 n i j (320 + 4 * binders-before ns i + j) (omega (arith, rules-blank .many)) h (omega arith) refl
+        before-constructs (variables-at + 4 * binders-before ns i + j) (omega (arith, sum-part (binds-one ns) n i 0 h, ap (binds-one ns) (zero-add i)))
+        ∙ written-flat 4 (variable-words xs ns) (binds-one ns) (variable-length xs ns) with-rules variables-at n i j (variables-at + 4 * binders-before ns i + j) (omega (arith, rules-blank .many)) h (omega arith) refl
 
-    construct-at : (i j : ℕ) → i < n → j < 8 → word with-literals (576 + 8 * i + j) ≡ narrow (getD (construct-words xs ns rs r i) j 0)
+    construct-at : (i j : ℕ) → i < n → j < 8 → word with-literals (constructs-at + 8 * i + j) ≡ narrow (getD (construct-words xs ns rs r i) j 0)
     construct-at i j h l =
-        before-terms (576 + 8 * i + j) (omega arith)
-        ∙ written-flat 8 (construct-words xs ns rs r) one (construct-length xs ns rs r) with-variables 576 n i j (576 + 8 * i + j) (omega (arith, variables-blank .many, sum-ones n 0)) h l (omega (arith, sum-ones i 0))
+        before-terms (constructs-at + 8 * i + j) (omega arith)
+        ∙ written-flat 8 (construct-words xs ns rs r) one (construct-length xs ns rs r) with-variables constructs-at n i j (constructs-at + 8 * i + j) (omega (arith, variables-blank .many, sum-ones n 0)) h l (omega (arith, sum-ones i 0))
 
     -- word j of the lists of construct i
-    lists-at : (i j : ℕ) → i < n → j < 3 * lists-length ns i → word with-literals (2624 + 3 * condition-start ns i + j) ≡ narrow (getD (lists-words xs ns ts rs r i) j 0)
+    lists-at : (i j : ℕ) → i < n → j < 3 * lists-length ns i → word with-literals (terms-at + 3 * condition-start ns i + j) ≡ narrow (getD (lists-words xs ns ts rs r i) j 0)
     lists-at i j h l =
-        before-literals (2624 + 3 * condition-start ns i + j) (omega (arith, sum-part (lists-length ns) n i 0 h, ap (lists-length ns) (zero-add i)))
-        ∙ written-flat 3 (lists-words xs ns ts rs r) (lists-length ns) (lists-words-length xs ns ts rs r) with-constructs 2624 n i j (2624 + 3 * condition-start ns i + j) (omega (arith, constructs-blank .many)) h l refl
+        before-literals (terms-at + 3 * condition-start ns i + j) (omega (arith, sum-part (lists-length ns) n i 0 h, ap (lists-length ns) (zero-add i)))
+        ∙ written-flat 3 (lists-words xs ns ts rs r) (lists-length ns) (lists-words-length xs ns ts rs r) with-constructs terms-at n i j (terms-at + 3 * condition-start ns i + j) (omega (arith, constructs-blank .many)) h l refl
 
-    condition-term : (i m j : ℕ) → i < n → m < condition-length ns i → j < 3 → word with-literals (2624 + 3 * (condition-start ns i + m) + j) ≡ narrow (getD (term-words xs ns ts (first-at rs r i) i (condition-from ns i + m)) j 0)
+    condition-term : (i m j : ℕ) → i < n → m < condition-length ns i → j < 3 → word with-literals (terms-at + 3 * (condition-start ns i + m) + j) ≡ narrow (getD (term-words xs ns ts (first-at rs r i) i (condition-from ns i + m)) j 0)
     condition-term i m j h k l =
-        let e : 2624 + 3 * (condition-start ns i + m) + j ≡ 2624 + 3 * condition-start ns i + (3 * m + j) = omega arith in
+        let e : terms-at + 3 * (condition-start ns i + m) + j ≡ terms-at + 3 * condition-start ns i + (3 * m + j) = omega arith in
         rw e (lists-at i (3 * m + j) h (omega arith) ∙ ap narrow (condition-at xs ns ts rs r i m j l k))
 
-    own-term : (i m j : ℕ) → i < n → m < own-length ns i → j < 3 → word with-literals (2624 + 3 * (own-start ns i + m) + j) ≡ narrow (getD (term-words xs ns ts (first-at rs r i) i (own-from ns i + m)) j 0)
+    own-term : (i m j : ℕ) → i < n → m < own-length ns i → j < 3 → word with-literals (terms-at + 3 * (own-start ns i + m) + j) ≡ narrow (getD (term-words xs ns ts (first-at rs r i) i (own-from ns i + m)) j 0)
     own-term i m j h k l =
-        let e : 2624 + 3 * (own-start ns i + m) + j ≡ 2624 + 3 * condition-start ns i + (3 * (condition-length ns i + m) + j) = omega arith in
+        let e : terms-at + 3 * (own-start ns i + m) + j ≡ terms-at + 3 * condition-start ns i + (3 * (condition-length ns i + m) + j) = omega arith in
         rw e (lists-at i (3 * (condition-length ns i + m) + j) h (omega arith) ∙ ap narrow (own-at xs ns ts rs r i m j l k))
 
-    literal-at : (i j : ℕ) → i < n → j < 8 → word with-literals (5696 + 8 * i + j) ≡ narrow (getD (literal-words xs ns i) j 0)
+    literal-at : (i j : ℕ) → i < n → j < 8 → word with-literals (literals-at + 8 * i + j) ≡ narrow (getD (literal-words xs ns i) j 0)
     literal-at i j h l =
-        written-flat 8 (literal-words xs ns) one (literal-length xs ns) with-terms 5696 n i j (5696 + 8 * i + j) (omega (arith, terms-blank .many, sum-ones n 0)) h l (omega (arith, sum-ones i 0))
+        written-flat 8 (literal-words xs ns) one (literal-length xs ns) with-terms literals-at n i j (literals-at + 8 * i + j) (omega (arith, terms-blank .many, sum-ones n 0)) h l (omega (arith, sum-ones i 0))
 
     small : (k : ℕ) → k < 4294967296 → narrow k ≡ k
     small k h = mod-eq-of-lt h
@@ -204,7 +205,7 @@ module _ (xs ns ts rs : List ℕ) (n r : ℕ) (zs : List ℕ) where
           literals-rest = λ k l h. literals-blank .zeros k (omega (arith, literals-size)) h;
         }
 
-pub encoded-words : (xs ns ts rs : List ℕ) (n r : ℕ) → n ≤ 256 → r ≤ 64 → binders-before ns n ≤ 64 → condition-start ns n ≤ 1024 → Words xs ns ts rs n r (encoded xs ns ts rs n r)
+pub encoded-words : (xs ns ts rs : List ℕ) (n r : ℕ) → n ≤ max-constructs → r ≤ max-rules → binders-before ns n ≤ max-variables → condition-start ns n ≤ max-terms → Words xs ns ts rs n r (encoded xs ns ts rs n r)
 unfolding encoded
 encoded-words xs ns ts rs n r nodes rules binders terms =
-    all xs ns ts rs n r (replicate 16384 0) nodes rules binders terms (record { many = length-replicate {A = ℕ} 16384 0; zeros = λ j l h. getD-replicate {A = ℕ} 16384 j 0 0 h })
+    all xs ns ts rs n r (replicate table-words 0) nodes rules binders terms (record { many = length-replicate {A = ℕ} table-words 0; zeros = λ j l h. getD-replicate {A = ℕ} table-words j 0 0 h })

@@ -9,10 +9,11 @@ use native.Mathlib.Omega.{arith}
 use borrow.Author.Tests.{lt-ltb, eq-eqb}
 use lib.Dec.{ltb, eqb}
 use lib.ListN.{length, getD}
+use Rattle.basis.specs.Limits.{max-constructs}
 use Rattle.text_header.proofs.Tests.{picked}
 use Rattle.term_words.specs.declared.Kind.{Kind}
 use Rattle.text_literals.specs.Literals.{characters-at}
-use Rattle.table_layout.specs.Places.{word, construct-word}
+use Rattle.table_layout.specs.Places.{word, construct-word, constructs-at}
 use Rattle.table_layout.specs.Constructs.{both, constructAt}
 use Rattle.table_layout.specs.declared.Construct.{Construct}
 use Rattle.table_layout.specs.declared.Passes.{Passes}
@@ -39,11 +40,11 @@ use Rattle.text_wellformed.proofs.PartsLaid.{part-size, forest-laid, ca
 module _ (ws : List ℕ) (i : ℕ) where
   zero-more : (k : ℕ) → k < 6 → construct-word ws i k ≡ 0 → operands-zero ws i (k + 1) ≡ true → operands-zero ws i k ≡ true
   zero-more k l w z =
-      let s : 576 + 8 * i + k + 1 ≡ 576 + 8 * i + (k + 1) = omega arith in
-      every-turn (576 + 8 * i + 6) (576 + 8 * i + k) (λ u. eqb (word ws u) 0) (omega arith) (rw w) ∙ rw s z
+      let s : constructs-at + 8 * i + k + 1 ≡ constructs-at + 8 * i + (k + 1) = omega arith in
+      every-turn (constructs-at + 8 * i + 6) (constructs-at + 8 * i + k) (λ u. eqb (word ws u) 0) (omega arith) (rw w) ∙ rw s z
 
   zero-5 : {kind size a b c : ℕ} → Coded ws i kind size a b c 0 → operands-zero ws i 5 ≡ true
-  zero-5 w = zero-more 5 (omega arith) (w .word-5) (every-end (576 + 8 * i + 6) (576 + 8 * i + 6) (λ u. eqb (word ws u) 0) (omega arith))
+  zero-5 w = zero-more 5 (omega arith) (w .word-5) (every-end (constructs-at + 8 * i + 6) (constructs-at + 8 * i + 6) (λ u. eqb (word ws u) 0) (omega arith))
 
   zero-4 : {kind size a b : ℕ} → Coded ws i kind size a b 0 0 → operands-zero ws i 4 ≡ true
   zero-4 w = zero-more 4 (omega arith) (w .word-4) (zero-5 w)
@@ -73,7 +74,7 @@ module _ {xs ns ts rs ws : List ℕ} {n t b r : ℕ} (known-text : Readable xs n
     end-is : construct-end ws i ≡ e
     end-is = omega (arith, part-size known-text words quiet whole within, tree-below whole)
 
-    size-limit : node-size ns i ≤ 256
+    size-limit : node-size ns i ≤ max-constructs
     size-limit = omega (arith, tree-size whole, known-text .nodes-limit)
 
     -- what is laid where the construct is what is meant

@@ -9,6 +9,7 @@ use native.Mathlib.Omega.{arith}
 use borrow.Author.Tests.{lt-ltb, le-leb}
 use lib.Dec.{leb, ltb}
 use lib.ListN.{length, getD}
+use Rattle.basis.specs.Limits.{max-rules, max-constructs, max-variables, max-terms, max-literal-bytes, max-width}
 use Rattle.text_literals.specs.Literals.{characters-at}
 use Rattle.text_literals.proofs.Sizes.{character-small}
 use Rattle.table_layout.specs.Constructs.{constructOf, constructAt}
@@ -27,19 +28,19 @@ use Rattle.text_wellformed.proofs.Coding.{Coded, list-end, binder-word,
 
 -- ---- what six words say
 
-read : {ws : List ℕ} {i kind size a b c d : ℕ} → Coded ws i kind size a b c d → i < 256 → constructAt ws i ≡ constructOf i kind size a b c d
+read : {ws : List ℕ} {i kind size a b c d : ℕ} → Coded ws i kind size a b c d → i < max-constructs → constructAt ws i ≡ constructOf i kind size a b c d
 unfolding constructAt
 read {ws} {i} {kind} {size} {a} {b} {c} {d} w h =
-    let t : ltb i 256 ≡ true = lt-ltb i 256 h in
+    let t : ltb i max-constructs ≡ true = lt-ltb i max-constructs h in
     rw (t, w .word-0, w .word-1, w .word-2, w .word-3, w .word-4, w .word-5)
 
 -- a construct with parts: its size leaves it within the 256
-module _ (i size : ℕ) (two : 2 ≤ size) (fits : i + size ≤ 256) where
+module _ (i size : ℕ) (two : 2 ≤ size) (fits : i + size ≤ max-constructs) where
   two-leb : leb 2 size ≡ true
   two-leb = le-leb 2 size two
 
-  fits-leb : leb (i + size) 256 ≡ true
-  fits-leb = le-leb (i + size) 256 fits
+  fits-leb : leb (i + size) max-constructs ≡ true
+  fits-leb = le-leb (i + size) max-constructs fits
 
   alternative-of : constructOf i 1 size 0 0 0 0 ≡ Construct.Alternative size
   unfolding constructOf
@@ -59,30 +60,30 @@ module _ (i size : ℕ) (two : 2 ≤ size) (fits : i + size ≤ 256) where
   marked-of how start end w =
       ⊎-elim (λ (z : how ≡ 1). rw (z, two-leb, fits-leb)) (λ v. ⊎-elim (λ (z : how ≡ 2). rw (z, two-leb, fits-leb)) (λ (z : how ≡ 3). rw (z, two-leb, fits-leb)) v) w
 
-  counted-of : (start end : ℕ) → start ≤ end → end ≤ 1024 → constructOf i 3 size 4 start end 0 ≡ Construct.Repetition size (Passes.Counted start end)
+  counted-of : (start end : ℕ) → start ≤ end → end ≤ max-terms → constructOf i 3 size 4 start end 0 ≡ Construct.Repetition size (Passes.Counted start end)
   unfolding constructOf
   counted-of start end h k =
       let a : leb start end ≡ true = le-leb start end h in
-      let b : leb end 1024 ≡ true = le-leb end 1024 k in
+      let b : leb end max-terms ≡ true = le-leb end max-terms k in
       rw (two-leb, fits-leb, a, b)
 
 -- one without
 module _ (i : ℕ) where
-  use-of : (rule : ℕ) → rule < 64 → constructOf i 5 1 rule 0 0 0 ≡ Construct.Use rule
+  use-of : (rule : ℕ) → rule < max-rules → constructOf i 5 1 rule 0 0 0 ≡ Construct.Use rule
   unfolding constructOf
-  use-of rule h = rw (lt-ltb rule 64 h)
+  use-of rule h = rw (lt-ltb rule max-rules h)
 
-  literal-of : (n : ℕ) → 1 ≤ n → n ≤ 32 → constructOf i 6 1 n 0 0 0 ≡ Construct.Literal n
+  literal-of : (n : ℕ) → 1 ≤ n → n ≤ max-literal-bytes → constructOf i 6 1 n 0 0 0 ≡ Construct.Literal n
   unfolding constructOf
-  literal-of n h k = rw (le-leb 1 n h, le-leb n 32 k)
+  literal-of n h k = rw (le-leb 1 n h, le-leb n max-literal-bytes k)
 
   range-of : (low high : ℕ) → low < 128 → high < 128 → constructOf i 7 1 low high 0 0 ≡ Construct.Range low high
   unfolding constructOf
   range-of low high h k = rw (lt-ltb low 128 h, lt-ltb high 128 k)
 
-  uint-of : (width start end binder : ℕ) → 1 ≤ width → width ≤ 32 → start ≤ end → end ≤ 1024 → binder ≤ 64 → constructOf i 8 1 width start end binder ≡ Construct.Uint width start end binder
+  uint-of : (width start end binder : ℕ) → 1 ≤ width → width ≤ max-width → start ≤ end → end ≤ max-terms → binder ≤ max-variables → constructOf i 8 1 width start end binder ≡ Construct.Uint width start end binder
   unfolding constructOf
-  uint-of width start end binder h k l m v = rw (le-leb 1 width h, le-leb width 32 k, le-leb start end l, le-leb end 1024 m, le-leb binder 64 v)
+  uint-of width start end binder h k l m v = rw (le-leb 1 width h, le-leb width max-width k, le-leb start end l, le-leb end max-terms m, le-leb binder max-variables v)
 
   eod-of : constructOf i 9 1 0 0 0 0 ≡ Construct.Eod
   unfolding constructOf
@@ -103,7 +104,7 @@ mark-kinds {ns} i m = kinds (node-mark ns i) (m .least) (m .most)
 
 module _ {xs ns ts rs ws : List ℕ} {n t b r : ℕ} (known-text : Readable xs ns ts rs n t b r) (words : Words xs ns ts rs n r ws) (quiet : Quiet ns n) where
   module _ (i e : ℕ) (h : i < n) (within : e ≤ n) where
-    small : i < 256
+    small : i < max-constructs
     small = omega (arith, known-text .nodes-limit)
 
     -- what the six words are read as is meant
@@ -119,11 +120,11 @@ module _ {xs ns ts rs ws : List ℕ} {n t b r : ℕ} (known-text : Readable xs n
       unfolding size
       least = omega (arith, head .size-is)
 
-      most : i + size ≤ 256
+      most : i + size ≤ max-constructs
       unfolding size
       most = omega (arith, head .size-is, head .below, known-text .nodes-limit)
 
-      limit : size ≤ 256
+      limit : size ≤ max-constructs
       limit = omega (arith, most)
 
       chain-says : (kind ≡ 1) ⊎ (kind ≡ 2) → constructAt ws i ≡ meant xs ns rs r i

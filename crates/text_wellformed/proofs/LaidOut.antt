@@ -7,6 +7,7 @@ use mathlib.Core.Bool.{true}
 use mathlib.Core.List.{List}
 use native.Mathlib.Omega.{arith}
 use lib.ListN.{length, getD}
+use Rattle.basis.specs.Limits.{max-variables, max-terms, max-literal-bytes}
 use Rattle.text_literals.specs.Literals.{characters-at}
 use Rattle.text_literals.proofs.Sizes.{character-small}
 use Rattle.table_layout.specs.Places.{construct-count}
@@ -50,13 +51,13 @@ literal-at (chain-tree x w a b c) z = absurd (⊎-elim (λ k. omega (arith, x .k
 literal-at (switch-tree x a b) z = absurd (omega (arith, x .kind-is, z))
 
 module _ {xs ns ts rs : List ℕ} {n t b r : ℕ} (text : Readable xs ns ts rs n t b r) (stored : Stored xs ns ts) (places : Placed (length xs) ns ts rs) where
-  pub few-binders : binders-before ns n ≤ 64
+  pub few-binders : binders-before ns n ≤ max-variables
   few-binders = omega (arith, binders-total text, text .binders-limit)
 
   pub quiet : Quiet ns n
   quiet = quiet-of stored (text .nodes-limit)
 
-  pub few-terms : condition-start ns n ≤ 1024
+  pub few-terms : condition-start ns n ≤ max-terms
   few-terms = omega (arith, terms-total text quiet, text .terms-limit)
 
   pub words-by-place : Words xs ns ts rs n r (encoded xs ns ts rs n r)
@@ -71,7 +72,7 @@ module _ {xs ns ts rs : List ℕ} {n t b r : ℕ} (text : Readable xs ns ts rs n
   formed : Formed ns n (encoded xs ns ts rs n r)
   formed = lists-formed words-by-place (nodes text) text few-binders few-terms term-placed
 
-  pub literal-small : (i : ℕ) → i < n → kind-of ns i ≡ 6 → (length (characters-at xs (place-of ns i)) ≤ 32) × ((k : ℕ) → getD (characters-at xs (place-of ns i)) k 0 < 128)
+  pub literal-small : (i : ℕ) → i < n → kind-of ns i ≡ 6 → (length (characters-at xs (place-of ns i)) ≤ max-literal-bytes) × ((k : ℕ) → getD (characters-at xs (place-of ns i)) k 0 < 128)
   literal-small i h z = (literal-at (nodes text .trees i h .holds) z .1, λ k. character-small xs (place-of ns i) k)
 
   bytes : BytesLaid n (encoded xs ns ts rs n r)

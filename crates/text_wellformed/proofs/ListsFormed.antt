@@ -10,6 +10,7 @@ use borrow.Author.Tests.{lt-ltb}
 use lib.Dec.{eqb}
 use lib.ListN.{length, getD}
 use lib.Seq.{getD-append-add}
+use Rattle.basis.specs.Limits.{max-rules, max-variables, max-terms}
 use Rattle.term_words.specs.declared.Kind.{Kind}
 use Rattle.term_sizes.specs.Sizes.{sizes}
 use Rattle.term_sizes.specs.declared.Sized.{Sized}
@@ -69,7 +70,7 @@ not-malformed Sized.Passes h = refl
 not-malformed Sized.Malformed h = absurd (h refl)
 not-malformed (Sized.Exceeds at) h = refl
 
-cut-small : (xs ns : List ℕ) (a i k : ℕ) → cut-variable xs ns a i k < 64
+cut-small : (xs ns : List ℕ) (a i k : ℕ) → cut-variable xs ns a i k < max-rules
 cut-small xs ns a i k = omega arith
 
 -- a list in the table: the terms from f up to e of those read
@@ -107,12 +108,12 @@ after-operands xs ns rs r i k rest p z =
 
 -- ---- all of them
 
-module _ {xs ns ts rs : List ℕ} {n t b r : ℕ} {ws : List ℕ} (W : Words xs ns ts rs n r ws) (N : Nodes xs ns ts n t) (R : Readable xs ns ts rs n t b r) (few-binders : binders-before ns n ≤ 64) (few-terms : condition-start ns n ≤ 1024)
+module _ {xs ns ts rs : List ℕ} {n t b r : ℕ} {ws : List ℕ} (W : Words xs ns ts rs n r ws) (N : Nodes xs ns ts n t) (R : Readable xs ns ts rs n t b r) (few-binders : binders-before ns n ≤ max-variables) (few-terms : condition-start ns n ≤ max-terms)
     (placed : (k : ℕ) → k < t → is-use (term-tag ts k) ≡ true → term-at ts k < nowhere) where
-  lists-fit : (i : ℕ) → i < n → own-start ns i + own-length ns i ≤ 1024
+  lists-fit : (i : ℕ) → i < n → own-start ns i + own-length ns i ≤ max-terms
   lists-fit i h = let l : i + 1 ≤ n = omega arith in omega (arith, total-last (lists-length ns) i, sum-below (lists-length ns) (i + 1) n l)
 
-  small-variable : (i : ℕ) → i < n → (p : ℕ) → Bound xs ns (first-at rs r i) i p → binders-before ns (Numbers.binder-of xs ns (first-at rs r i) i p) < 64
+  small-variable : (i : ℕ) → i < n → (p : ℕ) → Bound xs ns (first-at rs r i) i p → binders-before ns (Numbers.binder-of xs ns (first-at rs r i) i p) < max-variables
   small-variable i h p x = let l : i ≤ n = omega arith in omega (arith, bound-below x, binders-mono ns i n l)
 
   pub own-listed : (i : ℕ) → i < n → own-end ns i ≤ t → Listed xs ns ts ws (first-at rs r i) i (own-start ns i) (own-from ns i) (own-length ns i)

@@ -11,6 +11,7 @@ use borrow.Author.Tests.{eq-eqb, eqb-true, eqb-false, ltb-false}
 use lib.Dec.{eqb, ltb}
 use lib.ListN.{getD}
 use lib.Seq.{getD-append-add}
+use Rattle.basis.specs.Limits.{max-terms}
 use Rattle.text_header.proofs.Tests.{which, picked}
 use Rattle.table_layout.specs.Places.{term-count, construct-word}
 use Rattle.table_layout.specs.Constructs.{constructAt}
@@ -64,7 +65,7 @@ narrow-words : (p c : ℕ) → p + c < 4294967296 → (narrow (start-word p c) �
 narrow-words p c h = elim (which (ltb 0 c)) [ inl t ↦ rw t (mod-eq-of-lt (omega arith), mod-eq-of-lt h) | inr t ↦ rw t (refl, refl) ]
 
 module _ {xs ns ts rs : List ℕ} {n r : ℕ} {ws : List ℕ} (w : Words xs ns ts rs n r ws) (known : Known xs ns rs n r ws)
-    (terms : condition-start ns n ≤ 1024) (quiet : Quiet ns n) where
+    (terms : condition-start ns n ≤ max-terms) (quiet : Quiet ns n) where
   module _ (i : ℕ) (h : i < n) where
     room : condition-start ns i + lists-length ns i ≤ condition-start ns n
     room = omega (arith, sum-part (lists-length ns) n i 0 h, ap (lists-length ns) (zero-add i))

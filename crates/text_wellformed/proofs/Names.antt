@@ -6,6 +6,7 @@ use mathlib.Core.Bool.{true, false}
 use mathlib.Core.List.{List}
 use native.Mathlib.Omega.{arith}
 use lib.ListN.{length}
+use Rattle.basis.specs.Limits.{max-text-bytes}
 use Rattle.text_tokens.specs.Tokens.{token-of}
 use Rattle.text_tokens.specs.declared.Kind.{Kind}
 use Rattle.text_tokens.specs.declared.Token.{Token}
@@ -35,5 +36,5 @@ name-inside {xs} {p} h =
     in let e : p ≡ s .start = h .place ∙ ap (λ (y : Sight). y .start) z
     in omega arith
 
-pub name-placed : {xs : List ℕ} {p : ℕ} → length xs ≤ 8192 → NameAt xs p → p < nowhere
+pub name-placed : {xs : List ℕ} {p : ℕ} → length xs ≤ max-text-bytes → NameAt xs p → p < nowhere
 name-placed l h = omega (arith, name-inside h)

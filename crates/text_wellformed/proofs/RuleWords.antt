@@ -9,6 +9,7 @@ use native.Mathlib.Omega.{arith}
 use borrow.Author.Tests.{le-leb, eq-eqb, ne-eqb, ltb-true, ltb-false}
 use lib.Dec.{ltb}
 use lib.ListN.{getD}
+use Rattle.basis.specs.Limits.{max-variables}
 use Rattle.text_header.proofs.Tests.{which}
 use Rattle.table_layout.specs.Places.{rule-word, variable-word}
 use Rattle.table_wellformed.specs.Rules.{body, rule-end}
@@ -21,14 +22,14 @@ use Rattle.text_wellformed.specs.Meant.{NamedBack}
 use Rattle.text_wellformed.proofs.NoFaults.{binders-mono, binders-next}
 use Rattle.text_wellformed.proofs.RulesAt.{RuleAt, rule-at}
 
-module _ {xs ns ts rs : List ℕ} {n t b r : ℕ} {ws : List ℕ} (W : Words xs ns ts rs n r ws) (R : Readable xs ns ts rs n t b r) (few-binders : binders-before ns n ≤ 64) where
+module _ {xs ns ts rs : List ℕ} {n t b r : ℕ} {ws : List ℕ} (W : Words xs ns ts rs n r ws) (R : Readable xs ns ts rs n t b r) (few-binders : binders-before ns n ≤ max-variables) where
   pub rule : (k : ℕ) → k < r → RuleAt xs ns ts rs r n k
   rule k h = rule-at (R .rules) k (omega arith) h
 
   pub rule-grows : (k : ℕ) → k < r → first-node rs k < last-node rs k
   rule-grows k h = extent (rule k h .holds) .0
 
-  binders-few : (i : ℕ) → i ≤ n → binders-before ns i ≤ 64
+  binders-few : (i : ℕ) → i ≤ n → binders-before ns i ≤ max-variables
   binders-few i h = omega (arith, binders-mono ns i n h)
 
   -- ---- a rule

@@ -7,6 +7,7 @@ use mathlib.Core.List.{List}
 use native.Mathlib.Omega.{arith}
 use borrow.Author.Tests.{lt-ltb, eq-eqb}
 use lib.Dec.{ltb, eqb}
+use Rattle.basis.specs.Limits.{max-variables}
 use Rattle.table_layout.specs.Places.{rule-count, rule-word}
 use Rattle.table_layout.specs.Constructs.{both}
 use Rattle.table_wellformed.specs.Checks.{from-to, size-at}
@@ -25,7 +26,7 @@ use Rattle.text_wellformed.proofs.ConditionWords.{is-unconditioned}
 use Rattle.text_wellformed.proofs.PartsLaid.{part-size}
 
 module _ {xs ns ts rs ws : List ℕ} {n t b r : ℕ} (known-text : Readable xs ns ts rs n t b r) (words : Words xs ns ts rs n r ws) (quiet : Quiet ns n) where
-  few : binders-before ns n ≤ 64
+  few : binders-before ns n ≤ max-variables
   few = omega (arith, binders-total known-text, known-text .binders-limit)
 
   module _ (k : ℕ) (h : k < r) where

@@ -9,6 +9,7 @@ use native.Mathlib.Omega.{arith}
 use borrow.Author.Tests.{eqb-true}
 use lib.Dec.{eqb}
 use lib.ListN.{length}
+use Rattle.basis.specs.Limits.{max-literal-bytes}
 use Rattle.text_header.proofs.Tests.{picked}
 use Rattle.text_literals.specs.Literals.{characters-at}
 use Rattle.text_tokens.specs.Names.{reserved-of, name-of}
@@ -104,7 +105,7 @@ is-literal xs start end Kind.End e = never e
 
 -- "1 to 32 characters"
 abbrev pub Sized : List ℕ → ℕ → Type 0
-Sized xs p = (1 ≤ length (characters-at xs p)) × (length (characters-at xs p) ≤ 32)
+Sized xs p = (1 ≤ length (characters-at xs p)) × (length (characters-at xs p) ≤ max-literal-bytes)
 
 token-sized : (xs : List ℕ) (at : ℕ) → Stands xs at (token-of xs at) → token-of xs at .kind ≡ Kind.Literal → Sized xs (token-of xs at .start)
 token-sized xs at (ended e z) l = let y : Kind.End ≡ Kind.Literal = sym e ∙ l in let w : _≡_ {A = ℕ} 0 1 = cc in absurd (omega arith)

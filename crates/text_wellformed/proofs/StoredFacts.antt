@@ -5,13 +5,14 @@ use mathlib.Core.Path.{_≡_}
 use mathlib.Core.Logic.{inl, inr}
 use mathlib.Core.List.{List}
 use native.Mathlib.Omega.{arith}
+use Rattle.basis.specs.Limits.{max-constructs, max-terms}
 use Rattle.text_shapes.specs.Stored.{OwnList, of-field, of-counts, no-list, TermWords, a-number, a-use, a-sign, Stored}
 use Rattle.text_store.specs.Words.{term-value}
 use Rattle.text_encoding.specs.Numbers.{own-length}
 use Rattle.text_wellformed.specs.Context.{Quiet}
 use Rattle.text_wellformed.proofs.TermsLaid.{Signs}
 
-pub quiet-of : {xs ns ts : List ℕ} {n : ℕ} → Stored xs ns ts → n ≤ 256 → Quiet ns n
+pub quiet-of : {xs ns ts : List ℕ} {n : ℕ} → Stored xs ns ts → n ≤ max-constructs → Quiet ns n
 quiet-of {ns = ns} s h i l f c = from (s .lists i (omega arith))
   where
     from : OwnList ns i → own-length ns i ≡ 0
@@ -19,7 +20,7 @@ quiet-of {ns = ns} s h i l f c = from (s .lists i (omega arith))
     from (of-counts e w) = absurd (c (e, w))
     from (no-list a b) = omega (arith, a, b)
 
-pub signs-of : {xs ns ts : List ℕ} {t : ℕ} → Stored xs ns ts → t ≤ 1024 → Signs ts t
+pub signs-of : {xs ns ts : List ℕ} {t : ℕ} → Stored xs ns ts → t ≤ max-terms → Signs ts t
 signs-of {xs} {ts = ts} s h k l a b c d = from (s .terms k (omega arith))
   where
     from : TermWords xs ts k → term-value ts k ≡ 0

@@ -11,7 +11,7 @@ use borrow.Author.Tests.{eqb-true, eqb-false, ltb-true, ltb-false}
 use lib.Dec.{eqb, ltb}
 use lib.ListN.{getD}
 use Rattle.text_header.proofs.Tests.{which, picked}
-use Rattle.table_layout.specs.Places.{word, term-count}
+use Rattle.table_layout.specs.Places.{word, term-count, terms-at}
 use Rattle.table_layout.specs.Constructs.{both}
 use Rattle.table_wellformed.specs.Checks.{either, from-to}
 use Rattle.table_wellformed.specs.Lists.{has-low, term-laid}
@@ -110,9 +110,9 @@ module _ (xs ns ts : List ℕ) (m : ℕ) where
 module _ {xs ns ts rs : List ℕ} {n r t : ℕ} {ws : List ℕ} (w : Words xs ns ts rs n r ws) (nodes : Nodes xs ns ts n t) (quiet : Quiet ns n)
     (numbers : Numbers ts t) (signs : Signs ts t) where
   -- term q of the table is term k of those read, of construct i
-  copied : (q i k : ℕ) → k < t → ((j : ℕ) → j < 3 → word ws (2624 + 3 * q + j) ≡ narrow (getD (term-words xs ns ts (first-at rs r i) i k) j 0)) → term-laid ws q ≡ true
+  copied : (q i k : ℕ) → k < t → ((j : ℕ) → j < 3 → word ws (terms-at + 3 * q + j) ≡ narrow (getD (term-words xs ns ts (first-at rs r i) i k) j 0)) → term-laid ws q ≡ true
   copied q i k h e =
-      let z : 2624 + 3 * q ≡ 2624 + 3 * q + 0 = omega arith in
+      let z : terms-at + 3 * q ≡ terms-at + 3 * q + 0 = omega arith in
       rw (e 1 (omega arith), e 2 (omega arith), z, e 0 (omega arith)) (term-passes xs ns ts t numbers signs (first-at rs r i) i k h)
 
   in-condition : (q i m : ℕ) → i < n → m < condition-length ns i → q ≡ condition-start ns i + m → term-laid ws q ≡ true

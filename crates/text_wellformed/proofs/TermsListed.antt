@@ -9,9 +9,10 @@ use native.Mathlib.Omega.{arith}
 use borrow.Author.Tests.{lt-ltb}
 use lib.ListN.{length, getD, drop, length-take, length-drop}
 use lib.Seq.{getD-take, getD-drop}
+use Rattle.basis.specs.Limits.{max-variables, max-terms, table-words}
 use Rattle.term_words.specs.Words.{termOf, termAt, termsFrom, terms}
 use Rattle.term_words.specs.declared.Term.{Term}
-use Rattle.table_layout.specs.Places.{word}
+use Rattle.table_layout.specs.Places.{word, terms-at}
 use Rattle.table_layout.specs.Held
 use Rattle.text_shapes.specs.TermShapes.{read-term, read-terms, rename-term}
 use Rattle.text_store.specs.Words.{term-tag, term-value, term-at, is-use}
@@ -22,14 +23,14 @@ use Rattle.text_wellformed.proofs.TermsKnown.{KnownTerm, AllKnown, term
 
 -- ---- the table's words of a term
 
-module _ (ws : List ℕ) (many : length ws ≡ 16384) where
-  table-length : length (Held.term-words ws) ≡ 3072
-  table-length = length-take 3072 (drop 2624 ws) ∙ ap (min 3072) (length-drop 2624 ws) ∙ ap (λ (n : ℕ). min 3072 (n - 2624)) many
+module _ (ws : List ℕ) (many : length ws ≡ table-words) where
+  table-length : length (Held.term-words ws) ≡ (3 * max-terms)
+  table-length = length-take (3 * max-terms) (drop terms-at ws) ∙ ap (min (3 * max-terms)) (length-drop terms-at ws) ∙ ap (λ (n : ℕ). min (3 * max-terms) (n - terms-at)) many
 
-  table-word : (k j p : ℕ) → k < 1024 → j < 3 → p ≡ k * 3 + j → getD (Held.term-words ws) p 0 ≡ word ws (2624 + 3 * k + j)
-  table-word k j p h l z = let m : p < 3072 = omega arith in getD-take 3072 (drop 2624 ws) p 0 m ∙ getD-drop 2624 ws p 0 ∙ ap (λ (q : ℕ). getD ws q 0) (omega arith)
+  table-word : (k j p : ℕ) → k < max-terms → j < 3 → p ≡ k * 3 + j → getD (Held.term-words ws) p 0 ≡ word ws (terms-at + 3 * k + j)
+  table-word k j p h l z = let m : p < (3 * max-terms) = omega arith in getD-take (3 * max-terms) (drop terms-at ws) p 0 m ∙ getD-drop terms-at ws p 0 ∙ ap (λ (q : ℕ). getD ws q 0) (omega arith)
 
-  pub table-term : (k : ℕ) → k < 1024 → termAt (Held.term-words ws) k ≡ termOf (word ws (2624 + 3 * k + 0)) (word ws (2624 + 3 * k + 1)) (word ws (2624 + 3 * k + 2))
+  pub table-term : (k : ℕ) → k < max-terms → termAt (Held.term-words ws) k ≡ termOf (word ws (terms-at + 3 * k + 0)) (word ws (terms-at + 3 * k + 1)) (word ws (terms-at + 3 * k + 2))
   unfolding termAt
   table-term k h =
       let l : k < length (Held.term-words ws) / 3 = rw table-length (omega arith)
@@ -38,15 +39,15 @@ module _ (ws : List ℕ) (many : length ws ≡ 16384) where
 -- ---- a list of node i, in a rule whose first node is a: n terms from term f of those read, in the table from term s on
 
 pub record Listed (xs ns ts ws : List ℕ) (a i s f n : ℕ) : Type 0 where
-  pub many : length ws ≡ 16384
-  pub fits : s + n ≤ 1024
-  pub at : (m j : ℕ) → m < n → j < 3 → word ws (2624 + 3 * (s + m) + j) ≡ narrow (getD (term-words xs ns ts a i (f + m)) j 0)
+  pub many : length ws ≡ table-words
+  pub fits : s + n ≤ max-terms
+  pub at : (m j : ℕ) → m < n → j < 3 → word ws (terms-at + 3 * (s + m) + j) ≡ narrow (getD (term-words xs ns ts a i (f + m)) j 0)
   pub numbers : (m : ℕ) → m < n → (term-tag ts (f + m) ≡ 1) ⊎ (term-tag ts (f + m) ≡ 33) → term-value ts (f + m) < 4294967296
-  pub small : (m : ℕ) → m < n → is-use (term-tag ts (f + m)) ≡ true → variable-of xs ns a i (term-at ts (f + m)) < 64
+  pub small : (m : ℕ) → m < n → is-use (term-tag ts (f + m)) ≡ true → variable-of xs ns a i (term-at ts (f + m)) < max-variables
 
 -- the number of a variable, cut where a name is no variable's
 abbrev pub cut-variable : (xs ns : List ℕ) (a i p : ℕ) → ℕ
-cut-variable xs ns a i p = min 63 (variable-of xs ns a i p)
+cut-variable xs ns a i p = min (max-variables - 1) (variable-of xs ns a i p)
 
 pub known-at : (ts : List ℕ) (n f m : ℕ) → AllKnown (read-terms ts f n) → m < n → KnownTerm (read-term ts (f + m))
 unfolding read-terms
@@ -66,7 +67,7 @@ terms-renamed T ts g (suc n) s f h =
 
 module _ {xs ns ts ws : List ℕ} {a i s f n : ℕ} (l : Listed xs ns ts ws a i s f n) where
   -- under any numbers that are the variables' own below 64
-  module _ (g : ℕ → ℕ) (same : (p : ℕ) → variable-of xs ns a i p < 64 → variable-of xs ns a i p ≡ g p) where
+  module _ (g : ℕ → ℕ) (same : (p : ℕ) → variable-of xs ns a i p < max-variables → variable-of xs ns a i p ≡ g p) where
     pub term-named : (m : ℕ) → m < n → KnownTerm (read-term ts (f + m)) → termAt (Held.term-words ws) (s + m) ≡ rename-term g (read-term ts (f + m))
     term-named m h k =
         table-term ws (l .many) (s + m) (omega (arith, l .fits))

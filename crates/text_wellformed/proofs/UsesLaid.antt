@@ -7,6 +7,7 @@ use mathlib.Core.List.{List}
 use native.Mathlib.Omega.{arith}
 use borrow.Author.Tests.{lt-ltb, le-leb, eqb-true, ltb-false}
 use lib.Dec.{eqb, ltb}
+use Rattle.basis.specs.Limits.{max-variables, max-terms}
 use Rattle.term_words.specs.Words.{operationOf, termOf, termAt}
 use Rattle.term_words.specs.declared.Operation.{Operation}
 use Rattle.term_words.specs.declared.Term.{Term}
@@ -75,7 +76,7 @@ list-is-named {xs} {ns} {ts} {ws} {a} {i} {s} {f} {n} first last l known seen =
 none-named : (ws : List ℕ) (first last i s e : ℕ) → e ≤ s → list-named ws first last i s e ≡ true
 none-named ws first last i s e h = from-to-all s e (λ q. term-named ws first last i (termAt (Held.term-words ws) q)) (λ q a c. absurd (omega arith))
 
-module _ {xs ns ts rs : List ℕ} {n t b r : ℕ} {ws : List ℕ} (W : Words xs ns ts rs n r ws) (K : Known xs ns rs n r ws) (N : Nodes xs ns ts n t) (R : Readable xs ns ts rs n t b r) (few-binders : binders-before ns n ≤ 64) (few-terms : condition-start ns n ≤ 1024)
+module _ {xs ns ts rs : List ℕ} {n t b r : ℕ} {ws : List ℕ} (W : Words xs ns ts rs n r ws) (K : Known xs ns rs n r ws) (N : Nodes xs ns ts n t) (R : Readable xs ns ts rs n t b r) (few-binders : binders-before ns n ≤ max-variables) (few-terms : condition-start ns n ≤ max-terms)
     (placed : (k : ℕ) → k < t → is-use (term-tag ts k) ≡ true → term-at ts k < nowhere) where
   -- a binder's variable is visible from its rule's later constructs
   binder-visible : (a e i p : ℕ) → i < n → i ≤ e → Bound xs ns a i p → visible ws (binders-before ns a) (binders-before ns e) i (cut-variable xs ns a i p) ≡ true

@@ -6,6 +6,7 @@ use mathlib.Core.Bool.{cond, true}
 use mathlib.Core.List.{List}
 use lib.Dec.{eqb}
 use lib.ListN.{length, getD}
+use Rattle.basis.specs.Limits.{max-literal-bytes}
 use Rattle.term_words.specs.declared.Kind.{Kind}
 use Rattle.table_layout.specs.Constructs.{constructAt}
 use Rattle.table_layout.specs.declared.Construct.{Construct}
@@ -51,4 +52,4 @@ NamedBack ns n ws = (i : ℕ) → i < n → is-binder ns i ≡ true → named-ba
 
 -- the bytes of literals are laid
 abbrev pub BytesLaid : ℕ → List ℕ → Type 0
-BytesLaid n ws = (i : ℕ) → i < n → from-to 0 32 (byte-laid ws i (literal-length (constructAt ws i))) ≡ true
+BytesLaid n ws = (i : ℕ) → i < n → from-to 0 max-literal-bytes (byte-laid ws i (literal-length (constructAt ws i))) ≡ true

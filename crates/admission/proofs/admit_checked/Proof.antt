@@ -1,6 +1,7 @@
 use Prim.Native.Nat.{ℕ, _+_, _<_, _≤_}
 use mathlib.Core.Path.{refl, sym, ap, subst, _∙_}
 use native.Mathlib.Omega.{arith}
+use Rattle.basis.specs.Limits.{max-text-bytes}
 use Rattle.text_parsing.specs.Cursors.{state-at}
 use Rattle.text_names.specs.Counting.{nowhere}
 use Rattle.admission.specs.declared.Admission.{Admission}
@@ -23,7 +24,7 @@ first-past-requires c κs = (basics (c .before .before .before .before .before .
 
 -- src/lib.rt:214:9
 refused-requires : tie.Need-refused-requires
-refused-requires c κs = (c .before .before .before .before .before .before .before .pre .2, subst (λ (q : ℕ). q ≤ 8192) (sym (c .before .first-past .ensures)) (place-5 (c .before .before .before .before .before .before .before .args .text .now) (state-at (c .before .before .before .before .before .before .before .args .c) (c .before .before .before .before .before .before .before .args .nodes .now) (c .before .before .before .before .before .before .before .args .terms .now) (c .before .before .before .before .before .before .before .args .rules .now)) (c .before .before .before .before .before .before .before .pre .1) (basics (c .before .before .before .before .before .before .before .args .text .now) (state-at (c .before .before .before .before .before .before .before .args .c) (c .before .before .before .before .before .before .before .args .nodes .now) (c .before .before .before .before .before .before .before .args .terms .now) (c .before .before .before .before .before .before .before .args .rules .now)) (c .before .before .before .before .before .before .before .pre .0)) (subst (λ (q : ℕ). q < nowhere) (c .before .first-past .ensures) (c .if1 .taken))))
+refused-requires c κs = (c .before .before .before .before .before .before .before .pre .2, subst (λ (q : ℕ). q ≤ max-text-bytes) (sym (c .before .first-past .ensures)) (place-5 (c .before .before .before .before .before .before .before .args .text .now) (state-at (c .before .before .before .before .before .before .before .args .c) (c .before .before .before .before .before .before .before .args .nodes .now) (c .before .before .before .before .before .before .before .args .terms .now) (c .before .before .before .before .before .before .before .args .rules .now)) (c .before .before .before .before .before .before .before .pre .1) (basics (c .before .before .before .before .before .before .before .args .text .now) (state-at (c .before .before .before .before .before .before .before .args .c) (c .before .before .before .before .before .before .before .args .nodes .now) (c .before .before .before .before .before .before .before .args .terms .now) (c .before .before .before .before .before .before .before .args .rules .now)) (c .before .before .before .before .before .before .before .pre .0)) (subst (λ (q : ℕ). q < nowhere) (c .before .first-past .ensures) (c .if1 .taken))))
 
 -- src/lib.rt:214:9
 returns : tie.Need-returns
@@ -35,7 +36,7 @@ first-fault-requires c κs = let b = (basics (c .before .before .before .before 
 
 -- src/lib.rt:218:9
 refused-requires-2 : tie.Need-refused-requires-2
-refused-requires-2 c κs = (c .before .before .before .before .before .before .before .before .before .pre .2, subst (λ (q : ℕ). q ≤ 8192) (sym (c .before .first-fault .ensures)) (place-6 (c .before .before .before .before .before .before .before .before .before .args .text .now) (state-at (c .before .before .before .before .before .before .before .before .before .args .c) (c .before .before .before .before .before .before .before .before .before .args .nodes .now) (c .before .before .before .before .before .before .before .before .before .args .terms .now) (c .before .before .before .before .before .before .before .before .before .args .rules .now)) (c .before .before .before .before .before .before .before .before .before .pre .1) (basics (c .before .before .before .before .before .before .before .before .before .args .text .now) (state-at (c .before .before .before .before .before .before .before .before .before .args .c) (c .before .before .before .before .before .before .before .before .before .args .nodes .now) (c .before .before .before .before .before .before .before .before .before .args .terms .now) (c .before .before .before .before .before .before .before .before .before .args .rules .now)) (c .before .before .before .before .before .before .before .before .before .pre .0)) (subst (λ (q : ℕ). q < nowhere) (c .before .first-fault .ensures) (c .if2 .taken))))
+refused-requires-2 c κs = (c .before .before .before .before .before .before .before .before .before .pre .2, subst (λ (q : ℕ). q ≤ max-text-bytes) (sym (c .before .first-fault .ensures)) (place-6 (c .before .before .before .before .before .before .before .before .before .args .text .now) (state-at (c .before .before .before .before .before .before .before .before .before .args .c) (c .before .before .before .before .before .before .before .before .before .args .nodes .now) (c .before .before .before .before .before .before .before .before .before .args .terms .now) (c .before .before .before .before .before .before .before .before .before .args .rules .now)) (c .before .before .before .before .before .before .before .before .before .pre .1) (basics (c .before .before .before .before .before .before .before .before .before .args .text .now) (state-at (c .before .before .before .before .before .before .before .before .before .args .c) (c .before .before .before .before .before .before .before .before .before .args .nodes .now) (c .before .before .before .before .before .before .before .before .before .args .terms .now) (c .before .before .before .before .before .before .before .before .before .args .rules .now)) (c .before .before .before .before .before .before .before .before .before .pre .0)) (subst (λ (q : ℕ). q < nowhere) (c .before .first-fault .ensures) (c .if2 .taken))))
 
 -- src/lib.rt:218:9
 returns-2 : tie.Need-returns-2

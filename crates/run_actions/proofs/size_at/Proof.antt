@@ -1,5 +1,6 @@
 use Prim.Native.Nat.{ℕ, _≤_}
 use mathlib.Core.Path.{ap, sym, subst, _∙_}
+use Rattle.basis.specs.Limits.{max-constructs}
 use Rattle.table_layout.specs.Held.{size-of}
 use Rattle.run_actions.proofs.Sizes.{size-small}
 use borrow.Author.Needs.{needs}
@@ -20,7 +21,7 @@ size-of-requires c κs = search needs
 
 -- src/lib.rt:69:1
 returns : tie.Need-returns
-returns c = (c .size-of .ensures ∙ ap size-of (c .before .construct-at .ensures), subst (λ (n : ℕ). n ≤ 256) (sym (c .size-of .ensures ∙ ap size-of (c .before .construct-at .ensures))) (size-small (c .before .before .before .args .table .now) (c .before .before .before .args .j)))
+returns c = (c .size-of .ensures ∙ ap size-of (c .before .construct-at .ensures), subst (λ (n : ℕ). n ≤ max-constructs) (sym (c .size-of .ensures ∙ ap size-of (c .before .construct-at .ensures))) (size-small (c .before .before .before .args .table .now) (c .before .before .before .args .j)))
 
 pub size-at-spec : {M : Type 1} → statement M
 size-at-spec = tie.close (tie.spec construct-at-requires size-of-requires returns)

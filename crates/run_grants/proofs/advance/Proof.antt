@@ -3,6 +3,7 @@ use native.Mathlib.Omega.{arith}
 use mathlib.Core.Path.{sym, ap, _∙_}
 use mathlib.Core.List.{List}
 use lib.Seq.{take-all}
+use Rattle.basis.specs.Limits.{table-words}
 use Rattle.run_grants.specs.Runs.{grant-of}
 use borrow.Author.Needs.{needs}
 use Rattle.run_grants.proofs.advance.Statement.{statement}
@@ -23,7 +24,7 @@ same-length c = search needs
 returns : tie.Need-returns
 returns c =
     let a = c .before .before .before .before .before .before .before .before .args in
-    c .before .before .advance-words .ensures ∙ ap (λ (l : List ℕ). grant-of l (a .frame .now) (a .reading .now) (a .run) (a .steps)) (sym (take-all 16384 (a .table .now) (omega (arith, c .before .before .before .before .if1 .taken))))
+    c .before .before .advance-words .ensures ∙ ap (λ (l : List ℕ). grant-of l (a .frame .now) (a .reading .now) (a .run) (a .steps)) (sym (take-all table-words (a .table .now) (omega (arith, c .before .before .before .before .if1 .taken))))
 
 -- src/lib.rt:243:19
 sub-advance-words : tie.Need-sub-advance-words

@@ -3,6 +3,7 @@ use native.Mathlib.Omega.{arith}
 use borrow.Author.Needs.{needs}
 use borrow.Author.Tests.{not-true, not-false}
 use mathlib.Core.Path.{_≡_, refl, sym, _∙_}
+use Rattle.basis.specs.Limits.{max-entries}
 use Rattle.run_grants.specs.Runs.{entries-fit}
 use Rattle.run_grants.proofs.Fitting.{entries-turn, entries-stop, entries-none}
 use Rattle.run_grants.proofs.entries_fit.Statement.{statement}
@@ -12,7 +13,7 @@ use Rattle.run_grants.proofs.entries_fit.Lts as lts
 use Rattle.run_grants.proofs.entry_fits.Reads as entry-fits-reads
 
 abbrev Inv-loop : tie.InvT-loop
-Inv-loop table bits constructs passes count left₀ left = (left ≤ 256) × (entries-fit table bits constructs passes left ≡ entries-fit table bits constructs passes count)
+Inv-loop table bits constructs passes count left₀ left = (left ≤ max-entries) × (entries-fit table bits constructs passes left ≡ entries-fit table bits constructs passes count)
 
 abbrev μ-loop : tie.MeasureT-loop
 μ-loop table bits constructs passes count left₀ left = left
@@ -55,7 +56,7 @@ loop-less c = omega (arith, c .before .before .before .before .loop-test .taken)
 
 -- src/lib.rt:67:5
 loop-again : tie.Need-loop-again Inv-loop μ-loop
-loop-again c = ((let z : c .before .before .before .before .before .loop .left - 1 ≤ 256 = omega (arith, c .before .before .before .before .before .loop .inv .0) in z), entries-turn (c .before .before .before .before .before .before .before .args .table .now) (c .before .before .before .before .before .before .before .args .bits) (c .before .before .before .before .before .before .before .args .constructs .now) (c .before .before .before .before .before .before .before .args .passes .now) (c .before .before .before .before .before .loop .left) (c .before .before .before .before .loop-test .taken) (sym (c .before .entry-fits .ensures) ∙ not-false (c .before .entry-fits .result) (c .if1 .left)) ∙ c .before .before .before .before .before .loop .inv .1)
+loop-again c = ((let z : c .before .before .before .before .before .loop .left - 1 ≤ max-entries = omega (arith, c .before .before .before .before .before .loop .inv .0) in z), entries-turn (c .before .before .before .before .before .before .before .args .table .now) (c .before .before .before .before .before .before .before .args .bits) (c .before .before .before .before .before .before .before .args .constructs .now) (c .before .before .before .before .before .before .before .args .passes .now) (c .before .before .before .before .before .loop .left) (c .before .before .before .before .loop-test .taken) (sym (c .before .entry-fits .ensures) ∙ not-false (c .before .entry-fits .result) (c .if1 .left)) ∙ c .before .before .before .before .before .loop .inv .1)
 
 -- src/lib.rt:56:1
 returns-2 : tie.Need-returns-2 Inv-loop μ-loop

@@ -5,6 +5,7 @@ use mathlib.Core.Path.{sym, subst}
 use mathlib.Core.List.{List}
 use lib.Dec.{ltb}
 use lib.ListN.{length}
+use Rattle.basis.specs.Limits.{max-frame-bytes}
 use Rattle.run_matcher.specs.Opening.{Answered}
 use Rattle.run_matcher.proofs.Answers.{answered}
 use borrow.Author.Needs.{needs}
@@ -31,8 +32,8 @@ returns c =
     let rs : List ℕ = c .before .before .before .before .before .args .reading .now in
     let n : ℕ = length rs / 16 in
     subst (Answered ws fs rs) (sym (c .first-refusal .ensures))
-    (answered ws fs rs (c .before .sound .result) (ltb 256 (length fs)) (ltb n (length fs)) (c .before .sound .ensures)
-    (ltb-true 256 (length fs)) (ltb-false 256 (length fs))
+    (answered ws fs rs (c .before .sound .result) (ltb max-frame-bytes (length fs)) (ltb n (length fs)) (c .before .sound .ensures)
+    (ltb-true max-frame-bytes (length fs)) (ltb-false max-frame-bytes (length fs))
     (λ e. (let l : n < length fs = ltb-true n (length fs) e in omega arith)) (λ e. (let l : length fs ≤ n = ltb-false n (length fs) e in omega arith)))
 
 pub tried-spec : {M : Type 1} → statement M

@@ -1,6 +1,7 @@
 use lib.IntN.{ℤ, pos}
 use mir.Syntax.{w64}
 use mir.Val.{toZ, ofZ}
+use Rattle.basis.specs.Limits.{max-variables}
 use Rattle.run_saved.proofs.Patterns.{read-back}
 use Prim.Native.Nat.{_+_, _*_, _-_, _≤_}
 use native.Mathlib.Omega.{arith}
@@ -18,14 +19,14 @@ use Rattle.run_saved.proofs.read.Reads as read-reads
 use Rattle.run_saved.proofs.signed.Reads as signed-reads
 
 abbrev Inv-loop : tie.InvT-loop
-Inv-loop bytes at values₀ i₀ values i = (i ≤ 64) × (length values ≡ 64) × (numbers whole 8 64 (drop at bytes) ≡ sets values i (numbers whole 8 (64 - i) (drop (at + 8 * i) bytes)))
+Inv-loop bytes at values₀ i₀ values i = (i ≤ max-variables) × (length values ≡ max-variables) × (numbers whole 8 max-variables (drop at bytes) ≡ sets values i (numbers whole 8 (max-variables - i) (drop (at + 8 * i) bytes)))
 
 abbrev μ-loop : tie.MeasureT-loop
-μ-loop bytes at values₀ i₀ values i = 64 - i
+μ-loop bytes at values₀ i₀ values i = max-variables - i
 
 -- src/lib.rt:109:5
 loop-holds : tie.Need-loop-holds Inv-loop μ-loop
-loop-holds c = (omega arith, refl, numbers-start whole 8 (c .before .args .bytes .now) (replicate 64 (pos 0)) (c .before .args .at) 64 (length-replicate 64 (pos 0)))
+loop-holds c = (omega arith, refl, numbers-start whole 8 (c .before .args .bytes .now) (replicate max-variables (pos 0)) (c .before .args .at) max-variables (length-replicate max-variables (pos 0)))
 
 -- src/lib.rt:110:45
 mul-read : tie.Need-mul-read Inv-loop μ-loop
@@ -61,11 +62,11 @@ loop-less c = search needs
 
 -- src/lib.rt:109:5
 loop-again : tie.Need-loop-again Inv-loop μ-loop
-loop-again c = (omega arith, length-set (c .before .before .before .loop .values) (c .before .before .before .loop .i) (toZ w64 (ofZ w64 (c .signed .result))) ∙ c .before .before .before .loop .inv .1, c .before .before .before .loop .inv .2 ∙ numbers-turn whole 8 (c .before .before .before .before .before .args .bytes .now) (c .before .before .before .loop .values) (c .before .before .before .before .before .args .at) (c .before .before .before .loop .i) 64 (c .before .before .loop-test .taken) ∙ ap (λ (x : ℤ). sets (set (c .before .before .before .loop .values) (c .before .before .before .loop .i) x) (c .before .before .before .loop .i + 1) (numbers whole 8 (64 - (c .before .before .before .loop .i + 1)) (drop (c .before .before .before .before .before .args .at + 8 * (c .before .before .before .loop .i + 1)) (c .before .before .before .before .before .args .bytes .now)))) (sym (read-back (c .signed .result) _ (c .signed .ok) (c .signed .ensures ∙ ap whole (c .before .read .ensures .0)))))
+loop-again c = (omega arith, length-set (c .before .before .before .loop .values) (c .before .before .before .loop .i) (toZ w64 (ofZ w64 (c .signed .result))) ∙ c .before .before .before .loop .inv .1, c .before .before .before .loop .inv .2 ∙ numbers-turn whole 8 (c .before .before .before .before .before .args .bytes .now) (c .before .before .before .loop .values) (c .before .before .before .before .before .args .at) (c .before .before .before .loop .i) max-variables (c .before .before .loop-test .taken) ∙ ap (λ (x : ℤ). sets (set (c .before .before .before .loop .values) (c .before .before .before .loop .i) x) (c .before .before .before .loop .i + 1) (numbers whole 8 (max-variables - (c .before .before .before .loop .i + 1)) (drop (c .before .before .before .before .before .args .at + 8 * (c .before .before .before .loop .i + 1)) (c .before .before .before .before .before .args .bytes .now)))) (sym (read-back (c .signed .result) _ (c .signed .ok) (c .signed .ensures ∙ ap whole (c .before .read .ensures .0)))))
 
 -- src/lib.rt:103:1
 returns : tie.Need-returns Inv-loop μ-loop
-returns c = sym (c .before .loop .inv .2 ∙ numbers-end whole 8 (drop (c .before .before .before .args .at + 8 * c .before .loop .i) (c .before .before .before .args .bytes .now)) (c .before .loop .values) (c .before .loop .i) (64 - c .before .loop .i) (omega arith))
+returns c = sym (c .before .loop .inv .2 ∙ numbers-end whole 8 (drop (c .before .before .before .args .at + 8 * c .before .loop .i) (c .before .before .before .args .bytes .now)) (c .before .loop .values) (c .before .loop .i) (max-variables - c .before .loop .i) (omega arith))
 
 pub read-values-spec : {M : Type 1} → statement M
 read-values-spec =

@@ -2,6 +2,7 @@ use Prim.Native.Nat.{ℕ, _+_, _-_, _≤_}
 use native.Mathlib.Omega.{arith}
 use mathlib.Core.Path.{_≡_, refl, sym, _∙_, ap}
 use lib.ListN.{set}
+use Rattle.basis.specs.Limits.{max-entries}
 use Rattle.run_actions.proofs.Walks.{positive}
 use Rattle.run_steps.specs.Steps.{placed}
 use Rattle.run_steps.proofs.Places.{placed-end, placed-full, placed-missing, placed-next}
@@ -12,7 +13,7 @@ use Rattle.run_steps.proofs.place.Lts as lts
 use Rattle.run_actions.proofs.size_at.Reads as size-at-reads
 
 abbrev Inv-loop : tie.InvT-loop
-Inv-loop table constructs₀ passes₀ start end at j₀ k₀ constructs passes j k = (placed (λ (i : ℕ). i) table j end k constructs ≡ placed (λ (i : ℕ). i) table start end at constructs₀) × (placed (λ (i : ℕ). 0) table j end k passes ≡ placed (λ (i : ℕ). 0) table start end at passes₀) × (k ≤ 256)
+Inv-loop table constructs₀ passes₀ start end at j₀ k₀ constructs passes j k = (placed (λ (i : ℕ). i) table j end k constructs ≡ placed (λ (i : ℕ). i) table start end at constructs₀) × (placed (λ (i : ℕ). 0) table j end k passes ≡ placed (λ (i : ℕ). 0) table start end at passes₀) × (k ≤ max-entries)
 
 abbrev μ-loop : tie.MeasureT-loop
 μ-loop table constructs₀ passes₀ start end at j₀ k₀ constructs passes j k = end - j

@@ -1,5 +1,6 @@
 use mathlib.Core.Path.{refl, _∙_}
 use lib.ListN.{length}
+use Rattle.run_saved.specs.Saved.{saved-bytes}
 use Rattle.songrafter.proofs.CallLaws.{grants-run}
 use borrow.Author.Needs.{needs}
 use borrow.Author.Tests.{eq-eqb}
@@ -65,7 +66,7 @@ same-length-4 c = search needs
 
 -- src/lib.rt:178:1
 returns-2 : tie.Need-returns-2
-returns-2 c = let a = c .before .before .before .before .before .before .before .before .before .before .before .before .before .before .before .before .before .before .before .before .before .before .before .args in grants-run (a .table .now) (a .frame .now) (a .reading .now) (c .before .before .before .before .before .before .before .before .before .before .before .before .before .grant-in-place .last .1 .1 .0) (a .run .now) (c .before .before .before .before .before .before .before .before .encode .last .1 .0) (a .taken .now) (c .before .before .before .put-count .last .0) (a .steps) (c .grant-number .result) (c .before .before .before .before .before .steps-taken .result) (c .before .before .before .before .before .before .before .before .before .before .before .before .before .before .decode .result) (c .before .before .before .before .before .before .before .before .before .before .before .before .before .grant-in-place .result .run) (c .before .before .before .before .before .before .before .before .before .before .before .before .before .grant-in-place .result .answer) (c .before .before .before .before .before .before .before .before .before .before .before .before .before .before .before .before .before .if1 .left) (c .before .before .before .before .before .before .before .before .encode .kept .1 .0) (c .before .before .before .before .before .before .before .before .before .before .before .before .before .before .decode .ensures .0) (c .before .before .before .before .before .before .before .before .before .before .before .before .before .before .decode .ensures .1 (c .before .before .before .before .before .before .before .before .before .before .before .before .before .before .before .before .before .if1 .left)) (c .before .before .before .before .before .before .before .before .encode .ensures .2 (c .before .before .before .before .before .before .before .before .encode .ensures .1 ∙ eq-eqb (length (a .run .now)) 2596 (c .before .before .before .before .before .before .before .before .before .before .before .before .before .before .before .before .before .if1 .left))) (c .before .before .before .before .before .before .before .before .before .before .before .before .before .grant-in-place .ensures) (c .before .before .before .before .before .before .before .before .encode .ensures .0) (c .before .before .before .before .before .steps-taken .ensures) (c .before .before .before .put-count .ensures) (c .grant-number .ensures)
+returns-2 c = let a = c .before .before .before .before .before .before .before .before .before .before .before .before .before .before .before .before .before .before .before .before .before .before .before .args in grants-run (a .table .now) (a .frame .now) (a .reading .now) (c .before .before .before .before .before .before .before .before .before .before .before .before .before .grant-in-place .last .1 .1 .0) (a .run .now) (c .before .before .before .before .before .before .before .before .encode .last .1 .0) (a .taken .now) (c .before .before .before .put-count .last .0) (a .steps) (c .grant-number .result) (c .before .before .before .before .before .steps-taken .result) (c .before .before .before .before .before .before .before .before .before .before .before .before .before .before .decode .result) (c .before .before .before .before .before .before .before .before .before .before .before .before .before .grant-in-place .result .run) (c .before .before .before .before .before .before .before .before .before .before .before .before .before .grant-in-place .result .answer) (c .before .before .before .before .before .before .before .before .before .before .before .before .before .before .before .before .before .if1 .left) (c .before .before .before .before .before .before .before .before .encode .kept .1 .0) (c .before .before .before .before .before .before .before .before .before .before .before .before .before .before .decode .ensures .0) (c .before .before .before .before .before .before .before .before .before .before .before .before .before .before .decode .ensures .1 (c .before .before .before .before .before .before .before .before .before .before .before .before .before .before .before .before .before .if1 .left)) (c .before .before .before .before .before .before .before .before .encode .ensures .2 (c .before .before .before .before .before .before .before .before .encode .ensures .1 ∙ eq-eqb (length (a .run .now)) saved-bytes (c .before .before .before .before .before .before .before .before .before .before .before .before .before .before .before .before .before .if1 .left))) (c .before .before .before .before .before .before .before .before .before .before .before .before .before .grant-in-place .ensures) (c .before .before .before .before .before .before .before .before .encode .ensures .0) (c .before .before .before .before .before .steps-taken .ensures) (c .before .before .before .put-count .ensures) (c .grant-number .ensures)
 
 pub songrafter-grant-spec : {M : Type 1} → statement M
 songrafter-grant-spec =

@@ -2,7 +2,7 @@ use Prim.Native.Nat.{ℕ}
 use mathlib.Core.Path.{ap, _∙_}
 use lib.ListN.{length}
 use Rattle.run_grants.specs.declared.Run.{Run}
-use Rattle.run_saved.specs.Saved.{stored}
+use Rattle.run_saved.specs.Saved.{stored, saved-bytes}
 use Rattle.songrafter.specs.Calls.{number-with-room}
 use borrow.Author.Needs.{needs}
 use borrow.Author.Tests.{eq-eqb}
@@ -37,7 +37,7 @@ same-length c = search needs
 
 -- src/lib.rt:108:1
 returns : tie.Need-returns
-returns c = let run = c .before .before .before .before .before .before .before .before .before .before .before .before .args .run .now in record { answer = c .before .before .before .before .before .before .before .«open» .result .answer; answered = c .before .before .before .before .before .before .before .«open» .ensures .1; number-is = c .with-room .ensures ∙ ap (λ (n : ℕ). number-with-room n (length run)) (c .before .opening-number .ensures); run-is = c .before .before .before .before .encode .ensures .0 ∙ ap (λ (r : Run). stored r run) (c .before .before .before .before .before .before .before .«open» .ensures .0); run-length = c .before .before .before .before .encode .kept .1 .0; read-back = λ h. c .before .before .before .before .encode .ensures .2 (c .before .before .before .before .encode .ensures .1 ∙ eq-eqb (length run) 2596 h) ∙ c .before .before .before .before .before .before .before .«open» .ensures .0 }
+returns c = let run = c .before .before .before .before .before .before .before .before .before .before .before .before .args .run .now in record { answer = c .before .before .before .before .before .before .before .«open» .result .answer; answered = c .before .before .before .before .before .before .before .«open» .ensures .1; number-is = c .with-room .ensures ∙ ap (λ (n : ℕ). number-with-room n (length run)) (c .before .opening-number .ensures); run-is = c .before .before .before .before .encode .ensures .0 ∙ ap (λ (r : Run). stored r run) (c .before .before .before .before .before .before .before .«open» .ensures .0); run-length = c .before .before .before .before .encode .kept .1 .0; read-back = λ h. c .before .before .before .before .encode .ensures .2 (c .before .before .before .before .encode .ensures .1 ∙ eq-eqb (length run) saved-bytes h) ∙ c .before .before .before .before .before .before .before .«open» .ensures .0 }
 
 pub songrafter-open-spec : {M : Type 1} → statement M
 songrafter-open-spec =

@@ -1,4 +1,5 @@
 use borrow.Author.Tests.{eq-eqb, ne-eqb}
+use Rattle.run_saved.specs.Saved.{saved-bytes}
 use Rattle.songrafter.proofs.with_room.Statement.{statement}
 use Rattle.songrafter.proofs.with_room.Tie as tie
 use Rattle.songrafter.proofs.with_room.Reads as reads
@@ -6,11 +7,11 @@ use Rattle.songrafter.proofs.with_room.Lts as lts
 
 -- src/lib.rt:101:13
 returns : tie.Need-returns
-returns c = simp (eq-eqb (c .before .before .args .number) 0 (c .before .if1 .taken), eq-eqb (c .before .before .args .room) 2596 (c .if2 .taken))
+returns c = simp (eq-eqb (c .before .before .args .number) 0 (c .before .if1 .taken), eq-eqb (c .before .before .args .room) saved-bytes (c .if2 .taken))
 
 -- src/lib.rt:103:9
 returns-2 : tie.Need-returns-2
-returns-2 c = simp (eq-eqb (c .before .before .args .number) 0 (c .before .if1 .taken), ne-eqb (c .before .before .args .room) 2596 (c .if2 .left))
+returns-2 c = simp (eq-eqb (c .before .before .args .number) 0 (c .before .if1 .taken), ne-eqb (c .before .before .args .room) saved-bytes (c .if2 .left))
 
 -- src/lib.rt:96:1
 returns-3 : tie.Need-returns-3

@@ -4,6 +4,7 @@ use mathlib.Core.Path.{sym, _∙_}
 use mathlib.Core.Bool.{false≢true}
 use native.Mathlib.Omega.{arith}
 use borrow.Author.Count.{below-more}
+use Rattle.basis.specs.Limits.{max-constructs}
 use Rattle.theory.specs.Lookahead.{EmptyBody}
 use Rattle.table_layout.specs.Held.{held}
 use Rattle.table_structure.proofs.Facts.{facts}
@@ -14,7 +15,7 @@ use Rattle.table_judge.proofs.judge_bodies.Statement.{statement}
 use Rattle.table_judge.proofs.judge_bodies.Tie as tie
 
 abbrev Inv-loop : tie.InvT-loop
-Inv-loop table first follow prediction count i₀ i = ((j : ℕ) → j < i → EmptyBody (held table) j → ⊥) × (i ≤ count) × (count ≤ 256)
+Inv-loop table first follow prediction count i₀ i = ((j : ℕ) → j < i → EmptyBody (held table) j → ⊥) × (i ≤ count) × (count ≤ max-constructs)
 
 abbrev μ-loop : tie.MeasureT-loop
 μ-loop table first follow prediction count i₀ i = count - i

@@ -3,6 +3,7 @@ use Prim.Native.Nat.{ℕ, _-_, _≤_, _<_}
 use mathlib.Core.Path.{sym, _∙_}
 use native.Mathlib.Omega.{arith}
 use borrow.Author.Count.{below-more}
+use Rattle.basis.specs.Limits.{max-constructs}
 use Rattle.table_structure.proofs.Facts.{facts}
 use Rattle.table_conflicts.specs.Conflicts.{Conflicting}
 use Rattle.table_conflicts.proofs.Meaning.{answered}
@@ -12,7 +13,7 @@ use Rattle.table_judge.proofs.judge_conflicts.Statement.{statement}
 use Rattle.table_judge.proofs.judge_conflicts.Tie as tie
 
 abbrev Inv-loop : tie.InvT-loop
-Inv-loop table follow prediction count i₀ i = ((j : ℕ) → j < i → Conflicting table j → ⊥) × (i ≤ count) × (count ≤ 256)
+Inv-loop table follow prediction count i₀ i = ((j : ℕ) → j < i → Conflicting table j → ⊥) × (i ≤ count) × (count ≤ max-constructs)
 
 abbrev μ-loop : tie.MeasureT-loop
 μ-loop table follow prediction count i₀ i = count - i

@@ -2,6 +2,7 @@ use Prim.Native.Nat.{_+_}
 use native.Mathlib.Omega.{arith}
 use borrow.Author.Tests.{le-leb, le-ltb, lt-leb, lt-ltb}
 use borrow.Author.Needs.{needs}
+use Rattle.basis.specs.Limits.{max-constructs}
 use Rattle.table_layout.proofs.branches.Statement.{statement}
 use Rattle.table_layout.proofs.branches.Tie as tie
 use Rattle.table_layout.proofs.branches.Reads as reads
@@ -13,7 +14,7 @@ returns c = simp (lt-ltb _ _ (c .if1 .taken), lt-leb _ _ (c .if1 .taken))
 
 -- src/lib.rt:53:9
 returns-2 : tie.Need-returns-2
-returns-2 c = simp (lt-leb (c .before .before .args .i + c .before .before .args .size) 256 (omega arith), le-leb _ _ (c .before .if1 .left))
+returns-2 c = simp (lt-leb (c .before .before .args .i + c .before .before .args .size) max-constructs (omega arith), le-leb _ _ (c .before .if1 .left))
 
 -- src/lib.rt:55:5
 add-result : tie.Need-add-result

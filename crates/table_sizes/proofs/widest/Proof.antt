@@ -1,5 +1,6 @@
 -- `table_sizes::widest` meets its contract. The invariant: the sizes written, with those still to come, are all of them. Assumes nothing.
 use Prim.Native.Nat.{_-_}
+use Rattle.basis.specs.Limits.{max-variables}
 use Rattle.table_sizes.specs.Measures.{largest}
 use mathlib.Core.Path.{ap, _∙_}
 use native.Mathlib.Omega.{arith}
@@ -12,7 +13,7 @@ abbrev Inv-loop : tie.InvT-loop
 Inv-loop table sizes₀ x₀ sizes x = Widening table x sizes
 
 abbrev μ-loop : tie.MeasureT-loop
-μ-loop table sizes₀ x₀ sizes x = 64 - x
+μ-loop table sizes₀ x₀ sizes x = max-variables - x
 
 loop-holds : tie.Need-loop-holds Inv-loop μ-loop
 loop-holds c = widening-none (c .before .args .table .now)

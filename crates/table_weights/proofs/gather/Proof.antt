@@ -1,8 +1,9 @@
 -- `table_weights::gather` meets its contract. The invariant: what is gathered, and what is left to gather, come to the whole. Assumes nothing.
 use lib.ListN.{getD}
-use Prim.Native.Nat.{ℕ, _-_, _≤_}
+use Prim.Native.Nat.{ℕ, _-_, _≤_, _+_}
 use mathlib.Core.Path.{ap, _∙_}
 use native.Mathlib.Omega.{arith}
+use Rattle.basis.specs.Limits.{max-weight}
 use Rattle.table_weights.specs.Sweeps.{capped, joined}
 use Rattle.table_weights.proofs.Parts.{Gathering, gathering-none, gathering-more, gathering-all}
 use borrow.Author.Needs.{needs}
@@ -10,7 +11,7 @@ use Rattle.table_weights.proofs.gather.Statement.{statement}
 use Rattle.table_weights.proofs.gather.Tie as tie
 
 abbrev Inv-loop : tie.InvT-loop
-Inv-loop table weights adds first end sum₀ j₀ sum j = Gathering table (λ k. getD weights k 0) adds first end j sum × (sum ≤ 65536)
+Inv-loop table weights adds first end sum₀ j₀ sum j = Gathering table (λ k. getD weights k 0) adds first end j sum × (sum ≤ (max-weight + 1))
 
 abbrev μ-loop : tie.MeasureT-loop
 μ-loop table weights adds first end sum₀ j₀ sum j = end - j

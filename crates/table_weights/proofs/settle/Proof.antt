@@ -3,6 +3,7 @@ use lib.ListN.{length}
 use Prim.Native.Nat.{_-_}
 use mathlib.Core.Path.{_≡_, refl, sym, ap, _∙_}
 use native.Mathlib.Omega.{arith}
+use Rattle.basis.specs.Limits.{max-constructs}
 use Rattle.table_weights.specs.Sweeps.{settled}
 use Rattle.table_weights.proofs.SweepLaws.{settled-next, settled-kept, settled-done, swept-length}
 use borrow.Author.Needs.{needs}
@@ -10,7 +11,7 @@ use Rattle.table_weights.proofs.settle.Statement.{statement}
 use Rattle.table_weights.proofs.settle.Tie as tie
 
 abbrev Inv-loop : tie.InvT-loop
-Inv-loop table weights₀ n rounds k₀ weights k = (settled table n k weights ≡ settled table n rounds weights₀) × (length weights ≡ 256)
+Inv-loop table weights₀ n rounds k₀ weights k = (settled table n k weights ≡ settled table n rounds weights₀) × (length weights ≡ max-constructs)
 
 abbrev μ-loop : tie.MeasureT-loop
 μ-loop table weights₀ n rounds k₀ weights k = k

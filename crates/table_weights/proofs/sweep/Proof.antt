@@ -4,6 +4,7 @@ use Prim.Native.Nat.{ℕ, _-_, _≤_}
 use mathlib.Core.Path.{_≡_, refl, sym, _∙_}
 use native.Mathlib.Omega.{arith}
 use mathlib.Core.Bool.{false}
+use Rattle.basis.specs.Limits.{max-constructs}
 use Rattle.table_weights.specs.Sweeps.{swept}
 use Rattle.table_weights.proofs.SweepLaws.{swept-next, swept-kept, swept-done}
 use borrow.Author.Needs.{needs}
@@ -11,7 +12,7 @@ use Rattle.table_weights.proofs.sweep.Statement.{statement}
 use Rattle.table_weights.proofs.sweep.Tie as tie
 
 abbrev Inv-loop : tie.InvT-loop
-Inv-loop table weights₀ n changed₀ i₀ weights changed i = (swept table i weights ≡ swept table n weights₀) × (length weights ≡ 256) × (i ≤ 256) × (changed ≡ false → weights ≡ weights₀)
+Inv-loop table weights₀ n changed₀ i₀ weights changed i = (swept table i weights ≡ swept table n weights₀) × (length weights ≡ max-constructs) × (i ≤ max-constructs) × (changed ≡ false → weights ≡ weights₀)
 
 abbrev μ-loop : tie.MeasureT-loop
 μ-loop table weights₀ n changed₀ i₀ weights changed i = i

@@ -1,6 +1,7 @@
 -- `table_weights::weigh` meets its contract. Assumes nothing.
 use Prim.Native.Nat.{min}
 use mathlib.Core.Path.{ap, _∙_}
+use Rattle.basis.specs.Limits.{max-rules, max-constructs}
 use Rattle.table_weights.proofs.Settling.{made-all}
 use borrow.Author.Needs.{needs}
 use Rattle.table_weights.proofs.weigh.Statement.{statement}
@@ -37,7 +38,7 @@ one-more-requires : tie.Need-one-more-requires
 one-more-requires c κs = search needs
 
 returns : tie.Need-returns
-returns c = made-all (c .before .before .before .before .before .before .before .before .before .before .before .args .table .now) _ _ _ _ _ (c .before .before .before .before .settle .ensures) (c .before .before .before .before .before .before .before .at-most .ensures ∙ ap (min 256) (c .before .before .before .before .before .before .before .before .word .ensures .0)) (c .before .before .before .before .before .at-most2 .ensures ∙ ap (min 64) (c .before .before .before .before .before .before .word2 .ensures .0)) (c .before .body-weight .ensures .0) (c .one-more .ensures)
+returns c = made-all (c .before .before .before .before .before .before .before .before .before .before .before .args .table .now) _ _ _ _ _ (c .before .before .before .before .settle .ensures) (c .before .before .before .before .before .before .before .at-most .ensures ∙ ap (min max-constructs) (c .before .before .before .before .before .before .before .before .word .ensures .0)) (c .before .before .before .before .before .at-most2 .ensures ∙ ap (min max-rules) (c .before .before .before .before .before .before .word2 .ensures .0)) (c .before .body-weight .ensures .0) (c .one-more .ensures)
 
 pub weigh-spec : {M : Type 1} → statement M
 weigh-spec =

@@ -4,14 +4,15 @@ use mathlib.Core.Path.{_≡_, refl, sym, ap, _∙_}
 use native.Mathlib.Omega.{arith}
 use lib.ListN.{length, getD, set, take, drop, length-set}
 use lib.Seq.{paste, paste-zero, paste-suc, take-paste, drop-paste, take-all}
+use Rattle.basis.specs.Limits.{table-words}
 use Rattle.admission.proofs.copying.copy.Statement.{statement}
 use Rattle.admission.proofs.copying.copy.Tie as tie
 
 abbrev Inv-loop : tie.InvT-loop
-Inv-loop words table₀ k₀ table k = (k ≤ 16384) × (table ≡ paste table₀ 0 words k) × (length table ≡ length table₀)
+Inv-loop words table₀ k₀ table k = (k ≤ table-words) × (table ≡ paste table₀ 0 words k) × (length table ≡ length table₀)
 
 abbrev μ-loop : tie.MeasureT-loop
-μ-loop words table₀ k₀ table k = 16384 - k
+μ-loop words table₀ k₀ table k = table-words - k
 
 loop-holds : tie.Need-loop-holds Inv-loop μ-loop
 loop-holds c = (omega arith, paste-zero (c .args .table .now) 0 (c .args .words .now), refl)
@@ -41,7 +42,7 @@ same-length : tie.Need-same-length Inv-loop μ-loop
 same-length c = c .before .loop .inv .2
 
 returns : tie.Need-returns Inv-loop μ-loop
-returns c = let s = c .before .before in let words = s .args .words .now in let table = s .args .table .now in let long : 16384 ≤ length words = omega arith in let z : c .before .loop .k ≡ 16384 = omega arith in let e = c .before .loop .inv .1 ∙ ap (paste table 0 words) z in (ap (take 16384) e ∙ take-paste table 0 words 16384 (omega arith) long ∙ take-all 16384 words (omega arith), ap (drop 16384) e ∙ drop-paste table 0 words 16384 (omega arith) long, c .before .loop .inv .2)
+returns c = let s = c .before .before in let words = s .args .words .now in let table = s .args .table .now in let long : table-words ≤ length words = omega arith in let z : c .before .loop .k ≡ table-words = omega arith in let e = c .before .loop .inv .1 ∙ ap (paste table 0 words) z in (ap (take table-words) e ∙ take-paste table 0 words table-words (omega arith) long ∙ take-all table-words words (omega arith), ap (drop table-words) e ∙ drop-paste table 0 words table-words (omega arith) long, c .before .loop .inv .2)
 
 pub copy-spec : {M : Type 1} → statement M
 copy-spec =

@@ -3,6 +3,7 @@ use Prim.Native.Nat.{_+_, _*_, _-_, _≤_}
 use mathlib.Core.Path.{_≡_, _∙_}
 use native.Mathlib.Omega.{arith}
 use borrow.Author.Needs.{needs}
+use Rattle.basis.specs.Limits.{max-constructs}
 use Rattle.table_layout.specs.Places.{construct-count}
 use Rattle.table_structure.proofs.Facts.{facts}
 use Rattle.table_conflicts.proofs.Meaning.{empty-iff}
@@ -11,7 +12,7 @@ use Rattle.admission.proofs.marks.least_mark.Statement.{statement}
 use Rattle.admission.proofs.marks.least_mark.Tie as tie
 
 abbrev Inv-loop : tie.InvT-loop
-Inv-loop table first nodes count least₀ i₀ least i = Marking nodes table i least × (i ≤ count) × (count ≤ 256)
+Inv-loop table first nodes count least₀ i₀ least i = Marking nodes table i least × (i ≤ count) × (count ≤ max-constructs)
 
 abbrev μ-loop : tie.MeasureT-loop
 μ-loop table first nodes count least₀ i₀ least i = count - i

@@ -4,13 +4,14 @@ use borrow.Author.Needs.{needs}
 use lib.ListN.{length}
 use mathlib.Core.Path.{_≡_, sym, subst, _∙_}
 use native.Mathlib.Omega.{arith}
+use Rattle.table_first_follow.specs.Sets.{sets-held, family-words}
 use Rattle.table_first_follow.specs.Rounds.{FirstStep, FirstClosed, From, first-low, first-of}
 use Rattle.table_first_follow.proofs.RoundLaws.{round-start, round-turn}
 use Rattle.table_first_follow.proofs.first.round.Statement.{statement}
 use Rattle.table_first_follow.proofs.first.round.Tie as tie
 
 abbrev Inv-loop : tie.InvT-loop
-Inv-loop table family₀ grew₀ i₀ family grew i = FirstStep table (From (FirstClosed table) i) family₀ family grew × (i ≤ 257) × (length family ≡ 2056)
+Inv-loop table family₀ grew₀ i₀ family grew i = FirstStep table (From (FirstClosed table) i) family₀ family grew × (i ≤ sets-held) × (length family ≡ family-words)
 
 abbrev μ-loop : tie.MeasureT-loop
 μ-loop table family₀ grew₀ i₀ family grew i = i

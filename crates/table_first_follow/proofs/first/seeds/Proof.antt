@@ -3,16 +3,17 @@ use Prim.Native.Nat.{_-_, _≤_}
 use borrow.Author.Needs.{needs}
 use mathlib.Core.Path.{sym, _∙_}
 use native.Mathlib.Omega.{arith}
+use Rattle.table_first_follow.specs.Sets.{sets-held}
 use Rattle.table_first_follow.specs.Rounds.{first-low, first-of}
 use Rattle.table_first_follow.proofs.RoundLaws.{Planted, planted-none, planted-more, planted-done, low-first}
 use Rattle.table_first_follow.proofs.first.seeds.Statement.{statement}
 use Rattle.table_first_follow.proofs.first.seeds.Tie as tie
 
 abbrev Inv-loop : tie.InvT-loop
-Inv-loop table family₀ i₀ family i = Planted (first-low table) i family × (i ≤ 257)
+Inv-loop table family₀ i₀ family i = Planted (first-low table) i family × (i ≤ sets-held)
 
 abbrev μ-loop : tie.MeasureT-loop
-μ-loop table family₀ i₀ family i = 257 - i
+μ-loop table family₀ i₀ family i = sets-held - i
 
 loop-holds : tie.Need-loop-holds Inv-loop μ-loop
 loop-holds c = (planted-none (first-low (c .before .before .args .table .now)) (c .before .before .args .family .now) (c .before .before .pre), omega arith)

@@ -5,6 +5,7 @@ use lib.ListN.{length, take, drop}
 use mathlib.Core.List.{List}
 use mathlib.Core.Path.{_≡_, sym, ap, subst, _∙_}
 use native.Mathlib.Omega.{arith}
+use Rattle.basis.specs.Limits.{max-constructs}
 use Rattle.lookahead.specs.Sets.{Has}
 use Rattle.table_first_follow.specs.Follows.{Handed}
 use Rattle.table_first_follow.specs.Parts.{siblings}
@@ -14,7 +15,7 @@ use Rattle.table_first_follow.proofs.follow.hand.Statement.{statement}
 use Rattle.table_first_follow.proofs.follow.hand.Tie as tie
 
 abbrev Inv-loop : tie.InvT-loop
-Inv-loop table first family₀ start end joined places k₀ tail₀ grew₀ family k tail grew = Handing table joined (tail₀ .words) (siblings table start end) k (tail .words) family₀ family grew × (take k₀ places ≡ siblings table start end) × (k ≤ k₀) × (k₀ ≤ 256) × (length places ≡ 256)
+Inv-loop table first family₀ start end joined places k₀ tail₀ grew₀ family k tail grew = Handing table joined (tail₀ .words) (siblings table start end) k (tail .words) family₀ family grew × (take k₀ places ≡ siblings table start end) × (k ≤ k₀) × (k₀ ≤ max-constructs) × (length places ≡ max-constructs)
 
 abbrev μ-loop : tie.MeasureT-loop
 μ-loop table first family₀ start end joined places k₀ tail₀ grew₀ family k tail grew = k

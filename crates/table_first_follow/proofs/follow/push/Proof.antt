@@ -2,6 +2,7 @@
 use borrow.Author.Needs.{needs}
 use mathlib.Core.Path.{_≡_}
 use native.Mathlib.Omega.{arith}
+use Rattle.table_layout.specs.Held.{opening}
 use Rattle.table_first_follow.proofs.PushLaws.{opening-pushed}
 use Rattle.table_first_follow.proofs.follow.push.Statement.{statement}
 use Rattle.table_first_follow.proofs.follow.push.Tie as tie
@@ -33,7 +34,7 @@ returns-2 : tie.Need-returns-2
 returns-2 c =
     let a = c .before .before .before .before .before .before .before .before .before .before .before .args in
     let p = c .before .before .before .before .before .before .before .before .before .before .before .pre in
-    let e : a .i ≡ 256 = omega (arith, p .0, c .before .before .before .before .before .before .before .if1 .left) in
+    let e : a .i ≡ opening = omega (arith, p .0, c .before .before .before .before .before .before .before .if1 .left) in
     opening-pushed (a .table .now) (a .first .now) (a .family .now) (p .1) (p .2) (p .3) (a .i) (p .0) (c .before .before .before .before .before .set-of .result .words) (c .before .before .before .before .before .set-of .ensures) (c .before .before .give .last .0) (c .before .before .give .result) (c .before .before .before .body-of .result) e (c .before .before .before .body-of .ensures) (c .before .before .give .ensures)
 
 pub push-spec : {M : Type 1} → statement M

@@ -3,6 +3,8 @@ use Prim.Native.Nat.{_+_, _≤_, _<_}
 use borrow.Author.Needs.{needs}
 use mathlib.Core.List.{List·Memᴰ·not-nil}
 use native.Mathlib.Omega.{arith}
+use Rattle.table_first_follow.specs.Sets.{sets-held}
+use Rattle.basis.specs.Limits.{max-constructs}
 use Rattle.table_layout.specs.Held.{node-of}
 use Rattle.table_layout.specs.declared.Construct.{Construct}
 use Rattle.table_first_follow.proofs.HeldLaws.{fine-as}
@@ -29,14 +31,14 @@ add-hand-2 : tie.Need-add-hand-2
 add-hand-2 c =
     let a = c .before .before .before .before .before .before .before .before .before .before .args in
     let f = fine-as (a .table .now) (a .i) (c .before .before .before .before .construct-at .result) (c .before .before .before .before .construct-at .ensures) (Construct.Alternative (c .before .before .size .given .0 .0)) (c .before .before .size .given .1) in
-    let g : a .i + c .before .before .size .given .0 .0 ≤ 256 = f .1 in
+    let g : a .i + c .before .before .size .given .0 .0 ≤ max-constructs = f .1 in
     record { fits = omega arith }
 
 hand-requires : tie.Need-hand-requires
 hand-requires c κs =
     let a = c .before .before .before .before .before .before .before .before .before .before .args in
     let p = c .before .before .before .before .before .before .before .before .before .before .pre in
-    let h : a .i < 257 = omega (arith, p .0) in
+    let h : a .i < sets-held = omega (arith, p .0) in
     (p .3 .size, p .1, fine-as (a .table .now) (a .i) (c .before .before .before .before .construct-at .result) (c .before .before .before .before .construct-at .ensures) (Construct.Alternative (c .before .before .size .given .0 .0)) (c .before .before .size .given .1) .1, p .2, c .before .before .before .before .before .set-of .ensures .proper, alternative-owed (a .table .now) (a .first .now) (a .family .now) (p .1) (p .2) (p .3) (a .i) h (c .before .before .before .before .before .set-of .result .words) (c .before .before .before .before .before .set-of .ensures) (p .0) (c .before .before .before .before .construct-at .result) (c .before .before .before .before .construct-at .ensures) (c .before .before .size .given .0 .0) (c .before .before .size .given .1))
 
 enum-known-size-2 : tie.Need-enum-known-size-2
@@ -49,14 +51,14 @@ add-hand-4 : tie.Need-add-hand-4
 add-hand-4 c =
     let a = c .before .before .before .before .before .before .before .before .before .before .args in
     let f = fine-as (a .table .now) (a .i) (c .before .before .before .before .construct-at .result) (c .before .before .before .before .construct-at .ensures) (Construct.Concatenation (c .before .before .size2 .given .0 .0)) (c .before .before .size2 .given .1) in
-    let g : a .i + c .before .before .size2 .given .0 .0 ≤ 256 = f .1 in
+    let g : a .i + c .before .before .size2 .given .0 .0 ≤ max-constructs = f .1 in
     record { fits = omega arith }
 
 hand-requires-2 : tie.Need-hand-requires-2
 hand-requires-2 c κs =
     let a = c .before .before .before .before .before .before .before .before .before .before .args in
     let p = c .before .before .before .before .before .before .before .before .before .before .pre in
-    let h : a .i < 257 = omega (arith, p .0) in
+    let h : a .i < sets-held = omega (arith, p .0) in
     (p .3 .size, p .1, fine-as (a .table .now) (a .i) (c .before .before .before .before .construct-at .result) (c .before .before .before .before .construct-at .ensures) (Construct.Concatenation (c .before .before .size2 .given .0 .0)) (c .before .before .size2 .given .1) .1, p .2, c .before .before .before .before .before .set-of .ensures .proper, concatenation-owed (a .table .now) (a .first .now) (a .family .now) (p .1) (p .2) (p .3) (a .i) h (c .before .before .before .before .before .set-of .result .words) (c .before .before .before .before .before .set-of .ensures) (p .0) (c .before .before .before .before .construct-at .result) (c .before .before .before .before .construct-at .ensures) (c .before .before .size2 .given .0 .0) (c .before .before .size2 .given .1))
 
 enum-told-2 : tie.Need-enum-told-2
@@ -90,14 +92,14 @@ add-hand-6 : tie.Need-add-hand-6
 add-hand-6 c =
     let a = c .before .before .before .before .before .before .before .before .before .before .args in
     let f = fine-as (a .table .now) (a .i) (c .before .before .before .before .construct-at .result) (c .before .before .before .before .construct-at .ensures) (Construct.Switch (c .before .before .size3 .given .0 .0)) (c .before .before .size3 .given .1) in
-    let g : a .i + c .before .before .size3 .given .0 .0 ≤ 256 = f .1 in
+    let g : a .i + c .before .before .size3 .given .0 .0 ≤ max-constructs = f .1 in
     record { fits = omega arith }
 
 hand-requires-3 : tie.Need-hand-requires-3
 hand-requires-3 c κs =
     let a = c .before .before .before .before .before .before .before .before .before .before .args in
     let p = c .before .before .before .before .before .before .before .before .before .before .pre in
-    let h : a .i < 257 = omega (arith, p .0) in
+    let h : a .i < sets-held = omega (arith, p .0) in
     (p .3 .size, p .1, fine-as (a .table .now) (a .i) (c .before .before .before .before .construct-at .result) (c .before .before .before .before .construct-at .ensures) (Construct.Switch (c .before .before .size3 .given .0 .0)) (c .before .before .size3 .given .1) .1, p .2, c .before .before .before .before .before .set-of .ensures .proper, switch-owed (a .table .now) (a .first .now) (a .family .now) (p .1) (p .2) (p .3) (a .i) h (c .before .before .before .before .before .set-of .result .words) (c .before .before .before .before .before .set-of .ensures) (p .0) (c .before .before .before .before .construct-at .result) (c .before .before .before .before .construct-at .ensures) (c .before .before .size3 .given .0 .0) (c .before .before .size3 .given .1))
 
 enum-known-rule : tie.Need-enum-known-rule
@@ -131,7 +133,7 @@ unfolding node-of
 returns c =
     let a = c .before .before .before .before .before .before .before .before .args in
     let p = c .before .before .before .before .before .before .before .before .pre in
-    let h : a .i < 257 = omega (arith, p .0) in
+    let h : a .i < sets-held = omega (arith, p .0) in
     none-pushed (a .table .now) (a .first .now) (a .family .now) (p .1) (p .2) (p .3) (a .i) h (c .before .before .before .set-of .result .words) (c .before .before .before .set-of .ensures) (p .0) (c .before .before .construct-at .result) (c .before .before .construct-at .ensures) Construct.Missing (c .enum-told .given .1) (λ w b m. absurd (List·Memᴰ·not-nil m))
 
 same-length-2 : tie.Need-same-length-2
@@ -141,7 +143,7 @@ returns-2 : tie.Need-returns-2
 returns-2 c =
     let a = c .before .before .before .before .before .before .before .before .before .before .before .before .before .args in
     let p = c .before .before .before .before .before .before .before .before .before .before .before .before .before .pre in
-    let h : a .i < 257 = omega (arith, p .0) in
+    let h : a .i < sets-held = omega (arith, p .0) in
     alternative-pushed (a .table .now) (a .first .now) (a .family .now) (p .1) (p .2) (p .3) (a .i) h (c .before .before .before .before .before .before .before .before .set-of .result .words) (c .before .before .before .before .before .before .before .before .set-of .ensures) (p .0) (c .before .before .before .before .before .before .before .construct-at .result) (c .before .before .before .before .before .before .before .construct-at .ensures) (c .before .before .before .before .before .size .given .0 .0) (c .before .before .hand .last .1 .1 .0) (c .before .before .hand .result) (c .before .before .before .before .before .size .given .1) (c .before .before .hand .ensures)
 
 same-length-3 : tie.Need-same-length-3
@@ -151,7 +153,7 @@ returns-3 : tie.Need-returns-3
 returns-3 c =
     let a = c .before .before .before .before .before .before .before .before .before .before .before .before .before .args in
     let p = c .before .before .before .before .before .before .before .before .before .before .before .before .before .pre in
-    let h : a .i < 257 = omega (arith, p .0) in
+    let h : a .i < sets-held = omega (arith, p .0) in
     concatenation-pushed (a .table .now) (a .first .now) (a .family .now) (p .1) (p .2) (p .3) (a .i) h (c .before .before .before .before .before .before .before .before .set-of .result .words) (c .before .before .before .before .before .before .before .before .set-of .ensures) (p .0) (c .before .before .before .before .before .before .before .construct-at .result) (c .before .before .before .before .before .before .before .construct-at .ensures) (c .before .before .before .before .before .size2 .given .0 .0) (c .before .before .hand2 .last .1 .1 .0) (c .before .before .hand2 .result) (c .before .before .before .before .before .size2 .given .1) (c .before .before .hand2 .ensures)
 
 same-length-4 : tie.Need-same-length-4
@@ -161,7 +163,7 @@ returns-4 : tie.Need-returns-4
 returns-4 c =
     let a = c .before .before .before .before .before .before .before .before .before .before .before .before .before .before .before .args in
     let p = c .before .before .before .before .before .before .before .before .before .before .before .before .before .before .before .pre in
-    let h : a .i < 257 = omega (arith, p .0) in
+    let h : a .i < sets-held = omega (arith, p .0) in
     repetition-pushed (a .table .now) (a .first .now) (a .family .now) (p .1) (p .2) (p .3) (a .i) h (c .before .before .before .before .before .before .before .before .before .before .set-of .result .words) (c .before .before .before .before .before .before .before .before .before .before .set-of .ensures) (p .0) (c .before .before .before .before .before .before .before .before .before .construct-at .result) (c .before .before .before .before .before .before .before .before .before .construct-at .ensures) (c .before .before .give .last .0) (c .before .before .give .result) (c .before .before .before .before .before .before .before .enum-told2 .given .0 .0) (c .before .before .before .before .before .before .before .enum-told2 .given .0 .1 .0) (c .before .before .before .before .before .before .set-of2 .result .words) (c .before .before .before .before .before .at-least .result .words) (c .before .before .before .join .result .words) (c .before .before .before .before .before .before .before .enum-told2 .given .1) (c .before .before .before .before .before .before .set-of2 .ensures) (c .before .before .before .before .before .at-least .ensures) (c .before .before .before .join .ensures) (c .before .before .give .ensures)
 
 same-length-5 : tie.Need-same-length-5
@@ -171,7 +173,7 @@ returns-5 : tie.Need-returns-5
 returns-5 c =
     let a = c .before .before .before .before .before .before .before .before .before .before .before .before .before .args in
     let p = c .before .before .before .before .before .before .before .before .before .before .before .before .before .pre in
-    let h : a .i < 257 = omega (arith, p .0) in
+    let h : a .i < sets-held = omega (arith, p .0) in
     switch-pushed (a .table .now) (a .first .now) (a .family .now) (p .1) (p .2) (p .3) (a .i) h (c .before .before .before .before .before .before .before .before .set-of .result .words) (c .before .before .before .before .before .before .before .before .set-of .ensures) (p .0) (c .before .before .before .before .before .before .before .construct-at .result) (c .before .before .before .before .before .before .before .construct-at .ensures) (c .before .before .before .before .before .size3 .given .0 .0) (c .before .before .hand3 .last .1 .1 .0) (c .before .before .hand3 .result) (c .before .before .before .before .before .size3 .given .1) (c .before .before .hand3 .ensures)
 
 same-length-6 : tie.Need-same-length-6
@@ -181,7 +183,7 @@ returns-6 : tie.Need-returns-6
 returns-6 c =
     let a = c .before .before .before .before .before .before .before .before .before .before .before .before .before .before .args in
     let p = c .before .before .before .before .before .before .before .before .before .before .before .before .before .before .pre in
-    let h : a .i < 257 = omega (arith, p .0) in
+    let h : a .i < sets-held = omega (arith, p .0) in
     rule-pushed (a .table .now) (a .first .now) (a .family .now) (p .1) (p .2) (p .3) (a .i) h (c .before .before .before .before .before .before .before .before .before .set-of .result .words) (c .before .before .before .before .before .before .before .before .before .set-of .ensures) (p .0) (c .before .before .before .before .before .before .before .before .construct-at .result) (c .before .before .before .before .before .before .before .before .construct-at .ensures) (c .before .before .give2 .last .0) (c .before .before .give2 .result) (c .before .before .before .before .before .before .rule .given .0 .0) (c .before .before .before .body-of .result) (c .before .before .before .before .before .before .rule .given .1) (c .before .before .before .body-of .ensures) (c .before .before .give2 .ensures)
 
 same-length-7 : tie.Need-same-length-7
@@ -192,7 +194,7 @@ unfolding node-of
 returns-7 c =
     let a = c .before .before .before .before .before .before .before .before .args in
     let p = c .before .before .before .before .before .before .before .before .pre in
-    let h : a .i < 257 = omega (arith, p .0) in
+    let h : a .i < sets-held = omega (arith, p .0) in
     none-pushed (a .table .now) (a .first .now) (a .family .now) (p .1) (p .2) (p .3) (a .i) h (c .before .before .before .set-of .result .words) (c .before .before .before .set-of .ensures) (p .0) (c .before .before .construct-at .result) (c .before .before .construct-at .ensures) (Construct.Literal (c .enum-told3 .given .0 .0)) (c .enum-told3 .given .1) (λ w. tt)
 
 same-length-8 : tie.Need-same-length-8
@@ -203,7 +205,7 @@ unfolding node-of
 returns-8 c =
     let a = c .before .before .before .before .before .before .before .before .args in
     let p = c .before .before .before .before .before .before .before .before .pre in
-    let h : a .i < 257 = omega (arith, p .0) in
+    let h : a .i < sets-held = omega (arith, p .0) in
     none-pushed (a .table .now) (a .first .now) (a .family .now) (p .1) (p .2) (p .3) (a .i) h (c .before .before .before .set-of .result .words) (c .before .before .before .set-of .ensures) (p .0) (c .before .before .construct-at .result) (c .before .before .construct-at .ensures) (Construct.Range (c .enum-told4 .given .0 .0) (c .enum-told4 .given .0 .1 .0)) (c .enum-told4 .given .1) (λ w. tt)
 
 same-length-9 : tie.Need-same-length-9
@@ -214,7 +216,7 @@ unfolding node-of
 returns-9 c =
     let a = c .before .before .before .before .before .before .before .before .args in
     let p = c .before .before .before .before .before .before .before .before .pre in
-    let h : a .i < 257 = omega (arith, p .0) in
+    let h : a .i < sets-held = omega (arith, p .0) in
     none-pushed (a .table .now) (a .first .now) (a .family .now) (p .1) (p .2) (p .3) (a .i) h (c .before .before .before .set-of .result .words) (c .before .before .before .set-of .ensures) (p .0) (c .before .before .construct-at .result) (c .before .before .construct-at .ensures) (Construct.Uint (c .enum-told5 .given .0 .0) (c .enum-told5 .given .0 .1 .0) (c .enum-told5 .given .0 .1 .1 .0) (c .enum-told5 .given .0 .1 .1 .1 .0)) (c .enum-told5 .given .1) (λ w. tt)
 
 same-length-10 : tie.Need-same-length-10
@@ -225,7 +227,7 @@ unfolding node-of
 returns-10 c =
     let a = c .before .before .before .before .before .before .before .before .args in
     let p = c .before .before .before .before .before .before .before .before .pre in
-    let h : a .i < 257 = omega (arith, p .0) in
+    let h : a .i < sets-held = omega (arith, p .0) in
     none-pushed (a .table .now) (a .first .now) (a .family .now) (p .1) (p .2) (p .3) (a .i) h (c .before .before .before .set-of .result .words) (c .before .before .before .set-of .ensures) (p .0) (c .before .before .construct-at .result) (c .before .before .construct-at .ensures) Construct.Eod (c .enum-told6 .given .1) (λ w. tt)
 
 pub push-inside-spec : {M : Type 1} → statement M

@@ -3,16 +3,17 @@ use Prim.Native.Nat.{_-_, _≤_}
 use borrow.Author.Needs.{needs}
 use mathlib.Core.Path.{sym, _∙_}
 use native.Mathlib.Omega.{arith}
+use Rattle.table_first_follow.specs.Sets.{sets-held}
 use Rattle.table_first_follow.specs.Follows.{Started}
 use Rattle.table_first_follow.proofs.RoundLaws.{Planted, planted-none, planted-more}
 use Rattle.table_first_follow.proofs.follow.starts.Statement.{statement}
 use Rattle.table_first_follow.proofs.follow.starts.Tie as tie
 
 abbrev Inv-loop : tie.InvT-loop
-Inv-loop family₀ i₀ family i = Planted Started i family × (i ≤ 257)
+Inv-loop family₀ i₀ family i = Planted Started i family × (i ≤ sets-held)
 
 abbrev μ-loop : tie.MeasureT-loop
-μ-loop family₀ i₀ family i = 257 - i
+μ-loop family₀ i₀ family i = sets-held - i
 
 loop-holds : tie.Need-loop-holds Inv-loop μ-loop
 loop-holds c = (planted-none Started (c .before .args .family .now) (c .before .pre), omega arith)

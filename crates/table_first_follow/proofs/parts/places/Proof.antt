@@ -5,13 +5,14 @@ use lib.ListN.{set, length-set}
 use mathlib.Core.List.{[], _∷_}
 use mathlib.Core.Path.{_≡_, refl, sym, subst, _∙_}
 use native.Mathlib.Omega.{arith}
+use Rattle.basis.specs.Limits.{max-constructs}
 use Rattle.table_first_follow.specs.Parts.{siblings}
 use Rattle.table_first_follow.proofs.PartLaws.{Placing, place-none, place-more, place-done, siblings-done, siblings-last, siblings-next}
 use Rattle.table_first_follow.proofs.parts.places.Statement.{statement}
 use Rattle.table_first_follow.proofs.parts.places.Tie as tie
 
 abbrev Inv-loop : tie.InvT-loop
-Inv-loop table start end out₀ n₀ at₀ out n at = Placing (siblings table start end) n out (siblings table at end) × (n ≤ at) × (n ≤ 256)
+Inv-loop table start end out₀ n₀ at₀ out n at = Placing (siblings table start end) n out (siblings table at end) × (n ≤ at) × (n ≤ max-constructs)
 
 abbrev μ-loop : tie.MeasureT-loop
 μ-loop table start end out₀ n₀ at₀ out n at = end - at

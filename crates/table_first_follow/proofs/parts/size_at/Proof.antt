@@ -2,6 +2,7 @@
 use Prim.Native.Nat.{ℕ, _≤_}
 use borrow.Author.Needs.{needs}
 use mathlib.Core.Path.{_≡_, ap, subst, sym, _∙_}
+use Rattle.basis.specs.Limits.{max-constructs}
 use Rattle.table_layout.specs.Constructs.{constructAt}
 use Rattle.table_layout.specs.Held.{size-of}
 use Rattle.table_first_follow.proofs.PartLaws.{size-small}
@@ -18,7 +19,7 @@ returns : tie.Need-returns
 returns c =
     let a = c .before .before .before .args in
     let e : c .size-of .result ≡ size-of (constructAt (a .table .now) (a .i)) = c .size-of .ensures ∙ ap size-of (c .before .construct-at .ensures) in
-    (e, subst (λ (n : ℕ). n ≤ 256) (sym e) (size-small (a .table .now) (a .i)))
+    (e, subst (λ (n : ℕ). n ≤ max-constructs) (sym e) (size-small (a .table .now) (a .i)))
 
 pub size-at-spec : {M : Type 1} → statement M
 size-at-spec = tie.close (tie.spec construct-at-requires size-of-requires returns)

@@ -3,6 +3,7 @@ use Prim.Native.Nat.{_-_, _≤_}
 use borrow.Author.Needs.{needs}
 use mathlib.Core.Path.{sym, _∙_}
 use native.Mathlib.Omega.{arith}
+use Rattle.table_first_follow.specs.Sets.{sets-held}
 use Rattle.table_first_follow.specs.Follows.{Predicting}
 use Rattle.table_first_follow.proofs.FollowLaws.{is-predicting}
 use Rattle.table_first_follow.proofs.RoundLaws.{Planted, planted-none, planted-more}
@@ -10,10 +11,10 @@ use Rattle.table_first_follow.proofs.prediction.join_all.Statement.{sta
 use Rattle.table_first_follow.proofs.prediction.join_all.Tie as tie
 
 abbrev Inv-loop : tie.InvT-loop
-Inv-loop first follow family₀ i₀ family i = Planted (Predicting first follow) i family × (i ≤ 257)
+Inv-loop first follow family₀ i₀ family i = Planted (Predicting first follow) i family × (i ≤ sets-held)
 
 abbrev μ-loop : tie.MeasureT-loop
-μ-loop first follow family₀ i₀ family i = 257 - i
+μ-loop first follow family₀ i₀ family i = sets-held - i
 
 loop-holds : tie.Need-loop-holds Inv-loop μ-loop
 loop-holds c =

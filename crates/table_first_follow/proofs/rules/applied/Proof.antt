@@ -2,6 +2,7 @@
 use borrow.Author.Needs.{needs}
 use mathlib.Core.Path.{_≡_}
 use native.Mathlib.Omega.{arith}
+use Rattle.table_layout.specs.Held.{opening}
 use Rattle.table_first_follow.proofs.AppliedLaws.{of-opening}
 use Rattle.table_first_follow.proofs.rules.applied.Statement.{statement}
 use Rattle.table_first_follow.proofs.rules.applied.Tie as tie
@@ -21,7 +22,7 @@ set-of-requires c κs = search needs
 returns-2 : tie.Need-returns-2
 returns-2 c =
     let a = c .before .before .before .before .before .args in
-    let p : a .i ≡ 256 = omega (arith, c .before .before .before .before .before .pre .1, c .before .before .if1 .left) in
+    let p : a .i ≡ opening = omega (arith, c .before .before .before .before .before .pre .1, c .before .before .if1 .left) in
     of-opening (a .table .now) (a .family .now) (a .i) (c .set-of .result .words) (c .before .body-of .result) p (c .before .body-of .ensures) (c .set-of .ensures)
 
 pub applied-spec : {M : Type 1} → statement M

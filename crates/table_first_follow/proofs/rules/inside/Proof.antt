@@ -3,6 +3,7 @@ use Prim.Native.Nat.{_+_, _≤_}
 use borrow.Author.Needs.{needs}
 use mathlib.Core.List.{List·Memᴰ·not-nil}
 use native.Mathlib.Omega.{arith}
+use Rattle.basis.specs.Limits.{max-constructs}
 use Rattle.table_layout.specs.Held.{node-of}
 use Rattle.table_layout.specs.declared.Construct.{Construct}
 use Rattle.table_first_follow.proofs.AppliedLaws.{of-none, of-alternative, of-switch, of-concatenation, of-repetition, of-use}
@@ -29,7 +30,7 @@ add-gather-2 : tie.Need-add-gather-2
 add-gather-2 c =
     let a = c .before .before .before .before .before .before .args in
     let f = fine-as (a .table .now) (a .i) (c .before .before .before .construct-at .result) (c .before .before .before .construct-at .ensures) (Construct.Alternative (c .before .size .given .0 .0)) (c .before .size .given .1) in
-    let g : a .i + c .before .size .given .0 .0 ≤ 256 = f .1 in
+    let g : a .i + c .before .size .given .0 .0 ≤ max-constructs = f .1 in
     record { fits = omega arith }
 
 gather-requires : tie.Need-gather-requires
@@ -48,7 +49,7 @@ add-gather-4 : tie.Need-add-gather-4
 add-gather-4 c =
     let a = c .before .before .before .before .before .before .args in
     let f = fine-as (a .table .now) (a .i) (c .before .before .before .construct-at .result) (c .before .before .before .construct-at .ensures) (Construct.Concatenation (c .before .size2 .given .0 .0)) (c .before .size2 .given .1) in
-    let g : a .i + c .before .size2 .given .0 .0 ≤ 256 = f .1 in
+    let g : a .i + c .before .size2 .given .0 .0 ≤ max-constructs = f .1 in
     record { fits = omega arith }
 
 gather-requires-2 : tie.Need-gather-requires-2
@@ -82,7 +83,7 @@ add-gather-6 : tie.Need-add-gather-6
 add-gather-6 c =
     let a = c .before .before .before .before .before .before .args in
     let f = fine-as (a .table .now) (a .i) (c .before .before .before .construct-at .result) (c .before .before .before .construct-at .ensures) (Construct.Switch (c .before .size3 .given .0 .0)) (c .before .size3 .given .1) in
-    let g : a .i + c .before .size3 .given .0 .0 ≤ 256 = f .1 in
+    let g : a .i + c .before .size3 .given .0 .0 ≤ max-constructs = f .1 in
     record { fits = omega arith }
 
 gather-requires-3 : tie.Need-gather-requires-3

@@ -2,6 +2,7 @@
 use lib.ListN.{length}
 use Prim.Native.Nat.{ℕ, _-_, _≤_}
 use mathlib.Core.Path.{_≡_, refl}
+use Rattle.basis.specs.Limits.{max-rules}
 use Rattle.table_reach.specs.Closure.{Matrix, closure}
 use Rattle.table_reach.proofs.Rows.{matrix-first, matrix-next, matrix-last}
 use borrow.Author.Needs.{needs}
@@ -9,10 +10,10 @@ use Rattle.table_reach.proofs.reaching.close.Statement.{statement}
 use Rattle.table_reach.proofs.reaching.close.Tie as tie
 
 abbrev Inv-loop : tie.InvT-loop
-Inv-loop rows₀ k₀ rows k = (length rows ≡ 64) × ((u : ℕ → ℕ → ℕ) → Matrix rows₀ u → Matrix rows (closure u k)) × (k ≤ 64)
+Inv-loop rows₀ k₀ rows k = (length rows ≡ max-rules) × ((u : ℕ → ℕ → ℕ) → Matrix rows₀ u → Matrix rows (closure u k)) × (k ≤ max-rules)
 
 abbrev μ-loop : tie.MeasureT-loop
-μ-loop rows₀ k₀ rows k = 64 - k
+μ-loop rows₀ k₀ rows k = max-rules - k
 
 loop-holds : tie.Need-loop-holds Inv-loop μ-loop
 loop-holds c = (c .pre, (λ u m. matrix-first u _ m), search needs)

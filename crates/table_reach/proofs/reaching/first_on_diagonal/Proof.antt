@@ -5,6 +5,7 @@ use mathlib.Core.Path.{_≡_, sym, _∙_}
 use native.Mathlib.Omega.{arith}
 use borrow.Author.Count.{below-more}
 use borrow.Author.Tests.{eqb-true}
+use Rattle.basis.specs.Limits.{max-rules}
 use Rattle.lookahead.specs.Sets.{bit}
 use Rattle.table_reach.proofs.Rows.{not-one}
 use borrow.Author.Needs.{needs}
@@ -12,10 +13,10 @@ use Rattle.table_reach.proofs.reaching.first_on_diagonal.Statement.{sta
 use Rattle.table_reach.proofs.reaching.first_on_diagonal.Tie as tie
 
 abbrev Inv-loop : tie.InvT-loop
-Inv-loop rows r₀ r = ((q : ℕ) → q < r → bit (getD rows q 0) q ≡ 0) × (r ≤ 64)
+Inv-loop rows r₀ r = ((q : ℕ) → q < r → bit (getD rows q 0) q ≡ 0) × (r ≤ max-rules)
 
 abbrev μ-loop : tie.MeasureT-loop
-μ-loop rows r₀ r = 64 - r
+μ-loop rows r₀ r = max-rules - r
 
 loop-holds : tie.Need-loop-holds Inv-loop μ-loop
 loop-holds c = ((λ q h. absurd (omega arith)), search needs)

@@ -3,6 +3,7 @@ use Prim.Native.Nat.{ℕ, _-_, _≤_, _<_, max}
 use mathlib.Core.Path.{_≡_, ap, _∙_}
 use native.Mathlib.Omega.{arith}
 use lib.Dec.{eqb}
+use Rattle.basis.specs.Limits.{max-rules}
 use Rattle.table_layout.specs.Constructs.{pick}
 use Rattle.lookahead.specs.Sets.{bit}
 use Rattle.lookahead.proofs.BitLaws.{bit-none}
@@ -13,7 +14,7 @@ use Rattle.table_reach.proofs.reaching.row_between.Statement.{statement
 use Rattle.table_reach.proofs.reaching.row_between.Tie as tie
 
 abbrev Inv-loop : tie.InvT-loop
-Inv-loop table first end row₀ i₀ row i = ((q : ℕ) → q < 64 → max (bit row q) (uses-between table i end q) ≡ uses-between table first end q) × (first ≤ i)
+Inv-loop table first end row₀ i₀ row i = ((q : ℕ) → q < max-rules → max (bit row q) (uses-between table i end q) ≡ uses-between table first end q) × (first ≤ i)
 
 abbrev μ-loop : tie.MeasureT-loop
 μ-loop table first end row₀ i₀ row i = end - i

@@ -4,6 +4,7 @@ use mathlib.Core.Path.{ap, _∙_}
 use native.Mathlib.Omega.{arith}
 use native.Mathlib.Nat.{add-zero}
 use borrow.Author.Tests.{le-ltb}
+use Rattle.basis.specs.Limits.{max-constructs}
 use Rattle.lookahead.proofs.BitLaws.{bit-none}
 use Rattle.table_reach.proofs.ReachLaws.{uses-row}
 use borrow.Author.Needs.{needs}
@@ -35,7 +36,7 @@ row-between-requires : tie.Need-row-between-requires
 row-between-requires c κs = search needs
 
 returns-2 : tie.Need-returns-2
-returns-2 c = λ q h. c .row-between .ensures q h ∙ uses-row (c .before .before .before .before .before .before .before .args .table .now) (c .before .before .before .before .before .before .before .args .r) q _ _ (omega (arith, c .before .before .before .before .before .word .ensures .0)) (simp add-zero (c .before .before .before .word2 .ensures .0)) (c .before .at-most .ensures ∙ ap (min 256) (c .before .before .end-of .ensures))
+returns-2 c = λ q h. c .row-between .ensures q h ∙ uses-row (c .before .before .before .before .before .before .before .args .table .now) (c .before .before .before .before .before .before .before .args .r) q _ _ (omega (arith, c .before .before .before .before .before .word .ensures .0)) (simp add-zero (c .before .before .before .word2 .ensures .0)) (c .before .at-most .ensures ∙ ap (min max-constructs) (c .before .before .end-of .ensures))
 
 pub row-of-spec : {M : Type 1} → statement M
 row-of-spec =

@@ -1,5 +1,6 @@
 -- `table_reach::reaching::through` meets its contract. The invariant: the rows below i are mended, the others as they were. Assumes nothing.
 use Prim.Native.Nat.{_-_, _≤_}
+use Rattle.basis.specs.Limits.{max-rules}
 use Rattle.table_reach.specs.Closure.{Mended}
 use Rattle.table_reach.proofs.Rows.{mended-none, mended-more, mended-all}
 use borrow.Author.Needs.{needs}
@@ -7,10 +8,10 @@ use Rattle.table_reach.proofs.reaching.through.Statement.{statement}
 use Rattle.table_reach.proofs.reaching.through.Tie as tie
 
 abbrev Inv-loop : tie.InvT-loop
-Inv-loop rows₀ via k i₀ rows i = Mended rows₀ rows via k i × (i ≤ 64)
+Inv-loop rows₀ via k i₀ rows i = Mended rows₀ rows via k i × (i ≤ max-rules)
 
 abbrev μ-loop : tie.MeasureT-loop
-μ-loop rows₀ via k i₀ rows i = 64 - i
+μ-loop rows₀ via k i₀ rows i = max-rules - i
 
 loop-holds : tie.Need-loop-holds Inv-loop μ-loop
 loop-holds c = (mended-none _ _ _ (c .pre .0), search needs)

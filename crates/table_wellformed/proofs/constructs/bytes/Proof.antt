@@ -2,6 +2,7 @@ use Prim.Native.Nat.{_-_}
 use mathlib.Core.Path.{_≡_, refl, sym, _∙_}
 use native.Mathlib.Omega.{arith}
 use borrow.Author.Needs.{needs}
+use Rattle.basis.specs.Limits.{max-literal-bytes}
 use Rattle.table_wellformed.specs.Checks.{from-to}
 use Rattle.table_wellformed.proofs.Every.{every-turn, every-stop, every-end}
 use Rattle.table_wellformed.specs.Laid.{byte-laid}
@@ -9,10 +10,10 @@ use Rattle.table_wellformed.proofs.constructs.bytes.Statement.{statemen
 use Rattle.table_wellformed.proofs.constructs.bytes.Tie as tie
 
 abbrev Inv-loop : tie.InvT-loop
-Inv-loop table i n k₀ k = from-to k 32 (byte-laid table i n) ≡ from-to 0 32 (byte-laid table i n)
+Inv-loop table i n k₀ k = from-to k max-literal-bytes (byte-laid table i n) ≡ from-to 0 max-literal-bytes (byte-laid table i n)
 
 abbrev μ-loop : tie.MeasureT-loop
-μ-loop table i n k₀ k = 32 - k
+μ-loop table i n k₀ k = max-literal-bytes - k
 
 loop-holds : tie.Need-loop-holds Inv-loop μ-loop
 loop-holds c = refl

@@ -1,6 +1,7 @@
 use Prim.Native.Nat.{_+_, _*_, _-_, _≤_}
 use mathlib.Core.Path.{_≡_, refl, ap₂}
 use native.Mathlib.Omega.{arith}
+use Rattle.table_layout.specs.Places.{constructs-at}
 use Rattle.text_encoding.specs.Numbers.{lists-length, condition-start}
 use Rattle.text_encoding.specs.Encoded.{construct-words}
 use Rattle.text_encoding.proofs.Sums.{sum-none, sum-next, sum-turn, sum-holds}
@@ -10,7 +11,7 @@ use Rattle.text_encoding.proofs.areas.put_constructs.Statement.{stateme
 use Rattle.text_encoding.proofs.areas.put_constructs.Tie as tie
 
 abbrev Inv-loop : tie.InvT-loop
-Inv-loop text nodes rules n r table₀ q₀ i₀ table q i = (i ≤ n) × (q ≡ condition-start nodes i) × Writing table₀ 576 n 0 (construct-words text nodes rules r) table (576 + 8 * i) (n - i) i
+Inv-loop text nodes rules n r table₀ q₀ i₀ table q i = (i ≤ n) × (q ≡ condition-start nodes i) × Writing table₀ constructs-at n 0 (construct-words text nodes rules r) table (constructs-at + 8 * i) (n - i) i
 
 abbrev μ-loop : tie.MeasureT-loop
 μ-loop text nodes rules n r table₀ q₀ i₀ table q i = n - i

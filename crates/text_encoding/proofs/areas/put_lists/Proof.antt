@@ -1,6 +1,7 @@
 use Prim.Native.Nat.{_+_, _*_}
 use native.Mathlib.Omega.{arith}
 use borrow.Author.Needs.{needs}
+use Rattle.table_layout.specs.Places.{terms-at}
 use Rattle.text_store.specs.Words.{own-from, condition-from}
 use Rattle.text_encoding.specs.Numbers.{condition-length, own-length, lists-length}
 use Rattle.text_encoding.specs.Encoded.{list-words}
@@ -35,7 +36,7 @@ same-length : tie.Need-same-length
 same-length c = search needs
 
 returns : tie.Need-returns
-returns c = written-next (c .before .before .before .before .before .before .before .before .before .before .before .before .before .before .before .before .args .table .now) (c .before .before .before .before .before .before .before .before .list .last .1 .1 .1 .1 .1 .1 .1 .1 .0) (c .before .before .list2 .last .1 .1 .1 .1 .1 .1 .1 .1 .0) (2624 + 3 * c .before .before .before .before .before .before .before .before .before .before .before .before .before .before .before .before .args .q) (2624 + 3 * (c .before .before .before .before .before .before .before .before .before .before .before .before .before .before .before .before .args .q + c .before .before .before .before .before .before .before .before .before .before .before .condition-length .result)) (list-words (c .before .before .before .before .before .before .before .before .before .before .before .before .before .before .before .before .args .text .now) (c .before .before .before .before .before .before .before .before .before .before .before .before .before .before .before .before .args .nodes .now) (c .before .before .before .before .before .before .before .before .before .before .before .before .before .before .before .before .args .terms .now) (c .before .before .before .before .before .before .before .before .before .before .before .before .before .before .before .before .args .a) (c .before .before .before .before .before .before .before .before .before .before .before .before .before .before .before .before .args .i) (condition-from (c .before .before .before .before .before .before .before .before .before .before .before .before .before .before .before .before .args .nodes .now) (c .before .before .before .before .before .before .before .before .before .before .before .before .before .before .before .before .args .i)) (condition-length (c .before .before .before .before .before .before .before .before .before .before .before .before .before .before .before .before .args .nodes .now) (c .before .before .before .before .before .before .before .before .before .before .before .before .before .before .before .before .args .i))) (list-words (c .before .before .before .before .before .before .before .before .before .before .before .before .before .before .before .before .args .text .now) (c .before .before .before .before .before .before .before .before .before .before .before .before .before .before .before .before .args .nodes .now) (c .before .before .before .before .before .before .before .before .before .before .before .before .before .before .before .before .args .terms .now) (c .before .before .before .before .before .before .before .before .before .before .before .before .before .before .before .before .args .a) (c .before .before .before .before .before .before .before .before .before .before .before .before .before .before .before .before .args .i) (own-from (c .before .before .before .before .before .before .before .before .before .before .before .before .before .before .before .before .args .nodes .now) (c .before .before .before .before .before .before .before .before .before .before .before .before .before .before .before .before .args .i)) (own-length (c .before .before .before .before .before .before .before .before .before .before .before .before .before .before .before .before .args .nodes .now) (c .before .before .before .before .before .before .before .before .before .before .before .before .before .before .before .before .args .i))) (simp (c .before .before .before .before .before .before .before .before .list .ensures, c .before .before .before .before .before .before .before .before .before .before .node-word .ensures, c .before .before .before .before .before .before .before .before .before .before .before .condition-length .ensures)) (omega (arith, c .before .before .before .before .before .before .before .before .before .before .before .condition-length .ensures, list-length (c .before .before .before .before .before .before .before .before .before .before .before .before .before .before .before .before .args .text .now) (c .before .before .before .before .before .before .before .before .before .before .before .before .before .before .before .before .args .nodes .now) (c .before .before .before .before .before .before .before .before .before .before .before .before .before .before .before .before .args .terms .now) (c .before .before .before .before .before .before .before .before .before .before .before .before .before .before .before .before .args .a) (c .before .before .before .before .before .before .before .before .before .before .before .before .before .before .before .before .args .i) (condition-from (c .before .before .before .before .before .before .before .before .before .before .before .before .before .before .before .before .args .nodes .now) (c .before .before .before .before .before .before .before .before .before .before .before .before .before .before .before .before .args .i)) (condition-length (c .before .before .before .before .before .before .before .before .before .before .before .before .before .before .before .before .args .nodes .now) (c .before .before .before .before .before .before .before .before .before .before .before .before .before .before .before .before .args .i)))) (simp (c .before .before .list2 .ensures, c .before .before .before .before .node-word2 .ensures, c .before .before .before .before .before .own-length .ensures))
+returns c = written-next (c .before .before .before .before .before .before .before .before .before .before .before .before .before .before .before .before .args .table .now) (c .before .before .before .before .before .before .before .before .list .last .1 .1 .1 .1 .1 .1 .1 .1 .0) (c .before .before .list2 .last .1 .1 .1 .1 .1 .1 .1 .1 .0) (terms-at + 3 * c .before .before .before .before .before .before .before .before .before .before .before .before .before .before .before .before .args .q) (terms-at + 3 * (c .before .before .before .before .before .before .before .before .before .before .before .before .before .before .before .before .args .q + c .before .before .before .before .before .before .before .before .before .before .before .condition-length .result)) (list-words (c .before .before .before .before .before .before .before .before .before .before .before .before .before .before .before .before .args .text .now) (c .before .before .before .before .before .before .before .before .before .before .before .before .before .before .before .before .args .nodes .now) (c .before .before .before .before .before .before .before .before .before .before .before .before .before .before .before .before .args .terms .now) (c .before .before .before .before .before .before .before .before .before .before .before .before .before .before .before .before .args .a) (c .before .before .before .before .before .before .before .before .before .before .before .before .before .before .before .before .args .i) (condition-from (c .before .before .before .before .before .before .before .before .before .before .before .before .before .before .before .before .args .nodes .now) (c .before .before .before .before .before .before .before .before .before .before .before .before .before .before .before .before .args .i)) (condition-length (c .before .before .before .before .before .before .before .before .before .before .before .before .before .before .before .before .args .nodes .now) (c .before .before .before .before .before .before .before .before .before .before .before .before .before .before .before .before .args .i))) (list-words (c .before .before .before .before .before .before .before .before .before .before .before .before .before .before .before .before .args .text .now) (c .before .before .before .before .before .before .before .before .before .before .before .before .before .before .before .before .args .nodes .now) (c .before .before .before .before .before .before .before .before .before .before .before .before .before .before .before .before .args .terms .now) (c .before .before .before .before .before .before .before .before .before .before .before .before .before .before .before .before .args .a) (c .before .before .before .before .before .before .before .before .before .before .before .before .before .before .before .before .args .i) (own-from (c .before .before .before .before .before .before .before .before .before .before .before .before .before .before .before .before .args .nodes .now) (c .before .before .before .before .before .before .before .before .before .before .before .before .before .before .before .before .args .i)) (own-length (c .before .before .before .before .before .before .before .before .before .before .before .before .before .before .before .before .args .nodes .now) (c .before .before .before .before .before .before .before .before .before .before .before .before .before .before .before .before .args .i))) (simp (c .before .before .before .before .before .before .before .before .list .ensures, c .before .before .before .before .before .before .before .before .before .before .node-word .ensures, c .before .before .before .before .before .before .before .before .before .before .before .condition-length .ensures)) (omega (arith, c .before .before .before .before .before .before .before .before .before .before .before .condition-length .ensures, list-length (c .before .before .before .before .before .before .before .before .before .before .before .before .before .before .before .before .args .text .now) (c .before .before .before .before .before .before .before .before .before .before .before .before .before .before .before .before .args .nodes .now) (c .before .before .before .before .before .before .before .before .before .before .before .before .before .before .before .before .args .terms .now) (c .before .before .before .before .before .before .before .before .before .before .before .before .before .before .before .before .args .a) (c .before .before .before .before .before .before .before .before .before .before .before .before .before .before .before .before .args .i) (condition-from (c .before .before .before .before .before .before .before .before .before .before .before .before .before .before .before .before .args .nodes .now) (c .before .before .before .before .before .before .before .before .before .before .before .before .before .before .before .before .args .i)) (condition-length (c .before .before .before .before .before .before .before .before .before .before .before .before .before .before .before .before .args .nodes .now) (c .before .before .before .before .before .before .before .before .before .before .before .before .before .before .before .before .args .i)))) (simp (c .before .before .list2 .ensures, c .before .before .before .before .node-word2 .ensures, c .before .before .before .before .before .own-length .ensures))
 
 pub put-lists-spec : {M : Type 1} → statement M
 put-lists-spec =

@@ -1,6 +1,7 @@
 use Prim.Native.Nat.{_+_, _*_, _-_, _≤_}
 use mathlib.Core.Path.{refl}
 use native.Mathlib.Omega.{arith}
+use Rattle.table_layout.specs.Places.{literals-at}
 use Rattle.text_encoding.specs.Encoded.{literal-words}
 use Rattle.text_encoding.proofs.Sizes.{literal-length}
 use Rattle.text_encoding.proofs.Writing.{Writing, writing-start, writing-turn, writing-end, one-less}
@@ -8,7 +9,7 @@ use Rattle.text_encoding.proofs.areas.put_literals.Statement.{statement
 use Rattle.text_encoding.proofs.areas.put_literals.Tie as tie
 
 abbrev Inv-loop : tie.InvT-loop
-Inv-loop text nodes n table₀ i₀ table i = (i ≤ n) × Writing table₀ 5696 n 0 (literal-words text nodes) table (5696 + 8 * i) (n - i) i
+Inv-loop text nodes n table₀ i₀ table i = (i ≤ n) × Writing table₀ literals-at n 0 (literal-words text nodes) table (literals-at + 8 * i) (n - i) i
 
 abbrev μ-loop : tie.MeasureT-loop
 μ-loop text nodes n table₀ i₀ table i = n - i

@@ -2,6 +2,7 @@ use Prim.Native.Nat.{_+_, _*_, _-_, _≤_}
 use mathlib.Core.Path.{_≡_, refl}
 use native.Mathlib.Omega.{arith}
 use borrow.Author.Needs.{needs}
+use Rattle.table_layout.specs.Places.{rules-at}
 use Rattle.text_encoding.specs.Lists.{written}
 use Rattle.text_encoding.specs.Encoded.{rule-words}
 use Rattle.text_encoding.proofs.Writing.{Writing, writing-start, writing-turn, writing-end, one-less}
@@ -9,7 +10,7 @@ use Rattle.text_encoding.proofs.areas.put_rules.Statement.{statement}
 use Rattle.text_encoding.proofs.areas.put_rules.Tie as tie
 
 abbrev Inv-loop : tie.InvT-loop
-Inv-loop nodes rules r table₀ k₀ table k = (k ≤ r) × Writing table₀ 64 r 0 (rule-words nodes rules) table (64 + 4 * k) (r - k) k
+Inv-loop nodes rules r table₀ k₀ table k = (k ≤ r) × Writing table₀ rules-at r 0 (rule-words nodes rules) table (rules-at + 4 * k) (r - k) k
 
 abbrev μ-loop : tie.MeasureT-loop
 μ-loop nodes rules r table₀ k₀ table k = r - k
@@ -48,7 +49,7 @@ loop-less : tie.Need-loop-less Inv-loop μ-loop
 loop-less c = omega arith
 
 loop-again : tie.Need-loop-again Inv-loop μ-loop
-loop-again c = let e : c .before .before .put-four .last .0 ≡ written (c .before .before .before .before .before .before .before .before .before .before .loop .table) (64 + 4 * c .before .before .before .before .before .before .before .before .before .before .loop .k) (rule-words (c .before .before .before .before .before .before .before .before .before .before .before .before .before .before .args .nodes .now) (c .before .before .before .before .before .before .before .before .before .before .before .before .before .before .args .rules .now) (c .before .before .before .before .before .before .before .before .before .before .loop .k)) = simp (c .before .before .put-four .ensures, c .before .before .before .less .ensures, c .before .before .before .before .before .binders-before2 .ensures .0, c .before .before .before .before .before .before .rule-word2 .ensures, c .before .before .before .before .before .before .before .binders-before .ensures .0, c .before .before .before .before .before .before .before .before .rule-word .ensures) in (omega arith, writing-turn (c .before .before .before .before .before .before .before .before .before .before .loop .inv .1) (one-less _ _ (c .before .before .before .before .before .before .before .before .before .loop-test .taken)) refl (omega arith) e)
+loop-again c = let e : c .before .before .put-four .last .0 ≡ written (c .before .before .before .before .before .before .before .before .before .before .loop .table) (rules-at + 4 * c .before .before .before .before .before .before .before .before .before .before .loop .k) (rule-words (c .before .before .before .before .before .before .before .before .before .before .before .before .before .before .args .nodes .now) (c .before .before .before .before .before .before .before .before .before .before .before .before .before .before .args .rules .now) (c .before .before .before .before .before .before .before .before .before .before .loop .k)) = simp (c .before .before .put-four .ensures, c .before .before .before .less .ensures, c .before .before .before .before .before .binders-before2 .ensures .0, c .before .before .before .before .before .before .rule-word2 .ensures, c .before .before .before .before .before .before .before .binders-before .ensures .0, c .before .before .before .before .before .before .before .before .rule-word .ensures) in (omega arith, writing-turn (c .before .before .before .before .before .before .before .before .before .before .loop .inv .1) (one-less _ _ (c .before .before .before .before .before .before .before .before .before .loop-test .taken)) refl (omega arith) e)
 
 same-length : tie.Need-same-length Inv-loop μ-loop
 same-length c = c .before .loop .inv .1 .same

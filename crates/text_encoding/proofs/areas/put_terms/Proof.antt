@@ -1,6 +1,7 @@
 use Prim.Native.Nat.{_+_, _*_, _-_, _≤_}
 use mathlib.Core.Path.{_≡_, refl, ap₂}
 use native.Mathlib.Omega.{arith}
+use Rattle.table_layout.specs.Places.{terms-at}
 use Rattle.text_encoding.specs.Numbers.{lists-length, condition-start}
 use Rattle.text_encoding.specs.Lists.{written}
 use Rattle.text_encoding.specs.Encoded.{lists-words}
@@ -11,7 +12,7 @@ use Rattle.text_encoding.proofs.areas.put_terms.Statement.{statement}
 use Rattle.text_encoding.proofs.areas.put_terms.Tie as tie
 
 abbrev Inv-loop : tie.InvT-loop
-Inv-loop text nodes terms rules n r table₀ q₀ i₀ table q i = (i ≤ n) × (q ≡ condition-start nodes i) × Writing table₀ 2624 n 0 (lists-words text nodes terms rules r) table (2624 + 3 * q) (n - i) i
+Inv-loop text nodes terms rules n r table₀ q₀ i₀ table q i = (i ≤ n) × (q ≡ condition-start nodes i) × Writing table₀ terms-at n 0 (lists-words text nodes terms rules r) table (terms-at + 3 * q) (n - i) i
 
 abbrev μ-loop : tie.MeasureT-loop
 μ-loop text nodes terms rules n r table₀ q₀ i₀ table q i = n - i
@@ -44,7 +45,7 @@ loop-less : tie.Need-loop-less Inv-loop μ-loop
 loop-less c = omega arith
 
 loop-again : tie.Need-loop-again Inv-loop μ-loop
-loop-again c = let e : c .before .before .before .before .put-lists .last .1 .1 .1 .1 .1 .1 .0 ≡ written (c .before .before .before .before .before .before .before .before .loop .table) (2624 + 3 * c .before .before .before .before .before .before .before .before .loop .q) (lists-words (c .before .before .before .before .before .before .before .before .before .before .before .before .before .before .args .text .now) (c .before .before .before .before .before .before .before .before .before .before .before .before .before .before .args .nodes .now) (c .before .before .before .before .before .before .before .before .before .before .before .before .before .before .args .terms .now) (c .before .before .before .before .before .before .before .before .before .before .before .before .before .before .args .rules .now) (c .before .before .before .before .before .before .before .before .before .before .before .before .before .before .args .r) (c .before .before .before .before .before .before .before .before .loop .i)) = simp (c .before .before .before .before .put-lists .ensures, c .before .before .before .before .before .before .first-at .ensures .0) in (omega arith, sum-turn (c .before .before .before .before .before .before .before .before .loop .i) (c .before .condition-length .result + c .own-length .result) (c .before .before .before .before .before .before .before .before .loop .q) (lists-length (c .before .before .before .before .before .before .before .before .before .before .before .before .before .before .args .nodes .now)) (c .before .before .before .before .before .before .before .before .loop .inv .1) (ap₂ _+_ (c .before .condition-length .ensures) (c .own-length .ensures)), writing-turn (c .before .before .before .before .before .before .before .before .loop .inv .2) (one-less _ _ (c .before .before .before .before .before .before .before .loop-test .taken)) refl (omega (arith, c .before .condition-length .ensures, c .own-length .ensures, lists-words-length (c .before .before .before .before .before .before .before .before .before .before .before .before .before .before .args .text .now) (c .before .before .before .before .before .before .before .before .before .before .before .before .before .before .args .nodes .now) (c .before .before .before .before .before .before .before .before .before .before .before .before .before .before .args .terms .now) (c .before .before .before .before .before .before .before .before .before .before .before .before .before .before .args .rules .now) (c .before .before .before .before .before .before .before .before .before .before .before .before .before .before .args .r) (c .before .before .before .before .before .before .before .before .loop .i))) e)
+loop-again c = let e : c .before .before .before .before .put-lists .last .1 .1 .1 .1 .1 .1 .0 ≡ written (c .before .before .before .before .before .before .before .before .loop .table) (terms-at + 3 * c .before .before .before .before .before .before .before .before .loop .q) (lists-words (c .before .before .before .before .before .before .before .before .before .before .before .before .before .before .args .text .now) (c .before .before .before .before .before .before .before .before .before .before .before .before .before .before .args .nodes .now) (c .before .before .before .before .before .before .before .before .before .before .before .before .before .before .args .terms .now) (c .before .before .before .before .before .before .before .before .before .before .before .before .before .before .args .rules .now) (c .before .before .before .before .before .before .before .before .before .before .before .before .before .before .args .r) (c .before .before .before .before .before .before .before .before .loop .i)) = simp (c .before .before .before .before .put-lists .ensures, c .before .before .before .before .before .before .first-at .ensures .0) in (omega arith, sum-turn (c .before .before .before .before .before .before .before .before .loop .i) (c .before .condition-length .result + c .own-length .result) (c .before .before .before .before .before .before .before .before .loop .q) (lists-length (c .before .before .before .before .before .before .before .before .before .before .before .before .before .before .args .nodes .now)) (c .before .before .before .before .before .before .before .before .loop .inv .1) (ap₂ _+_ (c .before .condition-length .ensures) (c .own-length .ensures)), writing-turn (c .before .before .before .before .before .before .before .before .loop .inv .2) (one-less _ _ (c .before .before .before .before .before .before .before .loop-test .taken)) refl (omega (arith, c .before .condition-length .ensures, c .own-length .ensures, lists-words-length (c .before .before .before .before .before .before .before .before .before .before .before .before .before .before .args .text .now) (c .before .before .before .before .before .before .before .before .before .before .before .before .before .before .args .nodes .now) (c .before .before .before .before .before .before .before .before .before .before .before .before .before .before .args .terms .now) (c .before .before .before .before .before .before .before .before .before .before .before .before .before .before .args .rules .now) (c .before .before .before .before .before .before .before .before .before .before .before .before .before .before .args .r) (c .before .before .before .before .before .before .before .before .loop .i))) e)
 
 same-length : tie.Need-same-length Inv-loop μ-loop
 same-length c = c .before .loop .inv .2 .same

@@ -1,6 +1,7 @@
 use Prim.Native.Nat.{_+_, _*_, _-_, _≤_}
 use mathlib.Core.Path.{_≡_, refl}
 use native.Mathlib.Omega.{arith}
+use Rattle.table_layout.specs.Places.{variables-at}
 use Rattle.text_encoding.specs.Numbers.{binds-one, binders-before}
 use Rattle.text_encoding.specs.Encoded.{variable-words}
 use Rattle.text_encoding.proofs.Sums.{sum-none, sum-next}
@@ -10,7 +11,7 @@ use Rattle.text_encoding.proofs.areas.put_variables.Statement.{statemen
 use Rattle.text_encoding.proofs.areas.put_variables.Tie as tie
 
 abbrev Inv-loop : tie.InvT-loop
-Inv-loop text nodes n table₀ x₀ i₀ table x i = (i ≤ n) × (x ≡ binders-before nodes i) × Writing table₀ 320 n 0 (variable-words text nodes) table (320 + 4 * x) (n - i) i
+Inv-loop text nodes n table₀ x₀ i₀ table x i = (i ≤ n) × (x ≡ binders-before nodes i) × Writing table₀ variables-at n 0 (variable-words text nodes) table (variables-at + 4 * x) (n - i) i
 
 abbrev μ-loop : tie.MeasureT-loop
 μ-loop text nodes n table₀ x₀ i₀ table x i = n - i

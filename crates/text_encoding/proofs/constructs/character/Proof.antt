@@ -1,5 +1,6 @@
 use mathlib.Core.Path.{_∙_}
 use native.Mathlib.Omega.{arith}
+use Rattle.basis.specs.Limits.{max-literal-bytes}
 use Rattle.text_literals.proofs.Spelling.{zeros}
 use borrow.Author.Needs.{needs}
 use Rattle.text_encoding.proofs.constructs.character.Statement.{statement}
@@ -9,7 +10,7 @@ slice-aggregate-spelled : tie.Need-slice-aggregate-spelled
 slice-aggregate-spelled c = search needs
 
 spelled-requires : tie.Need-spelled-requires
-spelled-requires c κs = (search needs, zeros 32)
+spelled-requires c κs = (search needs, zeros max-literal-bytes)
 
 slice-aggregate-byte : tie.Need-slice-aggregate-byte
 slice-aggregate-byte c = search needs

@@ -1,5 +1,6 @@
 use Prim.Native.Nat.{_+_, _*_, _-_, _≤_}
 use native.Mathlib.Omega.{arith}
+use Rattle.table_layout.specs.Places.{terms-at}
 use Rattle.text_encoding.specs.Encoded.{term-words}
 use Rattle.text_encoding.proofs.Sizes.{term-length}
 use Rattle.text_encoding.proofs.Writing.{Writing, writing-start, writing-turn, writing-end, one-less}
@@ -7,7 +8,7 @@ use Rattle.text_encoding.proofs.constructs.list.Statement.{statement}
 use Rattle.text_encoding.proofs.constructs.list.Tie as tie
 
 abbrev Inv-loop : tie.InvT-loop
-Inv-loop text nodes terms a i t n q table₀ j₀ table j = (j ≤ n) × Writing table₀ (2624 + 3 * q) n t (term-words text nodes terms a i) table (2624 + 3 * (q + j)) (n - j) (t + j)
+Inv-loop text nodes terms a i t n q table₀ j₀ table j = (j ≤ n) × Writing table₀ (terms-at + 3 * q) n t (term-words text nodes terms a i) table (terms-at + 3 * (q + j)) (n - j) (t + j)
 
 abbrev μ-loop : tie.MeasureT-loop
 μ-loop text nodes terms a i t n q table₀ j₀ table j = n - j

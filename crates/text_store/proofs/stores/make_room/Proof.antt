@@ -1,3 +1,5 @@
+use Rattle.text_store.specs.Words.{nodes-room}
+use Rattle.basis.specs.Limits.{max-constructs}
 use Rattle.text_store.specs.Store.{room}
 use Rattle.text_store.proofs.Rooms.{moved, moved-turn, moved-room}
 use native.Mathlib.Omega.{arith}
@@ -9,14 +11,14 @@ use Rattle.text_store.proofs.stores.make_room.Reads as reads
 use Rattle.text_store.proofs.stores.make_room.Lts as lts
 
 abbrev Inv-loop : tie.InvT-loop
-Inv-loop i nodes₀ k₀ nodes k = (10 * i + 10 ≤ k) × (k ≤ 2560) × (moved (k - (10 * i + 10)) nodes (10 * i) ≡ room nodes₀ i)
+Inv-loop i nodes₀ k₀ nodes k = (10 * i + 10 ≤ k) × (k ≤ nodes-room) × (moved (k - (10 * i + 10)) nodes (10 * i) ≡ room nodes₀ i)
 
 abbrev μ-loop : tie.MeasureT-loop
 μ-loop i nodes₀ k₀ nodes k = k
 
 -- src/words.rt:107:5
 loop-holds : tie.Need-loop-holds Inv-loop μ-loop
-loop-holds c = (omega arith, omega arith, ap (λ (n : ℕ). moved n ((c) .args .nodes .now) (10 * (c) .args .i)) (let z : 2560 - (10 * (c) .args .i + 10) ≡ 2550 - 10 * (c) .args .i = omega arith in z) ∙ moved-room ((c) .args .nodes .now) ((c) .args .i) (let z : (c) .args .i < 256 = omega arith in z))
+loop-holds c = (omega arith, omega arith, ap (λ (n : ℕ). moved n ((c) .args .nodes .now) (10 * (c) .args .i)) (let z : nodes-room - (10 * (c) .args .i + 10) ≡ nodes-room - 10 - 10 * (c) .args .i = omega arith in z) ∙ moved-room ((c) .args .nodes .now) ((c) .args .i) (let z : (c) .args .i < max-constructs = omega arith in z))
 
 -- src/words.rt:107:11
 mul-loop : tie.Need-mul-loop Inv-loop μ-loop

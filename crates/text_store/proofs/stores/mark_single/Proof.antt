@@ -1,3 +1,4 @@
+use Rattle.basis.specs.Limits.{max-terms}
 use Rattle.text_store.proofs.Putting.{single-first, single-later}
 use Rattle.text_store.specs.Store.{marked-tag, put-single}
 use borrow.Author.Tests.{lt-leb}
@@ -11,7 +12,7 @@ use Rattle.text_store.proofs.stores.marked_tag.Reads as marked-tag-read
 -- src/words.rt:91:9
 returns : tie.Need-returns
 unfolding put-single
-returns c = rw (lt-leb ((c .before) .args .t) 1024 ((c .if1) .taken))
+returns c = rw (lt-leb ((c .before) .args .t) max-terms ((c .if1) .taken))
 
 -- src/words.rt:94:31
 element-copy-out-marked-tag : tie.Need-element-copy-out-marked-tag

@@ -1,3 +1,4 @@
+use Rattle.basis.specs.Limits.{max-constructs}
 use Rattle.text_store.specs.Store.{put-condition}
 use borrow.Author.Tests.{lt-ltb, le-ltb}
 use borrow.Author.Needs.{needs}
@@ -9,7 +10,7 @@ use Rattle.text_store.proofs.stores.put_condition.Lts as lts
 -- src/words.rt:205:9
 returns : tie.Need-returns
 unfolding put-condition
-returns c = rw (le-ltb ((c .before) .args .i) 256 ((c .if1) .taken))
+returns c = rw (le-ltb ((c .before) .args .i) max-constructs ((c .if1) .taken))
 
 -- src/words.rt:207:11
 mul-nodes : tie.Need-mul-nodes
@@ -46,7 +47,7 @@ element-write-nodes-2 c = search needs
 -- src/words.rt:201:1
 returns-2 : tie.Need-returns-2
 unfolding put-condition
-returns-2 c = rw (lt-ltb ((c .before) .args .i) 256 ((c .if1) .left))
+returns-2 c = rw (lt-ltb ((c .before) .args .i) max-constructs ((c .if1) .left))
 
 pub put-condition-spec : {M : Type 1} → statement M
 put-condition-spec =

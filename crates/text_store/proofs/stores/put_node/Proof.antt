@@ -1,3 +1,4 @@
+use Rattle.basis.specs.Limits.{max-constructs}
 use Rattle.text_store.proofs.Putting.{node-put}
 use Rattle.text_store.specs.Store.{put-words, put-node}
 use borrow.Author.Tests.{le-ltb}
@@ -12,7 +13,7 @@ use Rattle.text_store.proofs.stores.put_words.Reads as put-words-reads
 -- src/words.rt:165:9
 returns : tie.Need-returns
 unfolding put-node
-returns c = rw (le-ltb ((c .before) .args .i) 256 ((c .if1) .taken))
+returns c = rw (le-ltb ((c .before) .args .i) max-constructs ((c .if1) .taken))
 
 -- src/words.rt:167:5
 make-room-requires : tie.Need-make-room-requires

@@ -1,3 +1,4 @@
+use Rattle.text_store.specs.Words.{rules-kept}
 use Rattle.text_store.specs.Store.{put-rule}
 use borrow.Author.Tests.{lt-ltb, le-ltb}
 use borrow.Author.Needs.{needs}
@@ -9,7 +10,7 @@ use Rattle.text_store.proofs.stores.put_rule.Lts as lts
 -- src/words.rt:238:9
 returns : tie.Need-returns
 unfolding put-rule
-returns c = rw (le-ltb ((c .before) .args .r) 65 ((c .if1) .taken))
+returns c = rw (le-ltb ((c .before) .args .r) rules-kept ((c .if1) .taken))
 
 -- src/words.rt:240:13
 mul-k : tie.Need-mul-k
@@ -74,7 +75,7 @@ element-write-rules-5 c = search needs
 -- src/words.rt:226:1
 returns-2 : tie.Need-returns-2
 unfolding put-rule
-returns-2 c = rw (lt-ltb ((c .before) .args .r) 65 ((c .if1) .left))
+returns-2 c = rw (lt-ltb ((c .before) .args .r) rules-kept ((c .if1) .left))
 
 pub put-rule-spec : {M : Type 1} → statement M
 put-rule-spec =

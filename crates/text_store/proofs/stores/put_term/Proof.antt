@@ -1,3 +1,4 @@
+use Rattle.basis.specs.Limits.{max-terms}
 use Rattle.text_store.specs.Store.{put-term}
 use borrow.Author.Tests.{lt-ltb, le-ltb}
 use borrow.Author.Needs.{needs}
@@ -9,7 +10,7 @@ use Rattle.text_store.proofs.stores.put_term.Lts as lts
 -- src/words.rt:31:9
 returns : tie.Need-returns
 unfolding put-term
-returns c = rw (le-ltb ((c .before) .args .t) 1024 ((c .if1) .taken))
+returns c = rw (le-ltb ((c .before) .args .t) max-terms ((c .if1) .taken))
 
 -- src/words.rt:33:13
 mul-k : tie.Need-mul-k
@@ -62,7 +63,7 @@ element-write-terms-4 c = search needs
 -- src/words.rt:20:1
 returns-2 : tie.Need-returns-2
 unfolding put-term
-returns-2 c = rw (lt-ltb ((c .before) .args .t) 1024 ((c .if1) .left))
+returns-2 c = rw (lt-ltb ((c .before) .args .t) max-terms ((c .if1) .left))
 
 pub put-term-spec : {M : Type 1} → statement M
 put-term-spec =
