@@ -26,7 +26,7 @@ use Rattle.table_layout.specs.Held.{Context, size-of, term-words, terms-of, ope
 use Rattle.table_layout.specs.declared.Construct.{Construct}
 use Rattle.table_layout.specs.declared.Passes.{Passes}
 use Rattle.table_wellformed.specs.Checks.{size-at}
-use Rattle.table_wellformed.proofs.Decoded.{Fine, fine}
+use Rattle.table_layout.proofs.Bounds.{Fine, fine}
 use Rattle.table_structure.proofs.RuleLaws.{rule-of, rule-within}
 use Rattle.table_structure.proofs.Owners.{rule-holds}
 use Rattle.table_structure.proofs.NodeFacts.{present, use-names, body-exists}

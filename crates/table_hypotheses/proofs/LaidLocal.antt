@@ -20,7 +20,7 @@ use Rattle.table_wellformed.specs.Parts.{unconditioned, part-laid, parts-laid}
 use Rattle.table_wellformed.specs.Lists.{formed, zero-values, list-formed, condition-formed}
 use Rattle.table_wellformed.specs.Rules.{named-back}
 use Rattle.table_wellformed.specs.Laid.{operands-zero, chain-laid, passes-laid, kind-laid, literal-length, byte-laid, construct-laid}
-use Rattle.table_wellformed.proofs.Decoded.{Fine, fine}
+use Rattle.table_layout.proofs.Bounds.{Fine, fine}
 use Rattle.table_first_follow.proofs.HeldLaws.{missing}
 use Rattle.table_hypotheses.specs.OneTable.{Alike}
 use Rattle.table_hypotheses.proofs.HeldLocal.{construct-words, variable-words, constructs-same, terms-same}

@@ -22,7 +22,7 @@ use Rattle.table_wellformed.specs.Parts.{unconditioned}
 use Rattle.table_wellformed.specs.Lists.{own-start, own-end, begins, after, lists-begin, after-lists, lists-from, lists-laid, has-low, term-laid}
 use Rattle.table_wellformed.specs.Rules.{body, rule-end, rule-laid, binder-of, variable-laid, member-laid, next-variable, binders-from, is-concatenation, binders-laid, visible, operation-named, term-named, list-named, construct-named, uses-laid}
 use Rattle.table_wellformed.specs.Laid.{headed, construct-laid, placed, laid}
-use Rattle.table_wellformed.proofs.Decoded.{Fine, fine}
+use Rattle.table_layout.proofs.Bounds.{Fine, fine}
 use Rattle.table_structure.proofs.Facts.{Laid, facts}
 use Rattle.table_structure.proofs.RuleLaws.{next-begins, last-ends, rule-fact, rule-within}
 use Rattle.table_structure.proofs.NodeFacts.{body-exists}

@@ -22,7 +22,7 @@ use Rattle.table_layout.specs.Held.{Context, Values, HeldNode, use-node, node-o
 use Rattle.table_layout.specs.declared.Construct.{Construct}
 use Rattle.table_wellformed.specs.Rules.{binder-of}
 use Rattle.table_wellformed.specs.Laid.{laid}
-use Rattle.table_wellformed.proofs.Decoded.{picked}
+use Rattle.table_layout.proofs.Bounds.{picked}
 use Rattle.table_reach.specs.Reaching.{Acyclic}
 use Rattle.table_structure.proofs.Facts.{Laid, facts}
 use Rattle.table_structure.proofs.RuleLaws.{rule-of, rule-fact}

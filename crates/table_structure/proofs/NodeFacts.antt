@@ -21,7 +21,7 @@ use Rattle.table_wellformed.specs.Checks.{all-zero}
 use Rattle.table_wellformed.specs.Rules.{body}
 use Rattle.table_wellformed.specs.Laid.{operands-zero, kind-laid}
 use Rattle.table_wellformed.proofs.Walks.{both-first, both-second}
-use Rattle.table_wellformed.proofs.Decoded.{picked, Fine, fine}
+use Rattle.table_layout.proofs.Bounds.{picked, Fine, fine}
 use Rattle.table_structure.proofs.Facts.{Laid, each}
 use Rattle.table_structure.proofs.RuleLaws.{rule-fact, rule-within}
 

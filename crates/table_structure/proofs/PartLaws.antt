@@ -15,7 +15,7 @@ use Rattle.table_wellformed.specs.Checks.{size-at}
 use Rattle.table_wellformed.specs.Parts.{part-laid, parts-laid}
 use Rattle.table_wellformed.specs.Laid.{operands-zero, second-part, construct-end, passes-laid, kind-laid}
 use Rattle.table_wellformed.proofs.Walks.{both-first, both-second}
-use Rattle.table_wellformed.proofs.Decoded.{fine}
+use Rattle.table_layout.proofs.Bounds.{fine}
 use Rattle.table_structure.proofs.Tiles.{Tiles, none, tiles, parts-more, parts-none}
 use Rattle.table_structure.proofs.Facts.{Laid}
 

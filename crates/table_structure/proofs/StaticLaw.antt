@@ -32,7 +32,7 @@ use Rattle.table_layout.specs.Constructs.{constructAt}
 use Rattle.table_layout.specs.Held.{Context, Values, HeldNode, term-words, terms-of, parts, allowed, isYes, passes-allowed, passes-static, isExact, passes-fixed, first-case, in-set, in-static-set, node-of, opening, held}
 use Rattle.table_layout.specs.declared.Construct.{Construct}
 use Rattle.table_layout.specs.declared.Passes.{Passes}
-use Rattle.table_wellformed.proofs.Decoded.{picked}
+use Rattle.table_layout.proofs.Bounds.{picked}
 use Rattle.table_structure.proofs.Reading.{membership-same, counts-same, no-variable, none-same}
 
 -- what a node's static part is to cover
