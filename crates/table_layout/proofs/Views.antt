@@ -1,12 +1,13 @@
 -- A construct by its attributes: those that a question does not concern fall together.
 -- Assumes nothing.
 use Prim.Native.Nat.{ℕ, _<_}
-use mathlib.Core.Path.{_≡_, refl}
+use mathlib.Core.Path.{_≡_, refl, sym, subst}
+use mathlib.Core.Logic.{_⊎_, inl, inr}
 use mathlib.Core.Bool.{Bool}
-use mathlib.Core.List.{List}
+use mathlib.Core.List.{List, []}
 use native.Mathlib.Omega.{arith}
 use Rattle.basis.specs.Bits.{Bits}
-use Rattle.theory.specs.Grammar.{field, eod}
+use Rattle.theory.specs.Grammar.{alternative, field, eod}
 use Rattle.table_layout.specs.Attributes.{attributes-of}
 use Rattle.table_layout.specs.Held.{Context, Values, HeldNode, size-of, node-of}
 use Rattle.table_layout.specs.declared.Construct.{Construct}
@@ -59,39 +60,70 @@ leaf-node ws i P f e (Construct.Range low high) l = f _ _ _ _
 leaf-node ws i P f e (Construct.Uint width start end binder) l = f _ _ _ _
 leaf-node ws i P f e Construct.Eod l = e
 
--- a use by the rule that it names
-pub use-by : (c : Construct) → Parted c → (q : ℕ) → q < 64 → attributes-of c .rule ≡ q → c ≡ Construct.Use q
-use-by _ missing q h e = absurd (omega arith)
-use-by _ (branches size) q h e = absurd (omega arith)
-use-by _ (members size) q h e = absurd (omega arith)
-use-by _ (body size passes) q h e = absurd (omega arith)
-use-by _ (cases size) q h e = absurd (omega arith)
-use-by _ (opens rule) q h e = cc
-use-by _ (leaf l) q h e = absurd (omega (arith, l .rule))
+-- a construct, from what stands below it
+abbrev pub Is : Construct → Below → Type 0
+Is c Below.Nothing = (c ≡ Construct.Missing) ⊎ Leaf c
+Is c Below.Branches = c ≡ Construct.Alternative (size-of c)
+Is c Below.Members = c ≡ Construct.Concatenation (size-of c)
+Is c (Below.Body passes) = c ≡ Construct.Repetition (size-of c) passes
+Is c Below.Cases = c ≡ Construct.Switch (size-of c)
+Is c Below.Rule = c ≡ Construct.Use (attributes-of c .rule)
 
--- ---- by its own list of terms
+is-parted : {c : Construct} → Parted c → Is c (attributes-of c .below)
+is-parted missing = inl refl
+is-parted (branches size) = refl
+is-parted (members size) = refl
+is-parted (body size passes) = refl
+is-parted (cases size) = refl
+is-parted (opens rule) = refl
+is-parted {c} (leaf l) = subst (Is c) (sym (l .below)) (inr l)
+
+pub is-by : (c : Construct) (b : Below) → attributes-of c .below ≡ b → Is c b
+is-by c b e = subst (Is c) e (is-parted (parted c))
+
+-- with nothing below it: its node is a field, eod or, where it is missing, an alternative without branches
+pub quiet-node : (ws : List ℕ) (i : ℕ) (P : HeldNode → Type 0) → P (alternative [])
+    → ((w : Bits → ℕ) (admits : Context → Values → Bits → Bool) (static : Bits → Bool) (binds : Context → Values → Bits → Values) → P (field w admits static binds)) → P eod
+    → (c : Construct) → attributes-of c .below ≡ Below.Nothing → P (node-of ws i c)
+unfolding node-of
+quiet-node ws i P n f e c q =
+    elim (is-by c Below.Nothing q) [ inl m ↦ subst (λ (d : Construct). P (node-of ws i d)) (sym m) n | inr l ↦ leaf-node ws i P f e c l ]
+
+-- a use by the rule that it names
+pub use-by : {c : Construct} → Parted c → (q : ℕ) → q < 64 → attributes-of c .rule ≡ q → c ≡ Construct.Use q
+use-by missing q h e = absurd (omega arith)
+use-by (branches size) q h e = absurd (omega arith)
+use-by (members size) q h e = absurd (omega arith)
+use-by (body size passes) q h e = absurd (omega arith)
+use-by (cases size) q h e = absurd (omega arith)
+use-by (opens rule) q h e = cc
+use-by (leaf l) q h e = absurd (omega (arith, l .rule))
+
+-- ---- by its list of terms or its characters
 
 -- it has none, and binds nothing
-pub record Listless (c : Construct) : Type 0 where
+pub record Plain (c : Construct) : Type 0 where
   pub own : attributes-of c .own ≡ OwnList.None
   pub binder : attributes-of c .binder ≡ 0
+  pub length : attributes-of c .length ≡ 0
 
-pub data Listing : Construct → Type 0 where
-  counts : (size start end : ℕ) → Listing (Construct.Repetition size (Passes.Counted start end))
-  set : (width start end binder : ℕ) → Listing (Construct.Uint width start end binder)
-  none : {c : Construct} → Listless c → Listing c
+pub data Operands : Construct → Type 0 where
+  counts : (size start end : ℕ) → Operands (Construct.Repetition size (Passes.Counted start end))
+  characters : (length : ℕ) → Operands (Construct.Literal length)
+  set : (width start end binder : ℕ) → Operands (Construct.Uint width start end binder)
+  plain : {c : Construct} → Plain c → Operands c
 
-pub listing : (c : Construct) → Listing c
-listing Construct.Missing = none record { own = refl; binder = refl }
-listing (Construct.Alternative size) = none record { own = refl; binder = refl }
-listing (Construct.Concatenation size) = none record { own = refl; binder = refl }
-listing (Construct.Repetition size Passes.Optional) = none record { own = refl; binder = refl }
-listing (Construct.Repetition size Passes.Any) = none record { own = refl; binder = refl }
-listing (Construct.Repetition size Passes.Some) = none record { own = refl; binder = refl }
-listing (Construct.Repetition size (Passes.Counted start end)) = counts size start end
-listing (Construct.Switch size) = none record { own = refl; binder = refl }
-listing (Construct.Use rule) = none record { own = refl; binder = refl }
-listing (Construct.Literal length) = none record { own = refl; binder = refl }
-listing (Construct.Range low high) = none record { own = refl; binder = refl }
-listing (Construct.Uint width start end binder) = set width start end binder
-listing Construct.Eod = none record { own = refl; binder = refl }
+pub operands : (c : Construct) → Operands c
+operands Construct.Missing = plain record { own = refl; binder = refl; length = refl }
+operands (Construct.Alternative size) = plain record { own = refl; binder = refl; length = refl }
+operands (Construct.Concatenation size) = plain record { own = refl; binder = refl; length = refl }
+operands (Construct.Repetition size Passes.Optional) = plain record { own = refl; binder = refl; length = refl }
+operands (Construct.Repetition size Passes.Any) = plain record { own = refl; binder = refl; length = refl }
+operands (Construct.Repetition size Passes.Some) = plain record { own = refl; binder = refl; length = refl }
+operands (Construct.Repetition size (Passes.Counted start end)) = counts size start end
+operands (Construct.Switch size) = plain record { own = refl; binder = refl; length = refl }
+operands (Construct.Use rule) = plain record { own = refl; binder = refl; length = refl }
+operands (Construct.Literal length) = characters length
+operands (Construct.Range low high) = plain record { own = refl; binder = refl; length = refl }
+operands (Construct.Uint width start end binder) = set width start end binder
+operands Construct.Eod = plain record { own = refl; binder = refl; length = refl }

@@ -7,6 +7,7 @@ use lib.Dec.{ltb, eqb}
 use lib.ListN.{length, getD}
 use Rattle.table_layout.specs.Places.{rule-count}
 use Rattle.table_layout.specs.Constructs.{pick, constructAt}
+use Rattle.table_layout.specs.Attributes.{attributes-of}
 use Rattle.table_layout.specs.declared.Construct.{Construct}
 use Rattle.lookahead.specs.Sets.{bit}
 use Rattle.table_reach.specs.Reaching.{body-of, rule-end}
@@ -19,16 +20,7 @@ some-of (suc n) f i = max (f i) (some-of n f (i + 1))
 
 -- the rule that a construct uses; 64, which is no rule's number, where it uses none
 abbrev pub used-rule : Construct → ℕ
-used-rule Construct.Missing = 64
-used-rule (Construct.Alternative size) = 64
-used-rule (Construct.Concatenation size) = 64
-used-rule (Construct.Repetition size passes) = 64
-used-rule (Construct.Switch size) = 64
-used-rule (Construct.Use rule) = rule
-used-rule (Construct.Literal length) = 64
-used-rule (Construct.Range low high) = 64
-used-rule (Construct.Uint width start end binder) = 64
-used-rule Construct.Eod = 64
+used-rule c = attributes-of c .rule
 
 -- whether construct i is a use of rule q
 abbrev pub calls : List ℕ → ℕ → ℕ → ℕ

@@ -10,6 +10,7 @@ ghost use Rattle.table_reach.specs.Closure.{used-rule, uses-between, use
 use super::Recursion;
 use super::at_most;
 use table_layout::Construct;
+use table_layout::attributes_of;
 use table_layout::construct_at;
 use table_layout::word;
 
@@ -25,23 +26,7 @@ fn has(row: u64, q: usize) -> bool
 fn rule_used(construct: Construct) -> usize
     ensures { λ r. ⌜ r ≡ used-rule construct ⌝ }
 {
-    match construct {
-        Construct::Missing => 64,
-        Construct::Alternative { size: _ } => 64,
-        Construct::Concatenation { size: _ } => 64,
-        Construct::Repetition { size: _, passes: _ } => 64,
-        Construct::Switch { size: _ } => 64,
-        Construct::Use { rule } => rule,
-        Construct::Literal { length: _ } => 64,
-        Construct::Range { low: _, high: _ } => 64,
-        Construct::Uint {
-            width: _,
-            start: _,
-            end: _,
-            binder: _,
-        } => 64,
-        Construct::Eod => 64,
-    }
+    attributes_of(construct).rule
 }
 
 // The row with the use of a rule.
