@@ -27,8 +27,8 @@ use Rattle.table_reach.specs.Reaching.{Acyclic}
 use Rattle.table_structure.proofs.Facts.{Laid, facts}
 use Rattle.table_structure.proofs.RuleLaws.{rule-of, rule-fact}
 use Rattle.table_structure.proofs.Owners.{rule-holds}
-use Rattle.table_structure.proofs.NodeFacts.{use-names, missing-past, values-stay}
-use Rattle.table_structure.proofs.StaticLaw.{static}
+use Rattle.table_structure.proofs.NodeFacts.{use-names, missing-past}
+use Rattle.table_structure.proofs.StaticLaw.{static, values-stay}
 use Rattle.table_scope.specs.Scope.{store, fresh, bound-by, bound-at, seen-at, scope-of}
 use Rattle.table_scope.proofs.Seen.{seen-first}
 use Rattle.table_scope.proofs.Levels.{stands}
