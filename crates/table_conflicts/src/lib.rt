@@ -8,7 +8,7 @@ ghost use Rattle.term_evaluation.specs.Counts.{formOf};
 ghost use Rattle.lookahead.specs.Sets.{Decides};
 ghost use Rattle.table_first_follow.specs.Rounds.{strings};
 ghost use Rattle.table_first_follow.specs.Parts.{siblings};
-ghost use Rattle.table_first_follow.proofs.HeldLaws.{Fine};
+ghost use Rattle.table_layout.proofs.Bounds.{Fine};
 ghost use Rattle.table_conflicts.specs.Clashes.{Branching, Turning, Repeating, ClashOf, EmptyAt};
 use table_first_follow::parts::set_of;
 use table_layout::Construct;

@@ -1,6 +1,6 @@
 -- A construct by its attributes: those that a question does not concern fall together.
 -- Assumes nothing.
-use Prim.Native.Nat.{ℕ, _<_}
+use Prim.Native.Nat.{ℕ, _+_, _-_, _≤_, _<_}
 use mathlib.Core.Path.{_≡_, refl, sym, subst}
 use mathlib.Core.Logic.{_⊎_, inl, inr}
 use mathlib.Core.Bool.{Bool}
@@ -8,12 +8,15 @@ use mathlib.Core.List.{List, []}
 use native.Mathlib.Omega.{arith}
 use Rattle.basis.specs.Bits.{Bits}
 use Rattle.theory.specs.Grammar.{alternative, field, eod}
+use Rattle.table_layout.specs.Constructs.{constructAt}
 use Rattle.table_layout.specs.Attributes.{attributes-of}
 use Rattle.table_layout.specs.Held.{Context, Values, HeldNode, size-of, node-of}
 use Rattle.table_layout.specs.declared.Construct.{Construct}
 use Rattle.table_layout.specs.declared.Passes.{Passes}
 use Rattle.table_layout.specs.declared.Below.{Below}
 use Rattle.table_layout.specs.declared.OwnList.{OwnList}
+use Rattle.table_layout.specs.declared.Attributes.{Attributes}
+use Rattle.table_layout.proofs.Bounds.{fine-as, bounds}
 
 -- ---- by what stands below it
 
@@ -60,26 +63,33 @@ leaf-node ws i P f e (Construct.Range low high) l = f _ _ _ _
 leaf-node ws i P f e (Construct.Uint width start end binder) l = f _ _ _ _
 leaf-node ws i P f e Construct.Eod l = e
 
--- a construct, from what stands below it
-abbrev pub Is : Construct → Below → Type 0
-Is c Below.Nothing = (c ≡ Construct.Missing) ⊎ Leaf c
-Is c Below.Branches = c ≡ Construct.Alternative (size-of c)
-Is c Below.Members = c ≡ Construct.Concatenation (size-of c)
-Is c (Below.Body passes) = c ≡ Construct.Repetition (size-of c) passes
-Is c Below.Cases = c ≡ Construct.Switch (size-of c)
-Is c Below.Rule = c ≡ Construct.Use (attributes-of c .rule)
+-- a construct, from its attributes and what stands below it
+abbrev pub Is : Construct → Attributes → Below → Type 0
+Is c a Below.Nothing = (c ≡ Construct.Missing) ⊎ Leaf c
+Is c a Below.Branches = c ≡ Construct.Alternative (a .size)
+Is c a Below.Members = c ≡ Construct.Concatenation (a .size)
+Is c a (Below.Body passes) = c ≡ Construct.Repetition (a .size) passes
+Is c a Below.Cases = c ≡ Construct.Switch (a .size)
+Is c a Below.Rule = c ≡ Construct.Use (a .rule)
 
-is-parted : {c : Construct} → Parted c → Is c (attributes-of c .below)
+is-parted : {c : Construct} → Parted c → Is c (attributes-of c) (attributes-of c .below)
 is-parted missing = inl refl
 is-parted (branches size) = refl
 is-parted (members size) = refl
 is-parted (body size passes) = refl
 is-parted (cases size) = refl
 is-parted (opens rule) = refl
-is-parted {c} (leaf l) = subst (Is c) (sym (l .below)) (inr l)
+is-parted {c} (leaf l) = subst (Is c (attributes-of c)) (sym (l .below)) (inr l)
 
-pub is-by : (c : Construct) (b : Below) → attributes-of c .below ≡ b → Is c b
-is-by c b e = subst (Is c) e (is-parted (parted c))
+pub is-by : (c : Construct) (a : Attributes) → a ≡ attributes-of c → (b : Below) → a .below ≡ b → Is c a b
+is-by c a e b h = subst (Is c a) h (subst (λ (x : Attributes). Is c x (x .below)) (sym e) (is-parted (parted c)))
+
+-- what was read ends by 256, and names one of 64 rules
+pub size-read : (ws : List ℕ) (i : ℕ) (a : Attributes) → a ≡ attributes-of (constructAt ws i) → i < 256 → i + a .size ≤ 256
+size-read ws i a e h = let l : attributes-of (constructAt ws i) .size ≤ 256 - i = bounds ws i .whole in rw e (omega (arith, l))
+
+pub rule-read : (ws : List ℕ) (i : ℕ) (a : Attributes) → a ≡ attributes-of (constructAt ws i) → a .below ≡ Below.Rule → a .rule < 64
+rule-read ws i a e h = fine-as ws i (constructAt ws i) refl (Construct.Use (a .rule)) (is-by (constructAt ws i) a e Below.Rule h) .1
 
 -- with nothing below it: its node is a field, eod or, where it is missing, an alternative without branches
 pub quiet-node : (ws : List ℕ) (i : ℕ) (P : HeldNode → Type 0) → P (alternative [])
@@ -87,7 +97,7 @@ pub quiet-node : (ws : List ℕ) (i : ℕ) (P : HeldNode → Type 0) → P (alte
     → (c : Construct) → attributes-of c .below ≡ Below.Nothing → P (node-of ws i c)
 unfolding node-of
 quiet-node ws i P n f e c q =
-    elim (is-by c Below.Nothing q) [ inl m ↦ subst (λ (d : Construct). P (node-of ws i d)) (sym m) n | inr l ↦ leaf-node ws i P f e c l ]
+    elim (is-by c (attributes-of c) refl Below.Nothing q) [ inl m ↦ subst (λ (d : Construct). P (node-of ws i d)) (sym m) n | inr l ↦ leaf-node ws i P f e c l ]
 
 -- a use by the rule that it names
 pub use-by : {c : Construct} → Parted c → (q : ℕ) → q < 64 → attributes-of c .rule ≡ q → c ≡ Construct.Use q

@@ -16,9 +16,8 @@ use Rattle.table_layout.specs.Held.{first-context, parts, node-of}
 use Rattle.table_layout.specs.declared.Construct.{Construct}
 use Rattle.table_layout.specs.declared.Below.{Below}
 use Rattle.table_layout.specs.declared.Attributes.{Attributes}
-use Rattle.table_layout.proofs.Views.{Parted, parted, leaf-node, is-by}
+use Rattle.table_layout.proofs.Views.{Parted, parted, leaf-node}
 use Rattle.table_reach.specs.Reaching.{body-of}
-use Rattle.table_reach.proofs.Constructs.{use-below}
 use Rattle.table_weights.specs.Ruled.{size-at}
 use Rattle.table_weights.specs.Sweeps.{capped, joined, weighed, gathered}
 
@@ -131,13 +130,6 @@ below-weight ws f i (Parted.body size passes) = refl
 below-weight ws f i (Parted.cases size) = refl
 below-weight ws f i (Parted.opens rule) = refl
 below-weight ws f i (Parted.leaf l) = rw (l .below) (leaf-node ws i (λ n. weigh (λ c j. f j) first-context n ≡ 1) (λ w a s b. refl) refl _ l)
-
--- a rule's number, from what was read
-pub rule-small : (ws : List ℕ) (i : ℕ) (a : Attributes) → a ≡ attributes-of (constructAt ws i) → a .below ≡ Below.Rule → a .rule < 64
-rule-small ws i a e h =
-    let u : constructAt ws i ≡ Construct.Use (attributes-of (constructAt ws i) .rule) = is-by (constructAt ws i) Below.Rule (ap (λ (x : Attributes). x .below) (sym e) ∙ h) in
-    let l : attributes-of (constructAt ws i) .rule < 64 = use-below ws i (attributes-of (constructAt ws i) .rule) u .1 in
-    rw e l
 
 -- a weight, from what was read
 pub weighed-as : (ws xs : List ℕ) (i : ℕ) (a : Attributes) → a ≡ attributes-of (constructAt ws i) → (b : Below) → a .below ≡ b

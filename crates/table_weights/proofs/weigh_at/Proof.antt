@@ -6,9 +6,9 @@ use mathlib.Core.Bool.{true, false}
 use Rattle.table_layout.specs.Attributes.{attributes-of}
 use Rattle.table_layout.specs.declared.Attributes.{Attributes}
 use Rattle.table_layout.specs.declared.Below.{Below}
-use Rattle.table_reach.proofs.Constructs.{size-within}
+use Rattle.table_layout.proofs.Views.{size-read, rule-read}
 use Rattle.table_weights.specs.Sweeps.{capped}
-use Rattle.table_weights.proofs.Parts.{rule-small, weighed-as, parts-weighed, twice}
+use Rattle.table_weights.proofs.Parts.{weighed-as, parts-weighed, twice}
 use borrow.Author.Needs.{needs}
 use Rattle.table_weights.proofs.weigh_at.Statement.{statement}
 use Rattle.table_weights.proofs.weigh_at.Tie as tie
@@ -20,7 +20,7 @@ attributes-of-requires : tie.Need-attributes-of-requires
 attributes-of-requires c κs = search needs
 
 add-end : tie.Need-add-end
-add-end c = let e = ap (λ (x : Attributes). x .size) (c .before .attributes-of .ensures ∙ ap attributes-of (c .before .before .construct-at .ensures)) in omega (arith, size-within (c .before .before .before .before .before .args .table .now) (c .before .before .before .before .before .args .i) (c .before .before .before .before .before .pre))
+add-end c = omega (arith, size-read (c .before .before .before .before .before .args .table .now) (c .before .before .before .before .before .args .i) _ (c .before .attributes-of .ensures ∙ ap attributes-of (c .before .before .construct-at .ensures)) (c .before .before .before .before .before .pre))
 
 enum-told : tie.Need-enum-told
 enum-told c = search needs
@@ -80,7 +80,7 @@ enum-told-6 : tie.Need-enum-told-6
 enum-told-6 c = search needs
 
 body-weight-requires : tie.Need-body-weight-requires
-body-weight-requires c κs = rule-small (c .before .before .before .before .before .before .before .args .table .now) (c .before .before .before .before .before .before .before .args .i) _ (c .before .before .before .attributes-of .ensures ∙ ap attributes-of (c .before .before .before .before .construct-at .ensures)) (c .enum-told6 .given .1)
+body-weight-requires c κs = rule-read (c .before .before .before .before .before .before .before .args .table .now) (c .before .before .before .before .before .before .before .args .i) _ (c .before .before .before .attributes-of .ensures ∙ ap attributes-of (c .before .before .before .before .construct-at .ensures)) (c .enum-told6 .given .1)
 
 one-more-requires-5 : tie.Need-one-more-requires-5
 one-more-requires-5 c κs = search needs
