@@ -25,6 +25,10 @@ use Rattle.table_layout.proofs.Bounds.{both-first, both-second, Fine, fine}
 use Rattle.run_actions.specs.Acts.{in-table, whole-in-table, terms-in-table, binder-in-table, known-values, enter, open-rule, ahead-at, bits-of, walk, by-branch, branch-act, case-test, by-case, case-act, members-act, by-lookahead, choice-act, turn-act, counted, literal-holds, literal-act, range-act, by-set, bits-act, construct-act, actOf, part-count, Doable}
 use Rattle.run_actions.specs.declared.Act.{Act}
 
+-- both tests passed
+pub both-true : (s t : Bool) → both s t ≡ true → (s ≡ true) × (t ≡ true)
+both-true s t e = (both-first s t e, both-second s t e)
+
 -- a test, with what it says
 pub decide : (t : Bool) → (t ≡ true) ⊎ (t ≡ false)
 decide true = inl refl
@@ -99,8 +103,7 @@ module _ (ws fs : List ℕ) (vs : List ℤ) (p : ℕ) where
   enter-good : (i : ℕ) → Good (enter ws i)
   enter-good i =
       picked (in-table ws i) (Act.Enter i) Act.Broken
-      (λ e.
-      (ltb-true i 256 (both-first (ltb i 256) (ltb i (construct-count ws)) e), ltb-true i (construct-count ws) (both-second (ltb i 256) (ltb i (construct-count ws)) e))) tt
+      (λ e. let x = both-true (ltb i 256) (ltb i (construct-count ws)) e in (ltb-true i 256 (x .0), ltb-true i (construct-count ws) (x .1))) tt
 
   -- parts that end within the table
   module _ (end : ℕ) (l : end ≤ 256) (c : end ≤ construct-count ws) where

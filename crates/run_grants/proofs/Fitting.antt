@@ -11,7 +11,7 @@ use lib.IntN.{ℤ}
 use lib.ListN.{length, getD}
 use Rattle.table_layout.specs.Constructs.{both}
 use Rattle.run_actions.specs.Acts.{bits-of}
-use Rattle.run_actions.proofs.Sizes.{both-true}
+use Rattle.run_actions.proofs.Doing.{both-true}
 use Rattle.run_steps.specs.Steps.{whole, Fits}
 use Rattle.run_steps.specs.declared.Head.{Head}
 use Rattle.run_grants.specs.Runs.{entry-fits, entries-fit, fitting}
