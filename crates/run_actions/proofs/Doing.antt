@@ -22,9 +22,13 @@ use Rattle.table_layout.specs.Constructs.{pick, both, constructAt}
 use Rattle.table_layout.specs.Held.{terms-of, size-of, opening}
 use Rattle.table_layout.specs.declared.Construct.{Construct}
 use Rattle.run_actions.specs.Stored.{stored, prediction-at, follow-at}
-use Rattle.run_actions.specs.Acts.{in-table, whole-in-table, terms-in-table, binder-in-table, known-values, enter, open-rule, ahead-at, bits-of, walk, by-branch, branch-act, case-test, by-case, case-act, members-act, by-lookahead, choice-act, turn-act, counted, literal-holds, literal-act, range-act, by-set, bits-act, Fine, construct-act, actOf, part-count, Doable}
+use Rattle.table_layout.proofs.Bounds.{both-first, both-second, Fine, fine}
+use Rattle.run_actions.specs.Acts.{in-table, whole-in-table, terms-in-table, binder-in-table, known-values, enter, open-rule, ahead-at, bits-of, walk, by-branch, branch-act, case-test, by-case, case-act, members-act, by-lookahead, choice-act, turn-act, counted, literal-holds, literal-act, range-act, by-set, bits-act, construct-act, actOf, part-count, Doable}
 use Rattle.run_actions.specs.declared.Act.{Act}
-use Rattle.run_actions.proofs.Sizes.{both-true, construct-fine}
+
+-- both tests passed
+pub both-true : (s t : Bool) → both s t ≡ true → (s ≡ true) × (t ≡ true)
+both-true s t e = (both-first s t e, both-second s t e)
 
 -- a test, with what it says
 pub decide : (t : Bool) → (t ≡ true) ⊎ (t ≡ false)
@@ -179,15 +183,15 @@ module _ (ws fs : List ℕ) (vs : List ℤ) (p : ℕ) where
 
   construct-good : (i k : ℕ) (c : Construct) → Fine i c → i + size-of c ≤ construct-count ws → Good (construct-act ws fs vs p i k c)
   construct-good i k Construct.Missing f l = tt
-  construct-good i k (Construct.Alternative size) f l = branch-good (i + size) f l (ahead-at fs p) (i + 1)
-  construct-good i k (Construct.Concatenation size) f l = members-good (i + size) f l (i + 1)
-  construct-good i k (Construct.Repetition size passes) f l = turn-good i (omega (arith, f .0, f .1)) (omega (arith, f .1)) (ahead-at fs p) k (counted ws vs passes)
-  construct-good i k (Construct.Switch size) f l = case-good (i + size) f l (i + 1)
+  construct-good i k (Construct.Alternative size) f l = branch-good (i + size) (f .1) l (ahead-at fs p) (i + 1)
+  construct-good i k (Construct.Concatenation size) f l = members-good (i + size) (f .1) l (i + 1)
+  construct-good i k (Construct.Repetition size passes) f l = turn-good i (omega (arith, f .0, f .1)) (omega (arith, f .0)) (ahead-at fs p) k (counted ws vs passes)
+  construct-good i k (Construct.Switch size) f l = case-good (i + size) (f .1) l (i + 1)
   construct-good i k (Construct.Use rule) f l = open-good rule
   construct-good i k (Construct.Literal n) f l = literal-good i n (f .1)
   construct-good i k (Construct.Range low high) f l = range-good low high
   construct-good i k (Construct.Uint width start end binder) f l =
-      picked (both (terms-in-table ws end) (binder-in-table ws binder)) (bits-act ws fs vs p width start end binder) Act.Broken (λ e. uint-good width start end binder (f .0) (f .1) (f .2)) tt
+      picked (both (terms-in-table ws end) (binder-in-table ws binder)) (bits-act ws fs vs p width start end binder) Act.Broken (λ e. uint-good width start end binder (f .2) (f .5) (f .1)) tt
   construct-good i k Construct.Eod f l = picked (eqb p (bits-of fs)) Act.Leave Act.Fail (λ e. tt) tt
 
 pub doable : (ws fs : List ℕ) (vs : List ℤ) (p i k : ℕ) → Doable ws fs p (actOf ws fs vs p i k)
@@ -197,4 +201,4 @@ doable ws fs vs p i k =
     let c : Construct = constructAt ws i in
     picked ws fs us p (eqb i opening) (open-rule ws 0) (pick (whole-in-table ws i) (construct-act ws fs us p i k c) Act.Broken) (λ e. open-good ws fs us p 0)
     (picked ws fs us p (whole-in-table ws i) (construct-act ws fs us p i k c) Act.Broken
-    (λ e. construct-good ws fs us p i k c (construct-fine ws i) (leb-true (i + size-of c) (construct-count ws) e)) tt)
+    (λ e. construct-good ws fs us p i k c (fine ws i) (leb-true (i + size-of c) (construct-count ws) e)) tt)

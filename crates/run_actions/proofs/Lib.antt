@@ -1,6 +1,5 @@
 -- Laws of what a step does.
 pub mod Walks
-pub mod Sizes
 pub mod Parts
 pub mod Literals
 pub mod Doing

@@ -173,19 +173,6 @@ end-act fs p = pick (eqb p (bits-of fs)) Act.Leave Act.Fail
 
 -- ---- all kinds
 
--- what holds of every construct i that `constructAt` answers
-abbrev pub Fine : ℕ → Construct → Type 0
-Fine i Construct.Missing = Unit {0}
-Fine i (Construct.Alternative size) = i + size ≤ max-constructs
-Fine i (Construct.Concatenation size) = i + size ≤ max-constructs
-Fine i (Construct.Repetition size passes) = (i + size ≤ max-constructs) × (2 ≤ size)
-Fine i (Construct.Switch size) = i + size ≤ max-constructs
-Fine i (Construct.Use rule) = rule < max-rules
-Fine i (Construct.Literal n) = (n ≤ max-literal-bytes) × (1 ≤ n)
-Fine i (Construct.Range low high) = Unit {0}
-Fine i (Construct.Uint width start end binder) = (width ≤ max-width) × (binder ≤ max-variables) × (1 ≤ width)
-Fine i Construct.Eod = Unit {0}
-
 -- what is done with the first entry, by what its construct is
 abbrev pub construct-act : List ℕ → List ℕ → List ℤ → ℕ → ℕ → ℕ → Construct → Act
 construct-act ws fs vs p i k Construct.Missing = Act.Broken

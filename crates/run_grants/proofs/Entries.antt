@@ -18,8 +18,7 @@ use Rattle.table_layout.specs.Constructs.{pick, both, constructAt}
 use Rattle.table_layout.specs.Held.{size-of, opening}
 use Rattle.run_actions.specs.Acts.{in-table, bits-of, walk, actOf, part-count, Doable}
 use Rattle.run_actions.specs.declared.Act.{Act}
-use Rattle.run_actions.proofs.Sizes.{both-true}
-use Rattle.run_actions.proofs.Doing.{decide, doable}
+use Rattle.run_actions.proofs.Doing.{both-true, decide, doable}
 use Rattle.run_steps.specs.Steps.{Whole, whole, break, taken, put, placed, members-done, again-done, bind, effect, step-of, steps-of, Fits}
 use Rattle.run_steps.specs.declared.Head.{Head}
 use Rattle.run_steps.proofs.Running.{step-by, step-fits}

@@ -12,7 +12,7 @@ use lib.ListN.{length, getD}
 use Rattle.basis.specs.Limits.{table-words, max-entries}
 use Rattle.table_layout.specs.Constructs.{both}
 use Rattle.run_actions.specs.Acts.{bits-of}
-use Rattle.run_actions.proofs.Sizes.{both-true}
+use Rattle.run_actions.proofs.Doing.{both-true}
 use Rattle.run_steps.specs.Steps.{whole, Fits}
 use Rattle.run_steps.specs.declared.Head.{Head}
 use Rattle.run_grants.specs.Runs.{entry-fits, entries-fit, fitting}

@@ -30,7 +30,7 @@ use Rattle.run_actions.specs.Acts.{in-table, whole-in-table, terms-in-table, bi
 use Rattle.run_actions.specs.declared.Act.{Act}
 use Rattle.run_refinement.specs.Runs.{HeldEntry, HeldState}
 use Rattle.run_refinement.proofs.Answers.{branch-chosen, case-chosen, turned, turn-turned, counted-allowed, tested, tested-yes, tested-set}
-use Rattle.table_structure.proofs.NodeFacts.{literal-long}
+use Rattle.table_structure.proofs.StaticLaw.{literal-long}
 use Rattle.run_refinement.proofs.Walks.{Definite, chosen-act, Row, row-parts, row-of}
 use Rattle.run_refinement.proofs.Values.{act-same}
 

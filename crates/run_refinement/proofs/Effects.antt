@@ -21,7 +21,7 @@ use Rattle.table_layout.specs.Constructs.{pick, both}
 use Rattle.table_layout.specs.Held.{Context, first-context, Values, parts, bound}
 use Rattle.run_actions.specs.Acts.{bits-of, Doable}
 use Rattle.run_actions.specs.declared.Act.{Act}
-use Rattle.run_actions.proofs.Sizes.{both-true}
+use Rattle.run_actions.proofs.Doing.{both-true}
 use Rattle.run_steps.specs.Steps.{Whole, whole, break, verdict-after, taken, placed, bind, members-done, again-done, take-done, effect, Fits}
 use Rattle.run_steps.specs.declared.Head.{Head}
 use Rattle.run_refinement.specs.Runs.{HeldEntry, HeldState, HeldRun, pending, recorded, verdict-as, state-held, run-of}

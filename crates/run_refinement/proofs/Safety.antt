@@ -27,7 +27,8 @@ use Rattle.table_layout.specs.Held.{Context, size-of, term-words, terms-of, ope
 use Rattle.table_layout.specs.declared.Construct.{Construct}
 use Rattle.table_layout.specs.declared.Passes.{Passes}
 use Rattle.table_wellformed.specs.Checks.{size-at}
-use Rattle.table_wellformed.proofs.Decoded.{Fine, fine}
+use Rattle.table_layout.proofs.Bounds.{Fine, fine}
+use Rattle.table_layout.proofs.Views.{Parted, parted}
 use Rattle.table_structure.proofs.RuleLaws.{rule-of, rule-within}
 use Rattle.table_structure.proofs.Owners.{rule-holds}
 use Rattle.table_structure.proofs.NodeFacts.{present, use-names, body-exists}
@@ -85,19 +86,16 @@ module _ (ws : List ℕ) (widest : List ℤ) {weight rooms : Context → ℕ →
   us = known-values ws vs
 
   there : (end : ℕ) → end ≤ construct-count ws → (j : ℕ) → j < end → size-at ws j ≡ 0 → ⊥
-  there end l j h z = sized (constructAt ws j) refl (fine ws j) z
+  there end l j h z = sized (parted (constructAt ws j)) refl (fine ws j) z
     where
-      sized : (c : Construct) → constructAt ws j ≡ c → Fine j c → size-of c ≡ 0 → ⊥
-      sized Construct.Missing e f z = present (r .laid) j (omega arith) e
-      sized (Construct.Alternative n) e f z = omega (arith, f .0)
-      sized (Construct.Concatenation n) e f z = omega (arith, f .0)
-      sized (Construct.Repetition n q) e f z = omega (arith, f .0)
-      sized (Construct.Switch n) e f z = omega (arith, f .0)
-      sized (Construct.Use rule) e f z = omega arith
-      sized (Construct.Literal n) e f z = omega arith
-      sized (Construct.Range low high) e f z = omega arith
-      sized (Construct.Uint width start end binder) e f z = omega arith
-      sized Construct.Eod e f z = omega arith
+      sized : {c : Construct} → Parted c → constructAt ws j ≡ c → Fine j c → size-of c ≡ 0 → ⊥
+      sized Parted.missing e f z = present (r .laid) j (omega arith) e
+      sized (Parted.branches n) e f z = omega (arith, f .0)
+      sized (Parted.members n) e f z = omega (arith, f .0)
+      sized (Parted.body n q) e f z = omega (arith, f .0)
+      sized (Parted.cases n) e f z = omega (arith, f .0)
+      sized (Parted.opens rule) e f z = omega arith
+      sized (Parted.leaf k) e f z = omega (arith, k .size)
 
   -- a construct ends within the table
   ends : (i n : ℕ) → i < construct-count ws → size-at ws i ≡ n → i + n ≤ construct-count ws

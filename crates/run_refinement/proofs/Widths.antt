@@ -11,6 +11,7 @@ use Rattle.basis.specs.Limits.{max-constructs, max-variables, max-rules, max-li
 use Rattle.term_words.specs.declared.Kind.{Kind}
 use Rattle.table_layout.specs.Places.{construct-word, variable-word, construct-count, variable-count}
 use Rattle.table_layout.specs.Constructs.{pick, both, branches, listed, repetitionOf, innerOf, leafOf, constructOf, constructAt}
+use Rattle.table_layout.specs.Attributes.{attributes-of}
 use Rattle.table_layout.specs.declared.Construct.{Construct}
 use Rattle.table_layout.specs.declared.Passes.{Passes}
 use Rattle.table_wellformed.specs.Lists.{list-formed}
@@ -20,36 +21,31 @@ use Rattle.table_structure.proofs.Facts.{Laid}
 use Rattle.run_refinement.proofs.Picks.{either-way}
 use Rattle.table_structure.proofs.Binding.{bound-in, variable-of}
 
--- a uint's width is its first operand
+-- what binds has its width as its first operand
 abbrev HasWidth : ℕ → Construct → Type 0
-HasWidth a Construct.Missing = Unit {0}
-HasWidth a (Construct.Alternative size) = Unit {0}
-HasWidth a (Construct.Concatenation size) = Unit {0}
-HasWidth a (Construct.Repetition size passes) = Unit {0}
-HasWidth a (Construct.Switch size) = Unit {0}
-HasWidth a (Construct.Use rule) = Unit {0}
-HasWidth a (Construct.Literal length) = Unit {0}
-HasWidth a (Construct.Range low high) = Unit {0}
-HasWidth a (Construct.Uint width start end binder) = a ≡ width
-HasWidth a Construct.Eod = Unit {0}
+HasWidth a c = 0 < attributes-of c .binder → a ≡ attributes-of c .width
+
+-- nothing binds
+none : {A : Type 0} → 0 < 0 → A
+none h = absurd (omega arith)
 
 inner-width : (x kind size a b c : ℕ) → HasWidth x (innerOf kind size a b c)
 inner-width x kind size a b c =
-    either-way (HasWidth x) (eqb kind 1) tt (either-way (HasWidth x) (eqb kind 2) tt (either-way (HasWidth x) (eqb kind 3) repeated tt))
+    either-way (HasWidth x) (eqb kind 1) none (either-way (HasWidth x) (eqb kind 2) none (either-way (HasWidth x) (eqb kind 3) repeated none))
   where
     counted : HasWidth x (pick (both (eqb a 4) (listed b c)) (Construct.Repetition size (Passes.Counted b c)) Construct.Missing)
-    counted = either-way (HasWidth x) (both (eqb a 4) (listed b c)) tt tt
+    counted = either-way (HasWidth x) (both (eqb a 4) (listed b c)) none none
 
     repeated : HasWidth x (repetitionOf size a b c)
-    repeated = either-way (HasWidth x) (eqb a 1) tt (either-way (HasWidth x) (eqb a 2) tt (either-way (HasWidth x) (eqb a 3) tt counted))
+    repeated = either-way (HasWidth x) (eqb a 1) none (either-way (HasWidth x) (eqb a 2) none (either-way (HasWidth x) (eqb a 3) none counted))
 
 leaf-width : (kind a b c d : ℕ) → HasWidth a (leafOf kind a b c d)
 leaf-width kind a b c d =
-    either-way (HasWidth a) (eqb kind 5) (either-way (HasWidth a) (ltb a max-rules) tt tt)
-    (either-way (HasWidth a) (eqb kind 6) (either-way (HasWidth a) (both (leb 1 a) (leb a max-literal-bytes)) tt tt)
-    (either-way (HasWidth a) (eqb kind 7) (either-way (HasWidth a) (both (ltb a 128) (ltb b 128)) tt tt)
-    (either-way (HasWidth a) (eqb kind 8) (either-way (HasWidth a) (both (both (leb 1 a) (leb a max-width)) (both (listed b c) (leb d max-variables))) refl tt)
-    (either-way (HasWidth a) (eqb kind 9) tt tt))))
+    either-way (HasWidth a) (eqb kind 5) (either-way (HasWidth a) (ltb a 64) none none)
+    (either-way (HasWidth a) (eqb kind 6) (either-way (HasWidth a) (both (leb 1 a) (leb a 32)) none none)
+    (either-way (HasWidth a) (eqb kind 7) (either-way (HasWidth a) (both (ltb a 128) (ltb b 128)) none none)
+    (either-way (HasWidth a) (eqb kind 8) (either-way (HasWidth a) (both (both (leb 1 a) (leb a 32)) (both (listed b c) (leb d 64))) (λ h. refl) none)
+    (either-way (HasWidth a) (eqb kind 9) none none))))
 
 construct-width : (ws : List ℕ) (i : ℕ) → HasWidth (construct-word ws i 2) (constructAt ws i)
 unfolding constructAt constructOf
@@ -59,9 +55,9 @@ construct-width ws i =
     let size : ℕ = construct-word ws i 1 in
     either-way (HasWidth x) (ltb i max-constructs)
     (either-way (HasWidth x) (both (leb 1 kind) (leb kind 4))
-    (either-way (HasWidth x) (branches i size) (inner-width x kind size x (construct-word ws i 3) (construct-word ws i 4)) tt)
-    (either-way (HasWidth x) (eqb size 1) (leaf-width kind x (construct-word ws i 3) (construct-word ws i 4) (construct-word ws i 5)) tt))
-    tt
+    (either-way (HasWidth x) (branches i size) (inner-width x kind size x (construct-word ws i 3) (construct-word ws i 4)) none)
+    (either-way (HasWidth x) (eqb size 1) (leaf-width kind x (construct-word ws i 3) (construct-word ws i 4) (construct-word ws i 5)) none))
+    none
 
 -- a binder's variable, and its width
 pub record Binder (ws : List ℕ) (x width : ℕ) : Type 0 where
@@ -79,7 +75,7 @@ binder-width {ws} l i width start end x h e =
     let place : variable-word ws x 0 ≡ i = sym (ap (λ (y : ℕ). variable-word ws y 0) z) ∙ eqb-true (variable-word ws (suc x - 1) 0) i (both-second (leb (suc x) (variable-count ws)) (eqb (variable-word ws (suc x - 1) 0) i) named) in
     let o = variable-of l x (omega arith) in
     let b = bound-in l (o .rule) x (o .exists) (o .begins) (o .ends) in
-    let w : construct-word ws i 2 ≡ width = rw e at (construct-width ws i) in
+    let w : construct-word ws i 2 ≡ width = (rw e at (construct-width ws i)) (omega arith) in
     record {
       known = omega (arith, l .counts .variables);
       counted = few;

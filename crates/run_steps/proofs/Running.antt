@@ -14,7 +14,7 @@ use Rattle.basis.specs.Limits.{max-entries}
 use Rattle.table_layout.specs.Constructs.{pick, both}
 use Rattle.run_actions.specs.Acts.{bits-of, actOf, Doable}
 use Rattle.run_actions.specs.declared.Act.{Act}
-use Rattle.run_actions.proofs.Sizes.{both-true}
+use Rattle.run_actions.proofs.Doing.{both-true}
 use Rattle.run_actions.proofs.Doing.{walk-keeps, doable}
 use Rattle.run_steps.specs.Steps.{Whole, whole, break, taken, put, placed, bind, members-done, again-done, take-done, effect, in-bound, first-step, step-of, steps-of, Fits}
 use Rattle.run_steps.specs.declared.Head.{Head}

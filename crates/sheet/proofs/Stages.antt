@@ -13,6 +13,8 @@ use Rattle.text_header.proofs.Tests.{which}
 use Rattle.table_layout.specs.Places.{rule-count}
 use Rattle.table_layout.specs.Constructs.{constructAt}
 use Rattle.table_layout.specs.declared.Construct.{Construct}
+use Rattle.table_layout.specs.declared.Below.{Below}
+use Rattle.table_layout.specs.Attributes.{attributes-of}
 use Rattle.table_reach.specs.Reaching.{Uses, Reaches, directly, through, Acyclic, rule-end}
 use Rattle.text_store.specs.Store.{State}
 use Rattle.text_names.specs.Counting.{nowhere}
@@ -31,17 +33,16 @@ named-as rules st f e z = record { passed = record { passed = record { formed = 
 
 -- ---- 7: no construct is a use
 
+abbrev uses-rule : Below → Bool
+uses-rule Below.Nothing = false
+uses-rule Below.Branches = false
+uses-rule Below.Members = false
+uses-rule (Below.Body passes) = false
+uses-rule Below.Cases = false
+uses-rule Below.Rule = true
+
 abbrev is-use : Construct → Bool
-is-use Construct.Missing = false
-is-use (Construct.Alternative size) = false
-is-use (Construct.Concatenation size) = false
-is-use (Construct.Repetition size passes) = false
-is-use (Construct.Switch size) = false
-is-use (Construct.Use rule) = true
-is-use (Construct.Literal length) = false
-is-use (Construct.Range low high) = false
-is-use (Construct.Uint width start end binder) = false
-is-use Construct.Eod = false
+is-use c = uses-rule (attributes-of c .below)
 
 -- of the first n constructs
 unfoldable pub uses-none : List ℕ → ℕ → Bool

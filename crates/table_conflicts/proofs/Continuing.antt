@@ -24,7 +24,9 @@ use Rattle.table_structure.proofs.Owners.{PartOf, one-owner, body-unowned, part
 use Rattle.table_structure.proofs.NodeFacts.{use-names, missing-past}
 use Rattle.table_structure.proofs.PartLaws.{parts-of}
 use Rattle.table_wellformed.specs.Checks.{size-at}
-use Rattle.table_first_follow.proofs.HeldLaws.{Fine, fine, node-inside, node-opening, node-past}
+use Rattle.table_layout.proofs.Bounds.{Fine, fine}
+use Rattle.table_layout.proofs.Views.{Parted, parted, leaf-node}
+use Rattle.table_first_follow.proofs.HeldLaws.{node-inside, node-opening, node-past}
 
 -- what a node names below it
 abbrev Names : HeldNode → ℕ → Type 0
@@ -45,22 +47,20 @@ abbrev Below : List ℕ → ℕ → ℕ → Type 0
 Below ws j b = ((j < construct-count ws) × PartOf ws j b) ⊎ ((r : ℕ) × (r < rule-count ws) × (b ≡ body ws r))
 
 module _ {ws : List ℕ} (l : Laid ws) where
-  below-by : (j b : ℕ) (c : Construct) → j < construct-count ws → constructAt ws j ≡ c → Names (node-of ws j c) b → (b ∈ parts-of ws j c) ⊎ ((r : ℕ) × (r < rule-count ws) × (b ≡ body ws r))
+  below-by : (j b : ℕ) {c : Construct} → Parted c → j < construct-count ws → constructAt ws j ≡ c → Names (node-of ws j c) b
+      → (b ∈ parts-of ws j c) ⊎ ((r : ℕ) × (r < rule-count ws) × (b ≡ body ws r))
   unfolding node-of
-  below-by j b Construct.Missing h e n = absurd (List·Memᴰ·not-nil n)
-  below-by j b (Construct.Alternative size) h e n = inl n
-  below-by j b (Construct.Concatenation size) h e n = inl n
-  below-by j b (Construct.Repetition size how) h e n = inl (List·Memᴰ·head n)
-  below-by j b (Construct.Switch size) h e n = inl n
-  below-by j b (Construct.Use rule) h e n = inr (rule, use-names l j rule h e, n)
-  below-by j b (Construct.Literal length) h e n = absurd n
-  below-by j b (Construct.Range low high) h e n = absurd n
-  below-by j b (Construct.Uint width start end binder) h e n = absurd n
-  below-by j b Construct.Eod h e n = absurd n
+  below-by j b Parted.missing h e n = absurd (List·Memᴰ·not-nil n)
+  below-by j b (Parted.branches size) h e n = inl n
+  below-by j b (Parted.members size) h e n = inl n
+  below-by j b (Parted.body size how) h e n = inl (List·Memᴰ·head n)
+  below-by j b (Parted.cases size) h e n = inl n
+  below-by j b (Parted.opens rule) h e n = inr (rule, use-names l j rule h e, n)
+  below-by j b {c} (Parted.leaf f) h e n = absurd (leaf-node ws j (λ x. Names x b → ⊥) (λ w admits static binds z. z) (λ z. z) c f n)
 
   inside : (j b : ℕ) → j < construct-count ws → j < max-constructs → Names (held ws .node j) b → Below ws j b
   inside j b h k n =
-      elim (below-by j b (constructAt ws j) h refl (subst (λ (x : HeldNode). Names x b) (node-inside ws j k) n)) [ inl m ↦ inl (h, m) | inr r ↦ inr r ]
+      elim (below-by j b (parted (constructAt ws j)) h refl (subst (λ (x : HeldNode). Names x b) (node-inside ws j k) n)) [ inl m ↦ inl (h, m) | inr r ↦ inr r ]
 
   pub below : (j b : ℕ) → Names (held ws .node j) b → Below ws j b
   unfolding node-of

@@ -23,7 +23,9 @@ use Rattle.table_first_follow.specs.Rounds.{strings}
 use Rattle.table_first_follow.specs.Parts.{siblings}
 use Rattle.table_first_follow.specs.Sets.{FirstSets, FollowSets, PredictionSets}
 use Rattle.table_first_follow.proofs.PartLaws.{parts-siblings}
-use Rattle.table_first_follow.proofs.HeldLaws.{Fine, fine, node-inside}
+use Rattle.table_layout.proofs.Bounds.{Fine, fine}
+use Rattle.table_layout.proofs.Views.{Parted, parted, leaf-node}
+use Rattle.table_first_follow.proofs.HeldLaws.{node-inside}
 use Rattle.table_conflicts.specs.Windows.{Lowest, Shared}
 use Rattle.table_conflicts.specs.Clashes.{Common, Branching, Turning, Repeating, NoClash, ClashOf, EmptyAt}
 use Rattle.table_conflicts.specs.Conflicts.{FirstHolders, Conflicting, LeastWindow, Answered}
@@ -149,22 +151,20 @@ module _ {ws : List ℕ} (l : Laid ws) (i : ℕ) (h : i < construct-count ws) wh
           λ p. (ps (i + 1) (omega (arith, small)) .strings x .1 (continues-predicted l i size how h e x .1 (p .0)), fs i (omega (arith, small)) .strings x .1 (p .1)),
         )) r b
 
-    answered-by : (c : Construct) → constructAt ws i ≡ c → (r : Clash) → ClashOf ws (strings follow) (strings prediction) i c r → Answered ws i r
+    answered-by : {c : Construct} → Parted c → constructAt ws i ≡ c → (r : Clash) → ClashOf ws (strings follow) (strings prediction) i c r → Answered ws i r
     unfolding node-of
-    answered-by Construct.Missing e r b = quiet ws i (alternative []) (node-by Construct.Missing e) (λ x s. List·Memᴰ·not-nil (s .one-listed)) r b
-    answered-by (Construct.Alternative size) e r b = alternatives size e r b
-    answered-by (Construct.Concatenation size) e r b = quiet ws i _ (node-by (Construct.Concatenation size) e) (λ x z. z) r b
-    answered-by (Construct.Repetition size how) e r b = repetitions size how e (passes-fixed ws how) refl r b
-    answered-by (Construct.Switch size) e r b = quiet ws i _ (node-by (Construct.Switch size) e) (λ x z. z) r b
-    answered-by (Construct.Use rule) e r b = quiet ws i _ (node-by (Construct.Use rule) e) (λ x z. z) r b
-    answered-by (Construct.Literal length) e r b = quiet ws i _ (node-by (Construct.Literal length) e) (λ x z. z) r b
-    answered-by (Construct.Range low high) e r b = quiet ws i _ (node-by (Construct.Range low high) e) (λ x z. z) r b
-    answered-by (Construct.Uint width start end binder) e r b = quiet ws i _ (node-by (Construct.Uint width start end binder) e) (λ x z. z) r b
-    answered-by Construct.Eod e r b = quiet ws i _ (node-by Construct.Eod e) (λ x z. z) r b
+    answered-by Parted.missing e r b = quiet ws i (alternative []) (node-by Construct.Missing e) (λ x s. List·Memᴰ·not-nil (s .one-listed)) r b
+    answered-by (Parted.branches size) e r b = alternatives size e r b
+    answered-by (Parted.members size) e r b = quiet ws i _ (node-by (Construct.Concatenation size) e) (λ x z. z) r b
+    answered-by (Parted.body size how) e r b = repetitions size how e (passes-fixed ws how) refl r b
+    answered-by (Parted.cases size) e r b = quiet ws i _ (node-by (Construct.Switch size) e) (λ x z. z) r b
+    answered-by (Parted.opens rule) e r b = quiet ws i _ (node-by (Construct.Use rule) e) (λ x z. z) r b
+    answered-by {c} (Parted.leaf f) e r b =
+        quiet ws i (node-of ws i c) (node-by c e) (leaf-node ws i (λ n. (x : Bits) → ConflictBy ws i n x → ⊥) (λ w admits static binds x z. z) (λ x z. z) c f) r (rw (f .below) at b)
 
     -- refusal 10: what `conflict` answers is the construct's conflict
     pub answered : (r : Clash) → ClashOf ws (strings follow) (strings prediction) i (constructAt ws i) r → Answered ws i r
-    answered r b = answered-by (constructAt ws i) refl r b
+    answered r b = answered-by (parted (constructAt ws i)) refl r b
 
 -- ---- refusal 9
 
@@ -184,21 +184,19 @@ module _ (ws : List ℕ) (first : List ℕ) (fs : FirstSets ws first) (i : ℕ) 
   empty-node : (c : Construct) → constructAt ws i ≡ c → EmptyBody (held ws) i → EmptyBy (node-of ws i c)
   empty-node c e b = subst EmptyBy (node-inside ws i h ∙ ap (node-of ws i) e) (by-empty b)
 
-  empty-by : (c : Construct) → constructAt ws i ≡ c → EmptyAt (strings first) i c ↔ EmptyBody (held ws) i
+  empty-by : {c : Construct} → Parted c → constructAt ws i ≡ c → EmptyAt (strings first) i c ↔ EmptyBody (held ws) i
   unfolding node-of
-  empty-by Construct.Missing e = ((λ z. absurd z), empty-node Construct.Missing e)
-  empty-by (Construct.Alternative size) e = ((λ z. absurd z), empty-node (Construct.Alternative size) e)
-  empty-by (Construct.Concatenation size) e = ((λ z. absurd z), empty-node (Construct.Concatenation size) e)
-  empty-by (Construct.Repetition size how) e = (
+  empty-by Parted.missing e = ((λ z. absurd z), empty-node Construct.Missing e)
+  empty-by (Parted.branches size) e = ((λ z. absurd z), empty-node (Construct.Alternative size) e)
+  empty-by (Parted.members size) e = ((λ z. absurd z), empty-node (Construct.Concatenation size) e)
+  empty-by (Parted.body size how) e = (
     λ s. EmptyBody.empty-body (node-inside ws i h ∙ ap (node-of ws i) e) (fs (i + 1) (omega arith) .strings [] .0 s),
     λ b. fs (i + 1) (omega arith) .strings [] .1 (empty-node (Construct.Repetition size how) e b),
   )
-  empty-by (Construct.Switch size) e = ((λ z. absurd z), empty-node (Construct.Switch size) e)
-  empty-by (Construct.Use rule) e = ((λ z. absurd z), empty-node (Construct.Use rule) e)
-  empty-by (Construct.Literal length) e = ((λ z. absurd z), empty-node (Construct.Literal length) e)
-  empty-by (Construct.Range low high) e = ((λ z. absurd z), empty-node (Construct.Range low high) e)
-  empty-by (Construct.Uint width start end binder) e = ((λ z. absurd z), empty-node (Construct.Uint width start end binder) e)
-  empty-by Construct.Eod e = ((λ z. absurd z), empty-node Construct.Eod e)
+  empty-by (Parted.cases size) e = ((λ z. absurd z), empty-node (Construct.Switch size) e)
+  empty-by (Parted.opens rule) e = ((λ z. absurd z), empty-node (Construct.Use rule) e)
+  empty-by {c} (Parted.leaf f) e =
+      rw (f .below) ((λ z. absurd z), λ b. leaf-node ws i (λ n. EmptyBy n → ⊥) (λ w admits static binds z. z) (λ z. z) c f (empty-node c e b))
 
   pub empty-iff : EmptyAt (strings first) i (constructAt ws i) ↔ EmptyBody (held ws) i
-  empty-iff = empty-by (constructAt ws i) refl
+  empty-iff = empty-by (parted (constructAt ws i)) refl

@@ -8,6 +8,8 @@ use mathlib.Core.List.{List, []}
 use Rattle.basis.specs.Bits.{Bits}
 use Rattle.table_layout.specs.Held.{passes-fixed}
 use Rattle.table_layout.specs.declared.Construct.{Construct}
+use Rattle.table_layout.specs.declared.Below.{Below}
+use Rattle.table_layout.specs.Attributes.{attributes-of}
 use Rattle.table_first_follow.specs.Rules.{Family}
 use Rattle.table_first_follow.specs.Parts.{siblings}
 use Rattle.table_conflicts.specs.Windows.{Lowest, Shared}
@@ -41,28 +43,26 @@ abbrev pub Repeating : Bool → (Bits → Type 0) → (Bits → Type 0) → Clas
 Repeating true A B r = NoClash r
 Repeating false A B r = Turning A B r
 
--- by what construct i is, from the FOLLOW and prediction sets
+-- by the size of construct i and what stands below it, from the FOLLOW and prediction sets
+abbrev pub ClashBelow : List ℕ → Family → Family → ℕ → ℕ → Below → Clash → Type 0
+ClashBelow ws follow prediction i size Below.Nothing r = NoClash r
+ClashBelow ws follow prediction i size Below.Branches r = Branching prediction (siblings ws (i + 1) (i + size)) r
+ClashBelow ws follow prediction i size Below.Members r = NoClash r
+ClashBelow ws follow prediction i size (Below.Body passes) r = Repeating (passes-fixed ws passes) (prediction (i + 1)) (follow i) r
+ClashBelow ws follow prediction i size Below.Cases r = NoClash r
+ClashBelow ws follow prediction i size Below.Rule r = NoClash r
+
 abbrev pub ClashOf : List ℕ → Family → Family → ℕ → Construct → Clash → Type 0
-ClashOf ws follow prediction i Construct.Missing r = NoClash r
-ClashOf ws follow prediction i (Construct.Alternative size) r = Branching prediction (siblings ws (i + 1) (i + size)) r
-ClashOf ws follow prediction i (Construct.Concatenation size) r = NoClash r
-ClashOf ws follow prediction i (Construct.Repetition size passes) r = Repeating (passes-fixed ws passes) (prediction (i + 1)) (follow i) r
-ClashOf ws follow prediction i (Construct.Switch size) r = NoClash r
-ClashOf ws follow prediction i (Construct.Use rule) r = NoClash r
-ClashOf ws follow prediction i (Construct.Literal length) r = NoClash r
-ClashOf ws follow prediction i (Construct.Range low high) r = NoClash r
-ClashOf ws follow prediction i (Construct.Uint width start end binder) r = NoClash r
-ClashOf ws follow prediction i Construct.Eod r = NoClash r
+ClashOf ws follow prediction i c r = ClashBelow ws follow prediction i (attributes-of c .size) (attributes-of c .below) r
 
 -- "repeated body has the empty first window"
+abbrev pub EmptyBelow : Family → ℕ → Below → Type 0
+EmptyBelow first i Below.Nothing = ⊥
+EmptyBelow first i Below.Branches = ⊥
+EmptyBelow first i Below.Members = ⊥
+EmptyBelow first i (Below.Body passes) = first (i + 1) []
+EmptyBelow first i Below.Cases = ⊥
+EmptyBelow first i Below.Rule = ⊥
+
 abbrev pub EmptyAt : Family → ℕ → Construct → Type 0
-EmptyAt first i Construct.Missing = ⊥
-EmptyAt first i (Construct.Alternative size) = ⊥
-EmptyAt first i (Construct.Concatenation size) = ⊥
-EmptyAt first i (Construct.Repetition size passes) = first (i + 1) []
-EmptyAt first i (Construct.Switch size) = ⊥
-EmptyAt first i (Construct.Use rule) = ⊥
-EmptyAt first i (Construct.Literal length) = ⊥
-EmptyAt first i (Construct.Range low high) = ⊥
-EmptyAt first i (Construct.Uint width start end binder) = ⊥
-EmptyAt first i Construct.Eod = ⊥
+EmptyAt first i c = EmptyBelow first i (attributes-of c .below)

@@ -10,11 +10,11 @@ ghost use Rattle.term_evaluation.specs.Counts.{formOf};
 ghost use Rattle.lookahead.specs.Sets.{Decides};
 ghost use Rattle.table_first_follow.specs.Rounds.{strings};
 ghost use Rattle.table_first_follow.specs.Parts.{siblings};
-ghost use Rattle.table_first_follow.proofs.HeldLaws.{Fine};
-ghost use Rattle.table_conflicts.specs.Clashes.{Branching, Turning, Repeating, ClashOf, EmptyAt};
+ghost use Rattle.table_conflicts.specs.Clashes.{Branching, Turning, Repeating, ClashBelow, ClashOf, EmptyBelow, EmptyAt};
 use table_first_follow::parts::set_of;
-use table_layout::Construct;
+use table_layout::Below;
 use table_layout::Passes;
+use table_layout::attributes_of;
 use table_layout::construct_at;
 use table_wellformed::lists::term_words;
 use term_words::Term;
@@ -121,29 +121,19 @@ fn clash_of(
     follow: &[u64],
     prediction: &[u64],
     i: usize,
-    construct: Construct,
+    size: usize,
+    below: Below,
 ) -> Clash
-    requires { ⌜ (table-words ≤ length (now table)) × (length (now follow) ≡ family-words) × (length (now prediction) ≡ family-words) × (i < max-constructs) × Fine i construct ⌝ }
-    ensures { λ r. ⌜ ClashOf (now (table .entry)) (strings (now (follow .entry))) (strings (now (prediction .entry))) i construct r ⌝ }
+    requires { ⌜ (16384 ≤ length (now table)) × (length (now follow) ≡ 2056) × (length (now prediction) ≡ 2056) × (i < 256) × (i + size ≤ 256) ⌝ }
+    ensures { λ r. ⌜ ClashBelow (now (table .entry)) (strings (now (follow .entry))) (strings (now (prediction .entry))) i size below r ⌝ }
 {
-    match construct {
-        Construct::Missing => Clash::None,
-        Construct::Alternative { size } => branches(table, prediction, i + 1, i + size),
-        Construct::Concatenation { size: _ } => Clash::None,
-        Construct::Repetition { size: _, passes } => {
-            unfixed(follow, prediction, i, fixed(table, passes))
-        }
-        Construct::Switch { size: _ } => Clash::None,
-        Construct::Use { rule: _ } => Clash::None,
-        Construct::Literal { length: _ } => Clash::None,
-        Construct::Range { low: _, high: _ } => Clash::None,
-        Construct::Uint {
-            width: _,
-            start: _,
-            end: _,
-            binder: _,
-        } => Clash::None,
-        Construct::Eod => Clash::None,
+    match below {
+        Below::Nothing => Clash::None,
+        Below::Branches => branches(table, prediction, i + 1, i + size),
+        Below::Members => Clash::None,
+        Below::Body { passes } => unfixed(follow, prediction, i, fixed(table, passes)),
+        Below::Cases => Clash::None,
+        Below::Rule => Clash::None,
     }
 }
 
@@ -152,31 +142,23 @@ pub fn conflict(table: &[u32], follow: &[u64], prediction: &[u64], i: usize) -> 
     requires { ⌜ (table-words ≤ length (now table)) × (length (now follow) ≡ family-words) × (length (now prediction) ≡ family-words) × (i < max-constructs) ⌝ }
     ensures { λ r. ⌜ ClashOf (now (table .entry)) (strings (now (follow .entry))) (strings (now (prediction .entry))) i (constructAt (now (table .entry)) i) r ⌝ }
 {
-    clash_of(table, follow, prediction, i, construct_at(table, i))
+    let attributes = attributes_of(construct_at(table, i));
+    let size = attributes.size;
+    let below = attributes.below;
+    clash_of(table, follow, prediction, i, size, below)
 }
 
-fn may_be_empty(first: &[u64], i: usize, construct: Construct) -> bool
-    requires { ⌜ (length (now first) ≡ family-words) × (i < max-constructs) ⌝ }
-    ensures { λ r. ⌜ Decides r (EmptyAt (strings (now (first .entry))) i construct) ⌝ }
+fn may_be_empty(first: &[u64], i: usize, below: Below) -> bool
+    requires { ⌜ (length (now first) ≡ 2056) × (i < 256) ⌝ }
+    ensures { λ r. ⌜ Decides r (EmptyBelow (strings (now (first .entry))) i below) ⌝ }
 {
-    match construct {
-        Construct::Missing => false,
-        Construct::Alternative { size: _ } => false,
-        Construct::Concatenation { size: _ } => false,
-        Construct::Repetition { size: _, passes: _ } => {
-            lookahead::has_empty_string(set_of(first, i + 1))
-        }
-        Construct::Switch { size: _ } => false,
-        Construct::Use { rule: _ } => false,
-        Construct::Literal { length: _ } => false,
-        Construct::Range { low: _, high: _ } => false,
-        Construct::Uint {
-            width: _,
-            start: _,
-            end: _,
-            binder: _,
-        } => false,
-        Construct::Eod => false,
+    match below {
+        Below::Nothing => false,
+        Below::Branches => false,
+        Below::Members => false,
+        Below::Body { passes: _ } => lookahead::has_empty_string(set_of(first, i + 1)),
+        Below::Cases => false,
+        Below::Rule => false,
     }
 }
 
@@ -185,5 +167,7 @@ pub fn empty_body(table: &[u32], first: &[u64], i: usize) -> bool
     requires { ⌜ (length (now first) ≡ family-words) × (i < max-constructs) ⌝ }
     ensures { λ r. ⌜ Decides r (EmptyAt (strings (now (first .entry))) i (constructAt (now (table .entry)) i)) ⌝ }
 {
-    may_be_empty(first, i, construct_at(table, i))
+    let attributes = attributes_of(construct_at(table, i));
+    let below = attributes.below;
+    may_be_empty(first, i, below)
 }

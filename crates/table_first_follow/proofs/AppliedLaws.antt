@@ -1,9 +1,9 @@
 -- A set that a construct's words give is what the rule of its node makes of the family's sets.
 -- Assumes nothing.
-use Prim.Native.Nat.{ℕ, zero, suc, _+_, _-_, _<_, _*_}
-use mathlib.Core.Path.{_≡_, sym, ap, _∙_, subst}
+use Prim.Native.Nat.{ℕ, zero, suc, _+_, _-_, _<_}
+use mathlib.Core.Path.{_≡_, refl, sym, ap, _∙_, subst}
 use mathlib.Core.Bool.{true, false}
-use mathlib.Core.List.{List, []}
+use mathlib.Core.List.{List, [], List·Memᴰ·not-nil}
 use lib.ListN.{length, take, drop, length-drop, drop-of-length-le}
 use lib.Seq.{take-all}
 use native.Mathlib.Omega.{arith}
@@ -15,9 +15,13 @@ use Rattle.lookahead.proofs.LanguageLaws.{Strings, joined-map}
 use Rattle.lookahead.proofs.PassLaws.{is-map}
 use Rattle.table_layout.specs.Places.{rule-word, terms-at, literals-at}
 use Rattle.table_layout.specs.Constructs.{constructAt}
-use Rattle.table_layout.specs.Held.{held, node-of, parts, allowed, passes-static, HeldNode, term-words, opening}
+use Rattle.table_layout.specs.Attributes.{attributes-of}
+use Rattle.table_layout.specs.Held.{held, node-of, parts, allowed, passes-static, HeldNode, term-words}
 use Rattle.table_layout.specs.declared.Construct.{Construct}
+use Rattle.table_layout.specs.declared.Below.{Below}
+use Rattle.table_layout.specs.declared.Attributes.{Attributes}
 use Rattle.table_layout.specs.declared.Passes as Times
+use Rattle.table_layout.proofs.Views.{is-by, quiet-node}
 use Rattle.term_evaluation.specs.declared.Counted.{Counted}
 use Rattle.table_first_follow.specs.Rules.{Family, Some, Members, Applied}
 use Rattle.table_first_follow.specs.Rounds.{strings}
@@ -48,7 +52,8 @@ is-repeated set out A counts s r =
     is-map out (Repeated (Has set) counts) (Repeated A counts)
     (λ x. ((λ q. (q .0, q .1, passes-map (Has set) A (λ y h. s .strings y .0 h) (q .0) x (q .2))), (λ q. (q .0, q .1, passes-map A (Has set) (λ y h. s .strings y .1 h) (q .0) x (q .2))))) r
 
-module _ (ws words : List ℕ) (i : ℕ) (h : i < max-constructs) (r : Construct) (e : r ≡ constructAt ws i) where
+-- of construct i, from its attributes
+module _ (ws words : List ℕ) (i : ℕ) (h : i < 256) (a : Attributes) (e : a ≡ attributes-of (constructAt ws i)) where
   module _ (out : List ℕ) where
     abbrev F : Family
     F = strings words
@@ -56,44 +61,47 @@ module _ (ws words : List ℕ) (i : ℕ) (h : i < max-constructs) (r : Construct
     abbrev Right : Type 0
     Right = Is out (Applied F (held ws .node i))
 
-    placed : (c : Construct) → r ≡ c → Is out (Applied F (node-of ws i c)) → Right
-    placed c p s = subst (λ (n : HeldNode). Is out (Applied F n)) (sym (node-inside ws i h ∙ ap (node-of ws i) (sym e ∙ p))) s
+    placed : (c : Construct) → constructAt ws i ≡ c → Is out (Applied F (node-of ws i c)) → Right
+    placed c p s = subst (λ (n : HeldNode). Is out (Applied F n)) (sym (node-inside ws i h ∙ ap (node-of ws i) p)) s
 
     -- one that has no parts
-    pub of-none : (c : Construct) → r ≡ c → ((x : Bits) → Applied F (node-of ws i c) x → ⊥) → Is out (λ (x : Bits). ⊥) → Right
-    of-none c p f s = placed c p (is-map out (λ (x : Bits). ⊥) (Applied F (node-of ws i c)) (λ x. ((λ z. absurd z), f x)) s)
+    pub of-none : a .below ≡ Below.Nothing → Is out (λ (x : Bits). ⊥) → Right
+    of-none p s =
+        let none : (x : Bits) → Applied F (node-of ws i (constructAt ws i)) x → ⊥ =
+        quiet-node ws i (λ n. (x : Bits) → Applied F n x → ⊥) (λ x z. List·Memᴰ·not-nil (z .1)) (λ w admits static binds x z. z) (λ x z. z) (constructAt ws i) (ap (λ (b : Attributes). b .below) (sym e) ∙ p) in
+        placed (constructAt ws i) refl (is-map out (λ (x : Bits). ⊥) (Applied F (node-of ws i (constructAt ws i))) (λ x. ((λ z. absurd z), none x)) s)
 
     united-parts : (size : ℕ) → Is out (Gathered false F (siblings ws (i + 1) (i + size))) → Is out (Some F (parts size ws (i + 1) (i + size)))
     united-parts size s =
         subst (λ (is : List ℕ). Is out (Some F is)) (sym (parts-siblings ws i size))
         (is-map out (Gathered false F (siblings ws (i + 1) (i + size))) (Some F (siblings ws (i + 1) (i + size))) (λ x. united F (siblings ws (i + 1) (i + size)) x) s)
 
-    pub of-alternative : (size : ℕ) → r ≡ Construct.Alternative size → Is out (Gathered false F (siblings ws (i + 1) (i + size))) → Right
+    pub of-alternative : a .below ≡ Below.Branches → Is out (Gathered false F (siblings ws (i + 1) (i + a .size))) → Right
     unfolding node-of
-    of-alternative size p s = placed (Construct.Alternative size) p (united-parts size s)
+    of-alternative p s = placed (Construct.Alternative (a .size)) (is-by (constructAt ws i) a e Below.Branches p) (united-parts (a .size) s)
 
-    pub of-switch : (size : ℕ) → r ≡ Construct.Switch size → Is out (Gathered false F (siblings ws (i + 1) (i + size))) → Right
+    pub of-switch : a .below ≡ Below.Cases → Is out (Gathered false F (siblings ws (i + 1) (i + a .size))) → Right
     unfolding node-of
-    of-switch size p s = placed (Construct.Switch size) p (united-parts size s)
+    of-switch p s = placed (Construct.Switch (a .size)) (is-by (constructAt ws i) a e Below.Cases p) (united-parts (a .size) s)
 
-    pub of-concatenation : (size : ℕ) → r ≡ Construct.Concatenation size → Is out (Gathered true F (siblings ws (i + 1) (i + size))) → Right
+    pub of-concatenation : a .below ≡ Below.Members → Is out (Gathered true F (siblings ws (i + 1) (i + a .size))) → Right
     unfolding node-of
-    of-concatenation size p s =
-        placed (Construct.Concatenation size) p
-        (subst (λ (is : List ℕ). Is out (Members F is)) (sym (parts-siblings ws i size))
-        (is-map out (Gathered true F (siblings ws (i + 1) (i + size))) (Members F (siblings ws (i + 1) (i + size)))
-        (λ x. (joint F (siblings ws (i + 1) (i + size)) x, disjoint F (siblings ws (i + 1) (i + size)) x)) s))
+    of-concatenation p s =
+        placed (Construct.Concatenation (a .size)) (is-by (constructAt ws i) a e Below.Members p)
+        (subst (λ (is : List ℕ). Is out (Members F is)) (sym (parts-siblings ws i (a .size)))
+        (is-map out (Gathered true F (siblings ws (i + 1) (i + a .size))) (Members F (siblings ws (i + 1) (i + a .size)))
+        (λ x. (joint F (siblings ws (i + 1) (i + a .size)) x, disjoint F (siblings ws (i + 1) (i + a .size)) x)) s))
 
-    pub of-repetition : (size : ℕ) (passes : Times.Passes) (counts : Counted) (set : List ℕ) → r ≡ Construct.Repetition size passes → allowed counts ≡ passes-static ws passes
+    pub of-repetition : (passes : Times.Passes) (counts : Counted) (set : List ℕ) → a .below ≡ Below.Body passes → allowed counts ≡ passes-static ws passes
         → Is set (F (i + 1)) → Is out (Repeated (Has set) (allowed counts)) → Right
     unfolding node-of
-    of-repetition size passes counts set p q s o =
-        placed (Construct.Repetition size passes) p
+    of-repetition passes counts set p q s o =
+        placed (Construct.Repetition (a .size) passes) (is-by (constructAt ws i) a e (Below.Body passes) p)
         (subst (λ (k : Counts). Is out (Repeated (F (i + 1)) k)) q (is-repeated set out (F (i + 1)) (allowed counts) s o))
 
-    pub of-use : (rule b : ℕ) → r ≡ Construct.Use rule → b ≡ rule-word ws rule 0 → Is out (F b) → Right
+    pub of-use : (b : ℕ) → a .below ≡ Below.Rule → b ≡ rule-word ws (a .rule) 0 → Is out (F b) → Right
     unfolding node-of
-    of-use rule b p q s = placed (Construct.Use rule) p (subst (λ (k : ℕ). Is out (F k)) q s)
+    of-use b p q s = placed (Construct.Use (a .rule)) (is-by (constructAt ws i) a e Below.Rule p) (subst (λ (k : ℕ). Is out (F k)) q s)
 
 pub of-opening : (ws words : List ℕ) (i : ℕ) (out : List ℕ) (b : ℕ) → i ≡ opening → b ≡ rule-word ws 0 0 → Is out (strings words b) → Is out (Applied (strings words) (held ws .node i))
 of-opening ws words i out b p q s =

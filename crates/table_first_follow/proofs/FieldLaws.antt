@@ -38,7 +38,8 @@ use Rattle.term_membership.specs.Members as Members
 use Rattle.term_words.specs.Numbers as Numbers
 use Rattle.table_first_follow.specs.Rules.{Seeded, Leading}
 use Rattle.table_first_follow.specs.Fields.{Numbered, Any, Led}
-use Rattle.table_first_follow.proofs.HeldLaws.{node-inside, node-opening, missing}
+use Rattle.table_layout.proofs.Bounds.{missing-past}
+use Rattle.table_first_follow.proofs.HeldLaws.{node-inside, node-opening}
 
 -- ---- strings gathered by their numbers
 
@@ -198,7 +199,7 @@ module _ (ws : List ℕ) (i : ℕ) (h : i < sets-held) (r : Construct) (e : r �
     | yes l ↦ subst (λ (n : HeldNode). Is out (Seeded n)) (sym (node-inside ws i l ∙ ap (node-of ws i) (sym e ∙ p))) s
     | no l ↦
         subst (λ (n : HeldNode). Is out (Seeded n)) (sym (node-opening ws i (omega arith)))
-        (subst (λ (k : Construct). Is out (Seeded (node-of ws i k))) (sym p ∙ e ∙ missing ws i (omega arith)) s)
+        (subst (λ (k : Construct). Is out (Seeded (node-of ws i k))) (sym p ∙ e ∙ missing-past ws i (omega arith)) s)
   ]
 
   pub seed-none : (c : Construct) → r ≡ c → ((x : Bits) → Seeded (node-of ws i c) x → ⊥) → Is out (λ (x : Bits). ⊥) → Right

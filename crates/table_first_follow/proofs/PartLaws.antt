@@ -18,29 +18,12 @@ use Rattle.lookahead.proofs.LanguageLaws.{Strings, Short, joined-short, joined-
 use Rattle.lookahead.proofs.PassLaws.{is-map}
 use Rattle.table_layout.specs.Constructs.{constructAt}
 use Rattle.table_layout.specs.Held.{parts, size-of}
-use Rattle.table_layout.specs.declared.Construct.{Construct}
 use Rattle.theory.specs.Grammar.{_∈_}
 use Rattle.table_first_follow.specs.Rules.{Family, Some, Members}
 use Rattle.table_first_follow.specs.Rounds.{strings}
 use Rattle.table_first_follow.specs.Parts.{siblings, Combined, Neutral, Gathered}
-use Rattle.table_first_follow.proofs.HeldLaws.{Fine, fine}
 
 -- ---- the walk
-
-size-fine : (i : ℕ) (c : Construct) → Fine i c → size-of c ≤ max-constructs
-size-fine i Construct.Missing f = omega arith
-size-fine i (Construct.Alternative size) f = omega (arith, f .1)
-size-fine i (Construct.Concatenation size) f = omega (arith, f .1)
-size-fine i (Construct.Repetition size passes) f = omega (arith, f .1)
-size-fine i (Construct.Switch size) f = omega (arith, f .1)
-size-fine i (Construct.Use rule) f = omega arith
-size-fine i (Construct.Literal length) f = omega arith
-size-fine i (Construct.Range low high) f = omega arith
-size-fine i (Construct.Uint width start end binder) f = omega arith
-size-fine i Construct.Eod f = omega arith
-
-pub size-small : (ws : List ℕ) (i : ℕ) → size-of (constructAt ws i) ≤ max-constructs
-size-small ws i = size-fine i (constructAt ws i) (fine ws i)
 
 module _ (ws : List ℕ) (end : ℕ) where
   parts-done : (n j : ℕ) → end ≤ j → parts n ws j end ≡ []

@@ -15,9 +15,13 @@ use Rattle.lookahead.specs.Sets.{Has, Is, Joined, Passes, Repeated}
 use Rattle.lookahead.proofs.LanguageLaws.{Strings}
 use Rattle.table_layout.specs.Places.{rule-word}
 use Rattle.table_layout.specs.Constructs.{constructAt}
-use Rattle.table_layout.specs.Held.{held, node-of, opening}
+use Rattle.table_layout.specs.Attributes.{attributes-of}
+use Rattle.table_layout.specs.Held.{held, node-of}
 use Rattle.table_layout.specs.declared.Construct.{Construct}
+use Rattle.table_layout.specs.declared.Below.{Below}
+use Rattle.table_layout.specs.declared.Attributes.{Attributes}
 use Rattle.table_layout.specs.declared.Passes as Times
+use Rattle.table_layout.proofs.Views.{Is as Is-by, is-by, quiet-node}
 use Rattle.theory.specs.Grammar.{alternative, concatenation, use-of, _∈_}
 use Rattle.theory.specs.Lookahead.{Follow}
 use Rattle.theory.proofs.Inversion.{Keeps, MembersKeep}
@@ -94,60 +98,63 @@ module _ (ws first old : List ℕ) (l : length first ≡ family-words) (f : Firs
 
   -- ---- a construct inside the table
 
-  module _ (g : i < max-constructs) (o : Construct) (eo : o ≡ constructAt ws i) where
-    node-as : (c : Construct) → o ≡ c → held ws .node i ≡ node-of ws i c
-    node-as c p = node-inside ws i g ∙ ap (node-of ws i) (sym eo ∙ p)
+  module _ (g : i < 256) (o : Attributes) (eo : o ≡ attributes-of (constructAt ws i)) where
+    node-as : (c : Construct) → constructAt ws i ≡ c → held ws .node i ≡ node-of ws i c
+    node-as c p = node-inside ws i g ∙ ap (node-of ws i) p
 
-    module _ (size : ℕ) where
-      abbrev is : List ℕ
-      is = siblings ws (i + 1) (i + size)
+    -- from what stands below it
+    known : (b : Below) → o .below ≡ b → Is-by (constructAt ws i) o b
+    known b p = is-by (constructAt ws i) o eo b p
 
-      alternative-node : o ≡ Construct.Alternative size → held ws .node i ≡ alternative is
+    abbrev is : List ℕ
+    is = siblings ws (i + 1) (i + o .size)
+
+    alternative-node : o .below ≡ Below.Branches → held ws .node i ≡ alternative is
+    unfolding node-of
+    alternative-node p = node-as (Construct.Alternative (o .size)) (known Below.Branches p) ∙ ap alternative (parts-siblings ws i (o .size))
+
+    concatenation-node : o .below ≡ Below.Members → held ws .node i ≡ concatenation is
+    unfolding node-of
+    concatenation-node p = node-as (Construct.Concatenation (o .size)) (known Below.Members p) ∙ ap concatenation (parts-siblings ws i (o .size))
+
+    pub alternative-owed : o .below ≡ Below.Branches → Handed false F (Has set) (follow-of ws) is
+    alternative-owed p = branches-handed F (Has set) (follow-of ws) is (λ c m x a. Follow.of-branch (alternative-node p) m (follows x a))
+
+    pub switch-owed : o .below ≡ Below.Cases → Handed false F (Has set) (follow-of ws) is
+    unfolding node-of
+    switch-owed p = subst (Handed false F (Has set) (follow-of ws)) (parts-siblings ws i (o .size))
+        (branches-handed F (Has set) (follow-of ws) _ (λ c m x a. Follow.of-case (node-as (Construct.Switch (o .size)) (known Below.Cases p)) m (follows x a)))
+
+    pub concatenation-owed : o .below ≡ Below.Members → Handed true F (Has set) (follow-of ws) is
+    concatenation-owed p = members-owed [] is (concatenation-node p)
+
+    module _ (new : List ℕ) (r : Bool) where
+      pub alternative-pushed : o .below ≡ Below.Branches → FollowStep ws (λ words. Handed false F (Has set) (within words) is) old new r → Pushed new r
+      alternative-pushed p t =
+          closing new r (λ words. Handed false F (Has set) (within words) is) t
+          (λ d w. subst (Keeps (held ws) (within new) i) (sym (alternative-node p)) (λ c m x y. handed-branch F (Has set) (within new) is d c m x (w x y)))
+
+      pub switch-pushed : o .below ≡ Below.Cases → FollowStep ws (λ words. Handed false F (Has set) (within words) is) old new r → Pushed new r
       unfolding node-of
-      alternative-node p = node-as (Construct.Alternative size) p ∙ ap alternative (parts-siblings ws i size)
+      switch-pushed p t =
+          closing new r (λ words. Handed false F (Has set) (within words) is) t
+          (λ d w. subst (Keeps (held ws) (within new) i) (sym (node-as (Construct.Switch (o .size)) (known Below.Cases p)))
+          (λ c m x y. handed-branch F (Has set) (within new) _ (subst (Handed false F (Has set) (within new)) (sym (parts-siblings ws i (o .size))) d) c m x (w x y)))
 
-      concatenation-node : o ≡ Construct.Concatenation size → held ws .node i ≡ concatenation is
-      unfolding node-of
-      concatenation-node p = node-as (Construct.Concatenation size) p ∙ ap concatenation (parts-siblings ws i size)
-
-      pub alternative-owed : o ≡ Construct.Alternative size → Handed false F (Has set) (follow-of ws) is
-      alternative-owed p = branches-handed F (Has set) (follow-of ws) is (λ c m x a. Follow.of-branch (alternative-node p) m (follows x a))
-
-      pub switch-owed : o ≡ Construct.Switch size → Handed false F (Has set) (follow-of ws) is
-      unfolding node-of
-      switch-owed p = subst (Handed false F (Has set) (follow-of ws)) (parts-siblings ws i size)
-          (branches-handed F (Has set) (follow-of ws) _ (λ c m x a. Follow.of-case (node-as (Construct.Switch size) p) m (follows x a)))
-
-      pub concatenation-owed : o ≡ Construct.Concatenation size → Handed true F (Has set) (follow-of ws) is
-      concatenation-owed p = members-owed [] is (concatenation-node p)
-
-      module _ (new : List ℕ) (r : Bool) where
-        pub alternative-pushed : o ≡ Construct.Alternative size → FollowStep ws (λ words. Handed false F (Has set) (within words) is) old new r → Pushed new r
-        alternative-pushed p t =
-            closing new r (λ words. Handed false F (Has set) (within words) is) t
-            (λ d w. subst (Keeps (held ws) (within new) i) (sym (alternative-node p)) (λ c m x y. handed-branch F (Has set) (within new) is d c m x (w x y)))
-
-        pub switch-pushed : o ≡ Construct.Switch size → FollowStep ws (λ words. Handed false F (Has set) (within words) is) old new r → Pushed new r
-        unfolding node-of
-        switch-pushed p t =
-            closing new r (λ words. Handed false F (Has set) (within words) is) t
-            (λ d w. subst (Keeps (held ws) (within new) i) (sym (node-as (Construct.Switch size) p))
-            (λ c m x y. handed-branch F (Has set) (within new) _ (subst (Handed false F (Has set) (within new)) (sym (parts-siblings ws i size)) d) c m x (w x y)))
-
-        pub concatenation-pushed : o ≡ Construct.Concatenation size → FollowStep ws (λ words. Handed true F (Has set) (within words) is) old new r → Pushed new r
-        concatenation-pushed p t =
-            closing new r (λ words. Handed true F (Has set) (within words) is) t
-            (λ d w. subst (Keeps (held ws) (within new) i) (sym (concatenation-node p)) (members-keep new w is d))
+      pub concatenation-pushed : o .below ≡ Below.Members → FollowStep ws (λ words. Handed true F (Has set) (within words) is) old new r → Pushed new r
+      concatenation-pushed p t =
+          closing new r (λ words. Handed true F (Has set) (within words) is) t
+          (λ d w. subst (Keeps (held ws) (within new) i) (sym (concatenation-node p)) (members-keep new w is d))
 
     -- "zero or more further passes, joined with the repetition's follow"
     module _ (new : List ℕ) (r : Bool) where
-      pub repetition-pushed : (size : ℕ) (times : Times.Passes) (body further both : List ℕ) → o ≡ Construct.Repetition size times → Is body (strings first (i + 1))
+      pub repetition-pushed : (times : Times.Passes) (body further both : List ℕ) → o .below ≡ Below.Body times → Is body (strings first (i + 1))
           → Is further (Repeated (Has body) (from 0)) → Is both (Joined (Has further) (Has set)) → Given old new (i + 1) both r → Pushed new r
       unfolding node-of
-      repetition-pushed size times body further both p eb ef ej v =
+      repetition-pushed times body further both p eb ef ej v =
           closing new r (λ words. (x : Bits) → Has both x → within words (i + 1) x)
           (given-step (follow-low ws) (follow-of ws) old new (i + 1) both r v (ej .proper) (λ x a. sound x (ej .strings x .0 a)))
-          (λ d w. subst (Keeps (held ws) (within new) i) (sym (node-as (Construct.Repetition size times) p))
+          (λ d w. subst (Keeps (held ws) (within new) i) (sym (node-as (Construct.Repetition (o .size) times) (known (Below.Body times) p)))
           (λ k x y q t. d (join x y) (ej .strings (join x y) .1
           (record { left = x; right = y; in-left = ef .strings x .1 (k, omega arith, passes-map F1 (Has body) back k x (first-passes (held ws) (i + 1) k x q)); in-right = w y t; whole = refl }))))
         where
@@ -163,19 +170,21 @@ module _ (ws first old : List ℕ) (l : length first ≡ family-words) (f : Firs
           sound : (x : Bits) → Joined (Has further) (Has set) x → Follow (held ws) (i + 1) x
           sound x j =
               let q = ef .strings (j .left) .0 (j .in-left) in
-              Follow.of-body (q .0) (node-as (Construct.Repetition size times) p)
+              Follow.of-body (q .0) (node-as (Construct.Repetition (o .size) times) (known (Below.Body times) p))
               (passes-first (held ws) F (λ k y z. z) (i + 1) (q .0) (j .left) (passes-map (Has body) (first-of ws (i + 1)) to (q .0) (j .left) (q .2)))
               (follows (j .right) (j .in-right)) (j .whole)
 
-      pub rule-pushed : (rule c : ℕ) → o ≡ Construct.Use rule → c ≡ rule-word ws rule 0 → Given old new c set r → Pushed new r
+      pub rule-pushed : (c : ℕ) → o .below ≡ Below.Rule → c ≡ rule-word ws (o .rule) 0 → Given old new c set r → Pushed new r
       unfolding node-of
-      rule-pushed rule c p q v = use-pushed new r _ _ _ (rule-word ws rule 0) c (node-as (Construct.Use rule) p) q v
+      rule-pushed c p q v = use-pushed new r _ _ _ (rule-word ws (o .rule) 0) c (node-as (Construct.Use (o .rule)) (known Below.Rule p)) q v
 
     -- one without parts
-    pub none-pushed : (c : Construct) → o ≡ c → ((words : List ℕ) → Keeps (held ws) (within words) i (node-of ws i c)) → Pushed old false
-    none-pushed c p k =
+    pub none-pushed : o .below ≡ Below.Nothing → Pushed old false
+    none-pushed p =
+        let keeps : (words : List ℕ) → Keeps (held ws) (within words) i (node-of ws i (constructAt ws i)) =
+        λ words. quiet-node ws i (Keeps (held ws) (within words) i) (λ c m. absurd (List·Memᴰ·not-nil m)) (λ w admits static binds. tt) tt (constructAt ws i) (ap (λ (x : Attributes). x .below) (sym eo) ∙ p) in
         step-map (follow-low ws) (follow-of ws) (λ words. Unit {0}) (FollowClosed ws i) old old false
-        (λ words u. subst (Keeps (held ws) (within words) i) (sym (node-as c p)) (k words)) (no-step (follow-low ws) (follow-of ws) old)
+        (λ words u. subst (Keeps (held ws) (within words) i) (sym (node-as (constructAt ws i) refl)) (keeps words)) (no-step (follow-low ws) (follow-of ws) old)
 
   pub opening-pushed : (new : List ℕ) (r : Bool) (c : ℕ) → i ≡ opening → c ≡ rule-word ws 0 0 → Given old new c set r → Pushed new r
   opening-pushed new r c p q v = use-pushed new r _ _ _ (rule-word ws 0 0) c (node-opening ws i p) q v

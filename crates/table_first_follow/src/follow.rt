@@ -14,8 +14,8 @@ use crate::parts::either;
 use crate::rules;
 use basis::MAX_CONSTRUCTS;
 use lookahead::Set;
-use table_layout::Construct;
-use table_layout::OPENING;
+use table_layout::Below;
+use table_layout::attributes_of;
 use table_layout::construct_at;
 
 // A number past the family's is of no construct, and nothing is kept for it.
@@ -71,25 +71,20 @@ fn push_inside(table: &[u32], first: &[u64], family: &mut [u64], i: usize) -> bo
     ensures { λ r. ⌜ FollowStep (now (table .entry)) (FollowClosed (now (table .entry)) i) (now (family .entry)) (now (family .exit)) r ⌝ }
 {
     let set = parts::set_of(family, i);
-    match construct_at(table, i) {
-        Construct::Missing => false,
-        Construct::Alternative { size } => hand(table, first, family, i + 1, i + size, set, false),
-        Construct::Concatenation { size } => hand(table, first, family, i + 1, i + size, set, true),
-        Construct::Repetition { size: _, passes: _ } => {
+    let attributes = attributes_of(construct_at(table, i));
+    let end = i + attributes.size;
+    let rule = attributes.rule;
+    let below = attributes.below;
+    match below {
+        Below::Nothing => false,
+        Below::Branches => hand(table, first, family, i + 1, end, set, false),
+        Below::Members => hand(table, first, family, i + 1, end, set, true),
+        Below::Body { passes: _ } => {
             let further = lookahead::passes::at_least(parts::set_of(first, i + 1), 0);
             give(family, i + 1, lookahead::join(further, set))
         }
-        Construct::Switch { size } => hand(table, first, family, i + 1, i + size, set, false),
-        Construct::Use { rule } => give(family, rules::body_of(table, rule), set),
-        Construct::Literal { length: _ } => false,
-        Construct::Range { low: _, high: _ } => false,
-        Construct::Uint {
-            width: _,
-            start: _,
-            end: _,
-            binder: _,
-        } => false,
-        Construct::Eod => false,
+        Below::Cases => hand(table, first, family, i + 1, end, set, false),
+        Below::Rule => give(family, rules::body_of(table, rule), set),
     }
 }
 

@@ -12,11 +12,9 @@ ghost use Rattle.table_first_follow.specs.Rounds.{strings};
 use crate::parts;
 use basis::MAX_CONSTRUCTS;
 use lookahead::Set;
-use table_layout::Construct;
-use table_layout::LITERALS_AT;
+use table_layout::Below;
 use table_layout::Passes;
-use table_layout::RULES_AT;
-use table_layout::TERMS_AT;
+use table_layout::attributes_of;
 use table_layout::construct_at;
 use term_evaluation::Counted;
 
@@ -92,24 +90,19 @@ fn inside(table: &[u32], family: &[u64], i: usize) -> Set
     requires { ⌜ (length (now family) ≡ family-words) × (i < max-constructs) ⌝ }
     ensures { λ r. ⌜ Is (r .words) (Applied (strings (now (family .entry))) (held (now (table .entry)) .node i)) ⌝ }
 {
-    match construct_at(table, i) {
-        Construct::Missing => lookahead::empty(),
-        Construct::Alternative { size } => parts::gather(table, family, i + 1, i + size, false),
-        Construct::Concatenation { size } => parts::gather(table, family, i + 1, i + size, true),
-        Construct::Repetition { size: _, passes } => {
+    let attributes = attributes_of(construct_at(table, i));
+    let end = i + attributes.size;
+    let rule = attributes.rule;
+    let below = attributes.below;
+    match below {
+        Below::Nothing => lookahead::empty(),
+        Below::Branches => parts::gather(table, family, i + 1, end, false),
+        Below::Members => parts::gather(table, family, i + 1, end, true),
+        Below::Body { passes } => {
             repeated(parts::set_of(family, i + 1), static_counts(table, passes))
         }
-        Construct::Switch { size } => parts::gather(table, family, i + 1, i + size, false),
-        Construct::Use { rule } => parts::set_of(family, body_of(table, rule)),
-        Construct::Literal { length: _ } => lookahead::empty(),
-        Construct::Range { low: _, high: _ } => lookahead::empty(),
-        Construct::Uint {
-            width: _,
-            start: _,
-            end: _,
-            binder: _,
-        } => lookahead::empty(),
-        Construct::Eod => lookahead::empty(),
+        Below::Cases => parts::gather(table, family, i + 1, end, false),
+        Below::Rule => parts::set_of(family, body_of(table, rule)),
     }
 }
 

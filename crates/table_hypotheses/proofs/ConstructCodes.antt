@@ -17,7 +17,7 @@ use Rattle.table_layout.specs.declared.Passes.{Passes}
 use Rattle.table_wellformed.specs.Lists.{counts-formed}
 use Rattle.table_wellformed.specs.Laid.{operands-zero, kind-laid}
 use Rattle.table_wellformed.proofs.Walks.{both-first, both-second}
-use Rattle.table_wellformed.proofs.Decoded.{picked}
+use Rattle.table_layout.proofs.Bounds.{picked}
 use Rattle.table_structure.proofs.Facts.{each, lt-of-ne}
 
 -- the first six words of a construct that are not 0

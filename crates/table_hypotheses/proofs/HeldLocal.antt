@@ -26,7 +26,7 @@ use Rattle.table_layout.specs.Constructs.{pick, constructAt}
 use Rattle.table_layout.specs.Held.{first-context, Values, term-words, size-of, parts, isYes, passes-allowed, passes-static, passes-fixed, first-case, literal-byte, literal-bytes, literal-node, bound, use-node, node-of, opening, held, allowed, isExact}
 use Rattle.table_layout.specs.declared.Construct.{Construct}
 use Rattle.table_layout.specs.declared.Passes.{Passes}
-use Rattle.table_wellformed.proofs.Decoded.{Fine, fine}
+use Rattle.table_layout.proofs.Bounds.{Fine, fine}
 use Rattle.table_hypotheses.specs.OneTable.{Alike}
 
 module _ {ws ws′ : List ℕ} (a : Alike ws ws′) where

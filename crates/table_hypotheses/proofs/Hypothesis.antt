@@ -15,8 +15,7 @@ use Rattle.theory.proofs.LocalTheorem.{keeps-counts}
 use Rattle.table_layout.specs.Places.{construct-count}
 use Rattle.table_layout.specs.Held.{held}
 use Rattle.table_structure.proofs.Facts.{Laid, facts}
-use Rattle.table_structure.proofs.StaticLaw.{static}
-use Rattle.table_structure.proofs.NodeFacts.{width-positive, values-stay}
+use Rattle.table_structure.proofs.StaticLaw.{static, width-positive, values-stay}
 use Rattle.table_scope.specs.Scope.{store, fresh, scope-of}
 use Rattle.table_scope.proofs.LexicalLaw.{lexical}
 use Rattle.table_conflicts.proofs.Continuing.{continues-predicted}

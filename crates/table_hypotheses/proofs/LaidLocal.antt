@@ -21,8 +21,7 @@ use Rattle.table_wellformed.specs.Parts.{unconditioned, part-laid, parts-laid}
 use Rattle.table_wellformed.specs.Lists.{formed, zero-values, list-formed, condition-formed}
 use Rattle.table_wellformed.specs.Rules.{named-back}
 use Rattle.table_wellformed.specs.Laid.{operands-zero, chain-laid, passes-laid, kind-laid, literal-length, byte-laid, construct-laid}
-use Rattle.table_wellformed.proofs.Decoded.{Fine, fine}
-use Rattle.table_first_follow.proofs.HeldLaws.{missing}
+use Rattle.table_layout.proofs.Bounds.{Fine, fine, missing-past}
 use Rattle.table_hypotheses.specs.OneTable.{Alike}
 use Rattle.table_hypotheses.proofs.HeldLocal.{construct-words, variable-words, constructs-same, terms-same}
 
@@ -68,7 +67,7 @@ module _ {ws ws′ : List ℕ} (a : Alike ws ws′) where
   guarded j c c′ h =
       elim (decLt j max-constructs) [
         | yes l ↦ λ t. both (ltb 0 (size-same j t)) (h l t)
-        | no l ↦ rw (missing ws j (omega arith), missing ws′ j (omega arith)) refl
+        | no l ↦ rw (missing-past ws j (omega arith), missing-past ws′ j (omega arith)) refl
       ]
 
   -- ---- parts

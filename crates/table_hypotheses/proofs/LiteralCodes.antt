@@ -15,6 +15,7 @@ use Rattle.table_layout.specs.Places.{word, literals-at, construct-count}
 use Rattle.table_layout.specs.Constructs.{constructAt}
 use Rattle.table_layout.specs.Held.{literal-byte, literal-bytes}
 use Rattle.table_layout.specs.declared.Construct.{Construct}
+use Rattle.table_layout.proofs.Views.{Operands, operands}
 use Rattle.table_wellformed.specs.Laid.{literal-length, byte-laid}
 use Rattle.table_structure.proofs.Facts.{Laid, each}
 use Rattle.table_hypotheses.specs.OneTable.{SameGrammar}
@@ -63,23 +64,17 @@ module _ {ws ws′ : List ℕ} (g : SameGrammar ws ws′) (l : Laid ws) (l′ : 
   there : i < construct-count ws′
   there = omega (arith, g .constructs)
 
-  inside : (c : Construct) → constructAt ws i ≡ c → (k : ℕ) → k < literal-length c → literal-byte ws i k ≡ literal-byte ws′ i k
-  inside Construct.Missing e k b = absurd (omega arith)
-  inside (Construct.Alternative size) e k b = absurd (omega arith)
-  inside (Construct.Concatenation size) e k b = absurd (omega arith)
-  inside (Construct.Repetition size p) e k b = absurd (omega arith)
-  inside (Construct.Switch size) e k b = absurd (omega arith)
-  inside (Construct.Use rule) e k b = absurd (omega arith)
-  inside (Construct.Literal n) e k b =
+  inside : {c : Construct} → Operands c → constructAt ws i ≡ c → (k : ℕ) → k < literal-length c → literal-byte ws i k ≡ literal-byte ws′ i k
+  inside (Operands.counts size start end) e k b = absurd (omega arith)
+  inside (Operands.characters n) e k b =
       sym (byte-of ws i 0 k n k b (omega arith)) ∙ ap (λ (xs : List ℕ). getD xs k 0) (g .literal i n h e) ∙ byte-of ws′ i 0 k n k b (omega arith)
-  inside (Construct.Range low high) e k b = absurd (omega arith)
-  inside (Construct.Uint width start end binder) e k b = absurd (omega arith)
-  inside Construct.Eod e k b = absurd (omega arith)
+  inside (Operands.set width start end binder) e k b = absurd (omega arith)
+  inside (Operands.plain p) e k b = absurd (omega (arith, p .length))
 
   same-byte : (k : ℕ) → k < max-literal-bytes → literal-byte ws i k ≡ literal-byte ws′ i k
   same-byte k b =
       elim (decLt k (literal-length (constructAt ws i))) [
-        | yes m ↦ inside (constructAt ws i) refl k m
+        | yes m ↦ inside (operands (constructAt ws i)) refl k m
         | no m ↦
             let n : literal-length (constructAt ws i) ≡ literal-length (constructAt ws′ i) = ap literal-length (g .construct i h) in
             zero-byte l i k h b (omega arith) ∙ sym (zero-byte l′ i k there b (omega arith))

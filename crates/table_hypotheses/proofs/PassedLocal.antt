@@ -17,12 +17,12 @@ use Rattle.theory.specs.Weight.{Weighs}
 use Rattle.table_layout.specs.Places.{construct-count, rule-count, weight-of}
 use Rattle.table_layout.specs.Constructs.{pick, constructAt}
 use Rattle.table_layout.specs.Held.{Context, first-context, Values, held, opening}
-use Rattle.table_layout.specs.declared.Construct.{Construct}
-use Rattle.table_layout.specs.declared.Passes.{Passes}
+use Rattle.table_layout.specs.Attributes.{attributes-of}
+use Rattle.table_layout.specs.declared.OwnList.{OwnList}
 use Rattle.table_wellformed.specs.Checks.{either}
 use Rattle.table_structure.proofs.Facts.{Laid, facts}
 use Rattle.table_reach.specs.Reaching.{Uses, Reaches, Acyclic}
-use Rattle.table_sizes.specs.Measures.{largest, widest-from, widest, condition-size, counts-size, own-size, exceeds, oversized}
+use Rattle.table_sizes.specs.Measures.{largest, widest-from, widest, condition-size, list-size, own-size, exceeds, oversized}
 use Rattle.run_actions.specs.Stored.{prediction-at, follow-at}
 use Rattle.table_judge.specs.Judged.{Weighing, Passed10}
 use Rattle.table_judge.specs.Sound.{Stands, Sound}
@@ -76,27 +76,14 @@ module _ {ws ws′ : List ℕ} (a : Alike ws ws′) where
       let upto = construct-words a i 7 h (omega arith) in
       λ t. pick (ltb (from t) (upto t)) (sizes Kind.Condition (widest-local t) (from t) (terms (terms-same a t) (from t) (upto t))) Sized.Passes
 
-  counts-size-same : (p : Passes) → counts-size ws p ≡ counts-size ws′ p
-  counts-size-same Passes.Optional = refl
-  counts-size-same Passes.Any = refl
-  counts-size-same Passes.Some = refl
-  counts-size-same (Passes.Counted start end) = λ t. countSizes (widest-local t) (terms-same a t) start end
-
-  own-size-same : (c : Construct) → own-size ws c ≡ own-size ws′ c
-  own-size-same Construct.Missing = refl
-  own-size-same (Construct.Alternative size) = refl
-  own-size-same (Construct.Concatenation size) = refl
-  own-size-same (Construct.Repetition size p) = counts-size-same p
-  own-size-same (Construct.Switch size) = refl
-  own-size-same (Construct.Use rule) = refl
-  own-size-same (Construct.Literal length) = refl
-  own-size-same (Construct.Range low high) = refl
-  own-size-same (Construct.Uint width start end binder) = λ t. sizes Kind.Set (widest-local t) start (terms (terms-same a t) start end)
-  own-size-same Construct.Eod = refl
+  list-size-same : (o : OwnList) → list-size ws o ≡ list-size ws′ o
+  list-size-same OwnList.None = refl
+  list-size-same (OwnList.Counts start end) = λ t. countSizes (widest-local t) (terms-same a t) start end
+  list-size-same (OwnList.Set start end) = λ t. sizes Kind.Set (widest-local t) start (terms (terms-same a t) start end)
 
   pub oversized-local : (i : ℕ) → i < max-constructs → oversized ws i ≡ oversized ws′ i
   oversized-local i h =
-      let own : own-size ws (constructAt ws i) ≡ own-size ws′ (constructAt ws′ i) = own-size-same (constructAt ws i) ∙ ap (own-size ws′) (constructs-same a i) in
+      let own : own-size ws (constructAt ws i) ≡ own-size ws′ (constructAt ws′ i) = list-size-same (attributes-of (constructAt ws i) .own) ∙ ap (own-size ws′) (constructs-same a i) in
       λ t. either (exceeds (condition-size-same i h t)) (exceeds (own t))
 
   -- ---- what holds of the grammar

@@ -14,6 +14,7 @@ use Rattle.table_layout.specs.Places.{rule-count, construct-count}
 use Rattle.table_layout.specs.Constructs.{constructAt}
 use Rattle.table_layout.specs.Held.{Context, Values, HeldNode, node-of, held, opening}
 use Rattle.table_layout.specs.declared.Construct.{Construct}
+use Rattle.table_layout.proofs.Views.{Parted, parted, leaf-node}
 use Rattle.table_layout.specs.declared.Passes.{Passes}
 use Rattle.table_wellformed.specs.Rules.{body}
 use Rattle.table_structure.proofs.Facts.{Laid}
@@ -41,18 +42,15 @@ Repeated ws i (field w admits static binds) = Unit {0}
 Repeated ws i eod = Unit {0}
 
 module _ {ws : List ℕ} (l : Laid ws) where
-  repeated-by : (i : ℕ) (c : Construct) → i < construct-count ws → constructAt ws i ≡ c → Repeated ws i (node-of ws i c)
+  repeated-by : (i : ℕ) {c : Construct} → Parted c → i < construct-count ws → constructAt ws i ≡ c → Repeated ws i (node-of ws i c)
   unfolding node-of
-  repeated-by i Construct.Missing h e = tt
-  repeated-by i (Construct.Alternative size) h e = tt
-  repeated-by i (Construct.Concatenation size) h e = tt
-  repeated-by i (Construct.Repetition size how) h e = record { there = h; next = refl; size = size; how = how; is = e }
-  repeated-by i (Construct.Switch size) h e = tt
-  repeated-by i (Construct.Use rule) h e = tt
-  repeated-by i (Construct.Literal length) h e = tt
-  repeated-by i (Construct.Range low high) h e = tt
-  repeated-by i (Construct.Uint width start end binder) h e = tt
-  repeated-by i Construct.Eod h e = tt
+  repeated-by i Parted.missing h e = tt
+  repeated-by i (Parted.branches size) h e = tt
+  repeated-by i (Parted.members size) h e = tt
+  repeated-by i (Parted.body size how) h e = record { there = h; next = refl; size = size; how = how; is = e }
+  repeated-by i (Parted.cases size) h e = tt
+  repeated-by i (Parted.opens rule) h e = tt
+  repeated-by i (Parted.leaf f) h e = leaf-node ws i (Repeated ws i) (λ w admits static binds. tt) tt _ f
 
   repeated : (i : ℕ) → Repeated ws i (held ws .node i)
   unfolding node-of
@@ -61,7 +59,7 @@ module _ {ws : List ℕ} (l : Laid ws) where
         | yes e ↦ rw (node-opening ws i e) tt
         | no e ↦ elim (decLt i max-constructs) [
           | yes k ↦ rw (node-inside ws i k)
-              (elim (decLt i (construct-count ws)) [ yes h ↦ repeated-by i (constructAt ws i) h refl | no h ↦ rw (missing-past l i (omega arith), node-of) tt ])
+              (elim (decLt i (construct-count ws)) [ yes h ↦ repeated-by i (parted (constructAt ws i)) h refl | no h ↦ rw (missing-past l i (omega arith), node-of) tt ])
           | no k ↦ rw (node-past ws i (omega arith)) tt
         ]
       ]

@@ -23,7 +23,7 @@ use Rattle.table_wellformed.specs.Parts.{unconditioned}
 use Rattle.table_wellformed.specs.Lists.{own-start, own-end, begins, after, lists-begin, after-lists, lists-from, lists-laid, has-low, term-laid}
 use Rattle.table_wellformed.specs.Rules.{body, rule-end, rule-laid, binder-of, variable-laid, member-laid, next-variable, binders-from, is-concatenation, binders-laid, visible, operation-named, term-named, list-named, construct-named, uses-laid}
 use Rattle.table_wellformed.specs.Laid.{headed, construct-laid, placed, laid}
-use Rattle.table_wellformed.proofs.Decoded.{Fine, fine}
+use Rattle.table_layout.proofs.Bounds.{bounds}
 use Rattle.table_structure.proofs.Facts.{Laid, facts}
 use Rattle.table_structure.proofs.RuleLaws.{next-begins, last-ends, rule-fact, rule-within}
 use Rattle.table_structure.proofs.NodeFacts.{body-exists}
@@ -40,18 +40,9 @@ variables-end {ws} l (suc n) r e =
     let next : rule-end ws r 1 ≡ rule-word ws (r + 1) 1 = next-begins ws r 1 (omega arith) in
     omega (arith, rule-fact l (r + 1) (omega arith) .variables)
 
--- what binds is a construct, and its variable one that there may be
-binder-small : (i : ℕ) (c : Construct) (x : ℕ) → Fine i c → binder-of c ≡ x + 1 → (i < max-constructs) × (x < max-variables)
-binder-small i Construct.Missing x f e = absurd (omega arith)
-binder-small i (Construct.Alternative size) x f e = absurd (omega arith)
-binder-small i (Construct.Concatenation size) x f e = absurd (omega arith)
-binder-small i (Construct.Repetition size p) x f e = absurd (omega arith)
-binder-small i (Construct.Switch size) x f e = absurd (omega arith)
-binder-small i (Construct.Use rule) x f e = absurd (omega arith)
-binder-small i (Construct.Literal n) x f e = absurd (omega arith)
-binder-small i (Construct.Range low high) x f e = absurd (omega arith)
-binder-small i (Construct.Uint width start end binder) x f e = (f .0, omega (arith, f .5))
-binder-small i Construct.Eod x f e = absurd (omega arith)
+-- what binds is a construct, and its variable one of the 64
+binder-small : (ws : List ℕ) (i x : ℕ) → binder-of (constructAt ws i) ≡ x + 1 → (i < 256) × (x < 64)
+binder-small ws i x e = (bounds ws i .bound (omega arith), omega (arith, bounds ws i .binder))
 
 module _ {ws ws′ : List ℕ} (a : Alike ws ws′) where
   -- ---- lists of terms
@@ -89,7 +80,7 @@ module _ {ws ws′ : List ℕ} (a : Alike ws ws′) where
   variable-same x j =
       elim (decide (eqb (binder-of (constructAt ws j)) (x + 1))) [
         | inl s ↦
-            let small = binder-small j (constructAt ws j) x (fine ws j) (eqb-true (binder-of (constructAt ws j)) (x + 1) s) in
+            let small = binder-small ws j x (eqb-true (binder-of (constructAt ws j)) (x + 1) s) in
             let place = variable-words a x 0 (small .1) (omega arith) in
             let width = variable-words a x 1 (small .1) (omega arith) in
             let zeros = zeros-same a (variables-at + 4 * x + 2) (variables-at + 4 * x + 4) (omega arith) (omega (arith, small .1)) in

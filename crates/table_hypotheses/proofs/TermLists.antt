@@ -18,9 +18,10 @@ use Rattle.table_layout.specs.Places.{word, terms-at, construct-count, term-cou
 use Rattle.table_layout.specs.Constructs.{constructAt}
 use Rattle.table_layout.specs.Held.{term-words}
 use Rattle.table_layout.specs.declared.Construct.{Construct}
-use Rattle.table_layout.specs.declared.Passes.{Passes}
+use Rattle.table_layout.specs.declared.OwnList.{OwnList}
+use Rattle.table_layout.proofs.Views.{Operands, operands}
 use Rattle.table_wellformed.specs.Checks.{either}
-use Rattle.table_wellformed.specs.Lists.{own-start, own-end, begins, after, after-condition, lists-begin, after-lists, lists-from, has-low}
+use Rattle.table_wellformed.specs.Lists.{list-end, own-start, own-end, begins, after, after-condition, lists-begin, after-lists, lists-from, has-low}
 use Rattle.table_wellformed.proofs.Walks.{both-first, both-second}
 use Rattle.table_weights.proofs.Heights.{weight-at}
 use Rattle.table_weights.proofs.Rooms.{rooms}
@@ -76,26 +77,18 @@ module _ {ws : List ℕ} (s : Sound ws) where
   condition-known i h j low high =
       list-known _ (widest ws) (term-words ws) (construct-word ws i 6) (construct-word ws i 7) (condition-answers sure i h (omega arith)) j low high
 
-  own-known : (i : ℕ) → i < construct-count ws → (c : Construct) → constructAt ws i ≡ c → (j : ℕ) → own-start c ≤ j → j < own-end c → Known (termAt (term-words ws) j)
-  own-known i h Construct.Missing e j low high = absurd (omega arith)
-  own-known i h (Construct.Alternative size) e j low high = absurd (omega arith)
-  own-known i h (Construct.Concatenation size) e j low high = absurd (omega arith)
-  own-known i h (Construct.Repetition size Passes.Optional) e j low high = absurd (omega arith)
-  own-known i h (Construct.Repetition size Passes.Any) e j low high = absurd (omega arith)
-  own-known i h (Construct.Repetition size Passes.Some) e j low high = absurd (omega arith)
-  own-known i h (Construct.Repetition size (Passes.Counted start end)) e j low high =
+  own-known : (i : ℕ) → i < construct-count ws → {c : Construct} → Operands c → constructAt ws i ≡ c → (j : ℕ) → own-start c ≤ j → j < own-end c → Known (termAt (term-words ws) j)
+  own-known i h (Operands.counts size start end) e j low high =
       counts-known (widest ws) (term-words ws) start end (omega arith) (counts-answer sure i size start end h e) j low high
-  own-known i h (Construct.Switch size) e j low high = absurd (omega arith)
-  own-known i h (Construct.Use rule) e j low high = absurd (omega arith)
-  own-known i h (Construct.Literal n) e j low high = absurd (omega arith)
-  own-known i h (Construct.Range a b) e j low high = absurd (omega arith)
-  own-known i h (Construct.Uint width start end binder) e j low high =
+  own-known i h (Operands.characters n) e j low high = absurd (omega arith)
+  own-known i h (Operands.set width start end binder) e j low high =
       list-known _ (widest ws) (term-words ws) start end (set-answers sure i width start end binder h e) j low high
-  own-known i h Construct.Eod e j low high = absurd (omega arith)
+  own-known i h (Operands.plain p) e j low high =
+      let l : j < 0 = subst (λ (o : OwnList). j < list-end o) (p .own) high in absurd (omega arith)
 
   term-known : (j : ℕ) → j < term-count ws → Known (termAt (term-words ws) j)
   term-known j h =
-      listed ws (λ k. Known (termAt (term-words ws) k)) condition-known (λ i l. own-known i l (constructAt ws i) refl) (construct-count ws) 0 0 j (omega arith) (laid-of-sound s .lists) (omega arith) h
+      listed ws (λ k. Known (termAt (term-words ws) k)) condition-known (λ i l. own-known i l (operands (constructAt ws i)) refl) (construct-count ws) 0 0 j (omega arith) (laid-of-sound s .lists) (omega arith) h
 
   -- ---- the three words of a term
 

@@ -3,8 +3,7 @@
 use Prim.Native.Nat.{ℕ}
 use mathlib.Core.List.{List}
 use native.Mathlib.Omega.{arith}
-use Rattle.table_structure.proofs.StaticLaw.{static}
-use Rattle.table_structure.proofs.NodeFacts.{width-positive}
+use Rattle.table_structure.proofs.StaticLaw.{static, width-positive}
 use Rattle.table_weights.proofs.Heights.{weight-at}
 use Rattle.table_weights.proofs.Rooms.{rooms}
 use Rattle.table_judge.specs.Sound.{Sound}

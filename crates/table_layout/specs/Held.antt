@@ -21,6 +21,7 @@ use Rattle.term_evaluation.specs.declared.Tested.{Tested}
 use Rattle.theory.specs.Grammar.{Node, alternative, concatenation, repetition, switch, use-of, field, eod, Grammar}
 use Rattle.table_layout.specs.Places.{word, rule-word, construct-word, literals-at, terms-at}
 use Rattle.table_layout.specs.Constructs.{pick, both, constructAt}
+use Rattle.table_layout.specs.Attributes.{attributes-of}
 use Rattle.table_layout.specs.declared.Construct.{Construct}
 use Rattle.table_layout.specs.declared.Passes.{Passes}
 
@@ -50,16 +51,7 @@ terms-of ws start end = terms (term-words ws) start end
 
 -- how many constructs a construct is; a missing one is none
 abbrev pub size-of : Construct → ℕ
-size-of Construct.Missing = 0
-size-of (Construct.Alternative size) = size
-size-of (Construct.Concatenation size) = size
-size-of (Construct.Repetition size passes) = size
-size-of (Construct.Switch size) = size
-size-of (Construct.Use rule) = 1
-size-of (Construct.Literal length) = 1
-size-of (Construct.Range low high) = 1
-size-of (Construct.Uint width start end binder) = 1
-size-of Construct.Eod = 1
+size-of c = attributes-of c .size
 
 -- the parts from number j up to number `end`, each as far after the one before as that one is large; a missing one is the last
 unfoldable pub parts : ℕ → List ℕ → ℕ → ℕ → List ℕ

@@ -1,3 +1,4 @@
 pub mod Places
 pub mod Constructs
+pub mod Attributes
 pub mod Held

@@ -7,7 +7,7 @@ use basis::MAX_VARIABLES;
 use basis::MAX_WIDTH;
 ghost use mathlib.Core.Path.{_≡_};
 ghost use Prim.Native.Nat.{ℕ, _+_, _*_, _<_};
-ghost use Rattle.basis.specs.Limits.{max-constructs};
+ghost use Rattle.table_layout.specs.Attributes.{counts-list, row as rowOf, attributes-of};
 ghost use Rattle.table_layout.specs.Held.{size-of};
 ghost use Rattle.table_layout.specs.Places.{word as wordAt};
 ghost use Rattle.table_layout.specs.Constructs.{branches as branchesOf, listed as listedOf, repetitionOf, innerOf, uintOf, literalOf, rangeOf, leafOf, withoutParts, constructOf, constructAt};
@@ -69,6 +69,36 @@ pub enum Construct {
         binder: usize,
     },
     Eod,
+}
+
+// What stands below a construct: nothing, the branches of an alternative, the members of a concatenation, the body of a repetition, the
+// cases of a switch, or the rule that it uses.
+pub enum Below {
+    Nothing,
+    Branches,
+    Members,
+    Body { passes: Passes },
+    Cases,
+    Rule,
+}
+
+// A construct's own list of terms: none, the counts of `{…}`, or the set of a uint.
+pub enum OwnList {
+    None,
+    Counts { start: usize, end: usize },
+    Set { start: usize, end: usize },
+}
+
+// What all layers ask of a construct. `rule` is 64 where it uses none; `length` is that of a literal, `width` and `binder` those of a
+// uint, 0 elsewhere.
+pub struct Attributes {
+    pub size: usize,
+    pub below: Below,
+    pub own: OwnList,
+    pub rule: usize,
+    pub length: usize,
+    pub width: usize,
+    pub binder: usize,
 }
 
 fn wide(x: u32) -> usize
@@ -270,25 +300,84 @@ pub fn construct_at(table: &[u32], i: usize) -> Construct
     )
 }
 
+// The terms that a repetition has.
+fn counts_list(passes: Passes) -> OwnList
+    ensures { λ r. ⌜ r ≡ counts-list passes ⌝ }
+{
+    match passes {
+        Passes::Optional => OwnList::None,
+        Passes::Any => OwnList::None,
+        Passes::Some => OwnList::None,
+        Passes::Counted { start, end } => OwnList::Counts { start, end },
+    }
+}
+
+fn row(
+    size: usize,
+    below: Below,
+    own: OwnList,
+    rule: usize,
+    length: usize,
+    width: usize,
+    binder: usize,
+) -> Attributes
+    ensures { λ r. ⌜ r ≡ rowOf size below own rule length width binder ⌝ }
+{
+    Attributes {
+        size,
+        below,
+        own,
+        rule,
+        length,
+        width,
+        binder,
+    }
+}
+
+// What a construct's kind and operands say to those who ask for no more than that.
+pub fn attributes_of(construct: Construct) -> Attributes
+    ensures { λ r. ⌜ r ≡ attributes-of construct ⌝ }
+{
+    match construct {
+        Construct::Missing => row(0, Below::Nothing, OwnList::None, 64, 0, 0, 0),
+        Construct::Alternative { size } => row(size, Below::Branches, OwnList::None, 64, 0, 0, 0),
+        Construct::Concatenation { size } => row(size, Below::Members, OwnList::None, 64, 0, 0, 0),
+        Construct::Repetition { size, passes } => {
+            row(
+                size,
+                Below::Body { passes },
+                counts_list(passes),
+                64,
+                0,
+                0,
+                0,
+            )
+        }
+        Construct::Switch { size } => row(size, Below::Cases, OwnList::None, 64, 0, 0, 0),
+        Construct::Use { rule } => row(1, Below::Rule, OwnList::None, rule, 0, 0, 0),
+        Construct::Literal { length } => row(1, Below::Nothing, OwnList::None, 64, length, 0, 0),
+        Construct::Range { low: _, high: _ } => row(1, Below::Nothing, OwnList::None, 64, 0, 0, 0),
+        Construct::Uint {
+            width,
+            start,
+            end,
+            binder,
+        } => row(
+            1,
+            Below::Nothing,
+            OwnList::Set { start, end },
+            64,
+            0,
+            width,
+            binder,
+        ),
+        Construct::Eod => row(1, Below::Nothing, OwnList::None, 64, 0, 0, 0),
+    }
+}
+
 // How many constructs a construct is; a missing one is none.
 pub fn size_of(construct: Construct) -> usize
     ensures { λ r. ⌜ r ≡ size-of construct ⌝ }
 {
-    match construct {
-        Construct::Missing => 0,
-        Construct::Alternative { size } => size,
-        Construct::Concatenation { size } => size,
-        Construct::Repetition { size, passes: _ } => size,
-        Construct::Switch { size } => size,
-        Construct::Use { rule: _ } => 1,
-        Construct::Literal { length: _ } => 1,
-        Construct::Range { low: _, high: _ } => 1,
-        Construct::Uint {
-            width: _,
-            start: _,
-            end: _,
-            binder: _,
-        } => 1,
-        Construct::Eod => 1,
-    }
+    attributes_of(construct).size
 }

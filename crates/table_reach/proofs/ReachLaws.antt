@@ -2,7 +2,7 @@
 -- Assumes nothing.
 use Prim.Native.Nat.{ℕ, _-_, _≤_, _<_, min}
 use native.Mathlib.Omega.{arith}
-use mathlib.Core.Path.{_≡_, refl, sym, ap, _∙_}
+use mathlib.Core.Path.{_≡_, refl, sym, _∙_}
 use mathlib.Core.Bool.{Bool, true, false}
 use mathlib.Core.List.{List}
 use borrow.Author.Tests.{ltb-true, lt-ltb, eqb-true, eq-eqb}
@@ -12,6 +12,7 @@ use Rattle.basis.specs.Limits.{max-rules, max-constructs}
 use Rattle.table_layout.specs.Places.{rule-count}
 use Rattle.table_layout.specs.Constructs.{pick, constructAt}
 use Rattle.table_layout.specs.declared.Construct.{Construct}
+use Rattle.table_layout.proofs.Views.{parted, use-by}
 use Rattle.lookahead.specs.Sets.{bit}
 use Rattle.table_reach.specs.Reaching.{body-of, rule-end, Uses, Reaches, Found}
 use Rattle.table_reach.specs.Closure.{used-rule, calls, uses-between, uses, closure, Matrix, Diagonal}
@@ -29,25 +30,12 @@ pub chosen : (b : Bool) (n : ℕ) → pick b n 0 ≡ 1 → (b ≡ true) × (n �
 chosen true n e = (refl, e)
 chosen false n e = absurd (omega arith)
 
--- a construct that calls rule q is a use of it
-pub used-construct : (x : Construct) (q : ℕ) → q < max-rules → used-rule x ≡ q → x ≡ Construct.Use q
-used-construct Construct.Missing q h e = absurd (omega arith)
-used-construct (Construct.Alternative size) q h e = absurd (omega arith)
-used-construct (Construct.Concatenation size) q h e = absurd (omega arith)
-used-construct (Construct.Repetition size passes) q h e = absurd (omega arith)
-used-construct (Construct.Switch size) q h e = absurd (omega arith)
-used-construct (Construct.Use rule) q h e = ap Construct.Use e
-used-construct (Construct.Literal length) q h e = absurd (omega arith)
-used-construct (Construct.Range low high) q h e = absurd (omega arith)
-used-construct (Construct.Uint width start end binder) q h e = absurd (omega arith)
-used-construct Construct.Eod q h e = absurd (omega arith)
-
 module _ (ws : List ℕ) where
   pub calls-binary : (q i : ℕ) → calls ws q i ≤ 1
   calls-binary q i = chosen-binary (eqb (used-rule (constructAt ws i)) q) 1 (omega arith)
 
-  pub called : (q i : ℕ) → q < max-rules → calls ws q i ≡ 1 → constructAt ws i ≡ Construct.Use q
-  called q i h e = used-construct (constructAt ws i) q h (eqb-true (used-rule (constructAt ws i)) q (chosen (eqb (used-rule (constructAt ws i)) q) 1 e .0))
+  pub called : (q i : ℕ) → q < 64 → calls ws q i ≡ 1 → constructAt ws i ≡ Construct.Use q
+  called q i h e = use-by (parted (constructAt ws i)) q h (eqb-true (used-rule (constructAt ws i)) q (chosen (eqb (used-rule (constructAt ws i)) q) 1 e .0))
 
   pub calls-use : (q i : ℕ) → constructAt ws i ≡ Construct.Use q → calls ws q i ≡ 1
   calls-use q i e = rw (e, eq-eqb q q refl) refl

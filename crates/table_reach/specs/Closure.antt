@@ -8,6 +8,7 @@ use lib.ListN.{length, getD}
 use Rattle.basis.specs.Limits.{max-rules, max-constructs}
 use Rattle.table_layout.specs.Places.{rule-count}
 use Rattle.table_layout.specs.Constructs.{pick, constructAt}
+use Rattle.table_layout.specs.Attributes.{attributes-of}
 use Rattle.table_layout.specs.declared.Construct.{Construct}
 use Rattle.lookahead.specs.Sets.{bit}
 use Rattle.table_reach.specs.Reaching.{body-of, rule-end}
@@ -20,16 +21,7 @@ some-of (suc n) f i = max (f i) (some-of n f (i + 1))
 
 -- the rule that a construct uses; the first number past all rules, where it uses none
 abbrev pub used-rule : Construct → ℕ
-used-rule Construct.Missing = max-rules
-used-rule (Construct.Alternative size) = max-rules
-used-rule (Construct.Concatenation size) = max-rules
-used-rule (Construct.Repetition size passes) = max-rules
-used-rule (Construct.Switch size) = max-rules
-used-rule (Construct.Use rule) = rule
-used-rule (Construct.Literal length) = max-rules
-used-rule (Construct.Range low high) = max-rules
-used-rule (Construct.Uint width start end binder) = max-rules
-used-rule Construct.Eod = max-rules
+used-rule c = attributes-of c .rule
 
 -- whether construct i is a use of rule q
 abbrev pub calls : List ℕ → ℕ → ℕ → ℕ

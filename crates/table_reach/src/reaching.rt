@@ -13,7 +13,7 @@ use super::at_most;
 use basis::MAX_CONSTRUCTS;
 use basis::MAX_RULES;
 use table_layout::Construct;
-use table_layout::RULES_AT;
+use table_layout::attributes_of;
 use table_layout::construct_at;
 use table_layout::word;
 
@@ -29,23 +29,7 @@ fn has(row: u64, q: usize) -> bool
 fn rule_used(construct: Construct) -> usize
     ensures { λ r. ⌜ r ≡ used-rule construct ⌝ }
 {
-    match construct {
-        Construct::Missing => MAX_RULES,
-        Construct::Alternative { size: _ } => MAX_RULES,
-        Construct::Concatenation { size: _ } => MAX_RULES,
-        Construct::Repetition { size: _, passes: _ } => MAX_RULES,
-        Construct::Switch { size: _ } => MAX_RULES,
-        Construct::Use { rule } => rule,
-        Construct::Literal { length: _ } => MAX_RULES,
-        Construct::Range { low: _, high: _ } => MAX_RULES,
-        Construct::Uint {
-            width: _,
-            start: _,
-            end: _,
-            binder: _,
-        } => MAX_RULES,
-        Construct::Eod => MAX_RULES,
-    }
+    attributes_of(construct).rule
 }
 
 // The row with the use of a rule.

@@ -15,7 +15,7 @@ use Rattle.table_layout.specs.Places.{rule-count, construct-count}
 use Rattle.table_layout.specs.Constructs.{constructAt}
 use Rattle.table_wellformed.specs.Checks.{size-at}
 use Rattle.table_wellformed.specs.Rules.{body, rule-end, binder-of, is-concatenation, members-at}
-use Rattle.table_wellformed.proofs.Decoded.{picked}
+use Rattle.table_layout.proofs.Bounds.{picked}
 use Rattle.table_structure.proofs.Tiles.{Tiles, none, more, within, tile-end}
 use Rattle.table_structure.proofs.Facts.{Laid, lt-of-ne}
 use Rattle.table_structure.proofs.RuleLaws.{rule-of, rule-within}

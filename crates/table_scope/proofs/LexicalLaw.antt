@@ -20,15 +20,16 @@ use Rattle.table_layout.specs.Places.{rule-count, construct-count}
 use Rattle.table_layout.specs.Constructs.{constructAt}
 use Rattle.table_layout.specs.Held.{Context, Values, HeldNode, use-node, node-of, opening, held}
 use Rattle.table_layout.specs.declared.Construct.{Construct}
+use Rattle.table_layout.proofs.Views.{Parted, parted, leaf-node}
 use Rattle.table_wellformed.specs.Rules.{binder-of}
 use Rattle.table_wellformed.specs.Laid.{laid}
-use Rattle.table_wellformed.proofs.Decoded.{picked}
+use Rattle.table_layout.proofs.Bounds.{picked}
 use Rattle.table_reach.specs.Reaching.{Acyclic}
 use Rattle.table_structure.proofs.Facts.{Laid, facts}
 use Rattle.table_structure.proofs.RuleLaws.{rule-of, rule-fact}
 use Rattle.table_structure.proofs.Owners.{rule-holds}
-use Rattle.table_structure.proofs.NodeFacts.{use-names, missing-past, values-stay}
-use Rattle.table_structure.proofs.StaticLaw.{static}
+use Rattle.table_structure.proofs.NodeFacts.{use-names, missing-past}
+use Rattle.table_structure.proofs.StaticLaw.{static, values-stay}
 use Rattle.table_scope.specs.Scope.{store, fresh, bound-by, bound-at, seen-at, scope-of}
 use Rattle.table_scope.proofs.Seen.{seen-first}
 use Rattle.table_scope.proofs.Levels.{stands}
@@ -75,24 +76,21 @@ module _ {ws : List ℕ} (l : Laid ws) where
       let e : x ≡ 0 = List·Memᴰ·eq-of-singleton (rw (seen-first l q h (rule-fact l q h .some-construct)) at m)
       in rw e (a 0 (List·Memᴰ·head refl) ∙ sym (ap pos (length-replicate (length v′) (pos 0))))
 
-  entered-by : (i : ℕ) (c : Construct) → constructAt ws i ≡ c → (i < construct-count ws) → Entered ws i (node-of ws i c)
+  entered-by : (i : ℕ) {c : Construct} → Parted c → constructAt ws i ≡ c → (i < construct-count ws) → Entered ws i (node-of ws i c)
   unfolding node-of
-  entered-by i Construct.Missing e h = tt
-  entered-by i (Construct.Alternative size) e h = tt
-  entered-by i (Construct.Concatenation size) e h = tt
-  entered-by i (Construct.Repetition size passes) e h = tt
-  entered-by i (Construct.Switch size) e h = tt
-  entered-by i (Construct.Use rule) e h = enters i rule (use-names l i rule h e)
-  entered-by i (Construct.Literal n) e h = tt
-  entered-by i (Construct.Range low high) e h = tt
-  entered-by i (Construct.Uint width start end binder) e h = tt
-  entered-by i Construct.Eod e h = tt
+  entered-by i Parted.missing e h = tt
+  entered-by i (Parted.branches size) e h = tt
+  entered-by i (Parted.members size) e h = tt
+  entered-by i (Parted.body size passes) e h = tt
+  entered-by i (Parted.cases size) e h = tt
+  entered-by i (Parted.opens rule) e h = enters i rule (use-names l i rule h e)
+  entered-by i (Parted.leaf f) e h = leaf-node ws i (Entered ws i) (λ w admits static binds. tt) tt _ f
 
   entered-construct : (i : ℕ) → Entered ws i (node-of ws i (constructAt ws i))
   unfolding node-of
   entered-construct i =
       elim (decide (ltb i (construct-count ws))) [
-        | inl t ↦ entered-by i (constructAt ws i) refl (ltb-true i (construct-count ws) t)
+        | inl t ↦ entered-by i (parted (constructAt ws i)) refl (ltb-true i (construct-count ws) t)
         | inr t ↦ rw (missing-past l i (ltb-false i (construct-count ws) t), node-of) tt
       ]
 

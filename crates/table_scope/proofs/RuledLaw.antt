@@ -8,12 +8,13 @@ use native.Mathlib.Omega.{arith}
 use Rattle.table_layout.specs.Places.{construct-count}
 use Rattle.table_layout.specs.Constructs.{constructAt}
 use Rattle.table_layout.specs.declared.Construct.{Construct}
+use Rattle.table_layout.proofs.Views.{Parted, parted}
 use Rattle.table_wellformed.specs.Laid.{laid}
 use Rattle.table_structure.proofs.Tiles.{Tiles as Row, none, more}
 use Rattle.table_structure.proofs.Facts.{Laid, facts}
 use Rattle.table_structure.proofs.PartLaws.{Tiled, tiled}
 use Rattle.table_structure.proofs.RuleLaws.{rule-fact}
-use Rattle.table_structure.proofs.NodeFacts.{use-names, body-exists, present, missing-past}
+use Rattle.table_structure.proofs.NodeFacts.{use-names, body-exists, missing-past}
 use Rattle.table_weights.specs.Ruled.{size-at, Tiles, Filled, Ruled}
 
 row : {ws : List ℕ} {check : ℕ → Bool} {end j : ℕ} {js : List ℕ} → Row ws check end j js → Tiles ws end j
@@ -24,17 +25,14 @@ row {ws} {end = end} (more positive-end positive c e rest) = Tiles.more positive
 one : (ws : List ℕ) (i size : ℕ) {check : ℕ → Bool} → Row ws check (i + size) (i + 1) ((i + 1) ∷ []) → (1 ≤ size-at ws (i + 1)) × (i + 1 + size-at ws (i + 1) ≡ i + size)
 one ws i size (more h positive c e (none f)) = (positive, omega arith)
 
-filled-by : {ws : List ℕ} (l : Laid ws) (i : ℕ) → i < construct-count ws → (c : Construct) → constructAt ws i ≡ c → Tiled ws i c → Filled ws i c
-filled-by l i h Construct.Missing e t = present l i h e
-filled-by l i h (Construct.Alternative size) e t = row t
-filled-by l i h (Construct.Concatenation size) e t = row t
-filled-by {ws} l i h (Construct.Repetition size passes) e t = one ws i size t
-filled-by l i h (Construct.Switch size) e t = row t
-filled-by l i h (Construct.Use rule) e t = use-names l i rule h e
-filled-by l i h (Construct.Literal length) e t = tt
-filled-by l i h (Construct.Range low high) e t = tt
-filled-by l i h (Construct.Uint width start end binder) e t = tt
-filled-by l i h Construct.Eod e t = tt
+filled-by : {ws : List ℕ} (l : Laid ws) (i : ℕ) → i < construct-count ws → {c : Construct} → Parted c → constructAt ws i ≡ c → Tiled ws i c → Filled ws i c
+filled-by l i h Parted.missing e t = tt
+filled-by l i h (Parted.branches size) e t = row t
+filled-by l i h (Parted.members size) e t = row t
+filled-by {ws} l i h (Parted.body size passes) e t = one ws i size t
+filled-by l i h (Parted.cases size) e t = row t
+filled-by l i h (Parted.opens rule) e t = use-names l i rule h e
+filled-by l i h (Parted.leaf f) e t = rw (f .below) tt
 
 pub ruled-of : {ws : List ℕ} → Laid ws → Ruled ws
 ruled-of {ws} l =
@@ -45,7 +43,7 @@ ruled-of {ws} l =
       first-body = l .start-body;
       body-there = body-exists l;
       body-whole = λ r h. rule-fact l r h .ends;
-      filled = λ i h. filled-by l i h (constructAt ws i) refl (tiled l i h);
+      filled = λ i h. filled-by l i h (parted (constructAt ws i)) refl (tiled l i h);
       none-after = missing-past l;
     }
 

@@ -14,7 +14,7 @@ use Rattle.table_layout.specs.Places.{rule-count, construct-count}
 use Rattle.table_layout.specs.Constructs.{both}
 use Rattle.table_wellformed.specs.Rules.{body, rule-end}
 use Rattle.table_wellformed.proofs.Walks.{both-first, both-second}
-use Rattle.table_wellformed.proofs.Decoded.{picked}
+use Rattle.table_layout.proofs.Bounds.{picked}
 use Rattle.table_structure.proofs.Facts.{Laid, lt-of-ne}
 use Rattle.table_structure.proofs.RuleLaws.{rule-within}
 use Rattle.table_structure.proofs.Owners.{one-rule}

@@ -12,9 +12,10 @@ use Rattle.term_sizes.specs.Sizes.{sizes, countSizes}
 use Rattle.term_sizes.specs.declared.Sized.{Sized}
 use Rattle.table_layout.specs.Places.{variable-word, construct-word}
 use Rattle.table_layout.specs.Constructs.{pick, constructAt}
+use Rattle.table_layout.specs.Attributes.{attributes-of}
 use Rattle.table_layout.specs.Held.{term-words, terms-of}
 use Rattle.table_layout.specs.declared.Construct.{Construct}
-use Rattle.table_layout.specs.declared.Passes.{Passes}
+use Rattle.table_layout.specs.declared.OwnList.{OwnList}
 use Rattle.table_wellformed.specs.Checks.{either}
 
 -- "variables at their widest": the largest number of a width within the limit
@@ -37,25 +38,15 @@ condition-size ws i =
     (sizes Kind.Condition (widest ws) (construct-word ws i 6) (terms-of ws (construct-word ws i 6) (construct-word ws i 7)))
     Sized.Passes
 
--- the sizes in counts; `?`, `*` and `+` have no calculation
-abbrev pub counts-size : List ℕ → Passes → Sized
-counts-size ws Passes.Optional = Sized.Passes
-counts-size ws Passes.Any = Sized.Passes
-counts-size ws Passes.Some = Sized.Passes
-counts-size ws (Passes.Counted start end) = countSizes (widest ws) (term-words ws) start end
+-- the sizes in a list of terms: the counts of `{…}`, the set of a uint; where there is none, there is no calculation
+abbrev pub list-size : List ℕ → OwnList → Sized
+list-size ws OwnList.None = Sized.Passes
+list-size ws (OwnList.Counts start end) = countSizes (widest ws) (term-words ws) start end
+list-size ws (OwnList.Set start end) = sizes Kind.Set (widest ws) start (terms-of ws start end)
 
--- the sizes in its own list: the counts of `{…}`, the set of a uint
+-- the sizes in a construct's own list
 abbrev pub own-size : List ℕ → Construct → Sized
-own-size ws Construct.Missing = Sized.Passes
-own-size ws (Construct.Alternative size) = Sized.Passes
-own-size ws (Construct.Concatenation size) = Sized.Passes
-own-size ws (Construct.Repetition size passes) = counts-size ws passes
-own-size ws (Construct.Switch size) = Sized.Passes
-own-size ws (Construct.Use rule) = Sized.Passes
-own-size ws (Construct.Literal length) = Sized.Passes
-own-size ws (Construct.Range low high) = Sized.Passes
-own-size ws (Construct.Uint width start end binder) = sizes Kind.Set (widest ws) start (terms-of ws start end)
-own-size ws Construct.Eod = Sized.Passes
+own-size ws c = list-size ws (attributes-of c .own)
 
 -- a calculation "whose size may pass 2^62"
 abbrev pub exceeds : Sized → Bool

@@ -6,11 +6,9 @@ ghost use lib.ListN.{length};
 ghost use Rattle.basis.specs.Limits.{table-words};
 ghost use Rattle.table_layout.specs.Places.{construct-count};
 ghost use Rattle.table_layout.specs.Constructs.{constructAt};
-ghost use Rattle.table_sizes.specs.Measures.{largest as largestOf, widest as widestOf, condition-size, counts-size, own-size, exceeds as exceedsOf, oversized as oversizedOf, LeastOf};
-use basis::MAX_VARIABLES;
-use basis::MAX_WIDTH;
-use table_layout::Construct;
-use table_layout::Passes;
+ghost use Rattle.table_sizes.specs.Measures.{largest as largestOf, widest as widestOf, condition-size, list-size, own-size, exceeds as exceedsOf, oversized as oversizedOf, LeastOf};
+use table_layout::OwnList;
+use table_layout::attributes_of;
 use table_layout::construct_at;
 use table_layout::word;
 use table_wellformed::checks::construct_word;
@@ -64,38 +62,14 @@ pub fn condition_sizes(table: &[u32], widest: &[i64; MAX_VARIABLES], i: usize) -
     Sized::Passes
 }
 
-fn counts_sizes(table: &[u32], widest: &[i64; MAX_VARIABLES], passes: Passes) -> Sized
-    requires { ⌜ (table-words ≤ length (now table)) × (now widest ≡ widestOf (now table)) ⌝ }
-    ensures { λ r. ⌜ r ≡ counts-size (now (table .entry)) passes ⌝ }
+fn list_sizes(table: &[u32], widest: &[i64; 64], own: OwnList) -> Sized
+    requires { ⌜ (16384 ≤ length (now table)) × (now widest ≡ widestOf (now table)) ⌝ }
+    ensures { λ r. ⌜ r ≡ list-size (now (table .entry)) own ⌝ }
 {
-    match passes {
-        Passes::Optional => Sized::Passes,
-        Passes::Any => Sized::Passes,
-        Passes::Some => Sized::Passes,
-        Passes::Counted { start, end } => measure_counts(term_words(table), start, end, widest),
-    }
-}
-
-fn list_sizes(table: &[u32], widest: &[i64; MAX_VARIABLES], construct: Construct) -> Sized
-    requires { ⌜ (table-words ≤ length (now table)) × (now widest ≡ widestOf (now table)) ⌝ }
-    ensures { λ r. ⌜ r ≡ own-size (now (table .entry)) construct ⌝ }
-{
-    match construct {
-        Construct::Missing => Sized::Passes,
-        Construct::Alternative { size: _ } => Sized::Passes,
-        Construct::Concatenation { size: _ } => Sized::Passes,
-        Construct::Repetition { size: _, passes } => counts_sizes(table, widest, passes),
-        Construct::Switch { size: _ } => Sized::Passes,
-        Construct::Use { rule: _ } => Sized::Passes,
-        Construct::Literal { length: _ } => Sized::Passes,
-        Construct::Range { low: _, high: _ } => Sized::Passes,
-        Construct::Uint {
-            width: _,
-            start,
-            end,
-            binder: _,
-        } => measure(Kind::Set, term_words(table), start, end, widest),
-        Construct::Eod => Sized::Passes,
+    match own {
+        OwnList::None => Sized::Passes,
+        OwnList::Counts { start, end } => measure_counts(term_words(table), start, end, widest),
+        OwnList::Set { start, end } => measure(Kind::Set, term_words(table), start, end, widest),
     }
 }
 
@@ -104,7 +78,9 @@ pub fn own_sizes(table: &[u32], widest: &[i64; MAX_VARIABLES], i: usize) -> Size
     requires { ⌜ (table-words ≤ length (now table)) × (now widest ≡ widestOf (now table)) ⌝ }
     ensures { λ r. ⌜ r ≡ own-size (now (table .entry)) (constructAt (now (table .entry)) i) ⌝ }
 {
-    list_sizes(table, widest, construct_at(table, i))
+    let attributes = attributes_of(construct_at(table, i));
+    let own = attributes.own;
+    list_sizes(table, widest, own)
 }
 
 fn exceeds(sized: Sized) -> bool

@@ -16,6 +16,7 @@ use Rattle.table_layout.specs.Places.{variables-at, rule-count, construct-count
 use Rattle.table_layout.specs.Constructs.{pick, both, constructAt}
 use Rattle.table_layout.specs.Held.{size-of, term-words, parts}
 use Rattle.table_layout.specs.declared.Construct.{Construct}
+use Rattle.table_layout.proofs.Views.{Parted, missing, branches, members, body as one-part, cases, opens, leaf, parted, Operands, counts, characters, set, plain, operands}
 use Rattle.theory.specs.Grammar.{_∈_}
 use Rattle.table_wellformed.specs.Checks.{all-zero, size-at, walk}
 use Rattle.term_words.specs.declared.Kind.{Kind}
@@ -97,16 +98,7 @@ module _ (ws : List ℕ) (end last : ℕ) where
 -- ---- the constructs of a rule that may bind
 
 abbrev pub top-members : List ℕ → ℕ → Construct → List ℕ
-top-members ws i Construct.Missing = i ∷ []
-top-members ws i (Construct.Alternative size) = i ∷ []
-top-members ws i (Construct.Concatenation size) = parts size ws (i + 1) (i + size)
-top-members ws i (Construct.Repetition size passes) = i ∷ []
-top-members ws i (Construct.Switch size) = i ∷ []
-top-members ws i (Construct.Use rule) = i ∷ []
-top-members ws i (Construct.Literal length) = i ∷ []
-top-members ws i (Construct.Range low high) = i ∷ []
-top-members ws i (Construct.Uint width start end binder) = i ∷ []
-top-members ws i Construct.Eod = i ∷ []
+top-members ws i c = pick (is-concatenation c) (parts (size-of c) ws (i + 1) (i + size-of c)) (i ∷ [])
 
 -- of rule r
 abbrev pub members-of : List ℕ → ℕ → List ℕ
@@ -119,18 +111,15 @@ loosely (more h positive c e rest) = more h positive refl e (loosely rest)
 alone : (ws : List ℕ) (i end : ℕ) → i < end → i + size-at ws i ≡ end → Tiles ws (λ k. true) end i (i ∷ [])
 alone ws i end h e = more h (omega arith) refl refl (none e)
 
-top-tiles : (ws : List ℕ) (i end : ℕ) (c : Construct) → Tiled ws i c → size-at ws i ≡ size-of c → i < end → i + size-at ws i ≡ end
+top-tiles : (ws : List ℕ) (i end : ℕ) {c : Construct} → Parted c → Tiled ws i c → size-at ws i ≡ size-of c → i < end → i + size-at ws i ≡ end
     → Tiles ws (λ k. true) end (pick (is-concatenation c) (i + 1) i) (top-members ws i c)
-top-tiles ws i end Construct.Missing t s h e = alone ws i end h e
-top-tiles ws i end (Construct.Alternative size) t s h e = alone ws i end h e
-top-tiles ws i end (Construct.Concatenation size) t s h e = let f : i + size ≡ end = omega arith in subst (λ (z : ℕ). Tiles ws (λ k. true) z (i + 1) (parts size ws (i + 1) (i + size))) f (loosely t)
-top-tiles ws i end (Construct.Repetition size passes) t s h e = alone ws i end h e
-top-tiles ws i end (Construct.Switch size) t s h e = alone ws i end h e
-top-tiles ws i end (Construct.Use rule) t s h e = alone ws i end h e
-top-tiles ws i end (Construct.Literal length) t s h e = alone ws i end h e
-top-tiles ws i end (Construct.Range low high) t s h e = alone ws i end h e
-top-tiles ws i end (Construct.Uint width start stop binder) t s h e = alone ws i end h e
-top-tiles ws i end Construct.Eod t s h e = alone ws i end h e
+top-tiles ws i end missing t s h e = alone ws i end h e
+top-tiles ws i end (branches size) t s h e = alone ws i end h e
+top-tiles ws i end (members size) t s h e = let f : i + size ≡ end = omega arith in subst (λ (z : ℕ). Tiles ws (λ k. true) z (i + 1) (parts size ws (i + 1) (i + size))) f (loosely t)
+top-tiles ws i end (one-part size passes) t s h e = alone ws i end h e
+top-tiles ws i end (cases size) t s h e = alone ws i end h e
+top-tiles ws i end (opens rule) t s h e = alone ws i end h e
+top-tiles ws i end (leaf f) t s h e = rw (f .below) (alone ws i end h e)
 
 -- ---- uses
 
@@ -178,7 +167,7 @@ module _ {ws : List ℕ} (l : Laid ws) where
   pub members-tile : (r : ℕ) → r < rule-count ws → Tiles ws (λ k. true) (rule-end ws r 0) (members-at ws r) (members-of ws r)
   members-tile r h =
       let f = rule-fact l r h
-      in top-tiles ws (body ws r) (rule-end ws r 0) (constructAt ws (body ws r)) (tiled l (body ws r) (omega (arith, rule-within l r h, f .some-construct))) refl (f .some-construct) (f .ends)
+      in top-tiles ws (body ws r) (rule-end ws r 0) (parted (constructAt ws (body ws r))) (tiled l (body ws r) (omega (arith, rule-within l r h, f .some-construct))) refl (f .some-construct) (f .ends)
 
   -- each variable of rule r is bound by a member of its top concatenation, or by its body
   pub bound-in : (r x : ℕ) → r < rule-count ws → rule-word ws r 1 ≤ x → x < rule-end ws r 1 → Bound ws (members-of ws r) x
@@ -210,22 +199,16 @@ pub record VariableOf (ws : List ℕ) (x : ℕ) : Type 0 where
   pub ends : x < rule-end ws rule 1
 
 -- what a binder's own words give: its variable names it back
-back : (ws : List ℕ) (k : ℕ) (c : Construct) → kind-laid ws k c ≡ true → 0 < binder-of c → (binder-of c ≤ variable-count ws) × (variable-word ws (binder-of c - 1) 0 ≡ k)
-back ws k Construct.Missing h b = absurd (omega arith)
-back ws k (Construct.Alternative size) h b = absurd (omega arith)
-back ws k (Construct.Concatenation size) h b = absurd (omega arith)
-back ws k (Construct.Repetition size passes) h b = absurd (omega arith)
-back ws k (Construct.Switch size) h b = absurd (omega arith)
-back ws k (Construct.Use rule) h b = absurd (omega arith)
-back ws k (Construct.Literal length) h b = absurd (omega arith)
-back ws k (Construct.Range low high) h b = absurd (omega arith)
-back ws k (Construct.Uint width start end binder) h b =
+back : (ws : List ℕ) (k : ℕ) {c : Construct} → Operands c → kind-laid ws k c ≡ true → 0 < binder-of c → (binder-of c ≤ variable-count ws) × (variable-word ws (binder-of c - 1) 0 ≡ k)
+back ws k (counts size start end) h b = absurd (omega arith)
+back ws k (characters length) h b = absurd (omega arith)
+back ws k (set width start end binder) h b =
     let N : Bool = leb binder (variable-count ws)
     in let P : Bool = eqb (variable-word ws (binder - 1) 0) k
     in let some : eqb binder 0 ≡ false = ne-eqb binder 0 (λ e. omega arith)
     in let named : both N P ≡ true = rw some at (both-first (named-back ws k binder) (list-formed Kind.Set ws start end) h)
     in (leb-true binder (variable-count ws) (both-first N P named), eqb-true (variable-word ws (binder - 1) 0) k (both-second N P named))
-back ws k Construct.Eod h b = absurd (omega arith)
+back ws k (plain p) h b = absurd (omega (arith, p .binder))
 
 -- construct k is one of the constructs that may bind, of the rule of its variable
 pub record TopBinder (ws : List ℕ) (k : ℕ) : Type 0 where
@@ -258,7 +241,7 @@ module _ {ws : List ℕ} (l : Laid ws) where
   -- "A binder is the whole body of a rule or a member of its top concatenation"
   pub top-binder : (k : ℕ) → k < construct-count ws → 0 < binder-of (constructAt ws k) → TopBinder ws k
   top-binder k h b =
-      let named = back ws k (constructAt ws k) (l .kind k h) b
+      let named = back ws k (operands (constructAt ws k)) (l .kind k h) b
       in let x : ℕ = binder-of (constructAt ws k) - 1
       in let own : VariableOf ws x = variable-of x (omega (arith, named .0))
       in record {

@@ -8,6 +8,7 @@ use Rattle.theory.specs.Grammar.{_∈_}
 use Rattle.table_layout.specs.Places.{rule-count, construct-count}
 use Rattle.table_layout.specs.Constructs.{constructAt}
 use Rattle.table_layout.specs.declared.Construct.{Construct}
+use Rattle.table_layout.proofs.Views.{Parted, missing, branches, members, body as one-part, cases, opens, leaf, parted}
 use Rattle.table_wellformed.specs.Checks.{size-at}
 use Rattle.table_wellformed.specs.Rules.{body, rule-end, binder-of}
 use Rattle.table_structure.proofs.Tiles.{Holds, Apart, same, before, behind}
@@ -22,20 +23,17 @@ pub data Top (ws : List ℕ) (i k : ℕ) : Type 0 where
   itself : k ≡ i → Top ws i k
   part : PartOf ws i k → Top ws i k
 
-top-by : (ws : List ℕ) (i k : ℕ) (c : Construct) → k ∈ top-members ws i c → (k ∈ parts-of ws i c → Top ws i k) → Top ws i k
-top-by ws i k Construct.Missing m f = itself (List·Memᴰ·eq-of-singleton m)
-top-by ws i k (Construct.Alternative size) m f = itself (List·Memᴰ·eq-of-singleton m)
-top-by ws i k (Construct.Concatenation size) m f = f m
-top-by ws i k (Construct.Repetition size passes) m f = itself (List·Memᴰ·eq-of-singleton m)
-top-by ws i k (Construct.Switch size) m f = itself (List·Memᴰ·eq-of-singleton m)
-top-by ws i k (Construct.Use rule) m f = itself (List·Memᴰ·eq-of-singleton m)
-top-by ws i k (Construct.Literal length) m f = itself (List·Memᴰ·eq-of-singleton m)
-top-by ws i k (Construct.Range low high) m f = itself (List·Memᴰ·eq-of-singleton m)
-top-by ws i k (Construct.Uint width start end binder) m f = itself (List·Memᴰ·eq-of-singleton m)
-top-by ws i k Construct.Eod m f = itself (List·Memᴰ·eq-of-singleton m)
+top-by : (ws : List ℕ) (i k : ℕ) {c : Construct} → Parted c → k ∈ top-members ws i c → (k ∈ parts-of ws i c → Top ws i k) → Top ws i k
+top-by ws i k missing m f = itself (List·Memᴰ·eq-of-singleton m)
+top-by ws i k (branches size) m f = itself (List·Memᴰ·eq-of-singleton m)
+top-by ws i k (members size) m f = f m
+top-by ws i k (one-part size passes) m f = itself (List·Memᴰ·eq-of-singleton m)
+top-by ws i k (cases size) m f = itself (List·Memᴰ·eq-of-singleton m)
+top-by ws i k (opens rule) m f = itself (List·Memᴰ·eq-of-singleton m)
+top-by ws i k (leaf l) m f = itself (List·Memᴰ·eq-of-singleton (rw (l .below) at m))
 
 pub top : (ws : List ℕ) (r k : ℕ) → k ∈ members-of ws r → Top ws (body ws r) k
-top ws r k m = top-by ws (body ws r) k (constructAt ws (body ws r)) m (λ p. part p)
+top ws r k m = top-by ws (body ws r) k (parted (constructAt ws (body ws r))) m (λ p. part p)
 
 module _ {ws : List ℕ} (l : Laid ws) where
   apart-not : (p k : ℕ) → p < k → k < p + size-at ws p → 0 < size-at ws k → Apart ws p k → ⊥

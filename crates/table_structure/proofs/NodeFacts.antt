@@ -1,74 +1,23 @@
--- More of what the theory asks of the grammar that words hold: widths, uses; and constructs past the count.
+-- Of laid out words: uses name rules, and constructs past the count are missing.
 -- Assumes nothing.
-use Prim.Native.Nat.{ℕ, zero, suc, _+_, _*_, _-_, _≤_, _<_}
-use mathlib.Core.Path.{_≡_, refl, ap}
+use Prim.Native.Nat.{ℕ, _+_, _*_, _≤_, _<_}
+use mathlib.Core.Path.{_≡_, refl}
 use mathlib.Core.Logic.{inl, inr}
 use mathlib.Core.Bool.{Bool, true}
 use mathlib.Core.List.{List}
-use mathlib.Core.Option.{Option}
 use native.Mathlib.Omega.{arith}
 use borrow.Author.Tests.{ltb-true, eqb-true}
 use lib.Dec.{ltb, eqb}
-use lib.ListN.{length}
-use Rattle.basis.specs.Limits.{max-constructs}
-use Rattle.basis.specs.Bits.{Bits}
-use Rattle.theory.specs.Grammar.{alternative, concatenation, repetition, switch, use-of, field, eod}
 use Rattle.theory.proofs.Turns.{decide}
 use Rattle.table_layout.specs.Places.{word, rules-at, variables-at, constructs-at, terms-at, literals-at, sets-at, table-words, rule-count, construct-count, variable-count, term-count, construct-word}
 use Rattle.table_layout.specs.Constructs.{both, constructOf, constructAt}
-use Rattle.table_layout.specs.Held.{Context, Values, HeldNode, literal-bytes, node-of, opening, held}
 use Rattle.table_layout.specs.declared.Construct.{Construct}
 use Rattle.table_wellformed.specs.Checks.{all-zero}
 use Rattle.table_wellformed.specs.Rules.{body}
 use Rattle.table_wellformed.specs.Laid.{operands-zero, kind-laid}
 use Rattle.table_wellformed.proofs.Walks.{both-first, both-second}
-use Rattle.table_wellformed.proofs.Decoded.{picked, Fine, fine}
 use Rattle.table_structure.proofs.Facts.{Laid, each}
 use Rattle.table_structure.proofs.RuleLaws.{rule-fact, rule-within}
-
--- ---- a field takes a bit
-
-pub literal-long : (ws : List ℕ) (i k n : ℕ) → length (literal-bytes ws i k n) ≡ n
-unfolding literal-bytes
-literal-long ws i k zero = refl
-literal-long ws i k (suc n) = ap suc (literal-long ws i (k + 1) n)
-
--- what the theory asks of a node by itself: a field takes a bit, and "Values stay as last bound"
-abbrev Kept : HeldNode → Type 0
-Kept (alternative is) = Unit {0}
-Kept (concatenation is) = Unit {0}
-Kept (repetition counts static fixed b) = Unit {0}
-Kept (switch chosen is) = Unit {0}
-Kept (use-of enters opens closes b) = (v v′ : Values) → closes v v′ ≡ v′
-Kept (field w admits static binds) = (s : Bits) → 1 ≤ w s
-Kept eod = Unit {0}
-
-construct-kept : (ws : List ℕ) (i : ℕ) (c : Construct) → Fine i c → Kept (node-of ws i c)
-unfolding node-of
-construct-kept ws i Construct.Missing w = tt
-construct-kept ws i (Construct.Alternative size) w = tt
-construct-kept ws i (Construct.Concatenation size) w = tt
-construct-kept ws i (Construct.Repetition size p) w = tt
-construct-kept ws i (Construct.Switch size) w = tt
-construct-kept ws i (Construct.Use rule) w = λ v v′. refl
-construct-kept ws i (Construct.Literal n) w = λ s. let e : length (literal-bytes ws i 0 n) ≡ n = literal-long ws i 0 n in omega (arith, w .1)
-construct-kept ws i (Construct.Range low high) w = λ s. omega arith
-construct-kept ws i (Construct.Uint width start end binder) w = λ s. w .1
-construct-kept ws i Construct.Eod w = tt
-
-pub kept : (ws : List ℕ) (i : ℕ) → Kept (held ws .node i)
-unfolding held
-kept ws i = picked Kept (eqb i opening) (λ e v v′. refl) (λ e. construct-kept ws i (constructAt ws i) (fine ws i))
-
-pub width-positive : (ws : List ℕ) (i : ℕ) {w : Bits → ℕ} {admits : Context → Values → Bits → Bool} {static : Bits → Bool} {binds : Context → Values → Bits → Values}
-    → held ws .node i ≡ field w admits static binds → (s : Bits) → 1 ≤ w s
-width-positive ws i e s = (rw e at (kept ws i)) s
-
-pub values-stay : (ws : List ℕ) (i : ℕ) {b : ℕ} {enters : Context → Option Context} {opens : Context → Values → Values} {closes : Values → Values → Values}
-    → held ws .node i ≡ use-of enters opens closes b → (v v′ : Values) → closes v v′ ≡ v′
-values-stay ws i e v v′ = (rw e at (kept ws i)) v v′
-
--- ---- of laid out words
 
 -- a rule use names a rule
 pub use-names : {ws : List ℕ} → Laid ws → (i r : ℕ) → i < construct-count ws → constructAt ws i ≡ Construct.Use r → r < rule-count ws

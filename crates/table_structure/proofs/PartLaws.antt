@@ -9,40 +9,42 @@ use borrow.Author.Tests.{eqb-true}
 use lib.Dec.{ltb, eqb}
 use Rattle.table_layout.specs.Places.{construct-count}
 use Rattle.table_layout.specs.Constructs.{both, constructAt}
+use Rattle.table_layout.specs.Attributes.{attributes-of}
 use Rattle.table_layout.specs.Held.{size-of, parts}
 use Rattle.table_layout.specs.declared.Construct.{Construct}
+use Rattle.table_layout.specs.declared.Below.{Below}
+use Rattle.table_layout.proofs.Views.{Parted, missing, branches, members, body, cases, opens, leaf, parted}
 use Rattle.table_wellformed.specs.Checks.{size-at}
 use Rattle.table_wellformed.specs.Parts.{part-laid, parts-laid}
 use Rattle.table_wellformed.specs.Laid.{operands-zero, second-part, construct-end, passes-laid, kind-laid}
 use Rattle.table_wellformed.proofs.Walks.{both-first, both-second}
-use Rattle.table_wellformed.proofs.Decoded.{fine}
+use Rattle.table_layout.proofs.Bounds.{fine}
 use Rattle.table_structure.proofs.Tiles.{Tiles, none, tiles, parts-more, parts-none}
 use Rattle.table_structure.proofs.Facts.{Laid}
 
--- the parts of a construct, as the grammar that the table holds has them
+-- the parts of construct i, as the grammar that the table holds has them: by its size and what stands below it
+abbrev pub parts-below : List ℕ → ℕ → ℕ → Below → List ℕ
+parts-below ws i size Below.Nothing = []
+parts-below ws i size Below.Branches = parts size ws (i + 1) (i + size)
+parts-below ws i size Below.Members = parts size ws (i + 1) (i + size)
+parts-below ws i size (Below.Body passes) = (i + 1) ∷ []
+parts-below ws i size Below.Cases = parts size ws (i + 1) (i + size)
+parts-below ws i size Below.Rule = []
+
 abbrev pub parts-of : List ℕ → ℕ → Construct → List ℕ
-parts-of ws i Construct.Missing = []
-parts-of ws i (Construct.Alternative size) = parts size ws (i + 1) (i + size)
-parts-of ws i (Construct.Concatenation size) = parts size ws (i + 1) (i + size)
-parts-of ws i (Construct.Repetition size passes) = (i + 1) ∷ []
-parts-of ws i (Construct.Switch size) = parts size ws (i + 1) (i + size)
-parts-of ws i (Construct.Use rule) = []
-parts-of ws i (Construct.Literal length) = []
-parts-of ws i (Construct.Range low high) = []
-parts-of ws i (Construct.Uint width start end binder) = []
-parts-of ws i Construct.Eod = []
+parts-of ws i c = parts-below ws i (size-of c) (attributes-of c .below)
+
+-- only cases may have conditions
+abbrev pub has-cases : Below → Bool
+has-cases Below.Nothing = false
+has-cases Below.Branches = false
+has-cases Below.Members = false
+has-cases (Below.Body passes) = false
+has-cases Below.Cases = true
+has-cases Below.Rule = false
 
 abbrev pub is-switch : Construct → Bool
-is-switch Construct.Missing = false
-is-switch (Construct.Alternative size) = false
-is-switch (Construct.Concatenation size) = false
-is-switch (Construct.Repetition size passes) = false
-is-switch (Construct.Switch size) = true
-is-switch (Construct.Use rule) = false
-is-switch (Construct.Literal length) = false
-is-switch (Construct.Range low high) = false
-is-switch (Construct.Uint width start end binder) = false
-is-switch Construct.Eod = false
+is-switch c = has-cases (attributes-of c .below)
 
 abbrev pub Tiled : List ℕ → ℕ → Construct → Type 0
 Tiled ws i c = Tiles ws (λ j. part-laid ws (is-switch c) (i + 1) j (i + size-of c)) (i + size-of c) (i + 1) (parts-of ws i c)
@@ -66,17 +68,14 @@ module _ (ws : List ℕ) (i : ℕ) where
       in rw (parts-one size e positive (eqb-true (second-part ws i) (construct-end ws i) (both-first S P h))) at (walked false size e (both-second S P h))
 
   -- by what construct i is
-  pub tiled-by : (c : Construct) → constructAt ws i ≡ c → kind-laid ws i c ≡ true → Tiled ws i c
-  tiled-by Construct.Missing e h = let z : _≡_ {A = ℕ} 0 1 = cc in absurd (omega arith)
-  tiled-by (Construct.Alternative size) e h = walked false size (ap size-of e) (both-second (ltb (second-part ws i) (construct-end ws i)) (parts-laid ws false (i + 1) (construct-end ws i)) (both-second (operands-zero ws i 2) (both (ltb (second-part ws i) (construct-end ws i)) (parts-laid ws false (i + 1) (construct-end ws i))) h))
-  tiled-by (Construct.Concatenation size) e h = walked false size (ap size-of e) (both-second (ltb (second-part ws i) (construct-end ws i)) (parts-laid ws false (i + 1) (construct-end ws i)) (both-second (operands-zero ws i 2) (both (ltb (second-part ws i) (construct-end ws i)) (parts-laid ws false (i + 1) (construct-end ws i))) h))
-  tiled-by (Construct.Repetition size passes) e h = single size (ap size-of e) ((rw e at (fine ws i)) .0) (both-second (passes-laid ws i passes) (both (eqb (second-part ws i) (construct-end ws i)) (parts-laid ws false (i + 1) (construct-end ws i))) h)
-  tiled-by (Construct.Switch size) e h = walked true size (ap size-of e) (both-second (operands-zero ws i 2) (parts-laid ws true (i + 1) (construct-end ws i)) h)
-  tiled-by (Construct.Use rule) e h = none refl
-  tiled-by (Construct.Literal length) e h = none refl
-  tiled-by (Construct.Range low high) e h = none refl
-  tiled-by (Construct.Uint width start end binder) e h = none refl
-  tiled-by Construct.Eod e h = none refl
+  tiled-by : {c : Construct} → Parted c → constructAt ws i ≡ c → kind-laid ws i c ≡ true → Tiled ws i c
+  tiled-by missing e h = let z : _≡_ {A = ℕ} 0 1 = cc in absurd (omega arith)
+  tiled-by (branches size) e h = walked false size (ap size-of e) (both-second (ltb (second-part ws i) (construct-end ws i)) (parts-laid ws false (i + 1) (construct-end ws i)) (both-second (operands-zero ws i 2) (both (ltb (second-part ws i) (construct-end ws i)) (parts-laid ws false (i + 1) (construct-end ws i))) h))
+  tiled-by (members size) e h = walked false size (ap size-of e) (both-second (ltb (second-part ws i) (construct-end ws i)) (parts-laid ws false (i + 1) (construct-end ws i)) (both-second (operands-zero ws i 2) (both (ltb (second-part ws i) (construct-end ws i)) (parts-laid ws false (i + 1) (construct-end ws i))) h))
+  tiled-by (body size passes) e h = single size (ap size-of e) ((rw e at (fine ws i)) .0) (both-second (passes-laid ws i passes) (both (eqb (second-part ws i) (construct-end ws i)) (parts-laid ws false (i + 1) (construct-end ws i))) h)
+  tiled-by (cases size) e h = walked true size (ap size-of e) (both-second (operands-zero ws i 2) (parts-laid ws true (i + 1) (construct-end ws i)) h)
+  tiled-by (opens rule) e h = none refl
+  tiled-by (leaf f) e h = rw (f .below, f .size) (none refl)
 
 pub tiled : {ws : List ℕ} → Laid ws → (i : ℕ) → i < construct-count ws → Tiled ws i (constructAt ws i)
-tiled {ws} l i h = tiled-by ws i (constructAt ws i) refl (l .kind i h)
+tiled {ws} l i h = tiled-by ws i (parted (constructAt ws i)) refl (l .kind i h)

@@ -1,11 +1,12 @@
--- What is static covers what happens, in the grammar that any words hold.
+-- What the theory asks of a node by itself, in the grammar that any words hold: what is static covers what happens, a field takes a bit,
+-- and a use leaves values as last bound.
 -- Assumes nothing.
-use Prim.Native.Nat.{ℕ, _+_, _-_, _≤_}
+use Prim.Native.Nat.{ℕ, zero, suc, _+_, _-_, _≤_}
 use mathlib.Core.Path.{_≡_, refl, ap, _∙_}
 use mathlib.Core.Logic.{inl, inr}
 use mathlib.Core.Bool.{Bool, true, false}
 use mathlib.Core.List.{List, [], _∷_, _++_, List·Memᴰ·head, List·Memᴰ·tail}
-use mathlib.Core.Option.{some}
+use mathlib.Core.Option.{Option, some}
 use native.Mathlib.Omega.{arith}
 use lib.Dec.{ltb, eqb}
 use lib.IntN.{ℤ, pos, negsuc}
@@ -29,13 +30,13 @@ use Rattle.theory.specs.Hypotheses.{Static}
 use Rattle.theory.proofs.Turns.{decide}
 use Rattle.table_layout.specs.Places.{construct-word}
 use Rattle.table_layout.specs.Constructs.{constructAt}
-use Rattle.table_layout.specs.Held.{Context, Values, HeldNode, term-words, terms-of, parts, allowed, isYes, passes-allowed, passes-static, isExact, passes-fixed, first-case, in-set, in-static-set, node-of, opening, held}
+use Rattle.table_layout.specs.Held.{Context, Values, HeldNode, term-words, terms-of, parts, allowed, isYes, passes-allowed, passes-static, isExact, passes-fixed, first-case, literal-bytes, in-set, in-static-set, node-of, opening, held}
 use Rattle.table_layout.specs.declared.Construct.{Construct}
 use Rattle.table_layout.specs.declared.Passes.{Passes}
-use Rattle.table_wellformed.proofs.Decoded.{picked}
+use Rattle.table_layout.proofs.Bounds.{picked, Fine, fine}
 use Rattle.table_structure.proofs.Reading.{membership-same, counts-same, no-variable, none-same}
 
--- what a node's static part is to cover
+-- what is asked of a node
 abbrev StaticOf : HeldNode → Type 0
 StaticOf (alternative is) = Unit {0}
 StaticOf (concatenation is) = Unit {0}
@@ -43,9 +44,10 @@ StaticOf (repetition counts static fixed b) =
     ((c : Context) (v : Values) (k : ℕ) → Allows (counts c v) k → Allows static k)
     × (fixed ≡ true → (c : Context) (v : Values) (j k : ℕ) → Allows (counts c v) j → Allows (counts c v) k → j ≡ k)
 StaticOf (switch chosen is) = (c : Context) (v : Values) (b : ℕ) → chosen c v ≡ some b → b ∈ is
-StaticOf (use-of enters opens closes b) = Unit {0}
+StaticOf (use-of enters opens closes b) = (v v′ : Values) → closes v v′ ≡ v′
 StaticOf (field w admits static binds) =
     ((c : Context) (v : Values) (bits : Bits) → admits c v bits ≡ true → static bits ≡ true) × ((s r : Bits) → w s ≤ length s → w (take (w s) s ++ r) ≡ w s)
+    × ((s : Bits) → 1 ≤ w s)
 StaticOf eod = Unit {0}
 
 -- "a set with a variable counting as `~`"
@@ -131,22 +133,29 @@ case-listed ws v (x ∷ bs) b e =
       | inr t ↦ List·Memᴰ·head (some-same x b (rw (t, first-case) at e))
     ]
 
-construct-static : (ws : List ℕ) (i : ℕ) (c : Construct) → StaticOf (node-of ws i c)
+pub literal-long : (ws : List ℕ) (i k n : ℕ) → length (literal-bytes ws i k n) ≡ n
+unfolding literal-bytes
+literal-long ws i k zero = refl
+literal-long ws i k (suc n) = ap suc (literal-long ws i (k + 1) n)
+
+construct-static : (ws : List ℕ) (i : ℕ) (c : Construct) → Fine i c → StaticOf (node-of ws i c)
 unfolding node-of
-construct-static ws i Construct.Missing = tt
-construct-static ws i (Construct.Alternative size) = tt
-construct-static ws i (Construct.Concatenation size) = tt
-construct-static ws i (Construct.Repetition size p) = (λ c v k a. passes-covered ws p v k a, λ e c v j k x y. passes-once ws p e v j k x y)
-construct-static ws i (Construct.Switch size) = λ c v b e. case-listed ws v (parts size ws (i + 1) (i + size)) b e
-construct-static ws i (Construct.Use rule) = tt
-construct-static ws i (Construct.Literal length) = (λ c v bits e. e, λ s r l. refl)
-construct-static ws i (Construct.Range low high) = (λ c v bits e. e, λ s r l. refl)
-construct-static ws i (Construct.Uint width start end binder) = (λ c v bits e. set-static ws start end v (value bits) e, λ s r l. refl)
-construct-static ws i Construct.Eod = tt
+construct-static ws i Construct.Missing f = tt
+construct-static ws i (Construct.Alternative size) f = tt
+construct-static ws i (Construct.Concatenation size) f = tt
+construct-static ws i (Construct.Repetition size p) f = (λ c v k a. passes-covered ws p v k a, λ e c v j k x y. passes-once ws p e v j k x y)
+construct-static ws i (Construct.Switch size) f = λ c v b e. case-listed ws v (parts size ws (i + 1) (i + size)) b e
+construct-static ws i (Construct.Use rule) f = λ v v′. refl
+construct-static ws i (Construct.Literal n) f =
+    (λ c v bits e. e, λ s r l. refl, λ s. let e : length (literal-bytes ws i 0 n) ≡ n = literal-long ws i 0 n in omega (arith, f .1))
+construct-static ws i (Construct.Range low high) f = (λ c v bits e. e, λ s r l. refl, λ s. omega arith)
+construct-static ws i (Construct.Uint width start end binder) f =
+    (λ c v bits e. set-static ws start end v (value bits) e, λ s r l. refl, λ s. f .1)
+construct-static ws i Construct.Eod f = tt
 
 node-static : (ws : List ℕ) (i : ℕ) → StaticOf (held ws .node i)
 unfolding held
-node-static ws i = picked StaticOf (eqb i opening) (λ e. tt) (λ e. construct-static ws i (constructAt ws i))
+node-static ws i = picked StaticOf (eqb i opening) (λ e v v′. refl) (λ e. construct-static ws i (constructAt ws i) (fine ws i))
 
 pub static : (ws : List ℕ) → Static (held ws)
 static ws =
@@ -157,3 +166,11 @@ static ws =
       fixed-once = λ {i} e c v j k x y. (rw e at (node-static ws i)) .1 refl c v j k x y;
       chosen-listed = λ {i} {b} e c v h. (rw e at (node-static ws i)) c v b h;
     }
+
+pub width-positive : (ws : List ℕ) (i : ℕ) {w : Bits → ℕ} {admits : Context → Values → Bits → Bool} {static : Bits → Bool} {binds : Context → Values → Bits → Values}
+    → held ws .node i ≡ field w admits static binds → (s : Bits) → 1 ≤ w s
+width-positive ws i e s = (rw e at (node-static ws i)) .2 s
+
+pub values-stay : (ws : List ℕ) (i : ℕ) {b : ℕ} {enters : Context → Option Context} {opens : Context → Values → Values} {closes : Values → Values → Values}
+    → held ws .node i ≡ use-of enters opens closes b → (v v′ : Values) → closes v v′ ≡ v′
+values-stay ws i e v v′ = (rw e at (node-static ws i)) v v′

@@ -11,6 +11,7 @@ use Rattle.table_layout.specs.Places.{rule-count, construct-count}
 use Rattle.table_layout.specs.Constructs.{constructAt}
 use Rattle.table_layout.specs.Held.{HeldNode, size-of, parts, node-of, use-node, held, opening}
 use Rattle.table_layout.specs.declared.Construct.{Construct}
+use Rattle.table_layout.proofs.Views.{Parted, parted, leaf-node}
 use Rattle.table_reach.specs.Reaching.{body-of}
 use Rattle.table_weights.specs.Ruled.{size-at, Tiles, Filled, Ruled}
 use Rattle.table_weights.proofs.Parts.{parts-past, parts-more}
@@ -49,20 +50,17 @@ module _ (ws : List ℕ) (i : ℕ) (P : ℕ → Type 0) (child : (k : ℕ) → C
   below : (size : ℕ) → size-at ws i ≡ size → Tiles ws (i + size) (i + 1) → All P (parts size ws (i + 1) (i + size))
   below size e t = tiled ws (i + size) P t size (omega arith) (λ k a b c. child k (Child.inside (omega arith) (omega arith) c))
 
-  each-of : (x : Construct) → constructAt ws i ≡ x → Filled ws i x → Each P (node-of ws i x)
+  each-of : {x : Construct} → Parted x → constructAt ws i ≡ x → Filled ws i x → Each P (node-of ws i x)
   unfolding node-of
-  each-of Construct.Missing e f = absurd f
-  each-of (Construct.Alternative size) e f = below size (ap size-of e) f
-  each-of (Construct.Concatenation size) e f = below size (ap size-of e) f
-  each-of (Construct.Repetition size passes) e f =
+  each-of Parted.missing e f = tt
+  each-of (Parted.branches size) e f = below size (ap size-of e) f
+  each-of (Parted.members size) e f = below size (ap size-of e) f
+  each-of (Parted.body size passes) e f =
       let s : size-at ws i ≡ size = ap size-of e in
       child (i + 1) (Child.inside (omega arith) (omega (arith, f .1)) (f .0))
-  each-of (Construct.Switch size) e f = below size (ap size-of e) f
-  each-of (Construct.Use rule) e f = child (body-of ws rule) (Child.opened rule e f refl)
-  each-of (Construct.Literal length) e f = tt
-  each-of (Construct.Range low high) e f = tt
-  each-of (Construct.Uint width start end binder) e f = tt
-  each-of Construct.Eod e f = tt
+  each-of (Parted.cases size) e f = below size (ap size-of e) f
+  each-of (Parted.opens rule) e f = child (body-of ws rule) (Child.opened rule e f refl)
+  each-of (Parted.leaf l) e f = leaf-node ws i (Each P) (λ w a s b. tt) tt _ l
 
   each-missing : constructAt ws i ≡ Construct.Missing → Each P (node-of ws i (constructAt ws i))
   unfolding node-of
@@ -70,7 +68,7 @@ module _ (ws : List ℕ) (i : ℕ) (P : ℕ → Type 0) (child : (k : ℕ) → C
 
   pub children : Ruled ws → Each P (node-of ws i (constructAt ws i))
   children ruled = elim (decLt i (construct-count ws)) [
-    | yes h ↦ each-of (constructAt ws i) refl (ruled .filled i h)
+    | yes h ↦ each-of (parted (constructAt ws i)) refl (ruled .filled i h)
     | no h ↦ each-missing (ruled .none-after i (omega arith))
   ]
 

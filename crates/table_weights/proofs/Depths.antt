@@ -14,7 +14,8 @@ use Rattle.table_layout.specs.declared.Construct.{Construct}
 use Rattle.table_reach.specs.Reaching.{body-of, Uses, Reaches, Acyclic}
 use Rattle.table_reach.specs.Closure.{some-of, used-rule, calls}
 use Rattle.table_reach.proofs.Searches.{some-binary, some-found, some-there}
-use Rattle.table_reach.proofs.ReachLaws.{used-construct, calls-binary, called, calls-use, reach, reach-binary, reach-there, reach-found}
+use Rattle.table_layout.proofs.Views.{parted, use-by}
+use Rattle.table_reach.proofs.ReachLaws.{calls-binary, called, calls-use, reach, reach-binary, reach-there, reach-found}
 use Rattle.table_weights.specs.Ruled.{size-at, Ruled}
 use Rattle.table_weights.proofs.Totals.{total, all, total-mono, total-more}
 
@@ -56,7 +57,7 @@ module _ (ws : List ℕ) (ruled : Ruled ws) where
     | yes l ↦
         let p = used-rule (constructAt ws j) in
         let a : Reaches ws p q = reach-found ws p q (omega (arith, ruled .rules-most)) (omega (arith, reach-binary ws p q)) in
-        record { rule = p; used = used-construct (constructAt ws j) p (omega (arith, ruled .rules-most, reaches-rule ws a)) refl; goes = inr a }
+        record { rule = p; used = use-by (parted (constructAt ws j)) p (omega (arith, ruled .rules-most, reaches-rule ws a)) refl; goes = inr a }
   ]
 
   leads-there : (q j : ℕ) → Leads q j → leads ws q j ≡ 1

@@ -14,7 +14,8 @@ use Rattle.table_layout.specs.Places.{rule-count, construct-count}
 use Rattle.table_layout.specs.Constructs.{pick}
 use Rattle.table_layout.specs.Held.{Context, first-context, size-of, held, opening}
 use Rattle.table_reach.specs.Reaching.{body-of, Acyclic}
-use Rattle.table_reach.proofs.Constructs.{size-within, missing-past}
+use Rattle.table_layout.proofs.Bounds.{missing-past}
+use Rattle.table_reach.proofs.Constructs.{size-within}
 use Rattle.table_weights.specs.Ruled.{size-at, Ruled}
 use Rattle.table_weights.proofs.Totals.{total, all}
 use Rattle.table_weights.proofs.Depths.{spread, spread-inside, spread-used, spread-most}

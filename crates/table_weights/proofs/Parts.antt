@@ -12,8 +12,12 @@ use lib.ListN.{getD}
 use Rattle.basis.specs.Limits.{max-weight}
 use Rattle.theory.specs.Weight.{weigh}
 use Rattle.table_layout.specs.Constructs.{constructAt}
+use Rattle.table_layout.specs.Attributes.{attributes-of}
 use Rattle.table_layout.specs.Held.{first-context, parts, node-of}
 use Rattle.table_layout.specs.declared.Construct.{Construct}
+use Rattle.table_layout.specs.declared.Below.{Below}
+use Rattle.table_layout.specs.declared.Attributes.{Attributes}
+use Rattle.table_layout.proofs.Views.{Parted, parted, leaf-node}
 use Rattle.table_reach.specs.Reaching.{body-of}
 use Rattle.table_weights.specs.Ruled.{size-at}
 use Rattle.table_weights.specs.Sweeps.{capped, joined, weighed, gathered}
@@ -108,44 +112,42 @@ module _ (ws : List ℕ) (f : ℕ → ℕ) (adds : Bool) (first end : ℕ) where
       ∙ g
       ∙ ap (λ (is : List ℕ). capped (gathered adds f is)) (parts-fuel ws end end n first (omega arith) m)
 
--- a construct's weight by its kind
-abbrev pub by-kind : List ℕ → (ℕ → ℕ) → ℕ → Construct → ℕ
-by-kind ws f i Construct.Missing = 1
-by-kind ws f i (Construct.Alternative size) = 1 + gathered false f (parts size ws (i + 1) (i + size))
-by-kind ws f i (Construct.Concatenation size) = 1 + gathered true f (parts size ws (i + 1) (i + size))
-by-kind ws f i (Construct.Repetition size passes) = 2 * f (i + 1) + 1
-by-kind ws f i (Construct.Switch size) = 1 + gathered false f (parts size ws (i + 1) (i + size))
-by-kind ws f i (Construct.Use rule) = 1 + f (body-of ws rule)
-by-kind ws f i (Construct.Literal length) = 1
-by-kind ws f i (Construct.Range low high) = 1
-by-kind ws f i (Construct.Uint width start end binder) = 1
-by-kind ws f i Construct.Eod = 1
+-- the weight of construct i of a size, by what stands below it
+abbrev pub by-below : List ℕ → (ℕ → ℕ) → ℕ → ℕ → ℕ → Below → ℕ
+by-below ws f i size rule Below.Nothing = 1
+by-below ws f i size rule Below.Branches = 1 + gathered false f (parts size ws (i + 1) (i + size))
+by-below ws f i size rule Below.Members = 1 + gathered true f (parts size ws (i + 1) (i + size))
+by-below ws f i size rule (Below.Body passes) = 2 * f (i + 1) + 1
+by-below ws f i size rule Below.Cases = 1 + gathered false f (parts size ws (i + 1) (i + size))
+by-below ws f i size rule Below.Rule = 1 + f (body-of ws rule)
 
-kind-weight : (ws : List ℕ) (f : ℕ → ℕ) (i : ℕ) (x : Construct) → weigh (λ c j. f j) first-context (node-of ws i x) ≡ by-kind ws f i x
+below-weight : (ws : List ℕ) (f : ℕ → ℕ) (i : ℕ) {x : Construct} → Parted x
+    → weigh (λ c j. f j) first-context (node-of ws i x) ≡ by-below ws f i (attributes-of x .size) (attributes-of x .rule) (attributes-of x .below)
 unfolding weigh node-of gathered
-kind-weight ws f i Construct.Missing = refl
-kind-weight ws f i (Construct.Alternative size) = refl
-kind-weight ws f i (Construct.Concatenation size) = refl
-kind-weight ws f i (Construct.Repetition size passes) = refl
-kind-weight ws f i (Construct.Switch size) = refl
-kind-weight ws f i (Construct.Use rule) = refl
-kind-weight ws f i (Construct.Literal length) = refl
-kind-weight ws f i (Construct.Range low high) = refl
-kind-weight ws f i (Construct.Uint width start end binder) = refl
-kind-weight ws f i Construct.Eod = refl
+below-weight ws f i Parted.missing = refl
+below-weight ws f i (Parted.branches size) = refl
+below-weight ws f i (Parted.members size) = refl
+below-weight ws f i (Parted.body size passes) = refl
+below-weight ws f i (Parted.cases size) = refl
+below-weight ws f i (Parted.opens rule) = refl
+below-weight ws f i (Parted.leaf l) = rw (l .below) (leaf-node ws i (λ n. weigh (λ c j. f j) first-context n ≡ 1) (λ w a s b. refl) refl _ l)
 
-pub weighed-as : (ws xs : List ℕ) (i : ℕ) (x : Construct) → constructAt ws i ≡ x → capped (by-kind ws (λ j. getD xs j 0) i x) ≡ weighed ws xs i
-weighed-as ws xs i x e = ap capped (sym (kind-weight ws (λ j. getD xs j 0) i x) ∙ ap (λ (y : Construct). weigh (λ c j. getD xs j 0) first-context (node-of ws i y)) (sym e))
+-- a weight, from what was read
+pub weighed-as : (ws xs : List ℕ) (i : ℕ) (a : Attributes) → a ≡ attributes-of (constructAt ws i) → (b : Below) → a .below ≡ b
+    → capped (by-below ws (λ j. getD xs j 0) i (a .size) (a .rule) b) ≡ weighed ws xs i
+weighed-as ws xs i a e b h =
+    ap (λ (x : Below). capped (by-below ws (λ j. getD xs j 0) i (a .size) (a .rule) x)) (sym h)
+    ∙ ap (λ (x : Attributes). capped (by-below ws (λ j. getD xs j 0) i (x .size) (x .rule) (x .below))) e
+    ∙ ap capped (sym (below-weight ws (λ j. getD xs j 0) i (parted (constructAt ws i))))
 
 -- a construct with parts
-pub parts-weighed : (ws xs : List ℕ) (i : ℕ) (x : Construct) (adds : Bool) (size end g r : ℕ) → constructAt ws i ≡ x
-    → by-kind ws (λ j. getD xs j 0) i x ≡ 1 + gathered adds (λ j. getD xs j 0) (parts size ws (i + 1) (i + size)) → end ≡ i + size
-    → ((n : ℕ) → end ≤ i + 1 + n → g ≡ capped (gathered adds (λ j. getD xs j 0) (parts n ws (i + 1) end))) → r ≡ capped (1 + g) → r ≡ weighed ws xs i
-parts-weighed ws xs i x adds size end g r e k h f o =
-    let a : g ≡ capped (gathered adds (λ j. getD xs j 0) (parts size ws (i + 1) (i + size))) =
-    f size (omega arith) ∙ ap (λ (n : ℕ). capped (gathered adds (λ j. getD xs j 0) (parts size ws (i + 1) n))) h in
-    let b : r ≡ capped (by-kind ws (λ j. getD xs j 0) i x) = omega arith in
-    b ∙ weighed-as ws xs i x e
+pub parts-weighed : (ws xs : List ℕ) (i : ℕ) (a : Attributes) → a ≡ attributes-of (constructAt ws i) → (b : Below) → a .below ≡ b → (adds : Bool) (g r : ℕ)
+    → by-below ws (λ j. getD xs j 0) i (a .size) (a .rule) b ≡ 1 + gathered adds (λ j. getD xs j 0) (parts (a .size) ws (i + 1) (i + a .size))
+    → ((n : ℕ) → i + a .size ≤ i + 1 + n → g ≡ capped (gathered adds (λ j. getD xs j 0) (parts n ws (i + 1) (i + a .size)))) → r ≡ capped (1 + g) → r ≡ weighed ws xs i
+parts-weighed ws xs i a e b h adds g r k f o =
+    let z : g ≡ capped (gathered adds (λ j. getD xs j 0) (parts (a .size) ws (i + 1) (i + a .size))) = f (a .size) (omega arith) in
+    let y : r ≡ capped (by-below ws (λ j. getD xs j 0) i (a .size) (a .rule) b) = omega arith in
+    y ∙ weighed-as ws xs i a e b h
 
 pub twice : (a b r : ℕ) → a ≡ b → r ≡ capped (1 + 2 * a) → r ≡ capped (2 * b + 1)
 twice a b r e f = omega arith

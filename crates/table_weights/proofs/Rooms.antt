@@ -16,6 +16,7 @@ use Rattle.table_layout.specs.Places.{rule-count, construct-count}
 use Rattle.table_layout.specs.Constructs.{pick, constructAt}
 use Rattle.table_layout.specs.Held.{Context, first-context, size-of, parts, node-of, use-node, held, opening}
 use Rattle.table_layout.specs.declared.Construct.{Construct}
+use Rattle.table_layout.proofs.Views.{Parted, parted, leaf-node}
 use Rattle.table_reach.specs.Reaching.{body-of, rule-end, Acyclic}
 use Rattle.table_weights.specs.Ruled.{size-at, Tiles, Filled, Ruled}
 use Rattle.table_weights.proofs.Parts.{parts-past, parts-more}
@@ -94,23 +95,20 @@ module _ (ws : List ℕ) (ruled : Ruled ws) (acyclic : Acyclic ws) where
         largest-most (rooms ws c) (max 1 (height ws i)) (parts size ws (i + 1) (i + size))
         (tiled ws (i + size) (λ k. rooms ws c k ≤ max 1 (height ws i)) t size (omega arith) (λ k a b d. inside-most k (Child.inside (omega arith) (omega arith) d)))
 
-    housed : (x : Construct) → constructAt ws i ≡ x → Filled ws i x → room (rooms ws) c (node-of ws i x) ≤ max 1 (height ws i)
-    unfolding room node-of
-    housed Construct.Missing e f = absurd f
-    housed (Construct.Alternative size) e f = branches size (ap size-of e) f
-    housed (Construct.Concatenation size) e f =
+    housed : {x : Construct} → Parted x → constructAt ws i ≡ x → Filled ws i x → room (rooms ws) c (node-of ws i x) ≤ max 1 (height ws i)
+    unfolding room node-of largest
+    housed Parted.missing e f = omega arith
+    housed (Parted.branches size) e f = branches size (ap size-of e) f
+    housed (Parted.members size) e f =
         let s : size-at ws i ≡ size = ap size-of e in
         let m = members-most ws (i + size) (rooms ws c) (spread ws (rule-size ws) i) f size (omega arith) (λ k a b d. part-most k (omega arith) (omega arith) d) in
         omega (arith, m .1)
-    housed (Construct.Repetition size passes) e f =
+    housed (Parted.body size passes) e f =
         let s : size-at ws i ≡ size = ap size-of e in
         omega (arith, part-most (i + 1) (omega arith) (omega (arith, f .1)) (f .0), f .1)
-    housed (Construct.Switch size) e f = branches size (ap size-of e) f
-    housed (Construct.Use rule) e f = inside-most (body-of ws rule) (Child.opened rule e f refl)
-    housed (Construct.Literal length) e f = omega arith
-    housed (Construct.Range low high) e f = omega arith
-    housed (Construct.Uint width start end binder) e f = omega arith
-    housed Construct.Eod e f = omega arith
+    housed (Parted.cases size) e f = branches size (ap size-of e) f
+    housed (Parted.opens rule) e f = inside-most (body-of ws rule) (Child.opened rule e f refl)
+    housed (Parted.leaf l) e f = leaf-node ws i (λ n. room (rooms ws) c n ≤ max 1 (height ws i)) (λ w a s b. omega arith) (omega arith) _ l
 
   housed-missing : (c : Context) (i : ℕ) → constructAt ws i ≡ Construct.Missing → room (rooms ws) c (node-of ws i (constructAt ws i)) ≤ max 1 (height ws i)
   unfolding room node-of largest
@@ -118,7 +116,7 @@ module _ (ws : List ℕ) (ruled : Ruled ws) (acyclic : Acyclic ws) where
 
   housed-there : (c : Context) (i : ℕ) → room (rooms ws) c (node-of ws i (constructAt ws i)) ≤ max 1 (height ws i)
   housed-there c i = elim (decLt i (construct-count ws)) [
-    | yes h ↦ housed c i (omega (arith, ruled .constructs-most)) (constructAt ws i) refl (ruled .filled i h)
+    | yes h ↦ housed c i (omega (arith, ruled .constructs-most)) (parted (constructAt ws i)) refl (ruled .filled i h)
     | no h ↦ housed-missing c i (ruled .none-after i (omega arith))
   ]
 

@@ -6,8 +6,10 @@ use mathlib.Core.List.{List}
 use Rattle.basis.specs.Limits.{max-rules, max-constructs}
 use Rattle.table_layout.specs.Places.{rule-count, construct-count}
 use Rattle.table_layout.specs.Constructs.{constructAt}
+use Rattle.table_layout.specs.Attributes.{attributes-of}
 use Rattle.table_layout.specs.Held.{size-of}
 use Rattle.table_layout.specs.declared.Construct.{Construct}
+use Rattle.table_layout.specs.declared.Below.{Below}
 use Rattle.table_reach.specs.Reaching.{body-of, rule-end}
 
 -- how many constructs construct i is; 0 where it is missing
@@ -19,18 +21,17 @@ pub data Tiles (ws : List ℕ) (end : ℕ) : ℕ → Type 0 where
   done : {j : ℕ} → j ≡ end → Tiles ws end j
   more : {j : ℕ} → 1 ≤ size-at ws j → Tiles ws end (j + size-at ws j) → Tiles ws end j
 
--- what construct i has below it: its parts fill it, a repetition has one; a use names one of the rules
+-- what construct i of a size has below it: its parts fill it, a repetition has one; a use names one of the rules
+abbrev pub FilledBelow : List ℕ → ℕ → ℕ → ℕ → Below → Type 0
+FilledBelow ws i size rule Below.Nothing = Unit {0}
+FilledBelow ws i size rule Below.Branches = Tiles ws (i + size) (i + 1)
+FilledBelow ws i size rule Below.Members = Tiles ws (i + size) (i + 1)
+FilledBelow ws i size rule (Below.Body passes) = (1 ≤ size-at ws (i + 1)) × (i + 1 + size-at ws (i + 1) ≡ i + size)
+FilledBelow ws i size rule Below.Cases = Tiles ws (i + size) (i + 1)
+FilledBelow ws i size rule Below.Rule = rule < rule-count ws
+
 abbrev pub Filled : List ℕ → ℕ → Construct → Type 0
-Filled ws i Construct.Missing = ⊥
-Filled ws i (Construct.Alternative size) = Tiles ws (i + size) (i + 1)
-Filled ws i (Construct.Concatenation size) = Tiles ws (i + size) (i + 1)
-Filled ws i (Construct.Repetition size passes) = (1 ≤ size-at ws (i + 1)) × (i + 1 + size-at ws (i + 1) ≡ i + size)
-Filled ws i (Construct.Switch size) = Tiles ws (i + size) (i + 1)
-Filled ws i (Construct.Use rule) = rule < rule-count ws
-Filled ws i (Construct.Literal length) = Unit {0}
-Filled ws i (Construct.Range low high) = Unit {0}
-Filled ws i (Construct.Uint width start end binder) = Unit {0}
-Filled ws i Construct.Eod = Unit {0}
+Filled ws i c = FilledBelow ws i (size-of c) (attributes-of c .rule) (attributes-of c .below)
 
 -- all that the laws of weight and room ask
 pub record Ruled (ws : List ℕ) : Type 0 where

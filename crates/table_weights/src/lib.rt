@@ -9,11 +9,8 @@ ghost use Rattle.table_layout.specs.Held.{parts};
 ghost use Rattle.table_reach.specs.Reaching.{body-of};
 ghost use Rattle.table_weights.specs.Sweeps.{capped, joined, weighed, gathered, swept, settled};
 ghost use Rattle.table_weights.specs.Weighed.{Weights, Weight};
-use basis::MAX_CONSTRUCTS;
-use basis::MAX_RULES;
-use basis::MAX_WEIGHT;
-use table_layout::Construct;
-use table_layout::RULES_AT;
+use table_layout::Below;
+use table_layout::attributes_of;
 use table_layout::construct_at;
 use table_layout::word;
 use table_reach::at_most;
@@ -81,24 +78,17 @@ fn weigh_at(table: &[u32], weights: &[u32], i: usize) -> usize
     requires { ⌜ i < max-constructs ⌝ }
     ensures { λ r. ⌜ r ≡ weighed (now (table .entry)) (now (weights .entry)) i ⌝ }
 {
-    let construct = construct_at(table, i);
-    let end = i + table_layout::size_of(construct);
-    match construct {
-        Construct::Missing => 1,
-        Construct::Alternative { size: _ } => one_more(gather(table, weights, false, i + 1, end)),
-        Construct::Concatenation { size: _ } => one_more(gather(table, weights, true, i + 1, end)),
-        Construct::Repetition { size: _, passes: _ } => one_more(2 * word(weights, i + 1)),
-        Construct::Switch { size: _ } => one_more(gather(table, weights, false, i + 1, end)),
-        Construct::Use { rule } => one_more(body_weight(table, weights, rule)),
-        Construct::Literal { length: _ } => 1,
-        Construct::Range { low: _, high: _ } => 1,
-        Construct::Uint {
-            width: _,
-            start: _,
-            end: _,
-            binder: _,
-        } => 1,
-        Construct::Eod => 1,
+    let attributes = attributes_of(construct_at(table, i));
+    let end = i + attributes.size;
+    let rule = attributes.rule;
+    let below = attributes.below;
+    match below {
+        Below::Nothing => 1,
+        Below::Branches => one_more(gather(table, weights, false, i + 1, end)),
+        Below::Members => one_more(gather(table, weights, true, i + 1, end)),
+        Below::Body { passes: _ } => one_more(2 * word(weights, i + 1)),
+        Below::Cases => one_more(gather(table, weights, false, i + 1, end)),
+        Below::Rule => one_more(body_weight(table, weights, rule)),
     }
 }
 

@@ -10,6 +10,7 @@ use Rattle.basis.specs.Limits.{max-rules, max-constructs, max-variables, max-te
 use Rattle.term_words.specs.declared.Kind.{Kind}
 use Rattle.table_layout.specs.Places.{word, table-words, rules-at, variables-at, constructs-at, terms-at, literals-at, sets-at, mark-of, rule-count, construct-count, variable-count, term-count, weight-of}
 use Rattle.table_layout.specs.Constructs.{pick, both, constructAt}
+use Rattle.table_layout.specs.Attributes.{attributes-of}
 use Rattle.table_layout.specs.declared.Construct.{Construct}
 use Rattle.table_layout.specs.declared.Passes.{Passes}
 use Rattle.table_wellformed.specs.Checks.{limited, from-to, all-zero, size-at}
@@ -75,16 +76,7 @@ kind-laid ws i Construct.Eod = operands-zero ws i 2
 
 -- how many bytes construct i has in the area of literals
 abbrev pub literal-length : Construct → ℕ
-literal-length Construct.Missing = 0
-literal-length (Construct.Alternative size) = 0
-literal-length (Construct.Concatenation size) = 0
-literal-length (Construct.Repetition size passes) = 0
-literal-length (Construct.Switch size) = 0
-literal-length (Construct.Use rule) = 0
-literal-length (Construct.Literal length) = length
-literal-length (Construct.Range low high) = 0
-literal-length (Construct.Uint width start end binder) = 0
-literal-length Construct.Eod = 0
+literal-length c = attributes-of c .length
 
 -- byte k there
 abbrev pub literal-byte : List ℕ → ℕ → ℕ → ℕ

@@ -13,52 +13,33 @@ use Rattle.term_sizes.specs.Sizes.{sizes, countSizes}
 use Rattle.term_sizes.specs.declared.Sized.{Sized}
 use Rattle.table_layout.specs.Places.{word, terms-at, construct-count, term-count, construct-word}
 use Rattle.table_layout.specs.Constructs.{pick, both, constructAt}
+use Rattle.table_layout.specs.Attributes.{attributes-of}
 use Rattle.table_layout.specs.Held.{term-words}
 use Rattle.table_layout.specs.declared.Construct.{Construct}
-use Rattle.table_layout.specs.declared.Passes.{Passes}
+use Rattle.table_layout.specs.declared.OwnList.{OwnList}
 use Rattle.table_wellformed.specs.Checks.{either, limited}
 
 -- ---- a construct's own list: the counts of `{…}`, the set of a uint; 0, 0 where it has none
 
--- of counts: from
-abbrev pub counts-start : Passes → ℕ
-counts-start Passes.Optional = 0
-counts-start Passes.Any = 0
-counts-start Passes.Some = 0
-counts-start (Passes.Counted start end) = start
+-- from
+abbrev pub list-start : OwnList → ℕ
+list-start OwnList.None = 0
+list-start (OwnList.Counts start end) = start
+list-start (OwnList.Set start end) = start
 
 -- and up to
-abbrev pub counts-end : Passes → ℕ
-counts-end Passes.Optional = 0
-counts-end Passes.Any = 0
-counts-end Passes.Some = 0
-counts-end (Passes.Counted start end) = end
+abbrev pub list-end : OwnList → ℕ
+list-end OwnList.None = 0
+list-end (OwnList.Counts start end) = end
+list-end (OwnList.Set start end) = end
 
 -- of any construct: from
 abbrev pub own-start : Construct → ℕ
-own-start Construct.Missing = 0
-own-start (Construct.Alternative size) = 0
-own-start (Construct.Concatenation size) = 0
-own-start (Construct.Repetition size passes) = counts-start passes
-own-start (Construct.Switch size) = 0
-own-start (Construct.Use rule) = 0
-own-start (Construct.Literal length) = 0
-own-start (Construct.Range low high) = 0
-own-start (Construct.Uint width start end binder) = start
-own-start Construct.Eod = 0
+own-start c = list-start (attributes-of c .own)
 
 -- and up to
 abbrev pub own-end : Construct → ℕ
-own-end Construct.Missing = 0
-own-end (Construct.Alternative size) = 0
-own-end (Construct.Concatenation size) = 0
-own-end (Construct.Repetition size passes) = counts-end passes
-own-end (Construct.Switch size) = 0
-own-end (Construct.Use rule) = 0
-own-end (Construct.Literal length) = 0
-own-end (Construct.Range low high) = 0
-own-end (Construct.Uint width start end binder) = end
-own-end Construct.Eod = 0
+own-end c = list-end (attributes-of c .own)
 
 -- ---- "one list after the other with nothing between"
 

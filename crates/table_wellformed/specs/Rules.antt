@@ -9,8 +9,10 @@ use Rattle.term_words.specs.declared.Operation.{Operation}
 use Rattle.term_words.specs.declared.Term.{Term}
 use Rattle.table_layout.specs.Places.{word, variables-at, rule-count, variable-count, rule-word, variable-word, construct-word}
 use Rattle.table_layout.specs.Constructs.{pick, both, constructAt}
+use Rattle.table_layout.specs.Attributes.{attributes-of}
 use Rattle.table_layout.specs.Held.{term-words}
 use Rattle.table_layout.specs.declared.Construct.{Construct}
+use Rattle.table_layout.specs.declared.Below.{Below}
 use Rattle.table_wellformed.specs.Checks.{from-to, all-zero, size-at, walk}
 use Rattle.table_wellformed.specs.Parts.{unconditioned}
 use Rattle.table_wellformed.specs.Lists.{own-start, own-end}
@@ -37,16 +39,7 @@ rules-laid ws = both (both (eqb (body ws 0) 0) (eqb (rule-word ws 0 1) 0)) (from
 
 -- 1 + the variable that a construct binds, or 0
 abbrev pub binder-of : Construct → ℕ
-binder-of Construct.Missing = 0
-binder-of (Construct.Alternative size) = 0
-binder-of (Construct.Concatenation size) = 0
-binder-of (Construct.Repetition size passes) = 0
-binder-of (Construct.Switch size) = 0
-binder-of (Construct.Use rule) = 0
-binder-of (Construct.Literal length) = 0
-binder-of (Construct.Range low high) = 0
-binder-of (Construct.Uint width start end binder) = binder
-binder-of Construct.Eod = 0
+binder-of c = attributes-of c .binder
 
 -- a binder's variable names it back
 abbrev pub named-back : List ℕ → ℕ → ℕ → Bool
@@ -75,17 +68,16 @@ abbrev pub binders-from : List ℕ → ℕ → ℕ → ℕ → ℕ → Bool
 binders-from ws start end first last = walk (end - start) ws (member-laid ws) (next-variable ws) (λ j x. eqb x last) end start first
 
 -- a body may be a "top concatenation", whose members may bind
+abbrev pub has-members : Below → Bool
+has-members Below.Nothing = false
+has-members Below.Branches = false
+has-members Below.Members = true
+has-members (Below.Body passes) = false
+has-members Below.Cases = false
+has-members Below.Rule = false
+
 abbrev pub is-concatenation : Construct → Bool
-is-concatenation Construct.Missing = false
-is-concatenation (Construct.Alternative size) = false
-is-concatenation (Construct.Concatenation size) = true
-is-concatenation (Construct.Repetition size passes) = false
-is-concatenation (Construct.Switch size) = false
-is-concatenation (Construct.Use rule) = false
-is-concatenation (Construct.Literal length) = false
-is-concatenation (Construct.Range low high) = false
-is-concatenation (Construct.Uint width start end binder) = false
-is-concatenation Construct.Eod = false
+is-concatenation c = has-members (attributes-of c .below)
 
 -- the first of the constructs that may bind: the first member of the top concatenation, or the body
 abbrev pub members-at : List ℕ → ℕ → ℕ

@@ -13,6 +13,7 @@ use table_layout::CONSTRUCTS_AT;
 use table_layout::Construct;
 use table_layout::LITERALS_AT;
 use table_layout::Passes;
+use table_layout::attributes_of;
 use table_layout::construct_at;
 use table_layout::word;
 use term_words::Kind;
@@ -117,23 +118,7 @@ fn kind(table: &[u32], i: usize, construct: Construct) -> bool
 fn literal_length(construct: Construct) -> usize
     ensures { λ r. ⌜ r ≡ literal-length construct ⌝ }
 {
-    match construct {
-        Construct::Missing => 0,
-        Construct::Alternative { size: _ } => 0,
-        Construct::Concatenation { size: _ } => 0,
-        Construct::Repetition { size: _, passes: _ } => 0,
-        Construct::Switch { size: _ } => 0,
-        Construct::Use { rule: _ } => 0,
-        Construct::Literal { length } => length,
-        Construct::Range { low: _, high: _ } => 0,
-        Construct::Uint {
-            width: _,
-            start: _,
-            end: _,
-            binder: _,
-        } => 0,
-        Construct::Eod => 0,
-    }
+    attributes_of(construct).length
 }
 
 fn power(k: usize) -> usize

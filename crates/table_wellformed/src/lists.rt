@@ -6,9 +6,8 @@ use crate::checks::either;
 use crate::checks::limited;
 use basis::MAX_VARIABLES;
 use table_layout::Construct;
-use table_layout::LITERALS_AT;
-use table_layout::Passes;
-use table_layout::TERMS_AT;
+use table_layout::OwnList;
+use table_layout::attributes_of;
 use table_layout::construct_at;
 use table_layout::word;
 use term_sizes::Sized;
@@ -22,27 +21,25 @@ ghost use Rattle.basis.specs.Limits.{table-words};
 ghost use Rattle.table_layout.specs.Places.{term-count};
 ghost use Rattle.table_layout.specs.Held.{term-words};
 ghost use Rattle.table_wellformed.specs.Checks.{from-to};
-ghost use Rattle.table_wellformed.specs.Lists.{counts-start, counts-end, own-start, own-end, begins as beginsOf, after as afterOf, lists-begin, after-lists, lists-laid, formed as formedOf, list-formed, counts-formed, condition-formed, has-low, term-laid};
+ghost use Rattle.table_wellformed.specs.Lists.{list-start, list-end, own-start, own-end, begins as beginsOf, after as afterOf, lists-begin, after-lists, lists-laid, formed as formedOf, list-formed, counts-formed, condition-formed, has-low, term-laid};
 
-fn counts_start(passes: Passes) -> usize
-    ensures { λ r. ⌜ r ≡ counts-start passes ⌝ }
+fn list_start(own: OwnList) -> usize
+    ensures { λ r. ⌜ r ≡ list-start own ⌝ }
 {
-    match passes {
-        Passes::Optional => 0,
-        Passes::Any => 0,
-        Passes::Some => 0,
-        Passes::Counted { start, end: _ } => start,
+    match own {
+        OwnList::None => 0,
+        OwnList::Counts { start, end: _ } => start,
+        OwnList::Set { start, end: _ } => start,
     }
 }
 
-fn counts_end(passes: Passes) -> usize
-    ensures { λ r. ⌜ r ≡ counts-end passes ⌝ }
+fn list_end(own: OwnList) -> usize
+    ensures { λ r. ⌜ r ≡ list-end own ⌝ }
 {
-    match passes {
-        Passes::Optional => 0,
-        Passes::Any => 0,
-        Passes::Some => 0,
-        Passes::Counted { start: _, end } => end,
+    match own {
+        OwnList::None => 0,
+        OwnList::Counts { start: _, end } => end,
+        OwnList::Set { start: _, end } => end,
     }
 }
 
@@ -50,46 +47,18 @@ fn counts_end(passes: Passes) -> usize
 pub fn own_start(construct: Construct) -> usize
     ensures { λ r. ⌜ r ≡ own-start construct ⌝ }
 {
-    match construct {
-        Construct::Missing => 0,
-        Construct::Alternative { size: _ } => 0,
-        Construct::Concatenation { size: _ } => 0,
-        Construct::Repetition { size: _, passes } => counts_start(passes),
-        Construct::Switch { size: _ } => 0,
-        Construct::Use { rule: _ } => 0,
-        Construct::Literal { length: _ } => 0,
-        Construct::Range { low: _, high: _ } => 0,
-        Construct::Uint {
-            width: _,
-            start,
-            end: _,
-            binder: _,
-        } => start,
-        Construct::Eod => 0,
-    }
+    let attributes = attributes_of(construct);
+    let own = attributes.own;
+    list_start(own)
 }
 
 // Where it ends.
 pub fn own_end(construct: Construct) -> usize
     ensures { λ r. ⌜ r ≡ own-end construct ⌝ }
 {
-    match construct {
-        Construct::Missing => 0,
-        Construct::Alternative { size: _ } => 0,
-        Construct::Concatenation { size: _ } => 0,
-        Construct::Repetition { size: _, passes } => counts_end(passes),
-        Construct::Switch { size: _ } => 0,
-        Construct::Use { rule: _ } => 0,
-        Construct::Literal { length: _ } => 0,
-        Construct::Range { low: _, high: _ } => 0,
-        Construct::Uint {
-            width: _,
-            start: _,
-            end,
-            binder: _,
-        } => end,
-        Construct::Eod => 0,
-    }
+    let attributes = attributes_of(construct);
+    let own = attributes.own;
+    list_end(own)
 }
 
 fn begins(p: usize, start: usize, end: usize) -> bool

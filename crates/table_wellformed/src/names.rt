@@ -10,8 +10,9 @@ use crate::lists::own_end;
 use crate::lists::own_start;
 use crate::lists::term_words;
 use crate::rules::rule_end;
+use table_layout::Below;
 use table_layout::Construct;
-use table_layout::VARIABLES_AT;
+use table_layout::attributes_of;
 use table_layout::construct_at;
 use table_layout::word;
 use term_words::Operation;
@@ -24,28 +25,12 @@ ghost use lib.Dec.{ltb};
 ghost use Rattle.basis.specs.Limits.{table-words};
 ghost use Rattle.table_layout.specs.Constructs.{both as bothOf};
 ghost use Rattle.table_wellformed.specs.Checks.{size-at};
-ghost use Rattle.table_wellformed.specs.Rules.{next-variable, binder-of, named-back, variable-laid, member-laid, binders-from, is-concatenation, members-at, binders-laid, visible as visibleOf, operation-named, term-named, list-named, construct-named, uses-laid, names-laid};
+ghost use Rattle.table_wellformed.specs.Rules.{next-variable, binder-of, named-back, variable-laid, member-laid, binders-from, has-members, is-concatenation, members-at, binders-laid, visible as visibleOf, operation-named, term-named, list-named, construct-named, uses-laid, names-laid};
 
 fn binder(construct: Construct) -> usize
     ensures { λ r. ⌜ r ≡ binder-of construct ⌝ }
 {
-    match construct {
-        Construct::Missing => 0,
-        Construct::Alternative { size: _ } => 0,
-        Construct::Concatenation { size: _ } => 0,
-        Construct::Repetition { size: _, passes: _ } => 0,
-        Construct::Switch { size: _ } => 0,
-        Construct::Use { rule: _ } => 0,
-        Construct::Literal { length: _ } => 0,
-        Construct::Range { low: _, high: _ } => 0,
-        Construct::Uint {
-            width: _,
-            start: _,
-            end: _,
-            binder,
-        } => binder,
-        Construct::Eod => 0,
-    }
+    attributes_of(construct).binder
 }
 
 // Whether the variable of construct i's binder names i.
@@ -118,26 +103,25 @@ fn binders(table: &[u32], start: usize, end: usize, first: usize, last: usize) -
     x == last
 }
 
+fn has_members(below: Below) -> bool
+    ensures { λ r. ⌜ r ≡ has-members below ⌝ }
+{
+    match below {
+        Below::Nothing => false,
+        Below::Branches => false,
+        Below::Members => true,
+        Below::Body { passes: _ } => false,
+        Below::Cases => false,
+        Below::Rule => false,
+    }
+}
+
 fn concatenates(construct: Construct) -> bool
     ensures { λ r. ⌜ r ≡ is-concatenation construct ⌝ }
 {
-    match construct {
-        Construct::Missing => false,
-        Construct::Alternative { size: _ } => false,
-        Construct::Concatenation { size: _ } => true,
-        Construct::Repetition { size: _, passes: _ } => false,
-        Construct::Switch { size: _ } => false,
-        Construct::Use { rule: _ } => false,
-        Construct::Literal { length: _ } => false,
-        Construct::Range { low: _, high: _ } => false,
-        Construct::Uint {
-            width: _,
-            start: _,
-            end: _,
-            binder: _,
-        } => false,
-        Construct::Eod => false,
-    }
+    let attributes = attributes_of(construct);
+    let below = attributes.below;
+    has_members(below)
 }
 
 // The first of rule r's constructs that may bind.

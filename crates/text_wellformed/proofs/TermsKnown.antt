@@ -19,8 +19,8 @@ use Rattle.term_words.specs.declared.Operation.{Operation}
 use Rattle.term_words.specs.declared.Term.{Term}
 use Rattle.term_trees.specs.Trees.{Calculation, literal, use-of, plus, minus, times, opposite, ValueSet, everything, only, between, from, upTo, either, without, Condition, compare, both, any, Repeats, exact, on-from, up-to, spanning}
 use Rattle.term_trees.specs.Postfix.{lastSign, before, calculationTerms, setTerms, conditionTerms, repeatTerms}
-use Rattle.text_shapes.specs.TermShapes.{rename-operation, rename-term}
-use Rattle.table_wellformed.proofs.Decoded.{picked}
+use Rattle.text_shapes.specs.TermShapes.{is-use, rename-operation, rename-term}
+use Rattle.table_layout.proofs.Bounds.{picked}
 use Rattle.text_encoding.specs.Lists.{narrow}
 use Rattle.text_wellformed.proofs.Tests.{or-cases, or-first, or-second}
 

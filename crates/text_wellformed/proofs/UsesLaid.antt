@@ -15,7 +15,7 @@ use Rattle.table_layout.specs.Held
 use Rattle.table_layout.specs.Places.{construct-word}
 use Rattle.table_wellformed.specs.Lists
 use Rattle.table_wellformed.specs.Rules.{visible, operation-named, term-named, list-named, construct-named, uses-laid}
-use Rattle.table_wellformed.proofs.Decoded.{picked}
+use Rattle.table_layout.proofs.Bounds.{picked}
 use Rattle.text_shapes.specs.TermShapes.{SetShape, ConditionShape, CountsShape, read-terms, rename-operation, rename-term}
 use Rattle.text_names.specs.Counting.{nowhere}
 use Rattle.text_store.specs.Words.{own-from, own-end, condition-from, condition-end, term-tag, term-value, term-at, is-use, first-node, last-node}

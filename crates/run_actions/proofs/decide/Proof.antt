@@ -2,8 +2,8 @@ use native.Mathlib.Omega.{arith}
 use borrow.Author.Tests.{eq-eqb, ne-eqb, le-leb, lt-leb}
 use mathlib.Core.Path.{sym, subst, ap, _∙_}
 use Rattle.table_layout.specs.Held.{size-of}
-use Rattle.run_actions.specs.Acts.{Fine, actOf}
-use Rattle.run_actions.proofs.Sizes.{size-small, construct-fine}
+use Rattle.table_layout.proofs.Bounds.{Fine, fine, size-small}
+use Rattle.run_actions.specs.Acts.{actOf}
 use borrow.Author.Needs.{needs}
 use Rattle.run_actions.proofs.decide.Statement.{statement}
 use Rattle.run_actions.proofs.decide.Tie as tie
@@ -35,7 +35,7 @@ word-requires : tie.Need-word-requires
 word-requires c κs = search needs
 
 of-known-requires : tie.Need-of-known-requires
-of-known-requires c κs = (omega arith, omega arith, omega arith, omega arith, subst (Fine (c .before .before .before .before .before .before .before .args .i)) (sym (c .before .before .before .construct-at .ensures)) (construct-fine (c .before .before .before .before .before .before .before .args .table .now) (c .before .before .before .before .before .before .before .args .i)))
+of-known-requires c κs = (omega arith, omega arith, omega arith, omega arith, subst (Fine (c .before .before .before .before .before .before .before .args .i)) (sym (c .before .before .before .construct-at .ensures)) (fine (c .before .before .before .before .before .before .before .args .table .now) (c .before .before .before .before .before .before .before .args .i)))
 
 returns-2 : tie.Need-returns-2
 unfolding actOf

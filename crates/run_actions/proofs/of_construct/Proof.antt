@@ -1,6 +1,6 @@
 use native.Mathlib.Omega.{arith}
 use mathlib.Core.Path.{subst}
-use Rattle.run_actions.specs.Acts.{Fine}
+use Rattle.table_layout.proofs.Bounds.{Fine}
 use borrow.Author.Needs.{needs}
 use Rattle.run_actions.proofs.of_construct.Statement.{statement}
 use Rattle.run_actions.proofs.of_construct.Tie as tie
@@ -26,7 +26,7 @@ enum-known-construct c = search needs
 
 -- src/lib.rt:363:44
 alternative-requires : tie.Need-alternative-requires
-alternative-requires c κs = (subst (Fine (c .before .before .before .before .before .args .i)) (c .before .construct .given .1) (c .before .before .before .before .before .pre .4), omega arith, omega arith)
+alternative-requires c κs = (subst (Fine (c .before .before .before .before .before .args .i)) (c .before .construct .given .1) (c .before .before .before .before .before .pre .4) .1, omega arith, omega arith)
 
 -- src/lib.rt:364:36
 enum-known-construct-2 : tie.Need-enum-known-construct-2
@@ -38,11 +38,11 @@ add-members c = search needs
 
 -- src/lib.rt:364:68
 add-members-2 : tie.Need-add-members-2
-add-members-2 c = (let f = subst (Fine (c .before .before .before .before .before .args .i)) (c .before .construct2 .given .1) (c .before .before .before .before .before .pre .4) in omega arith)
+add-members-2 c = (let f = subst (Fine (c .before .before .before .before .before .args .i)) (c .before .construct2 .given .1) (c .before .before .before .before .before .pre .4) in omega (arith, f .1))
 
 -- src/lib.rt:364:46
 members-requires : tie.Need-members-requires
-members-requires c κs = subst (Fine (c .before .before .before .before .before .args .i)) (c .before .construct2 .given .1) (c .before .before .before .before .before .pre .4)
+members-requires c κs = subst (Fine (c .before .before .before .before .before .args .i)) (c .before .construct2 .given .1) (c .before .before .before .before .before .pre .4) .1
 
 -- src/lib.rt:365:42
 enum-known-construct-3 : tie.Need-enum-known-construct-3
@@ -62,18 +62,18 @@ add-case c = search needs
 
 -- src/lib.rt:366:66
 add-case-2 : tie.Need-add-case-2
-add-case-2 c = (let f = subst (Fine (c .before .before .before .before .before .args .i)) (c .before .construct4 .given .1) (c .before .before .before .before .before .pre .4) in omega arith)
+add-case-2 c = (let f = subst (Fine (c .before .before .before .before .before .args .i)) (c .before .construct4 .given .1) (c .before .before .before .before .before .pre .4) in omega (arith, f .1))
 
 -- src/lib.rt:366:39
 case-requires : tie.Need-case-requires
-case-requires c κs = (omega arith, subst (Fine (c .before .before .before .before .before .args .i)) (c .before .construct4 .given .1) (c .before .before .before .before .before .pre .4))
+case-requires c κs = (omega arith, subst (Fine (c .before .before .before .before .before .args .i)) (c .before .construct4 .given .1) (c .before .before .before .before .before .pre .4) .1)
 
 -- src/lib.rt:367:26
 enum-known-construct-5 : tie.Need-enum-known-construct-5
 enum-known-construct-5 c = search needs
 
 open-rule-requires : tie.Need-open-rule-requires
-open-rule-requires c κs = subst (Fine (c .before .before .before .before .before .args .i)) (c .before .construct5 .given .1) (c .before .before .before .before .before .pre .4)
+open-rule-requires c κs = subst (Fine (c .before .before .before .before .before .args .i)) (c .before .construct5 .given .1) (c .before .before .before .before .before .pre .4) .1
 
 -- src/lib.rt:368:30
 enum-known-construct-6 : tie.Need-enum-known-construct-6
@@ -81,7 +81,7 @@ enum-known-construct-6 c = search needs
 
 -- src/lib.rt:368:42
 literal-requires : tie.Need-literal-requires
-literal-requires c κs = (omega arith, omega arith, omega arith, subst (Fine (c .before .before .before .before .before .args .i)) (c .before .construct6 .given .1) (c .before .before .before .before .before .pre .4) .0)
+literal-requires c κs = (omega arith, omega arith, omega arith, subst (Fine (c .before .before .before .before .before .args .i)) (c .before .construct6 .given .1) (c .before .before .before .before .before .pre .4) .2)
 
 -- src/lib.rt:369:28
 enum-known-construct-7 : tie.Need-enum-known-construct-7
@@ -97,7 +97,7 @@ enum-known-construct-8 c = search needs
 
 -- src/lib.rt:370:58
 uint-requires : tie.Need-uint-requires
-uint-requires c κs = (omega arith, omega arith, omega arith, subst (Fine (c .before .before .before .before .before .args .i)) (c .before .construct8 .given .1) (c .before .before .before .before .before .pre .4) .0)
+uint-requires c κs = (omega arith, omega arith, omega arith, subst (Fine (c .before .before .before .before .before .args .i)) (c .before .construct8 .given .1) (c .before .before .before .before .before .pre .4) .2)
 
 -- src/lib.rt:371:27
 enum-told-2 : tie.Need-enum-told-2

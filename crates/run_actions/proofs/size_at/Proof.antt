@@ -2,7 +2,7 @@ use Prim.Native.Nat.{ℕ, _≤_}
 use mathlib.Core.Path.{ap, sym, subst, _∙_}
 use Rattle.basis.specs.Limits.{max-constructs}
 use Rattle.table_layout.specs.Held.{size-of}
-use Rattle.run_actions.proofs.Sizes.{size-small}
+use Rattle.table_layout.proofs.Bounds.{size-small}
 use borrow.Author.Needs.{needs}
 use Rattle.run_actions.proofs.size_at.Statement.{statement}
 use Rattle.run_actions.proofs.size_at.Tie as tie

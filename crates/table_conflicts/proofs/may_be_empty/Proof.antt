@@ -2,9 +2,9 @@ use mathlib.Core.List.{[]}
 use mathlib.Core.Path.{sym, subst}
 use mathlib.Core.Bool.{false, false≢true}
 use Rattle.lookahead.specs.Sets.{Decides}
-use Rattle.table_layout.specs.declared.Construct.{Construct}
+use Rattle.table_layout.specs.declared.Below.{Below}
 use Rattle.table_first_follow.specs.Rounds.{strings}
-use Rattle.table_conflicts.specs.Clashes.{EmptyAt}
+use Rattle.table_conflicts.specs.Clashes.{EmptyBelow}
 use borrow.Author.Needs.{needs}
 use Rattle.table_conflicts.proofs.may_be_empty.Statement.{statement}
 use Rattle.table_conflicts.proofs.may_be_empty.Tie as tie
@@ -39,18 +39,6 @@ enum-told-5 c = search needs
 enum-told-6 : tie.Need-enum-told-6
 enum-told-6 c = search needs
 
-enum-told-7 : tie.Need-enum-told-7
-enum-told-7 c = search needs
-
-enum-told-8 : tie.Need-enum-told-8
-enum-told-8 c = search needs
-
-enum-told-9 : tie.Need-enum-told-9
-enum-told-9 c = search needs
-
-enum-told-10 : tie.Need-enum-told-10
-enum-told-10 c = search needs
-
 returns : tie.Need-returns
 returns c = rw (c .enum-told .given .1) never
 
@@ -61,25 +49,16 @@ returns-3 : tie.Need-returns-3
 returns-3 c = rw (c .enum-told3 .given .1) never
 
 returns-4 : tie.Need-returns-4
-returns-4 c = let a = c .before .before .before .before .before .args in subst (λ (x : Construct). Decides (c .has-empty-string .result) (EmptyAt (strings (a .first .now)) (a .i) x)) (sym (c .before .before .enum-told4 .given .1)) ((λ e. c .before .set-of .ensures .strings [] .0 (c .has-empty-string .ensures .0 e)), (λ h. c .has-empty-string .ensures .1 (c .before .set-of .ensures .strings [] .1 h)))
+returns-4 c =
+    let a = c .before .before .before .before .before .args in
+    subst (λ (x : Below). Decides (c .has-empty-string .result) (EmptyBelow (strings (a .first .now)) (a .i) x)) (sym (c .before .before .enum-told4 .given .1))
+    ((λ e. c .before .set-of .ensures .strings [] .0 (c .has-empty-string .ensures .0 e)), (λ h. c .has-empty-string .ensures .1 (c .before .set-of .ensures .strings [] .1 h)))
 
 returns-5 : tie.Need-returns-5
 returns-5 c = rw (c .enum-told5 .given .1) never
 
 returns-6 : tie.Need-returns-6
 returns-6 c = rw (c .enum-told6 .given .1) never
-
-returns-7 : tie.Need-returns-7
-returns-7 c = rw (c .enum-told7 .given .1) never
-
-returns-8 : tie.Need-returns-8
-returns-8 c = rw (c .enum-told8 .given .1) never
-
-returns-9 : tie.Need-returns-9
-returns-9 c = rw (c .enum-told9 .given .1) never
-
-returns-10 : tie.Need-returns-10
-returns-10 c = rw (c .enum-told10 .given .1) never
 
 pub may-be-empty-spec : {M : Type 1} → statement M
 may-be-empty-spec =
@@ -94,17 +73,9 @@ may-be-empty-spec =
     has-empty-string-requires
     enum-told-5
     enum-told-6
-    enum-told-7
-    enum-told-8
-    enum-told-9
-    enum-told-10
     returns
     returns-2
     returns-3
     returns-4
     returns-5
-    returns-6
-    returns-7
-    returns-8
-    returns-9
-    returns-10)
+    returns-6)

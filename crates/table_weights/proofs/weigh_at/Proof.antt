@@ -1,11 +1,12 @@
--- `table_weights::weigh_at` meets its contract, one kind of construct after the other. Assumes nothing.
+-- `table_weights::weigh_at` meets its contract, by what stands below a construct. Assumes nothing.
 use Prim.Native.Nat.{ℕ, _+_}
-use mathlib.Core.Path.{_≡_, refl, sym, ap, _∙_}
+use mathlib.Core.Path.{_≡_, refl, ap, _∙_}
 use native.Mathlib.Omega.{arith}
 use mathlib.Core.Bool.{true, false}
-use Rattle.table_layout.specs.Constructs.{constructAt}
-use Rattle.table_layout.specs.Held.{size-of}
-use Rattle.table_reach.proofs.Constructs.{use-below, size-within}
+use Rattle.table_layout.specs.Attributes.{attributes-of}
+use Rattle.table_layout.specs.declared.Attributes.{Attributes}
+use Rattle.table_layout.specs.declared.Below.{Below}
+use Rattle.table_layout.proofs.Views.{size-read, rule-read}
 use Rattle.table_weights.specs.Sweeps.{capped}
 use Rattle.table_weights.proofs.Parts.{weighed-as, parts-weighed, twice}
 use borrow.Author.Needs.{needs}
@@ -15,11 +16,11 @@ use Rattle.table_weights.proofs.weigh_at.Tie as tie
 construct-at-requires : tie.Need-construct-at-requires
 construct-at-requires c κs = search needs
 
-size-of-requires : tie.Need-size-of-requires
-size-of-requires c κs = search needs
+attributes-of-requires : tie.Need-attributes-of-requires
+attributes-of-requires c κs = search needs
 
 add-end : tie.Need-add-end
-add-end c = let e : c .size-of .result ≡ size-of (constructAt (c .before .before .before .before .args .table .now) (c .before .before .before .before .args .i)) = c .size-of .ensures ∙ ap size-of (c .before .construct-at .ensures) in omega (arith, size-within (c .before .before .before .before .args .table .now) (c .before .before .before .before .args .i) (c .before .before .before .before .pre))
+add-end c = omega (arith, size-read (c .before .before .before .before .before .args .table .now) (c .before .before .before .before .before .args .i) _ (c .before .attributes-of .ensures ∙ ap attributes-of (c .before .before .construct-at .ensures)) (c .before .before .before .before .before .pre))
 
 enum-told : tie.Need-enum-told
 enum-told c = search needs
@@ -75,63 +76,39 @@ gather-requires-3 c κs = search needs
 one-more-requires-4 : tie.Need-one-more-requires-4
 one-more-requires-4 c κs = search needs
 
-enum-known-construct : tie.Need-enum-known-construct
-enum-known-construct c = search needs
+enum-told-6 : tie.Need-enum-told-6
+enum-told-6 c = search needs
 
 body-weight-requires : tie.Need-body-weight-requires
-body-weight-requires c κs = use-below (c .before .before .before .before .before .before .before .args .table .now) (c .before .before .before .before .before .before .before .args .i) _ (sym (c .before .before .before .before .construct-at .ensures) ∙ c .before .construct .given .1) .1
+body-weight-requires c κs = rule-read (c .before .before .before .before .before .before .before .args .table .now) (c .before .before .before .before .before .before .before .args .i) _ (c .before .before .before .attributes-of .ensures ∙ ap attributes-of (c .before .before .before .before .construct-at .ensures)) (c .enum-told6 .given .1)
 
 one-more-requires-5 : tie.Need-one-more-requires-5
 one-more-requires-5 c κs = search needs
 
-enum-told-6 : tie.Need-enum-told-6
-enum-told-6 c = search needs
-
-enum-told-7 : tie.Need-enum-told-7
-enum-told-7 c = search needs
-
-enum-told-8 : tie.Need-enum-told-8
-enum-told-8 c = search needs
-
-enum-told-9 : tie.Need-enum-told-9
-enum-told-9 c = search needs
-
 returns : tie.Need-returns
-returns c = weighed-as (c .before .before .before .before .before .before .args .table .now) (c .before .before .before .before .before .before .args .weights .now) (c .before .before .before .before .before .before .args .i) _ (sym (c .before .before .before .construct-at .ensures) ∙ c .enum-told .given .1)
+returns c = weighed-as (c .before .before .before .before .before .before .before .args .table .now) (c .before .before .before .before .before .before .before .args .weights .now) (c .before .before .before .before .before .before .before .args .i) _ (c .before .before .before .attributes-of .ensures ∙ ap attributes-of (c .before .before .before .before .construct-at .ensures)) Below.Nothing (c .enum-told .given .1)
 
 returns-2 : tie.Need-returns-2
-returns-2 c = parts-weighed (c .before .before .before .before .before .before .before .before .args .table .now) (c .before .before .before .before .before .before .before .before .args .weights .now) (c .before .before .before .before .before .before .before .before .args .i) _ false _ _ _ _ (sym (c .before .before .before .before .before .construct-at .ensures) ∙ c .before .before .enum-told2 .given .1) refl (ap (_+_ (c .before .before .before .before .before .before .before .before .args .i)) (c .before .before .before .before .size-of .ensures ∙ ap size-of (c .before .before .enum-told2 .given .1))) (c .before .gather .ensures .0) (c .one-more .ensures)
+returns-2 c = parts-weighed (c .before .before .before .before .before .before .before .before .before .args .table .now) (c .before .before .before .before .before .before .before .before .before .args .weights .now) (c .before .before .before .before .before .before .before .before .before .args .i) _ (c .before .before .before .before .before .attributes-of .ensures ∙ ap attributes-of (c .before .before .before .before .before .before .construct-at .ensures)) Below.Branches (c .before .before .enum-told2 .given .1) false _ _ refl (c .before .gather .ensures .0) (c .one-more .ensures)
 
 returns-3 : tie.Need-returns-3
-returns-3 c = parts-weighed (c .before .before .before .before .before .before .before .before .args .table .now) (c .before .before .before .before .before .before .before .before .args .weights .now) (c .before .before .before .before .before .before .before .before .args .i) _ true _ _ _ _ (sym (c .before .before .before .before .before .construct-at .ensures) ∙ c .before .before .enum-told3 .given .1) refl (ap (_+_ (c .before .before .before .before .before .before .before .before .args .i)) (c .before .before .before .before .size-of .ensures ∙ ap size-of (c .before .before .enum-told3 .given .1))) (c .before .gather2 .ensures .0) (c .one-more2 .ensures)
+returns-3 c = parts-weighed (c .before .before .before .before .before .before .before .before .before .args .table .now) (c .before .before .before .before .before .before .before .before .before .args .weights .now) (c .before .before .before .before .before .before .before .before .before .args .i) _ (c .before .before .before .before .before .attributes-of .ensures ∙ ap attributes-of (c .before .before .before .before .before .before .construct-at .ensures)) Below.Members (c .before .before .enum-told3 .given .1) true _ _ refl (c .before .gather2 .ensures .0) (c .one-more2 .ensures)
 
 returns-4 : tie.Need-returns-4
-returns-4 c = twice _ _ _ (c .before .word .ensures .0) (c .one-more3 .ensures) ∙ weighed-as (c .before .before .before .before .before .before .before .before .args .table .now) (c .before .before .before .before .before .before .before .before .args .weights .now) (c .before .before .before .before .before .before .before .before .args .i) _ (sym (c .before .before .before .before .before .construct-at .ensures) ∙ c .before .before .enum-told4 .given .1)
+returns-4 c = twice _ _ _ (c .before .word .ensures .0) (c .one-more3 .ensures) ∙ weighed-as (c .before .before .before .before .before .before .before .before .before .args .table .now) (c .before .before .before .before .before .before .before .before .before .args .weights .now) (c .before .before .before .before .before .before .before .before .before .args .i) _ (c .before .before .before .before .before .attributes-of .ensures ∙ ap attributes-of (c .before .before .before .before .before .before .construct-at .ensures)) (Below.Body _) (c .before .before .enum-told4 .given .1)
 
 returns-5 : tie.Need-returns-5
-returns-5 c = parts-weighed (c .before .before .before .before .before .before .before .before .args .table .now) (c .before .before .before .before .before .before .before .before .args .weights .now) (c .before .before .before .before .before .before .before .before .args .i) _ false _ _ _ _ (sym (c .before .before .before .before .before .construct-at .ensures) ∙ c .before .before .enum-told5 .given .1) refl (ap (_+_ (c .before .before .before .before .before .before .before .before .args .i)) (c .before .before .before .before .size-of .ensures ∙ ap size-of (c .before .before .enum-told5 .given .1))) (c .before .gather3 .ensures .0) (c .one-more4 .ensures)
+returns-5 c = parts-weighed (c .before .before .before .before .before .before .before .before .before .args .table .now) (c .before .before .before .before .before .before .before .before .before .args .weights .now) (c .before .before .before .before .before .before .before .before .before .args .i) _ (c .before .before .before .before .before .attributes-of .ensures ∙ ap attributes-of (c .before .before .before .before .before .before .construct-at .ensures)) Below.Cases (c .before .before .enum-told5 .given .1) false _ _ refl (c .before .gather3 .ensures .0) (c .one-more4 .ensures)
 
 returns-6 : tie.Need-returns-6
-returns-6 c = c .one-more5 .ensures ∙ ap (λ (x : ℕ). capped (1 + x)) (c .before .body-weight .ensures .0) ∙ weighed-as (c .before .before .before .before .before .before .before .before .before .args .table .now) (c .before .before .before .before .before .before .before .before .before .args .weights .now) (c .before .before .before .before .before .before .before .before .before .args .i) _ (sym (c .before .before .before .before .before .before .construct-at .ensures) ∙ c .before .before .before .construct .given .1)
-
-returns-7 : tie.Need-returns-7
-returns-7 c = weighed-as (c .before .before .before .before .before .before .args .table .now) (c .before .before .before .before .before .before .args .weights .now) (c .before .before .before .before .before .before .args .i) _ (sym (c .before .before .before .construct-at .ensures) ∙ c .enum-told6 .given .1)
-
-returns-8 : tie.Need-returns-8
-returns-8 c = weighed-as (c .before .before .before .before .before .before .args .table .now) (c .before .before .before .before .before .before .args .weights .now) (c .before .before .before .before .before .before .args .i) _ (sym (c .before .before .before .construct-at .ensures) ∙ c .enum-told7 .given .1)
-
-returns-9 : tie.Need-returns-9
-returns-9 c = weighed-as (c .before .before .before .before .before .before .args .table .now) (c .before .before .before .before .before .before .args .weights .now) (c .before .before .before .before .before .before .args .i) _ (sym (c .before .before .before .construct-at .ensures) ∙ c .enum-told8 .given .1)
-
-returns-10 : tie.Need-returns-10
-returns-10 c = weighed-as (c .before .before .before .before .before .before .args .table .now) (c .before .before .before .before .before .before .args .weights .now) (c .before .before .before .before .before .before .args .i) _ (sym (c .before .before .before .construct-at .ensures) ∙ c .enum-told9 .given .1)
+returns-6 c = c .one-more5 .ensures ∙ ap (λ (x : ℕ). capped (1 + x)) (c .before .body-weight .ensures .0) ∙ weighed-as (c .before .before .before .before .before .before .before .before .before .args .table .now) (c .before .before .before .before .before .before .before .before .before .args .weights .now) (c .before .before .before .before .before .before .before .before .before .args .i) _ (c .before .before .before .before .before .attributes-of .ensures ∙ ap attributes-of (c .before .before .before .before .before .before .construct-at .ensures)) Below.Rule (c .before .before .enum-told6 .given .1)
 
 pub weigh-at-spec : {M : Type 1} → statement M
 weigh-at-spec =
     tie.close
     (tie.spec
     construct-at-requires
-    size-of-requires
+    attributes-of-requires
     add-end
     enum-told
     enum-told-2
@@ -151,20 +128,12 @@ weigh-at-spec =
     add-gather-3
     gather-requires-3
     one-more-requires-4
-    enum-known-construct
+    enum-told-6
     body-weight-requires
     one-more-requires-5
-    enum-told-6
-    enum-told-7
-    enum-told-8
-    enum-told-9
     returns
     returns-2
     returns-3
     returns-4
     returns-5
-    returns-6
-    returns-7
-    returns-8
-    returns-9
-    returns-10)
+    returns-6)

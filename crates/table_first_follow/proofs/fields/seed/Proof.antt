@@ -5,7 +5,7 @@ use native.Mathlib.Omega.{arith}
 use Rattle.table_layout.specs.Held.{node-of}
 use Rattle.table_layout.specs.declared.Construct.{Construct}
 use Rattle.table_first_follow.proofs.FieldLaws.{seed-none, seed-literal, seed-range, seed-uint, seed-eod}
-use Rattle.table_first_follow.proofs.HeldLaws.{fine-as}
+use Rattle.table_layout.proofs.Bounds.{fine-as}
 use Rattle.table_first_follow.proofs.fields.seed.Statement.{statement}
 use Rattle.table_first_follow.proofs.fields.seed.Tie as tie
 
@@ -73,14 +73,14 @@ add-numbered : tie.Need-add-numbered
 add-numbered c =
     let a = c .before .before .before .before .before .args in
     let f = fine-as (a .table .now) (a .i) (c .before .before .before .construct-at .result) (c .before .before .before .construct-at .ensures) (Construct.Range (c .before .low .given .0 .0) (c .before .low .given .0 .1 .0)) (c .before .low .given .1) in
-    let g : c .before .low .given .0 .0 < 128 = f .0 in
+    let g : c .before .low .given .0 .0 < 128 = f .1 in
     record { fits = omega arith }
 
 add-numbered-2 : tie.Need-add-numbered-2
 add-numbered-2 c =
     let a = c .before .before .before .before .before .args in
     let f = fine-as (a .table .now) (a .i) (c .before .before .before .construct-at .result) (c .before .before .before .construct-at .ensures) (Construct.Range (c .before .low .given .0 .0) (c .before .low .given .0 .1 .0)) (c .before .low .given .1) in
-    let g : c .before .low .given .0 .1 .0 < 128 = f .1 in
+    let g : c .before .low .given .0 .1 .0 < 128 = f .2 in
     record { fits = omega arith }
 
 numbered-requires : tie.Need-numbered-requires
@@ -92,7 +92,7 @@ enum-known-width c = search needs
 uint-requires : tie.Need-uint-requires
 uint-requires c κs =
     let a = c .before .before .before .before .before .args in
-    fine-as (a .table .now) (a .i) (c .before .before .before .construct-at .result) (c .before .before .before .construct-at .ensures) (Construct.Uint (c .before .width .given .0 .0) (c .before .width .given .0 .1 .0) (c .before .width .given .0 .1 .1 .0) (c .before .width .given .0 .1 .1 .1 .0)) (c .before .width .given .1) .1
+    fine-as (a .table .now) (a .i) (c .before .before .before .construct-at .result) (c .before .before .before .construct-at .ensures) (Construct.Uint (c .before .width .given .0 .0) (c .before .width .given .0 .1 .0) (c .before .width .given .0 .1 .1 .0) (c .before .width .given .0 .1 .1 .1 .0)) (c .before .width .given .1) .2
 
 enum-told-8 : tie.Need-enum-told-8
 enum-told-8 c = search needs
@@ -140,13 +140,13 @@ returns-7 : tie.Need-returns-7
 returns-7 c =
     let a = c .before .before .before .before .before .before .args in
     seed-literal (a .table .now) (a .i) (c .before .before .before .before .before .before .pre) (c .before .before .before .before .construct-at .result) (c .before .before .before .before .construct-at .ensures) (c .single .result .words) (c .before .before .enum-told7 .given .0 .0) (c .before .word .result) (c .before .before .enum-told7 .given .1)
-    (fine-as (a .table .now) (a .i) (c .before .before .before .before .construct-at .result) (c .before .before .before .before .construct-at .ensures) (Construct.Literal (c .before .before .enum-told7 .given .0 .0)) (c .before .before .enum-told7 .given .1) .0) (c .before .word .ensures .0) (c .single .ensures)
+    (fine-as (a .table .now) (a .i) (c .before .before .before .before .construct-at .result) (c .before .before .before .before .construct-at .ensures) (Construct.Literal (c .before .before .enum-told7 .given .0 .0)) (c .before .before .enum-told7 .given .1) .1) (c .before .word .ensures .0) (c .single .ensures)
 
 returns-8 : tie.Need-returns-8
 returns-8 c =
     let a = c .before .before .before .before .before .before .args in
     seed-range (a .table .now) (a .i) (c .before .before .before .before .before .before .pre) (c .before .before .before .before .construct-at .result) (c .before .before .before .before .construct-at .ensures) (c .numbered .result .words) (c .before .before .low .given .0 .0) (c .before .before .low .given .0 .1 .0) (c .before .before .low .given .1)
-    (fine-as (a .table .now) (a .i) (c .before .before .before .before .construct-at .result) (c .before .before .before .before .construct-at .ensures) (Construct.Range (c .before .before .low .given .0 .0) (c .before .before .low .given .0 .1 .0)) (c .before .before .low .given .1) .1) (c .numbered .ensures)
+    (fine-as (a .table .now) (a .i) (c .before .before .before .before .construct-at .result) (c .before .before .before .before .construct-at .ensures) (Construct.Range (c .before .before .low .given .0 .0) (c .before .before .low .given .0 .1 .0)) (c .before .before .low .given .1) .2) (c .numbered .ensures)
 
 returns-9 : tie.Need-returns-9
 returns-9 c =

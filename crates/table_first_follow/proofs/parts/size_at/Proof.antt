@@ -5,7 +5,7 @@ use mathlib.Core.Path.{_≡_, ap, subst, sym, _∙_}
 use Rattle.basis.specs.Limits.{max-constructs}
 use Rattle.table_layout.specs.Constructs.{constructAt}
 use Rattle.table_layout.specs.Held.{size-of}
-use Rattle.table_first_follow.proofs.PartLaws.{size-small}
+use Rattle.table_layout.proofs.Bounds.{size-small}
 use Rattle.table_first_follow.proofs.parts.size_at.Statement.{statement}
 use Rattle.table_first_follow.proofs.parts.size_at.Tie as tie
 

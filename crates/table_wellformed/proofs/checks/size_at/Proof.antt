@@ -4,7 +4,7 @@ use native.Mathlib.Omega.{arith}
 use Rattle.basis.specs.Limits.{max-constructs}
 use Rattle.table_layout.specs.Held.{size-of}
 use Rattle.table_wellformed.specs.Checks.{size-at}
-use Rattle.table_wellformed.proofs.Decoded.{size-fits}
+use Rattle.table_layout.proofs.Bounds.{size-fits}
 use borrow.Author.Needs.{needs}
 use Rattle.table_wellformed.proofs.checks.size_at.Statement.{statement}
 use Rattle.table_wellformed.proofs.checks.size_at.Tie as tie

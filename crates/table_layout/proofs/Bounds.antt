@@ -1,19 +1,27 @@
 -- What holds of a construct whatever its words: its size leaves it within the limit, and its operands are within their limits.
 -- Assumes nothing.
 use Prim.Native.Nat.{ℕ, _+_, _-_, _≤_, _<_}
-use mathlib.Core.Path.{_≡_, refl}
+use mathlib.Core.Path.{_≡_, refl, sym, subst, _∙_}
 use mathlib.Core.Bool.{Bool, true, false}
 use mathlib.Core.List.{List}
 use native.Mathlib.Omega.{arith}
-use borrow.Author.Tests.{ltb-true, leb-true}
+use borrow.Author.Tests.{ltb-true, leb-true, le-ltb}
 use lib.Dec.{leb, ltb, eqb}
-use Rattle.basis.specs.Limits.{max-rules, max-constructs, max-variables, max-terms, max-literal-bytes, max-width}
 use Rattle.table_layout.specs.Places.{construct-word}
 use Rattle.table_layout.specs.Constructs.{pick, both, branches, listed, innerOf, uintOf, leafOf, constructOf, constructAt}
+use Rattle.table_layout.specs.Attributes.{attributes-of}
 use Rattle.table_layout.specs.Held.{size-of}
 use Rattle.table_layout.specs.declared.Construct.{Construct}
-use Rattle.table_wellformed.specs.Checks.{size-at}
-use Rattle.table_wellformed.proofs.Walks.{both-first, both-second}
+use Rattle.table_layout.specs.declared.Attributes.{Attributes}
+
+-- two tests that both hold
+pub both-first : (a b : Bool) → both a b ≡ true → a ≡ true
+both-first true b e = refl
+both-first false b e = e
+
+pub both-second : (a b : Bool) → both a b ≡ true → b ≡ true
+both-second true b e = e
+both-second false b e = let z : _≡_ {A = ℕ} 0 1 = cc in absurd (omega arith)
 
 -- what holds of both choices, each where it is taken, holds of the choice
 pub picked : {A : Type 0} (P : A → Type 0) (b : Bool) {x y : A} → (b ≡ true → P x) → (b ≡ false → P y) → P (pick b x y)
@@ -99,17 +107,47 @@ fine ws i =
     d : ℕ
     d = construct-word ws i 5
 
-fine-size : (i : ℕ) (c : Construct) → Fine i c → size-of c ≤ max-constructs - i
-fine-size i Construct.Missing f = omega arith
-fine-size i (Construct.Alternative size) f = omega (arith, f .1)
-fine-size i (Construct.Concatenation size) f = omega (arith, f .1)
-fine-size i (Construct.Repetition size passes) f = omega (arith, f .1)
-fine-size i (Construct.Switch size) f = omega (arith, f .1)
-fine-size i (Construct.Use rule) f = omega (arith, f .0)
-fine-size i (Construct.Literal length) f = omega (arith, f .0)
-fine-size i (Construct.Range low high) f = omega (arith, f .0)
-fine-size i (Construct.Uint width start end binder) f = omega (arith, f .0)
-fine-size i Construct.Eod f = omega arith
+-- the same of what was read
+pub fine-as : (ws : List ℕ) (i : ℕ) (r : Construct) → r ≡ constructAt ws i → (c : Construct) → r ≡ c → Fine i c
+fine-as ws i r e c p = subst (Fine i) (sym e ∙ p) (fine ws i)
 
-pub size-fits : (ws : List ℕ) (i : ℕ) → size-at ws i ≤ max-constructs - i
-size-fits ws i = fine-size i (constructAt ws i) (fine ws i)
+-- ---- the same by attributes
+
+pub record Bounds (i : ℕ) (a : Attributes) : Type 0 where
+  -- "256 constructs"
+  pub whole : a .size ≤ 256 - i
+  -- "32 characters"
+  pub length : a .length ≤ 32
+  -- what uses a rule, and what binds one of 64 variables, is one of the constructs
+  pub used : a .rule < 64 → i < 256
+  pub binder : a .binder ≤ 64
+  pub bound : 0 < a .binder → i < 256
+
+unused : (i : ℕ) (a : Attributes) → a .size ≤ 256 - i → a .length ≡ 0 → a .rule ≡ 64 → a .binder ≡ 0 → Bounds i a
+unused i a h l r b = record { whole = h; length = omega arith; used = λ k. absurd (omega arith); binder = omega arith; bound = λ k. absurd (omega arith) }
+
+bounds-of : (i : ℕ) (c : Construct) → Fine i c → Bounds i (attributes-of c)
+bounds-of i Construct.Missing f = unused i _ (omega arith) refl refl refl
+bounds-of i (Construct.Alternative size) f = unused i _ (omega (arith, f .1)) refl refl refl
+bounds-of i (Construct.Concatenation size) f = unused i _ (omega (arith, f .1)) refl refl refl
+bounds-of i (Construct.Repetition size passes) f = unused i _ (omega (arith, f .1)) refl refl refl
+bounds-of i (Construct.Switch size) f = unused i _ (omega (arith, f .1)) refl refl refl
+bounds-of i (Construct.Use rule) f = record { whole = omega (arith, f .0); length = omega arith; used = λ k. f .0; binder = omega arith; bound = λ k. f .0 }
+bounds-of i (Construct.Literal length) f = record { whole = omega (arith, f .0); length = f .2; used = λ k. f .0; binder = omega arith; bound = λ k. f .0 }
+bounds-of i (Construct.Range low high) f = unused i _ (omega (arith, f .0)) refl refl refl
+bounds-of i (Construct.Uint width start end binder) f = record { whole = omega (arith, f .0); length = omega arith; used = λ k. f .0; binder = f .5; bound = λ k. f .0 }
+bounds-of i Construct.Eod f = unused i _ (omega arith) refl refl refl
+
+pub bounds : (ws : List ℕ) (i : ℕ) → Bounds i (attributes-of (constructAt ws i))
+bounds ws i = bounds-of i (constructAt ws i) (fine ws i)
+
+pub size-fits : (ws : List ℕ) (i : ℕ) → size-of (constructAt ws i) ≤ 256 - i
+size-fits ws i = bounds ws i .whole
+
+pub size-small : (ws : List ℕ) (i : ℕ) → size-of (constructAt ws i) ≤ 256
+size-small ws i = omega (arith, size-fits ws i)
+
+-- past 256 there is none
+pub missing-past : (ws : List ℕ) (i : ℕ) → 256 ≤ i → constructAt ws i ≡ Construct.Missing
+unfolding constructAt
+missing-past ws i h = rw (le-ltb i 256 h)
