@@ -36,101 +36,54 @@ off : (A B : Fed) (t : Bool) → t ≡ false → faulty (elim t [ true ↦ A | f
 off A B true e = let z : _≡_ {A = ℕ} 0 1 = cc in absurd (omega arith)
 off A B false e = refl
 
-same-6 : (a b z : ℕ) (st : State) (ks : List Symbol) → Ground ks → faulty (feed (sight 6 a b z) st ks) ≡ faulty (feed (sight 1 a b z) st ks)
+-- `uint` and `var` before `(` cannot stand where a plain name cannot
+same : (a b z : ℕ) (st : State) (ks : List Symbol) → Ground ks → (faulty (feed (sight 6 a b z) st ks) ≡ faulty (feed (sight 1 a b z) st ks)) × (faulty (feed (sight 8 a b z) st ks) ≡ faulty (feed (sight 1 a b z) st ks))
 unfolding feed primary-begins operand-begins item-begins test-begins atom-begins
-same-6 a b z st [] g = refl
-same-6 a b z st (Symbol.want k ∷ ks) g = off _ _ (eqb 6 k) (unwanted 6 k (omega arith) (g .0)) ∙ sym (off _ _ (eqb 1 k) (unwanted 1 k (omega arith) (g .0)))
-same-6 a b z st (Symbol.sign tag p o ∷ ks) g = same-6 a b z _ ks g
-same-6 a b z st (Symbol.paren d ∷ ks) g = refl
-same-6 a b z st (Symbol.primary o ∷ ks) g = refl
-same-6 a b z st (Symbol.operand o ∷ ks) g = refl
-same-6 a b z st (Symbol.factors o ∷ ks) g = same-6 a b z st ks g
-same-6 a b z st (Symbol.summands o ∷ ks) g = same-6 a b z st ks g
-same-6 a b z st (Symbol.calculation ∷ ks) g = refl
-same-6 a b z st (Symbol.item ∷ ks) g = refl
-same-6 a b z st (Symbol.item-tail ∷ ks) g = same-6 a b z _ ks g
-same-6 a b z st (Symbol.bound some none p ∷ ks) g = refl
-same-6 a b z st (Symbol.exception d ∷ ks) g = same-6 a b z st ks g
-same-6 a b z st (Symbol.excluded d ∷ ks) g = refl
-same-6 a b z st (Symbol.alternative d ∷ ks) g = refl
-same-6 a b z st (Symbol.alternatives d ∷ ks) g = same-6 a b z st ks g
-same-6 a b z st (Symbol.value-set d ∷ ks) g = refl
-same-6 a b z st (Symbol.counts ∷ ks) g = refl
-same-6 a b z st (Symbol.counts-tail ∷ ks) g = same-6 a b z st ks g
-same-6 a b z st (Symbol.test d ∷ ks) g = refl
-same-6 a b z st (Symbol.comparison ∷ ks) g = refl
-same-6 a b z st (Symbol.condition d ∷ ks) g = refl
-same-6 a b z st (Symbol.joined d ∷ ks) g = same-6 a b z st ks g
-same-6 a b z st (Symbol.chain k tag d ∷ ks) g = off _ _ (eqb 6 k) (unwanted 6 k (omega arith) (g .0)) ∙ same-6 a b z st ks (g .1) ∙ sym (off _ _ (eqb 1 k) (unwanted 1 k (omega arith) (g .0)))
-same-6 a b z st (Symbol.atom d ∷ ks) g = refl
-same-6 a b z st (Symbol.factor d ∷ ks) g = refl
-same-6 a b z st (Symbol.concatenation d ∷ ks) g = refl
-same-6 a b z st (Symbol.expression d ∷ ks) g = refl
-same-6 a b z st (Symbol.marked q i ∷ ks) g = same-6 a b z st ks g
-same-6 a b z st (Symbol.counts-end p i mark f ∷ ks) g = refl
-same-6 a b z st (Symbol.members d p i many ∷ ks) g = same-6 a b z _ ks g
-same-6 a b z st (Symbol.branches d p i many ∷ ks) g = same-6 a b z _ ks g
-same-6 a b z st (Symbol.character-tail p ∷ ks) g = same-6 a b z _ ks g
-same-6 a b z st (Symbol.last-character p ∷ ks) g = refl
-same-6 a b z st (Symbol.width d p ∷ ks) g = refl
-same-6 a b z st (Symbol.field-set d p v ∷ ks) g = refl
-same-6 a b z st (Symbol.bound-name d p v ∷ ks) g = refl
-same-6 a b z st (Symbol.field-end p v name how f ∷ ks) g = refl
-same-6 a b z st (Symbol.colon d f ∷ ks) g = refl
-same-6 a b z st (Symbol.case-end i f end ∷ ks) g = refl
-same-6 a b z st (Symbol.cases d p i ∷ ks) g = refl
-same-6 a b z st (Symbol.switch-end p i ∷ ks) g = refl
-same-6 a b z st (Symbol.rules any ∷ []) g = refl
-same-6 a b z st (Symbol.rules any ∷ k ∷ ks) g = absurd g
-same-6 a b z st (Symbol.rule-end p i ∷ ks) g = refl
-
-same-8 : (a b z : ℕ) (st : State) (ks : List Symbol) → Ground ks → faulty (feed (sight 8 a b z) st ks) ≡ faulty (feed (sight 1 a b z) st ks)
-unfolding feed primary-begins operand-begins item-begins test-begins atom-begins
-same-8 a b z st [] g = refl
-same-8 a b z st (Symbol.want k ∷ ks) g = off _ _ (eqb 8 k) (unwanted 8 k (omega arith) (g .0)) ∙ sym (off _ _ (eqb 1 k) (unwanted 1 k (omega arith) (g .0)))
-same-8 a b z st (Symbol.sign tag p o ∷ ks) g = same-8 a b z _ ks g
-same-8 a b z st (Symbol.paren d ∷ ks) g = refl
-same-8 a b z st (Symbol.primary o ∷ ks) g = refl
-same-8 a b z st (Symbol.operand o ∷ ks) g = refl
-same-8 a b z st (Symbol.factors o ∷ ks) g = same-8 a b z st ks g
-same-8 a b z st (Symbol.summands o ∷ ks) g = same-8 a b z st ks g
-same-8 a b z st (Symbol.calculation ∷ ks) g = refl
-same-8 a b z st (Symbol.item ∷ ks) g = refl
-same-8 a b z st (Symbol.item-tail ∷ ks) g = same-8 a b z _ ks g
-same-8 a b z st (Symbol.bound some none p ∷ ks) g = refl
-same-8 a b z st (Symbol.exception d ∷ ks) g = same-8 a b z st ks g
-same-8 a b z st (Symbol.excluded d ∷ ks) g = refl
-same-8 a b z st (Symbol.alternative d ∷ ks) g = refl
-same-8 a b z st (Symbol.alternatives d ∷ ks) g = same-8 a b z st ks g
-same-8 a b z st (Symbol.value-set d ∷ ks) g = refl
-same-8 a b z st (Symbol.counts ∷ ks) g = refl
-same-8 a b z st (Symbol.counts-tail ∷ ks) g = same-8 a b z st ks g
-same-8 a b z st (Symbol.test d ∷ ks) g = refl
-same-8 a b z st (Symbol.comparison ∷ ks) g = refl
-same-8 a b z st (Symbol.condition d ∷ ks) g = refl
-same-8 a b z st (Symbol.joined d ∷ ks) g = same-8 a b z st ks g
-same-8 a b z st (Symbol.chain k tag d ∷ ks) g = off _ _ (eqb 8 k) (unwanted 8 k (omega arith) (g .0)) ∙ same-8 a b z st ks (g .1) ∙ sym (off _ _ (eqb 1 k) (unwanted 1 k (omega arith) (g .0)))
-same-8 a b z st (Symbol.atom d ∷ ks) g = refl
-same-8 a b z st (Symbol.factor d ∷ ks) g = refl
-same-8 a b z st (Symbol.concatenation d ∷ ks) g = refl
-same-8 a b z st (Symbol.expression d ∷ ks) g = refl
-same-8 a b z st (Symbol.marked q i ∷ ks) g = same-8 a b z st ks g
-same-8 a b z st (Symbol.counts-end p i mark f ∷ ks) g = refl
-same-8 a b z st (Symbol.members d p i many ∷ ks) g = same-8 a b z _ ks g
-same-8 a b z st (Symbol.branches d p i many ∷ ks) g = same-8 a b z _ ks g
-same-8 a b z st (Symbol.character-tail p ∷ ks) g = same-8 a b z _ ks g
-same-8 a b z st (Symbol.last-character p ∷ ks) g = refl
-same-8 a b z st (Symbol.width d p ∷ ks) g = refl
-same-8 a b z st (Symbol.field-set d p v ∷ ks) g = refl
-same-8 a b z st (Symbol.bound-name d p v ∷ ks) g = refl
-same-8 a b z st (Symbol.field-end p v name how f ∷ ks) g = refl
-same-8 a b z st (Symbol.colon d f ∷ ks) g = refl
-same-8 a b z st (Symbol.case-end i f end ∷ ks) g = refl
-same-8 a b z st (Symbol.cases d p i ∷ ks) g = refl
-same-8 a b z st (Symbol.switch-end p i ∷ ks) g = refl
-same-8 a b z st (Symbol.rules any ∷ []) g = refl
-same-8 a b z st (Symbol.rules any ∷ k ∷ ks) g = absurd g
-same-8 a b z st (Symbol.rule-end p i ∷ ks) g = refl
+same a b z st [] g = (refl, refl)
+same a b z st (Symbol.want k ∷ ks) g = (off _ _ (eqb 6 k) (unwanted 6 k (omega arith) (g .0)) ∙ sym (off _ _ (eqb 1 k) (unwanted 1 k (omega arith) (g .0))), off _ _ (eqb 8 k) (unwanted 8 k (omega arith) (g .0)) ∙ sym (off _ _ (eqb 1 k) (unwanted 1 k (omega arith) (g .0))))
+same a b z st (Symbol.sign tag p o ∷ ks) g = same a b z _ ks g
+same a b z st (Symbol.paren d ∷ ks) g = (refl, refl)
+same a b z st (Symbol.primary o ∷ ks) g = (refl, refl)
+same a b z st (Symbol.operand o ∷ ks) g = (refl, refl)
+same a b z st (Symbol.factors o ∷ ks) g = same a b z st ks g
+same a b z st (Symbol.summands o ∷ ks) g = same a b z st ks g
+same a b z st (Symbol.calculation ∷ ks) g = (refl, refl)
+same a b z st (Symbol.item ∷ ks) g = (refl, refl)
+same a b z st (Symbol.item-tail ∷ ks) g = same a b z _ ks g
+same a b z st (Symbol.bound some none p ∷ ks) g = (refl, refl)
+same a b z st (Symbol.exception d ∷ ks) g = same a b z st ks g
+same a b z st (Symbol.excluded d ∷ ks) g = (refl, refl)
+same a b z st (Symbol.alternative d ∷ ks) g = (refl, refl)
+same a b z st (Symbol.alternatives d ∷ ks) g = same a b z st ks g
+same a b z st (Symbol.value-set d ∷ ks) g = (refl, refl)
+same a b z st (Symbol.counts ∷ ks) g = (refl, refl)
+same a b z st (Symbol.counts-tail ∷ ks) g = same a b z st ks g
+same a b z st (Symbol.test d ∷ ks) g = (refl, refl)
+same a b z st (Symbol.comparison ∷ ks) g = (refl, refl)
+same a b z st (Symbol.condition d ∷ ks) g = (refl, refl)
+same a b z st (Symbol.joined d ∷ ks) g = same a b z st ks g
+same a b z st (Symbol.chain k tag d ∷ ks) g = (off _ _ (eqb 6 k) (unwanted 6 k (omega arith) (g .0)) ∙ same a b z st ks (g .1) .0 ∙ sym (off _ _ (eqb 1 k) (unwanted 1 k (omega arith) (g .0))), off _ _ (eqb 8 k) (unwanted 8 k (omega arith) (g .0)) ∙ same a b z st ks (g .1) .1 ∙ sym (off _ _ (eqb 1 k) (unwanted 1 k (omega arith) (g .0))))
+same a b z st (Symbol.atom d ∷ ks) g = (refl, refl)
+same a b z st (Symbol.factor d ∷ ks) g = (refl, refl)
+same a b z st (Symbol.concatenation d ∷ ks) g = (refl, refl)
+same a b z st (Symbol.expression d ∷ ks) g = (refl, refl)
+same a b z st (Symbol.marked p i ∷ ks) g = same a b z st ks g
+same a b z st (Symbol.counts-end p i mark f ∷ ks) g = (refl, refl)
+same a b z st (Symbol.members d p i many ∷ ks) g = same a b z _ ks g
+same a b z st (Symbol.branches d p i many ∷ ks) g = same a b z _ ks g
+same a b z st (Symbol.character-tail p ∷ ks) g = same a b z _ ks g
+same a b z st (Symbol.last-character p ∷ ks) g = (refl, refl)
+same a b z st (Symbol.width d p ∷ ks) g = (refl, refl)
+same a b z st (Symbol.field-set d p v ∷ ks) g = (refl, refl)
+same a b z st (Symbol.bound-name d p v ∷ ks) g = (refl, refl)
+same a b z st (Symbol.field-end p v name how f ∷ ks) g = (refl, refl)
+same a b z st (Symbol.colon d f ∷ ks) g = (refl, refl)
+same a b z st (Symbol.case-end i f end ∷ ks) g = (refl, refl)
+same a b z st (Symbol.cases d p i ∷ ks) g = (refl, refl)
+same a b z st (Symbol.switch-end p i ∷ ks) g = (refl, refl)
+same a b z st (Symbol.rules any ∷ []) g = (refl, refl)
+same a b z st (Symbol.rules any ∷ k ∷ ks) g = absurd g
+same a b z st (Symbol.rule-end p i ∷ ks) g = (refl, refl)
 
 -- a name's code, by what it is and whether `(` follows
 by-next : (F : ℕ → Bool) → F 6 ≡ F 1 → F 8 ≡ F 1 → (u v e m n : Bool) → F (cond u (cond m 6 1) (cond v (cond m 8 1) (cond e 7 1))) ≡ F (cond u (cond n 6 1) (cond v (cond n 8 1) (cond e 7 1)))
@@ -148,7 +101,7 @@ pub ahead : (x : Lexeme) (m n : Bool) (st : State) (ks : List Symbol) → Ground
 ahead (sign kind s) m n st ks g e = e
 ahead (word x) m n st ks g e =
     faulty-is (feed (seen-with (word x) (code (word x) n)) st ks)
-    (by-next (λ (c : ℕ). faulty (feed (sight c (x .start) (x .end) 0) st ks)) (same-6 (x .start) (x .end) 0 st ks g) (same-8 (x .start) (x .end) 0 st ks g) (eqb (reserved-of (x .letters)) 12) (eqb (reserved-of (x .letters)) 9) (eqb (reserved-of (x .letters)) 10) n m
+    (by-next (λ (c : ℕ). faulty (feed (sight c (x .start) (x .end) 0) st ks)) (same (x .start) (x .end) 0 st ks g .0) (same (x .start) (x .end) 0 st ks g .1) (eqb (reserved-of (x .letters)) 12) (eqb (reserved-of (x .letters)) 9) (eqb (reserved-of (x .letters)) 10) n m
     ∙ ap faulty e)
 ahead (numeral x) m n st ks g e = e
 ahead (quoted l) m n st ks g e = e

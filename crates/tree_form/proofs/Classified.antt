@@ -103,70 +103,9 @@ classified (x ∷ ls) = seen-with x (code x (opens ls)) ∷ classified ls
 
 -- ---- a token
 
-sees : (xs : List ℕ) (t : Token) (k : Kind) → live (code-of k) ≡ true → seen xs (code-of k) (t .start) (t .end) ≡ seen-with (lexeme-as xs t k) (code (lexeme-as xs t k) (opens-at xs (t .end)))
-unfolding seen name-code literal-code
-sees xs t Kind.Name l = refl
-sees xs t Kind.Number l = refl
-sees xs t Kind.Literal l = refl
-sees xs t Kind.Fault l = refl
-sees xs t Kind.End l = let z : _≡_ {A = ℕ} 0 1 = cc in absurd (omega arith)
-sees xs t Kind.Equal l = refl
-sees xs t Kind.Semicolon l = refl
-sees xs t Kind.Bar l = refl
-sees xs t Kind.Ampersand l = refl
-sees xs t Kind.OpenParen l = refl
-sees xs t Kind.CloseParen l = refl
-sees xs t Kind.OpenBracket l = refl
-sees xs t Kind.CloseBracket l = refl
-sees xs t Kind.OpenBrace l = refl
-sees xs t Kind.CloseBrace l = refl
-sees xs t Kind.Question l = refl
-sees xs t Kind.Star l = refl
-sees xs t Kind.Plus l = refl
-sees xs t Kind.Minus l = refl
-sees xs t Kind.Tilde l = refl
-sees xs t Kind.Bang l = refl
-sees xs t Kind.Comma l = refl
-sees xs t Kind.Colon l = refl
-sees xs t Kind.Less l = refl
-sees xs t Kind.Greater l = refl
-sees xs t Kind.Unequal l = refl
-sees xs t Kind.AtMost l = refl
-sees xs t Kind.AtLeast l = refl
-
 sees-end : (xs : List ℕ) (t : Token) (k : Kind) → k ≡ Kind.End → t .start ≡ t .end → seen xs (code-of k) (t .start) (t .end) ≡ seen-with (finish (t .start)) 5
 unfolding seen
 sees-end xs t k e z = rw e (ap (λ (n : ℕ). sight 5 (t .start) n 0) (sym z))
-
-is-opening : (xs : List ℕ) (t : Token) (k : Kind) → is-paren (lexeme-as xs t k) ≡ eqb (code-of k) 40
-is-opening xs t Kind.Name = refl
-is-opening xs t Kind.Number = refl
-is-opening xs t Kind.Literal = refl
-is-opening xs t Kind.Fault = refl
-is-opening xs t Kind.End = refl
-is-opening xs t Kind.Equal = refl
-is-opening xs t Kind.Semicolon = refl
-is-opening xs t Kind.Bar = refl
-is-opening xs t Kind.Ampersand = refl
-is-opening xs t Kind.OpenParen = refl
-is-opening xs t Kind.CloseParen = refl
-is-opening xs t Kind.OpenBracket = refl
-is-opening xs t Kind.CloseBracket = refl
-is-opening xs t Kind.OpenBrace = refl
-is-opening xs t Kind.CloseBrace = refl
-is-opening xs t Kind.Question = refl
-is-opening xs t Kind.Star = refl
-is-opening xs t Kind.Plus = refl
-is-opening xs t Kind.Minus = refl
-is-opening xs t Kind.Tilde = refl
-is-opening xs t Kind.Bang = refl
-is-opening xs t Kind.Comma = refl
-is-opening xs t Kind.Colon = refl
-is-opening xs t Kind.Less = refl
-is-opening xs t Kind.Greater = refl
-is-opening xs t Kind.Unequal = refl
-is-opening xs t Kind.AtMost = refl
-is-opening xs t Kind.AtLeast = refl
 
 -- those after a token
 abbrev pub after : ℕ → List ℕ → Lexeme → List Lexeme
@@ -189,39 +128,46 @@ begun n xs at = by (lexeme-of xs at)
     by (stray s) = refl
     by (finish p) = refl
 
-pub after-live : (n : ℕ) (xs : List ℕ) (t : Token) (k : Kind) → live (code-of k) ≡ true → after n xs (lexeme-as xs t k) ≡ lexemes-from n xs (t .end)
-after-live n xs t Kind.Name l = refl
-after-live n xs t Kind.Number l = refl
-after-live n xs t Kind.Literal l = refl
-after-live n xs t Kind.Fault l = refl
-after-live n xs t Kind.End l = let z : _≡_ {A = ℕ} 0 1 = cc in absurd (omega arith)
-after-live n xs t Kind.Equal l = refl
-after-live n xs t Kind.Semicolon l = refl
-after-live n xs t Kind.Bar l = refl
-after-live n xs t Kind.Ampersand l = refl
-after-live n xs t Kind.OpenParen l = refl
-after-live n xs t Kind.CloseParen l = refl
-after-live n xs t Kind.OpenBracket l = refl
-after-live n xs t Kind.CloseBracket l = refl
-after-live n xs t Kind.OpenBrace l = refl
-after-live n xs t Kind.CloseBrace l = refl
-after-live n xs t Kind.Question l = refl
-after-live n xs t Kind.Star l = refl
-after-live n xs t Kind.Plus l = refl
-after-live n xs t Kind.Minus l = refl
-after-live n xs t Kind.Tilde l = refl
-after-live n xs t Kind.Bang l = refl
-after-live n xs t Kind.Comma l = refl
-after-live n xs t Kind.Colon l = refl
-after-live n xs t Kind.Less l = refl
-after-live n xs t Kind.Greater l = refl
-after-live n xs t Kind.Unequal l = refl
-after-live n xs t Kind.AtMost l = refl
-after-live n xs t Kind.AtLeast l = refl
+-- what a token of each kind is: whether it is `(`; and if it is not the end, which terminal it is and what comes after it
+abbrev pub OfKind : ℕ → List ℕ → Token → Kind → Type 0
+OfKind n xs t k =
+    (is-paren (lexeme-as xs t k) ≡ eqb (code-of k) 40)
+    × (live (code-of k) ≡ true → (seen xs (code-of k) (t .start) (t .end) ≡ seen-with (lexeme-as xs t k) (code (lexeme-as xs t k) (opens-at xs (t .end)))) × (after n xs (lexeme-as xs t k) ≡ lexemes-from n xs (t .end)))
+
+pub of-kind : (n : ℕ) (xs : List ℕ) (t : Token) (k : Kind) → OfKind n xs t k
+unfolding seen name-code literal-code
+of-kind n xs t Kind.Name = (refl, λ l. (refl, refl))
+of-kind n xs t Kind.Number = (refl, λ l. (refl, refl))
+of-kind n xs t Kind.Literal = (refl, λ l. (refl, refl))
+of-kind n xs t Kind.Fault = (refl, λ l. (refl, refl))
+of-kind n xs t Kind.End = (refl, λ l. let z : _≡_ {A = ℕ} 0 1 = cc in absurd (omega arith))
+of-kind n xs t Kind.Equal = (refl, λ l. (refl, refl))
+of-kind n xs t Kind.Semicolon = (refl, λ l. (refl, refl))
+of-kind n xs t Kind.Bar = (refl, λ l. (refl, refl))
+of-kind n xs t Kind.Ampersand = (refl, λ l. (refl, refl))
+of-kind n xs t Kind.OpenParen = (refl, λ l. (refl, refl))
+of-kind n xs t Kind.CloseParen = (refl, λ l. (refl, refl))
+of-kind n xs t Kind.OpenBracket = (refl, λ l. (refl, refl))
+of-kind n xs t Kind.CloseBracket = (refl, λ l. (refl, refl))
+of-kind n xs t Kind.OpenBrace = (refl, λ l. (refl, refl))
+of-kind n xs t Kind.CloseBrace = (refl, λ l. (refl, refl))
+of-kind n xs t Kind.Question = (refl, λ l. (refl, refl))
+of-kind n xs t Kind.Star = (refl, λ l. (refl, refl))
+of-kind n xs t Kind.Plus = (refl, λ l. (refl, refl))
+of-kind n xs t Kind.Minus = (refl, λ l. (refl, refl))
+of-kind n xs t Kind.Tilde = (refl, λ l. (refl, refl))
+of-kind n xs t Kind.Bang = (refl, λ l. (refl, refl))
+of-kind n xs t Kind.Comma = (refl, λ l. (refl, refl))
+of-kind n xs t Kind.Colon = (refl, λ l. (refl, refl))
+of-kind n xs t Kind.Less = (refl, λ l. (refl, refl))
+of-kind n xs t Kind.Greater = (refl, λ l. (refl, refl))
+of-kind n xs t Kind.Unequal = (refl, λ l. (refl, refl))
+of-kind n xs t Kind.AtMost = (refl, λ l. (refl, refl))
+of-kind n xs t Kind.AtLeast = (refl, λ l. (refl, refl))
 
 opening : (n : ℕ) (xs : List ℕ) (at : ℕ) → length xs - at < n → opens (lexemes-from n xs at) ≡ opens-at xs at
 opening zero xs at f = absurd (omega arith)
-opening (suc n) xs at f = ap opens (begun n xs at) ∙ is-opening xs (token-of xs at) (token-of xs at .kind)
+opening (suc n) xs at f = ap opens (begun n xs at) ∙ of-kind n xs (token-of xs at) (token-of xs at .kind) .0
 
 -- ---- all tokens
 
@@ -245,8 +191,9 @@ module _ (n : ℕ) (xs : List ℕ) (t : Token) where
       let s = seen xs (code-of (t .kind)) (t .start) (t .end) in
       let x = lexeme-as xs t (t .kind) in
       let v = seen-as xs (code-of (t .kind)) (t .start) (t .end) in
+      let k = of-kind n xs t (t .kind) .1 l in
       going n xs s (t .end) (live-end (s .code) (v .is-live l)) (v .end-is)
-      ∙ ap₂ (λ (a : Sight) (b : List Sight). a ∷ b) (sees xs t (t .kind) l ∙ ap (λ (b : Bool). seen-with x (code x b)) (sym o ∙ ap opens (sym (after-live n xs t (t .kind) l)))) (h ∙ ap classified (sym (after-live n xs t (t .kind) l)))
+      ∙ ap₂ (λ (a : Sight) (b : List Sight). a ∷ b) (k .0 ∙ ap (λ (b : Bool). seen-with x (code x b)) (sym o ∙ ap opens (sym (k .1)))) (h ∙ ap classified (sym (k .1)))
 
 all : (n : ℕ) (xs : List ℕ) (at : ℕ) → length xs - at < n → sights n xs at ≡ classified (lexemes-from n xs at)
 unfolding sights sight-of

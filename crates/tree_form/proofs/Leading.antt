@@ -24,22 +24,22 @@ use Rattle.tree_form.proofs.Rests.{no-upper, an-upper, alone, reaches, 
 use Rattle.tree_form.proofs.Words.{sign-in, name-in, number-in, literal-in, is-sign, is-number, is-end, is-literal, is-character, is-single, is-eod, is-uint, is-var, is-name, is-other}
 use Rattle.tree_form.proofs.Parts.{first-place, operand-place, atom-place, factor-place, concatenation-place, opened-item, opened-item-spells, opened-item-stores, item-from, item-from-spells, item-from-stores, excepted, excepted-spells, excepted-stores, choice-from, choice-from-spells, choice-from-stores, chosen, chosen-spells, chosen-stores, counts-from, counts-from-spells, counts-from-stores, all-from, all-from-spells, all-from-stores, any-from, any-from-spells, any-from-stores, tests-from, tests-from-spells, tests-from-stores, factor-from, factor-from-spells, factor-from-stores, members-from, members-from-spells, members-from-stores, members-from-on, branches-from, branches-from-spells, branches-from-stores, branches-from-on, character-from, character-from-spells, character-from-stores, field-from, field-from-spells, field-from-stores, closing, cases-from, cases-from-spells, cases-from-stores, rules-from, rules-from-spells, rules-from-stores}
 
--- ---- the shortest rest of each part
+-- ---- the shortest rest of each part; its tokens stand nowhere, its name is `a`
 
 abbrev pub no-where : Sign
 no-where = record { start = 0; end = 0 }
 
-abbrev no-name : Name
-no-name = record { start = 0; end = 0; letters = [] }
+abbrev some-name : Name
+some-name = record { start = 0; end = 0; letters = 97 ∷ [] }
 
-abbrev no-number : Number
-no-number = record { start = 0; end = 0; value = 0 }
+abbrev some-number : Number
+some-number = record { start = 0; end = 0; value = 0 }
 
-abbrev no-literal : Literal
-no-literal = record { start = 0; end = 0; characters = 0 ∷ [] }
+abbrev some-literal : Literal
+some-literal = record { start = 0; end = 0; characters = 97 ∷ [] }
 
 abbrev some-operand : Operand
-some-operand = plain (number no-number)
+some-operand = plain (number some-number)
 
 abbrev some-calculation : Calculation
 some-calculation = sum (product some-operand no-factor) no-summand
@@ -58,7 +58,7 @@ shortest [] g m = tt
 shortest (Symbol.want k ∷ ks) g m = (no-where, shortest ks (g .1) m)
 shortest (Symbol.sign tag p o ∷ ks) g m = (tt, shortest ks g m)
 shortest (Symbol.paren d ∷ ks) g m = ((m .0, no-where), shortest ks g (m .1))
-shortest (Symbol.primary o ∷ ks) g m = (number no-number, shortest ks g m)
+shortest (Symbol.primary o ∷ ks) g m = (number some-number, shortest ks g m)
 shortest (Symbol.operand o ∷ ks) g m = (some-operand, shortest ks g m)
 shortest (Symbol.factors o ∷ ks) g m = (no-factor, shortest ks g m)
 shortest (Symbol.summands o ∷ ks) g m = (no-summand, shortest ks g m)
@@ -87,16 +87,16 @@ shortest (Symbol.counts-end p i mark f ∷ ks) g m = (no-where, shortest ks g m)
 shortest (Symbol.members d p i many ∷ ks) g m = (no-member, shortest ks g m)
 shortest (Symbol.branches d p i many ∷ ks) g m = (no-branch, shortest ks g m)
 shortest (Symbol.character-tail p ∷ ks) g m = (no-character, shortest ks g m)
-shortest (Symbol.last-character p ∷ ks) g m = ((no-literal, refl), shortest ks g m)
-shortest (Symbol.width d p ∷ ks) g m = ((no-number, no-where, plain-set some-set no-where), shortest ks g m)
+shortest (Symbol.last-character p ∷ ks) g m = ((some-literal, refl), shortest ks g m)
+shortest (Symbol.width d p ∷ ks) g m = ((some-number, no-where, plain-set some-set no-where), shortest ks g m)
 shortest (Symbol.field-set d p v ∷ ks) g m = (plain-set some-set no-where, shortest ks g m)
-shortest (Symbol.bound-name d p v ∷ ks) g m = ((no-name, no-where, some-set, no-where, no-where), shortest ks g m)
+shortest (Symbol.bound-name d p v ∷ ks) g m = ((some-name, no-where, some-set, no-where, no-where), shortest ks g m)
 shortest (Symbol.field-end p v name how f ∷ ks) g m = (no-where, shortest ks g m)
 shortest (Symbol.colon d f ∷ ks) g m = ((no-where, some-expression, no-where), shortest ks g m)
 shortest (Symbol.case-end i f end ∷ ks) g m = (no-where, shortest ks g m)
 shortest (Symbol.cases d p i ∷ ks) g m = (no-case no-where, shortest ks g m)
 shortest (Symbol.switch-end p i ∷ ks) g m = (no-where, shortest ks g m)
-shortest (Symbol.rules any ∷ []) g m = (more-rules (last-rule (rule no-name no-where some-expression no-where)) 0, tt)
+shortest (Symbol.rules any ∷ []) g m = (more-rules (last-rule (rule some-name no-where some-expression no-where)) 0, tt)
 shortest (Symbol.rules any ∷ k ∷ ks) g m = absurd g
 shortest (Symbol.rule-end p i ∷ ks) g m = (no-where, shortest ks g m)
 

@@ -1,4 +1,5 @@
--- Laws.
+-- The form of rules said of the syntax tree. Classified: tokens as terminals. Rests, Words, Parts, Leading: what a token leads back to. Reading, Skips, Traced,
+-- Told: a tree's spelling is read as that tree. Right, Ahead, Places: the claims, in Formed.
 pub mod Classified
 pub mod Rests
 pub mod Words

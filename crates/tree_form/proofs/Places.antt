@@ -16,7 +16,7 @@ use Rattle.text_parsing.specs.declared.Sight.{Sight}
 use Rattle.text_parsing.proofs.Sights.{Stands, ended, moving, stands}
 use Rattle.tree.specs.Lexemes.{Lexeme, place-of, lexeme-as, lexeme-of, lexemes-from, lexemes}
 use Rattle.tree_form.specs.Spelled.{answer, Begins, FirstFault}
-use Rattle.tree_form.proofs.Classified.{opens, code, seen-with, classified, after, begun, after-live, terminals}
+use Rattle.tree_form.proofs.Classified.{opens, code, seen-with, classified, after, begun, of-kind, terminals}
 use Rattle.tree_form.proofs.Rests.{MoreRules, more-rules, Rests, spell-all, spell-more-rules, Ground, Room}
 use Rattle.tree_form.proofs.Leading.{Going, Stuck, Leads, goes, ends, faults, shortest, fed}
 use Rattle.tree_form.proofs.Ahead.{ahead}
@@ -34,7 +34,7 @@ ended-from (suc n) xs at f = subst Ended (sym (begun n xs at)) (by (stands xs at
   where
     by : Stands xs at (token-of xs at) → (length xs - token-of xs at .end < n → Ended (lexemes-from n xs (token-of xs at .end))) → Ended (lexeme-of xs at ∷ after n xs (lexeme-of xs at))
     by (ended e z) h = λ v. absurd (subst (λ (k : Kind). Going (lexeme-as xs (token-of xs at) k)) e v)
-    by (moving l a m i) h = λ v. subst Ended (sym (after-live n xs (token-of xs at) (token-of xs at .kind) l)) (h (omega arith))
+    by (moving l a m i) h = λ v. subst Ended (sym (of-kind n xs (token-of xs at) (token-of xs at .kind) .1 l .1)) (h (omega arith))
 
 -- ---- where reading stops
 

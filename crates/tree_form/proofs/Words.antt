@@ -3,18 +3,18 @@
 use Prim.Native.Nat.{ℕ, _≤_}
 use mathlib.Core.Path.{_≡_, refl, sym, ap, subst, _∙_}
 use mathlib.Core.Logic.{_⊎_, inl, inr, ⊎-elim}
-use mathlib.Core.Bool.{Bool, true, false, cond, _&&_}
+use mathlib.Core.Bool.{Bool, true, false, _&&_}
 use mathlib.Core.List.{List, [], _∷_}
 use native.Mathlib.Omega.{arith}
-use borrow.Author.Tests.{eqb-true, eqb-false, leb-true}
+use borrow.Author.Tests.{eqb-true, leb-true}
 use lib.Dec.{eqb, leb}
 use lib.ListN.{length}
 use Rattle.text_header.specs.Spans.{starts}
 use Rattle.text_header.proofs.Runs.{word-equal, word-self}
-use Rattle.text_header.proofs.Tests.{both-first, both-second, which, picked}
+use Rattle.text_header.proofs.Tests.{both-second, which, picked}
 use Rattle.text_tokens.specs.Names.{word-number, reserved-of, is-same}
 use Rattle.text_tokens.specs.declared.Kind.{Kind}
-use Rattle.text_parsing.specs.Terminals.{word-code, name-like}
+use Rattle.text_parsing.specs.Terminals.{name-like}
 use Rattle.tree.specs.Lexemes.{Sign, Name, Number, Literal, Lexeme, sign, word, numeral, quoted, stray, finish, place-of}
 use Rattle.tree.specs.Tree.{eod-word, Single}
 use Rattle.tree.specs.Spelling.{uint-word, var-word, spelled-as}
@@ -85,194 +85,134 @@ reserved name =
     picked (Reserved name) (is-same (109 ∷ 115 ∷ 98 ∷ []) name) (λ e. (impossible, impossible, impossible)) (λ e20.
     picked (Reserved name) (is-same (108 ∷ 115 ∷ 98 ∷ []) name) (λ e. (impossible, impossible, impossible)) (λ e21. (impossible, impossible, impossible))))))))))))))))))))))
 
--- ---- codes of names and of signs
+-- ---- what a token is, by its code
 
-word-codes : (P : ℕ → Type 0) (r : ℕ) (next : Bool) → P 1 → (eqb r 12 ≡ true → P 6) → (eqb r 10 ≡ true → P 7) → (eqb r 9 ≡ true → P 8) → P (word-code r next)
-word-codes P r next a b c d =
-    picked P (eqb r 12) (λ e. picked P next (λ z. b e) (λ z. a))
-    (λ e₁. picked P (eqb r 9) (λ e. picked P next (λ z. d e) (λ z. a)) (λ e₂. picked P (eqb r 10) c (λ e₃. a)))
+-- not `eod`, by its number and by its letters
+not-eod : (name : List ℕ) → eqb (reserved-of name) 10 ≡ false → is-same eod-word name ≡ false
+unfolding word-number starts
+not-eod name f =
+    ⊎-elim (λ (z : is-same eod-word name ≡ true). impossible (sym f ∙ ap (λ (l : List ℕ). eqb (reserved-of l) 10) (sym (word-equal eod-word name z)))) (λ z. z)
+    (which (is-same eod-word name))
 
-high : (kind : Kind) → (sign-code kind ≡ 4) ⊎ (10 ≤ sign-code kind)
-high Kind.Name = inl refl
-high Kind.Number = inl refl
-high Kind.Literal = inl refl
-high Kind.Fault = inl refl
-high Kind.End = inl refl
-high Kind.Equal = inr (omega arith)
-high Kind.Semicolon = inr (omega arith)
-high Kind.Bar = inr (omega arith)
-high Kind.Ampersand = inr (omega arith)
-high Kind.OpenParen = inr (omega arith)
-high Kind.CloseParen = inr (omega arith)
-high Kind.OpenBracket = inr (omega arith)
-high Kind.CloseBracket = inr (omega arith)
-high Kind.OpenBrace = inr (omega arith)
-high Kind.CloseBrace = inr (omega arith)
-high Kind.Question = inr (omega arith)
-high Kind.Star = inr (omega arith)
-high Kind.Plus = inr (omega arith)
-high Kind.Minus = inr (omega arith)
-high Kind.Tilde = inr (omega arith)
-high Kind.Bang = inr (omega arith)
-high Kind.Comma = inr (omega arith)
-high Kind.Colon = inr (omega arith)
-high Kind.Less = inr (omega arith)
-high Kind.Greater = inr (omega arith)
-high Kind.Unequal = inr (omega arith)
-high Kind.AtMost = inr (omega arith)
-high Kind.AtLeast = inr (omega arith)
-
-no-sign : {A : Type 0} (kind : Kind) (c : ℕ) → sign-code kind ≡ c → c ≤ 9 → (c ≡ 4 → ⊥) → A
-no-sign kind c e l n = ⊎-elim (λ z. absurd (n (sym e ∙ z))) (λ z. absurd (omega arith)) (high kind)
-
--- a name's code is 1, 6, 7 or 8
-name-codes : (P : ℕ → Type 0) (c : ℕ) → name-like c ≡ true → P 1 → P 6 → P 7 → P 8 → P c
-name-codes P c e p₁ p₆ p₇ p₈ =
-    ⊎-elim (λ z. subst P (sym (eqb-true c 1 z)) p₁)
-    (λ z. ⊎-elim (λ y. subst P (sym (eqb-true c 6 y)) p₆)
-    (λ y. ⊎-elim (λ x. subst P (sym (eqb-true c 7 x)) p₇)
-    (λ x. ⊎-elim (λ v. subst P (sym (eqb-true c 8 v)) p₈)
-    (λ v. absurd (none z y x v)) (which (eqb c 8))) (which (eqb c 7))) (which (eqb c 6))) (which (eqb c 1))
+-- a name's code, and what it says
+word-codes : (n : Name) (next : Bool) (P : ℕ → Type 0) → (is-same eod-word (n .letters) ≡ false → P 1) → (uint-word ≡ n .letters → P 6) → (eod-word ≡ n .letters → P 7) → (var-word ≡ n .letters → P 8) → P (code (word n) next)
+word-codes n next P a b c d =
+    picked P (eqb r 12) (λ e. picked P next (λ z. b (reserved (n .letters) .0 e)) (λ z. a (not-eod (n .letters) (apart 12 e refl))))
+    (λ e₁. picked P (eqb r 9) (λ e. picked P next (λ z. d (reserved (n .letters) .1 e)) (λ z. a (not-eod (n .letters) (apart 9 e refl))))
+    (λ e₂. picked P (eqb r 10) (λ e. c (reserved (n .letters) .2 e)) (λ e₃. a (not-eod (n .letters) e₃))))
   where
-    none : eqb c 1 ≡ false → eqb c 6 ≡ false → eqb c 7 ≡ false → eqb c 8 ≡ false → ⊥
-    none a b d f =
-        let g : (leb 6 c && leb c 8) ≡ true = rw a at e
-        in let l : 6 ≤ c = leb-true 6 c (both-first (leb 6 c) (leb c 8) g)
-        in let h : c ≤ 8 = leb-true c 8 (both-second (leb 6 c) (leb c 8) g)
-        in omega (arith, eqb-false c 6 b, eqb-false c 7 d, eqb-false c 8 f)
+    r : ℕ
+    r = reserved-of (n .letters)
 
-quoted-codes : (P : ℕ → Type 0) (l : Literal) → (eqb (length (l .characters)) 1 ≡ true → P 9) → P 3 → P (cond (eqb (length (l .characters)) 1) 9 3)
-quoted-codes P l p q = picked P (eqb (length (l .characters)) 1) p (λ e. q)
+    apart : (k : ℕ) → eqb (reserved-of (n .letters)) k ≡ true → eqb k 10 ≡ false → eqb (reserved-of (n .letters)) 10 ≡ false
+    apart k e f = subst (λ (v : ℕ). eqb v 10 ≡ false) (sym (eqb-true (reserved-of (n .letters)) k e)) f
 
--- ---- what a token is
+-- a sign can stand nowhere, or it is the one of its code
+kinds : (kind : Kind) → (sign-code kind ≡ 4) ⊎ ((10 ≤ sign-code kind) × (kind-of (sign-code kind) ≡ kind))
+kinds Kind.Name = inl refl
+kinds Kind.Number = inl refl
+kinds Kind.Literal = inl refl
+kinds Kind.Fault = inl refl
+kinds Kind.End = inl refl
+kinds Kind.Equal = inr (omega arith, refl)
+kinds Kind.Semicolon = inr (omega arith, refl)
+kinds Kind.Bar = inr (omega arith, refl)
+kinds Kind.Ampersand = inr (omega arith, refl)
+kinds Kind.OpenParen = inr (omega arith, refl)
+kinds Kind.CloseParen = inr (omega arith, refl)
+kinds Kind.OpenBracket = inr (omega arith, refl)
+kinds Kind.CloseBracket = inr (omega arith, refl)
+kinds Kind.OpenBrace = inr (omega arith, refl)
+kinds Kind.CloseBrace = inr (omega arith, refl)
+kinds Kind.Question = inr (omega arith, refl)
+kinds Kind.Star = inr (omega arith, refl)
+kinds Kind.Plus = inr (omega arith, refl)
+kinds Kind.Minus = inr (omega arith, refl)
+kinds Kind.Tilde = inr (omega arith, refl)
+kinds Kind.Bang = inr (omega arith, refl)
+kinds Kind.Comma = inr (omega arith, refl)
+kinds Kind.Colon = inr (omega arith, refl)
+kinds Kind.Less = inr (omega arith, refl)
+kinds Kind.Greater = inr (omega arith, refl)
+kinds Kind.Unequal = inr (omega arith, refl)
+kinds Kind.AtMost = inr (omega arith, refl)
+kinds Kind.AtLeast = inr (omega arith, refl)
+
+-- what holds of each token with the codes that it may have holds of a token and its code
+module _ (P : Lexeme → ℕ → Type 0) where
+  pub told : ((x : Lexeme) → P x 4)
+      → ((s : Sign) (c : ℕ) → 10 ≤ c → P (sign (kind-of c) s) c)
+      → ((n : Name) → is-same eod-word (n .letters) ≡ false → P (word n) 1)
+      → ((n : Name) → uint-word ≡ n .letters → P (word n) 6)
+      → ((n : Name) → eod-word ≡ n .letters → P (word n) 7)
+      → ((n : Name) → var-word ≡ n .letters → P (word n) 8)
+      → ((n : Number) → P (numeral n) 2)
+      → ((l : Literal) → P (quoted l) 3)
+      → ((l : Literal) → Single l → P (quoted l) 9)
+      → ((p : ℕ) → P (finish p) 5)
+      → (x : Lexeme) (next : Bool) (c : ℕ) → code x next ≡ c → P x c
+  told stands signs w₁ w₆ w₇ w₈ nums lits ones ends x next c e = subst (P x) e (by x)
+    where
+      by : (x : Lexeme) → P x (code x next)
+      by (sign kind s) =
+          ⊎-elim (λ z. subst (P (sign kind s)) (sym z) (stands (sign kind s)))
+          (λ z. subst (λ (k : Kind). P (sign k s) (sign-code kind)) (z .1) (signs s (sign-code kind) (z .0))) (kinds kind)
+      by (word n) = word-codes n next (P (word n)) (w₁ n) (w₆ n) (w₇ n) (w₈ n)
+      by (numeral n) = nums n
+      by (quoted l) = picked (P (quoted l)) (eqb (length (l .characters)) 1) (λ e. ones l (eqb-true (length (l .characters)) 1 e)) (λ e. lits l)
+      by (stray s) = stands (stray s)
+      by (finish p) = ends p
+
+-- no sign has a code below 10
+high : {A : Type 0} (c k : ℕ) → 10 ≤ c → leb k 9 ≡ true → eqb c k ≡ true → A
+high c k l f t = absurd (omega (arith, eqb-true c k t, leb-true k 9 f))
+
+-- nor a name's
+named : (c : ℕ) → name-like c ≡ true → c ≤ 9
+named c t =
+    ⊎-elim (λ (e : eqb c 1 ≡ true). omega (arith, eqb-true c 1 e))
+    (λ (e : eqb c 1 ≡ false). let g : (leb 6 c && leb c 8) ≡ true = rw e at t in let h : c ≤ 8 = leb-true c 8 (both-second (leb 6 c) (leb c 8) g) in omega arith)
+    (which (eqb c 1))
+
+-- a word that has these letters
+lettered : (n : Name) (l : List ℕ) → l ≡ n .letters → word n ≡ spelled-as l (sign-in (word n))
+lettered n l e = ap (λ (l : List ℕ). word (record { start = n .start; end = n .end; letters = l })) (sym e)
 
 pub is-sign : (x : Lexeme) (next : Bool) (c : ℕ) → code x next ≡ c → leb 10 c ≡ true → x ≡ sign (kind-of c) (sign-in x)
-is-sign (sign Kind.Name s) next c e l = absurd (omega (arith, leb-true 10 c l))
-is-sign (sign Kind.Number s) next c e l = absurd (omega (arith, leb-true 10 c l))
-is-sign (sign Kind.Literal s) next c e l = absurd (omega (arith, leb-true 10 c l))
-is-sign (sign Kind.Fault s) next c e l = absurd (omega (arith, leb-true 10 c l))
-is-sign (sign Kind.End s) next c e l = absurd (omega (arith, leb-true 10 c l))
-is-sign (sign Kind.Equal s) next c e l = ap (λ (n : ℕ). sign (kind-of n) s) e
-is-sign (sign Kind.Semicolon s) next c e l = ap (λ (n : ℕ). sign (kind-of n) s) e
-is-sign (sign Kind.Bar s) next c e l = ap (λ (n : ℕ). sign (kind-of n) s) e
-is-sign (sign Kind.Ampersand s) next c e l = ap (λ (n : ℕ). sign (kind-of n) s) e
-is-sign (sign Kind.OpenParen s) next c e l = ap (λ (n : ℕ). sign (kind-of n) s) e
-is-sign (sign Kind.CloseParen s) next c e l = ap (λ (n : ℕ). sign (kind-of n) s) e
-is-sign (sign Kind.OpenBracket s) next c e l = ap (λ (n : ℕ). sign (kind-of n) s) e
-is-sign (sign Kind.CloseBracket s) next c e l = ap (λ (n : ℕ). sign (kind-of n) s) e
-is-sign (sign Kind.OpenBrace s) next c e l = ap (λ (n : ℕ). sign (kind-of n) s) e
-is-sign (sign Kind.CloseBrace s) next c e l = ap (λ (n : ℕ). sign (kind-of n) s) e
-is-sign (sign Kind.Question s) next c e l = ap (λ (n : ℕ). sign (kind-of n) s) e
-is-sign (sign Kind.Star s) next c e l = ap (λ (n : ℕ). sign (kind-of n) s) e
-is-sign (sign Kind.Plus s) next c e l = ap (λ (n : ℕ). sign (kind-of n) s) e
-is-sign (sign Kind.Minus s) next c e l = ap (λ (n : ℕ). sign (kind-of n) s) e
-is-sign (sign Kind.Tilde s) next c e l = ap (λ (n : ℕ). sign (kind-of n) s) e
-is-sign (sign Kind.Bang s) next c e l = ap (λ (n : ℕ). sign (kind-of n) s) e
-is-sign (sign Kind.Comma s) next c e l = ap (λ (n : ℕ). sign (kind-of n) s) e
-is-sign (sign Kind.Colon s) next c e l = ap (λ (n : ℕ). sign (kind-of n) s) e
-is-sign (sign Kind.Less s) next c e l = ap (λ (n : ℕ). sign (kind-of n) s) e
-is-sign (sign Kind.Greater s) next c e l = ap (λ (n : ℕ). sign (kind-of n) s) e
-is-sign (sign Kind.Unequal s) next c e l = ap (λ (n : ℕ). sign (kind-of n) s) e
-is-sign (sign Kind.AtMost s) next c e l = ap (λ (n : ℕ). sign (kind-of n) s) e
-is-sign (sign Kind.AtLeast s) next c e l = ap (λ (n : ℕ). sign (kind-of n) s) e
-is-sign (word n) next c e l = absurd (word-codes (λ (v : ℕ). v ≡ c → ⊥) (reserved-of (n .letters)) next (λ z. omega (arith, leb-true 10 c l)) (λ y z. omega (arith, leb-true 10 c l)) (λ y z. omega (arith, leb-true 10 c l)) (λ y z. omega (arith, leb-true 10 c l)) e)
-is-sign (numeral n) next c e l = absurd (omega (arith, leb-true 10 c l))
-is-sign (quoted q) next c e l = absurd (quoted-codes (λ (v : ℕ). v ≡ c → ⊥) q (λ y z. omega (arith, leb-true 10 c l)) (λ z. omega (arith, leb-true 10 c l)) e)
-is-sign (stray s) next c e l = absurd (omega (arith, leb-true 10 c l))
-is-sign (finish p) next c e l = absurd (omega (arith, leb-true 10 c l))
+is-sign = told (λ x c. leb 10 c ≡ true → x ≡ sign (kind-of c) (sign-in x)) (λ x. impossible) (λ s c l t. refl) (λ n f. impossible) (λ n f. impossible) (λ n f. impossible) (λ n f. impossible) (λ n. impossible) (λ l. impossible) (λ l f. impossible) (λ p. impossible)
 
 pub is-number : (x : Lexeme) (next : Bool) (c : ℕ) → code x next ≡ c → eqb c 2 ≡ true → x ≡ numeral (number-in x)
-is-number (sign kind s) next c e t = no-sign kind c e (omega (arith, eqb-true c 2 t)) (λ z. omega (arith, eqb-true c 2 t))
-is-number (word n) next c e t = word-codes (λ (v : ℕ). v ≡ c → (word n) ≡ numeral (number-in (word n))) (reserved-of (n .letters)) next (λ z. absurd (omega (arith, eqb-true c 2 t))) (λ y z. absurd (omega (arith, eqb-true c 2 t))) (λ y z. absurd (omega (arith, eqb-true c 2 t))) (λ y z. absurd (omega (arith, eqb-true c 2 t))) e
-is-number (numeral n) next c e t = refl
-is-number (quoted l) next c e t = absurd (quoted-codes (λ (v : ℕ). v ≡ c → ⊥) l (λ y z. omega (arith, eqb-true c 2 t)) (λ z. omega (arith, eqb-true c 2 t)) e)
-is-number (stray s) next c e t = absurd (omega (arith, eqb-true c 2 t))
-is-number (finish p) next c e t = absurd (omega (arith, eqb-true c 2 t))
+is-number = told (λ x c. eqb c 2 ≡ true → x ≡ numeral (number-in x)) (λ x. impossible) (λ s c l t. high c 2 l refl t) (λ n f. impossible) (λ n f. impossible) (λ n f. impossible) (λ n f. impossible) (λ n t. refl) (λ l. impossible) (λ l f. impossible) (λ p. impossible)
 
 pub is-end : (x : Lexeme) (next : Bool) (c : ℕ) → code x next ≡ c → eqb c 5 ≡ true → x ≡ finish (place-of x)
-is-end (sign kind s) next c e t = no-sign kind c e (omega (arith, eqb-true c 5 t)) (λ z. omega (arith, eqb-true c 5 t))
-is-end (word n) next c e t = word-codes (λ (v : ℕ). v ≡ c → (word n) ≡ finish (place-of (word n))) (reserved-of (n .letters)) next (λ z. absurd (omega (arith, eqb-true c 5 t))) (λ y z. absurd (omega (arith, eqb-true c 5 t))) (λ y z. absurd (omega (arith, eqb-true c 5 t))) (λ y z. absurd (omega (arith, eqb-true c 5 t))) e
-is-end (numeral n) next c e t = absurd (omega (arith, eqb-true c 5 t))
-is-end (quoted l) next c e t = absurd (quoted-codes (λ (v : ℕ). v ≡ c → ⊥) l (λ y z. omega (arith, eqb-true c 5 t)) (λ z. omega (arith, eqb-true c 5 t)) e)
-is-end (stray s) next c e t = absurd (omega (arith, eqb-true c 5 t))
-is-end (finish p) next c e t = refl
+is-end = told (λ x c. eqb c 5 ≡ true → x ≡ finish (place-of x)) (λ x. impossible) (λ s c l t. high c 5 l refl t) (λ n f. impossible) (λ n f. impossible) (λ n f. impossible) (λ n f. impossible) (λ n. impossible) (λ l. impossible) (λ l f. impossible) (λ p t. refl)
 
 pub is-literal : (x : Lexeme) (next : Bool) (c : ℕ) → code x next ≡ c → eqb c 3 ≡ true → x ≡ quoted (literal-in x)
-is-literal (sign kind s) next c e t = no-sign kind c e (omega (arith, eqb-true c 3 t)) (λ z. omega (arith, eqb-true c 3 t))
-is-literal (word n) next c e t = word-codes (λ (v : ℕ). v ≡ c → (word n) ≡ quoted (literal-in (word n))) (reserved-of (n .letters)) next (λ z. absurd (omega (arith, eqb-true c 3 t))) (λ y z. absurd (omega (arith, eqb-true c 3 t))) (λ y z. absurd (omega (arith, eqb-true c 3 t))) (λ y z. absurd (omega (arith, eqb-true c 3 t))) e
-is-literal (numeral n) next c e t = absurd (omega (arith, eqb-true c 3 t))
-is-literal (quoted l) next c e t = refl
-is-literal (stray s) next c e t = absurd (omega (arith, eqb-true c 3 t))
-is-literal (finish p) next c e t = absurd (omega (arith, eqb-true c 3 t))
+is-literal = told (λ x c. eqb c 3 ≡ true → x ≡ quoted (literal-in x)) (λ x. impossible) (λ s c l t. high c 3 l refl t) (λ n f. impossible) (λ n f. impossible) (λ n f. impossible) (λ n f. impossible) (λ n. impossible) (λ l t. refl) (λ l f. impossible) (λ p. impossible)
 
 pub is-character : (x : Lexeme) (next : Bool) (c : ℕ) → code x next ≡ c → eqb c 9 ≡ true → x ≡ quoted (literal-in x)
-is-character (sign kind s) next c e t = no-sign kind c e (omega (arith, eqb-true c 9 t)) (λ z. omega (arith, eqb-true c 9 t))
-is-character (word n) next c e t = word-codes (λ (v : ℕ). v ≡ c → (word n) ≡ quoted (literal-in (word n))) (reserved-of (n .letters)) next (λ z. absurd (omega (arith, eqb-true c 9 t))) (λ y z. absurd (omega (arith, eqb-true c 9 t))) (λ y z. absurd (omega (arith, eqb-true c 9 t))) (λ y z. absurd (omega (arith, eqb-true c 9 t))) e
-is-character (numeral n) next c e t = absurd (omega (arith, eqb-true c 9 t))
-is-character (quoted l) next c e t = refl
-is-character (stray s) next c e t = absurd (omega (arith, eqb-true c 9 t))
-is-character (finish p) next c e t = absurd (omega (arith, eqb-true c 9 t))
+is-character = told (λ x c. eqb c 9 ≡ true → x ≡ quoted (literal-in x)) (λ x. impossible) (λ s c l t. high c 9 l refl t) (λ n f. impossible) (λ n f. impossible) (λ n f. impossible) (λ n f. impossible) (λ n. impossible) (λ l. impossible) (λ l f t. refl) (λ p. impossible)
 
 pub is-single : (x : Lexeme) (next : Bool) (c : ℕ) → code x next ≡ c → eqb c 9 ≡ true → Single (literal-in x)
-is-single (sign kind s) next c e t = no-sign kind c e (omega (arith, eqb-true c 9 t)) (λ z. omega (arith, eqb-true c 9 t))
-is-single (word n) next c e t = word-codes (λ (v : ℕ). v ≡ c → Single (literal-in (word n))) (reserved-of (n .letters)) next (λ z. absurd (omega (arith, eqb-true c 9 t))) (λ y z. absurd (omega (arith, eqb-true c 9 t))) (λ y z. absurd (omega (arith, eqb-true c 9 t))) (λ y z. absurd (omega (arith, eqb-true c 9 t))) e
-is-single (numeral n) next c e t = absurd (omega (arith, eqb-true c 9 t))
-is-single (quoted l) next c e t = quoted-codes (λ (v : ℕ). v ≡ c → Single l) l (λ y z. eqb-true (length (l .characters)) 1 y) (λ z. absurd (omega (arith, eqb-true c 9 t))) e
-is-single (stray s) next c e t = absurd (omega (arith, eqb-true c 9 t))
-is-single (finish p) next c e t = absurd (omega (arith, eqb-true c 9 t))
+is-single = told (λ x c. eqb c 9 ≡ true → Single (literal-in x)) (λ x. impossible) (λ s c l t. high c 9 l refl t) (λ n f. impossible) (λ n f. impossible) (λ n f. impossible) (λ n f. impossible) (λ n. impossible) (λ l. impossible) (λ l f t. f) (λ p. impossible)
 
 pub is-eod : (x : Lexeme) (next : Bool) (c : ℕ) → code x next ≡ c → eqb c 7 ≡ true → x ≡ spelled-as eod-word (sign-in x)
-is-eod (sign kind s) next c e t = no-sign kind c e (omega (arith, eqb-true c 7 t)) (λ z. omega (arith, eqb-true c 7 t))
-is-eod (word n) next c e t = word-codes (λ (v : ℕ). v ≡ c → (word n) ≡ spelled-as eod-word (sign-in (word n))) (reserved-of (n .letters)) next (λ z. absurd (omega (arith, eqb-true c 7 t))) (λ y z. absurd (omega (arith, eqb-true c 7 t))) (λ y z. ap (λ (l : List ℕ). word (record { start = n .start; end = n .end; letters = l })) (sym (reserved (n .letters) .2 y))) (λ y z. absurd (omega (arith, eqb-true c 7 t))) e
-is-eod (numeral n) next c e t = absurd (omega (arith, eqb-true c 7 t))
-is-eod (quoted l) next c e t = absurd (quoted-codes (λ (v : ℕ). v ≡ c → ⊥) l (λ y z. omega (arith, eqb-true c 7 t)) (λ z. omega (arith, eqb-true c 7 t)) e)
-is-eod (stray s) next c e t = absurd (omega (arith, eqb-true c 7 t))
-is-eod (finish p) next c e t = absurd (omega (arith, eqb-true c 7 t))
+is-eod = told (λ x c. eqb c 7 ≡ true → x ≡ spelled-as eod-word (sign-in x)) (λ x. impossible) (λ s c l t. high c 7 l refl t) (λ n f. impossible) (λ n f. impossible) (λ n f t. lettered n eod-word f) (λ n f. impossible) (λ n. impossible) (λ l. impossible) (λ l f. impossible) (λ p. impossible)
 
 pub is-uint : (x : Lexeme) (next : Bool) (c : ℕ) → code x next ≡ c → eqb c 6 ≡ true → x ≡ spelled-as uint-word (sign-in x)
-is-uint (sign kind s) next c e t = no-sign kind c e (omega (arith, eqb-true c 6 t)) (λ z. omega (arith, eqb-true c 6 t))
-is-uint (word n) next c e t = word-codes (λ (v : ℕ). v ≡ c → (word n) ≡ spelled-as uint-word (sign-in (word n))) (reserved-of (n .letters)) next (λ z. absurd (omega (arith, eqb-true c 6 t))) (λ y z. ap (λ (l : List ℕ). word (record { start = n .start; end = n .end; letters = l })) (sym (reserved (n .letters) .0 y))) (λ y z. absurd (omega (arith, eqb-true c 6 t))) (λ y z. absurd (omega (arith, eqb-true c 6 t))) e
-is-uint (numeral n) next c e t = absurd (omega (arith, eqb-true c 6 t))
-is-uint (quoted l) next c e t = absurd (quoted-codes (λ (v : ℕ). v ≡ c → ⊥) l (λ y z. omega (arith, eqb-true c 6 t)) (λ z. omega (arith, eqb-true c 6 t)) e)
-is-uint (stray s) next c e t = absurd (omega (arith, eqb-true c 6 t))
-is-uint (finish p) next c e t = absurd (omega (arith, eqb-true c 6 t))
+is-uint = told (λ x c. eqb c 6 ≡ true → x ≡ spelled-as uint-word (sign-in x)) (λ x. impossible) (λ s c l t. high c 6 l refl t) (λ n f. impossible) (λ n f t. lettered n uint-word f) (λ n f. impossible) (λ n f. impossible) (λ n. impossible) (λ l. impossible) (λ l f. impossible) (λ p. impossible)
 
 pub is-var : (x : Lexeme) (next : Bool) (c : ℕ) → code x next ≡ c → eqb c 8 ≡ true → x ≡ spelled-as var-word (sign-in x)
-is-var (sign kind s) next c e t = no-sign kind c e (omega (arith, eqb-true c 8 t)) (λ z. omega (arith, eqb-true c 8 t))
-is-var (word n) next c e t = word-codes (λ (v : ℕ). v ≡ c → (word n) ≡ spelled-as var-word (sign-in (word n))) (reserved-of (n .letters)) next (λ z. absurd (omega (arith, eqb-true c 8 t))) (λ y z. absurd (omega (arith, eqb-true c 8 t))) (λ y z. absurd (omega (arith, eqb-true c 8 t))) (λ y z. ap (λ (l : List ℕ). word (record { start = n .start; end = n .end; letters = l })) (sym (reserved (n .letters) .1 y))) e
-is-var (numeral n) next c e t = absurd (omega (arith, eqb-true c 8 t))
-is-var (quoted l) next c e t = absurd (quoted-codes (λ (v : ℕ). v ≡ c → ⊥) l (λ y z. omega (arith, eqb-true c 8 t)) (λ z. omega (arith, eqb-true c 8 t)) e)
-is-var (stray s) next c e t = absurd (omega (arith, eqb-true c 8 t))
-is-var (finish p) next c e t = absurd (omega (arith, eqb-true c 8 t))
-
--- not the codes of any other token
-name-apart : (c : ℕ) → name-like c ≡ true → (c ≤ 9) × (c ≡ 4 → ⊥) × (c ≡ 2 → ⊥) × (c ≡ 3 → ⊥) × (c ≡ 9 → ⊥) × (c ≡ 5 → ⊥)
-name-apart c t = name-codes (λ (v : ℕ). (v ≤ 9) × (v ≡ 4 → ⊥) × (v ≡ 2 → ⊥) × (v ≡ 3 → ⊥) × (v ≡ 9 → ⊥) × (v ≡ 5 → ⊥)) c t (omega arith) (omega arith) (omega arith) (omega arith)
+is-var = told (λ x c. eqb c 8 ≡ true → x ≡ spelled-as var-word (sign-in x)) (λ x. impossible) (λ s c l t. high c 8 l refl t) (λ n f. impossible) (λ n f. impossible) (λ n f. impossible) (λ n f t. lettered n var-word f) (λ n. impossible) (λ l. impossible) (λ l f. impossible) (λ p. impossible)
 
 pub is-name : (x : Lexeme) (next : Bool) (c : ℕ) → code x next ≡ c → name-like c ≡ true → x ≡ word (name-in x)
-is-name (sign kind s) next c e t = no-sign kind c e (name-apart c t .0) (name-apart c t .1)
-is-name (word n) next c e t = refl
-is-name (numeral n) next c e t = absurd (name-apart c t .2 (sym e))
-is-name (quoted l) next c e t = absurd (quoted-codes (λ (v : ℕ). v ≡ c → ⊥) l (λ y z. name-apart c t .4 (sym z)) (λ z. name-apart c t .3 (sym z)) e)
-is-name (stray s) next c e t = absurd (name-apart c t .1 (sym e))
-is-name (finish p) next c e t = absurd (name-apart c t .5 (sym e))
-
--- a name that is not `eod`
-other : (n : Name) (next : Bool) → eqb (code (word n) next) 7 ≡ false → is-same eod-word (n .letters) ≡ false
-unfolding word-number starts
-other n next t =
-    ⊎-elim (λ (z : is-same eod-word (n .letters) ≡ true).
-    let g : eod-word ≡ n .letters = word-equal eod-word (n .letters) z
-    in impossible (sym (subst (λ (l : List ℕ). eqb (word-code (reserved-of l) next) 7 ≡ false) (sym g) t)))
-    (λ z. z) (which (is-same eod-word (n .letters)))
+is-name = told (λ x c. name-like c ≡ true → x ≡ word (name-in x)) (λ x. impossible) (λ s c l t. absurd (omega (arith, named c t))) (λ n f t. refl) (λ n f t. refl) (λ n f t. refl) (λ n f t. refl) (λ n. impossible) (λ l. impossible) (λ l f. impossible) (λ p. impossible)
 
 pub is-other : (x : Lexeme) (next : Bool) (c : ℕ) → code x next ≡ c → name-like c ≡ true → eqb c 7 ≡ false → is-same eod-word (name-in x .letters) ≡ false
-is-other (sign kind s) next c e t f = no-sign kind c e (name-apart c t .0) (name-apart c t .1)
-is-other (word n) next c e t f = other n next (subst (λ (v : ℕ). eqb v 7 ≡ false) (sym e) f)
-is-other (numeral n) next c e t f = absurd (name-apart c t .2 (sym e))
-is-other (quoted l) next c e t f = absurd (quoted-codes (λ (v : ℕ). v ≡ c → ⊥) l (λ y z. name-apart c t .4 (sym z)) (λ z. name-apart c t .3 (sym z)) e)
-is-other (stray s) next c e t f = absurd (name-apart c t .1 (sym e))
-is-other (finish p) next c e t f = absurd (name-apart c t .5 (sym e))
+unfolding starts
+is-other =
+    told (λ x c. name-like c ≡ true → eqb c 7 ≡ false → is-same eod-word (name-in x .letters) ≡ false) (λ x. impossible) (λ s c l t. absurd (omega (arith, named c t))) (λ n f t z. f)
+    (λ n f t z. subst (λ (l : List ℕ). is-same eod-word l ≡ false) f refl) (λ n f t z. impossible (sym z)) (λ n f t z. subst (λ (l : List ℕ). is-same eod-word l ≡ false) f refl) (λ n. impossible) (λ l. impossible) (λ l f. impossible) (λ p. impossible)
 
 -- a name is `uint` or `var` only where `(` follows
 pub plain-name : (n : Name) → is-same eod-word (n .letters) ≡ false → code (word n) false ≡ 1
@@ -284,7 +224,7 @@ plain-name n f =
 
 -- any name has one of four codes
 pub word-has : (n : Name) (next : Bool) (P : (c : ℕ) → code (word n) next ≡ c → Type 0) → ((e : code (word n) next ≡ 1) → P 1 e) → ((e : code (word n) next ≡ 6) → P 6 e) → ((e : code (word n) next ≡ 7) → P 7 e) → ((e : code (word n) next ≡ 8) → P 8 e) → (c : ℕ) (e : code (word n) next ≡ c) → P c e
-word-has n next P a b d f c z = word-codes (λ (v : ℕ). v ≡ c → (e : code (word n) next ≡ c) → P c e) (reserved-of (n .letters)) next (by 1 a) (λ y. by 6 b) (λ y. by 7 d) (λ y. by 8 f) z z
+word-has n next P a b d f c z = word-codes n next (λ (v : ℕ). v ≡ c → P c z) (λ y. by 1 a) (λ y. by 6 b) (λ y. by 7 d) (λ y. by 8 f) z
   where
-    by : (k : ℕ) → ((e : code (word n) next ≡ k) → P k e) → k ≡ c → (e : code (word n) next ≡ c) → P c e
-    by k h z = subst (λ (v : ℕ). (e : code (word n) next ≡ v) → P v e) z h
+    by : (k : ℕ) → ((e : code (word n) next ≡ k) → P k e) → k ≡ c → P c z
+    by k h y = subst (λ (v : ℕ). (e : code (word n) next ≡ v) → P v e) y h z
