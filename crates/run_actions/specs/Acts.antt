@@ -12,7 +12,7 @@ use mathlib.Core.List.{List}
 use lib.Dec.{leb, ltb, eqb}
 use lib.IntN.{ℤ, pos}
 use lib.ListN.{length, take, drop}
-use Rattle.basis.specs.Limits.{max-rules, max-constructs, max-variables, max-literal-bytes, max-width}
+use Rattle.basis.specs.Limits.{max-constructs, max-variables}
 use Rattle.basis.specs.Bits.{value, frameBits, same}
 use Rattle.basis.specs.Lookahead.{lookahead, number}
 use Rattle.term_evaluation.specs.Meaning.{membership, condition}

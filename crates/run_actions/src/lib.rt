@@ -1,4 +1,6 @@
 // What a step does with the first entry of a run's list, decided by reading alone.
+use basis::MAX_CONSTRUCTS;
+use table_layout::CONSTRUCTS_AT;
 ghost use mathlib.Core.Path.{_≡_};
 ghost use Prim.Native.Nat.{ℕ, _+_, _*_, _^_, _≤_, _<_};
 ghost use lib.IntN.{pos};
@@ -7,7 +9,7 @@ ghost use Rattle.basis.specs.Limits.{max-rules, max-constructs, max-literal-byt
 ghost use Rattle.basis.specs.Bits.{value, frameBits};
 ghost use Rattle.table_layout.specs.Constructs.{constructAt};
 ghost use Rattle.term_evaluation.specs.Meaning.{membership};
-ghost use Rattle.table_layout.specs.Held.{term-words, terms-of, size-of, literal-byte};
+ghost use Rattle.table_layout.specs.Held.{opening, term-words, terms-of, size-of, literal-byte};
 ghost use Rattle.table_layout.proofs.Bounds.{Fine};
 ghost use Rattle.run_actions.specs.Stored.{stored as storedOf};
 ghost use Rattle.run_actions.specs.Acts.{in-table, known-values, enter as enterOf, open-rule, ahead-at, branch-act, case-test, case-act, members-act, choice-act, turn-act, counted as countedOf, literal-holds, literal-act, by-set, range-act, bits-act, uint-act, end-act, construct-act, actOf};

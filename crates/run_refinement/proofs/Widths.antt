@@ -7,7 +7,7 @@ use mathlib.Core.Path.{_≡_, refl, sym, _∙_, ap}
 use mathlib.Core.Bool.{Bool, true}
 use mathlib.Core.List.{List}
 use lib.Dec.{leb, ltb, eqb}
-use Rattle.basis.specs.Limits.{max-constructs, max-variables, max-rules, max-literal-bytes, max-width}
+use Rattle.basis.specs.Limits.{max-constructs, max-variables}
 use Rattle.term_words.specs.declared.Kind.{Kind}
 use Rattle.table_layout.specs.Places.{construct-word, variable-word, construct-count, variable-count}
 use Rattle.table_layout.specs.Constructs.{pick, both, branches, listed, repetitionOf, innerOf, leafOf, constructOf, constructAt}

@@ -7,7 +7,7 @@ use mathlib.Core.List.{List, [], List·Memᴰ·not-nil}
 use lib.ListN.{length, take, drop, length-drop, drop-of-length-le}
 use lib.Seq.{take-all}
 use native.Mathlib.Omega.{arith}
-use Rattle.basis.specs.Limits.{max-constructs, max-terms}
+use Rattle.basis.specs.Limits.{max-terms}
 use Rattle.basis.specs.Bits.{Bits}
 use Rattle.basis.specs.Counts.{Counts}
 use Rattle.lookahead.specs.Sets.{Has, Is, Passes, Repeated}

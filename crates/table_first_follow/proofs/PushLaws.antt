@@ -7,7 +7,6 @@ use mathlib.Core.Logic.{inl, inr}
 use mathlib.Core.List.{List, [], _∷_, _++_, append-assoc, List·Memᴰ·not-nil, List·Memᴰ·head, List·Memᴰ·tail, List·Memᴰ·cases-cons}
 use native.Mathlib.Omega.{arith}
 use lib.ListN.{length}
-use Rattle.basis.specs.Limits.{max-constructs}
 use Rattle.basis.specs.Bits.{Bits}
 use Rattle.basis.specs.Counts.{from}
 use Rattle.basis.specs.Lookahead.{join}

@@ -1,4 +1,5 @@
 // FOLLOW sets. A construct hands what follows it on to its parts.
+use table_layout::OPENING;
 ghost use mathlib.Core.Path.{_≡_};
 ghost use Prim.Native.Nat.{_≤_, _<_};
 ghost use lib.ListN.{length};

@@ -1,4 +1,7 @@
 // What the rule of a node makes of the sets of its parts.
+use table_layout::LITERALS_AT;
+use table_layout::RULES_AT;
+use table_layout::TERMS_AT;
 ghost use mathlib.Core.Path.{_≡_};
 ghost use Prim.Native.Nat.{_<_, min};
 ghost use lib.ListN.{length};

@@ -7,6 +7,7 @@ use mathlib.Core.List.{List}
 use native.Mathlib.Omega.{arith}
 use borrow.Author.Tests.{ltb-true, leb-true, le-ltb}
 use lib.Dec.{leb, ltb, eqb}
+use Rattle.basis.specs.Limits.{max-rules, max-constructs, max-variables, max-terms, max-literal-bytes, max-width}
 use Rattle.table_layout.specs.Places.{construct-word}
 use Rattle.table_layout.specs.Constructs.{pick, both, branches, listed, innerOf, uintOf, leafOf, constructOf, constructAt}
 use Rattle.table_layout.specs.Attributes.{attributes-of}

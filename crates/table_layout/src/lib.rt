@@ -7,6 +7,7 @@ use basis::MAX_VARIABLES;
 use basis::MAX_WIDTH;
 ghost use mathlib.Core.Path.{_≡_};
 ghost use Prim.Native.Nat.{ℕ, _+_, _*_, _<_};
+ghost use Rattle.basis.specs.Limits.{max-constructs};
 ghost use Rattle.table_layout.specs.Attributes.{counts-list, row as rowOf, attributes-of};
 ghost use Rattle.table_layout.specs.Held.{size-of};
 ghost use Rattle.table_layout.specs.Places.{word as wordAt};

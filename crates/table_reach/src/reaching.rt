@@ -1,4 +1,5 @@
 // Which rules reach which: row r is a word whose bit q says whether rule r reaches rule q.
+use table_layout::RULES_AT;
 ghost use mathlib.Core.Path.{_≡_};
 ghost use Prim.Native.Nat.{ℕ, _<_, max, min};
 ghost use lib.Dec.{eqb};

@@ -1,4 +1,6 @@
 // Refusal 8 over a table's words: which lists of terms have sizes that may pass 2^62, with every variable at its widest.
+use basis::MAX_VARIABLES;
+use basis::MAX_WIDTH;
 ghost use mathlib.Core.Path.{_≡_};
 ghost use mathlib.Core.Bool.{true};
 ghost use Prim.Native.Nat.{ℕ, _≤_, _<_};

@@ -8,6 +8,7 @@ use mathlib.Core.List.{List}
 use native.Mathlib.Omega.{arith}
 use borrow.Author.Tests.{ltb-true, eqb-true}
 use lib.Dec.{ltb, eqb}
+use Rattle.basis.specs.Limits.{max-constructs}
 use Rattle.theory.proofs.Turns.{decide}
 use Rattle.table_layout.specs.Places.{word, rules-at, variables-at, constructs-at, terms-at, literals-at, sets-at, table-words, rule-count, construct-count, variable-count, term-count, construct-word}
 use Rattle.table_layout.specs.Constructs.{both, constructOf, constructAt}

@@ -1,4 +1,8 @@
 // Weights of a table's constructs, up to one past the limit.
+use basis::MAX_CONSTRUCTS;
+use basis::MAX_RULES;
+use basis::MAX_WEIGHT;
+use table_layout::RULES_AT;
 ghost use mathlib.Core.Path.{_≡_};
 ghost use Prim.Native.Nat.{ℕ, _+_, _<_, _≤_};
 ghost use mathlib.Core.Bool.{false};

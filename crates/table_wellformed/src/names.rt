@@ -12,6 +12,7 @@ use crate::lists::term_words;
 use crate::rules::rule_end;
 use table_layout::Below;
 use table_layout::Construct;
+use table_layout::VARIABLES_AT;
 use table_layout::attributes_of;
 use table_layout::construct_at;
 use table_layout::word;
