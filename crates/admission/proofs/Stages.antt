@@ -21,7 +21,7 @@ use Rattle.text_parsing.specs.declared.Cursor.{Cursor}
 use Rattle.text_syntax.specs.Rules.{form-of, outcome-of}
 use Rattle.text_shapes.proofs.Places.{refused-inside}
 use Rattle.text_names.specs.Counting.{nowhere}
-use Rattle.text_store.specs.Words.{named-at}
+use Rattle.text_store.specs.Words.{named-at, term-at}
 use Rattle.text_encoding.specs.Numbers.{condition-start}
 use Rattle.text_encoding.specs.Encoded.{encoded}
 use Rattle.text_wellformed.proofs.NodeFacts.{nodes-of-rules}
@@ -51,7 +51,7 @@ module _ (xs : List ℕ) (st : State) (h : length xs ≤ 8192) where
 
   -- 5 and 6: of a fault
   module _ (b : Basics xs st) where
-    terms-placed : (t : ℕ) → Rattle.text_store.specs.Words.term-word (term-words st) t 2 ≤ 8192
+    terms-placed : (t : ℕ) → term-at (term-words st) t ≤ 8192
     terms-placed t = term-within xs st b h t at-term (inl refl)
 
     pub place-5 : fault-5 st < nowhere → fault-5 st ≤ 8192
