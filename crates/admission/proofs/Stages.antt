@@ -22,7 +22,7 @@ use Rattle.text_parsing.specs.declared.Cursor.{Cursor}
 use Rattle.text_syntax.specs.Rules.{form-of, outcome-of}
 use Rattle.text_shapes.proofs.Places.{refused-inside}
 use Rattle.text_names.specs.Counting.{nowhere}
-use Rattle.text_store.specs.Words.{named-at, nodes-room, terms-room, rules-room}
+use Rattle.text_store.specs.Words.{named-at, term-at, nodes-room, terms-room, rules-room}
 use Rattle.text_encoding.specs.Numbers.{condition-start}
 use Rattle.text_encoding.specs.Encoded.{encoded}
 use Rattle.text_wellformed.proofs.NodeFacts.{nodes-of-rules}
@@ -52,7 +52,7 @@ module _ (xs : List ℕ) (st : State) (h : length xs ≤ max-text-bytes) where
 
   -- 5 and 6: of a fault
   module _ (b : Basics xs st) where
-    terms-placed : (t : ℕ) → Rattle.text_store.specs.Words.term-word (term-words st) t 2 ≤ max-text-bytes
+    terms-placed : (t : ℕ) → term-at (term-words st) t ≤ max-text-bytes
     terms-placed t = term-within xs st b h t at-term (inl refl)
 
     pub place-5 : fault-5 st < nowhere → fault-5 st ≤ max-text-bytes

@@ -38,7 +38,7 @@ use Rattle.table_layout.specs.declared.Passes.{Passes}
 use Rattle.table_wellformed.specs.Rules.{rule-end}
 use Rattle.table_structure.proofs.Facts.{Laid}
 use Rattle.table_structure.proofs.RuleLaws.{RuleOf, rule-of, rule-fact, next-begins, last-ends}
-use Rattle.table_structure.proofs.Reading.{Same, membership-same, condition-same, counts-same}
+use Rattle.term_evaluation.proofs.Reading.{Same, membership-same, condition-same, counts-same}
 use Rattle.table_structure.proofs.Binding.{Visible, condition-reads, own-reads}
 use Rattle.run_actions.specs.Acts.{terms-in-table, binder-in-table, known-values, ahead-at, bits-of, walk, case-test, by-case, turn-act, counted, by-set, uint-act, construct-act}
 use Rattle.run_actions.specs.declared.Act.{Act}

@@ -24,7 +24,7 @@ use Rattle.term_evaluation.proofs.Runs.{goes}
 use Rattle.term_sizes.specs.Sizes.{judged, ofCounted, sizes, countSizes}
 use Rattle.term_sizes.specs.declared.Sized.{Sized}
 use Rattle.table_structure.proofs.Facts.{lt-of-ne}
-use Rattle.table_hypotheses.proofs.TermCodes.{KnownOperation, Known}
+use Rattle.term_words.proofs.KnownTerms.{KnownOperation, KnownTerm}
 
 abbrev Runs : Trial → Type 0
 Runs (Trial.Running s t) = Unit {0}
@@ -51,7 +51,7 @@ single-known m env v Operation.Multiply s t h = tt
 single-known m env v Operation.Negate s t h = tt
 single-known m env v Operation.Unknown s t h = h
 
-step-known : (k : Kind) (m : Mode) (env : List ℤ) (v : ℤ) (x : Term) (s : Numbers) (t : ℕ) → Runs (stepOf k m env v x s t) → Known x
+step-known : (k : Kind) (m : Mode) (env : List ℤ) (v : ℤ) (x : Term) (s : Numbers) (t : ℕ) → Runs (stepOf k m env v x s t) → KnownTerm x
 step-known Kind.Calculation m env v (Term.Part o) s t h = part-known m env o s t h
 step-known Kind.Set m env v (Term.Part o) s t h = part-known m env o s t h
 step-known Kind.Condition m env v (Term.Part o) s t h = part-known m env o s t h
@@ -79,16 +79,16 @@ module _ (k : Kind) (m : Mode) (env : List ℤ) (v : ℤ) (ws : List ℕ) (end :
   -- the first of the rest, and those after it
   split : (i j : ℕ) (s : Numbers) (t : ℕ) (r : Trial) → stepOf k m env v (termAt ws i) s t ≡ r
       → Runs (next (λ (s′ : Numbers) (t′ : ℕ). run k m env v (i + 1) (terms ws (i + 1) end) s′ t′) i r .trial)
-      → ((s′ : Numbers) (t′ : ℕ) → Ran (i + 1) s′ t′ → i + 1 ≤ j → Known (termAt ws j)) → i ≤ j → Known (termAt ws j)
+      → ((s′ : Numbers) (t′ : ℕ) → Ran (i + 1) s′ t′ → i + 1 ≤ j → KnownTerm (termAt ws j)) → i ≤ j → KnownTerm (termAt ws j)
   split i j s t (Trial.Running s′ t′) e h on low =
       elim (ℕ-discrete i j) [
-        | yes q ↦ subst (λ (n : ℕ). Known (termAt ws n)) q (step-known k m env v (termAt ws i) s t (rw e tt))
+        | yes q ↦ subst (λ (n : ℕ). KnownTerm (termAt ws n)) q (step-known k m env v (termAt ws i) s t (rw e tt))
         | no q ↦ on s′ t′ h (lt-of-ne i j low q)
       ]
   split i j s t Trial.Malformed e h on low = absurd h
   split i j s t Trial.Overflow e h on low = absurd h
 
-  run-known : (n i j : ℕ) (s : Numbers) (t : ℕ) → end ≤ i + n → Ran i s t → i ≤ j → j < end → Known (termAt ws j)
+  run-known : (n i j : ℕ) (s : Numbers) (t : ℕ) → end ≤ i + n → Ran i s t → i ≤ j → j < end → KnownTerm (termAt ws j)
   run-known zero i j s t e h low high = absurd (omega arith)
   run-known (suc n) i j s t e h low high =
       let r : Trial = stepOf k m env v (termAt ws i) s t in
@@ -106,7 +106,7 @@ judged-runs Kind.Calculation Trial.Overflow at e = let z : _≡_ {A = ℕ} 0 1 =
 judged-runs Kind.Set Trial.Overflow at e = let z : _≡_ {A = ℕ} 0 1 = cc in absurd (omega arith)
 judged-runs Kind.Condition Trial.Overflow at e = let z : _≡_ {A = ℕ} 0 1 = cc in absurd (omega arith)
 
-pub list-known : (k : Kind) (widest : List ℤ) (ws : List ℕ) (start end : ℕ) → sizes k widest start (terms ws start end) ≡ Sized.Passes → (j : ℕ) → start ≤ j → j < end → Known (termAt ws j)
+pub list-known : (k : Kind) (widest : List ℤ) (ws : List ℕ) (start end : ℕ) → sizes k widest start (terms ws start end) ≡ Sized.Passes → (j : ℕ) → start ≤ j → j < end → KnownTerm (termAt ws j)
 unfolding sizes
 list-known k widest ws start end e j low high =
     let r = run k Mode.Sizes widest (pos 0) start (terms ws start end) Numbers.Zero 1 in
@@ -119,7 +119,7 @@ counted-runs f Trial.Overflow at e = let z : _≡_ {A = ℕ} 0 1 = cc in absurd 
 
 -- the calculations of counts go up to their end, or up to a last term that is known
 abbrev LastKnown : Form → ℕ → ℕ → Term → Type 0
-LastKnown f last end x = (calculationsEnd f last end ≡ end) ⊎ ((calculationsEnd f last end ≡ last) × Known x)
+LastKnown f last end x = (calculationsEnd f last end ≡ end) ⊎ ((calculationsEnd f last end ≡ last) × KnownTerm x)
 
 last-known : (x : Term) (last end : ℕ) → LastKnown (formOf x) last end x
 last-known Term.Range last end = inr (refl, tt)
@@ -134,20 +134,20 @@ last-known Term.And last end = inl refl
 last-known (Term.Compare k) last end = inl refl
 last-known Term.Bad last end = inl refl
 
-pub counts-known : (widest : List ℤ) (ws : List ℕ) (start end : ℕ) → start < end → countSizes widest ws start end ≡ Sized.Passes → (j : ℕ) → start ≤ j → j < end → Known (termAt ws j)
+pub counts-known : (widest : List ℤ) (ws : List ℕ) (start end : ℕ) → start < end → countSizes widest ws start end ≡ Sized.Passes → (j : ℕ) → start ≤ j → j < end → KnownTerm (termAt ws j)
 unfolding countSizes tallied
 counts-known widest ws start end some e j low high =
     let f : Form = formOf (termAt ws (end - 1)) in
     let upto : ℕ = calculationsEnd f (end - 1) end in
     let r = run Kind.Calculation Mode.Sizes widest (pos 0) start (terms ws start upto) Numbers.Zero 1 in
     let ran : Runs (r .trial) = counted-runs f (r .trial) (r .at) (rw (lt-ltb start end some) at e) in
-    let known : j < upto → Known (termAt ws j) = λ h. run-known Kind.Calculation Mode.Sizes widest (pos 0) ws upto (upto - start) start j Numbers.Zero 1 (omega arith) ran low h in
+    let known : j < upto → KnownTerm (termAt ws j) = λ h. run-known Kind.Calculation Mode.Sizes widest (pos 0) ws upto (upto - start) start j Numbers.Zero 1 (omega arith) ran low h in
     by-last (last-known (termAt ws (end - 1)) (end - 1) end) known
   where
-    by-last : LastKnown (formOf (termAt ws (end - 1))) (end - 1) end (termAt ws (end - 1)) → (j < calculationsEnd (formOf (termAt ws (end - 1))) (end - 1) end → Known (termAt ws j)) → Known (termAt ws j)
+    by-last : LastKnown (formOf (termAt ws (end - 1))) (end - 1) end (termAt ws (end - 1)) → (j < calculationsEnd (formOf (termAt ws (end - 1))) (end - 1) end → KnownTerm (termAt ws j)) → KnownTerm (termAt ws j)
     by-last (inl q) known = known (omega arith)
     by-last (inr (q, last)) known =
         elim (decLt j (end - 1)) [
           | yes h ↦ known (omega arith)
-          | no h ↦ subst (λ (n : ℕ). Known (termAt ws n)) (let z : end - 1 ≡ j = omega arith in z) last
+          | no h ↦ subst (λ (n : ℕ). KnownTerm (termAt ws n)) (let z : end - 1 ≡ j = omega arith in z) last
         ]

@@ -2,17 +2,18 @@
 -- Assumes nothing.
 use Prim.Native.Nat.{ℕ, _+_, _-_, _≤_, _<_}
 use mathlib.Core.Path.{_≡_, refl}
-use mathlib.Core.Bool.{Bool, true, false}
+use mathlib.Core.Bool.{true, false}
 use native.Mathlib.Omega.{arith}
 use borrow.Author.Tests.{ltb-false, eqb-true, le-leb, lt-leb}
 use lib.Dec.{ltb, eqb}
-use Rattle.term_words.specs.Numbers.{pick}
 use Rattle.term_words.specs.Words.{operationOf, signOf, termOf}
 use Rattle.term_words.specs.declared.Operation.{Operation}
 use Rattle.term_words.specs.declared.Comparison.{Comparison}
 use Rattle.term_words.specs.declared.Term.{Term}
 use Rattle.table_wellformed.specs.Checks.{either}
 use Rattle.table_wellformed.specs.Lists.{has-low}
+use Rattle.term_words.proofs.KnownTerms.{KnownOperation, KnownTerm}
+use Rattle.table_wellformed.proofs.Decoded.{picked}
 
 -- ---- the words of a term
 
@@ -68,35 +69,7 @@ low-of Term.And = 0
 low-of (Term.Compare k) = 0
 low-of Term.Bad = 0
 
--- ---- a term that stands in a list that is well formed is one of those named
-
-abbrev pub KnownOperation : Operation → Type 0
-KnownOperation (Operation.Number n) = Unit {0}
-KnownOperation (Operation.Variable k) = Unit {0}
-KnownOperation Operation.Add = Unit {0}
-KnownOperation Operation.Subtract = Unit {0}
-KnownOperation Operation.Multiply = Unit {0}
-KnownOperation Operation.Negate = Unit {0}
-KnownOperation Operation.Unknown = ⊥
-
-abbrev pub Known : Term → Type 0
-Known (Term.Part o) = KnownOperation o
-Known (Term.Single o) = KnownOperation o
-Known Term.All = Unit {0}
-Known Term.Range = Unit {0}
-Known Term.From = Unit {0}
-Known Term.UpTo = Unit {0}
-Known Term.Or = Unit {0}
-Known Term.Except = Unit {0}
-Known Term.And = Unit {0}
-Known (Term.Compare k) = Unit {0}
-Known Term.Bad = ⊥
-
 -- ---- what words say
-
-picked : {A : Type 0} (P : A → Type 0) (b : Bool) {x y : A} → (b ≡ true → P x) → (b ≡ false → P y) → P (pick b x y)
-picked P true f g = f refl
-picked P false f g = g refl
 
 -- only a number and a variable's use have a low word
 low-between : (n : ℕ) → 2 < n → n < 33 → has-low n ≡ false
@@ -124,7 +97,7 @@ module _ (own low : ℕ) (no-low : 2 < own → own < 7 → low ≡ 0) where
 
 module _ (tag low : ℕ) (laid : either (has-low tag) (eqb low 0) ≡ true) where
   abbrev Says : Term → Type 0
-  Says x = Known x → (tag ≡ tag-of x) × (low ≡ low-of x)
+  Says x = KnownTerm x → (tag ≡ tag-of x) × (low ≡ low-of x)
 
   zero-low : has-low tag ≡ false → low ≡ 0
   zero-low f = eqb-true low 0 (rw f at laid)

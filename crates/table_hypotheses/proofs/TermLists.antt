@@ -30,8 +30,9 @@ use Rattle.run_refinement.proofs.Reliable.{Reliable, condition-answers, counts-
 use Rattle.table_judge.specs.Sound.{Sound}
 use Rattle.table_hypotheses.proofs.Hypothesis.{laid-of-sound}
 use Rattle.table_hypotheses.proofs.Reliability.{reliable}
-use Rattle.table_hypotheses.proofs.TermCodes.{Known, tag-of, low-of, term-says}
+use Rattle.table_hypotheses.proofs.TermCodes.{tag-of, low-of, term-says}
 use Rattle.table_hypotheses.proofs.KnownTerms.{list-known, counts-known}
+use Rattle.term_words.proofs.KnownTerms.{KnownTerm}
 
 -- a place from p on is in the list that begins at p, or behind it
 in-list : (p start end j : ℕ) → begins p start end ≡ true → p ≤ j → ((start ≤ j) × (j < end)) ⊎ (after p start end ≤ j)
@@ -73,11 +74,11 @@ module _ {ws : List ℕ} (s : Sound ws) where
   sure : Reliable ws (widest ws) (λ c i. weight-at ws i) (rooms ws)
   sure = reliable s
 
-  condition-known : (i : ℕ) → i < construct-count ws → (j : ℕ) → construct-word ws i 6 ≤ j → j < construct-word ws i 7 → Known (termAt (term-words ws) j)
+  condition-known : (i : ℕ) → i < construct-count ws → (j : ℕ) → construct-word ws i 6 ≤ j → j < construct-word ws i 7 → KnownTerm (termAt (term-words ws) j)
   condition-known i h j low high =
       list-known _ (widest ws) (term-words ws) (construct-word ws i 6) (construct-word ws i 7) (condition-answers sure i h (omega arith)) j low high
 
-  own-known : (i : ℕ) → i < construct-count ws → {c : Construct} → Operands c → constructAt ws i ≡ c → (j : ℕ) → own-start c ≤ j → j < own-end c → Known (termAt (term-words ws) j)
+  own-known : (i : ℕ) → i < construct-count ws → {c : Construct} → Operands c → constructAt ws i ≡ c → (j : ℕ) → own-start c ≤ j → j < own-end c → KnownTerm (termAt (term-words ws) j)
   own-known i h (Operands.counts size start end) e j low high =
       counts-known (widest ws) (term-words ws) start end (omega arith) (counts-answer sure i size start end h e) j low high
   own-known i h (Operands.characters n) e j low high = absurd (omega arith)
@@ -86,9 +87,9 @@ module _ {ws : List ℕ} (s : Sound ws) where
   own-known i h (Operands.plain p) e j low high =
       let l : j < 0 = subst (λ (o : OwnList). j < list-end o) (p .own) high in absurd (omega arith)
 
-  term-known : (j : ℕ) → j < term-count ws → Known (termAt (term-words ws) j)
+  term-known : (j : ℕ) → j < term-count ws → KnownTerm (termAt (term-words ws) j)
   term-known j h =
-      listed ws (λ k. Known (termAt (term-words ws) k)) condition-known (λ i l. own-known i l (operands (constructAt ws i)) refl) (construct-count ws) 0 0 j (omega arith) (laid-of-sound s .lists) (omega arith) h
+      listed ws (λ k. KnownTerm (termAt (term-words ws) k)) condition-known (λ i l. own-known i l (operands (constructAt ws i)) refl) (construct-count ws) 0 0 j (omega arith) (laid-of-sound s .lists) (omega arith) h
 
   -- ---- the three words of a term
 
@@ -122,7 +123,7 @@ module _ {ws : List ℕ} (s : Sound ws) where
     said : (tag ≡ tag-of (termAt (term-words ws) j)) × (low ≡ low-of (termAt (term-words ws) j))
     said =
         rw decoded
-        (term-says tag low (both-first (either (has-low tag) (eqb low 0)) (eqb high 0) (laid-of-sound s .term j h)) (subst Known decoded (term-known j h)))
+        (term-says tag low (both-first (either (has-low tag) (eqb low 0)) (eqb high 0) (laid-of-sound s .term j h)) (subst KnownTerm decoded (term-known j h)))
 
     pub tag-said : word ws (terms-at + 3 * j) ≡ tag-of (termAt (term-words ws) j)
     tag-said = said .0

@@ -24,7 +24,7 @@ use Rattle.table_layout.specs.declared.Passes.{Passes}
 use Rattle.table_wellformed.specs.Lists.{own-start, own-end}
 use Rattle.table_wellformed.specs.Rules.{body, rule-end}
 use Rattle.table_structure.proofs.Facts.{Laid}
-use Rattle.table_structure.proofs.Reading.{Reads, Same, membership-same, condition-same, counts-same}
+use Rattle.term_evaluation.proofs.Reading.{Reads, Same, membership-same, condition-same, counts-same}
 use Rattle.table_structure.proofs.Binding.{Visible, condition-reads, own-reads}
 
 -- two lists of values that are as long and agree on the variables of P

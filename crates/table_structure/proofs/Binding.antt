@@ -28,7 +28,7 @@ use Rattle.table_structure.proofs.Facts.{Laid, each, lt-of-ne}
 use Rattle.table_structure.proofs.Tiles.{Tiles, none, more}
 use Rattle.table_structure.proofs.PartLaws.{Tiled, tiled}
 use Rattle.table_structure.proofs.RuleLaws.{next-begins, last-ends, rule-fact, rule-within}
-use Rattle.table_structure.proofs.Reading.{OperationReads, TermReads, Reads}
+use Rattle.term_evaluation.proofs.Reading.{OperationReads, TermReads, Reads}
 
 -- variable x is bound by one of these constructs
 pub record Bound (ws : List ℕ) (js : List ℕ) (x : ℕ) : Type 0 where

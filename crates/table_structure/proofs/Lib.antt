@@ -4,7 +4,6 @@ pub mod Facts
 pub mod PartLaws
 pub mod RuleLaws
 pub mod Owners
-pub mod Reading
 pub mod StaticLaw
 pub mod Binding
 pub mod Agreement

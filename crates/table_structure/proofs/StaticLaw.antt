@@ -34,7 +34,7 @@ use Rattle.table_layout.specs.Held.{Context, Values, HeldNode, term-words, term
 use Rattle.table_layout.specs.declared.Construct.{Construct}
 use Rattle.table_layout.specs.declared.Passes.{Passes}
 use Rattle.table_layout.proofs.Bounds.{picked, Fine, fine}
-use Rattle.table_structure.proofs.Reading.{membership-same, counts-same, no-variable, none-same}
+use Rattle.term_evaluation.proofs.Reading.{membership-constant, counts-constant}
 
 -- what is asked of a node
 abbrev StaticOf : HeldNode → Type 0
@@ -55,7 +55,7 @@ set-static : (ws : List ℕ) (start end : ℕ) (v : Values) (n : ℕ) → in-set
 set-static ws start end v n e =
     elim (decide (hasVariable (terms-of ws start end))) [
       | inl t ↦ rw t
-      | inr t ↦ rw t (ap isYes (membership-same (λ y. ⊥) [] v (none-same [] v) (term-words ws) (pos n) start end (no-variable (term-words ws) start end t)) ∙ e)
+      | inr t ↦ rw t (ap isYes (membership-constant [] v (pos n) start (terms (term-words ws) start end) t) ∙ e)
     ]
 
 -- "counts with a variable allowing all"
@@ -66,7 +66,7 @@ passes-covered ws Passes.Some v k a = a
 passes-covered ws (Passes.Counted start end) v k a =
     elim (decide (hasVariable (terms-of ws start end))) [
       | inl t ↦ rw t (omega arith)
-      | inr t ↦ rw (t, counts-same (λ y. ⊥) [] v (none-same [] v) (term-words ws) start end (no-variable (term-words ws) start end t)) a
+      | inr t ↦ rw (t, counts-constant [] v (term-words ws) start end t) a
     ]
 
 -- `{n}` is one number at most

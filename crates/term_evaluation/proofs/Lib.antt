@@ -1,4 +1,4 @@
 pub mod Runs
 pub mod Counting
 pub mod Using
-pub mod Constants
+pub mod Reading

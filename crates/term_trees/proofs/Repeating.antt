@@ -40,7 +40,7 @@ head-same x y xs ys e = cc e
 tail-same : (x y : Term) (xs ys : List Term) → x ∷ xs ≡ y ∷ ys → xs ≡ ys
 tail-same x y xs ys e = cc e
 
-pub record Split (ws : List ℕ) (i n : ℕ) (xs : List Term) (x : Term) : Type 0 where
+record Split (ws : List ℕ) (i n : ℕ) (xs : List Term) (x : Term) : Type 0 where
   pub less : ℕ
   pub is : n ≡ suc less
   pub last : termAt ws (i + less) ≡ x
@@ -98,30 +98,26 @@ two-means f a b n Trial.Overflow g e = not-past n e
 
 -- ---- counts by their last term
 
-module _ (env : List ℤ) (ws : List ℕ) (start end : ℕ) where
-  counts-at : (x : Term) (xs : List Term) → start < end → termAt ws (end - 1) ≡ x → terms ws start (calculationsEnd (formOf x) (end - 1) end) ≡ xs → counts env ws start end ≡ ofTrial (formOf x) (ends Kind.Calculation Mode.Values env (pos 0) xs Numbers.Zero 1)
-  unfolding counts tallied
-  counts-at x xs h e k =
-      ap (λ (b : Bool). pick b (talliedBy (formOf (termAt ws (end - 1))) Mode.Values env ws start end) (record { counted = Counted.Malformed; at = start }) .counted) (lt-ltb start end h)
-      ∙ ap (λ (y : Term). talliedBy (formOf y) Mode.Values env ws start end .counted) e
-      ∙ ap (λ (ys : List Term). ofTrial (formOf x) (run Kind.Calculation Mode.Values env (pos 0) start ys Numbers.Zero 1 .trial)) k
-      ∙ ap (ofTrial (formOf x)) (run-ends Kind.Calculation Mode.Values env (pos 0) xs start Numbers.Zero 1)
+module _ (m : Mode) (env : List ℤ) (ws : List ℕ) (start end : ℕ) where
+  abbrev pub ended : List Term → Trial
+  ended L = ends Kind.Calculation m env (pos 0) L Numbers.Zero 1
 
-  -- a list that ends in a sign x, or in a term of a calculation
-  signed-at : (x : Term) (xs : List Term) → calculationsEnd (formOf x) (end - 1) end ≡ end - 1 → terms ws start end ≡ xs ++ (x ∷ []) → counts env ws start end ≡ ofTrial (formOf x) (ends Kind.Calculation Mode.Values env (pos 0) xs Numbers.Zero 1)
-  signed-at x xs w e =
-      let s : Split ws start (end - start) xs x = split ws (end - start) start xs x e in
+  tallied-at : (x : Term) (L : List Term) → start < end → termAt ws (end - 1) ≡ x → terms ws start (calculationsEnd (formOf x) (end - 1) end) ≡ L → tallied m env ws start end .counted ≡ ofTrial (formOf x) (ended L)
+  unfolding tallied
+  tallied-at x L h e k =
+      ap (λ (b : Bool). pick b (talliedBy (formOf (termAt ws (end - 1))) m env ws start end) (record { counted = Counted.Malformed; at = start }) .counted) (lt-ltb start end h)
+      ∙ ap (λ (y : Term). talliedBy (formOf y) m env ws start end .counted) e
+      ∙ ap (λ (M : List Term). ofTrial (formOf x) (run Kind.Calculation m env (pos 0) start M Numbers.Zero 1 .trial)) k
+      ∙ ap (ofTrial (formOf x)) (run-ends Kind.Calculation m env (pos 0) L start Numbers.Zero 1)
+
+  -- a list that ends in x; the calculations are what stands before it, or all of it
+  pub ended-at : (x : Term) (L M : List Term) → terms ws start end ≡ L ++ (x ∷ []) → (termsFrom ws start (end - 1 - start) ≡ L → terms ws start (calculationsEnd (formOf x) (end - 1) end) ≡ M) → tallied m env ws start end .counted ≡ ofTrial (formOf x) (ended M)
+  ended-at x L M e w =
+      let s : Split ws start (end - start) L x = split ws (end - start) start L x e in
       let p : end - start ≡ suc (s .less) = s .is in
       let a : start + s .less ≡ end - 1 = omega arith in
       let b : s .less ≡ end - 1 - start = omega arith in
-      counts-at x xs (omega arith) (ap (termAt ws) (sym a) ∙ s .last) (ap (λ (n : ℕ). terms ws start n) w ∙ ap (termsFrom ws start) (sym b) ∙ s .rest)
-
-  exact-at : (c : Calculation) → terms ws start end ≡ calculationTerms c → counts env ws start end ≡ ofTrial Form.Exact (ends Kind.Calculation Mode.Values env (pos 0) (calculationTerms c) Numbers.Zero 1)
-  exact-at c e =
-      let s : Split ws start (end - start) (before c) (Term.Part (lastSign c)) = split ws (end - start) start (before c) (Term.Part (lastSign c)) e in
-      let p : end - start ≡ suc (s .less) = s .is in
-      let a : start + s .less ≡ end - 1 = omega arith in
-      counts-at (Term.Part (lastSign c)) (calculationTerms c) (omega arith) (ap (termAt ws) (sym a) ∙ s .last) e
+      tallied-at x M (omega arith) (ap (termAt ws) (sym a) ∙ s .last) (w (ap (termsFrom ws start) (sym b) ∙ s .rest))
 
 module _ (env widest : List ℤ) (inside : Inside env widest) (ws : List ℕ) (start end : ℕ) (passes : countSizes widest ws start end ≡ Sized.Passes) where
   -- the answer is a set of counts, so that of the end of the list is too
@@ -140,9 +136,13 @@ module _ (env widest : List ℤ) (inside : Inside env widest) (ws : List ℕ) (s
       let r : (n : Counts) × (ofTrial f (ends Kind.Calculation Mode.Values env (pos 0) (calculationTerms a ++ calculationTerms b) Numbers.Zero 1) ≡ shown n) = answered (ofTrial f (ends Kind.Calculation Mode.Values env (pos 0) (calculationTerms a ++ calculationTerms b) Numbers.Zero 1)) e in
       e ∙ two-means f (value env a) (value env b) (r .0) (ends Kind.Calculation Mode.Values env (pos 0) (calculationTerms a ++ calculationTerms b) Numbers.Zero 1) (two-ends Kind.Calculation env (pos 0) a b Numbers.Zero 1) (r .1)
 
+  counts-at : (x : Term) (L M : List Term) → terms ws start end ≡ L ++ (x ∷ []) → (termsFrom ws start (end - 1 - start) ≡ L → terms ws start (calculationsEnd (formOf x) (end - 1) end) ≡ M) → counts env ws start end ≡ ofTrial (formOf x) (ended Mode.Values env ws start end M)
+  unfolding counts
+  counts-at x L M e w = ended-at Mode.Values env ws start end x L M e w
+
   pub counts-mean : (x : Repeats) → terms ws start end ≡ repeatTerms x → counts env ws start end ≡ shown (repeats env x)
   unfolding repeats repeatTerms
-  counts-mean (exact c) e = one-at Form.Exact c (exact-at env ws start end c e)
-  counts-mean (on-from c) e = one-at Form.Open c (signed-at env ws start end Term.From (calculationTerms c) refl e)
-  counts-mean (up-to c) e = one-at Form.UpTo c (signed-at env ws start end Term.UpTo (calculationTerms c) refl e)
-  counts-mean (spanning a b) e = two-at Form.Closed a b (signed-at env ws start end Term.Range (calculationTerms a ++ calculationTerms b) refl e)
+  counts-mean (exact c) e = one-at Form.Exact c (counts-at (Term.Part (lastSign c)) (before c) (calculationTerms c) e (λ z. e))
+  counts-mean (on-from c) e = one-at Form.Open c (counts-at Term.From (calculationTerms c) (calculationTerms c) e (λ z. z))
+  counts-mean (up-to c) e = one-at Form.UpTo c (counts-at Term.UpTo (calculationTerms c) (calculationTerms c) e (λ z. z))
+  counts-mean (spanning a b) e = two-at Form.Closed a b (counts-at Term.Range (calculationTerms a ++ calculationTerms b) (calculationTerms a ++ calculationTerms b) e (λ z. z))

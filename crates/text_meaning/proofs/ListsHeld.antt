@@ -9,6 +9,7 @@ use lib.ListN.{length}
 use Rattle.basis.specs.Limits.{max-variables}
 use Rattle.term_words.specs.Words.{terms}
 use Rattle.table_layout.specs.Held.{term-words}
+use Rattle.term_words.proofs.KnownTerms.{AllKnown}
 use Rattle.text_shapes.specs.TermShapes.{read-terms, rename-term, SetShape, ConditionShape, CountsShape}
 use Rattle.text_shapes.specs.NodeShapes.{Conditioned}
 use Rattle.text_shapes.specs.Stored.{Stored}
@@ -19,7 +20,7 @@ use Rattle.text_encoding.specs.Encoded.{encoded}
 use Rattle.text_wellformed.specs.Context.{Readable, TreeAt}
 use Rattle.text_wellformed.proofs.LaidOut.{words-by-place, few-binders, few-terms, term-placed}
 use Rattle.text_wellformed.proofs.NodeFacts.{nodes}
-use Rattle.text_wellformed.proofs.TermsKnown.{AllKnown, known-set, known-condition, known-repeats}
+use Rattle.text_wellformed.proofs.TermsKnown.{known-set, known-condition, known-repeats}
 use Rattle.text_wellformed.proofs.TermsListed.{terms-named}
 use Rattle.text_wellformed.proofs.ListsFormed.{field-list, counts-list, own-listed, condition-listed}
 use Rattle.text_meaning.specs.Meaning.{own-list, condition-list}

@@ -21,7 +21,7 @@ use Rattle.term_evaluation.specs.Meaning.{membership, condition}
 use Rattle.term_evaluation.specs.Counts.{shown, formOf, tallied, counts}
 use Rattle.term_evaluation.specs.Variables.{hasVariable}
 use Rattle.term_evaluation.specs.declared.Counted.{Counted}
-use Rattle.term_evaluation.proofs.Constants.{membership-constant, counts-constant}
+use Rattle.term_evaluation.proofs.Reading.{membership-constant, counts-constant}
 use Rattle.term_sizes.specs.Sizes.{sizes, ofCounted, countSizes}
 use Rattle.term_sizes.specs.declared.Sized.{Sized}
 use Rattle.term_sizes.proofs.Forms.{list-passes, counts-passes}

@@ -3,7 +3,7 @@
 use Prim.Native.Nat.{ℕ, _+_, _-_, _≤_, _<_}
 use mathlib.Core.Path.{_≡_, refl, sym, subst, _∙_}
 use mathlib.Core.Logic.{⊎-elim}
-use mathlib.Core.Bool.{Bool, true, false, _||_}
+use mathlib.Core.Bool.{Bool, true, false}
 use mathlib.Core.List.{List, [], _∷_}
 use native.Mathlib.Omega.{arith}
 use borrow.Author.Tests.{leb-true, leb-false, ltb-false, le-leb}
@@ -11,6 +11,7 @@ use lib.Dec.{leb, ltb}
 use lib.ListN.{length, length-replicate}
 use Rattle.basis.specs.Limits.{max-text-bytes, max-rules, max-constructs, max-variables, max-terms}
 use Rattle.text_header.proofs.Tests.{which, picked}
+use Rattle.text_wellformed.proofs.Tests.{or-first, or-second}
 use Rattle.text_parsing.specs.Terminals.{sights-from}
 use Rattle.text_parsing.specs.Symbols.{rules}
 use Rattle.text_store.specs.Store.{State, state, nodes-of, terms-of, binders-of, rules-of, rule-words, counted, close-rule, blank}
@@ -58,14 +59,6 @@ last-rule (then (a-rule v n p i) (then terminal nothing (then x y (then (ruled {
 
 -- ---- no total is past its limit
 
-either-first : (a b : Bool) → (a || b) ≡ false → a ≡ false
-either-first true b e = e
-either-first false b e = refl
-
-either-second : (a b : Bool) → (a || b) ≡ false → b ≡ false
-either-second true b e = let z : _≡_ {A = ℕ} 0 1 = cc in absurd (omega arith)
-either-second false b e = e
-
 record Within (rs : List ℕ) (k : ℕ) : Type 0 where
   rules : k < max-rules
   nodes : last-node rs k ≤ max-constructs
@@ -74,13 +67,13 @@ record Within (rs : List ℕ) (k : ℕ) : Type 0 where
 
 within : (rs : List ℕ) (k : ℕ) → passed-in rs k ≡ false → Within rs k
 within rs k e =
-    let f = either-second (leb max-rules k) _ e in
-    let g = either-second (ltb max-constructs (last-node rs k)) _ f in
+    let f = or-second (leb max-rules k) _ e in
+    let g = or-second (ltb max-constructs (last-node rs k)) _ f in
     record {
-      rules = leb-false max-rules k (either-first (leb max-rules k) _ e);
-      nodes = ltb-false max-constructs (last-node rs k) (either-first (ltb max-constructs (last-node rs k)) _ f);
-      terms = ltb-false max-terms (terms-at-end rs k) (either-first (ltb max-terms (terms-at-end rs k)) _ g);
-      binders = ltb-false max-variables (binders-at-end rs k) (either-second (ltb max-terms (terms-at-end rs k)) _ g);
+      rules = leb-false max-rules k (or-first (leb max-rules k) _ e);
+      nodes = ltb-false max-constructs (last-node rs k) (or-first (ltb max-constructs (last-node rs k)) _ f);
+      terms = ltb-false max-terms (terms-at-end rs k) (or-first (ltb max-terms (terms-at-end rs k)) _ g);
+      binders = ltb-false max-variables (binders-at-end rs k) (or-second (ltb max-terms (terms-at-end rs k)) _ g);
     }
 
 pub limits : (xs ns ts rs : List ℕ) (n t b r : ℕ) → run (sights-from xs 0) blank (rules false ∷ []) ≡ right (state ns ts rs n t b r) → length xs ≤ max-text-bytes → refusal-5 rs r ≡ nowhere → (n ≤ max-constructs) × (t ≤ max-terms) × (b ≤ max-variables) × (r ≤ max-rules)

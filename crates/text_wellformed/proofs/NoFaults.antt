@@ -17,13 +17,8 @@ use Rattle.text_names.specs.Names.{is-reserved, binds, bound-between, variable-
 use Rattle.text_encoding.specs.Numbers.{first-at, binds-one, binders-before, binder-of, variable-of, rule-of}
 use Rattle.text_wellformed.specs.Context.{Readable}
 use Rattle.text_wellformed.proofs.Counting.{least-all, Found, found}
-use Rattle.text_wellformed.proofs.Tests.{or-second, or-first}
+use Rattle.text_wellformed.proofs.Tests.{or-second, or-first, and-rest}
 use Rattle.text_wellformed.proofs.RulesAt.{Owner, first-at-owner, owner}
-
--- ---- tests that fail
-
-and-rest : (a b : Bool) → a ≡ true → (a && b) ≡ false → b ≡ false
-and-rest a b t e = rw t at e
 
 -- ---- binders before a node
 

@@ -10,9 +10,10 @@ use borrow.Author.Tests.{lt-ltb, eq-eqb}
 use lib.Dec.{ltb, eqb}
 use Rattle.table_layout.specs.Constructs.{both}
 use Rattle.table_layout.specs.Held.{size-of}
-use Rattle.table_wellformed.specs.Checks.{either, size-at, walk}
+use Rattle.table_wellformed.specs.Checks.{size-at, walk}
 use Rattle.table_wellformed.specs.Parts.{part-laid, parts-laid, unconditioned, conditioned}
 use Rattle.table_wellformed.proofs.Walks.{one-step, at-once}
+use Rattle.text_wellformed.proofs.Tests.{either-second}
 use Rattle.text_shapes.specs.NodeShapes.{Unconditioned, Conditioned, tree, forest, cases, further, Holds, literal-tree, range-tree, use-tree, eod-tree, uint-tree, marked-tree, counted-tree, chain-tree, switch-tree, no-trees, more-trees, a-case, no-further, a-default, more-cases}
 use Rattle.text_store.specs.Words.{kind-of, node-size}
 use Rattle.text_wellformed.specs.Context.{Readable, Words, TreeAt, Quiet}
@@ -39,10 +40,6 @@ module _ (rs : List ℕ) (r : ℕ) where
   meant-size (switch-tree h z x) = rw (h .kind-is) (h .size-is)
 
 -- ---- walks
-
-either-last : (a b : Bool) → b ≡ true → either a b ≡ true
-either-last true b e = refl
-either-last false b e = e
 
 module _ {xs ns ts rs ws : List ℕ} {n t b r : ℕ} (known-text : Readable xs ns ts rs n t b r) (words : Words xs ns ts rs n r ws) (quiet : Quiet ns n) where
   pub part-size : {i e f g β : ℕ} → Holds xs ns ts tree i e f g β → e ≤ n → size-at ws i ≡ e - i
@@ -89,7 +86,7 @@ module _ {xs ns ts rs ws : List ℕ} {n t b r : ℕ} (known-text : Readable xs n
       let a : ltb first j ≡ true = lt-ltb first j l in
       let c : eqb (j + size-at ws j) end ≡ true = eq-eqb (j + size-at ws j) end (omega (arith, tree-below x)) in
       let d : unconditioned ws j ≡ true = is-unconditioned known-text words quiet j (omega (arith, tree-below x)) u in
-      either-last (conditioned ws j) (both (both (ltb first j) (eqb (j + size-at ws j) end)) (unconditioned ws j)) (rw (a, c, d))
+      either-second (conditioned ws j) (both (both (ltb first j) (eqb (j + size-at ws j) end)) (unconditioned ws j)) (rw (a, c, d))
 
   further-walks : {j e f g β : ℕ} (first : ℕ) → e ≤ n → first < j → Holds xs ns ts further j e f g β → Walks true first e j
   further-walks first h l (no-further {i = i} b) fuel k = walks-end true first i fuel k

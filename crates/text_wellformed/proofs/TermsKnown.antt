@@ -19,38 +19,13 @@ use Rattle.term_words.specs.declared.Operation.{Operation}
 use Rattle.term_words.specs.declared.Term.{Term}
 use Rattle.term_trees.specs.Trees.{Calculation, literal, use-of, plus, minus, times, opposite, ValueSet, everything, only, between, from, upTo, either, without, Condition, compare, both, any, Repeats, exact, on-from, up-to, spanning}
 use Rattle.term_trees.specs.Postfix.{lastSign, before, calculationTerms, setTerms, conditionTerms, repeatTerms}
-use Rattle.text_shapes.specs.TermShapes.{is-use, rename-operation, rename-term}
+use Rattle.term_words.proofs.KnownTerms.{KnownOperation, KnownTerm, AllKnown}
+use Rattle.text_shapes.specs.TermShapes.{rename-operation, rename-term}
 use Rattle.table_layout.proofs.Bounds.{picked}
 use Rattle.text_encoding.specs.Lists.{narrow}
 use Rattle.text_wellformed.proofs.Tests.{or-cases, or-first, or-second}
 
 -- ---- terms of trees
-
-abbrev pub KnownSign : Operation → Type 0
-KnownSign (Operation.Number n) = Unit {0}
-KnownSign (Operation.Variable k) = Unit {0}
-KnownSign Operation.Add = Unit {0}
-KnownSign Operation.Subtract = Unit {0}
-KnownSign Operation.Multiply = Unit {0}
-KnownSign Operation.Negate = Unit {0}
-KnownSign Operation.Unknown = ⊥
-
-abbrev pub KnownTerm : Term → Type 0
-KnownTerm (Term.Part o) = KnownSign o
-KnownTerm (Term.Single o) = KnownSign o
-KnownTerm Term.All = Unit {0}
-KnownTerm Term.Range = Unit {0}
-KnownTerm Term.From = Unit {0}
-KnownTerm Term.UpTo = Unit {0}
-KnownTerm Term.Or = Unit {0}
-KnownTerm Term.Except = Unit {0}
-KnownTerm Term.And = Unit {0}
-KnownTerm (Term.Compare k) = Unit {0}
-KnownTerm Term.Bad = ⊥
-
-abbrev pub AllKnown : List Term → Type 0
-AllKnown [] = Unit {0}
-AllKnown (x ∷ L) = KnownTerm x × AllKnown L
 
 known-append : (L M : List Term) → AllKnown L → AllKnown M → AllKnown (L ++ M)
 known-append [] M p q = q
@@ -63,7 +38,7 @@ known-end L x p q = known-append L (x ∷ []) p (q, tt)
 known-pair : (L M : List Term) (x : Term) → AllKnown L → AllKnown M → KnownTerm x → AllKnown ((L ++ M) ++ (x ∷ []))
 known-pair L M x p q k = known-end (L ++ M) x (known-append L M p q) k
 
-known-sign : (c : Calculation) → KnownSign (lastSign c)
+known-sign : (c : Calculation) → KnownOperation (lastSign c)
 known-sign (literal n) = tt
 known-sign (use-of k) = tt
 known-sign (plus a b) = tt

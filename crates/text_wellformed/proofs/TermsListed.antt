@@ -14,12 +14,13 @@ use Rattle.term_words.specs.Words.{termOf, termAt, termsFrom, terms}
 use Rattle.term_words.specs.declared.Term.{Term}
 use Rattle.table_layout.specs.Places.{word, terms-at}
 use Rattle.table_layout.specs.Held
+use Rattle.term_words.proofs.KnownTerms.{KnownTerm, AllKnown}
 use Rattle.text_shapes.specs.TermShapes.{read-term, read-terms, rename-term}
 use Rattle.text_store.specs.Words.{term-tag, term-value, term-at, is-use}
 use Rattle.text_encoding.specs.Lists.{narrow}
 use Rattle.text_encoding.specs.Numbers.{variable-of}
 use Rattle.text_encoding.specs.Encoded.{term-words}
-use Rattle.text_wellformed.proofs.TermsKnown.{KnownTerm, AllKnown, term-back}
+use Rattle.text_wellformed.proofs.TermsKnown.{term-back}
 
 -- ---- the table's words of a term
 

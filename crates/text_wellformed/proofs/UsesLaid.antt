@@ -16,6 +16,7 @@ use Rattle.table_layout.specs.Places.{construct-word}
 use Rattle.table_wellformed.specs.Lists
 use Rattle.table_wellformed.specs.Rules.{visible, operation-named, term-named, list-named, construct-named, uses-laid}
 use Rattle.table_layout.proofs.Bounds.{picked}
+use Rattle.term_words.proofs.KnownTerms.{AllKnown}
 use Rattle.text_shapes.specs.TermShapes.{SetShape, ConditionShape, CountsShape, read-terms, rename-operation, rename-term}
 use Rattle.text_names.specs.Counting.{nowhere}
 use Rattle.text_store.specs.Words.{own-from, own-end, condition-from, condition-end, term-tag, term-value, term-at, is-use, first-node, last-node}
@@ -25,7 +26,7 @@ use Rattle.text_wellformed.specs.Meant.{meant, Known}
 use Rattle.text_wellformed.proofs.Tests.{from-to-all}
 use Rattle.text_wellformed.proofs.RulesAt.{first-at-in}
 use Rattle.text_wellformed.proofs.NoFaults.{Bound, bound-below, bound-from, binders-mono, condition-use, own-use}
-use Rattle.text_wellformed.proofs.TermsKnown.{AllKnown, by-sign, known-set, known-condition, known-repeats}
+use Rattle.text_wellformed.proofs.TermsKnown.{by-sign, known-set, known-condition, known-repeats}
 use Rattle.text_wellformed.proofs.TermsListed.{Listed, cut-variable, known-at, term-listed}
 use Rattle.text_wellformed.proofs.ListsFormed.{field-list, counts-list, own-listed, condition-listed, no-condition, a-condition}
 use Rattle.text_wellformed.proofs.NodesMeant.{OwnMeant, of-field, of-counts, of-none, own-meant}

@@ -1,5 +1,5 @@
 -- `admission::marks::least_mark` meets its contract. The invariant: the least mark of the constructs below i. Assumes nothing.
-use Prim.Native.Nat.{_+_, _*_, _-_, _≤_}
+use Prim.Native.Nat.{_+_, _-_, _≤_}
 use mathlib.Core.Path.{_≡_, _∙_}
 use native.Mathlib.Omega.{arith}
 use borrow.Author.Needs.{needs}
@@ -10,6 +10,8 @@ use Rattle.table_conflicts.proofs.Meaning.{empty-iff}
 use Rattle.admission.proofs.Marking.{Marking, marking-start, marking-turn, marking-end}
 use Rattle.admission.proofs.marks.least_mark.Statement.{statement}
 use Rattle.admission.proofs.marks.least_mark.Tie as tie
+use Rattle.text_store.specs.Words.{node-start}
+use Rattle.text_store.proofs.Numbers.{at-second-place}
 
 abbrev Inv-loop : tie.InvT-loop
 Inv-loop table first nodes count least₀ i₀ least i = Marking nodes table i least × (i ≤ count) × (count ≤ max-constructs)
@@ -45,7 +47,7 @@ loop-again : tie.Need-loop-again Inv-loop μ-loop
 loop-again c = let s = c .before .before .before .before .before .before .before .before .before .before in let iff = empty-iff (s .args .table .now) (s .args .first .now) (s .pre .2) (c .before .before .before .before .before .loop .i) (omega (arith, c .before .before .before .before .before .loop .inv .2, c .before .before .before .before .loop-test .taken)) in (marking-turn (c .before .before .before .before .before .loop .inv .0) (c .before .before .before .empty-body .result) (λ e. iff .0 (c .before .before .before .empty-body .ensures .0 e)) (λ b. c .before .before .before .empty-body .ensures .1 (iff .1 b)) (c .min .ensures ∙ simp (c .before .place-if .ensures, c .before .before .node-word .ensures)), omega (arith, c .before .before .before .before .loop-test .taken), c .before .before .before .before .before .loop .inv .2)
 
 returns : tie.Need-returns Inv-loop μ-loop
-returns c = let e : c .before .loop .i ≡ construct-count (c .before .before .before .before .before .before .args .table .now) = omega (arith, c .before .loop .inv .1, c .loop-test .left, c .before .before .word .ensures .0) in marking-end (c .before .loop .inv .0) e (λ j. omega (arith, c .before .before .before .shared-slice-known3 .given (10 * j + 4)))
+returns c = let e : c .before .loop .i ≡ construct-count (c .before .before .before .before .before .before .args .table .now) = omega (arith, c .before .loop .inv .1, c .loop-test .left, c .before .before .word .ensures .0) in marking-end (c .before .loop .inv .0) e (λ j. omega (arith, c .before .before .before .shared-slice-known3 .given (node-start j + at-second-place)))
 
 pub least-mark-spec : {M : Type 1} → statement M
 least-mark-spec =

@@ -2,7 +2,8 @@ use Prim.Native.Nat.{_+_, _*_}
 use native.Mathlib.Omega.{arith}
 use borrow.Author.Needs.{needs}
 use Rattle.table_layout.specs.Places.{terms-at}
-use Rattle.text_store.specs.Words.{own-from, condition-from}
+use Rattle.text_store.specs.Words.{own-from, condition-from, node-start}
+use Rattle.text_store.proofs.Numbers.{at-own-end, at-condition-end}
 use Rattle.text_encoding.specs.Numbers.{condition-length, own-length, lists-length}
 use Rattle.text_encoding.specs.Encoded.{list-words}
 use Rattle.text_encoding.proofs.Sums.{sum-next}
@@ -18,7 +19,7 @@ node-word-requires : tie.Need-node-word-requires
 node-word-requires c κs = search needs
 
 list-requires : tie.Need-list-requires
-list-requires c κs = (c .before .before .before .before .before .before .before .pre .0, c .before .before .before .before .before .before .before .pre .1, c .before .before .before .before .before .before .before .pre .2, omega (arith, sum-next (c .before .before .before .before .before .before .before .args .i) (lists-length (c .before .before .before .before .before .before .before .args .nodes .now))), omega (arith, c .before .before .before .before .before .shared-slice-known2 .given (10 * c .before .before .before .before .before .before .before .args .i + 9)))
+list-requires c κs = (c .before .before .before .before .before .before .before .pre .0, c .before .before .before .before .before .before .before .pre .1, c .before .before .before .before .before .before .before .pre .2, omega (arith, sum-next (c .before .before .before .before .before .before .before .args .i) (lists-length (c .before .before .before .before .before .before .before .args .nodes .now))), omega (arith, c .before .before .before .before .before .shared-slice-known2 .given (node-start (c .before .before .before .before .before .before .before .args .i) + at-condition-end)))
 
 own-length-requires : tie.Need-own-length-requires
 own-length-requires c κs = search needs
@@ -30,7 +31,7 @@ add-list : tie.Need-add-list
 add-list c = omega (arith, sum-next (c .before .before .before .before .before .before .before .before .before .before .before .before .args .i) (lists-length (c .before .before .before .before .before .before .before .before .before .before .before .before .args .nodes .now)))
 
 list-requires-2 : tie.Need-list-requires-2
-list-requires-2 c κs = (c .before .before .before .before .before .before .before .before .before .before .before .before .before .pre .0, c .before .before .before .before .before .before .before .before .before .before .before .before .before .pre .1, c .before .before .before .before .before .before .before .before .before .before .before .before .before .pre .2, omega (arith, sum-next (c .before .before .before .before .before .before .before .before .before .before .before .before .before .args .i) (lists-length (c .before .before .before .before .before .before .before .before .before .before .before .before .before .args .nodes .now))), omega (arith, c .before .before .before .before .before .before .before .before .before .before .before .shared-slice-known2 .given (10 * c .before .before .before .before .before .before .before .before .before .before .before .before .before .args .i + 6)))
+list-requires-2 c κs = (c .before .before .before .before .before .before .before .before .before .before .before .before .before .pre .0, c .before .before .before .before .before .before .before .before .before .before .before .before .before .pre .1, c .before .before .before .before .before .before .before .before .before .before .before .before .before .pre .2, omega (arith, sum-next (c .before .before .before .before .before .before .before .before .before .before .before .before .before .args .i) (lists-length (c .before .before .before .before .before .before .before .before .before .before .before .before .before .args .nodes .now))), omega (arith, c .before .before .before .before .before .before .before .before .before .before .before .shared-slice-known2 .given (node-start (c .before .before .before .before .before .before .before .before .before .before .before .before .before .args .i) + at-own-end)))
 
 same-length : tie.Need-same-length
 same-length c = search needs

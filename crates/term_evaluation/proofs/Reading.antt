@@ -1,21 +1,17 @@
--- What a list of terms comes to depends only on the variables that it uses.
+-- What a list of terms comes to depends only on the variables that it uses; a list without a variable is worked out alike at any values.
 -- Assumes nothing.
 use Prim.Native.Nat.{ℕ, zero, suc, _+_, _-_, _≤_, _<_}
-use mathlib.Core.Path.{_≡_, refl, ap, _∙_}
-use mathlib.Core.Logic.{inl, inr}
+use mathlib.Core.Path.{_≡_, refl, ap, subst, _∙_}
 use mathlib.Core.Bool.{Bool, true, false}
-use mathlib.Core.List.{List}
+use mathlib.Core.List.{List, [], _∷_}
 use native.Mathlib.Omega.{arith}
-use lib.Dec.{ltb, eqb}
+use native.Mathlib.Decide.{decLe}
+use native.Mathlib.Nat.{lt-of-not-le}
+use lib.Dec.{ltb}
 use lib.IntN.{ℤ, pos}
 use Rattle.term_words.specs.Numbers.{pick}
 use Rattle.term_words.specs.Words.{termAt, termsFrom, terms}
 use Rattle.term_words.specs.Steps.{variableOf, operateOf, afterOf, operated, stepOf}
-use Rattle.term_evaluation.specs.Meaning.{next, run, verdictOf, membership, condition}
-use Rattle.term_evaluation.specs.Counts.{formOf, calculationsEnd, tallyEnd, tallied, counts}
-use Rattle.term_evaluation.specs.Variables.{usesVariable, hasVariable}
-use Rattle.term_evaluation.specs.declared.Ended.{Ended}
-use Rattle.term_evaluation.specs.declared.Form.{Form}
 use Rattle.term_words.specs.declared.Kind.{Kind}
 use Rattle.term_words.specs.declared.Mode.{Mode}
 use Rattle.term_words.specs.declared.Numbers.{Numbers}
@@ -23,10 +19,12 @@ use Rattle.term_words.specs.declared.Operation.{Operation}
 use Rattle.term_words.specs.declared.Outcome.{Outcome}
 use Rattle.term_words.specs.declared.Term.{Term}
 use Rattle.term_words.specs.declared.Trial.{Trial}
-use borrow.Author.Tests.{ltb-true, ltb-false, eqb-true, eqb-false}
+use Rattle.term_evaluation.specs.Meaning.{next, run, verdictOf, membership, condition}
+use Rattle.term_evaluation.specs.Counts.{formOf, calculationsEnd, tallyEnd, tallied, counts}
+use Rattle.term_evaluation.specs.Variables.{usesVariable, hasVariable}
 use Rattle.term_evaluation.specs.declared.Counted.{Counted}
-use Rattle.theory.proofs.Turns.{decide}
-use Rattle.table_structure.proofs.Facts.{lt-of-ne}
+use Rattle.term_evaluation.specs.declared.Ended.{Ended}
+use Rattle.term_evaluation.specs.declared.Form.{Form}
 
 -- every variable that a term uses is one of P
 abbrev pub OperationReads : (ℕ → Type 0) → Operation → Type 0
@@ -51,9 +49,24 @@ TermReads P Term.And = Unit {0}
 TermReads P (Term.Compare k) = Unit {0}
 TermReads P Term.Bad = Unit {0}
 
+-- and of a list of terms
+abbrev pub AllRead : (ℕ → Type 0) → List Term → Type 0
+AllRead P [] = Unit {0}
+AllRead P (x ∷ xs) = TermReads P x × AllRead P xs
+
 -- and of the terms from `start` up to `end`
 abbrev pub Reads : (ℕ → Type 0) → List ℕ → ℕ → ℕ → Type 0
 Reads P ws start end = (t : ℕ) → start ≤ t → t < end → TermReads P (termAt ws t)
+
+reads-from : (P : ℕ → Type 0) (ws : List ℕ) (n i last : ℕ) → ((t : ℕ) → i ≤ t → t < i + n → t < last) → Reads P ws i last → AllRead P (termsFrom ws i n)
+unfolding termsFrom
+reads-from P ws zero i last h reads = tt
+reads-from P ws (suc n) i last h reads =
+    (reads i (omega arith) (h i (omega arith) (omega arith)), reads-from P ws n (i + 1) last (λ t a b. h t (omega arith) (omega arith)) (λ t a b. reads t (omega arith) b))
+
+-- those up to `end`, where all up to `last` are
+read-within : (P : ℕ → Type 0) (ws : List ℕ) (start end last : ℕ) → end ≤ last → Reads P ws start last → AllRead P (terms ws start end)
+read-within P ws start end last h reads = reads-from P ws (end - start) start last (λ t a b. omega arith) reads
 
 -- two environments that give the variables of P the same
 abbrev pub Same : (ℕ → Type 0) → List ℤ → List ℤ → Type 0
@@ -112,34 +125,17 @@ next-same go go′ h i (Trial.Running s t) = h s t
 next-same go go′ h i Trial.Malformed = refl
 next-same go go′ h i Trial.Overflow = refl
 
-module _ (P : ℕ → Type 0) (env env′ : List ℤ) (same : Same P env env′) (ws : List ℕ) where
-  run-same : (k : Kind) (m : Mode) (v : ℤ) (n i end : ℕ) → i + n ≤ end → Reads P ws i end → (s : Numbers) (t : ℕ)
-      → run k m env v i (termsFrom ws i n) s t ≡ run k m env′ v i (termsFrom ws i n) s t
-  unfolding run termsFrom
-  run-same k m v zero i end room reads s t = refl
-  run-same k m v (suc n) i end room reads s t =
-      next-same (λ s′ t′. run k m env v (i + 1) (termsFrom ws (i + 1) n) s′ t′) (λ s′ t′. run k m env′ v (i + 1) (termsFrom ws (i + 1) n) s′ t′)
-      (λ s′ t′. run-same k m v n (i + 1) end (omega arith) (λ u low high. reads u (omega arith) high) s′ t′) i (stepOf k m env v (termAt ws i) s t)
-      ∙ ap (next (λ s′ t′. run k m env′ v (i + 1) (termsFrom ws (i + 1) n) s′ t′) i) (step-same P env env′ same k m v (termAt ws i) s t (reads i (omega arith) (omega arith)))
+module _ (P : ℕ → Type 0) (env env′ : List ℤ) (same : Same P env env′) where
+  run-same : (k : Kind) (m : Mode) (v : ℤ) (xs : List Term) (i : ℕ) → AllRead P xs → (s : Numbers) (t : ℕ) → run k m env v i xs s t ≡ run k m env′ v i xs s t
+  unfolding run
+  run-same k m v [] i reads s t = refl
+  run-same k m v (x ∷ xs) i reads s t =
+      next-same (λ s′ t′. run k m env v (i + 1) xs s′ t′) (λ s′ t′. run k m env′ v (i + 1) xs s′ t′) (λ s′ t′. run-same k m v xs (i + 1) (reads .1) s′ t′) i (stepOf k m env v x s t)
+      ∙ ap (next (λ s′ t′. run k m env′ v (i + 1) xs s′ t′) i) (step-same P env env′ same k m v x s t (reads .0))
 
-  pub terms-same : (k : Kind) (m : Mode) (v : ℤ) (start end last : ℕ) → end ≤ last → Reads P ws start last
-      → run k m env v start (terms ws start end) Numbers.Zero 1 ≡ run k m env′ v start (terms ws start end) Numbers.Zero 1
-  terms-same k m v start end last h reads =
-      elim (decide (ltb start end)) [
-        | inl t ↦ let l : start < end = ltb-true start end t in run-same k m v (end - start) start last (omega arith) reads Numbers.Zero 1
-        | inr t ↦ let l : end ≤ start = ltb-false start end t in let z : end - start ≡ 0 = omega arith in empty (end - start) z
-      ]
-    where
-      empty : (n : ℕ) → n ≡ 0 → run k m env v start (termsFrom ws start n) Numbers.Zero 1 ≡ run k m env′ v start (termsFrom ws start n) Numbers.Zero 1
-      empty n z = rw z (run-same k m v 0 start (start + 0) (omega arith) (λ u low high. absurd (omega arith)) Numbers.Zero 1)
-
-  pub membership-same : (v : ℤ) (start end : ℕ) → Reads P ws start end → membership env v start (terms ws start end) ≡ membership env′ v start (terms ws start end)
+  set-same : (v : ℤ) (i : ℕ) (xs : List Term) → AllRead P xs → membership env v i xs ≡ membership env′ v i xs
   unfolding membership
-  membership-same v start end reads = ap (λ (e : Ended). verdictOf (e .trial)) (terms-same Kind.Set Mode.Values v start end end (omega arith) reads)
-
-  pub condition-same : (start end : ℕ) → Reads P ws start end → condition env start (terms ws start end) ≡ condition env′ start (terms ws start end)
-  unfolding condition
-  condition-same start end reads = ap (λ (e : Ended). verdictOf (e .trial)) (terms-same Kind.Condition Mode.Values (pos 0) start end end (omega arith) reads)
+  set-same v i xs reads = ap (λ (e : Ended). verdictOf (e .trial)) (run-same Kind.Set Mode.Values v xs i reads Numbers.Zero 1)
 
   calculations-within : (f : Form) (end : ℕ) → calculationsEnd f (end - 1) end ≤ end
   calculations-within Form.Exact end = omega arith
@@ -147,11 +143,21 @@ module _ (P : ℕ → Type 0) (env env′ : List ℤ) (same : Same P env env′)
   calculations-within Form.UpTo end = omega arith
   calculations-within Form.Closed end = omega arith
 
-  pub counts-same : (start end : ℕ) → Reads P ws start end → counts env ws start end ≡ counts env′ ws start end
-  unfolding counts tallied
-  counts-same start end reads =
-      ap (λ (e : Ended). pick (ltb start end) (tallyEnd (formOf (termAt ws (end - 1))) e) (record { counted = Counted.Malformed; at = start }) .counted)
-      (terms-same Kind.Calculation Mode.Values (pos 0) start (calculationsEnd (formOf (termAt ws (end - 1))) (end - 1) end) end (calculations-within (formOf (termAt ws (end - 1))) end) reads)
+  module _ (ws : List ℕ) where
+    pub membership-same : (v : ℤ) (start end : ℕ) → Reads P ws start end → membership env v start (terms ws start end) ≡ membership env′ v start (terms ws start end)
+    membership-same v start end reads = set-same v start (terms ws start end) (read-within P ws start end end (omega arith) reads)
+
+    pub condition-same : (start end : ℕ) → Reads P ws start end → condition env start (terms ws start end) ≡ condition env′ start (terms ws start end)
+    unfolding condition
+    condition-same start end reads =
+        ap (λ (e : Ended). verdictOf (e .trial)) (run-same Kind.Condition Mode.Values (pos 0) (terms ws start end) start (read-within P ws start end end (omega arith) reads) Numbers.Zero 1)
+
+    pub counts-same : (start end : ℕ) → Reads P ws start end → counts env ws start end ≡ counts env′ ws start end
+    unfolding counts tallied
+    counts-same start end reads =
+        let f : Form = formOf (termAt ws (end - 1)) in
+        ap (λ (e : Ended). pick (ltb start end) (tallyEnd f e) (record { counted = Counted.Malformed; at = start }) .counted)
+        (run-same Kind.Calculation Mode.Values (pos 0) (terms ws start (calculationsEnd f (end - 1) end)) start (read-within P ws start (calculationsEnd f (end - 1) end) end (calculations-within f end) reads) Numbers.Zero 1)
 
 -- ---- a list without a variable
 
@@ -184,17 +190,28 @@ neither : (a b : Bool) → pick a true b ≡ false → (a ≡ false) × (b ≡ f
 neither true b e = let z : _≡_ {A = ℕ} 0 1 = cc in absurd (omega arith)
 neither false b e = (refl, e)
 
-none-used : (ws : List ℕ) (n i : ℕ) → hasVariable (termsFrom ws i n) ≡ false → (t : ℕ) → i ≤ t → t < i + n → TermReads (λ y. ⊥) (termAt ws t)
-unfolding hasVariable termsFrom
-none-used ws zero i e t low high = absurd (omega arith)
-none-used ws (suc n) i e t low high =
-    elim (decide (eqb i t)) [
-      | inl s ↦ let f : i ≡ t = eqb-true i t s in rw f at (unused (termAt ws i) (neither (usesVariable (termAt ws i)) (hasVariable (termsFrom ws (i + 1) n)) e .0))
-      | inr s ↦ none-used ws n (i + 1) (neither (usesVariable (termAt ws i)) (hasVariable (termsFrom ws (i + 1) n)) e .1) t (lt-of-ne i t low (eqb-false i t s)) (omega arith)
-    ]
+none-read : (xs : List Term) → hasVariable xs ≡ false → AllRead (λ y. ⊥) xs
+unfolding hasVariable
+none-read [] e = tt
+none-read (x ∷ xs) e = (unused x (neither (usesVariable x) (hasVariable xs) e .0), none-read xs (neither (usesVariable x) (hasVariable xs) e .1))
 
-pub no-variable : (ws : List ℕ) (start end : ℕ) → hasVariable (terms ws start end) ≡ false → Reads (λ y. ⊥) ws start end
-no-variable ws start end e t low high = none-used ws (end - start) start e t low (omega arith)
+read-at : (P : ℕ → Type 0) (ws : List ℕ) (n i : ℕ) → AllRead P (termsFrom ws i n) → (t : ℕ) → i ≤ t → t < i + n → TermReads P (termAt ws t)
+unfolding termsFrom
+read-at P ws zero i reads t low high = absurd (omega arith)
+read-at P ws (suc n) i reads t low high = go (decLe t i) (λ h. read-at P ws n (i + 1) (reads .1) t h (omega arith))
+  where
+    go : Dec (t ≤ i) → (i + 1 ≤ t → TermReads P (termAt ws t)) → TermReads P (termAt ws t)
+    go (yes h) rest = let e : i ≡ t = omega arith in subst (λ (q : ℕ). TermReads P (termAt ws q)) e (reads .0)
+    go (no h) rest = rest (omega (arith, lt-of-not-le h))
 
-pub none-same : (env env′ : List ℤ) → Same (λ y. ⊥) env env′
+no-variable : (ws : List ℕ) (start end : ℕ) → hasVariable (terms ws start end) ≡ false → Reads (λ y. ⊥) ws start end
+no-variable ws start end e t low high = read-at (λ y. ⊥) ws (end - start) start (none-read (terms ws start end) e) t low (omega arith)
+
+none-same : (env env′ : List ℤ) → Same (λ y. ⊥) env env′
 none-same env env′ y p s = absurd p
+
+pub membership-constant : (env env′ : List ℤ) (v : ℤ) (i : ℕ) (xs : List Term) → hasVariable xs ≡ false → membership env v i xs ≡ membership env′ v i xs
+membership-constant env env′ v i xs e = set-same (λ y. ⊥) env env′ (none-same env env′) v i xs (none-read xs e)
+
+pub counts-constant : (env env′ : List ℤ) (ws : List ℕ) (start end : ℕ) → hasVariable (terms ws start end) ≡ false → counts env ws start end ≡ counts env′ ws start end
+counts-constant env env′ ws start end e = counts-same (λ y. ⊥) env env′ (none-same env env′) ws start end (no-variable ws start end e)

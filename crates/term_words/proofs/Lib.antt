@@ -1,0 +1,2 @@
+-- Laws of term words.
+pub mod KnownTerms
