@@ -16,3 +16,4 @@ pub mod Passing
 pub mod Numbers
 pub mod Inside
 pub mod Binding
+pub mod Members
