@@ -17,3 +17,4 @@ pub mod Numbers
 pub mod Inside
 pub mod Binding
 pub mod Members
+pub mod TokenOrder
