@@ -18,3 +18,4 @@ pub mod Inside
 pub mod Binding
 pub mod Members
 pub mod TokenOrder
+pub mod PlaceOrder
