@@ -19,3 +19,4 @@ pub mod Binding
 pub mod Members
 pub mod TokenOrder
 pub mod PlaceOrder
+pub mod Keeping
