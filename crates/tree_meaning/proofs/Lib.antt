@@ -19,4 +19,6 @@ pub mod Binding
 pub mod Members
 pub mod TokenOrder
 pub mod PlaceOrder
+pub mod Every
 pub mod Keeping
+pub mod Fields
