@@ -18,7 +18,7 @@ use Rattle.tree.specs.Lexemes.{Lexeme, lexemes-from, lexemes}
 use Rattle.tree.specs.Tree.{Rule, Rules}
 use Rattle.tree.specs.Spelling.{spell-primary, spell-operand, spell-factors, spell-product, spell-summands, spell-calculation, spell-item, spell-set, spell-counts, spell-tests, spell-mark, spell, spell-rules, spelled}
 use Rattle.tree_meaning.specs.Values.{times-value, sum-value, in-set, is-true}
-use Rattle.tree_meaning.specs.Pieces.{factor-terms, summand-terms, in-set as in-set-parts, in-tests, terms-of, uses-in, pieces, bound-in, rules-of}
+use Rattle.tree_meaning.specs.Pieces.{factor-terms, summand-terms, set-parts, tests-parts, terms-of, uses-in, pieces, bound-in, rules-of}
 use Rattle.tree_meaning.specs.Least.{least}
 use Rattle.tree_meaning.specs.Counted.{constructs, terms, Totals, no-rule, with-rule, limit-faults, refusal-5}
 use Rattle.tree_meaning.specs.Names.{is-among, variable-faults, faults-after, name-faults, refusal-6}
@@ -46,7 +46,7 @@ pub data Judged : Type 0 where
   judged : (rules constructs variables terms : ℕ) (five six eight : Option ℕ) → Judged
 
 unfoldable pub judgement : Rules → Judged
-unfolding totals-from bytes starts word-number pieces in-set-parts in-tests factor-terms summand-terms terms-of uses-in bound-in rules-of constructs terms limit-faults least is-among variable-faults faults-after name-faults times-size sum-size times-largest sum-largest number-faults widest-in calculation-faults faults-in size-faults spell-primary spell-operand spell-factors spell-product spell-summands spell-calculation
+unfolding totals-from bytes starts word-number pieces set-parts tests-parts factor-terms summand-terms terms-of uses-in bound-in rules-of constructs terms limit-faults least is-among variable-faults faults-after name-faults times-size sum-size times-largest sum-largest number-faults widest-in calculation-faults faults-in size-faults spell-primary spell-operand spell-factors spell-product spell-summands spell-calculation
 judgement t =
     let n = totals-from no-rule (rules-of t) in judged (n .rules) (n .all-constructs) (n .variables) (n .all-terms) (refusal-5 t) (refusal-6 t) (refusal-8 t)
 
@@ -73,7 +73,7 @@ see v bits eod = ends
 
 -- all constructs of a text, at values of the variables and w bits that are n
 unfoldable pub seen : Rules → Values → (w n : ℕ) → List Seen
-unfolding bytes starts pieces in-set-parts in-tests factor-terms summand-terms terms-of uses-in bound-in rules-of constructs members branches case-bodies chosen constructs-of body-of variable-of rules-constructs times-value sum-value in-set is-true bitsOf append-digits frameBits same between exactly atLeast span
+unfolding bytes starts pieces set-parts tests-parts factor-terms summand-terms terms-of uses-in bound-in rules-of constructs members branches case-bodies chosen constructs-of body-of variable-of rules-constructs times-value sum-value in-set is-true bitsOf append-digits frameBits same between exactly atLeast span
 seen t v w n = map (λ (c : Construct). see v (bitsOf w n) (c .node)) (tree-constructs t)
 
 -- their places, and their marks

@@ -16,3 +16,9 @@ pub mod Passing
 pub mod Numbers
 pub mod Inside
 pub mod Binding
+pub mod Members
+pub mod TokenOrder
+pub mod PlaceOrder
+pub mod Every
+pub mod Keeping
+pub mod Fields

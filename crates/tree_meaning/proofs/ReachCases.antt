@@ -40,6 +40,15 @@ self-unused-read : tokens "a = \"x\"; b = \"y\" & b{0};" ≡ written self-unused
 unfolding tokens written self-unused
 self-unused-read = refl
 
+-- `a = c & b; b = a; c = "x";`: through the second of two uses
+unfoldable pub second-use : Rules
+unfolding bytes starts
+second-use = and-rules (rule (name 0 "a") (at 2) (last-branch (and-members (once (rule-use (name 4 "c") refl)) (at 6) (last-member (once (rule-use (name 8 "b") refl))))) (at 9)) (and-rules (rule (name 11 "b") (at 13) (last-branch (last-member (once (rule-use (name 15 "a") refl)))) (at 16)) (last-rule (rule (name 18 "c") (at 20) (last-branch (last-member (once (literal (quote 22 25 "x"))))) (at 25))))
+
+second-use-read : tokens "a = c & b; b = a; c = \"x\";" ≡ written second-use 26
+unfolding tokens written second-use
+second-use-read = refl
+
 -- `a = b & b; b = "x";`: none
 unfoldable pub straight : Rules
 unfolding bytes starts
@@ -74,6 +83,14 @@ self-unused-7 =
     record {
       recursive = recursive-at self-unused _ (List·Memᴰ·tail (List·Memᴰ·head refl)) (directly (uses refl));
       first = none-before self-unused 9 refl;
+    }
+
+second-use-7 : Refusal7 second-use 0
+unfolding second-use bytes starts rules-of pieces used-in uses-in unused-before
+second-use-7 =
+    record {
+      recursive = recursive-at second-use _ (List·Memᴰ·head refl) (through (uses {y = bytes "b"} refl) (directly (uses refl)));
+      first = none-before second-use 0 refl;
     }
 
 straight-7 : Acyclic straight

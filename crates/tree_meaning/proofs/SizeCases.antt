@@ -187,6 +187,18 @@ own-widths-eight : place-eight (judgement own-widths) ≡ some 89
 unfolding judgement own-widths
 own-widths-eight = refl
 
+-- `a = uint(32, var(x, ~)) & uint(8, var(y, ~)) & "x"{y * y};`: each variable's own width
+unfoldable pub each-width : Rules
+each-width = last-rule (rule (name 0 "a") (at 2) (last-branch (and-members (once (binder (lit< tt) (over 4 8) (at 8) (num 9 11 32) (at 11) (over 13 16) (at 16) (name 17 "x") (at 18) (last-choice (item (everything (at 20)))) (at 21) (at 22))) (at 24) (and-members (once (binder (lit< tt) (over 26 30) (at 30) (num 31 32 8) (at 32) (over 34 37) (at 37) (name 38 "y") (at 39) (last-choice (item (everything (at 41)))) (at 42) (at 43))) (at 45) (last-member (repeated (literal (quote 47 50 "x")) (counted (at 50) (exactly (sum (product (plain (variable (name 51 "y"))) (times (at 53) (plain (variable (name 55 "y"))) no-factor)) no-summand)) (at 56))))))) (at 57))
+
+each-width-read : tokens "a = uint(32, var(x, ~)) & uint(8, var(y, ~)) & \"x\"{y * y};" ≡ written each-width 58
+unfolding tokens written each-width
+each-width-read = refl
+
+each-width-eight : place-eight (judgement each-width) ≡ none
+unfolding judgement each-width
+each-width-eight = refl
+
 -- `a = uint(8, 1 ! (3 | 4294967296)) & "x"{4294967296};`: in a set in parentheses; the smaller of two
 unfoldable pub in-sets : Rules
 in-sets = last-rule (rule (name 0 "a") (at 2) (last-branch (and-members (once (field (lit< tt) (over 4 8) (at 8) (num 9 10 8) (at 10) (last-choice (item-but-set (lit< tt) (only (sum (product (plain (number (num 12 13 1))) no-factor) no-summand)) (at 14) (at 16) (or-choices (item (only (sum (product (plain (number (num 17 18 3))) no-factor) no-summand))) (at 19) (last-choice (item (only (sum (product (plain (number (num 21 31 4294967296))) no-factor) no-summand))))) (at 31))) (at 32))) (at 34) (last-member (repeated (literal (quote 36 39 "x")) (counted (at 39) (exactly (sum (product (plain (number (num 40 50 4294967296))) no-factor) no-summand)) (at 50)))))) (at 51))

@@ -15,7 +15,7 @@ use Rattle.tree.specs.Lexemes.{Name, Number}
 use Rattle.tree.specs.Tree.{ValueSet, Counts, exactly, at-least, at-most, span, Mark, optional, any-number, one-or-more, counted, expression, concatenation, cases, Part, Tree, literal, range, field, binder, rule-use, eod, group, switch, last-case, case-default, case-cases, once, repeated, last-member, and-members, last-branch, or-branches, Rule, Rules}
 use Rattle.tree.specs.Spelling.{spell, spell-mark}
 use Rattle.tree_meaning.specs.Values.{Environment, in-set, passes-in, is-true}
-use Rattle.tree_meaning.specs.Pieces.{Component, in-set as in-set-parts, in-counts, terms-of, uses-in, rules-of, rule-name, rule-body, variables-of}
+use Rattle.tree_meaning.specs.Pieces.{Component, set-parts, counts-parts, terms-of, uses-in, rules-of, rule-name, rule-body, variables-of}
 use Rattle.tree_meaning.specs.Counted.{constructs, rule-constructs}
 use Rattle.tree_meaning.specs.Sizes.{first-byte}
 
@@ -98,7 +98,7 @@ module _ (body variable : List ℕ → ℕ) where
   -- "a set with a variable counting as `~`" where no values are known; `binds`: the values after it
   abbrev pub uint-node : {d : ℕ} → Number → ValueSet d → (binds : Values → ℕ → Values) → TreeNode
   uint-node n x binds =
-      bits-of (λ bits. n .value) (λ c v bits. in-set (values-at v) x (pos (number-of bits))) (λ bits. cond (has-variable (in-set-parts x)) true (in-set (values-at []) x (pos (number-of bits)))) (λ c v bits. binds v (number-of bits))
+      bits-of (λ bits. n .value) (λ c v bits. in-set (values-at v) x (pos (number-of bits))) (λ bits. cond (has-variable (set-parts x)) true (in-set (values-at []) x (pos (number-of bits)))) (λ c v bits. binds v (number-of bits))
 
   -- ---- repetitions: `?`, `*`, `+`, or counts
 
@@ -113,7 +113,7 @@ module _ (body variable : List ℕ → ℕ) where
   mark-static (optional s) = zero-or-one
   mark-static (any-number s) = zero-or-more
   mark-static (one-or-more s) = one-to-more
-  mark-static (counted opens n closes) = cond (has-variable (in-counts n)) zero-or-more (passes-in (values-at []) n)
+  mark-static (counted opens n closes) = cond (has-variable (counts-parts n)) zero-or-more (passes-in (values-at []) n)
 
   abbrev pub mark-exact : Mark → Bool
   mark-exact (optional s) = false

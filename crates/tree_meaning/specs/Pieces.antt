@@ -42,36 +42,36 @@ pub data Component : Type 0 where
   whole-number : Calculation → Component
   joined-by : Sign → Component
 
-abbrev pub in-item : Item → List Component
-in-item (everything s) = joined-by s ∷ []
-in-item (only a) = whole-number a ∷ []
-in-item (between a s b) = whole-number a ∷ joined-by s ∷ whole-number b ∷ []
-in-item (from a s) = whole-number a ∷ joined-by s ∷ []
-in-item (up-to s b) = joined-by s ∷ whole-number b ∷ []
+abbrev pub item-parts : Item → List Component
+item-parts (everything s) = joined-by s ∷ []
+item-parts (only a) = whole-number a ∷ []
+item-parts (between a s b) = whole-number a ∷ joined-by s ∷ whole-number b ∷ []
+item-parts (from a s) = whole-number a ∷ joined-by s ∷ []
+item-parts (up-to s b) = joined-by s ∷ whole-number b ∷ []
 
-unfoldable pub in-set : {p : SetPart} {d : ℕ} → Choices p d → List Component
-in-set (item a) = in-item a
-in-set (item-but-item a s b) = in-item a ++ (joined-by s ∷ in-item b)
-in-set (item-but-set depth a s opens b closes) = in-item a ++ (joined-by s ∷ in-set b)
-in-set (last-choice a) = in-set a
-in-set (or-choices a s b) = in-set a ++ (joined-by s ∷ in-set b)
+unfoldable pub set-parts : {p : SetPart} {d : ℕ} → Choices p d → List Component
+set-parts (item a) = item-parts a
+set-parts (item-but-item a s b) = item-parts a ++ (joined-by s ∷ item-parts b)
+set-parts (item-but-set depth a s opens b closes) = item-parts a ++ (joined-by s ∷ set-parts b)
+set-parts (last-choice a) = set-parts a
+set-parts (or-choices a s b) = set-parts a ++ (joined-by s ∷ set-parts b)
 
-abbrev pub in-counts : Counts → List Component
-in-counts (exactly n) = whole-number n ∷ []
-in-counts (at-least a s) = whole-number a ∷ joined-by s ∷ []
-in-counts (at-most s b) = joined-by s ∷ whole-number b ∷ []
-in-counts (span a s b) = whole-number a ∷ joined-by s ∷ whole-number b ∷ []
+abbrev pub counts-parts : Counts → List Component
+counts-parts (exactly n) = whole-number n ∷ []
+counts-parts (at-least a s) = whole-number a ∷ joined-by s ∷ []
+counts-parts (at-most s b) = joined-by s ∷ whole-number b ∷ []
+counts-parts (span a s b) = whole-number a ∷ joined-by s ∷ whole-number b ∷ []
 
-unfoldable pub in-tests : {p : TestPart} {d : ℕ} → Tests p d → List Component
-in-tests (compare a c s b) = whole-number a ∷ joined-by s ∷ whole-number b ∷ []
-in-tests (test-group depth opens a closes) = in-tests a
-in-tests (one-test a) = in-tests a
-in-tests (all-of a s b) = in-tests a ++ (joined-by s ∷ in-tests b)
-in-tests (any-of a s b) = in-tests a ++ (joined-by s ∷ in-tests b)
-in-tests (last-conjunct a) = in-tests a
-in-tests (and-conjuncts a s b) = in-tests a ++ (joined-by s ∷ in-tests b)
-in-tests (last-disjunct a) = in-tests a
-in-tests (or-disjuncts a s b) = in-tests a ++ (joined-by s ∷ in-tests b)
+unfoldable pub tests-parts : {p : TestPart} {d : ℕ} → Tests p d → List Component
+tests-parts (compare a c s b) = whole-number a ∷ joined-by s ∷ whole-number b ∷ []
+tests-parts (test-group depth opens a closes) = tests-parts a
+tests-parts (one-test a) = tests-parts a
+tests-parts (all-of a s b) = tests-parts a ++ (joined-by s ∷ tests-parts b)
+tests-parts (any-of a s b) = tests-parts a ++ (joined-by s ∷ tests-parts b)
+tests-parts (last-conjunct a) = tests-parts a
+tests-parts (and-conjuncts a s b) = tests-parts a ++ (joined-by s ∷ tests-parts b)
+tests-parts (last-disjunct a) = tests-parts a
+tests-parts (or-disjuncts a s b) = tests-parts a ++ (joined-by s ∷ tests-parts b)
 
 -- all its terms
 unfoldable pub terms-of : List Component → List Term
@@ -102,22 +102,22 @@ abbrev pub mark-pieces : Mark → List Piece
 mark-pieces (optional s) = []
 mark-pieces (any-number s) = []
 mark-pieces (one-or-more s) = []
-mark-pieces (counted opens n closes) = formula (in-counts n) ∷ []
+mark-pieces (counted opens n closes) = formula (counts-parts n) ∷ []
 
 -- Constructs in their order, "the outer before the inner"; a binder binds after its own set. `top`: it is the whole body of a rule or a member of its
 -- top concatenation.
 unfoldable pub pieces : {p : Part} {d : ℕ} → (top : Bool) → Tree p d → List Piece
 pieces top (literal l) = []
 pieces top (range a s b one one′) = []
-pieces top (field depth u opens n comma x closes) = width n ∷ formula (in-set x) ∷ []
-pieces top (binder depth u opens n comma v opens′ x comma′ y closes closes′) = width n ∷ formula (in-set y) ∷ binding x n top ∷ []
+pieces top (field depth u opens n comma x closes) = width n ∷ formula (set-parts x) ∷ []
+pieces top (binder depth u opens n comma v opens′ x comma′ y closes closes′) = width n ∷ formula (set-parts y) ∷ binding x n top ∷ []
 pieces top (rule-use x other) = use-of-rule x ∷ []
 pieces top (eod s) = []
 pieces top (group depth opens x closes) = pieces false x
 pieces top (switch depth opens x closes) = pieces false x
-pieces top (last-case c colon x end) = formula (in-tests c) ∷ pieces false x
-pieces top (case-default c colon x end colon′ y end′) = formula (in-tests c) ∷ (pieces false x ++ pieces false y)
-pieces top (case-cases c colon x end more) = formula (in-tests c) ∷ (pieces false x ++ pieces false more)
+pieces top (last-case c colon x end) = formula (tests-parts c) ∷ pieces false x
+pieces top (case-default c colon x end colon′ y end′) = formula (tests-parts c) ∷ (pieces false x ++ pieces false y)
+pieces top (case-cases c colon x end more) = formula (tests-parts c) ∷ (pieces false x ++ pieces false more)
 pieces top (once x) = pieces top x
 pieces top (repeated x m) = mark-pieces m ++ pieces false x
 pieces top (last-member x) = pieces top x
