@@ -13,7 +13,7 @@ use Rattle.term_words.specs.declared.Term.{Term}
 use Rattle.table_wellformed.specs.Checks.{either}
 use Rattle.table_wellformed.specs.Lists.{has-low}
 use Rattle.term_words.proofs.KnownTerms.{KnownOperation, KnownTerm}
-use Rattle.table_wellformed.proofs.Decoded.{picked}
+use Rattle.table_layout.proofs.Bounds.{picked}
 
 -- ---- the words of a term
 
