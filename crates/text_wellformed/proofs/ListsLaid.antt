@@ -15,11 +15,11 @@ use Rattle.basis.specs.Limits.{max-terms}
 use Rattle.text_header.proofs.Tests.{which, picked}
 use Rattle.table_layout.specs.Places.{term-count, construct-word}
 use Rattle.table_layout.specs.Constructs.{constructAt}
+use Rattle.table_layout.specs.Attributes.{counts-list}
 use Rattle.table_layout.specs.declared.Construct.{Construct}
 use Rattle.table_layout.specs.declared.Passes.{Passes}
-use Rattle.table_wellformed.specs.Lists.{own-start as list-start, own-end as list-end, counts-start, counts-end, begins, after, lists-begin, after-lists, lists-from, lists-laid}
-use Rattle.text_store.specs.Words.{kind-of, node-mark}
-use Rattle.text_encoding.proofs.Sizes.{operands-length}
+use Rattle.table_wellformed.specs.Lists.{own-start as list-start, own-end as list-end, list-start as counts-start, list-end as counts-end, begins, after, lists-begin, after-lists, lists-from, lists-laid}
+use Rattle.text_names.specs.Words.{node-word, kind-of}
 use Rattle.text_encoding.specs.Lists.{sum, narrow}
 use Rattle.text_encoding.specs.Numbers.{condition-length, own-length, lists-length, condition-start, own-start}
 use Rattle.text_encoding.specs.Encoded.{start-word, end-word, operands, construct-words}
@@ -88,7 +88,7 @@ module _ {xs ns ts rs : List ℕ} {n r : ℕ} {ws : List ℕ} (w : Words xs ns t
     of-mark k f g e = let z : node-mark ns i ≡ k = eqb-true (node-mark ns i) k e in nothing-own g (λ p. f (sym z ∙ p .1))
 
     abbrev Counts : Passes → Type 0
-    Counts c = Follows (own-start ns i) (own-length ns i) (counts-start c) (counts-end c)
+    Counts c = Follows (own-start ns i) (own-length ns i) (counts-start (counts-list c)) (counts-end (counts-list c))
 
     counts-follow : (kind-of ns i ≡ 8 → ⊥) → Counts (passes-meant (node-mark ns i) (own-start ns i) (own-start ns i + own-length ns i))
     counts-follow g =

@@ -9,6 +9,7 @@ use native.Mathlib.Omega.{arith}
 use borrow.Author.Tests.{eqb-true, eqb-false}
 use lib.Dec.{eqb}
 use Rattle.text_header.proofs.Tests.{which, picked}
+use Rattle.table_layout.specs.Attributes.{counts-list}
 use Rattle.table_layout.specs.Held.{size-of}
 use Rattle.table_layout.specs.declared.Construct.{Construct}
 use Rattle.table_layout.specs.declared.Passes.{Passes}
@@ -49,7 +50,7 @@ pub data OwnMeant (xs ns rs : List ℕ) (r i : ℕ) : Type 0 where
   of-none : Lists.own-start (meant xs ns rs r i) ≡ 0 → Lists.own-end (meant xs ns rs r i) ≡ 0 → OwnMeant xs ns rs r i
 
 abbrev Countless : Passes → Type 0
-Countless p = (Lists.counts-start p ≡ 0) × (Lists.counts-end p ≡ 0)
+Countless p = (Lists.list-start (counts-list p) ≡ 0) × (Lists.list-end (counts-list p) ≡ 0)
 
 no-counts : (how s e : ℕ) → 1 ≤ how → how ≤ 3 → Countless (passes-meant how s e)
 no-counts how s e l m =
