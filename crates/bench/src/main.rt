@@ -1,6 +1,10 @@
 // The bench program: reads kiosk.dogma, then frames from standard input, each a line of hexadecimal, and prints the answers (document 01).
 use admission::Admission;
+use basis::MAX_FRAME_BITS;
+use basis::MAX_FRAME_BYTES;
+use basis::TABLE_WORDS;
 use bench_hexadecimal::Line;
+use bench_hexadecimal::MAX_LINE;
 use libc::STDIN_FILENO;
 use libc::STDOUT_FILENO;
 use run_grants::Run;
@@ -8,8 +12,16 @@ use run_matcher::Answer;
 ghost use mathlib.Core.Path.{_≡_};
 ghost use Prim.Native.Nat.{_+_, _*_, _≤_};
 ghost use lib.ListN.{length};
+ghost use Rattle.bench_hexadecimal.specs.Lines.{max-line};
+ghost use Rattle.basis.specs.Limits.{max-weight, max-frame-bytes};
 ghost use Rattle.run_matcher.specs.Opening.{number-of};
 ghost use Rattle.bench.specs.Weights.{Light};
+
+// Two words for each bit of a frame.
+const READING_WORDS: usize = 2 * MAX_FRAME_BITS;
+
+// Of a longer line so many characters are kept: too long also without a CR.
+const LINE_KEPT: usize = MAX_LINE + 2;
 
 // The characters held after a piece of the input.
 struct Step {
@@ -49,7 +61,7 @@ fn show_grammar(answer: Admission) {
 
 // weight × (bits + 1)
 fn bound(weight: usize, bytes: usize) -> u64
-    requires { ⌜ (weight ≤ 65535) × (bytes ≤ 256) ⌝ }
+    requires { ⌜ (weight ≤ max-weight) × (bytes ≤ max-frame-bytes) ⌝ }
     ensures { λ r. ⌜ r ≡ weight * (8 * bytes + 1) ⌝ }
 {
     (weight * (8 * bytes + 1)) as u64
@@ -64,7 +76,7 @@ fn show_verdict(v: u32) {
 }
 
 fn show_run(weight: usize, bytes: usize, run: Run)
-    requires { ⌜ (weight ≤ 65535) × (bytes ≤ 256) ⌝ }
+    requires { ⌜ (weight ≤ max-weight) × (bytes ≤ max-frame-bytes) ⌝ }
 {
     show_verdict(run.verdict);
     number(b"", run.steps);
@@ -73,7 +85,7 @@ fn show_run(weight: usize, bytes: usize, run: Run)
 }
 
 fn grant(table: &[u32], frame: &[u8], reading: &mut [u32], run: Run, weight: usize)
-    requires { ⌜ (weight ≤ 65535) × (length (now frame) ≤ 256) ⌝ }
+    requires { ⌜ (weight ≤ max-weight) × (length (now frame) ≤ max-frame-bytes) ⌝ }
 {
     let granted = run_grants::advance(table, frame, reading, run, 18446744073709551615);
     show_run(weight, frame.len(), granted.run);
@@ -92,7 +104,7 @@ fn refusal(answer: Answer) -> u64
 }
 
 fn play(table: &[u32], frame: &[u8], reading: &mut [u32], weight: usize)
-    requires { ⌜ (weight ≤ 65535) × (length (now frame) ≤ 256) ⌝ }
+    requires { ⌜ (weight ≤ max-weight) × (length (now frame) ≤ max-frame-bytes) ⌝ }
 {
     let opening = run_matcher::open(table, frame, reading);
     let answer = opening.answer;
@@ -106,23 +118,23 @@ fn play(table: &[u32], frame: &[u8], reading: &mut [u32], weight: usize)
 }
 
 // The frame that the first `n` bytes are.
-fn framed(table: &[u32; 16384], weight: usize, bytes: &[u8], n: usize)
-    requires { ⌜ (weight ≤ 65535) × (n ≤ length (now bytes)) × (n ≤ 256) ⌝ }
+fn framed(table: &[u32; TABLE_WORDS], weight: usize, bytes: &[u8], n: usize)
+    requires { ⌜ (weight ≤ max-weight) × (n ≤ length (now bytes)) × (n ≤ max-frame-bytes) ⌝ }
 {
-    let mut reading = [0u32; 4096];
+    let mut reading = [0u32; READING_WORDS];
     play(&table[..], &bytes[0..n], &mut reading, weight);
 }
 
-fn decoded(table: &[u32; 16384], weight: usize, line: &[u8], n: usize)
-    requires { ⌜ (weight ≤ 65535) × (length (now line) ≤ 512) × (n ≤ 256) ⌝ }
+fn decoded(table: &[u32; TABLE_WORDS], weight: usize, line: &[u8], n: usize)
+    requires { ⌜ (weight ≤ max-weight) × (length (now line) ≤ max-line) × (n ≤ max-frame-bytes) ⌝ }
 {
-    let mut bytes = [0u8; 256];
+    let mut bytes = [0u8; MAX_FRAME_BYTES];
     bench_hexadecimal::decode(line, &mut bytes);
     framed(table, weight, &bytes, n);
 }
 
-fn answered(table: &[u32; 16384], weight: usize, line: &[u8])
-    requires { ⌜ weight ≤ 65535 ⌝ }
+fn answered(table: &[u32; TABLE_WORDS], weight: usize, line: &[u8])
+    requires { ⌜ weight ≤ max-weight ⌝ }
 {
     let kind = bench_hexadecimal::classify(line);
     match kind {
@@ -133,42 +145,47 @@ fn answered(table: &[u32; 16384], weight: usize, line: &[u8])
 }
 
 // A line that LF ends.
-fn ended(table: &[u32; 16384], weight: usize, line: &[u8], held: usize)
-    requires { ⌜ (weight ≤ 65535) × (held ≤ length (now line)) ⌝ }
+fn ended(table: &[u32; TABLE_WORDS], weight: usize, line: &[u8], held: usize)
+    requires { ⌜ (weight ≤ max-weight) × (held ≤ length (now line)) ⌝ }
 {
     answered(table, weight, text_header::header::content(&line[0..held]));
 }
 
 // A last line without LF is one if it has a byte.
-fn last(table: &[u32; 16384], weight: usize, line: &[u8], held: usize)
-    requires { ⌜ (weight ≤ 65535) × (held ≤ length (now line)) ⌝ }
+fn last(table: &[u32; TABLE_WORDS], weight: usize, line: &[u8], held: usize)
+    requires { ⌜ (weight ≤ max-weight) × (held ≤ length (now line)) ⌝ }
 {
     if 0 < held {
         answered(table, weight, &line[0..held]);
     }
 }
 
-fn line_ended(table: &[u32; 16384], weight: usize, line: &[u8; 514], held: usize)
-    requires { ⌜ (weight ≤ 65535) × (held ≤ 514) ⌝ }
+fn line_ended(table: &[u32; TABLE_WORDS], weight: usize, line: &[u8; LINE_KEPT], held: usize)
+    requires { ⌜ (weight ≤ max-weight) × (held ≤ max-line + 2) ⌝ }
 {
     ended(table, weight, &line[..], held);
 }
 
-// Of a longer line 514 characters are kept: too long also without a CR.
-fn keep(line: &mut [u8; 514], held: usize, byte: u8) -> usize
-    requires { ⌜ held ≤ 514 ⌝ }
-    ensures { λ r. ⌜ r ≤ 514 ⌝ }
+fn keep(line: &mut [u8; LINE_KEPT], held: usize, byte: u8) -> usize
+    requires { ⌜ held ≤ max-line + 2 ⌝ }
+    ensures { λ r. ⌜ r ≤ max-line + 2 ⌝ }
 {
-    if held < 514 {
+    if held < LINE_KEPT {
         line[held] = byte;
         return held + 1;
     }
     held
 }
 
-fn take(table: &[u32; 16384], weight: usize, line: &mut [u8; 514], held: usize, byte: u8) -> usize
-    requires { ⌜ (weight ≤ 65535) × (held ≤ 514) ⌝ }
-    ensures { λ r. ⌜ r ≤ 514 ⌝ }
+fn take(
+    table: &[u32; TABLE_WORDS],
+    weight: usize,
+    line: &mut [u8; LINE_KEPT],
+    held: usize,
+    byte: u8,
+) -> usize
+    requires { ⌜ (weight ≤ max-weight) × (held ≤ max-line + 2) ⌝ }
+    ensures { λ r. ⌜ r ≤ max-line + 2 ⌝ }
 {
     if byte == 10 {
         line_ended(table, weight, line, held);
@@ -178,14 +195,14 @@ fn take(table: &[u32; 16384], weight: usize, line: &mut [u8; 514], held: usize, 
 }
 
 fn take_all(
-    table: &[u32; 16384],
+    table: &[u32; TABLE_WORDS],
     weight: usize,
-    line: &mut [u8; 514],
+    line: &mut [u8; LINE_KEPT],
     before: usize,
     piece: &[u8],
 ) -> usize
-    requires { ⌜ (weight ≤ 65535) × (before ≤ 514) ⌝ }
-    ensures { λ r. ⌜ r ≤ 514 ⌝ }
+    requires { ⌜ (weight ≤ max-weight) × (before ≤ max-line + 2) ⌝ }
+    ensures { λ r. ⌜ r ≤ max-line + 2 ⌝ }
 {
     let mut held = before;
     let mut i = 0;
@@ -196,9 +213,9 @@ fn take_all(
     held
 }
 
-fn piece(table: &[u32; 16384], weight: usize, line: &mut [u8; 514], held: usize) -> Step
-    requires { ⌜ (weight ≤ 65535) × (held ≤ 514) ⌝ }
-    ensures { λ r. ⌜ r .held ≤ 514 ⌝ }
+fn piece(table: &[u32; TABLE_WORDS], weight: usize, line: &mut [u8; LINE_KEPT], held: usize) -> Step
+    requires { ⌜ (weight ≤ max-weight) × (held ≤ max-line + 2) ⌝ }
+    ensures { λ r. ⌜ r .held ≤ max-line + 2 ⌝ }
 {
     let mut buffer = io::buffer();
     let got = libc::read(STDIN_FILENO, &mut buffer);
@@ -211,9 +228,9 @@ fn piece(table: &[u32; 16384], weight: usize, line: &mut [u8; 514], held: usize)
 }
 
 // Nothing says that the input ends, so the turns are counted from a number that no input uses up.
-fn lines(table: &[u32; 16384], weight: usize, line: &mut [u8; 514]) -> usize
-    requires { ⌜ weight ≤ 65535 ⌝ }
-    ensures { λ r. ⌜ r ≤ 514 ⌝ }
+fn lines(table: &[u32; TABLE_WORDS], weight: usize, line: &mut [u8; LINE_KEPT]) -> usize
+    requires { ⌜ weight ≤ max-weight ⌝ }
+    ensures { λ r. ⌜ r ≤ max-line + 2 ⌝ }
 {
     let mut held = 0;
     let mut turns = u64::MAX;
@@ -228,28 +245,28 @@ fn lines(table: &[u32; 16384], weight: usize, line: &mut [u8; 514]) -> usize
     held
 }
 
-fn last_of(table: &[u32; 16384], weight: usize, line: &[u8; 514], held: usize)
-    requires { ⌜ (weight ≤ 65535) × (held ≤ 514) ⌝ }
+fn last_of(table: &[u32; TABLE_WORDS], weight: usize, line: &[u8; LINE_KEPT], held: usize)
+    requires { ⌜ (weight ≤ max-weight) × (held ≤ max-line + 2) ⌝ }
 {
     last(table, weight, &line[..], held);
 }
 
-fn frames(table: &[u32; 16384], weight: usize)
-    requires { ⌜ weight ≤ 65535 ⌝ }
+fn frames(table: &[u32; TABLE_WORDS], weight: usize)
+    requires { ⌜ weight ≤ max-weight ⌝ }
 {
-    let mut line = [0u8; 514];
+    let mut line = [0u8; LINE_KEPT];
     let held = lines(table, weight, &mut line);
     last_of(table, weight, &line, held);
 }
 
-fn admit_text(bytes: &[u8], table: &mut [u32; 16384]) -> Admission
+fn admit_text(bytes: &[u8], table: &mut [u32; TABLE_WORDS]) -> Admission
     ensures { λ r. ⌜ Light r ⌝ }
 {
     admission::admit(bytes, &mut table[..])
 }
 
 // Of a longer text so many bytes are enough to refuse it.
-fn admit(fd: i32, table: &mut [u32; 16384]) -> Admission
+fn admit(fd: i32, table: &mut [u32; TABLE_WORDS]) -> Admission
     ensures { λ r. ⌜ Light r ⌝ }
 {
     let mut bytes = [0u8; 8193];
@@ -257,7 +274,7 @@ fn admit(fd: i32, table: &mut [u32; 16384]) -> Admission
     admit_text(&bytes[..n], table)
 }
 
-fn admit_file(table: &mut [u32; 16384]) -> Admission
+fn admit_file(table: &mut [u32; TABLE_WORDS]) -> Admission
     ensures { λ r. ⌜ Light r ⌝ }
 {
     let fd = os::open_read(b"kiosk.dogma");
@@ -269,7 +286,7 @@ fn admit_file(table: &mut [u32; 16384]) -> Admission
     answer
 }
 
-fn start(answer: Admission, table: &[u32; 16384])
+fn start(answer: Admission, table: &[u32; TABLE_WORDS])
     requires { ⌜ Light answer ⌝ }
 {
     match answer {
@@ -287,7 +304,7 @@ fn start(answer: Admission, table: &[u32; 16384])
 }
 
 fn main() {
-    let mut table = [0u32; 16384];
+    let mut table = [0u32; TABLE_WORDS];
     let answer = admit_file(&mut table);
     show_grammar(answer);
     start(answer, &table);

@@ -8,9 +8,10 @@ use borrow.Author.Tests.{ltb-false}
 use lib.Dec.{ltb}
 use lib.ListN.{length, getD, set, drop, length-drop}
 use lib.Seq.{sets}
+use Rattle.basis.specs.Limits.{max-frame-bytes}
 use Rattle.text_header.proofs.Runs.{next}
 use Rattle.text_header.proofs.Tests.{picked}
-use Rattle.bench_hexadecimal.specs.Lines.{is-frame, line-of, byte-of, bytes-of}
+use Rattle.bench_hexadecimal.specs.Lines.{is-frame, line-of, byte-of, bytes-of, max-line}
 use Rattle.bench_hexadecimal.specs.declared.Line.{Line}
 
 -- a lone digit makes no byte
@@ -43,10 +44,10 @@ module _ (xs : List ℕ) (k : ℕ) where
 abbrev pub Short : List ℕ → Line → Type 0
 Short xs Line.TooLong = Unit
 Short xs Line.NoFrame = Unit
-Short xs (Line.Frame n) = (length xs ≤ 512) × (n ≤ 256)
+Short xs (Line.Frame n) = (length xs ≤ max-line) × (n ≤ max-frame-bytes)
 
 pub short : (xs : List ℕ) → Short xs (line-of xs)
 unfolding line-of
 short xs =
-    picked (Short xs) (ltb 512 (length xs)) (λ t. tt)
-    (λ t. let l : length xs ≤ 512 = ltb-false 512 (length xs) t in picked (Short xs) (is-frame xs) (λ f. (l, omega arith)) (λ f. tt))
+    picked (Short xs) (ltb max-line (length xs)) (λ t. tt)
+    (λ t. let l : length xs ≤ max-line = ltb-false max-line (length xs) t in picked (Short xs) (is-frame xs) (λ f. (l, omega arith)) (λ f. tt))

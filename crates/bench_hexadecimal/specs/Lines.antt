@@ -5,10 +5,15 @@ use mathlib.Core.Bool.{Bool, cond, _&&_}
 use mathlib.Core.List.{List, [], _∷_}
 use lib.Dec.{eqb, ltb}
 use lib.ListN.{length}
+use Rattle.basis.specs.Limits.{max-frame-bytes}
 use Rattle.text_header.specs.Bytes.{digit-of}
 use Rattle.text_header.specs.Spans.{span-end}
 use Rattle.text_header.specs.declared.Class.{Class}
 use Rattle.bench_hexadecimal.specs.declared.Line.{Line}
+
+-- "over 512 characters is 21": two for each byte of a frame
+abbrev pub max-line : ℕ
+max-line = 2 * max-frame-bytes
 
 -- "an even number of hex digits"
 unfoldable pub is-frame : List ℕ → Bool
@@ -16,7 +21,7 @@ is-frame line = eqb (length line % 2) 0 && eqb (span-end (Class.Digit 16) 0 line
 
 -- what a line without its end is: "frame over 256 bytes" first, then "a line not an even number of hex digits"; a frame with its number of bytes
 unfoldable pub line-of : List ℕ → Line
-line-of line = cond (ltb 512 (length line)) Line.TooLong (cond (is-frame line) (Line.Frame (length line / 2)) Line.NoFrame)
+line-of line = cond (ltb max-line (length line)) Line.TooLong (cond (is-frame line) (Line.Frame (length line / 2)) Line.NoFrame)
 
 -- the number of refusal; 0 for a frame
 abbrev pub number-of : Line → ℕ

@@ -1,4 +1,5 @@
 // A frame as a line of hexadecimal. Any bytes may arrive.
+use basis::MAX_FRAME_BYTES;
 use text_header::Class;
 use text_header::bytes::both;
 use text_header::bytes::digit_value;
@@ -10,9 +11,12 @@ ghost use lib.Seq.{sets};
 ghost use Rattle.text_header.specs.Bytes.{digit-of};
 ghost use Rattle.bench_hexadecimal.specs.Lines.{is-frame, line-of, number-of, byte-of, bytes-of};
 
+// The characters that a line may have.
+pub const MAX_LINE: usize = 2 * MAX_FRAME_BYTES;
+
 // What a line is, without its end.
 pub enum Line {
-    // Refused (21): over 512 characters.
+    // Refused (21): too many characters.
     TooLong,
     // Refused (20): not an even number of hexadecimal digits.
     NoFrame,
@@ -41,7 +45,7 @@ fn whole(line: &[u8]) -> bool
 pub fn classify(line: &[u8]) -> Line
     ensures { λ r. ⌜ r ≡ line-of (now (line .entry)) ⌝ }
 {
-    if 512 < line.len() {
+    if MAX_LINE < line.len() {
         return Line::TooLong;
     }
     if whole(line) {

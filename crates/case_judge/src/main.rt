@@ -1,7 +1,9 @@
 // Judges tables of the bench sheet's grammars and of a few more, completes those that pass, and asks of each word changed in turn whether
 // the table is still sound.
+use basis::TABLE_WORDS;
 use libc::STDOUT_FILENO;
 use table_conflicts::Clash;
+use table_first_follow::FAMILY_WORDS;
 use table_judge::Judgement;
 use table_reach::Recursion;
 
@@ -43,7 +45,7 @@ fn show_judgement(judgement: Judgement) {
 }
 
 // What is wrong with words that do not pass 5 to 8.
-fn show_form(table: &[u32; 16384]) {
+fn show_form(table: &[u32; TABLE_WORDS]) {
     if table_wellformed::laid(&table[..]) {
         match table_reach::recursive_rule(&table[..]) {
             Recursion::Rule(rule) => number(b" 7 at rule ", rule),
@@ -57,8 +59,8 @@ fn show_form(table: &[u32; 16384]) {
     }
 }
 
-fn judge(table: &mut [u32; 16384]) {
-    let mut first = [0u64; 2056];
+fn judge(table: &mut [u32; TABLE_WORDS]) {
+    let mut first = [0u64; FAMILY_WORDS];
     if table_judge::formed(&table[..]) {
         show_judgement(table_fill::complete(&mut table[..], &mut first));
     } else {
@@ -74,7 +76,7 @@ fn more(n: usize) -> usize {
 }
 
 // Whether the table is sound with another word at k.
-fn changed(table: &mut [u32; 16384], k: usize, w: u32) -> bool {
+fn changed(table: &mut [u32; TABLE_WORDS], k: usize, w: u32) -> bool {
     if w < 4294967295 {
         case_tables::put(table, k, w + 1);
     } else {
@@ -84,10 +86,10 @@ fn changed(table: &mut [u32; 16384], k: usize, w: u32) -> bool {
 }
 
 // How many words can be one more, and leave the table sound.
-fn changes(table: &mut [u32; 16384]) -> usize {
+fn changes(table: &mut [u32; TABLE_WORDS]) -> usize {
     let mut still = 0;
     let mut k = 0;
-    while k < 16384 {
+    while k < TABLE_WORDS {
         let w = table[k];
         if changed(table, k, w) {
             still = more(still);
@@ -98,7 +100,7 @@ fn changes(table: &mut [u32; 16384]) -> usize {
     still
 }
 
-fn show(name: &[u8], table: &mut [u32; 16384]) {
+fn show(name: &[u8], table: &mut [u32; TABLE_WORDS]) {
     text(name);
     judge(table);
     if table_judge::sound::sound(&table[..]) {
@@ -108,16 +110,16 @@ fn show(name: &[u8], table: &mut [u32; 16384]) {
     text(b"\n");
 }
 
-fn clear(table: &mut [u32; 16384]) {
+fn clear(table: &mut [u32; TABLE_WORDS]) {
     let mut k = 0;
-    while k < 16384 {
+    while k < TABLE_WORDS {
         table[k] = 0;
         k += 1;
     }
 }
 
 fn main() {
-    let mut table = [0u32; 16384];
+    let mut table = [0u32; TABLE_WORDS];
     show(b"nothing:", &mut table);
     case_tables::g(&mut table);
     show(b"G:", &mut table);

@@ -1,19 +1,27 @@
 // Tables of the bench sheet's grammars, laid out by hand, for programs that try them. Their sets are 0 but where a function says otherwise.
+use basis::TABLE_WORDS;
 ghost use mathlib.Core.Path.{_≡_};
 ghost use mathlib.Core.Bool.{cond};
 ghost use lib.Dec.{ltb};
 ghost use lib.ListN.{set};
+ghost use Rattle.basis.specs.Limits.{table-words};
 
 // A word of a table; past its end nothing is written.
-pub fn put(table: &mut [u32; 16384], k: usize, w: u32)
-    ensures { λ r. ⌜ now (table .exit) ≡ cond (ltb k 16384) (set (now (table .entry)) k w) (now (table .entry)) ⌝ }
+pub fn put(table: &mut [u32; TABLE_WORDS], k: usize, w: u32)
+    ensures { λ r. ⌜ now (table .exit) ≡ cond (ltb k table-words) (set (now (table .entry)) k w) (now (table .entry)) ⌝ }
 {
-    if k < 16384 {
+    if k < TABLE_WORDS {
         table[k] = w;
     }
 }
 
-fn header(table: &mut [u32; 16384], constructs: u32, variables: u32, terms: u32, weight: u32) {
+fn header(
+    table: &mut [u32; TABLE_WORDS],
+    constructs: u32,
+    variables: u32,
+    terms: u32,
+    weight: u32,
+) {
     put(table, 0, 1399811687);
     put(table, 1, 1);
     put(table, 2, constructs);
@@ -23,13 +31,13 @@ fn header(table: &mut [u32; 16384], constructs: u32, variables: u32, terms: u32,
     put(table, 66, variables);
 }
 
-fn construct(table: &mut [u32; 16384], i: u8, kind: u32, size: u32) {
+fn construct(table: &mut [u32; TABLE_WORDS], i: u8, kind: u32, size: u32) {
     let at = 576 + 8 * (i as usize);
     put(table, at, kind);
     put(table, at + 1, size);
 }
 
-fn operands(table: &mut [u32; 16384], i: u8, a: u32, b: u32, c: u32, d: u32) {
+fn operands(table: &mut [u32; TABLE_WORDS], i: u8, a: u32, b: u32, c: u32, d: u32) {
     let at = 576 + 8 * (i as usize);
     put(table, at + 2, a);
     put(table, at + 3, b);
@@ -37,30 +45,30 @@ fn operands(table: &mut [u32; 16384], i: u8, a: u32, b: u32, c: u32, d: u32) {
     put(table, at + 5, d);
 }
 
-fn condition(table: &mut [u32; 16384], i: u8, start: u32, end: u32) {
+fn condition(table: &mut [u32; TABLE_WORDS], i: u8, start: u32, end: u32) {
     let at = 576 + 8 * (i as usize);
     put(table, at + 6, start);
     put(table, at + 7, end);
 }
 
-fn bytes(table: &mut [u32; 16384], i: u8, first: u32) {
+fn bytes(table: &mut [u32; TABLE_WORDS], i: u8, first: u32) {
     put(table, 5696 + 8 * (i as usize), first);
 }
 
-fn term(table: &mut [u32; 16384], t: u8, tag: u32, low: u32) {
+fn term(table: &mut [u32; TABLE_WORDS], t: u8, tag: u32, low: u32) {
     let at = 2624 + 3 * (t as usize);
     put(table, at, tag);
     put(table, at + 1, low);
 }
 
 // Variable 0.
-fn variable(table: &mut [u32; 16384], construct: u32, width: u32) {
+fn variable(table: &mut [u32; TABLE_WORDS], construct: u32, width: u32) {
     put(table, 320, construct);
     put(table, 321, width);
 }
 
 // `frame = uint(8, var(len, 1~8)) & uint(8, ~){len};`
-pub fn g(table: &mut [u32; 16384]) {
+pub fn g(table: &mut [u32; TABLE_WORDS]) {
     header(table, 4, 1, 5, 6);
     variable(table, 1, 8);
     construct(table, 0, 2, 4);
@@ -78,7 +86,7 @@ pub fn g(table: &mut [u32; 16384]) {
 }
 
 // `frame = "AB" | "AC";`
-pub fn k5(table: &mut [u32; 16384]) {
+pub fn k5(table: &mut [u32; TABLE_WORDS]) {
     header(table, 3, 0, 0, 3);
     construct(table, 0, 1, 3);
     construct(table, 1, 6, 1);
@@ -90,7 +98,7 @@ pub fn k5(table: &mut [u32; 16384]) {
 }
 
 // `frame = uint(4,1)* & uint(4,2);`
-pub fn k6(table: &mut [u32; 16384]) {
+pub fn k6(table: &mut [u32; TABLE_WORDS]) {
     header(table, 4, 0, 2, 6);
     construct(table, 0, 2, 4);
     construct(table, 1, 3, 2);
@@ -104,13 +112,13 @@ pub fn k6(table: &mut [u32; 16384]) {
 }
 
 // Of the sets of K6, those that its steps look at: what its repetition's body begins with, 00010001 and 00010010, and what follows, 0010.
-pub fn k6_sets(table: &mut [u32; 16384]) {
+pub fn k6_sets(table: &mut [u32; TABLE_WORDS]) {
     put(table, 7816, 393216);
     put(table, 7792, 262144);
 }
 
 // `frame = uint(8, var(n, ~)) & uint(8, ~){n - 1};`
-pub fn k9(table: &mut [u32; 16384]) {
+pub fn k9(table: &mut [u32; TABLE_WORDS]) {
     header(table, 4, 1, 5, 6);
     variable(table, 1, 8);
     construct(table, 0, 2, 4);
@@ -128,7 +136,7 @@ pub fn k9(table: &mut [u32; 16384]) {
 }
 
 // `frame = uint(8, var(t, ~)) & [t = 1: "A"; t = 2: uint(16, ~);];`
-pub fn k10(table: &mut [u32; 16384]) {
+pub fn k10(table: &mut [u32; TABLE_WORDS]) {
     header(table, 5, 1, 8, 5);
     variable(table, 1, 8);
     construct(table, 0, 2, 5);
@@ -153,7 +161,7 @@ pub fn k10(table: &mut [u32; 16384]) {
 }
 
 // `frame = ("A"?)*;`
-pub fn k8(table: &mut [u32; 16384]) {
+pub fn k8(table: &mut [u32; TABLE_WORDS]) {
     header(table, 3, 0, 0, 8);
     construct(table, 0, 3, 3);
     operands(table, 0, 2, 0, 0, 0);
@@ -165,7 +173,7 @@ pub fn k8(table: &mut [u32; 16384]) {
 }
 
 // `a = "x" & b; b = a;`
-pub fn k11(table: &mut [u32; 16384]) {
+pub fn k11(table: &mut [u32; TABLE_WORDS]) {
     header(table, 4, 0, 0, 1);
     put(table, 1, 2);
     put(table, 68, 3);
@@ -179,7 +187,7 @@ pub fn k11(table: &mut [u32; 16384]) {
 }
 
 // `frame = uint(8, 4294967295 * 4294967295);`
-pub fn large(table: &mut [u32; 16384]) {
+pub fn large(table: &mut [u32; TABLE_WORDS]) {
     header(table, 1, 0, 3, 2);
     construct(table, 0, 8, 1);
     operands(table, 0, 8, 0, 3, 0);
@@ -189,7 +197,7 @@ pub fn large(table: &mut [u32; 16384]) {
 }
 
 // `frame = uint(4, ~){1~} & "A"?;`: the repetition cannot tell whether to go on.
-pub fn unclear(table: &mut [u32; 16384]) {
+pub fn unclear(table: &mut [u32; TABLE_WORDS]) {
     header(table, 5, 0, 3, 8);
     construct(table, 0, 2, 5);
     construct(table, 1, 3, 2);
@@ -207,7 +215,7 @@ pub fn unclear(table: &mut [u32; 16384]) {
 }
 
 // Rule r is two uses of rule r + 1.
-fn twice(table: &mut [u32; 16384], r: u8) {
+fn twice(table: &mut [u32; TABLE_WORDS], r: u8) {
     if r < 80 {
         let i = 3 * r;
         put(table, 64 + 4 * (r as usize), i as u32);
@@ -219,7 +227,7 @@ fn twice(table: &mut [u32; 16384], r: u8) {
     }
 }
 
-fn four_times(table: &mut [u32; 16384], r: u8) {
+fn four_times(table: &mut [u32; TABLE_WORDS], r: u8) {
     if r < 80 {
         twice(table, r);
         twice(table, r + 1);
@@ -229,7 +237,7 @@ fn four_times(table: &mut [u32; 16384], r: u8) {
 }
 
 // 17 rules, each but the last two uses of the next; the last is `"A"`.
-pub fn heavy(table: &mut [u32; 16384]) {
+pub fn heavy(table: &mut [u32; TABLE_WORDS]) {
     header(table, 49, 0, 0, 1);
     put(table, 1, 17);
     four_times(table, 0);

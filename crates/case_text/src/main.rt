@@ -1,4 +1,5 @@
 // Runs the header's and the tokens' cases that document 01 singles out.
+use basis::MAX_LITERAL_BYTES;
 use libc::STDOUT_FILENO;
 use text_header::Heading;
 use text_tokens::Kind;
@@ -44,10 +45,10 @@ fn character(c: u8) {
 fn literal(rules: &[u8], at: usize) {
     text(b"literal");
     if at < rules.len() {
-        let mut bytes = [0u8; 32];
+        let mut bytes = [0u8; MAX_LITERAL_BYTES];
         text_literals::spell(rules, at, &mut bytes);
         let n = text_literals::count_at(rules, at);
-        for k in 0..32 {
+        for k in 0..MAX_LITERAL_BYTES {
             if k < n {
                 character(bytes[k]);
             }

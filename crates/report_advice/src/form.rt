@@ -1,4 +1,5 @@
 // Refusal 4: a token that cannot stand where it does.
+use basis::MAX_NESTING;
 use report_wording::quoting::mark;
 use report_wording::quoting::token;
 use report_wording::walking::Context;
@@ -278,7 +279,7 @@ fn outside(code: usize, seen: Context) {
 }
 
 fn opened(code: usize, seen: Context) {
-    if both(16 <= seen.depth, either(code == 40, code == 91)) {
+    if both(MAX_NESTING <= seen.depth, either(code == 40, code == 91)) {
         deep();
         return;
     }

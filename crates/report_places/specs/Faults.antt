@@ -6,7 +6,7 @@ use mathlib.Core.Bool.{Bool, cond, _&&_, _||_}
 use mathlib.Core.List.{List}
 use lib.Dec.{ltb, eqb}
 use Rattle.text_names.specs.Counting.{nowhere, place-if, least-between}
-use Rattle.text_store.specs.Words.{kind-of, place-of, bound-at, is-binder, named-at, first-node, last-node}
+use Rattle.text_store.specs.Words.{kind-of, place-of, bound-at, is-binder, named-at, first-node, last-node, rules-kept}
 use Rattle.text_names.specs.Names.{same-name, binds}
 use Rattle.report_places.specs.declared.Fault.{Fault}
 
@@ -24,7 +24,7 @@ rule-after rs r p = least-between 0 r (after-if rs p)
 
 -- of rules past the limit only the first is kept
 unfoldable pub rule-number : List ℕ → (r p : ℕ) → ℕ
-rule-number rs r p = min (rule-after rs (min r 65) p) (min r 65) - 1
+rule-number rs r p = min (rule-after rs (min r rules-kept) p) (min r rules-kept) - 1
 
 -- ---- who has the name at a place
 

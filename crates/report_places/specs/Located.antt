@@ -6,6 +6,7 @@ use mathlib.Core.Bool.{cond}
 use mathlib.Core.List.{List}
 use lib.Dec.{ltb}
 use lib.ListN.{length, drop}
+use Rattle.basis.specs.Limits.{max-text-bytes}
 use Rattle.text_header.specs.Header.{header-of}
 use Rattle.text_header.specs.declared.Heading.{Heading}
 use Rattle.text_store.specs.Store.{node-words, rule-words, nodes-of, rules-of}
@@ -39,4 +40,4 @@ located-after text q (Heading.Wrong p) = Located.Nothing
 
 -- "1 to 8,192 bytes"
 abbrev pub located : List ℕ → Query → Located
-located text q = cond (ltb 8192 (length text)) Located.Nothing (located-after text q (header-of text))
+located text q = cond (ltb max-text-bytes (length text)) Located.Nothing (located-after text q (header-of text))

@@ -13,12 +13,15 @@ use text_store::KIND;
 use text_store::LAST_NODE;
 use text_store::NAMED_AT;
 use text_store::PLACE;
+use text_store::RULES_KEPT;
 use text_store::words::binder;
 use text_store::words::node_word;
 use text_store::words::rule_word;
 ghost use mathlib.Core.Path.{_≡_};
 ghost use Prim.Native.Nat.{_-_, _≤_};
 ghost use lib.ListN.{length};
+ghost use Rattle.text_store.specs.Words.{nodes-room, rules-room};
+ghost use Rattle.basis.specs.Limits.{max-rules};
 ghost use Rattle.report_places.specs.Faults.{from-base, after-if, rule-after, rule-number, rule-if, first-rule, binder-if, first-binder, names-at, node-if, node-at, use-fault, binder-fault, variable-fault, node-fault, name-fault};
 
 // A place in the whole text. No place stays none.
@@ -32,7 +35,7 @@ pub fn from(base: usize, p: usize) -> usize
 }
 
 fn after_if(rules: &[usize], p: usize, k: usize) -> usize
-    requires { ⌜ length (now rules) ≡ 325 ⌝ }
+    requires { ⌜ length (now rules) ≡ rules-room ⌝ }
     ensures { λ r. ⌜ r ≡ after-if (now (rules .entry)) p k ⌝ }
 {
     place_if(p < rule_word(rules, k, NAMED_AT), k)
@@ -40,7 +43,7 @@ fn after_if(rules: &[usize], p: usize, k: usize) -> usize
 
 // The first of `count` rules whose name stands after p.
 fn rule_after(rules: &[usize], count: usize, p: usize) -> usize
-    requires { ⌜ length (now rules) ≡ 325 ⌝ }
+    requires { ⌜ length (now rules) ≡ rules-room ⌝ }
     ensures { λ r. ⌜ r ≡ rule-after (now (rules .entry)) count p ⌝ }
 {
     let mut least = 18446744073709551615;
@@ -63,15 +66,15 @@ fn one_less(n: usize) -> usize
 
 // The rule that p lies in. Of rules past the limit only the first is kept.
 pub fn rule_number(rules: &[usize], count: usize, p: usize) -> usize
-    requires { ⌜ length (now rules) ≡ 325 ⌝ }
-    ensures { λ r. ⌜ (r ≡ rule-number (now (rules .entry)) count p) × (r ≤ 64) ⌝ }
+    requires { ⌜ length (now rules) ≡ rules-room ⌝ }
+    ensures { λ r. ⌜ (r ≡ rule-number (now (rules .entry)) count p) × (r ≤ max-rules) ⌝ }
 {
-    let kept = min(count, 65);
+    let kept = min(count, RULES_KEPT);
     one_less(min(rule_after(rules, kept, p), kept))
 }
 
 fn rule_if(text: &[u8], rules: &[usize], p: usize, j: usize) -> usize
-    requires { ⌜ length (now rules) ≡ 325 ⌝ }
+    requires { ⌜ length (now rules) ≡ rules-room ⌝ }
     ensures { λ r. ⌜ r ≡ rule-if (now (text .entry)) (now (rules .entry)) p j ⌝ }
 {
     let q = rule_word(rules, j, NAMED_AT);
@@ -80,7 +83,7 @@ fn rule_if(text: &[u8], rules: &[usize], p: usize, j: usize) -> usize
 
 // The first of `count` rules that has the name at p.
 pub fn first_rule(text: &[u8], rules: &[usize], count: usize, p: usize) -> usize
-    requires { ⌜ length (now rules) ≡ 325 ⌝ }
+    requires { ⌜ length (now rules) ≡ rules-room ⌝ }
     ensures { λ r. ⌜ r ≡ first-rule (now (text .entry)) (now (rules .entry)) count p ⌝ }
 {
     let mut least = 18446744073709551615;
@@ -93,7 +96,7 @@ pub fn first_rule(text: &[u8], rules: &[usize], count: usize, p: usize) -> usize
 }
 
 fn binder_if(text: &[u8], nodes: &[usize], p: usize, j: usize) -> usize
-    requires { ⌜ length (now nodes) ≡ 2560 ⌝ }
+    requires { ⌜ length (now nodes) ≡ nodes-room ⌝ }
     ensures { λ r. ⌜ r ≡ binder-if (now (text .entry)) (now (nodes .entry)) p j ⌝ }
 {
     place_if(binds(text, nodes, p, j), node_word(nodes, j, BOUND_AT))
@@ -101,7 +104,7 @@ fn binder_if(text: &[u8], nodes: &[usize], p: usize, j: usize) -> usize
 
 // Where the name at p is first bound by the nodes from a up to e.
 fn first_binder(text: &[u8], nodes: &[usize], a: usize, e: usize, p: usize) -> usize
-    requires { ⌜ length (now nodes) ≡ 2560 ⌝ }
+    requires { ⌜ length (now nodes) ≡ nodes-room ⌝ }
     ensures { λ r. ⌜ r ≡ first-binder (now (text .entry)) (now (nodes .entry)) a e p ⌝ }
 {
     let mut least = 18446744073709551615;
@@ -115,7 +118,7 @@ fn first_binder(text: &[u8], nodes: &[usize], a: usize, e: usize, p: usize) -> u
 
 // Whether node j uses the rule whose name stands at p, or binds that name.
 fn names_at(nodes: &[usize], p: usize, j: usize) -> bool
-    requires { ⌜ length (now nodes) ≡ 2560 ⌝ }
+    requires { ⌜ length (now nodes) ≡ nodes-room ⌝ }
     ensures { λ r. ⌜ r ≡ names-at (now (nodes .entry)) p j ⌝ }
 {
     either(
@@ -128,7 +131,7 @@ fn names_at(nodes: &[usize], p: usize, j: usize) -> bool
 }
 
 fn node_if(nodes: &[usize], p: usize, j: usize) -> usize
-    requires { ⌜ length (now nodes) ≡ 2560 ⌝ }
+    requires { ⌜ length (now nodes) ≡ nodes-room ⌝ }
     ensures { λ r. ⌜ r ≡ node-if (now (nodes .entry)) p j ⌝ }
 {
     place_if(names_at(nodes, p, j), j)
@@ -136,7 +139,7 @@ fn node_if(nodes: &[usize], p: usize, j: usize) -> usize
 
 // The node whose name stands at p.
 fn node_at(nodes: &[usize], a: usize, e: usize, p: usize) -> usize
-    requires { ⌜ length (now nodes) ≡ 2560 ⌝ }
+    requires { ⌜ length (now nodes) ≡ nodes-room ⌝ }
     ensures { λ r. ⌜ r ≡ node-at (now (nodes .entry)) a e p ⌝ }
 {
     let mut least = 18446744073709551615;
@@ -194,7 +197,7 @@ fn node_fault(
     i: usize,
     p: usize,
 ) -> Fault
-    requires { ⌜ length (now nodes) ≡ 2560 ⌝ }
+    requires { ⌜ length (now nodes) ≡ nodes-room ⌝ }
     ensures { λ r. ⌜ r ≡ node-fault (now (text .entry)) (now (nodes .entry)) base a e i p ⌝ }
 {
     if node_word(nodes, i, KIND) == 5 {
@@ -213,7 +216,7 @@ pub fn name_fault(
     count: usize,
     p: usize,
 ) -> Fault
-    requires { ⌜ (length (now nodes) ≡ 2560) × (length (now rules) ≡ 325) ⌝ }
+    requires { ⌜ (length (now nodes) ≡ nodes-room) × (length (now rules) ≡ rules-room) ⌝ }
     ensures { λ r. ⌜ r ≡ name-fault (now (text .entry)) (now (nodes .entry)) (now (rules .entry)) base constructs count p ⌝ }
 {
     let k = rule_number(rules, count, p);

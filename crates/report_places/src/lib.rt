@@ -1,4 +1,5 @@
 // What a grammar's text has at a construct, a rule or a name: the facts of the report.
+use basis::MAX_TEXT_BYTES;
 use faults::first_rule;
 use faults::from;
 use faults::name_fault;
@@ -7,14 +8,18 @@ use text_header::Heading;
 use text_store::BINDERS_AT_END;
 use text_store::KIND;
 use text_store::LAST_NODE;
+use text_store::NODES_ROOM;
 use text_store::PLACE;
+use text_store::RULES_ROOM;
 use text_store::TERMS_AT_END;
+use text_store::TERMS_ROOM;
 use text_store::words::node_word;
 use text_store::words::rule_word;
 ghost use mathlib.Core.Path.{_≡_};
 ghost use Prim.Native.Nat.{ℕ, _+_, _-_, _≤_};
 ghost use lib.ListN.{length, drop};
-ghost use Rattle.text_store.specs.Words.{node-word, place-of, kind-of};
+ghost use Rattle.basis.specs.Limits.{max-text-bytes, max-rules};
+ghost use Rattle.text_store.specs.Words.{node-word, place-of, kind-of, nodes-room, rules-room};
 ghost use Rattle.admission.specs.Admitted.{form};
 ghost use Rattle.report_places.specs.Faults.{from-base, rule-number, first-rule, name-fault};
 ghost use Rattle.report_places.specs.Located.{totals-of, answered, located-in, located};
@@ -67,7 +72,7 @@ pub enum Located {
 }
 
 fn construct(nodes: &[usize], base: usize, i: usize, count: usize) -> Located
-    requires { ⌜ (length (now nodes) ≡ 2560) × (base ≤ 8192) × ((k : ℕ) → node-word (now nodes) k 2 ≤ 8192) ⌝ }
+    requires { ⌜ (length (now nodes) ≡ nodes-room) × (base ≤ max-text-bytes) × ((k : ℕ) → node-word (now nodes) k 2 ≤ max-text-bytes) ⌝ }
     ensures { λ r. ⌜ r ≡ Located.Construct (base + place-of (now (nodes .entry)) i) (kind-of (now (nodes .entry)) i) count ⌝ }
 {
     let place = node_word(nodes, i, PLACE);
@@ -81,7 +86,7 @@ fn construct(nodes: &[usize], base: usize, i: usize, count: usize) -> Located
 
 // Up to the end of rule k.
 fn totals(rules: &[usize], k: usize) -> Located
-    requires { ⌜ (length (now rules) ≡ 325) × (k ≤ 64) ⌝ }
+    requires { ⌜ (length (now rules) ≡ rules-room) × (k ≤ max-rules) ⌝ }
     ensures { λ r. ⌜ r ≡ totals-of (now (rules .entry)) k ⌝ }
 {
     let constructs = rule_word(rules, k, LAST_NODE);
@@ -96,14 +101,14 @@ fn totals(rules: &[usize], k: usize) -> Located
 }
 
 fn rule(rules: &[usize], count: usize, p: usize) -> Located
-    requires { ⌜ length (now rules) ≡ 325 ⌝ }
+    requires { ⌜ length (now rules) ≡ rules-room ⌝ }
     ensures { λ r. ⌜ r ≡ totals-of (now (rules .entry)) (rule-number (now (rules .entry)) count p) ⌝ }
 {
     totals(rules, rule_number(rules, count, p))
 }
 
 fn definition(text: &[u8], rules: &[usize], base: usize, count: usize, p: usize) -> Located
-    requires { ⌜ length (now rules) ≡ 325 ⌝ }
+    requires { ⌜ length (now rules) ≡ rules-room ⌝ }
     ensures { λ r. ⌜ r ≡ Located.Definition (from-base base (first-rule (now (text .entry)) (now (rules .entry)) count p)) ⌝ }
 {
     Located::Definition(from(base, first_rule(text, rules, count, p)))
@@ -118,7 +123,7 @@ fn name(
     count: usize,
     p: usize,
 ) -> Located
-    requires { ⌜ (length (now nodes) ≡ 2560) × (length (now rules) ≡ 325) ⌝ }
+    requires { ⌜ (length (now nodes) ≡ nodes-room) × (length (now rules) ≡ rules-room) ⌝ }
     ensures { λ r. ⌜ r ≡ Located.Name (name-fault (now (text .entry)) (now (nodes .entry)) (now (rules .entry)) base constructs count p) ⌝ }
 {
     Located::Name(name_fault(text, nodes, rules, base, constructs, count, p))
@@ -142,7 +147,7 @@ fn answer(
     count: usize,
     query: Query,
 ) -> Located
-    requires { ⌜ (length (now nodes) ≡ 2560) × (length (now rules) ≡ 325) × (base ≤ 8192) × ((k : ℕ) → node-word (now nodes) k 2 ≤ 8192) ⌝ }
+    requires { ⌜ (length (now nodes) ≡ nodes-room) × (length (now rules) ≡ rules-room) × (base ≤ max-text-bytes) × ((k : ℕ) → node-word (now nodes) k 2 ≤ max-text-bytes) ⌝ }
     ensures { λ r. ⌜ r ≡ answered (now (text .entry)) (now (nodes .entry)) (now (rules .entry)) base constructs count query ⌝ }
 {
     match query {
@@ -163,12 +168,12 @@ fn answer(
 
 // Of the text that follows the empty line; `base` is its place in the whole text.
 fn locate_rules(text: &[u8], base: usize, query: Query) -> Located
-    requires { ⌜ (length (now text) ≤ 8192) × (base ≤ 8192) ⌝ }
+    requires { ⌜ (length (now text) ≤ max-text-bytes) × (base ≤ max-text-bytes) ⌝ }
     ensures { λ r. ⌜ r ≡ located-in (now (text .entry)) base query (form (now (text .entry))) ⌝ }
 {
-    let mut nodes = [0usize; 2560];
-    let mut terms = [0usize; 4096];
-    let mut rules = [0usize; 325];
+    let mut nodes = [0usize; NODES_ROOM];
+    let mut terms = [0usize; TERMS_ROOM];
+    let mut rules = [0usize; RULES_ROOM];
     let c = text_syntax::rules::read(text, &mut nodes, &mut terms, &mut rules);
     if c.code == 0 {
         return Located::Nothing;
@@ -178,7 +183,7 @@ fn locate_rules(text: &[u8], base: usize, query: Query) -> Located
 
 // The rules begin at `base`.
 fn locate_from(text: &[u8], base: usize, query: Query) -> Located
-    requires { ⌜ (base ≤ length (now text)) × (length (now text) ≤ 8192) ⌝ }
+    requires { ⌜ (base ≤ length (now text)) × (length (now text) ≤ max-text-bytes) ⌝ }
     ensures { λ r. ⌜ r ≡ located-in (drop base (now (text .entry))) base query (form (drop base (now (text .entry)))) ⌝ }
 {
     locate_rules(&text[base..], base, query)
@@ -188,7 +193,7 @@ fn locate_from(text: &[u8], base: usize, query: Query) -> Located
 pub fn locate(text: &[u8], query: Query) -> Located
     ensures { λ r. ⌜ r ≡ located (now (text .entry)) query ⌝ }
 {
-    if 8192 < text.len() {
+    if MAX_TEXT_BYTES < text.len() {
         return Located::Nothing;
     }
     match text_header::header::header(text) {

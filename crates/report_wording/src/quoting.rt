@@ -5,6 +5,7 @@ use crate::walking::nesting;
 use crate::writing::Style;
 use crate::writing::bytes;
 use crate::writing::say;
+use basis::MAX_TEXT_BYTES;
 use text_header::bytes::both;
 use text_header::bytes::either;
 use text_parsing::terminals::look;
@@ -12,6 +13,7 @@ ghost use mathlib.Core.Path.{_≡_};
 ghost use mathlib.Core.Bool.{cond};
 ghost use Prim.Native.Nat.{_-_};
 ghost use lib.Dec.{ltb};
+ghost use Rattle.basis.specs.Limits.{max-text-bytes};
 ghost use Rattle.report_wording.specs.Parts.{is-never, ends-whole, ends-branch, ends-member, is-mark, ends-at, ends as endsOf, part-end};
 
 // What the part is. A whole expression ends before `;` or a closing bracket, a branch also before `|`, a member also before `&`, a
@@ -133,12 +135,12 @@ pub fn quote(grammar: &[u8], at: usize, part: Part) {
 
 // Where a part ends: the place after its last token.
 pub fn end_of(grammar: &[u8], at: usize, part: Part) -> usize
-    ensures { λ r. ⌜ r ≡ part-end 8192 (now (grammar .entry)) part at 0 ⌝ }
+    ensures { λ r. ⌜ r ≡ part-end max-text-bytes (now (grammar .entry)) part at 0 ⌝ }
 {
     let mut here = at;
     let mut depth = 0;
     let mut tokens: usize = 0;
-    while tokens < 8192 {
+    while tokens < MAX_TEXT_BYTES {
         let sight = look(grammar, here);
         let code = sight.code;
         if ends(part, code, depth) {

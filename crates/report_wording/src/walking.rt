@@ -1,9 +1,11 @@
 // What stands before a place of the rules.
 use crate::lines::saturating_next;
 use crate::lines::saturating_sub;
+use basis::MAX_TEXT_BYTES;
 use text_header::bytes::either;
 use text_parsing::terminals::look;
 ghost use mathlib.Core.Path.{_≡_};
+ghost use Rattle.basis.specs.Limits.{max-text-bytes};
 ghost use Rattle.report_wording.specs.Nesting.{is-opening, is-closing, nested};
 ghost use Rattle.report_wording.specs.Walking.{started, stepped as steppedOf, before-from};
 
@@ -66,12 +68,12 @@ fn stepped(seen: Context, code: usize) -> Context
 
 // What stands before the place `at`, with the rules from `base` on.
 pub fn before(grammar: &[u8], base: usize, at: usize) -> Context
-    ensures { λ r. ⌜ r ≡ before-from 8192 (now (grammar .entry)) at base started ⌝ }
+    ensures { λ r. ⌜ r ≡ before-from max-text-bytes (now (grammar .entry)) at base started ⌝ }
 {
     let mut here = base;
     let mut seen = start();
     let mut tokens: usize = 0;
-    while tokens < 8192 {
+    while tokens < MAX_TEXT_BYTES {
         let sight = look(grammar, here);
         if at <= sight.start {
             return seen;

@@ -1,11 +1,12 @@
-use Prim.Native.Nat.{_≤_}
+use Prim.Native.Nat.{_≤_, _+_}
 use native.Mathlib.Omega.{arith}
 use borrow.Author.Needs.{needs}
+use Rattle.bench_hexadecimal.specs.Lines.{max-line}
 use Rattle.bench.proofs.lines.Statement.{statement}
 use Rattle.bench.proofs.lines.Tie as tie
 
 abbrev Inv-loop : tie.InvT-loop
-Inv-loop table weight line₀ held₀ turns₀ line held turns = held ≤ 514
+Inv-loop table weight line₀ held₀ turns₀ line held turns = held ≤ max-line + 2
 
 abbrev μ-loop : tie.MeasureT-loop
 μ-loop table weight line₀ held₀ turns₀ line held turns = turns

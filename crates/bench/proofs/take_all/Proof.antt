@@ -1,12 +1,13 @@
-use Prim.Native.Nat.{_-_, _≤_}
+use Prim.Native.Nat.{_-_, _≤_, _+_}
 use native.Mathlib.Omega.{arith}
 use borrow.Author.Needs.{needs}
 use lib.ListN.{length}
+use Rattle.bench_hexadecimal.specs.Lines.{max-line}
 use Rattle.bench.proofs.take_all.Statement.{statement}
 use Rattle.bench.proofs.take_all.Tie as tie
 
 abbrev Inv-loop : tie.InvT-loop
-Inv-loop table weight line₀ before piece held₀ i₀ line held i = held ≤ 514
+Inv-loop table weight line₀ before piece held₀ i₀ line held i = held ≤ max-line + 2
 
 abbrev μ-loop : tie.MeasureT-loop
 μ-loop table weight line₀ before piece held₀ i₀ line held i = length piece - i

@@ -1,14 +1,15 @@
 use Prim.Native.Nat.{_≤_, _-_}
 use native.Mathlib.Omega.{arith}
 use borrow.Author.Needs.{needs}
+use Rattle.basis.specs.Limits.{table-words}
 use Rattle.case_judge.proofs.clear.Statement.{statement}
 use Rattle.case_judge.proofs.clear.Tie as tie
 
 abbrev Inv-loop : tie.InvT-loop
-Inv-loop table₀ k₀ table k = k ≤ 16384
+Inv-loop table₀ k₀ table k = k ≤ table-words
 
 abbrev μ-loop : tie.MeasureT-loop
-μ-loop table₀ k₀ table k = 16384 - k
+μ-loop table₀ k₀ table k = table-words - k
 
 loop-holds : tie.Need-loop-holds Inv-loop μ-loop
 loop-holds c = omega arith

@@ -1,5 +1,6 @@
 use Prim.Native.Nat.{_-_}
 use native.Mathlib.Omega.{arith}
+use Rattle.basis.specs.Limits.{max-literal-bytes}
 use Rattle.text_literals.proofs.Spelling.{zeros}
 use borrow.Author.Needs.{needs}
 use Rattle.case_text.proofs.literal.Statement.{statement}
@@ -9,7 +10,7 @@ abbrev Inv-loop : tie.InvT-loop
 Inv-loop rules at bytes n k₀ k = Unit
 
 abbrev μ-loop : tie.MeasureT-loop
-μ-loop rules at bytes n k₀ k = 32 - k
+μ-loop rules at bytes n k₀ k = max-literal-bytes - k
 
 slice-aggregate-text : tie.Need-slice-aggregate-text Inv-loop μ-loop
 slice-aggregate-text c = search needs
@@ -21,7 +22,7 @@ slice-aggregate-spell : tie.Need-slice-aggregate-spell Inv-loop μ-loop
 slice-aggregate-spell c = search needs
 
 spell-requires : tie.Need-spell-requires Inv-loop μ-loop
-spell-requires c κs = (search needs, search needs, zeros 32)
+spell-requires c κs = (search needs, search needs, zeros max-literal-bytes)
 
 count-at-requires : tie.Need-count-at-requires Inv-loop μ-loop
 count-at-requires c κs = search needs

@@ -1,4 +1,5 @@
 use Prim.Native.Nat.{_-_}
+use Rattle.basis.specs.Limits.{max-text-bytes}
 use Rattle.report_wording.specs.Parts.{part-end}
 use Rattle.report_wording.proofs.PartLaws.{Passing, passing-start, passing-here, passing-on, passing-end}
 use borrow.Author.Needs.{needs}
@@ -7,10 +8,10 @@ use Rattle.report_wording.proofs.quoting.end_of.Statement.{statement}
 use Rattle.report_wording.proofs.quoting.end_of.Tie as tie
 
 abbrev Inv-loop : tie.InvT-loop
-Inv-loop grammar at part here₀ depth₀ tokens₀ here depth tokens = Passing grammar part (part-end 8192 grammar part at 0) here depth tokens
+Inv-loop grammar at part here₀ depth₀ tokens₀ here depth tokens = Passing grammar part (part-end max-text-bytes grammar part at 0) here depth tokens
 
 abbrev μ-loop : tie.MeasureT-loop
-μ-loop grammar at part here₀ depth₀ tokens₀ here depth tokens = 8192 - tokens
+μ-loop grammar at part here₀ depth₀ tokens₀ here depth tokens = max-text-bytes - tokens
 
 loop-holds : tie.Need-loop-holds Inv-loop μ-loop
 loop-holds c = passing-start

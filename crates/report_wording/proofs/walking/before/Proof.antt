@@ -1,4 +1,5 @@
 use Prim.Native.Nat.{_-_}
+use Rattle.basis.specs.Limits.{max-text-bytes}
 use Rattle.report_wording.specs.Walking.{started, before-from}
 use Rattle.report_wording.proofs.WalkLaws.{Going, going-start, going-here, going-on, going-end}
 use borrow.Author.Needs.{needs}
@@ -7,10 +8,10 @@ use Rattle.report_wording.proofs.walking.before.Statement.{statement}
 use Rattle.report_wording.proofs.walking.before.Tie as tie
 
 abbrev Inv-loop : tie.InvT-loop
-Inv-loop grammar base at here₀ seen₀ tokens₀ here seen tokens = Going grammar at (before-from 8192 grammar at base started) here seen tokens
+Inv-loop grammar base at here₀ seen₀ tokens₀ here seen tokens = Going grammar at (before-from max-text-bytes grammar at base started) here seen tokens
 
 abbrev μ-loop : tie.MeasureT-loop
-μ-loop grammar base at here₀ seen₀ tokens₀ here seen tokens = 8192 - tokens
+μ-loop grammar base at here₀ seen₀ tokens₀ here seen tokens = max-text-bytes - tokens
 
 start-requires : tie.Need-start-requires Inv-loop μ-loop
 start-requires c κs = search needs
