@@ -1,10 +1,9 @@
 -- `table_weights::weigh_at` meets its contract, by what stands below a construct. Assumes nothing.
 use Prim.Native.Nat.{ℕ, _+_}
-use mathlib.Core.Path.{_≡_, refl, ap, _∙_}
+use mathlib.Core.Path.{refl, ap, _∙_}
 use native.Mathlib.Omega.{arith}
 use mathlib.Core.Bool.{true, false}
 use Rattle.table_layout.specs.Attributes.{attributes-of}
-use Rattle.table_layout.specs.declared.Attributes.{Attributes}
 use Rattle.table_layout.specs.declared.Below.{Below}
 use Rattle.table_layout.proofs.Views.{size-read, rule-read}
 use Rattle.table_weights.specs.Sweeps.{capped}

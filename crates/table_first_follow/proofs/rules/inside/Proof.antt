@@ -1,5 +1,4 @@
 -- `table_first_follow::rules::inside` meets its contract. A law for each way that constructs stand below one. Assumes nothing.
-use Prim.Native.Nat.{_<_}
 use mathlib.Core.Path.{ap, _∙_}
 use native.Mathlib.Omega.{arith}
 use borrow.Author.Needs.{needs}
