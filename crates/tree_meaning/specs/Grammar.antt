@@ -14,10 +14,10 @@ use Rattle.text_tokens.specs.Names.{is-same}
 use Rattle.tree.specs.Lexemes.{Name, Number}
 use Rattle.tree.specs.Tree.{ValueSet, Counts, exactly, at-least, at-most, span, Mark, optional, any-number, one-or-more, counted, expression, concatenation, cases, Part, Tree, literal, range, field, binder, rule-use, eod, group, switch, last-case, case-default, case-cases, once, repeated, last-member, and-members, last-branch, or-branches, Rule, Rules}
 use Rattle.tree.specs.Spelling.{spell, spell-mark}
+use Rattle.tree_meaning.specs.Places.{first-byte}
 use Rattle.tree_meaning.specs.Values.{Environment, in-set, passes-in, is-true}
 use Rattle.tree_meaning.specs.Pieces.{Component, set-parts, counts-parts, terms-of, uses-in, rules-of, rule-name, rule-body, variables-of}
 use Rattle.tree_meaning.specs.Counted.{constructs, rule-constructs}
-use Rattle.tree_meaning.specs.Sizes.{first-byte}
 
 -- what a pending entry carries: nothing
 abbrev pub Context : Type 0
