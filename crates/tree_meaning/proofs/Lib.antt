@@ -22,3 +22,4 @@ pub mod PlaceOrder
 pub mod Every
 pub mod Keeping
 pub mod Fields
+pub mod Agreeing
