@@ -28,6 +28,15 @@ module _ {Context Values : Type 0} (P : Values → Type 0) where
         → SameNode (field w admits static binds) (field w admits′ static binds)
     same-eod : SameNode eod eod
 
+  pub same-back : {n n′ : Node Context Values} → SameNode n n′ → SameNode n′ n
+  same-back same-alternative = same-alternative
+  same-back same-concatenation = same-concatenation
+  same-back (same-repetition e) = same-repetition (λ c v p. sym (e c v p))
+  same-back (same-switch e) = same-switch (λ c v p. sym (e c v p))
+  same-back (same-use o k) = same-use o k
+  same-back (same-field e k) = same-field (λ c v bits p. sym (e c v bits p)) k
+  same-back same-eod = same-eod
+
   pub data SameShape : Shape Context Values → Shape Context Values → Type 0 where
     same-construct : {i : ℕ} {n n′ : Node Context Values} → SameNode n n′ → SameShape (construct i n) (construct i n′)
     same-members : {is : List ℕ} → SameShape (members is) (members is)

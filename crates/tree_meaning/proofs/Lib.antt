@@ -23,3 +23,5 @@ pub mod Every
 pub mod Keeping
 pub mod Fields
 pub mod Agreeing
+pub mod AgreeingSets
+pub mod Meeting
