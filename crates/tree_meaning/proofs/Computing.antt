@@ -19,7 +19,7 @@ use Rattle.tree.specs.Tree.{Rule, Rules}
 use Rattle.tree.specs.Spelling.{spell-primary, spell-operand, spell-factors, spell-product, spell-summands, spell-calculation, spell-item, spell-set, spell-counts, spell-tests, spell-mark, spell, spell-rules, spelled}
 use Rattle.tree_meaning.specs.Values.{times-value, sum-value, in-set, is-true}
 use Rattle.tree_meaning.specs.Pieces.{factor-terms, summand-terms, set-parts, tests-parts, terms-of, uses-in, pieces, bound-in, rules-of}
-use Rattle.tree_meaning.specs.Least.{least}
+use Rattle.tree_meaning.specs.Places.{least}
 use Rattle.tree_meaning.specs.Counted.{constructs, terms, Totals, no-rule, with-rule, limit-faults, refusal-5}
 use Rattle.tree_meaning.specs.Names.{is-among, variable-faults, faults-after, name-faults, refusal-6}
 use Rattle.tree_meaning.specs.Sizes.{times-size, sum-size, times-largest, sum-largest, number-faults, widest-in, calculation-faults, faults-in, size-faults, refusal-8}

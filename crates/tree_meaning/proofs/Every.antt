@@ -44,13 +44,13 @@ module _ (R : TreeNode → Type 0) where
 pub record Follows (body variable : List ℕ → ℕ) (R : TreeNode → Type 0) (S : Piece → Type 0) : Type 0 where
   pub literals : (bytes : List ℕ) → R (literal-node bytes)
   pub ranges : (low high : ℕ) → R (range-node low high)
-  pub fields : (d : ℕ) (n : Number) (x : ValueSet d) → S (width n) → S (formula (set-parts x)) → R (uint-node body variable n x (λ v k. v))
+  pub fields : (d : ℕ) (n : Number) (x : ValueSet d) → S (width n) → S (formula (set-parts x)) → R (uint-node variable n x (λ v k. v))
   pub binders : (d : ℕ) (n : Number) (x : Name) (y : ValueSet d) (placed : Bool) → S (width n) → S (formula (set-parts y)) → S (binding x n placed)
-      → R (uint-node body variable n y (λ v k. set v (variable (x .letters)) (pos k)))
+      → R (uint-node variable n y (λ v k. set v (variable (x .letters)) (pos k)))
   pub rule-uses : (x : Name) → S (use-of-rule x) → R (use-node (body (x .letters)))
   pub ends : R frame-end
   pub switches : (which : Context → Values → Option ℕ) (is : List ℕ) → R (choice-by which is)
-  pub repetitions : (m : Mark) (i : ℕ) → AllPieces S (mark-pieces m) → R (repetition-node body variable m i)
+  pub repetitions : (m : Mark) (i : ℕ) → AllPieces S (mark-pieces m) → R (repetition-node variable m i)
   pub concatenations : (is : List ℕ) → R (sequence is)
   pub alternatives : (is : List ℕ) → R (alternative is)
 

@@ -18,7 +18,7 @@ use Rattle.tree_meaning.specs.Values.{Environment, calculation-value}
 use Rattle.tree_meaning.specs.Pieces.{Term, a-number, a-use, a-sign, calculation-terms, Component, whole-number, joined-by, terms-of, uses-in, Piece, use-of-rule, width, formula, binding, bound-in, rules-of, rule-name, rule-pieces, variables-of}
 use Rattle.tree_meaning.specs.Names.{is-among, rule-names, refusal-6}
 use Rattle.tree_meaning.specs.Sizes.{widest-in, refusal-8}
-use Rattle.tree_meaning.specs.Grammar.{Values, variable-of}
+use Rattle.tree_meaning.specs.Grammar.{Values, values-at, variable-of}
 use Rattle.tree_meaning.proofs.Bounds.{Within, within-first, within-second, calculation-fits}
 use Rattle.tree_meaning.proofs.Passing.{CalculationsFit, PiecesFit, RulesFit, UsesRight, NamesRight, RulesNamed, fits, named}
 use Rattle.tree_meaning.proofs.Numbers.{among-later}
@@ -98,10 +98,10 @@ module _ (env : Environment) (widest : List ℕ → ℕ) where
 
 -- a rule, the first of whose variables has number b: no calculation of it passes 2^62 at values within the variables' widths
 pub rule-valued : (rules : List Name) (b : ℕ) (v : Values) (r : Rule) → NamesRight rules (variables-of r) [] (rule-pieces r) → PiecesFit (widest-in (rule-pieces r)) (rule-pieces r)
-    → Held (variable-of b (variables-of r)) v (rule-pieces r) → AllValued (λ x. getD v (variable-of b (variables-of r) x) (pos 0)) (rule-pieces r)
+    → Held (variable-of b (variables-of r)) v (rule-pieces r) → AllValued (values-at (variable-of b (variables-of r)) v) (rule-pieces r)
 unfolding is-among
 rule-valued rules b v r h k i =
-    pieces-valued (λ x. getD v (variable-of b (variables-of r) x) (pos 0)) (widest-in (rule-pieces r)) rules (variables-of r) [] (rule-pieces r)
+    pieces-valued (values-at (variable-of b (variables-of r)) v) (widest-in (rule-pieces r)) rules (variables-of r) [] (rule-pieces r)
     (λ x e. let z : _≡_ {A = ℕ} 0 1 = cc in absurd (omega arith))
     (λ x e. known-within (variable-of b (variables-of r)) v (rule-pieces r) x i e) h k
 
@@ -112,7 +112,7 @@ RulesHeld b v (r ∷ more) = Held (variable-of b (variables-of r)) v (rule-piece
 
 unfoldable pub RulesValued : (b : ℕ) → Values → List Rule → Type 0
 RulesValued b v [] = Unit {0}
-RulesValued b v (r ∷ more) = AllValued (λ x. getD v (variable-of b (variables-of r) x) (pos 0)) (rule-pieces r) × RulesValued (b + length (variables-of r)) v more
+RulesValued b v (r ∷ more) = AllValued (values-at (variable-of b (variables-of r)) v) (rule-pieces r) × RulesValued (b + length (variables-of r)) v more
 
 rules-valued : (rules earlier : List Name) (b : ℕ) (v : Values) (rs : List Rule) → RulesNamed rules earlier rs → RulesFit rs → RulesHeld b v rs → RulesValued b v rs
 unfolding RulesNamed RulesFit RulesHeld RulesValued

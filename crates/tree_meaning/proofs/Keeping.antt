@@ -106,7 +106,7 @@ module _ (P : Values → Type 0) where
     own-bindings rules earlier Q b r more split join stable right own ps (o .2),
   )
 
-  all-bindings : (rules earlier : List Name) (Q : Values → Type 0) (b : ℕ) (rs : List Rule) → ((v : Values) → P v → Q v × RulesHeld b v rs) → ((v : Values) → Q v → RulesHeld b v rs → P v)
+  pub all-bindings : (rules earlier : List Name) (Q : Values → Type 0) (b : ℕ) (rs : List Rule) → ((v : Values) → P v → Q v × RulesHeld b v rs) → ((v : Values) → Q v → RulesHeld b v rs → P v)
       → ((v : Values) (k : ℕ) (a : ℤ) → b ≤ k → Q v → Q (set v k a)) → RulesNamed rules earlier rs → AllRules (λ b r. BindingKeeps P (variable-of b (variables-of r))) b rs
   unfolding AllRules RulesNamed RulesHeld
   all-bindings rules earlier Q b [] split join stable h = tt

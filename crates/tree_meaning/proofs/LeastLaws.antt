@@ -10,7 +10,7 @@ use native.Mathlib.Omega.{arith}
 use borrow.Author.Tests.{leb-true, leb-false}
 use lib.Dec.{leb}
 use Rattle.text_header.proofs.Tests.{which}
-use Rattle.tree_meaning.specs.Least.{place-if, lesser, least}
+use Rattle.tree_meaning.specs.Places.{place-if, lesser, least}
 
 -- ---- no fault
 

@@ -22,3 +22,6 @@ pub mod PlaceOrder
 pub mod Every
 pub mod Keeping
 pub mod Fields
+pub mod Agreeing
+pub mod AgreeingSets
+pub mod Meeting

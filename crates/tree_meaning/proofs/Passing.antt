@@ -14,10 +14,10 @@ use Rattle.tree.specs.Lexemes.{Name}
 use Rattle.tree.specs.Tree.{Rule, Rules}
 use Rattle.tree.specs.Spelling.{spell-calculation}
 use Rattle.tree_meaning.specs.Pieces.{Term, a-number, a-use, a-sign, Component, whole-number, joined-by, terms-of, uses-in, Piece, use-of-rule, width, formula, binding, rules-of, rule-name, rule-pieces, variables-of}
-use Rattle.tree_meaning.specs.Least.{place-if}
+use Rattle.tree_meaning.specs.Places.{place-if, first-byte}
 use Rattle.tree_meaning.specs.Counted.{Totals, no-rule, with-rule, is-past, limit-faults, refusal-5, terms}
 use Rattle.tree_meaning.specs.Names.{is-reserved, is-among, rule-fault, use-fault, binder-fault, variable-fault, variable-faults, faults-after, name-faults, rule-names, refusal-6}
-use Rattle.tree_meaning.specs.Sizes.{wrong-width, wrong-number, number-faults, first-byte, widest-in, too-large, calculation-faults, faults-in, size-faults, refusal-8}
+use Rattle.tree_meaning.specs.Sizes.{wrong-width, wrong-number, number-faults, widest-in, too-large, calculation-faults, faults-in, size-faults, refusal-8}
 use Rattle.tree_meaning.proofs.LeastLaws.{no-place, no-first, no-second, no-least}
 use Rattle.tree_meaning.proofs.Lengths.{all-constructs}
 

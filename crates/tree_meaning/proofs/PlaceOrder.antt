@@ -10,9 +10,9 @@ use Rattle.text_tokens.specs.declared.Kind.{Kind}
 use Rattle.tree.specs.Lexemes.{Lexeme, sign, finish, place-of, lexemes}
 use Rattle.tree.specs.Tree.{Primary, number, variable, Operand, plain, opposite, Factors, no-factor, times, Product, product, Summands, no-summand, plus, minus, Calculation, sum, Item, everything, only, between, from, up-to, SetPart, Choices, item, item-but-item, item-but-set, last-choice, or-choices, Counts, exactly, at-least, at-most, span, TestPart, Tests, compare, test-group, one-test, all-of, any-of, last-conjunct, and-conjuncts, last-disjunct, or-disjuncts, Mark, optional, any-number, one-or-more, counted, concatenation, factor, atom, Part, Tree, literal, range, field, binder, rule-use, eod, group, switch, last-case, case-default, case-cases, once, repeated, last-member, and-members, last-branch, or-branches, Rule, rule, Rules, last-rule, and-rules}
 use Rattle.tree.specs.Spelling.{spell-primary, spell-operand, spell-factors, spell-product, spell-summands, spell-calculation, spell-item, spell-set, spell-counts, comparison-sign, spell-tests, spell-mark, spell, spell-rules, spelled}
+use Rattle.tree_meaning.specs.Places.{first-byte}
 use Rattle.tree_meaning.specs.Pieces.{rules-of, variables-of}
 use Rattle.tree_meaning.specs.Counted.{constructs, rule-constructs}
-use Rattle.tree_meaning.specs.Sizes.{first-byte}
 use Rattle.tree_meaning.specs.Grammar.{Construct, constructs-of, body-of, variable-of, rules-constructs, tree-constructs}
 use Rattle.tree_meaning.proofs.TokenOrder.{Ascending, next, text-ascends}
 

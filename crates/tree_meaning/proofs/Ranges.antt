@@ -76,14 +76,14 @@ in-order-append i end (x ∷ xs) ys p q = (p .0, in-order-append (suc i) end xs 
 
 module _ (body variable : List ℕ → ℕ) where
   -- a case that is chosen is one of the cases
-  pub chosen-there : {d : ℕ} (i : ℕ) (x : Tree cases d) (v : Values) (b : ℕ) → chosen body variable i x v ≡ some b → List·Memᴰ b (case-bodies i x)
+  pub chosen-there : {d : ℕ} (i : ℕ) (x : Tree cases d) (v : Values) (b : ℕ) → chosen variable i x v ≡ some b → List·Memᴰ b (case-bodies i x)
   unfolding chosen case-bodies
   chosen-there i (last-case c colon x end) v b e =
-      picked (λ (o : Option ℕ). o ≡ some b → List·Memᴰ b (i ∷ [])) (is-true (values-at body variable v) c) (λ t f. List·Memᴰ·head (sym (Option·some-injective i b f))) (λ t f. absurd (Option·none-ne-some b f)) e
+      picked (λ (o : Option ℕ). o ≡ some b → List·Memᴰ b (i ∷ [])) (is-true (values-at variable v) c) (λ t f. List·Memᴰ·head (sym (Option·some-injective i b f))) (λ t f. absurd (Option·none-ne-some b f)) e
   chosen-there i (case-default c colon x end colon′ y end′) v b e =
-      picked (λ (o : Option ℕ). o ≡ some b → List·Memᴰ b (i ∷ (i + constructs false x) ∷ [])) (is-true (values-at body variable v) c) (λ t f. List·Memᴰ·head (sym (Option·some-injective i b f))) (λ t f. List·Memᴰ·tail (List·Memᴰ·head (sym (Option·some-injective (i + constructs false x) b f)))) e
+      picked (λ (o : Option ℕ). o ≡ some b → List·Memᴰ b (i ∷ (i + constructs false x) ∷ [])) (is-true (values-at variable v) c) (λ t f. List·Memᴰ·head (sym (Option·some-injective i b f))) (λ t f. List·Memᴰ·tail (List·Memᴰ·head (sym (Option·some-injective (i + constructs false x) b f)))) e
   chosen-there i (case-cases c colon x end more) v b e =
-      picked (λ (o : Option ℕ). o ≡ some b → List·Memᴰ b (i ∷ case-bodies (i + constructs false x) more)) (is-true (values-at body variable v) c) (λ t f. List·Memᴰ·head (sym (Option·some-injective i b f))) (λ t f. List·Memᴰ·tail (chosen-there (i + constructs false x) more v b f)) e
+      picked (λ (o : Option ℕ). o ≡ some b → List·Memᴰ b (i ∷ case-bodies (i + constructs false x) more)) (is-true (values-at variable v) c) (λ t f. List·Memᴰ·head (sym (Option·some-injective i b f))) (λ t f. List·Memᴰ·tail (chosen-there (i + constructs false x) more v b f)) e
 
   -- two trees, one after the other
   both-in-order : {p q : Part} {d e : ℕ} (a b : Bool) (i j end : ℕ) (x : Tree p d) (y : Tree q e) → InOrder i end (constructs-of body variable a i x)

@@ -9,7 +9,7 @@ use lib.Dec.{ltb}
 use lib.ListN.{length}
 use Rattle.tree.specs.Tree.{Part, Tree, literal, range, field, binder, rule-use, eod, group, switch, last-case, case-default, case-cases, once, repeated, last-member, and-members, last-branch, or-branches, Rule, Rules}
 use Rattle.tree_meaning.specs.Pieces.{terms-of, Piece, use-of-rule, width, formula, binding, rules-of, rule-name, rule-body, rule-pieces, variables-of}
-use Rattle.tree_meaning.specs.Least.{place-if, least}
+use Rattle.tree_meaning.specs.Places.{place-if, least}
 
 -- "Constructs are alternatives and concatenations (each one for a whole chain), repetitions, switches, rule uses, literals, ranges, uint, eod." A chain has two
 -- or more parts; `begun` says that its construct is counted already. Parentheses are none.

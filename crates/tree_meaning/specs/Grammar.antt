@@ -14,10 +14,10 @@ use Rattle.text_tokens.specs.Names.{is-same}
 use Rattle.tree.specs.Lexemes.{Name, Number}
 use Rattle.tree.specs.Tree.{ValueSet, Counts, exactly, at-least, at-most, span, Mark, optional, any-number, one-or-more, counted, expression, concatenation, cases, Part, Tree, literal, range, field, binder, rule-use, eod, group, switch, last-case, case-default, case-cases, once, repeated, last-member, and-members, last-branch, or-branches, Rule, Rules}
 use Rattle.tree.specs.Spelling.{spell, spell-mark}
+use Rattle.tree_meaning.specs.Places.{first-byte}
 use Rattle.tree_meaning.specs.Values.{Environment, in-set, passes-in, is-true}
 use Rattle.tree_meaning.specs.Pieces.{Component, set-parts, counts-parts, terms-of, uses-in, rules-of, rule-name, rule-body, variables-of}
 use Rattle.tree_meaning.specs.Counted.{constructs, rule-constructs}
-use Rattle.tree_meaning.specs.Sizes.{first-byte}
 
 -- what a pending entry carries: nothing
 abbrev pub Context : Type 0
@@ -54,7 +54,7 @@ abbrev pub range-node : ℕ → ℕ → TreeNode
 range-node low high =
     bits-of (λ bits. 8) (λ c v bits. leb low (number-of bits) && leb (number-of bits) high) (λ bits. leb low (number-of bits) && leb (number-of bits) high) (λ c v bits. v)
 
--- a use of the rule whose body is this construct: "Values stay as last bound"
+-- a use of the rule whose body is this construct: "Values stay as last bound". That variables are local to a rule is said by `localised` (`theory` `Scope`).
 abbrev pub use-node : ℕ → TreeNode
 use-node body = use-of (λ c. some c) (λ c v. v) (λ v v′. v′) body
 
@@ -88,8 +88,8 @@ case-bodies i (last-case c colon x end) = i ∷ []
 case-bodies i (case-default c colon x end colon′ y end′) = i ∷ (i + constructs false x) ∷ []
 case-bodies i (case-cases c colon x end more) = i ∷ case-bodies (i + constructs false x) more
 
--- `body`: the number of a rule's body, `variable`: a variable's number, each by its letters
-module _ (body variable : List ℕ → ℕ) where
+-- `variable`: a variable's number, by its letters
+module _ (variable : List ℕ → ℕ) where
   abbrev pub values-at : Values → Environment
   values-at v x = getD v (variable x) (pos 0)
 
@@ -132,25 +132,25 @@ module _ (body variable : List ℕ → ℕ) where
   chosen i (case-default c colon x end colon′ y end′) v = cond (is-true (values-at v) c) (some i) (some (i + constructs false x))
   chosen i (case-cases c colon x end more) v = cond (is-true (values-at v) c) (some i) (chosen (i + constructs false x) more v)
 
-  -- ---- all constructs of a tree, the first of which is number i; `begun` as in `constructs`
-
+-- all constructs of a tree, the first of which is number i; `begun` as in `constructs`, `body`: the number of a rule's body, by its letters
+module _ (body variable : List ℕ → ℕ) where
   unfoldable pub constructs-of : {p : Part} {d : ℕ} → (begun : Bool) → (i : ℕ) → Tree p d → List Construct
   constructs-of begun i (literal l) = plain-at (l .start) (literal-node (l .characters)) ∷ []
   constructs-of begun i (range a s b one one′) = plain-at (a .start) (range-node (getD (a .characters) 0 0) (getD (b .characters) 0 0)) ∷ []
-  constructs-of begun i (field depth u opens n comma x closes) = plain-at (u .start) (uint-node n x (λ v k. v)) ∷ []
+  constructs-of begun i (field depth u opens n comma x closes) = plain-at (u .start) (uint-node variable n x (λ v k. v)) ∷ []
   constructs-of begun i (binder depth u opens n comma v opens′ x comma′ y closes closes′) =
-      plain-at (u .start) (uint-node n y (λ v k. set v (variable (x .letters)) (pos k))) ∷ []
+      plain-at (u .start) (uint-node variable n y (λ v k. set v (variable (x .letters)) (pos k))) ∷ []
   constructs-of begun i (rule-use x other) = plain-at (x .start) (use-node (body (x .letters))) ∷ []
   constructs-of begun i (eod s) = plain-at (s .start) frame-end ∷ []
   constructs-of begun i (group depth opens x closes) = constructs-of false i x
   constructs-of begun i (switch depth opens x closes) =
-      plain-at (opens .start) (choice-by (λ c v. chosen (suc i) x v) (case-bodies (suc i) x)) ∷ constructs-of false (suc i) x
+      plain-at (opens .start) (choice-by (λ c v. chosen variable (suc i) x v) (case-bodies (suc i) x)) ∷ constructs-of false (suc i) x
   constructs-of begun i (last-case c colon x end) = constructs-of false i x
   constructs-of begun i (case-default c colon x end colon′ y end′) = constructs-of false i x ++ constructs-of false (i + constructs false x) y
   constructs-of begun i (case-cases c colon x end more) = constructs-of false i x ++ constructs-of false (i + constructs false x) more
   constructs-of begun i (once x) = constructs-of false i x
   constructs-of begun i (repeated x m) =
-      record { place = first-byte (spell x []); mark = first-byte (spell-mark m []); node = repetition-node m (suc i) } ∷ constructs-of false (suc i) x
+      record { place = first-byte (spell x []); mark = first-byte (spell-mark m []); node = repetition-node variable m (suc i) } ∷ constructs-of false (suc i) x
   constructs-of begun i (last-member x) = constructs-of false i x
   constructs-of false i (and-members x s more) =
       plain-at (first-byte (spell x [])) (sequence (members (suc i) (and-members x s more))) ∷ (constructs-of false (suc i) x ++ constructs-of true (suc i + constructs false x) more)

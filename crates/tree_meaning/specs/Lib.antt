@@ -1,6 +1,6 @@
 pub mod Values
 pub mod Pieces
-pub mod Least
+pub mod Places
 pub mod Counted
 pub mod Names
 pub mod Reaching

@@ -9,7 +9,7 @@ use Rattle.text_tokens.specs.Names.{reserved-of, is-same}
 use Rattle.tree.specs.Lexemes.{Name}
 use Rattle.tree.specs.Tree.{Rule, Rules}
 use Rattle.tree_meaning.specs.Pieces.{terms-of, uses-in, Piece, use-of-rule, width, formula, binding, rules-of, rule-name, rule-pieces, variables-of}
-use Rattle.tree_meaning.specs.Least.{place-if, least}
+use Rattle.tree_meaning.specs.Places.{place-if, least}
 
 -- "Reserved: …"
 abbrev pub is-reserved : Name → Bool

@@ -7,11 +7,11 @@ use mathlib.Core.List.{List, [], _∷_, _++_}
 use mathlib.Core.Option.{Option}
 use lib.Dec.{leb, ltb}
 use Rattle.text_tokens.specs.Names.{is-same}
-use Rattle.tree.specs.Lexemes.{Number, Lexeme, place-of}
+use Rattle.tree.specs.Lexemes.{Number}
 use Rattle.tree.specs.Tree.{Primary, number, variable, Operand, plain, opposite, Factors, no-factor, times, Product, product, Summands, no-summand, plus, minus, Calculation, sum, Rule, Rules}
 use Rattle.tree.specs.Spelling.{spell-calculation}
 use Rattle.tree_meaning.specs.Pieces.{Term, a-number, a-use, a-sign, Component, whole-number, joined-by, terms-of, Piece, use-of-rule, width, formula, binding, rules-of, rule-pieces}
-use Rattle.tree_meaning.specs.Least.{place-if, least}
+use Rattle.tree_meaning.specs.Places.{first-byte, place-if, least}
 
 -- ---- sizes, with the size of each variable by its letters; a minus changes none
 
@@ -74,11 +74,6 @@ number-faults [] = []
 number-faults (a-number n ∷ more) = place-if (wrong-number n) (n .start) ++ number-faults more
 number-faults (a-use x ∷ more) = number-faults more
 number-faults (a-sign s ∷ more) = number-faults more
-
--- where tokens begin
-abbrev pub first-byte : List Lexeme → ℕ
-first-byte [] = 0
-first-byte (x ∷ more) = place-of x
 
 -- "variables at their widest": 2^width - 1, of the variable's binder
 unfoldable pub widest-in : List Piece → List ℕ → ℕ
