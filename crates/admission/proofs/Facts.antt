@@ -10,7 +10,7 @@ use lib.ListN.{length, length-replicate}
 use Rattle.basis.specs.Limits.{max-text-bytes, max-rules, max-constructs, max-variables, max-terms}
 use Rattle.text_store.proofs.Numbers.{at-place, at-second-place, at-term, at-origin, at-name}
 use Rattle.text_store.proofs.StoreLaws.{node-none, term-none, rule-none}
-use Rattle.text_parsing.specs.Terminals.{sights-from}
+use Rattle.text_parsing.specs.Terminals.{terminals-from}
 use Rattle.text_store.specs.Store.{State, state, node-words, term-words, rule-words, nodes-of, terms-of, binders-of, rules-of, blank}
 use Rattle.text_parsing.specs.Symbols.{rules}
 use Rattle.text_parsing.specs.Form.{right, run}
@@ -45,13 +45,13 @@ pub record Facts (xs : List ℕ) (st : State) : Type 0 where
   pub basics : Basics xs st
   pub total : condition-start (node-words st) (nodes-of st) ≤ max-terms
 
-ran : (xs : List ℕ) (st : State) → Right xs st → run (sights-from xs 0) blank (rules false ∷ []) ≡ right st
+ran : (xs : List ℕ) (st : State) → Right xs st → run (terminals-from xs 0) blank (rules false ∷ []) ≡ right st
 unfolding form-of
 ran xs st p = p .formed
 
 pub basics : (xs : List ℕ) (st : State) → Right xs st → Basics xs st
 basics xs (state ns ts rs n t b r) p =
-    let e : run (sights-from xs 0) blank (rules false ∷ []) ≡ right (state ns ts rs n t b r) = ran xs (state ns ts rs n t b r) p
+    let e : run (terminals-from xs 0) blank (rules false ∷ []) ≡ right (state ns ts rs n t b r) = ran xs (state ns ts rs n t b r) p
     in let g : Grows blank (state ns ts rs n t b r) = phrases-grow (derived xs blank (state ns ts rs n t b r) e)
     in record {
       node-length = g .node-length ∙ length-replicate {A = ℕ} nodes-room 0;
@@ -62,7 +62,7 @@ basics xs (state ns ts rs n t b r) p =
 
 pub facts : (xs : List ℕ) (st : State) → Limited xs st → length xs ≤ max-text-bytes → Facts xs st
 facts xs (state ns ts rs n t b r) p h =
-    let e : run (sights-from xs 0) blank (rules false ∷ []) ≡ right (state ns ts rs n t b r) = ran xs (state ns ts rs n t b r) (p .passed)
+    let e : run (terminals-from xs 0) blank (rules false ∷ []) ≡ right (state ns ts rs n t b r) = ran xs (state ns ts rs n t b r) (p .passed)
     in let l : (n ≤ max-constructs) × (t ≤ max-terms) × (b ≤ max-variables) × (r ≤ max-rules) = limits xs ns ts rs n t b r e h (p .none)
     in let s : Shaped xs ns ts rs n t b r = shaped xs ns ts rs n t b r e (l .0) (l .1) (l .2) (l .3)
     in let z : condition-start ns n ≡ t = terms-of-rules (quiet-of (s .stored) (l .0)) (s .rules)

@@ -26,7 +26,7 @@ use Rattle.text_store.specs.Words.{named-at, term-at, nodes-room, terms-room, r
 use Rattle.text_encoding.specs.Numbers.{condition-start}
 use Rattle.text_encoding.specs.Encoded.{encoded}
 use Rattle.text_wellformed.proofs.NodeFacts.{nodes-of-rules}
-use Rattle.admission.specs.Admitted.{form, words-of, fault-5, fault-6, fault-8, Right, Limited, Named, Straight, Bounded, RulesRefused, by-limit, by-name, by-cycle}
+use Rattle.admission.specs.Admitted.{form, words-of, fault-5, fault-6, fault-8, Right, Limited, Named, NotRecursive, Bounded, RulesRefused, by-limit, by-name, by-cycle}
 use Rattle.admission.specs.Late.{Within}
 use Rattle.admission.specs.declared.Found as places
 use Rattle.admission.proofs.Facts.{Basics, basics, facts, within, term-within}
@@ -89,18 +89,18 @@ module _ (xs : List ℕ) (st : State) (h : length xs ≤ max-text-bytes) where
   pub cyclic : (base : ℕ) (ws : List ℕ) → ws ≡ words-of xs st → (x : Recursion) (k : ℕ) → x ≡ Recursion.Rule k → Found ws x → Named xs st → RulesRefused xs base 7 (base + named-at (rule-words st) k)
   cyclic base ws w x k e f p = let q : Found (words-of xs st) (Recursion.Rule k) = subst (λ (v : List ℕ). Found v (Recursion.Rule k)) w (subst (Found ws) e f) in by-cycle p (q .0) (q .1) refl
 
-  pub straight : (ws : List ℕ) → ws ≡ words-of xs st → (x : Recursion) → x ≡ Recursion.None → Found ws x → Named xs st → Straight xs st
+  pub straight : (ws : List ℕ) → ws ≡ words-of xs st → (x : Recursion) → x ≡ Recursion.None → Found ws x → Named xs st → NotRecursive xs st
   straight ws w x e f p = record { passed = p; none = subst (λ (v : List ℕ). Found v Recursion.None) w (subst (Found ws) e f) }
 
   -- 8
-  pub place-8 : Straight xs st → (p : ℕ) → fault-8 xs st ≡ places.Found.At p → p ≤ max-text-bytes
+  pub place-8 : NotRecursive xs st → (p : ℕ) → fault-8 xs st ≡ places.Found.At p → p ≤ max-text-bytes
   place-8 s p e =
       let f = facts xs st (s .passed .passed) h in
       subst Inside e
       (found-inside xs (node-words st) (term-words st) (words-of xs st) (nodes-of st) (terms-of st) (nodes-of-rules (f .shape .rules)) h (term-within xs st (f .basics) h))
 
   -- 9
-  pub bounded : Straight xs st → fault-8 xs st ≡ places.Found.Nothing → Bounded xs st
+  pub bounded : NotRecursive xs st → fault-8 xs st ≡ places.Found.Nothing → Bounded xs st
   bounded s e = record { passed = s; none = e }
 
   abbrev pub Judgeable : List ℕ → Type 0

@@ -85,13 +85,13 @@ pub record Named (xs : List ℕ) (st : State) : Type 0 where
   pub none : fault-6 xs st ≡ nowhere
 
 -- no "rule reaches itself" (7)
-pub record Straight (xs : List ℕ) (st : State) : Type 0 where
+pub record NotRecursive (xs : List ℕ) (st : State) : Type 0 where
   pub passed : Named xs st
   pub none : Acyclic (words-of xs st)
 
 -- no "number or width outside its limits, or a calculation, or part of one, whose size may pass 2^62" (8)
 pub record Bounded (xs : List ℕ) (st : State) : Type 0 where
-  pub passed : Straight xs st
+  pub passed : NotRecursive xs st
   pub none : fault-8 xs st ≡ Found.Nothing
 
 -- 9: "the repetition mark": the least among the constructs with such a body
@@ -114,7 +114,7 @@ pub data RulesRefused (xs : List ℕ) (base : ℕ) : (number place : ℕ) → Ty
   -- "rule reaches itself", at the "first such rule"
   by-cycle : {st : State} {rule place : ℕ} → Named xs st → Reaches (words-of xs st) rule rule → ((q : ℕ) → q < rule → Reaches (words-of xs st) q q → ⊥) → place ≡ base + named-at (rule-words st) rule → RulesRefused xs base 7 place
   -- "number or width outside its limits, or a calculation …"
-  by-size : {st : State} {p place : ℕ} → Straight xs st → fault-8 xs st ≡ Found.At p → place ≡ base + p → RulesRefused xs base 8 place
+  by-size : {st : State} {p place : ℕ} → NotRecursive xs st → fault-8 xs st ≡ Found.At p → place ≡ base + p → RulesRefused xs base 8 place
   -- "repeated body has the empty first window", at "the repetition mark"
   by-empty-body : {st : State} {p place : ℕ} → Bounded xs st → LeastMark st (words-of xs st) p → place ≡ base + p → RulesRefused xs base 9 place
   -- "weight over 65,535", at the "start rule"

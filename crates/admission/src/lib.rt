@@ -21,7 +21,7 @@ ghost use Rattle.basis.specs.Limits.{max-text-bytes, table-words};
 ghost use Rattle.table_judge.specs.Judged.{Passed8};
 ghost use Rattle.text_parsing.specs.Cursors.{state-at};
 ghost use Rattle.text_store.specs.Words.{node-word, place-of, named-at, nodes-room, rules-room};
-ghost use Rattle.admission.specs.Admitted.{words-of, Right, Named, Straight, AnsweredRules, Answers};
+ghost use Rattle.admission.specs.Admitted.{words-of, Right, Named, NotRecursive, AnsweredRules, Answers};
 ghost use Rattle.admission.specs.Late.{Late, is-admitted, HandedOver, Within};
 
 mod copying;
@@ -142,7 +142,7 @@ fn admit_words(
     words: &mut [u32],
     table: &mut [u32],
 ) -> Admission
-    requires { ⌜ Straight (now text) (state-at c (now nodes) (now terms) (now rules)) × (now words ≡ words-of (now text) (state-at c (now nodes) (now terms) (now rules))) × (length (now text) ≤ max-text-bytes) × (base ≤ max-text-bytes) × (table-words ≤ length (now table)) ⌝ }
+    requires { ⌜ NotRecursive (now text) (state-at c (now nodes) (now terms) (now rules)) × (now words ≡ words-of (now text) (state-at c (now nodes) (now terms) (now rules))) × (length (now text) ≤ max-text-bytes) × (base ≤ max-text-bytes) × (table-words ≤ length (now table)) ⌝ }
     ensures { λ r. ⌜ AnsweredRules (now (text .entry)) base (now (table .entry)) (now (table .exit)) r ⌝ }
 {
     match extents::first_oversized(text, nodes, terms, c.nodes, c.terms, words) {

@@ -19,7 +19,7 @@ use Rattle.text_header.specs.Header.{header-of}
 use Rattle.text_header.specs.declared.Heading.{Heading}
 use Rattle.text_store.specs.Store.{State}
 use Rattle.text_parsing.specs.Form.{Outcome, right, refused}
-use Rattle.admission.specs.Admitted.{form, words-of, fault-8, Right, Limited, Named, Straight, Bounded, Passes, Headed}
+use Rattle.admission.specs.Admitted.{form, words-of, fault-8, Right, Limited, Named, NotRecursive, Bounded, Passes, Headed}
 use Rattle.admission.specs.declared.Found.{Found}
 use Rattle.conditions.specs.Texts.{Reading, meant}
 use Rattle.conditions.specs.Refusals.{Row, short-table, wrong-size, wrong-header, wrong-form, past-limit, wrong-name, recursive, too-large, empty-body, clashing, too-heavy, number, HasConflict, LeastMark, PastLimit, WrongName, Recursive, TooLarge, EmptyBodies, Clashes, TooHeavy, Read, Fits, NoneBelow, First}
@@ -181,7 +181,7 @@ module _ (text table : List ℕ) where
       pub below-7 : Named xs st → NoneBelow text table 7
       below-7 p = below-next text table wrong-name (below-6 (p .passed)) (λ q e. read WrongName (p .passed .passed) q e .0 (p .none))
 
-      pub below-8 : Straight xs st → NoneBelow text table 8
+      pub below-8 : NotRecursive xs st → NoneBelow text table 8
       below-8 p = below-next text table recursive (below-7 (p .passed)) (λ q e. (let x = read Recursive (p .passed .passed .passed) q e in p .none (x .0) (x .1)))
 
       pub below-9 : Bounded xs st → NoneBelow text table 9

@@ -35,7 +35,7 @@ abbrev pub rules-grammar : {text : List ℕ} → Reading text → Grammar Contex
 rules-grammar {text} x = meant (drop (x .base) text) (x .st)
 
 -- its sets, counts and cases mean what the trees mean whose postfix order its terms are (crates `text_meaning`, `term_trees`), at values for which no calculation
--- passes 2^62; that these are the trees of the text is in the definition of the form (`text_parsing`, `Form.feed`)
+-- passes 2^62; that these are the trees of the text is in the definition of the form (`text_parsing`, `Form.consume`)
 abbrev pub FormsMeant : {text : List ℕ} → Reading text → Type 0
 FormsMeant {text} x =
     Meanings (drop (x .base) text) (node-words (x .st)) (term-words (x .st)) (rule-words (x .st)) (nodes-of (x .st)) (rules-of (x .st))

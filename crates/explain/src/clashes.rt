@@ -55,8 +55,8 @@ fn leading(grammar: &[u8], at: usize) {
     let mut here = at;
     let mut tokens: usize = 0;
     while tokens < 1024 {
-        let sight = look(grammar, here);
-        here = further(grammar, sight.code, sight.start, sight.end);
+        let terminal = look(grammar, here);
+        here = further(grammar, terminal.code, terminal.start, terminal.end);
         if here == 18446744073709551615 {
             return;
         }
@@ -116,9 +116,9 @@ fn after_member(grammar: &[u8], at: usize) {
 
 // What follows a member that ends at a place.
 fn after(grammar: &[u8], end: usize) {
-    let sight = look(grammar, end);
-    if sight.code == 38 {
-        after_member(grammar, look(grammar, sight.end).start);
+    let terminal = look(grammar, end);
+    if terminal.code == 38 {
+        after_member(grammar, look(grammar, terminal.end).start);
         return;
     }
     report_advice::clashes::after_rule();

@@ -21,7 +21,7 @@ fn literal() {
     say(b"ASCII, and is closed on its line by the quote that opened it. A\n");
     say(b"backslash stands only in \\\\ \\\" \\' and \\[hex], from \\[0] to \\[7f].\n");
     say(b"What to change: close it, shorten it, or write a byte that cannot be\n");
-    say(b"typed as \\[hex]: a line feed is \\[0a]. For bytes from 80 to ff write\n");
+    say(b"typed as \\[hex]: a line consume is \\[0a]. For bytes from 80 to ff write\n");
     say(b"uint(8, 0x80).\n");
 }
 

@@ -32,13 +32,13 @@ fn calculation() {
 
 // 8: only a width is followed by a comma.
 pub fn extent(grammar: &[u8], at: usize) {
-    let sight = look(grammar, at);
-    let next = look(grammar, sight.end).code;
+    let terminal = look(grammar, at);
+    let next = look(grammar, terminal.end).code;
     if next == 44 {
         width();
         return;
     }
-    if 4294967295 < sight.value {
+    if 4294967295 < terminal.value {
         large_number();
         return;
     }

@@ -6,8 +6,8 @@ use mathlib.Core.Bool.{Bool, true, false}
 use mathlib.Core.List.{List}
 use native.Mathlib.Omega.{arith}
 use Rattle.basis.specs.Limits.{max-text-bytes}
-use Rattle.text_parsing.specs.Terminals.{sight-of}
-use Rattle.text_parsing.specs.declared.Sight.{Sight}
+use Rattle.text_parsing.specs.Terminals.{terminal-of}
+use Rattle.text_parsing.specs.declared.Terminal.{Terminal}
 use Rattle.report_wording.specs.Nesting.{nested}
 use Rattle.report_wording.specs.Parts.{ends, part-end}
 use Rattle.report_wording.specs.declared.quoting.Part.{Part}
@@ -21,15 +21,15 @@ pub passing-start : {text : List ℕ} {part : Part} {here : ℕ} → Passing tex
 passing-start = record { left = max-text-bytes; sum = refl; same = refl }
 
 module _ (text : List ℕ) (part : Part) (here depth : ℕ) where
-  stops : (n : ℕ) (s : Sight) → s ≡ sight-of text here → ends part (s .code) depth ≡ true → part-end (suc n) text part here depth ≡ here
+  stops : (n : ℕ) (s : Terminal) → s ≡ terminal-of text here → ends part (s .code) depth ≡ true → part-end (suc n) text part here depth ≡ here
   unfolding part-end
-  stops n s e h = let k : ends part (sight-of text here .code) depth ≡ true = rw e at h in rw (k, part-end)
+  stops n s e h = let k : ends part (terminal-of text here .code) depth ≡ true = rw e at h in rw (k, part-end)
 
   goes :
-      (n : ℕ) (s : Sight) → s ≡ sight-of text here → ends part (s .code) depth ≡ false →
+      (n : ℕ) (s : Terminal) → s ≡ terminal-of text here → ends part (s .code) depth ≡ false →
       part-end (suc n) text part here depth ≡ part-end n text part (s .end) (nested (s .code) depth)
   unfolding part-end
-  goes n s e h = let k : ends part (sight-of text here .code) depth ≡ false = rw e at h in rw (e, k, part-end)
+  goes n s e h = let k : ends part (terminal-of text here .code) depth ≡ false = rw e at h in rw (e, k, part-end)
 
   none : part-end zero text part here depth ≡ here
   unfolding part-end
@@ -38,7 +38,7 @@ module _ (text : List ℕ) (part : Part) (here depth : ℕ) where
 module _ {text : List ℕ} {part : Part} {whole here depth : ℕ} where
   -- the part ends before this token
   pub passing-here :
-      {tokens : ℕ} {s : Sight} {b : Bool} → s ≡ sight-of text here → b ≡ ends part (s .code) depth → b ≡ true → tokens < max-text-bytes →
+      {tokens : ℕ} {s : Terminal} {b : Bool} → s ≡ terminal-of text here → b ≡ ends part (s .code) depth → b ≡ true → tokens < max-text-bytes →
       Passing text part whole here depth tokens → here ≡ whole
   passing-here {tokens} {s} e h t l g = by (g .left) (g .sum) (g .same)
     where
@@ -48,7 +48,7 @@ module _ {text : List ℕ} {part : Part} {whole here depth : ℕ} where
 
   -- it goes on
   pub passing-on :
-      {tokens : ℕ} {s : Sight} {b : Bool} {depth′ : ℕ} → s ≡ sight-of text here → b ≡ ends part (s .code) depth → b ≡ false → tokens < max-text-bytes → depth′ ≡ nested (s .code) depth →
+      {tokens : ℕ} {s : Terminal} {b : Bool} {depth′ : ℕ} → s ≡ terminal-of text here → b ≡ ends part (s .code) depth → b ≡ false → tokens < max-text-bytes → depth′ ≡ nested (s .code) depth →
       Passing text part whole here depth tokens → Passing text part whole (s .end) depth′ (tokens + 1)
   passing-on {tokens} {s} {depth′ = depth′} e h t l p g = by (g .left) (g .sum) (g .same)
     where

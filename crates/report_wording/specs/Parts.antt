@@ -4,7 +4,7 @@ use Prim.Native.Nat.{ℕ, zero, suc}
 use mathlib.Core.Bool.{Bool, true, false, _||_, _&&_}
 use mathlib.Core.List.{List}
 use lib.Dec.{eqb}
-use Rattle.text_parsing.specs.Terminals.{sight-of}
+use Rattle.text_parsing.specs.Terminals.{terminal-of}
 use Rattle.report_wording.specs.Nesting.{nested}
 use Rattle.report_wording.specs.declared.quoting.Part.{Part}
 
@@ -42,7 +42,7 @@ ends part code depth = is-never code || (eqb depth 0 && ends-at part code)
 unfoldable pub part-end : ℕ → List ℕ → Part → (here depth : ℕ) → ℕ
 part-end zero text part here depth = here
 part-end (suc n) text part here depth =
-    elim (ends part (sight-of text here .code) depth) [
+    elim (ends part (terminal-of text here .code) depth) [
       | true ↦ here
-      | false ↦ part-end n text part (sight-of text here .end) (nested (sight-of text here .code) depth)
+      | false ↦ part-end n text part (terminal-of text here .end) (nested (terminal-of text here .code) depth)
     ]

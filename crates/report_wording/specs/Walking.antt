@@ -4,7 +4,7 @@ use Prim.Native.Nat.{ℕ, zero, suc}
 use mathlib.Core.Bool.{true, false}
 use mathlib.Core.List.{List}
 use lib.Dec.{leb}
-use Rattle.text_parsing.specs.Terminals.{sight-of}
+use Rattle.text_parsing.specs.Terminals.{terminal-of}
 use Rattle.report_wording.specs.Nesting.{nested}
 use Rattle.report_wording.specs.declared.walking.Context.{Context}
 
@@ -20,7 +20,7 @@ stepped code b = record { depth = nested code (b .depth); third = b .second; sec
 unfoldable pub before-from : ℕ → List ℕ → (at here : ℕ) → Context → Context
 before-from zero text at here b = b
 before-from (suc n) text at here b =
-    elim (leb at (sight-of text here .start)) [
+    elim (leb at (terminal-of text here .start)) [
       | true ↦ b
-      | false ↦ before-from n text at (sight-of text here .end) (stepped (sight-of text here .code) b)
+      | false ↦ before-from n text at (terminal-of text here .end) (stepped (terminal-of text here .code) b)
     ]

@@ -115,10 +115,10 @@ pub fn quote(grammar: &[u8], at: usize, part: Part) {
     let mut room = 60;
     let mut tokens: usize = 0;
     while tokens < 61 {
-        let sight = look(grammar, here);
-        let code = sight.code;
-        let start = sight.start;
-        let end = sight.end;
+        let terminal = look(grammar, here);
+        let code = terminal.code;
+        let start = terminal.start;
+        let end = terminal.end;
         if ends(part, code, depth) {
             return;
         }
@@ -141,13 +141,13 @@ pub fn end_of(grammar: &[u8], at: usize, part: Part) -> usize
     let mut depth = 0;
     let mut tokens: usize = 0;
     while tokens < MAX_TEXT_BYTES {
-        let sight = look(grammar, here);
-        let code = sight.code;
+        let terminal = look(grammar, here);
+        let code = terminal.code;
         if ends(part, code, depth) {
             return here;
         }
         depth = nesting(code, depth);
-        here = sight.end;
+        here = terminal.end;
         tokens += 1;
     }
     here

@@ -74,12 +74,12 @@ pub fn before(grammar: &[u8], base: usize, at: usize) -> Context
     let mut seen = start();
     let mut tokens: usize = 0;
     while tokens < MAX_TEXT_BYTES {
-        let sight = look(grammar, here);
-        if at <= sight.start {
+        let terminal = look(grammar, here);
+        if at <= terminal.start {
             return seen;
         }
-        seen = stepped(seen, sight.code);
-        here = sight.end;
+        seen = stepped(seen, terminal.code);
+        here = terminal.end;
         tokens += 1;
     }
     seen

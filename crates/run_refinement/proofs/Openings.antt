@@ -92,7 +92,7 @@ module _ (ws : List ℕ) (widest : List ℤ) (weight rooms : Context → ℕ →
 
   few-entries : (n : ℕ) → length (pending-of (state-of (at n))) ≤ max-entries
   unfolding held
-  few-entries n = omega (arith, Theory.room (held ws) (tests-of ws) rooms (r .hypotheses) (r .houses) s n, r .room-most)
+  few-entries n = omega (arith, Theory.room (held ws) (tests-of ws) rooms (r .hypotheses) (r .has-room) s n, r .room-most)
 
   few-captures : (n : ℕ) → 2 * length (captures-of (state-of (at n))) ≤ length rs
   few-captures n = omega (arith, moment n .captures-few, frame-length fs, o .room)

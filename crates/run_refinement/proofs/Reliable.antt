@@ -17,7 +17,7 @@ use Rattle.term_sizes.specs.declared.Sized.{Sized}
 use Rattle.term_sizes.specs.Inside.{Inside}
 use Rattle.term_sizes.proofs.Forms.{list-passes, counts-passes}
 use Rattle.theory.specs.Hypotheses.{Hypotheses}
-use Rattle.theory.specs.Weight.{Outweighs, Houses}
+use Rattle.theory.specs.Weight.{Outweighs, HasRoom}
 use Rattle.table_layout.specs.Places.{construct-word, variable-word, construct-count, weight-of}
 use Rattle.table_layout.specs.Constructs.{both, constructAt}
 use Rattle.table_layout.specs.Held.{Context, first-context, term-words, terms-of, opening, held}
@@ -48,7 +48,7 @@ pub record Reliable (ws : List ℕ) (widest : List ℤ) (weight rooms : Context 
   -- refusal 7 gives weights and room (`table_weights`); stored weight = computed weight
   pub weighs : Outweighs (held ws) weight
   pub weight-stored : weight first-context opening ≤ weight-of ws
-  pub houses : Houses (held ws) rooms
+  pub has-room : HasRoom (held ws) rooms
   pub room-most : rooms first-context opening ≤ max-entries
   -- what the theory asks: 6, 7, 9, 10, and stored sets = computed sets
   pub hypotheses : Hypotheses (held ws) (tests-of ws)

@@ -30,9 +30,9 @@ use Rattle.text_meaning.specs.Meaning.{first-true, grammar-of, meant-node, part
 use Rattle.table_sizes.specs.Measures.{widest-from}
 use Rattle.text_names.specs.Counting.{any-of, least-of}
 use Rattle.text_names.specs.Names.{is-reserved, same-name}
-use Rattle.text_parsing.specs.Form.{atom-begins, feed, item-begins, operand-begins, primary-begins, run as parsing-run, test-begins}
+use Rattle.text_parsing.specs.Form.{atom-begins, consume, item-begins, operand-begins, primary-begins, run as parsing-run, test-begins}
 use Rattle.text_store.specs.Store.{over, put-condition, put-node, put-rule, put-single, put-term, put-words, room}
-use Rattle.text_parsing.specs.Terminals.{literal-code, name-code, seen, sight-of, sights}
+use Rattle.text_parsing.specs.Terminals.{literal-code, name-code, seen, terminal-of, terminals}
 use Rattle.text_shapes.specs.TermShapes.{read-terms}
 use Rattle.term_sizes.specs.Sizes.{countSizes, sizes as sizes-sizes}
 use Rattle.text_syntax.specs.Rules.{form-of}
@@ -54,7 +54,7 @@ unfolding text-of
 rules-in rules = drop 16 (text-of rules)
 
 unfoldable pub read : String → Outcome
-unfolding rules-in characters literal-reach atom-begins feed item-begins operand-begins primary-begins parsing-run test-begins over put-condition put-node put-rule put-single put-term put-words room literal-code name-code seen sight-of sights form-of span-end starts word-number digits-at digits-value number-end-of radix-at gap-end literal-token name-token number-token sign-token token-begun token-of
+unfolding rules-in characters literal-reach atom-begins consume item-begins operand-begins primary-begins parsing-run test-begins over put-condition put-node put-rule put-single put-term put-words room literal-code name-code seen terminal-of terminals form-of span-end starts word-number digits-at digits-value number-end-of radix-at gap-end literal-token name-token number-token sign-token token-begun token-of
 read rules = form (rules-in rules)
 
 unfoldable pub limits : State → ℕ

@@ -12,7 +12,7 @@ use Rattle.basis.specs.Limits.{max-variables, max-entries}
 use Rattle.term_words.specs.declared.Kind.{Kind}
 use Rattle.term_sizes.specs.Sizes.{sizes}
 use Rattle.term_sizes.specs.declared.Sized.{Sized}
-use Rattle.theory.specs.Weight.{Weighs, Outweighs, Houses}
+use Rattle.theory.specs.Weight.{Weighs, Outweighs, HasRoom}
 use Rattle.table_layout.specs.Places.{construct-word, variable-word, construct-count, weight-of}
 use Rattle.table_layout.specs.Constructs.{constructAt}
 use Rattle.table_layout.specs.Held.{first-context, terms-of, held, opening}
@@ -76,7 +76,7 @@ module _ {ws : List ℕ} (s : Sound ws) where
   pub weight-stored : weight-at ws opening ≡ weight-of ws
   weight-stored = s .weight (λ c i. weight-at ws i) weighed
 
-  pub housed : Houses (held ws) (rooms ws)
+  pub housed : HasRoom (held ws) (rooms ws)
   housed = rooms-enough ws rules-lie none-recursive .0
 
   pub room-most : rooms ws first-context opening ≤ max-entries
@@ -93,7 +93,7 @@ module _ {ws : List ℕ} (s : Sound ws) where
         sets-within = λ i width start end binder h e. own-within ws (s .passed .passed .passed .sized) i h (Construct.Uint width start end binder) e;
         weighs = outweighs;
         weight-stored = omega (arith, weight-stored);
-        houses = housed;
+        has-room = housed;
         room-most = room-most;
         hypotheses = hypotheses-of s;
       }

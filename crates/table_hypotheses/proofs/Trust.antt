@@ -21,7 +21,7 @@ trusted ws s =
       outweighs = outweighs s;
       weight-stored = weight-stored s;
       rooms = rooms ws;
-      houses = housed s;
+      has-room = housed s;
       room-most = omega (arith, room-most s);
       one-capture-a-bit = λ i e. width-positive ws i e;
     }

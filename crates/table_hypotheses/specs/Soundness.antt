@@ -8,7 +8,7 @@ use Rattle.basis.specs.Limits.{max-entries}
 use Rattle.basis.specs.Bits.{Bits}
 use Rattle.theory.specs.Grammar.{field}
 use Rattle.theory.specs.Hypotheses.{Static, Hypotheses}
-use Rattle.theory.specs.Weight.{Outweighs, Houses}
+use Rattle.theory.specs.Weight.{Outweighs, HasRoom}
 use Rattle.theory.specs.Scope.{Lexical}
 use Rattle.table_layout.specs.Places.{weight-of}
 use Rattle.table_layout.specs.Held.{Context, first-context, Values, held, opening}
@@ -29,7 +29,7 @@ pub record Trusted (ws : List ℕ) : Type 0 where
   pub weight-stored : weight first-context opening ≡ weight-of ws
   -- 24, "the list is longer than 256": no run from an opening has more entries pending
   pub rooms : Context → ℕ → ℕ
-  pub houses : Houses (held ws) rooms
+  pub has-room : HasRoom (held ws) rooms
   pub room-most : rooms first-context opening ≤ max-entries
   -- 22, "two u32 words for each frame bit": a field takes at least one bit, so no bit has two captures
   pub one-capture-a-bit : (i : ℕ) {w : Bits → ℕ} {admits : Context → Values → Bits → Bool} {static : Bits → Bool} {binds : Context → Values → Bits → Values}

@@ -11,7 +11,7 @@ use borrow.Author.Tests.{lt-ltb, le-ltb, ne-eqb}
 use lib.Dec.{eqb}
 use lib.ListN.{length}
 use Rattle.basis.specs.Limits.{max-constructs, max-entries}
-use Rattle.theory.specs.Weight.{largest, members-room, room, Houses}
+use Rattle.theory.specs.Weight.{largest, members-room, room, HasRoom}
 use Rattle.table_layout.specs.Places.{rule-count, construct-count}
 use Rattle.table_layout.specs.Constructs.{pick, constructAt}
 use Rattle.table_layout.specs.Held.{Context, first-context, size-of, parts, node-of, use-node, held, opening}
@@ -124,8 +124,8 @@ module _ (ws : List ℕ) (ruled : Ruled ws) (acyclic : Acyclic ws) where
   unfolding room
   housed-opening c = omega (arith, rooms-opening ws c, rooms-of ws c (body-of ws 0) (λ e. omega (arith, start-there ws ruled acyclic)))
 
-  pub houses : Houses (held ws) (rooms ws)
-  houses c i = (rooms-positive ws c i, go (decLt i opening) (decLt opening i))
+  pub has-room : HasRoom (held ws) (rooms ws)
+  has-room c i = (rooms-positive ws c i, go (decLt i opening) (decLt opening i))
     where
       go : Dec (i < opening) → Dec (opening < i) → room (rooms ws) c (held ws .node i) ≤ rooms ws c i
       go (yes a) b = rw (held-node ws i (λ e. omega arith), rooms-of ws c i (λ e. omega arith)) (housed-there c i)

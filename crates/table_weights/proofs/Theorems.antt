@@ -7,14 +7,14 @@ use mathlib.Core.Logic.{_↔_}
 use mathlib.Core.List.{List}
 use lib.ListN.{getD}
 use Rattle.basis.specs.Limits.{max-constructs, max-weight, max-entries}
-use Rattle.theory.specs.Weight.{Weighs, Houses}
+use Rattle.theory.specs.Weight.{Weighs, HasRoom}
 use Rattle.table_layout.specs.Held.{Context, first-context, held, opening}
 use Rattle.table_reach.specs.Reaching.{Acyclic}
 use Rattle.table_weights.specs.Ruled.{Ruled}
 use Rattle.table_weights.specs.Sweeps.{capped}
 use Rattle.table_weights.specs.Weighed.{Weights, Weight}
 use Rattle.table_weights.proofs.Heights.{weight-at, weighs, unique}
-use Rattle.table_weights.proofs.Rooms.{rooms, houses, opening-room}
+use Rattle.table_weights.proofs.Rooms.{rooms, has-room, opening-room}
 
 module _ (ws : List ℕ) (ruled : Ruled ws) (acyclic : Acyclic ws) where
   -- there are weights, and no others
@@ -39,5 +39,5 @@ module _ (ws : List ℕ) (ruled : Ruled ws) (acyclic : Acyclic ws) where
   over-limit n a = (λ h. omega (arith, grammar-weight n a), λ h. omega (arith, grammar-weight n a))
 
   -- room for every entry, and no more from an opening than the list has
-  pub rooms-enough : Houses (held ws) (rooms ws) × (rooms ws first-context opening ≤ max-entries)
-  rooms-enough = (houses ws ruled acyclic, opening-room ws ruled acyclic)
+  pub rooms-enough : HasRoom (held ws) (rooms ws) × (rooms ws first-context opening ≤ max-entries)
+  rooms-enough = (has-room ws ruled acyclic, opening-room ws ruled acyclic)

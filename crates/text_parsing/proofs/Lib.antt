@@ -1,5 +1,5 @@
 -- Laws that the proofs of the functions cite.
-pub mod Sights
+pub mod TerminalLaws
 pub mod Resuming
 pub mod Steps
 pub mod Loops

@@ -12,8 +12,8 @@ use Rattle.text_header.proofs.Tests.{which}
 use Rattle.text_parsing.specs.Terminals.{name-like, live}
 use Rattle.text_store.specs.Store.{add, put-term}
 use Rattle.text_parsing.specs.Symbols.{Symbol}
-use Rattle.text_parsing.specs.Form.{go, feed}
-use Rattle.text_parsing.specs.Cursors.{sight-at, state-at, next, term-more, resume, left, Reads, ReadsTerms}
+use Rattle.text_parsing.specs.Form.{go, consume}
+use Rattle.text_parsing.specs.Cursors.{terminal-at, state-at, next, term-more, resume, left, Reads, ReadsTerms}
 use Rattle.text_parsing.specs.declared.Cursor.{Cursor}
 use Rattle.text_parsing.proofs.Resuming.{takes, left-falls}
 use Rattle.text_parsing.proofs.Steps.{take-only}
@@ -26,18 +26,18 @@ pub still-start : {xs : List ℕ} {ps : List Symbol} {c : Cursor} {ns ts : List 
 still-start = record { same = λ rs ks. refl; falls = omega arith }
 
 -- a turn: the terminal is taken, qs is read, and the same waits
-pub still-turn : {xs : List ℕ} {ps qs : List Symbol} {c₀ c m r : Cursor} {ns₀ ts₀ ns ts ns′ ts′ : List ℕ} → Still xs ps c₀ ns₀ ts₀ c ns ts → live (c .code) ≡ true → m ≡ next xs c → ((rs : List ℕ) (ks : List Symbol) → feed (sight-at c) (state-at c ns ts rs) (ps ++ ks) ≡ go (state-at c ns ts rs) (qs ++ (ps ++ ks))) → Reads xs qs m ns ts r ns′ ts′ → Still xs ps c₀ ns₀ ts₀ r ns′ ts′
+pub still-turn : {xs : List ℕ} {ps qs : List Symbol} {c₀ c m r : Cursor} {ns₀ ts₀ ns ts ns′ ts′ : List ℕ} → Still xs ps c₀ ns₀ ts₀ c ns ts → live (c .code) ≡ true → m ≡ next xs c → ((rs : List ℕ) (ks : List Symbol) → consume (terminal-at c) (state-at c ns ts rs) (ps ++ ks) ≡ go (state-at c ns ts rs) (qs ++ (ps ++ ks))) → Reads xs qs m ns ts r ns′ ts′ → Still xs ps c₀ ns₀ ts₀ r ns′ ts′
 still-turn {xs} {ps} {qs} {c₀} {c} {m} {r} {ns₀} {ts₀} {ns} {ts} {ns′} {ts′} s l e f a =
     let b : Reads xs qs (next xs c) ns ts r ns′ ts′ = subst (λ (k : Cursor). Reads xs qs k ns ts r ns′ ts′) e a
     in record {
-      same = λ rs ks. s .same rs ks ∙ takes xs (sight-at c) (state-at c ns ts rs) (state-at c ns ts rs) (ps ++ ks) (qs ++ (ps ++ ks)) l (f rs ks) ∙ b .reads rs (ps ++ ks);
-      falls = omega (arith, s .falls, left-falls xs (sight-at c) l, b .falls);
+      same = λ rs ks. s .same rs ks ∙ takes xs (terminal-at c) (state-at c ns ts rs) (state-at c ns ts rs) (ps ++ ks) (qs ++ (ps ++ ks)) l (f rs ks) ∙ b .reads rs (ps ++ ks);
+      falls = omega (arith, s .falls, left-falls xs (terminal-at c) l, b .falls);
     }
 
 pub turn-falls : {xs : List ℕ} {qs : List Symbol} (c : Cursor) {m r : Cursor} {ns ts ns′ ts′ : List ℕ} → live (c .code) ≡ true → m ≡ next xs c → Reads xs qs m ns ts r ns′ ts′ → left xs r < left xs c
 turn-falls {xs} {qs} c {m} {r} {ns} {ts} {ns′} {ts′} l e a =
     let b : Reads xs qs (next xs c) ns ts r ns′ ts′ = subst (λ (k : Cursor). Reads xs qs k ns ts r ns′ ts′) e a
-    in omega (arith, left-falls xs (sight-at c) l, b .falls)
+    in omega (arith, left-falls xs (terminal-at c) l, b .falls)
 
 -- the loop's end
 pub still-end : {xs : List ℕ} {ps : List Symbol} {c₀ c r : Cursor} {ns₀ ts₀ ns ts ns′ ts′ : List ℕ} → Still xs ps c₀ ns₀ ts₀ c ns ts → Reads xs ps c ns ts r ns′ ts′ → Reads xs ps c₀ ns₀ ts₀ r ns′ ts′
@@ -46,7 +46,7 @@ still-end s a = record { reads = λ rs ks. s .same rs ks ∙ a .reads rs ks; fal
 -- ---- terms
 
 -- a terminal that is taken is a term
-pub take-term : {xs : List ℕ} {ps : List Symbol} {c d r : Cursor} {ts ts′ : List ℕ} (tag value place origin : ℕ) → live (c .code) ≡ true → d ≡ term-more c → ts′ ≡ put-term ts (c .terms) tag value place origin → r ≡ next xs d → ((ns rs : List ℕ) (ks : List Symbol) → feed (sight-at c) (state-at c ns ts rs) (ps ++ ks) ≡ go (add tag value place origin (state-at c ns ts rs)) ks) → ReadsTerms xs ps c ts r ts′
+pub take-term : {xs : List ℕ} {ps : List Symbol} {c d r : Cursor} {ts ts′ : List ℕ} (tag value place origin : ℕ) → live (c .code) ≡ true → d ≡ term-more c → ts′ ≡ put-term ts (c .terms) tag value place origin → r ≡ next xs d → ((ns rs : List ℕ) (ks : List Symbol) → consume (terminal-at c) (state-at c ns ts rs) (ps ++ ks) ≡ go (add tag value place origin (state-at c ns ts rs)) ks) → ReadsTerms xs ps c ts r ts′
 take-term {xs} {ps} {c} {d} {r} {ts} {ts′} tag value place origin l e z n f ns =
     subst (λ (k : List ℕ). Reads xs ps c ns ts r ns k) (sym z) (take-only {d = term-more c} l (n ∙ ap (next xs) e) refl (λ rs ks. f ns rs ks))
 

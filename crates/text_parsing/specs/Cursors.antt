@@ -8,16 +8,16 @@ use mathlib.Core.List.{List, _∷_, _++_}
 use lib.Dec.{eqb}
 use lib.ListN.{length}
 use Rattle.basis.specs.Limits.{max-rules, max-constructs, max-variables, max-terms}
-use Rattle.text_parsing.specs.Terminals.{sight, sight-of, sights-after}
+use Rattle.text_parsing.specs.Terminals.{terminal, terminal-of, terminals-after}
 use Rattle.text_store.specs.Store.{State, state, counted}
 use Rattle.text_parsing.specs.Symbols.{Symbol}
 use Rattle.text_parsing.specs.Form.{Outcome, refused, run}
 use Rattle.text_parsing.specs.declared.Cursor.{Cursor}
-use Rattle.text_parsing.specs.declared.Sight.{Sight}
+use Rattle.text_parsing.specs.declared.Terminal.{Terminal}
 
 -- the terminal that comes next
-abbrev pub sight-at : Cursor → Sight
-sight-at c = sight (c .code) (c .start) (c .end) (c .value)
+abbrev pub terminal-at : Cursor → Terminal
+terminal-at c = terminal (c .code) (c .start) (c .end) (c .value)
 
 -- what is read so far: its counts, and the words of nodes, terms and rules
 abbrev pub state-at : Cursor → List ℕ → List ℕ → List ℕ → State
@@ -41,7 +41,7 @@ rule-more c =
     record { code = c .code; start = c .start; end = c .end; value = c .value; nodes = c .nodes; terms = c .terms; binders = c .binders; rules = counted max-rules (c .rules) }
 
 -- a cursor at a terminal, with what another has counted
-abbrev pub counts-of : Sight → Cursor → Cursor
+abbrev pub counts-of : Terminal → Cursor → Cursor
 counts-of s c =
     record { code = s .code; start = s .start; end = s .end; value = s .value; nodes = c .nodes; terms = c .terms; binders = c .binders; rules = c .rules }
 
@@ -49,10 +49,10 @@ counts-of s c =
 abbrev pub first-of : List ℕ → Cursor
 first-of xs =
     record {
-      code = sight-of xs 0 .code;
-      start = sight-of xs 0 .start;
-      end = sight-of xs 0 .end;
-      value = sight-of xs 0 .value;
+      code = terminal-of xs 0 .code;
+      start = terminal-of xs 0 .start;
+      end = terminal-of xs 0 .end;
+      value = terminal-of xs 0 .value;
       nodes = 0;
       terms = 0;
       binders = 0;
@@ -61,27 +61,27 @@ first-of xs =
 
 -- at the terminal after this one
 abbrev pub next : List ℕ → Cursor → Cursor
-next xs c = counts-of (sight-of xs (c .end)) c
+next xs c = counts-of (terminal-of xs (c .end)) c
 
 -- this terminal cannot stand there
 abbrev pub fail : Cursor → Cursor
-fail c = counts-of (sight 0 (c .start) (c .end) (c .value)) c
+fail c = counts-of (terminal 0 (c .start) (c .end) (c .value)) c
 
 -- the outcome of reading on from a terminal
-unfoldable pub resume-at : List ℕ → Sight → State → List Symbol → Outcome
-resume-at xs s st ks = elim (eqb (s .code) 0) [ true ↦ refused (s .start) | false ↦ run (s ∷ sights-after xs s) st ks ]
+unfoldable pub resume-at : List ℕ → Terminal → State → List Symbol → Outcome
+resume-at xs s st ks = elim (eqb (s .code) 0) [ true ↦ refused (s .start) | false ↦ run (s ∷ terminals-after xs s) st ks ]
 
 -- the same, from a cursor on
 abbrev pub resume : List ℕ → Cursor → List ℕ → List ℕ → List ℕ → List Symbol → Outcome
-resume xs c ns ts rs ks = resume-at xs (sight-at c) (state-at c ns ts rs) ks
+resume xs c ns ts rs ks = resume-at xs (terminal-at c) (state-at c ns ts rs) ks
 
 -- what is left to read: it falls with each terminal
-unfoldable pub left-at : List ℕ → Sight → ℕ
+unfoldable pub left-at : List ℕ → Terminal → ℕ
 left-at xs s = elim (eqb (s .code) 0) [ true ↦ 0 | false ↦ elim (eqb (s .code) 5) [ true ↦ 1 | false ↦ suc (suc (length xs - s .end)) ] ]
 
 -- the same of a cursor
 abbrev pub left : List ℕ → Cursor → ℕ
-left xs c = left-at xs (sight-at c)
+left xs c = left-at xs (terminal-at c)
 
 -- Parts are read: what came before them with the parts waiting is what comes after them without, whatever else waits.
 pub record Reads (xs : List ℕ) (parts : List Symbol) (c : Cursor) (ns ts : List ℕ) (r : Cursor) (ns′ ts′ : List ℕ) : Type 0 where

@@ -9,22 +9,22 @@ use Rattle.basis.specs.Limits.{max-nesting}
 use Rattle.text_parsing.specs.Terminals.{is, is-name, begins}
 use Rattle.text_store.specs.Store.{State, nodes-of, terms-of, add, single, insert, leaf, condition-on, bind, close-rule}
 use Rattle.text_parsing.specs.Symbols.{Symbol, want, sign, paren, primary, operand, factors, summands, calculation, item, item-tail, bound, exception, excluded, alternative, alternatives, value-set, counts, counts-tail, test, comparison, condition, joined, chain, atom, factor, concatenation, expression, marked, counts-end, members, branches, character-tail, last-character, width, field-set, bound-name, field-end, colon, case-end, cases, switch-end, rules, rule-end}
-use Rattle.text_parsing.specs.declared.Sight.{Sight}
+use Rattle.text_parsing.specs.declared.Terminal.{Terminal}
 
 -- it is taken and these parts wait, or the text ends right, or it "cannot stand there"
-pub data Fed : Type 0 where
-  go : State → List Symbol → Fed
-  done : State → Fed
-  fault : Fed
+pub data Consumed : Type 0 where
+  go : State → List Symbol → Consumed
+  done : State → Consumed
+  fault : Consumed
 
 -- "parentheses and switch brackets of every kind go at most 16 deep"
-abbrev pub within-depth : ℕ → Fed → Fed
+abbrev pub within-depth : ℕ → Consumed → Consumed
 within-depth d next = cond (ltb d max-nesting) next fault
 
 -- ---- how parts begin; `ks` waits after them
 
 -- a number or a variable's use
-unfoldable pub primary-begins : ℕ → Sight → State → List Symbol → Fed
+unfoldable pub primary-begins : ℕ → Terminal → State → List Symbol → Consumed
 primary-begins o s st ks =
     elim (is 2 s) [
       | true ↦ go (add 1 (s .value) (s .start) o st) ks
@@ -32,7 +32,7 @@ primary-begins o s st ks =
     ]
 
 -- "at most one unary minus"
-unfoldable pub operand-begins : ℕ → Sight → State → List Symbol → Fed
+unfoldable pub operand-begins : ℕ → Terminal → State → List Symbol → Consumed
 operand-begins o s st ks = elim (is 45 s) [ true ↦ go st (primary o ∷ sign 6 (s .start) o ∷ ks) | false ↦ primary-begins o s st ks ]
 
 -- the tag of `+` and `-`; 0 of any other terminal
@@ -40,15 +40,15 @@ abbrev pub sum-tag : ℕ → ℕ
 sum-tag code = cond (eqb code 43) 3 (cond (eqb code 45) 4 0)
 
 -- "calculations: `+ -` from the left, then `*`"
-abbrev pub calculation-begins : Sight → State → List Symbol → Fed
+abbrev pub calculation-begins : Terminal → State → List Symbol → Consumed
 calculation-begins s st ks = operand-begins (s .start) s st (factors (s .start) ∷ summands (s .start) ∷ ks)
 
 -- an item of a set: "`~`, `a`, `a~b`, `a~`, `~b`"
-unfoldable pub item-begins : Sight → State → List Symbol → Fed
+unfoldable pub item-begins : Terminal → State → List Symbol → Consumed
 item-begins s st ks = elim (is 126 s) [ true ↦ go st (bound 10 7 (s .start) ∷ ks) | false ↦ calculation-begins s st (item-tail ∷ ks) ]
 
 -- a comparison, or a condition in parentheses
-unfoldable pub test-begins : ℕ → Sight → State → List Symbol → Fed
+unfoldable pub test-begins : ℕ → Terminal → State → List Symbol → Consumed
 test-begins d s st ks =
     elim (is 40 s) [
       | true ↦ within-depth d (go st (condition (d + 1) ∷ want 41 ∷ ks))
@@ -61,7 +61,7 @@ comparison-tag code =
     cond (eqb code 61) 14 (cond (eqb code 161) 15 (cond (eqb code 60) 16 (cond (eqb code 188) 17 (cond (eqb code 62) 18 (cond (eqb code 190) 19 0)))))
 
 -- an item of an expression, without its repetition mark
-unfoldable pub atom-begins : ℕ → Sight → State → List Symbol → Fed
+unfoldable pub atom-begins : ℕ → Terminal → State → List Symbol → Consumed
 atom-begins d s st ks =
     cond (is 3 s) (go (leaf 6 (s .start) 0 0 0 0 0 st) ks)
     (cond (is 9 s) (go st (character-tail (s .start) ∷ ks))
@@ -82,79 +82,79 @@ chained kind many p i st = cond many (insert kind p i 0 0 0 0 0 st) st
 
 -- ---- a terminal is handed to the parts that wait
 
-unfoldable pub feed : Sight → State → List Symbol → Fed
-feed s st [] = fault
-feed s st (want k ∷ ks) = elim (is k s) [ true ↦ go st ks | false ↦ fault ]
-feed s st (sign tag p o ∷ ks) = feed s (add tag 0 p o st) ks
-feed s st (paren d ∷ ks) = elim (ltb d max-nesting) [ true ↦ elim (is 40 s) [ true ↦ go st ks | false ↦ fault ] | false ↦ fault ]
+unfoldable pub consume : Terminal → State → List Symbol → Consumed
+consume s st [] = fault
+consume s st (want k ∷ ks) = elim (is k s) [ true ↦ go st ks | false ↦ fault ]
+consume s st (sign tag p o ∷ ks) = consume s (add tag 0 p o st) ks
+consume s st (paren d ∷ ks) = elim (ltb d max-nesting) [ true ↦ elim (is 40 s) [ true ↦ go st ks | false ↦ fault ] | false ↦ fault ]
 -- calculations
-feed s st (primary o ∷ ks) = primary-begins o s st ks
-feed s st (operand o ∷ ks) = operand-begins o s st ks
-feed s st (factors o ∷ ks) = elim (is 42 s) [ true ↦ go st (operand o ∷ sign 5 (s .start) o ∷ factors o ∷ ks) | false ↦ feed s st ks ]
-feed s st (summands o ∷ ks) =
-    elim (eqb (sum-tag (s .code)) 0) [ true ↦ feed s st ks | false ↦ go st (operand o ∷ factors o ∷ sign (sum-tag (s .code)) (s .start) o ∷ summands o ∷ ks) ]
-feed s st (calculation ∷ ks) = calculation-begins s st ks
+consume s st (primary o ∷ ks) = primary-begins o s st ks
+consume s st (operand o ∷ ks) = operand-begins o s st ks
+consume s st (factors o ∷ ks) = elim (is 42 s) [ true ↦ go st (operand o ∷ sign 5 (s .start) o ∷ factors o ∷ ks) | false ↦ consume s st ks ]
+consume s st (summands o ∷ ks) =
+    elim (eqb (sum-tag (s .code)) 0) [ true ↦ consume s st ks | false ↦ go st (operand o ∷ factors o ∷ sign (sum-tag (s .code)) (s .start) o ∷ summands o ∷ ks) ]
+consume s st (calculation ∷ ks) = calculation-begins s st ks
 -- sets: "alternatives of …, each with at most one `!` and a second item or a set in parentheses after it"
-feed s st (item ∷ ks) = item-begins s st ks
-feed s st (item-tail ∷ ks) = elim (is 126 s) [ true ↦ go st (bound 8 9 (s .start) ∷ ks) | false ↦ feed s (single st) ks ]
-feed s st (bound some none p ∷ ks) = elim (begins s) [ true ↦ calculation-begins s st (sign some p 0 ∷ ks) | false ↦ feed s (add none 0 p 0 st) ks ]
-feed s st (exception d ∷ ks) = elim (is 33 s) [ true ↦ go st (excluded d ∷ sign 12 (s .start) 0 ∷ ks) | false ↦ feed s st ks ]
-feed s st (excluded d ∷ ks) =
+consume s st (item ∷ ks) = item-begins s st ks
+consume s st (item-tail ∷ ks) = elim (is 126 s) [ true ↦ go st (bound 8 9 (s .start) ∷ ks) | false ↦ consume s (single st) ks ]
+consume s st (bound some none p ∷ ks) = elim (begins s) [ true ↦ calculation-begins s st (sign some p 0 ∷ ks) | false ↦ consume s (add none 0 p 0 st) ks ]
+consume s st (exception d ∷ ks) = elim (is 33 s) [ true ↦ go st (excluded d ∷ sign 12 (s .start) 0 ∷ ks) | false ↦ consume s st ks ]
+consume s st (excluded d ∷ ks) =
     elim (is 40 s) [ true ↦ within-depth d (go st (value-set (d + 1) ∷ want 41 ∷ ks)) | false ↦ item-begins s st ks ]
-feed s st (alternative d ∷ ks) = item-begins s st (exception d ∷ ks)
-feed s st (alternatives d ∷ ks) =
-    elim (is 124 s) [ true ↦ go st (alternative d ∷ sign 11 (s .start) 0 ∷ alternatives d ∷ ks) | false ↦ feed s st ks ]
-feed s st (value-set d ∷ ks) = item-begins s st (exception d ∷ alternatives d ∷ ks)
+consume s st (alternative d ∷ ks) = item-begins s st (exception d ∷ ks)
+consume s st (alternatives d ∷ ks) =
+    elim (is 124 s) [ true ↦ go st (alternative d ∷ sign 11 (s .start) 0 ∷ alternatives d ∷ ks) | false ↦ consume s st ks ]
+consume s st (value-set d ∷ ks) = item-begins s st (exception d ∷ alternatives d ∷ ks)
 -- counts: "`{n}`, `{a~b}`, `{a~}` or `{~b}`"
-feed s st (counts ∷ ks) = elim (is 126 s) [ true ↦ go st (calculation ∷ sign 10 (s .start) 0 ∷ ks) | false ↦ calculation-begins s st (counts-tail ∷ ks) ]
-feed s st (counts-tail ∷ ks) = elim (is 126 s) [ true ↦ go st (bound 8 9 (s .start) ∷ ks) | false ↦ feed s st ks ]
+consume s st (counts ∷ ks) = elim (is 126 s) [ true ↦ go st (calculation ∷ sign 10 (s .start) 0 ∷ ks) | false ↦ calculation-begins s st (counts-tail ∷ ks) ]
+consume s st (counts-tail ∷ ks) = elim (is 126 s) [ true ↦ go st (bound 8 9 (s .start) ∷ ks) | false ↦ consume s st ks ]
 -- conditions: "comparisons (`= != < <= > >=`) joined all by `&` or all by `|`; mixing needs parentheses"
-feed s st (test d ∷ ks) = test-begins d s st ks
-feed s st (comparison ∷ ks) =
+consume s st (test d ∷ ks) = test-begins d s st ks
+consume s st (comparison ∷ ks) =
     elim (eqb (comparison-tag (s .code)) 0) [ true ↦ fault | false ↦ go st (calculation ∷ sign (comparison-tag (s .code)) (s .start) 0 ∷ ks) ]
-feed s st (condition d ∷ ks) = test-begins d s st (joined d ∷ ks)
-feed s st (joined d ∷ ks) =
+consume s st (condition d ∷ ks) = test-begins d s st (joined d ∷ ks)
+consume s st (joined d ∷ ks) =
     elim (is 38 s) [
       | true ↦ go st (test d ∷ sign 13 (s .start) 0 ∷ chain 38 13 d ∷ ks)
-      | false ↦ elim (is 124 s) [ true ↦ go st (test d ∷ sign 11 (s .start) 0 ∷ chain 124 11 d ∷ ks) | false ↦ feed s st ks ]
+      | false ↦ elim (is 124 s) [ true ↦ go st (test d ∷ sign 11 (s .start) 0 ∷ chain 124 11 d ∷ ks) | false ↦ consume s st ks ]
     ]
-feed s st (chain k tag d ∷ ks) = elim (is k s) [ true ↦ go st (test d ∷ sign tag (s .start) 0 ∷ chain k tag d ∷ ks) | false ↦ feed s st ks ]
+consume s st (chain k tag d ∷ ks) = elim (is k s) [ true ↦ go st (test d ∷ sign tag (s .start) 0 ∷ chain k tag d ∷ ks) | false ↦ consume s st ks ]
 -- "Expressions, loosest first (document 001): alternative `|`, concatenation `&`, repetition."
-feed s st (atom d ∷ ks) = atom-begins d s st ks
-feed s st (factor d ∷ ks) = atom-begins d s st (marked (s .start) (nodes-of st) ∷ ks)
-feed s st (concatenation d ∷ ks) = atom-begins d s st (marked (s .start) (nodes-of st) ∷ members d (s .start) (nodes-of st) false ∷ ks)
-feed s st (expression d ∷ ks) =
+consume s st (atom d ∷ ks) = atom-begins d s st ks
+consume s st (factor d ∷ ks) = atom-begins d s st (marked (s .start) (nodes-of st) ∷ ks)
+consume s st (concatenation d ∷ ks) = atom-begins d s st (marked (s .start) (nodes-of st) ∷ members d (s .start) (nodes-of st) false ∷ ks)
+consume s st (expression d ∷ ks) =
     atom-begins d s st (marked (s .start) (nodes-of st) ∷ members d (s .start) (nodes-of st) false ∷ branches d (s .start) (nodes-of st) false ∷ ks)
-feed s st (marked p i ∷ ks) =
+consume s st (marked p i ∷ ks) =
     elim (is 123 s) [
       | true ↦ go st (counts ∷ counts-end p i (s .start) (terms-of st) ∷ ks)
-      | false ↦ elim (eqb (mark-of (s .code)) 0) [ true ↦ feed s st ks | false ↦ go (insert 3 p i (mark-of (s .code)) (s .start) 0 0 0 st) ks ]
+      | false ↦ elim (eqb (mark-of (s .code)) 0) [ true ↦ consume s st ks | false ↦ go (insert 3 p i (mark-of (s .code)) (s .start) 0 0 0 st) ks ]
     ]
-feed s st (counts-end p i mark f ∷ ks) = elim (is 125 s) [ true ↦ go (insert 3 p i 4 mark f (terms-of st) 0 st) ks | false ↦ fault ]
-feed s st (members d p i many ∷ ks) =
-    elim (is 38 s) [ true ↦ go st (factor d ∷ members d p i true ∷ ks) | false ↦ feed s (chained 2 many p i st) ks ]
-feed s st (branches d p i many ∷ ks) =
-    elim (is 124 s) [ true ↦ go st (concatenation d ∷ branches d p i true ∷ ks) | false ↦ feed s (chained 1 many p i st) ks ]
+consume s st (counts-end p i mark f ∷ ks) = elim (is 125 s) [ true ↦ go (insert 3 p i 4 mark f (terms-of st) 0 st) ks | false ↦ fault ]
+consume s st (members d p i many ∷ ks) =
+    elim (is 38 s) [ true ↦ go st (factor d ∷ members d p i true ∷ ks) | false ↦ consume s (chained 2 many p i st) ks ]
+consume s st (branches d p i many ∷ ks) =
+    elim (is 124 s) [ true ↦ go st (concatenation d ∷ branches d p i true ∷ ks) | false ↦ consume s (chained 1 many p i st) ks ]
 -- "`'a'~'z'`, a range of one-character literals"
-feed s st (character-tail p ∷ ks) = elim (is 126 s) [ true ↦ go st (last-character p ∷ ks) | false ↦ feed s (leaf 6 p 0 0 0 0 0 st) ks ]
-feed s st (last-character p ∷ ks) = elim (is 9 s) [ true ↦ go (leaf 7 p (s .start) 0 0 0 0 st) ks | false ↦ fault ]
+consume s st (character-tail p ∷ ks) = elim (is 126 s) [ true ↦ go st (last-character p ∷ ks) | false ↦ consume s (leaf 6 p 0 0 0 0 0 st) ks ]
+consume s st (last-character p ∷ ks) = elim (is 9 s) [ true ↦ go (leaf 7 p (s .start) 0 0 0 0 st) ks | false ↦ fault ]
 -- "`uint(width, set)`, …; `uint(width, var(name, set))` also binds the value"; `how` is 1 where it stands outside any group, else 2
-feed s st (width d p ∷ ks) = elim (is 2 s) [ true ↦ go st (want 44 ∷ field-set d p (s .start) ∷ ks) | false ↦ fault ]
-feed s st (field-set d p w ∷ ks) =
+consume s st (width d p ∷ ks) = elim (is 2 s) [ true ↦ go st (want 44 ∷ field-set d p (s .start) ∷ ks) | false ↦ fault ]
+consume s st (field-set d p w ∷ ks) =
     elim (is 8 s) [
       | true ↦ go st (paren d ∷ bound-name (d + 1) p w ∷ ks)
       | false ↦ item-begins s st (exception d ∷ alternatives d ∷ field-end p w 0 0 (terms-of st) ∷ ks)
     ]
-feed s st (bound-name d p w ∷ ks) =
+consume s st (bound-name d p w ∷ ks) =
     elim (is-name s) [
       | true ↦ go (bind st) (want 44 ∷ value-set d ∷ want 41 ∷ field-end p w (s .start) (cond (eqb d 2) 1 2) (terms-of st) ∷ ks)
       | false ↦ fault
     ]
-feed s st (field-end p w name how f ∷ ks) = elim (is 41 s) [ true ↦ go (leaf 8 p w name f (terms-of st) how st) ks | false ↦ fault ]
+consume s st (field-end p w name how f ∷ ks) = elim (is 41 s) [ true ↦ go (leaf 8 p w name f (terms-of st) how st) ks | false ↦ fault ]
 -- "a switch `[condition: expression; ... : expression;]`, the default last and optional"
-feed s st (colon d f ∷ ks) = elim (is 58 s) [ true ↦ go st (expression d ∷ case-end (nodes-of st) f (terms-of st) ∷ ks) | false ↦ fault ]
-feed s st (case-end i f end ∷ ks) = elim (is 59 s) [ true ↦ go (condition-on i f end st) ks | false ↦ fault ]
-feed s st (cases d p i ∷ ks) =
+consume s st (colon d f ∷ ks) = elim (is 58 s) [ true ↦ go st (expression d ∷ case-end (nodes-of st) f (terms-of st) ∷ ks) | false ↦ fault ]
+consume s st (case-end i f end ∷ ks) = elim (is 59 s) [ true ↦ go (condition-on i f end st) ks | false ↦ fault ]
+consume s st (cases d p i ∷ ks) =
     elim (is 93 s) [
       | true ↦ go (insert 4 p i 0 0 0 0 0 st) ks
       | false ↦ elim (is 58 s) [
@@ -162,14 +162,14 @@ feed s st (cases d p i ∷ ks) =
         | false ↦ test-begins d s st (joined d ∷ colon d (terms-of st) ∷ cases d p i ∷ ks)
       ]
     ]
-feed s st (switch-end p i ∷ ks) = elim (is 93 s) [ true ↦ go (insert 4 p i 0 0 0 0 0 st) ks | false ↦ fault ]
+consume s st (switch-end p i ∷ ks) = elim (is 93 s) [ true ↦ go (insert 4 p i 0 0 0 0 0 st) ks | false ↦ fault ]
 -- "A rule is `name = expression ;`"; a text has at least one
-feed s st (rules any ∷ ks) =
+consume s st (rules any ∷ ks) =
     elim (is-name s) [
       | true ↦ go st (want 61 ∷ expression 0 ∷ rule-end (s .start) (nodes-of st) ∷ rules true ∷ ks)
       | false ↦ elim (any && is 5 s) [ true ↦ done st | false ↦ fault ]
     ]
-feed s st (rule-end p i ∷ ks) = elim (is 59 s) [ true ↦ go (close-rule p i st) ks | false ↦ fault ]
+consume s st (rule-end p i ∷ ks) = elim (is 59 s) [ true ↦ go (close-rule p i st) ks | false ↦ fault ]
 
 -- ---- all terminals
 
@@ -179,6 +179,6 @@ pub data Outcome : Type 0 where
   refused : ℕ → Outcome
 
 -- one terminal after the other; the last is the end, after which nothing is read
-unfoldable pub run : List Sight → State → List Symbol → Outcome
+unfoldable pub run : List Terminal → State → List Symbol → Outcome
 run [] st ks = refused 0
-run (s ∷ rest) st ks = elim (feed s st ks) [ go st′ ks′ ↦ run rest st′ ks′ | done st′ ↦ right st′ | fault ↦ refused (s .start) ]
+run (s ∷ rest) st ks = elim (consume s st ks) [ go st′ ks′ ↦ run rest st′ ks′ | done st′ ↦ right st′ | fault ↦ refused (s .start) ]

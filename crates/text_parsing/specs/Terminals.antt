@@ -10,7 +10,7 @@ use Rattle.text_tokens.specs.Names.{reserved-of, name-of}
 use Rattle.text_tokens.specs.Tokens.{token-of}
 use Rattle.text_tokens.specs.declared.Kind.{Kind}
 use Rattle.text_literals.specs.Literals.{characters-at}
-use Rattle.text_parsing.specs.declared.Sight.{Sight}
+use Rattle.text_parsing.specs.declared.Terminal.{Terminal}
 
 -- a token's code; what is no sign has a code below 6
 abbrev pub code-of : Kind → ℕ
@@ -60,37 +60,37 @@ unfoldable pub literal-code : List ℕ → ℕ → ℕ
 literal-code xs start = cond (eqb (length (characters-at xs start)) 1) 9 3
 
 -- a terminal: its code, from where up to where it stands, and the value of a number
-abbrev pub sight : ℕ → ℕ → ℕ → ℕ → Sight
-sight code start end value = record { code = code; start = start; end = end; value = value }
+abbrev pub terminal : ℕ → ℕ → ℕ → ℕ → Terminal
+terminal code start end value = record { code = code; start = start; end = end; value = value }
 
 -- the terminal that a token of a code is; a number has its value
-unfoldable pub seen : List ℕ → ℕ → ℕ → ℕ → Sight
+unfoldable pub seen : List ℕ → ℕ → ℕ → ℕ → Terminal
 seen xs code start end =
-    cond (eqb code 1) (sight (name-code xs start end) start end 0)
-    (cond (eqb code 2) (sight 2 start end (capped (number-value xs start)))
-    (cond (eqb code 3) (sight (literal-code xs start) start end 0) (sight code start end 0)))
+    cond (eqb code 1) (terminal (name-code xs start end) start end 0)
+    (cond (eqb code 2) (terminal 2 start end (capped (number-value xs start)))
+    (cond (eqb code 3) (terminal (literal-code xs start) start end 0) (terminal code start end 0)))
 
 -- the terminal at or after a place
-unfoldable pub sight-of : List ℕ → ℕ → Sight
-sight-of xs at = seen xs (code-of (token-of xs at .kind)) (token-of xs at .start) (token-of xs at .end)
+unfoldable pub terminal-of : List ℕ → ℕ → Terminal
+terminal-of xs at = seen xs (code-of (token-of xs at .kind)) (token-of xs at .start) (token-of xs at .end)
 
 -- the terminals from a place on, the end last; each but the end takes a byte
-unfoldable pub sights : ℕ → List ℕ → ℕ → List Sight
-sights zero xs at = []
-sights (suc n) xs at = sight-of xs at ∷ elim (eqb (sight-of xs at .code) 5) [ true ↦ [] | false ↦ sights n xs (sight-of xs at .end) ]
+unfoldable pub terminals : ℕ → List ℕ → ℕ → List Terminal
+terminals zero xs at = []
+terminals (suc n) xs at = terminal-of xs at ∷ elim (eqb (terminal-of xs at .code) 5) [ true ↦ [] | false ↦ terminals n xs (terminal-of xs at .end) ]
 
 -- all of them, since there are no more than bytes and the end
-abbrev pub sights-from : List ℕ → ℕ → List Sight
-sights-from xs at = sights (suc (length xs)) xs at
+abbrev pub terminals-from : List ℕ → ℕ → List Terminal
+terminals-from xs at = terminals (suc (length xs)) xs at
 
 -- those after a terminal
-unfoldable pub sights-after : List ℕ → Sight → List Sight
-sights-after xs s = elim (eqb (s .code) 5) [ true ↦ [] | false ↦ sights-from xs (s .end) ]
+unfoldable pub terminals-after : List ℕ → Terminal → List Terminal
+terminals-after xs s = elim (eqb (s .code) 5) [ true ↦ [] | false ↦ terminals-from xs (s .end) ]
 
 -- ---- tests of a terminal
 
 -- it has this code
-abbrev pub is : ℕ → Sight → Bool
+abbrev pub is : ℕ → Terminal → Bool
 is k s = eqb (s .code) k
 
 -- any name may stand where the form has a name
@@ -98,7 +98,7 @@ abbrev pub name-like : ℕ → Bool
 name-like code = eqb code 1 || (leb 6 code && leb code 8)
 
 -- a terminal that is such a name
-abbrev pub is-name : Sight → Bool
+abbrev pub is-name : Terminal → Bool
 is-name s = name-like (s .code)
 
 -- a calculation begins with a number, a name or a minus
@@ -106,7 +106,7 @@ abbrev pub begin-like : ℕ → Bool
 begin-like code = eqb code 2 || (name-like code || eqb code 45)
 
 -- a terminal that begins one
-abbrev pub begins : Sight → Bool
+abbrev pub begins : Terminal → Bool
 begins s = begin-like (s .code)
 
 -- neither a failure nor the end

@@ -4,7 +4,7 @@ pub mod terminals;
 pub mod words;
 
 // A token as the form of rules sees it: its code, where it stands, and a number's value.
-pub struct Sight {
+pub struct Terminal {
     pub code: usize,
     pub start: usize,
     pub end: usize,

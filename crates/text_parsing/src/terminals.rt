@@ -1,5 +1,5 @@
 // The terminal at or after a place.
-use crate::Sight;
+use crate::Terminal;
 use text_literals::count_at;
 use text_tokens::Kind;
 use text_tokens::names::reserved;
@@ -9,7 +9,7 @@ ghost use mathlib.Core.Path.{_≡_};
 ghost use mathlib.Core.Bool.{cond};
 ghost use Prim.Native.Nat.{_≤_, _<_};
 ghost use lib.ListN.{length};
-ghost use Rattle.text_parsing.specs.Terminals.{code-of, opens-at, name-code, literal-code, seen, sight-of};
+ghost use Rattle.text_parsing.specs.Terminals.{code-of, opens-at, name-code, literal-code, seen, terminal-of};
 
 fn code(kind: Kind) -> usize
     ensures { λ r. ⌜ r ≡ code-of kind ⌝ }
@@ -89,12 +89,12 @@ fn literal_of(text: &[u8], start: usize) -> usize
     3
 }
 
-fn told(text: &[u8], code: usize, start: usize, end: usize) -> Sight
+fn told(text: &[u8], code: usize, start: usize, end: usize) -> Terminal
     requires { ⌜ (start < end) × (end ≤ length (now text)) ⌝ }
     ensures { λ r. ⌜ r ≡ seen (now (text .entry)) code start end ⌝ }
 {
     if code == 1 {
-        return Sight {
+        return Terminal {
             code: name_of(text, start, end),
             start,
             end,
@@ -102,7 +102,7 @@ fn told(text: &[u8], code: usize, start: usize, end: usize) -> Sight
         };
     }
     if code == 2 {
-        return Sight {
+        return Terminal {
             code: 2,
             start,
             end,
@@ -110,14 +110,14 @@ fn told(text: &[u8], code: usize, start: usize, end: usize) -> Sight
         };
     }
     if code == 3 {
-        return Sight {
+        return Terminal {
             code: literal_of(text, start),
             start,
             end,
             value: 0,
         };
     }
-    Sight {
+    Terminal {
         code,
         start,
         end,
@@ -125,8 +125,8 @@ fn told(text: &[u8], code: usize, start: usize, end: usize) -> Sight
     }
 }
 
-pub fn look(text: &[u8], at: usize) -> Sight
-    ensures { λ r. ⌜ r ≡ sight-of (now (text .entry)) at ⌝ }
+pub fn look(text: &[u8], at: usize) -> Terminal
+    ensures { λ r. ⌜ r ≡ terminal-of (now (text .entry)) at ⌝ }
 {
     let token = token_at(text, at);
     let kind = token.kind;
@@ -136,7 +136,7 @@ pub fn look(text: &[u8], at: usize) -> Sight
     if start < end {
         return told(text, k, start, end);
     }
-    Sight {
+    Terminal {
         code: k,
         start,
         end,

@@ -10,11 +10,11 @@ use lib.Dec.{ltb, eqb}
 use lib.ListN.{length}
 use Rattle.basis.specs.Limits.{max-nesting}
 use Rattle.text_header.proofs.Tests.{both-first, choice, picked}
-use Rattle.text_parsing.specs.Terminals.{is, is-name, begins, sight-of, sights, sights-from}
+use Rattle.text_parsing.specs.Terminals.{is, is-name, begins, terminal-of, terminals, terminals-from}
 use Rattle.text_store.specs.Store.{State, nodes-of, terms-of, insert}
 use Rattle.text_parsing.specs.Symbols.{Symbol, want, sign, paren, primary, operand, factors, summands, calculation, item, item-tail, bound, exception, excluded, alternative, alternatives, value-set, counts, counts-tail, test, comparison, condition, joined, chain, atom, factor, concatenation, expression, marked, counts-end, members, branches, character-tail, last-character, width, field-set, bound-name, field-end, colon, case-end, cases, switch-end, rules, rule-end}
-use Rattle.text_parsing.specs.Form.{Fed, go, done, fault, primary-begins, operand-begins, sum-tag, calculation-begins, item-begins, test-begins, comparison-tag, atom-begins, mark-of, feed, right, refused, run}
-use Rattle.text_parsing.specs.declared.Sight.{Sight}
+use Rattle.text_parsing.specs.Form.{Consumed, go, done, fault, primary-begins, operand-begins, sum-tag, calculation-begins, item-begins, test-begins, comparison-tag, atom-begins, mark-of, consume, right, refused, run}
+use Rattle.text_parsing.specs.declared.Terminal.{Terminal}
 use Rattle.text_productions.specs.Phrases.{Seen, terminal, signed, opened, number, variable, negated, plain, no-factor, times, no-summand, plus, minus, sum, open-item, value-item, to-bound, alone, some-bound, no-bound, no-exception, except, except-set, except-item, set-alternative, no-alternative, or-alternative, set, counts-to, counts-from, counts-exact, counts-range, test-group, test-compare, compare, tests, one-test, all-of, any-of, no-link, link, literal-atom, character-atom, field-atom, eod-atom, use-atom, group-atom, switch-atom, an-item, one-member, one-branch, no-mark, a-mark, counted-mark, counted, and-member, last-member, or-branch, last-branch, to-character, one-character, range, field-width, binding, not-binding, binder, field, a-case, case-done, no-default, default, further-case, switched, no-rule, a-rule, ruled, Phrases, nothing, then}
 use Rattle.text_productions.proofs.Parts.{Ground, Leads, goes, ends, faults, taken, made, by-test}
 
@@ -54,7 +54,7 @@ marks code =
 last-rule : {xs : List ℕ} {st : State} (any : Bool) → any ≡ true → (ks : List Symbol) → ks ≡ [] → Phrases xs (rules any ∷ ks) st st
 last-rule {xs} {st} any e ks g = rw (e, g) (then no-rule nothing nothing)
 
-module _ {xs : List ℕ} (s : Sight) (v : Seen xs s) where
+module _ {xs : List ℕ} (s : Terminal) (v : Seen xs s) where
   primary-leads : (o : ℕ) (st : State) (ks : List Symbol) → Leads xs st (primary o ∷ ks) (primary-begins o s st ks)
   unfolding primary-begins
   primary-leads o st ks =
@@ -98,7 +98,7 @@ module _ {xs : List ℕ} (s : Sight) (v : Seen xs s) where
       (λ e₆. picked P (is 91 s) (λ e. picked P (ltb d max-nesting) (λ l. made (switch-atom (ltb-true d max-nesting l) refl refl refl) (λ g. g) taken) (λ l. faults))
       (λ e₇. faults)))))))
     where
-      P : Fed → Type 0
+      P : Consumed → Type 0
       P = Leads xs st (atom d ∷ ks)
 
   factor-leads : (d : ℕ) (st : State) (ks : List Symbol) → Leads xs st (factor d ∷ ks) (atom-begins d s st (marked (s .start) (nodes-of st) ∷ ks))
@@ -108,91 +108,91 @@ module _ {xs : List ℕ} (s : Sight) (v : Seen xs s) where
   concatenation-leads d st ks = made (one-member refl) (λ g. g) (factor-leads d st (members d (s .start) (nodes-of st) false ∷ ks))
 
   -- signs that have tags
-  summand-leads : (o : ℕ) (st : State) (ks : List Symbol) → Leads xs st ks (feed s st ks) → Leads xs st (summands o ∷ ks) (feed s st (summands o ∷ ks))
-  unfolding feed
+  summand-leads : (o : ℕ) (st : State) (ks : List Symbol) → Leads xs st ks (consume s st ks) → Leads xs st (summands o ∷ ks) (consume s st (summands o ∷ ks))
+  unfolding consume
   summand-leads o st ks h =
-      sum-tags (λ (n : ℕ). Leads xs st (summands o ∷ ks) (elim (eqb n 0) [ true ↦ feed s st ks | false ↦ go st (operand o ∷ factors o ∷ sign n (s .start) o ∷ summands o ∷ ks) ]))
+      sum-tags (λ (n : ℕ). Leads xs st (summands o ∷ ks) (elim (eqb n 0) [ true ↦ consume s st ks | false ↦ go st (operand o ∷ factors o ∷ sign n (s .start) o ∷ summands o ∷ ks) ]))
       (s .code) (made plus (λ g. g) taken) (made minus (λ g. g) taken) (made no-summand (λ g. g) h)
 
-  comparison-leads : (st : State) (ks : List Symbol) → Leads xs st (comparison ∷ ks) (feed s st (comparison ∷ ks))
-  unfolding feed
+  comparison-leads : (st : State) (ks : List Symbol) → Leads xs st (comparison ∷ ks) (consume s st (comparison ∷ ks))
+  unfolding consume
   comparison-leads st ks =
       by-test (eqb (comparison-tag (s .code)) 0) (λ e. faults)
       (λ e. made (compare (comparison-tags (s .code) .1 e) (comparison-tags (s .code) .0)) (λ g. g) taken)
 
-  mark-leads : (p i : ℕ) (st : State) (ks : List Symbol) → Leads xs st ks (feed s st ks) → Leads xs st (marked p i ∷ ks) (elim (eqb (mark-of (s .code)) 0) [ true ↦ feed s st ks | false ↦ go (insert 3 p i (mark-of (s .code)) (s .start) 0 0 0 st) ks ])
+  mark-leads : (p i : ℕ) (st : State) (ks : List Symbol) → Leads xs st ks (consume s st ks) → Leads xs st (marked p i ∷ ks) (elim (eqb (mark-of (s .code)) 0) [ true ↦ consume s st ks | false ↦ go (insert 3 p i (mark-of (s .code)) (s .start) 0 0 0 st) ks ])
   mark-leads p i st ks h =
       by-test (eqb (mark-of (s .code)) 0) (λ e. made no-mark (λ g. g) h)
       (λ e. made (a-mark (mark-of (s .code)) (s .start) (marks (s .code) .1 e) (marks (s .code) .0) refl) (λ g. g) taken)
 
-  fed : (st : State) (ks : List Symbol) → Leads xs st ks (feed s st ks)
-  unfolding feed
-  fed st [] = faults
-  fed st (want k ∷ ks) = by-test (is k s) (λ e. made terminal (λ g. g) taken) (λ e. faults)
-  fed st (sign tag p o ∷ ks) = made (signed refl) (λ g. g) (fed _ ks)
-  fed st (paren d ∷ ks) = by-test (ltb d max-nesting) (λ l. by-test (is 40 s) (λ e. made (opened (ltb-true d max-nesting l)) (λ g. g) taken) (λ e. faults)) (λ l. faults)
+  consumed : (st : State) (ks : List Symbol) → Leads xs st ks (consume s st ks)
+  unfolding consume
+  consumed st [] = faults
+  consumed st (want k ∷ ks) = by-test (is k s) (λ e. made terminal (λ g. g) taken) (λ e. faults)
+  consumed st (sign tag p o ∷ ks) = made (signed refl) (λ g. g) (consumed _ ks)
+  consumed st (paren d ∷ ks) = by-test (ltb d max-nesting) (λ l. by-test (is 40 s) (λ e. made (opened (ltb-true d max-nesting l)) (λ g. g) taken) (λ e. faults)) (λ l. faults)
   -- calculations
-  fed st (primary o ∷ ks) = primary-leads o st ks
-  fed st (operand o ∷ ks) = operand-leads o st ks
-  fed st (factors o ∷ ks) = by-test (is 42 s) (λ e. made times (λ g. g) taken) (λ e. made no-factor (λ g. g) (fed st ks))
-  fed st (summands o ∷ ks) = summand-leads o st ks (fed st ks)
-  fed st (calculation ∷ ks) = calculation-leads st ks
+  consumed st (primary o ∷ ks) = primary-leads o st ks
+  consumed st (operand o ∷ ks) = operand-leads o st ks
+  consumed st (factors o ∷ ks) = by-test (is 42 s) (λ e. made times (λ g. g) taken) (λ e. made no-factor (λ g. g) (consumed st ks))
+  consumed st (summands o ∷ ks) = summand-leads o st ks (consumed st ks)
+  consumed st (calculation ∷ ks) = calculation-leads st ks
   -- sets
-  fed st (item ∷ ks) = item-leads st ks
-  fed st (item-tail ∷ ks) = by-test (is 126 s) (λ e. made to-bound (λ g. g) taken) (λ e. made (alone refl) (λ g. g) (fed _ ks))
-  fed st (bound some none p ∷ ks) = by-test (begins s) (λ e. made some-bound (λ g. g) (calculation-leads st (sign some p 0 ∷ ks))) (λ e. made (no-bound refl) (λ g. g) (fed _ ks))
-  fed st (exception d ∷ ks) = by-test (is 33 s) (λ e. made except (λ g. g) taken) (λ e. made no-exception (λ g. g) (fed st ks))
-  fed st (excluded d ∷ ks) = by-test (is 40 s) (λ e. picked (Leads xs st (excluded d ∷ ks)) (ltb d max-nesting) (λ l. made (except-set (ltb-true d max-nesting l) refl) (λ g. g) taken) (λ l. faults)) (λ e. made except-item (λ g. g) (item-leads st ks))
-  fed st (alternative d ∷ ks) = made set-alternative (λ g. g) (item-leads st (exception d ∷ ks))
-  fed st (alternatives d ∷ ks) = by-test (is 124 s) (λ e. made or-alternative (λ g. g) taken) (λ e. made no-alternative (λ g. g) (fed st ks))
-  fed st (value-set d ∷ ks) = set-leads d st ks
+  consumed st (item ∷ ks) = item-leads st ks
+  consumed st (item-tail ∷ ks) = by-test (is 126 s) (λ e. made to-bound (λ g. g) taken) (λ e. made (alone refl) (λ g. g) (consumed _ ks))
+  consumed st (bound some none p ∷ ks) = by-test (begins s) (λ e. made some-bound (λ g. g) (calculation-leads st (sign some p 0 ∷ ks))) (λ e. made (no-bound refl) (λ g. g) (consumed _ ks))
+  consumed st (exception d ∷ ks) = by-test (is 33 s) (λ e. made except (λ g. g) taken) (λ e. made no-exception (λ g. g) (consumed st ks))
+  consumed st (excluded d ∷ ks) = by-test (is 40 s) (λ e. picked (Leads xs st (excluded d ∷ ks)) (ltb d max-nesting) (λ l. made (except-set (ltb-true d max-nesting l) refl) (λ g. g) taken) (λ l. faults)) (λ e. made except-item (λ g. g) (item-leads st ks))
+  consumed st (alternative d ∷ ks) = made set-alternative (λ g. g) (item-leads st (exception d ∷ ks))
+  consumed st (alternatives d ∷ ks) = by-test (is 124 s) (λ e. made or-alternative (λ g. g) taken) (λ e. made no-alternative (λ g. g) (consumed st ks))
+  consumed st (value-set d ∷ ks) = set-leads d st ks
   -- counts
-  fed st (counts ∷ ks) = by-test (is 126 s) (λ e. made counts-to (λ g. g) taken) (λ e. made counts-from (λ g. g) (calculation-leads st (counts-tail ∷ ks)))
-  fed st (counts-tail ∷ ks) = by-test (is 126 s) (λ e. made counts-range (λ g. g) taken) (λ e. made counts-exact (λ g. g) (fed st ks))
+  consumed st (counts ∷ ks) = by-test (is 126 s) (λ e. made counts-to (λ g. g) taken) (λ e. made counts-from (λ g. g) (calculation-leads st (counts-tail ∷ ks)))
+  consumed st (counts-tail ∷ ks) = by-test (is 126 s) (λ e. made counts-range (λ g. g) taken) (λ e. made counts-exact (λ g. g) (consumed st ks))
   -- conditions
-  fed st (test d ∷ ks) = test-leads d st ks
-  fed st (comparison ∷ ks) = comparison-leads st ks
-  fed st (condition d ∷ ks) = condition-leads d st ks
-  fed st (joined d ∷ ks) = by-test (is 38 s) (λ e. made all-of (λ g. g) taken) (λ e. by-test (is 124 s) (λ n. made any-of (λ g. g) taken) (λ n. made one-test (λ g. g) (fed st ks)))
-  fed st (chain k tag d ∷ ks) = by-test (is k s) (λ e. made link (λ g. g) taken) (λ e. made no-link (λ g. g) (fed st ks))
+  consumed st (test d ∷ ks) = test-leads d st ks
+  consumed st (comparison ∷ ks) = comparison-leads st ks
+  consumed st (condition d ∷ ks) = condition-leads d st ks
+  consumed st (joined d ∷ ks) = by-test (is 38 s) (λ e. made all-of (λ g. g) taken) (λ e. by-test (is 124 s) (λ n. made any-of (λ g. g) taken) (λ n. made one-test (λ g. g) (consumed st ks)))
+  consumed st (chain k tag d ∷ ks) = by-test (is k s) (λ e. made link (λ g. g) taken) (λ e. made no-link (λ g. g) (consumed st ks))
   -- expressions
-  fed st (atom d ∷ ks) = atom-leads d st ks
-  fed st (factor d ∷ ks) = factor-leads d st ks
-  fed st (concatenation d ∷ ks) = concatenation-leads d st ks
-  fed st (expression d ∷ ks) = made (one-branch refl) (λ g. g) (concatenation-leads d st (branches d (s .start) (nodes-of st) false ∷ ks))
-  fed st (marked p i ∷ ks) = by-test (is 123 s) (λ e. made (counted-mark refl) (λ g. g) taken) (λ e. mark-leads p i st ks (fed st ks))
-  fed st (counts-end p i mark f ∷ ks) = by-test (is 125 s) (λ e. made (counted refl) (λ g. g) taken) (λ e. faults)
-  fed st (members d p i many ∷ ks) = by-test (is 38 s) (λ e. made and-member (λ g. g) taken) (λ e. made (last-member refl) (λ g. g) (fed _ ks))
-  fed st (branches d p i many ∷ ks) = by-test (is 124 s) (λ e. made or-branch (λ g. g) taken) (λ e. made (last-branch refl) (λ g. g) (fed _ ks))
+  consumed st (atom d ∷ ks) = atom-leads d st ks
+  consumed st (factor d ∷ ks) = factor-leads d st ks
+  consumed st (concatenation d ∷ ks) = concatenation-leads d st ks
+  consumed st (expression d ∷ ks) = made (one-branch refl) (λ g. g) (concatenation-leads d st (branches d (s .start) (nodes-of st) false ∷ ks))
+  consumed st (marked p i ∷ ks) = by-test (is 123 s) (λ e. made (counted-mark refl) (λ g. g) taken) (λ e. mark-leads p i st ks (consumed st ks))
+  consumed st (counts-end p i mark f ∷ ks) = by-test (is 125 s) (λ e. made (counted refl) (λ g. g) taken) (λ e. faults)
+  consumed st (members d p i many ∷ ks) = by-test (is 38 s) (λ e. made and-member (λ g. g) taken) (λ e. made (last-member refl) (λ g. g) (consumed _ ks))
+  consumed st (branches d p i many ∷ ks) = by-test (is 124 s) (λ e. made or-branch (λ g. g) taken) (λ e. made (last-branch refl) (λ g. g) (consumed _ ks))
   -- ranges of characters
-  fed st (character-tail p ∷ ks) = by-test (is 126 s) (λ e. made to-character (λ g. g) taken) (λ e. made (one-character refl) (λ g. g) (fed _ ks))
-  fed st (last-character p ∷ ks) = by-test (is 9 s) (λ e. made (range v e refl) (λ g. g) taken) (λ e. faults)
+  consumed st (character-tail p ∷ ks) = by-test (is 126 s) (λ e. made to-character (λ g. g) taken) (λ e. made (one-character refl) (λ g. g) (consumed _ ks))
+  consumed st (last-character p ∷ ks) = by-test (is 9 s) (λ e. made (range v e refl) (λ g. g) taken) (λ e. faults)
   -- uint
-  fed st (width d p ∷ ks) = by-test (is 2 s) (λ e. made (field-width v e refl) (λ g. g) taken) (λ e. faults)
-  fed st (field-set d p w ∷ ks) = by-test (is 8 s) (λ e. made (binding refl) (λ g. g) taken) (λ e. made (not-binding refl) (λ g. g) (set-leads d st (field-end p w 0 0 (terms-of st) ∷ ks)))
-  fed st (bound-name d p w ∷ ks) = by-test (is-name s) (λ e. made (binder v e refl refl refl refl) (λ g. g) taken) (λ e. faults)
-  fed st (field-end p w q how f ∷ ks) = by-test (is 41 s) (λ e. made (field refl) (λ g. g) taken) (λ e. faults)
+  consumed st (width d p ∷ ks) = by-test (is 2 s) (λ e. made (field-width v e refl) (λ g. g) taken) (λ e. faults)
+  consumed st (field-set d p w ∷ ks) = by-test (is 8 s) (λ e. made (binding refl) (λ g. g) taken) (λ e. made (not-binding refl) (λ g. g) (set-leads d st (field-end p w 0 0 (terms-of st) ∷ ks)))
+  consumed st (bound-name d p w ∷ ks) = by-test (is-name s) (λ e. made (binder v e refl refl refl refl) (λ g. g) taken) (λ e. faults)
+  consumed st (field-end p w q how f ∷ ks) = by-test (is 41 s) (λ e. made (field refl) (λ g. g) taken) (λ e. faults)
   -- switches
-  fed st (colon d f ∷ ks) = by-test (is 58 s) (λ e. made (a-case refl refl) (λ g. g) taken) (λ e. faults)
-  fed st (case-end i f end ∷ ks) = by-test (is 59 s) (λ e. made (case-done refl) (λ g. g) taken) (λ e. faults)
-  fed st (cases d p i ∷ ks) = by-test (is 93 s) (λ e. made (no-default refl) (λ g. g) taken) (λ e. by-test (is 58 s) (λ n. made default (λ g. g) taken) (λ n. made (further-case refl) (λ g. g) (condition-leads d st (colon d (terms-of st) ∷ cases d p i ∷ ks))))
-  fed st (switch-end p i ∷ ks) = by-test (is 93 s) (λ e. made (switched refl) (λ g. g) taken) (λ e. faults)
+  consumed st (colon d f ∷ ks) = by-test (is 58 s) (λ e. made (a-case refl refl) (λ g. g) taken) (λ e. faults)
+  consumed st (case-end i f end ∷ ks) = by-test (is 59 s) (λ e. made (case-done refl) (λ g. g) taken) (λ e. faults)
+  consumed st (cases d p i ∷ ks) = by-test (is 93 s) (λ e. made (no-default refl) (λ g. g) taken) (λ e. by-test (is 58 s) (λ n. made default (λ g. g) taken) (λ n. made (further-case refl) (λ g. g) (condition-leads d st (colon d (terms-of st) ∷ cases d p i ∷ ks))))
+  consumed st (switch-end p i ∷ ks) = by-test (is 93 s) (λ e. made (switched refl) (λ g. g) taken) (λ e. faults)
   -- rules
-  fed st (rules any ∷ ks) = by-test (is-name s) (λ e. made (a-rule v e refl refl) (λ g. g) taken) (λ e. by-test (any && is 5 s) (λ n. ends (λ g. last-rule any (both-first any (is 5 s) n) ks g)) (λ n. faults))
-  fed st (rule-end p i ∷ ks) = by-test (is 59 s) (λ e. made (ruled refl) (λ g. g) taken) (λ e. faults)
+  consumed st (rules any ∷ ks) = by-test (is-name s) (λ e. made (a-rule v e refl refl) (λ g. g) taken) (λ e. by-test (any && is 5 s) (λ n. ends (λ g. last-rule any (both-first any (is 5 s) n) ks g)) (λ n. faults))
+  consumed st (rule-end p i ∷ ks) = by-test (is 59 s) (λ e. made (ruled refl) (λ g. g) taken) (λ e. faults)
 
 -- ---- all terminals
 
 module _ (xs : List ℕ) (f : State) where
   -- what is shown of the terminals that are left
-  abbrev Reads : List Sight → Type 0
+  abbrev Reads : List Terminal → Type 0
   Reads ss = (st : State) (ks : List Symbol) → Ground ks → run ss st ks ≡ right f → Phrases xs ks st f
 
-  one-more : (s : Sight) (ss : List Sight) → Seen xs s → Reads ss → Reads (s ∷ ss)
+  one-more : (s : Terminal) (ss : List Terminal) → Seen xs s → Reads ss → Reads (s ∷ ss)
   unfolding run
-  one-more s ss v h st ks g e = by (fed s v st ks) e
+  one-more s ss v h st ks g e = by (consumed s v st ks) e
     where
-      by : {r : Fed} → Leads xs st ks r → elim r [ go st′ ks′ ↦ run ss st′ ks′ | done st′ ↦ right st′ | fault ↦ refused (s .start) ] ≡ right f → Phrases xs ks st f
+      by : {r : Consumed} → Leads xs st ks r → elim r [ go st′ ks′ ↦ run ss st′ ks′ | done st′ ↦ right st′ | fault ↦ refused (s .start) ] ≡ right f → Phrases xs ks st f
       by (goes {st′} {ks′} p u) z = p f (h st′ ks′ (u g) z)
       by (ends {st′} p) z = let w : st′ ≡ f = cc in subst (Phrases xs ks st) w (p g)
       by faults z = let w : _≡_ {A = ℕ} 0 1 = cc in absurd (omega arith)
@@ -201,10 +201,10 @@ module _ (xs : List ℕ) (f : State) where
   unfolding run
   none-left st ks g e = let w : _≡_ {A = ℕ} 0 1 = cc in absurd (omega arith)
 
-  read-all : (n at : ℕ) → Reads (sights n xs at)
-  unfolding sights
+  read-all : (n at : ℕ) → Reads (terminals n xs at)
+  unfolding terminals
   read-all zero at = none-left
-  read-all (suc n) at = one-more (sight-of xs at) _ (record { at = at; seen = refl }) (choice Reads (eqb (sight-of xs at .code) 5) none-left (read-all n (sight-of xs at .end)))
+  read-all (suc n) at = one-more (terminal-of xs at) _ (record { at = at; seen = refl }) (choice Reads (eqb (terminal-of xs at .code) 5) none-left (read-all n (terminal-of xs at .end)))
 
-pub derived : (xs : List ℕ) (st f : State) → run (sights-from xs 0) st (rules false ∷ []) ≡ right f → Phrases xs (rules false ∷ []) st f
+pub derived : (xs : List ℕ) (st f : State) → run (terminals-from xs 0) st (rules false ∷ []) ≡ right f → Phrases xs (rules false ∷ []) st f
 derived xs st f e = read-all xs f (suc (length xs)) 0 st (rules false ∷ []) refl e

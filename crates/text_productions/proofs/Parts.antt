@@ -6,7 +6,7 @@ use mathlib.Core.List.{List, [], _∷_, _++_}
 use Prim.Native.Nat.{ℕ}
 use Rattle.text_store.specs.Store.{State}
 use Rattle.text_parsing.specs.Symbols.{Symbol, want, sign, paren, primary, operand, factors, summands, calculation, item, item-tail, bound, exception, excluded, alternative, alternatives, value-set, counts, counts-tail, test, comparison, condition, joined, chain, atom, factor, concatenation, expression, marked, counts-end, members, branches, character-tail, last-character, width, field-set, bound-name, field-end, colon, case-end, cases, switch-end, rules, rule-end}
-use Rattle.text_parsing.specs.Form.{Fed, go, done, fault}
+use Rattle.text_parsing.specs.Form.{Consumed, go, done, fault}
 use Rattle.text_productions.specs.Phrases.{Production, Phrases, nothing, then}
 
 -- rules wait below all else, and below them nothing
@@ -76,7 +76,7 @@ close {qs = qs} p r =
 
 -- ---- a terminal
 
-pub data Leads (xs : List ℕ) (st : State) (ks : List Symbol) : Fed → Type 0 where
+pub data Leads (xs : List ℕ) (st : State) (ks : List Symbol) : Consumed → Type 0 where
   goes : {st′ : State} {ks′ : List Symbol} → ((f : State) → Phrases xs ks′ st′ f → Phrases xs ks st f) → (Ground ks → Ground ks′) → Leads xs st ks (go st′ ks′)
   ends : {st′ : State} → (Ground ks → Phrases xs ks st st′) → Leads xs st ks (done st′)
   faults : Leads xs st ks fault
@@ -85,12 +85,12 @@ pub taken : {xs : List ℕ} {st : State} {ks : List Symbol} → Leads xs st ks (
 taken = goes (λ f p. p) (λ g. g)
 
 -- a part is made of others, which wait in its place
-pub made : {xs : List ℕ} {k : Symbol} {qs ks : List Symbol} {a b : State} {r : Fed} → Production xs k a b qs → (Ground (k ∷ ks) → Ground (qs ++ ks)) → Leads xs b (qs ++ ks) r → Leads xs a (k ∷ ks) r
+pub made : {xs : List ℕ} {k : Symbol} {qs ks : List Symbol} {a b : State} {r : Consumed} → Production xs k a b qs → (Ground (k ∷ ks) → Ground (qs ++ ks)) → Leads xs b (qs ++ ks) r → Leads xs a (k ∷ ks) r
 made p g (goes f h) = goes (λ c z. close p (f c z)) (λ u. h (g u))
 made p g (ends e) = ends (λ u. close p (e (g u)))
 made p g faults = faults
 
 -- one way or the other, by a test
-pub by-test : {xs : List ℕ} {st : State} {ks : List Symbol} (t : Bool) {x y : Fed} → (t ≡ true → Leads xs st ks x) → (t ≡ false → Leads xs st ks y) → Leads xs st ks (elim t [ true ↦ x | false ↦ y ])
+pub by-test : {xs : List ℕ} {st : State} {ks : List Symbol} (t : Bool) {x y : Consumed} → (t ≡ true → Leads xs st ks x) → (t ≡ false → Leads xs st ks y) → Leads xs st ks (elim t [ true ↦ x | false ↦ y ])
 by-test true f g = f refl
 by-test false f g = g refl

@@ -1,4 +1,4 @@
--- The form of rules as productions: which parts a part is made of, and what it adds to what is read. `Form.feed` says the same terminal by
+-- The form of rules as productions: which parts a part is made of, and what it adds to what is read. `Form.consume` says the same terminal by
 -- terminal; a right text is a phrase (`proofs/Derived`). What is read before a part is `a`, and with what it adds itself, `b`.
 -- Assumes nothing.
 use Prim.Native.Nat.{ℕ, _+_, _≤_, _<_}
@@ -7,16 +7,16 @@ use mathlib.Core.Bool.{Bool, true, false, cond}
 use mathlib.Core.List.{List, [], _∷_}
 use lib.Dec.{eqb}
 use Rattle.basis.specs.Limits.{max-nesting}
-use Rattle.text_parsing.specs.Terminals.{is, is-name, sight-of}
+use Rattle.text_parsing.specs.Terminals.{is, is-name, terminal-of}
 use Rattle.text_store.specs.Store.{State, nodes-of, terms-of, add, single, insert, leaf, condition-on, bind, close-rule}
 use Rattle.text_parsing.specs.Symbols.{Symbol, want, sign, paren, primary, operand, factors, summands, calculation, item, item-tail, bound, exception, excluded, alternative, alternatives, value-set, counts, counts-tail, test, comparison, condition, joined, chain, atom, factor, concatenation, expression, marked, counts-end, members, branches, character-tail, last-character, width, field-set, bound-name, field-end, colon, case-end, cases, switch-end, rules, rule-end}
 use Rattle.text_parsing.specs.Form.{chained}
-use Rattle.text_parsing.specs.declared.Sight.{Sight}
+use Rattle.text_parsing.specs.declared.Terminal.{Terminal}
 
 -- a terminal of the text
-pub record Seen (xs : List ℕ) (s : Sight) : Type 0 where
+pub record Seen (xs : List ℕ) (s : Terminal) : Type 0 where
   pub at : ℕ
-  pub seen : s ≡ sight-of xs at
+  pub seen : s ≡ terminal-of xs at
 
 -- a part; what is read before it, and with what it adds itself; and the parts that it is made of
 pub data Production (xs : List ℕ) : Symbol → State → State → List Symbol → Type 0 where
@@ -24,8 +24,8 @@ pub data Production (xs : List ℕ) : Symbol → State → State → List Symbol
   signed : {tag p o : ℕ} {a b : State} → b ≡ add tag 0 p o a → Production xs (sign tag p o) a b []
   opened : {d : ℕ} {a : State} → d < max-nesting → Production xs (paren d) a a []
   -- calculations
-  number : {o : ℕ} {a b : State} {s : Sight} → Seen xs s → is 2 s ≡ true → b ≡ add 1 (s .value) (s .start) o a → Production xs (primary o) a b []
-  variable : {o : ℕ} {a b : State} {s : Sight} → Seen xs s → is-name s ≡ true → b ≡ add 2 0 (s .start) o a → Production xs (primary o) a b []
+  number : {o : ℕ} {a b : State} {s : Terminal} → Seen xs s → is 2 s ≡ true → b ≡ add 1 (s .value) (s .start) o a → Production xs (primary o) a b []
+  variable : {o : ℕ} {a b : State} {s : Terminal} → Seen xs s → is-name s ≡ true → b ≡ add 2 0 (s .start) o a → Production xs (primary o) a b []
   negated : {o p : ℕ} {a : State} → Production xs (operand o) a a (primary o ∷ sign 6 p o ∷ [])
   plain : {o : ℕ} {a : State} → Production xs (operand o) a a (primary o ∷ [])
   no-factor : {o : ℕ} {a : State} → Production xs (factors o) a a []
@@ -65,11 +65,11 @@ pub data Production (xs : List ℕ) : Symbol → State → State → List Symbol
   no-link : {k tag d : ℕ} {a : State} → Production xs (chain k tag d) a a []
   link : {k tag d p : ℕ} {a : State} → Production xs (chain k tag d) a a (test d ∷ sign tag p 0 ∷ chain k tag d ∷ [])
   -- items of expressions
-  literal-atom : {d : ℕ} {a b : State} {s : Sight} → Seen xs s → is 3 s ≡ true → b ≡ leaf 6 (s .start) 0 0 0 0 0 a → Production xs (atom d) a b []
-  character-atom : {d p : ℕ} {a : State} {s : Sight} → Seen xs s → is 9 s ≡ true → p ≡ s .start → Production xs (atom d) a a (character-tail p ∷ [])
+  literal-atom : {d : ℕ} {a b : State} {s : Terminal} → Seen xs s → is 3 s ≡ true → b ≡ leaf 6 (s .start) 0 0 0 0 0 a → Production xs (atom d) a b []
+  character-atom : {d p : ℕ} {a : State} {s : Terminal} → Seen xs s → is 9 s ≡ true → p ≡ s .start → Production xs (atom d) a a (character-tail p ∷ [])
   field-atom : {d e p : ℕ} {a : State} → e ≡ d + 1 → Production xs (atom d) a a (paren d ∷ width e p ∷ [])
   eod-atom : {d : ℕ} {a b : State} (p : ℕ) → b ≡ leaf 9 p 0 0 0 0 0 a → Production xs (atom d) a b []
-  use-atom : {d : ℕ} {a b : State} {s : Sight} → Seen xs s → is-name s ≡ true → b ≡ leaf 5 (s .start) 0 0 0 0 0 a → Production xs (atom d) a b []
+  use-atom : {d : ℕ} {a b : State} {s : Terminal} → Seen xs s → is-name s ≡ true → b ≡ leaf 5 (s .start) 0 0 0 0 0 a → Production xs (atom d) a b []
   group-atom : {d e : ℕ} {a : State} → d < max-nesting → e ≡ d + 1 → Production xs (atom d) a a (expression e ∷ want 41 ∷ [])
   switch-atom : {d e f p i : ℕ} {a : State} → d < max-nesting → e ≡ d + 1 → f ≡ terms-of a → i ≡ nodes-of a → Production xs (atom d) a a (condition e ∷ colon e f ∷ cases e p i ∷ [])
   -- expressions
@@ -87,12 +87,12 @@ pub data Production (xs : List ℕ) : Symbol → State → State → List Symbol
   -- ranges of characters
   to-character : {p : ℕ} {a : State} → Production xs (character-tail p) a a (last-character p ∷ [])
   one-character : {p : ℕ} {a b : State} → b ≡ leaf 6 p 0 0 0 0 0 a → Production xs (character-tail p) a b []
-  range : {p : ℕ} {a b : State} {s : Sight} → Seen xs s → is 9 s ≡ true → b ≡ leaf 7 p (s .start) 0 0 0 0 a → Production xs (last-character p) a b []
+  range : {p : ℕ} {a b : State} {s : Terminal} → Seen xs s → is 9 s ≡ true → b ≡ leaf 7 p (s .start) 0 0 0 0 a → Production xs (last-character p) a b []
   -- uint
-  field-width : {d p w : ℕ} {a : State} {s : Sight} → Seen xs s → is 2 s ≡ true → w ≡ s .start → Production xs (width d p) a a (want 44 ∷ field-set d p w ∷ [])
+  field-width : {d p w : ℕ} {a : State} {s : Terminal} → Seen xs s → is 2 s ≡ true → w ≡ s .start → Production xs (width d p) a a (want 44 ∷ field-set d p w ∷ [])
   binding : {d e p w : ℕ} {a : State} → e ≡ d + 1 → Production xs (field-set d p w) a a (paren d ∷ bound-name e p w ∷ [])
   not-binding : {d p w f : ℕ} {a : State} → f ≡ terms-of a → Production xs (field-set d p w) a a (value-set d ∷ field-end p w 0 0 f ∷ [])
-  binder : {d p w q how f : ℕ} {a b : State} {s : Sight} → Seen xs s → is-name s ≡ true → b ≡ bind a → q ≡ s .start → how ≡ cond (eqb d 2) 1 2 → f ≡ terms-of a → Production xs (bound-name d p w) a b (want 44 ∷ value-set d ∷ want 41 ∷ field-end p w q how f ∷ [])
+  binder : {d p w q how f : ℕ} {a b : State} {s : Terminal} → Seen xs s → is-name s ≡ true → b ≡ bind a → q ≡ s .start → how ≡ cond (eqb d 2) 1 2 → f ≡ terms-of a → Production xs (bound-name d p w) a b (want 44 ∷ value-set d ∷ want 41 ∷ field-end p w q how f ∷ [])
   field : {p w q how f : ℕ} {a b : State} → b ≡ leaf 8 p w q f (terms-of a) how a → Production xs (field-end p w q how f) a b []
   -- switches
   a-case : {d f i e : ℕ} {a : State} → i ≡ nodes-of a → e ≡ terms-of a → Production xs (colon d f) a a (expression d ∷ case-end i f e ∷ [])
@@ -103,7 +103,7 @@ pub data Production (xs : List ℕ) : Symbol → State → State → List Symbol
   switched : {p i : ℕ} {a b : State} → b ≡ insert 4 p i 0 0 0 0 0 a → Production xs (switch-end p i) a b []
   -- rules
   no-rule : {a : State} → Production xs (rules true) a a []
-  a-rule : {any : Bool} {p i : ℕ} {a : State} {s : Sight} → Seen xs s → is-name s ≡ true → p ≡ s .start → i ≡ nodes-of a → Production xs (rules any) a a (want 61 ∷ expression 0 ∷ rule-end p i ∷ rules true ∷ [])
+  a-rule : {any : Bool} {p i : ℕ} {a : State} {s : Terminal} → Seen xs s → is-name s ≡ true → p ≡ s .start → i ≡ nodes-of a → Production xs (rules any) a a (want 61 ∷ expression 0 ∷ rule-end p i ∷ rules true ∷ [])
   ruled : {p i : ℕ} {a b : State} → b ≡ close-rule p i a → Production xs (rule-end p i) a b []
 
 -- parts one after the other: each by a production, whose own parts are read, and then those that follow

@@ -13,7 +13,7 @@ use Rattle.text_store.proofs.Numbers.{at-place, at-last-place, at-width-place, 
 use Rattle.text_parsing.specs.Terminals.{is, is-name}
 use Rattle.text_parsing.specs.Symbols.{want, paren, value-set, expression, character-tail, last-character, width, field-set, bound-name, field-end}
 use Rattle.text_store.specs.Store.{State, state, nodes-of, terms-of, leaf, bind, term-words, binders-of}
-use Rattle.text_parsing.specs.declared.Sight.{Sight}
+use Rattle.text_parsing.specs.declared.Terminal.{Terminal}
 use Rattle.text_productions.specs.Phrases.{Seen, Phrases}
 use Rattle.text_shapes.specs.TermShapes.{SetShape}
 use Rattle.text_shapes.specs.NodeShapes.{NameAt, NumberAt, CharacterAt, literal-tree, range-tree, use-tree, eod-tree, uint-tree}
@@ -27,15 +27,15 @@ leaf-in : (kind place a b c d e : ℕ) {st st′ : State} → st′ ≡ leaf kin
 leaf-in kind place a b c d e {st} z f g = inserted kind place (nodes-of st) a b c d e z f g (omega arith)
 
 module _ {xs : List ℕ} {a b : State} (fine : Fine a) (fine′ : Fine b) where
-  pub literal-made : {s : Sight} → Seen xs s → is 3 s ≡ true → b ≡ leaf 6 (s .start) 0 0 0 0 0 a → Whole xs a b
+  pub literal-made : {s : Terminal} → Seen xs s → is 3 s ≡ true → b ≡ leaf 6 (s .start) 0 0 0 0 0 a → Whole xs a b
   literal-made {s} seen t z =
       let n : Inserted (nodes-of a) 6 (s .start) 0 0 0 0 0 a b = leaf-in 6 (s .start) 0 0 0 0 0 z fine fine′
-      in builds n 0 (omega arith) (literal-tree (headed n) (n .count) refl (inl (record { sight = s; seen = seen; literal = t; place = n .at at-place (omega arith) })))
+      in builds n 0 (omega arith) (literal-tree (headed n) (n .count) refl (inl (record { terminal = s; seen = seen; literal = t; place = n .at at-place (omega arith) })))
 
-  pub use-made : {s : Sight} → Seen xs s → is-name s ≡ true → b ≡ leaf 5 (s .start) 0 0 0 0 0 a → Whole xs a b
+  pub use-made : {s : Terminal} → Seen xs s → is-name s ≡ true → b ≡ leaf 5 (s .start) 0 0 0 0 0 a → Whole xs a b
   use-made {s} seen t z =
       let n : Inserted (nodes-of a) 5 (s .start) 0 0 0 0 0 a b = leaf-in 5 (s .start) 0 0 0 0 0 z fine fine′
-      in builds n 0 (omega arith) (use-tree (headed n) (n .count) refl (record { sight = s; seen = seen; name = t; place = n .at at-place (omega arith) }))
+      in builds n 0 (omega arith) (use-tree (headed n) (n .count) refl (record { terminal = s; seen = seen; name = t; place = n .at at-place (omega arith) }))
 
   pub eod-made : (p : ℕ) → b ≡ leaf 9 p 0 0 0 0 0 a → Whole xs a b
   eod-made p z =
@@ -47,12 +47,12 @@ module _ {xs : List ℕ} {a b : State} (fine : Fine a) (fine′ : Fine b) where
       let n : Inserted (nodes-of a) 6 p 0 0 0 0 0 a b = leaf-in 6 p 0 0 0 0 0 z fine fine′
       in builds n 0 (omega arith) (literal-tree (headed n) (n .count) refl (inr (subst (CharacterAt xs) (sym (n .at at-place (omega arith))) c)))
 
-  pub range-made : {p : ℕ} {s : Sight} → Seen xs s → is 9 s ≡ true → CharacterAt xs p → b ≡ leaf 7 p (s .start) 0 0 0 0 a → Whole xs a b
+  pub range-made : {p : ℕ} {s : Terminal} → Seen xs s → is 9 s ≡ true → CharacterAt xs p → b ≡ leaf 7 p (s .start) 0 0 0 0 a → Whole xs a b
   range-made {p} {s} seen t c z =
       let n : Inserted (nodes-of a) 7 p (s .start) 0 0 0 0 a b = leaf-in 7 p (s .start) 0 0 0 0 z fine fine′
       in builds n 0 (omega arith)
       (range-tree (headed n) (n .count) refl (subst (CharacterAt xs) (sym (n .at at-place (omega arith))) c)
-      (record { sight = s; seen = seen; character = t; place = n .at at-last-place (omega arith) }))
+      (record { terminal = s; seen = seen; character = t; place = n .at at-last-place (omega arith) }))
 
 -- ---- uints
 
@@ -110,8 +110,8 @@ how-binds false how z = inr z
 -- ---- productions
 
 module _ {xs : List ℕ} {a c : State} where
-  pub character-claim : {p : ℕ} {s : Sight} → Seen xs s → is 9 s ≡ true → p ≡ s .start → Reads xs (character-tail p ∷ []) a c → Whole xs a c
-  character-claim {p} {s} seen t z (next x f end) = x (record { sight = s; seen = seen; character = t; place = z })
+  pub character-claim : {p : ℕ} {s : Terminal} → Seen xs s → is 9 s ≡ true → p ≡ s .start → Reads xs (character-tail p ∷ []) a c → Whole xs a c
+  character-claim {p} {s} seen t z (next x f end) = x (record { terminal = s; seen = seen; character = t; place = z })
 
   pub to-character-claim : {p : ℕ} → Reads xs (last-character p ∷ []) a c → CharacterAt xs p → Whole xs a c
   to-character-claim (next x f end) z = x z
@@ -122,8 +122,8 @@ module _ {xs : List ℕ} {a c : State} where
   pub field-atom-claim : {d e p : ℕ} → e ≡ d + 1 → Reads xs (paren d ∷ width e p ∷ []) a c → Whole xs a c
   field-atom-claim z (next (opened l) f (next y g end)) = y (omega arith)
 
-  pub width-claim : {d p w : ℕ} {s : Sight} → Seen xs s → is 2 s ≡ true → w ≡ s .start → Reads xs (want 44 ∷ field-set d p w ∷ []) a c → d ≤ max-nesting → Whole xs a c
-  width-claim {s = s} seen t z (next still f (next y g end)) h = y h (record { sight = s; seen = seen; number = t; place = z })
+  pub width-claim : {d p w : ℕ} {s : Terminal} → Seen xs s → is 2 s ≡ true → w ≡ s .start → Reads xs (want 44 ∷ field-set d p w ∷ []) a c → d ≤ max-nesting → Whole xs a c
+  width-claim {s = s} seen t z (next still f (next y g end)) h = y h (record { terminal = s; seen = seen; number = t; place = z })
 
   pub binding-claim : {d e p w : ℕ} → e ≡ d + 1 → Reads xs (paren d ∷ bound-name e p w ∷ []) a c → NumberAt xs w → Whole xs a c
   binding-claim z (next (opened l) f (next y g end)) n = y (omega arith) n
@@ -131,7 +131,7 @@ module _ {xs : List ℕ} {a c : State} where
   pub not-binding-claim : {d p w f : ℕ} → TermFacts xs → Fine a → f ≡ terms-of a → Reads xs (value-set d ∷ field-end p w 0 0 f ∷ []) a c → d ≤ max-nesting → NumberAt xs w → Whole xs a c
   not-binding-claim {p = p} facts fine z (next x f (next y g end)) h n = field-made p facts h z n (binders-of a) 0 (omega arith) (inl (refl, refl)) fine x f y g
 
-pub binder-claim : {xs : List ℕ} {d p w q how f : ℕ} {a b c : State} {s : Sight} → TermFacts xs → Fine a → Seen xs s → is-name s ≡ true → b ≡ bind a → q ≡ s .start → how ≡ cond (eqb d 2) 1 2 → f ≡ terms-of a → Reads xs (want 44 ∷ value-set d ∷ want 41 ∷ field-end p w q how f ∷ []) b c → d ≤ max-nesting → NumberAt xs w → Whole xs a c
+pub binder-claim : {xs : List ℕ} {d p w q how f : ℕ} {a b c : State} {s : Terminal} → TermFacts xs → Fine a → Seen xs s → is-name s ≡ true → b ≡ bind a → q ≡ s .start → how ≡ cond (eqb d 2) 1 2 → f ≡ terms-of a → Reads xs (want 44 ∷ value-set d ∷ want 41 ∷ field-end p w q how f ∷ []) b c → d ≤ max-nesting → NumberAt xs w → Whole xs a c
 binder-claim {d = d} {p = p} {how = how} {a = a} {s = s} facts fine seen t z place how-is from (next still fb (next x fx (next still fy (next y fc end)))) h n =
     bind-back z
-    (field-made p facts h (from ∙ bind-terms a z) n (binders-of a) 1 (bind-one z fine) (inr (how-binds (eqb d 2) how how-is, refl, record { sight = s; seen = seen; name = t; place = place })) fb x fx y fc)
+    (field-made p facts h (from ∙ bind-terms a z) n (binders-of a) 1 (bind-one z fine) (inr (how-binds (eqb d 2) how how-is, refl, record { terminal = s; seen = seen; name = t; place = place })) fb x fx y fc)

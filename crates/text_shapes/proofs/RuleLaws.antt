@@ -13,7 +13,7 @@ use Rattle.text_store.proofs.Numbers.{at-name, at-first-node, at-last-node, at-
 use Rattle.text_parsing.specs.Terminals.{is-name}
 use Rattle.text_parsing.specs.Symbols.{want, expression, rules, rule-end}
 use Rattle.text_store.specs.Store.{State, state, nodes-of, terms-of, close-rule, node-words, term-words, rule-words, binders-of, rules-of}
-use Rattle.text_parsing.specs.declared.Sight.{Sight}
+use Rattle.text_parsing.specs.declared.Terminal.{Terminal}
 use Rattle.text_productions.specs.Phrases.{Seen}
 use Rattle.text_shapes.specs.NodeShapes.{tree, Holds, no-rules, a-rule}
 use Rattle.text_store.proofs.StoreLaws.{rule-before, rule-at}
@@ -60,7 +60,7 @@ closed-kept k =
     }
 
 -- an expression from a to b, the rule's words from b to c, and further rules from c to d
-rule-made : {xs : List ℕ} {p i : ℕ} {any : Bool} {a b c d : State} {s : Sight} → TermsSame → Seen xs s → is-name s ≡ true → p ≡ s .start → i ≡ nodes-of a → Whole xs a b → Closed p i b c → RulesRead xs true c d → RulesRead xs any a d
+rule-made : {xs : List ℕ} {p i : ℕ} {any : Bool} {a b c d : State} {s : Terminal} → TermsSame → Seen xs s → is-name s ≡ true → p ≡ s .start → i ≡ nodes-of a → Whole xs a b → Closed p i b c → RulesRead xs true c d → RulesRead xs any a d
 rule-made {xs} {p} {i} {any} {a} {b} {c} {d} {s} same seen t place e g k r =
     let l : nodes-of a < nodes-of b = extent (g .part .holds) .0
     in let kept-bd : Kept (nodes-of b) b d = kept-trans (closed-kept k) (r .kept) (omega (arith, k .nodes-same))
@@ -71,7 +71,7 @@ rule-made {xs} {p} {i} {any} {a} {b} {c} {d} {s} same seen t place e g k r =
     in record {
       kept = kept-trans (g .kept) kept-bd (omega arith);
       rules =
-          a-rule {l = rules-of c} {m = nodes-of c} {h = terms-of c} {v = binders-of c} {β = g .part .count} (record { sight = s; seen = seen; name = t; place = v at-name (omega arith) ∙ place })
+          a-rule {l = rules-of c} {m = nodes-of c} {h = terms-of c} {v = binders-of c} {β = g .part .count} (record { terminal = s; seen = seen; name = t; place = v at-name (omega arith) ∙ place })
           (record { first-is = v at-first-node (omega arith) ∙ e; nodes-are = v at-last-node (omega arith) ∙ sym (k .nodes-same); terms-are = v at-terms (omega arith) ∙ sym (k .terms-same); binders-are = v at-binders (omega arith) ∙ sym (k .binders-same) })
           (omega (arith, k .count, g .steady))
           (k .binders-same ∙ g .part .bound)
@@ -87,6 +87,6 @@ pub no-rule-claim : {xs : List ℕ} {a : State} → RulesRead xs true a a
 no-rule-claim {xs} {a} =
     record { kept = kept-refl (nodes-of a) a; rules = no-rules refl refl refl refl; some = λ z. let y : _≡_ {A = ℕ} 0 1 = cc in absurd (omega arith) }
 
-pub rule-claim : {xs : List ℕ} {p i : ℕ} {any : Bool} {a c : State} {s : Sight} → TermsSame → Seen xs s → is-name s ≡ true → p ≡ s .start → i ≡ nodes-of a → Reads xs (want 61 ∷ expression 0 ∷ rule-end p i ∷ rules true ∷ []) a c → RulesRead xs any a c
+pub rule-claim : {xs : List ℕ} {p i : ℕ} {any : Bool} {a c : State} {s : Terminal} → TermsSame → Seen xs s → is-name s ≡ true → p ≡ s .start → i ≡ nodes-of a → Reads xs (want 61 ∷ expression 0 ∷ rule-end p i ∷ rules true ∷ []) a c → RulesRead xs any a c
 rule-claim {p = p} {i = i} same seen t place e (next still f (next x fx (next y fy (next z fz end)))) =
     rule-made same seen t place e (x (omega arith)) (closed p i y fx) z

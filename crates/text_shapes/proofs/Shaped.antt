@@ -7,7 +7,7 @@ use mathlib.Core.List.{List, [], _∷_}
 use lib.ListN.{length, length-replicate}
 use Rattle.text_store.specs.Words.{nodes-room, terms-room, rules-room}
 use Rattle.basis.specs.Limits.{max-rules, max-constructs, max-variables, max-terms}
-use Rattle.text_parsing.specs.Terminals.{sights-from}
+use Rattle.text_parsing.specs.Terminals.{terminals-from}
 use Rattle.text_store.specs.Store.{State, state, term-words, blank}
 use Rattle.text_parsing.specs.Symbols.{rules}
 use Rattle.text_parsing.specs.Form.{right, run}
@@ -53,7 +53,7 @@ pub record Shaped (xs ns ts rs : List ℕ) (n t b r : ℕ) : Type 0 where
   pub rule-length : length rs ≡ rules-room
   pub stored : Stored xs ns ts
 
-pub shaped : (xs ns ts rs : List ℕ) (n t b r : ℕ) → run (sights-from xs 0) blank (rules false ∷ []) ≡ right (state ns ts rs n t b r) → n ≤ max-constructs → t ≤ max-terms → b ≤ max-variables → r ≤ max-rules → Shaped xs ns ts rs n t b r
+pub shaped : (xs ns ts rs : List ℕ) (n t b r : ℕ) → run (terminals-from xs 0) blank (rules false ∷ []) ≡ right (state ns ts rs n t b r) → n ≤ max-constructs → t ≤ max-terms → b ≤ max-variables → r ≤ max-rules → Shaped xs ns ts rs n t b r
 shaped xs ns ts rs n t b r e h i j k =
     let p : Phrases xs (rules false ∷ []) blank (state ns ts rs n t b r) = derived xs blank (state ns ts rs n t b r) e
     in let g : Grows blank (state ns ts rs n t b r) = phrases-grow p

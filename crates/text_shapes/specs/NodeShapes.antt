@@ -7,7 +7,7 @@ use mathlib.Core.Bool.{true}
 use mathlib.Core.List.{List}
 use Rattle.text_store.specs.Words.{kind-of, node-size, place-of, node-mark, last-place, width-place, bound-at, how-bound, own-from, own-end, condition-from, condition-end, named-at, first-node, last-node, terms-at-end, binders-at-end}
 use Rattle.text_parsing.specs.Terminals.{is, is-name}
-use Rattle.text_parsing.specs.declared.Sight.{Sight}
+use Rattle.text_parsing.specs.declared.Terminal.{Terminal}
 use Rattle.text_productions.specs.Phrases.{Seen}
 use Rattle.text_shapes.specs.TermShapes.{SetShape, ConditionShape, CountsShape}
 
@@ -15,31 +15,31 @@ use Rattle.text_shapes.specs.TermShapes.{SetShape, ConditionShape, Count
 
 -- a name, reserved or not
 pub record NameAt (xs : List ℕ) (p : ℕ) : Type 0 where
-  pub sight : Sight
-  pub seen : Seen xs sight
-  pub name : is-name sight ≡ true
-  pub place : p ≡ sight .start
+  pub terminal : Terminal
+  pub seen : Seen xs terminal
+  pub name : is-name terminal ≡ true
+  pub place : p ≡ terminal .start
 
 -- a number
 pub record NumberAt (xs : List ℕ) (p : ℕ) : Type 0 where
-  pub sight : Sight
-  pub seen : Seen xs sight
-  pub number : is 2 sight ≡ true
-  pub place : p ≡ sight .start
+  pub terminal : Terminal
+  pub seen : Seen xs terminal
+  pub number : is 2 terminal ≡ true
+  pub place : p ≡ terminal .start
 
 -- a literal of one character
 pub record CharacterAt (xs : List ℕ) (p : ℕ) : Type 0 where
-  pub sight : Sight
-  pub seen : Seen xs sight
-  pub character : is 9 sight ≡ true
-  pub place : p ≡ sight .start
+  pub terminal : Terminal
+  pub seen : Seen xs terminal
+  pub character : is 9 terminal ≡ true
+  pub place : p ≡ terminal .start
 
 -- a literal of several
 pub record LiteralAt (xs : List ℕ) (p : ℕ) : Type 0 where
-  pub sight : Sight
-  pub seen : Seen xs sight
-  pub literal : is 3 sight ≡ true
-  pub place : p ≡ sight .start
+  pub terminal : Terminal
+  pub seen : Seen xs terminal
+  pub literal : is 3 terminal ≡ true
+  pub place : p ≡ terminal .start
 
 -- ---- nodes
 

@@ -5,7 +5,7 @@ use mathlib.Core.Path.{_≡_}
 use mathlib.Core.Bool.{Bool, true, false}
 use mathlib.Core.List.{List, [], _∷_}
 use lib.Dec.{eqb}
-use Rattle.text_parsing.specs.Terminals.{sights-from}
+use Rattle.text_parsing.specs.Terminals.{terminals-from}
 use Rattle.text_store.specs.Store.{state}
 use Rattle.text_parsing.specs.Symbols.{rule-end, rules}
 use Rattle.text_parsing.specs.Symbols.{Symbol}
@@ -25,7 +25,7 @@ pub record ReadsRule (xs : List ℕ) (c : Cursor) (ns ts rs : List ℕ) (r : Cur
 
 -- The form of a text after its header, with the words of nodes, terms and rules that it starts from: what is read, or the place of refusal 4.
 unfoldable pub form-of : List ℕ → (ns ts rs : List ℕ) → Outcome
-form-of xs ns ts rs = run (sights-from xs 0) (state ns ts rs 0 0 0 0) (rules false ∷ [])
+form-of xs ns ts rs = run (terminals-from xs 0) (state ns ts rs 0 0 0 0) (rules false ∷ [])
 
 -- what a cursor says at the end: code 0 is a refusal
 abbrev pub outcome-of : Cursor → (ns ts rs : List ℕ) → Outcome

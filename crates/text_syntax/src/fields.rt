@@ -19,7 +19,7 @@ ghost use lib.Dec.{eqb};
 ghost use Rattle.basis.specs.Limits.{max-constructs};
 ghost use Rattle.text_store.specs.Store.{counted, put-node};
 ghost use Rattle.text_parsing.specs.Form.{mark-of, chained as chainedOf};
-ghost use Rattle.text_parsing.specs.Cursors.{sight-at, state-at, node-more, Reads, ReadsNodes};
+ghost use Rattle.text_parsing.specs.Cursors.{terminal-at, state-at, node-more, Reads, ReadsNodes};
 ghost use Rattle.text_parsing.specs.Symbols.{paren, atom, marked, character-tail, last-character, width, field-set, bound-name, field-end};
 
 // A node without parts, after all others.
@@ -217,7 +217,7 @@ pub fn chained(
     i: usize,
     nodes: &mut [usize; NODES_ROOM],
 ) -> Cursor
-    ensures { λ r. ⌜ (sight-at r ≡ sight-at c) × ((ts rs : List ℕ) → state-at r (now (nodes .exit)) ts rs ≡ chainedOf kind many p i (state-at c (now (nodes .entry)) ts rs)) ⌝ }
+    ensures { λ r. ⌜ (terminal-at r ≡ terminal-at c) × ((ts rs : List ℕ) → state-at r (now (nodes .exit)) ts rs ≡ chainedOf kind many p i (state-at c (now (nodes .entry)) ts rs)) ⌝ }
 {
     if many {
         return insert_node(c, i, kind, p, 0, 0, 0, 0, 0, nodes);

@@ -12,7 +12,7 @@ use lib.ListN.{length, length-replicate}
 use Rattle.basis.specs.Limits.{max-text-bytes, max-rules, max-constructs, max-variables, max-terms}
 use Rattle.text_header.proofs.Tests.{which, picked}
 use Rattle.text_wellformed.proofs.Tests.{or-first, or-second}
-use Rattle.text_parsing.specs.Terminals.{sights-from}
+use Rattle.text_parsing.specs.Terminals.{terminals-from}
 use Rattle.text_parsing.specs.Symbols.{rules}
 use Rattle.text_store.specs.Store.{State, state, nodes-of, terms-of, binders-of, rules-of, rule-words, counted, close-rule, blank}
 use Rattle.text_parsing.specs.Form.{right, run}
@@ -76,7 +76,7 @@ within rs k e =
       binders = ltb-false max-variables (binders-at-end rs k) (or-second (ltb max-terms (terms-at-end rs k)) _ g);
     }
 
-pub limits : (xs ns ts rs : List ℕ) (n t b r : ℕ) → run (sights-from xs 0) blank (rules false ∷ []) ≡ right (state ns ts rs n t b r) → length xs ≤ max-text-bytes → refusal-5 rs r ≡ nowhere → (n ≤ max-constructs) × (t ≤ max-terms) × (b ≤ max-variables) × (r ≤ max-rules)
+pub limits : (xs ns ts rs : List ℕ) (n t b r : ℕ) → run (terminals-from xs 0) blank (rules false ∷ []) ≡ right (state ns ts rs n t b r) → length xs ≤ max-text-bytes → refusal-5 rs r ≡ nowhere → (n ≤ max-constructs) × (t ≤ max-terms) × (b ≤ max-variables) × (r ≤ max-rules)
 limits xs ns ts rs n t b r e short clear =
     let each : (k : ℕ) → k < r → k < rules-kept → Within rs k =
     λ k g h. within rs k (faults-clear 0 r (passed-in rs) (named-at rs) clear k (omega arith) g (omega (arith, placed xs ns ts rs n t b r e .rules k h)))

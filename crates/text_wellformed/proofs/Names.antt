@@ -10,9 +10,9 @@ use Rattle.basis.specs.Limits.{max-text-bytes}
 use Rattle.text_tokens.specs.Tokens.{token-of}
 use Rattle.text_tokens.specs.declared.Kind.{Kind}
 use Rattle.text_tokens.specs.declared.Token.{Token}
-use Rattle.text_parsing.specs.Terminals.{code-of, seen, sight-of, name-like, is-name}
-use Rattle.text_parsing.specs.declared.Sight.{Sight}
-use Rattle.text_parsing.proofs.Sights.{seen-as, Stands, ended, moving, stands}
+use Rattle.text_parsing.specs.Terminals.{code-of, seen, terminal-of, name-like, is-name}
+use Rattle.text_parsing.specs.declared.Terminal.{Terminal}
+use Rattle.text_parsing.proofs.TerminalLaws.{seen-as, Stands, ended, moving, stands}
 use Rattle.text_shapes.specs.NodeShapes.{NameAt}
 use Rattle.text_names.specs.Counting.{nowhere}
 
@@ -27,13 +27,13 @@ inside xs at t (ended e z) n =
 inside xs at t (moving l a m i) n = omega (arith, seen-as xs (code-of (t .kind)) (t .start) (t .end) .start-is)
 
 pub name-inside : {xs : List ℕ} {p : ℕ} → NameAt xs p → p < length xs
-unfolding sight-of
+unfolding terminal-of
 name-inside {xs} {p} h =
-    let z : h .sight ≡ sight-of xs (h .seen .at) = h .seen .seen
-    in let s : Sight = sight-of xs (h .seen .at)
+    let z : h .terminal ≡ terminal-of xs (h .seen .at) = h .seen .seen
+    in let s : Terminal = terminal-of xs (h .seen .at)
     in let n : is-name s ≡ true = ap is-name (sym z) ∙ h .name
     in let l : s .start < length xs = inside xs (h .seen .at) (token-of xs (h .seen .at)) (stands xs (h .seen .at)) n
-    in let e : p ≡ s .start = h .place ∙ ap (λ (y : Sight). y .start) z
+    in let e : p ≡ s .start = h .place ∙ ap (λ (y : Terminal). y .start) z
     in omega arith
 
 pub name-placed : {xs : List ℕ} {p : ℕ} → length xs ≤ max-text-bytes → NameAt xs p → p < nowhere

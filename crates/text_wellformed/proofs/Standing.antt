@@ -17,9 +17,9 @@ use Rattle.text_tokens.specs.Tokens.{token-of}
 use Rattle.text_tokens.specs.declared.Kind.{Kind}
 use Rattle.text_tokens.specs.declared.Token.{Token}
 use Rattle.text_tokens.proofs.Bounds.{placed}
-use Rattle.text_parsing.specs.Terminals.{code-of, opens-at, name-code, seen, sight-of, live}
-use Rattle.text_parsing.specs.declared.Sight.{Sight}
-use Rattle.text_parsing.proofs.Sights.{seen-as, Stands, ended, moving, stands}
+use Rattle.text_parsing.specs.Terminals.{code-of, opens-at, name-code, seen, terminal-of, live}
+use Rattle.text_parsing.specs.declared.Terminal.{Terminal}
+use Rattle.text_parsing.proofs.TerminalLaws.{seen-as, Stands, ended, moving, stands}
 use Rattle.text_parsing.proofs.Loops.{name-live}
 use Rattle.text_productions.specs.Phrases.{Seen}
 use Rattle.text_shapes.specs.NodeShapes.{NameAt, NumberAt, CharacterAt, LiteralAt}
@@ -37,23 +37,23 @@ standing : (xs : List ℕ) (at : ℕ) (t : Token) → Stands xs at t → live (s
 standing xs at t (ended e z) l = never (sym (at-end xs (t .kind) (t .start) (t .end) e) ∙ l)
 standing xs at t (moving l a m i) k = omega (arith, seen-as xs (code-of (t .kind)) (t .start) (t .end) .start-is)
 
-place-inside : (xs : List ℕ) (at : ℕ) → live (sight-of xs at .code) ≡ true → sight-of xs at .start < length xs
-unfolding sight-of
+place-inside : (xs : List ℕ) (at : ℕ) → live (terminal-of xs at .code) ≡ true → terminal-of xs at .start < length xs
+unfolding terminal-of
 place-inside xs at l = standing xs at (token-of xs at) (stands xs at) l
 
--- a sight that is no end stands in the text
-sight-inside : {xs : List ℕ} {p : ℕ} (s : Sight) → Seen xs s → live (s .code) ≡ true → p ≡ s .start → p < length xs
-sight-inside {xs} {p} s k l z =
-    let e : s ≡ sight-of xs (k .at) = k .seen in
-    let h : sight-of xs (k .at) .start < length xs = place-inside xs (k .at) (subst (λ (v : Sight). live (v .code) ≡ true) e l) in
-    let y : p ≡ sight-of xs (k .at) .start = z ∙ ap (λ (v : Sight). v .start) e in
+-- a terminal that is no end stands in the text
+terminal-inside : {xs : List ℕ} {p : ℕ} (s : Terminal) → Seen xs s → live (s .code) ≡ true → p ≡ s .start → p < length xs
+terminal-inside {xs} {p} s k l z =
+    let e : s ≡ terminal-of xs (k .at) = k .seen in
+    let h : terminal-of xs (k .at) .start < length xs = place-inside xs (k .at) (subst (λ (v : Terminal). live (v .code) ≡ true) e l) in
+    let y : p ≡ terminal-of xs (k .at) .start = z ∙ ap (λ (v : Terminal). v .start) e in
     omega arith
 
 pub name-inside : {xs : List ℕ} {p : ℕ} → NameAt xs p → p < length xs
-name-inside k = sight-inside (k .sight) (k .seen) (name-live (k .sight .code) (k .name)) (k .place)
+name-inside k = terminal-inside (k .terminal) (k .seen) (name-live (k .terminal .code) (k .name)) (k .place)
 
 pub number-inside : {xs : List ℕ} {p : ℕ} → NumberAt xs p → p < length xs
-number-inside k = sight-inside (k .sight) (k .seen) (rw (eqb-true (k .sight .code) 2 (k .number)) refl) (k .place)
+number-inside k = terminal-inside (k .terminal) (k .seen) (rw (eqb-true (k .terminal .code) 2 (k .number)) refl) (k .place)
 
 -- ---- literals
 
@@ -111,18 +111,18 @@ token-sized : (xs : List ℕ) (at : ℕ) → Stands xs at (token-of xs at) → t
 token-sized xs at (ended e z) l = let y : Kind.End ≡ Kind.Literal = sym e ∙ l in let w : _≡_ {A = ℕ} 0 1 = cc in absurd (omega arith)
 token-sized xs at (moving v a m i) l = placed xs at (omega arith) .literal l
 
-sight-sized : (xs : List ℕ) (at : ℕ) → literal-like (sight-of xs at .code) ≡ true → Sized xs (sight-of xs at .start)
-unfolding sight-of
-sight-sized xs at e =
+terminal-sized : (xs : List ℕ) (at : ℕ) → literal-like (terminal-of xs at .code) ≡ true → Sized xs (terminal-of xs at .start)
+unfolding terminal-of
+terminal-sized xs at e =
     subst (Sized xs) (sym (seen-as xs (code-of (token-of xs at .kind)) (token-of xs at .start) (token-of xs at .end) .start-is))
     (token-sized xs at (stands xs at) (is-literal xs (token-of xs at .start) (token-of xs at .end) (token-of xs at .kind) e))
 
-seen-sized : {xs : List ℕ} {s : Sight} {p : ℕ} → Seen xs s → literal-like (s .code) ≡ true → p ≡ s .start → Sized xs p
+seen-sized : {xs : List ℕ} {s : Terminal} {p : ℕ} → Seen xs s → literal-like (s .code) ≡ true → p ≡ s .start → Sized xs p
 seen-sized {xs} {s} {p} k e z =
-    subst (Sized xs) (sym (z ∙ ap (λ (v : Sight). v .start) (k .seen))) (sight-sized xs (k .at) (subst (λ (v : Sight). literal-like (v .code) ≡ true) (k .seen) e))
+    subst (Sized xs) (sym (z ∙ ap (λ (v : Terminal). v .start) (k .seen))) (terminal-sized xs (k .at) (subst (λ (v : Terminal). literal-like (v .code) ≡ true) (k .seen) e))
 
 pub literal-sized : {xs : List ℕ} {p : ℕ} → LiteralAt xs p ⊎ CharacterAt xs p → Sized xs p
 literal-sized {xs} {p} k =
-    ⊎-elim (λ (l : LiteralAt xs p). seen-sized (l .seen) (rw (eqb-true (l .sight .code) 3 (l .literal))) (l .place))
-    (λ (l : CharacterAt xs p). seen-sized (l .seen) (rw (eqb-true (l .sight .code) 9 (l .character))) (l .place))
+    ⊎-elim (λ (l : LiteralAt xs p). seen-sized (l .seen) (rw (eqb-true (l .terminal .code) 3 (l .literal))) (l .place))
+    (λ (l : CharacterAt xs p). seen-sized (l .seen) (rw (eqb-true (l .terminal .code) 9 (l .character))) (l .place))
     k

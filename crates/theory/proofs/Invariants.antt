@@ -17,7 +17,7 @@ use Rattle.basis.specs.Lookahead.{lookahead}
 use Rattle.theory.specs.Grammar.{Node, alternative, concatenation, repetition, switch, use-of, field, eod, Grammar, _∈_}
 use Rattle.theory.specs.Derivation.{Capture}
 use Rattle.theory.specs.Machine.{Tests, Entry, entry, State, state, pending-of, rest-of, position-of, captures-of, turn, choose, entries, act, step, undecided, matched, unmatched, Run, run, state-of, open-state, opened, stepped, granted}
-use Rattle.theory.specs.Weight.{members-room, room, Houses}
+use Rattle.theory.specs.Weight.{members-room, room, HasRoom}
 use Rattle.theory.specs.Hypotheses.{Hypotheses}
 use Rattle.theory.proofs.Turns.{decide}
 use Rattle.theory.proofs.Progress.{chosen-in, in-largest, given, which}
@@ -103,7 +103,7 @@ module _ {Context Values : Type 0} (g : Grammar Context Values) (tests : Tests) 
   tally-step all (state [] s p v cs) τ t e = never e
   tally-step all (state (entry i c k ∷ others) s p v cs) τ t e = tally-effect all t (effect v τ (g .node i) refl e)
 
-  module _ (rooms : Context → ℕ → ℕ) (houses : Houses g rooms) where
+  module _ (rooms : Context → ℕ → ℕ) (has-room : HasRoom g rooms) where
     -- each entry, with those after it, has room
     abbrev Housed : List (Entry Context) → ℕ → Type 0
     Housed [] m = Unit {0}
@@ -111,7 +111,7 @@ module _ {Context Values : Type 0} (g : Grammar Context Values) (tests : Tests) 
 
     housed-length : (es : List (Entry Context)) {m : ℕ} → Housed es m → length es ≤ m
     housed-length [] t = omega arith
-    housed-length (entry i c k ∷ es) t = let z = houses c i .0 in omega arith
+    housed-length (entry i c k ∷ es) t = let z = has-room c i .0 in omega arith
 
     entries-length : (c : Context) (is : List ℕ) (others : List (Entry Context)) → length (entries c is ++ others) ≡ length is + length others
     entries-length c is others = length-append (entries c is) others ∙ ap (λ (n : ℕ). n + length others) (length-map is (λ i. entry i c 0))
@@ -140,7 +140,7 @@ module _ {Context Values : Type 0} (g : Grammar Context Values) (tests : Tests) 
     house-step : (m : ℕ) (σ τ : State Context Values) → Housed (pending-of σ) m → step g tests σ ≡ some τ → Housed (pending-of τ) m
     unfolding step
     house-step m (state [] s p v cs) τ t e = never e
-    house-step m (state (entry i c k ∷ others) s p v cs) τ t e = house-effect m (houses c i .1) t (effect v τ (g .node i) refl e)
+    house-step m (state (entry i c k ∷ others) s p v cs) τ t e = house-effect m (has-room c i .1) t (effect v τ (g .node i) refl e)
 
   -- what a step keeps, every grant keeps
   module _ (P : State Context Values → Type 0) (kept : (σ τ : State Context Values) → P σ → step g tests σ ≡ some τ → P τ) where
@@ -163,8 +163,8 @@ module _ {Context Values : Type 0} (g : Grammar Context Values) (tests : Tests) 
   unfolding opened open-state
   tallied s n = granted-keeps (Tallied s) (tally-step s) n (opened g tests s) (record { rest = refl; reached = omega arith; few = omega arith })
 
-  pub housed : (rooms : Context → ℕ → ℕ) → Houses g rooms → (s : Bits) (n : ℕ) → length (pending-of (state-of (granted g tests n (opened g tests s)))) ≤ rooms (g .context) (g .start)
+  pub housed : (rooms : Context → ℕ → ℕ) → HasRoom g rooms → (s : Bits) (n : ℕ) → length (pending-of (state-of (granted g tests n (opened g tests s)))) ≤ rooms (g .context) (g .start)
   unfolding opened open-state
-  housed rooms houses s n =
+  housed rooms has-room s n =
       let m = rooms (g .context) (g .start) in
-      housed-length rooms houses (pending-of (state-of (granted g tests n (opened g tests s)))) (granted-keeps (λ σ. Housed rooms houses (pending-of σ) m) (house-step rooms houses m) n (opened g tests s) (omega arith, tt))
+      housed-length rooms has-room (pending-of (state-of (granted g tests n (opened g tests s)))) (granted-keeps (λ σ. Housed rooms has-room (pending-of σ) m) (house-step rooms has-room m) n (opened g tests s) (omega arith, tt))

@@ -164,7 +164,7 @@ module _ {Context Values : Type 0} (g : Grammar Context Values) (tests : Tests) 
     moments h weighs = at-moment h weight weighs
 
   pub room : (rooms : Context → ℕ → ℕ) → RoomTheorem g tests rooms
-  room rooms h houses = Invariants.housed g tests h rooms houses
+  room rooms h has-room = Invariants.housed g tests h rooms has-room
 
   module _ (weight : Context → ℕ → ℕ) {Cell A R : Type 0} (store : Store Context Values Cell A R) (scope : Scope) (fresh : ℕ → Context → Values → Values) where
     pub exact-local : ExactLocalTheorem g tests weight store scope fresh

@@ -7,7 +7,7 @@ use mathlib.Core.List.{List, [], _∷_}
 use mathlib.Core.Option.{none, some}
 use lib.ListN.{length}
 use Rattle.theory.specs.Grammar.{Node, alternative, concatenation, repetition, switch, use-of, field, eod, Grammar}
-use Rattle.theory.specs.Weight.{sum, weigh, Weighs, Outweighs, members-room, room, Houses}
+use Rattle.theory.specs.Weight.{sum, weigh, Weighs, Outweighs, members-room, room, HasRoom}
 
 -- members that weigh at least 1 each
 length-sum : (f : ℕ → ℕ) → ((i : ℕ) → 1 ≤ f i) → (is : List ℕ) → length is ≤ sum f is
@@ -43,8 +43,8 @@ module _ {Context Values : Type 0} (weight : Context → ℕ → ℕ) (c : Conte
   room-fits p (field w admits static binds) = omega arith
   room-fits p eod = omega arith
 
-pub houses : {Context Values : Type 0} (g : Grammar Context Values) (weight : Context → ℕ → ℕ) → Weighs g weight → Houses g weight
-houses g weight w c i = (positive i, omega (arith, w c i, room-fits weight c positive (g .node i)))
+pub has-room : {Context Values : Type 0} (g : Grammar Context Values) (weight : Context → ℕ → ℕ) → Weighs g weight → HasRoom g weight
+has-room g weight w c i = (positive i, omega (arith, w c i, room-fits weight c positive (g .node i)))
   where
     positive : (j : ℕ) → 1 ≤ weight c j
     positive j = omega (arith, w c j, weigh-positive weight c (g .node j))

@@ -1,7 +1,7 @@
 -- The theorems, as statements with their hypotheses. `proofs/Theorems.antt` proves them: `first`, `follow`, `unique`, `values`, `local`,
 -- `additive`, `exact`, `exact-local`, `bound`, `moments`, `room`.
 -- g is a grammar, `tests` what the machine looks up, `weight` its constructs' weights, `rooms` enough room for each. What `Hypotheses`,
--- `Static`, `Outweighs`, `Houses` and `Lexical` ask, and which refusal of document 01 gives it, is said where they are defined.
+-- `Static`, `Outweighs`, `HasRoom` and `Lexical` ask, and which refusal of document 01 gives it, is said where they are defined.
 -- Assumes nothing.
 use Prim.Native.Nat.{ℕ, _+_, _-_, _*_, _≤_, _<_, min}
 use mathlib.Core.Path.{_≡_}
@@ -14,7 +14,7 @@ use Rattle.theory.specs.Grammar.{Grammar}
 use Rattle.theory.specs.Derivation.{Tree, covered, captures, replayed, construct, Derives, Derivation, Leaves}
 use Rattle.theory.specs.Lookahead.{First, Follow, Conflict}
 use Rattle.theory.specs.Machine.{Tests, State, state, Run, run, undecided, matched, unmatched, verdict-of, state-of, pending-of, rest-of, position-of, captures-of, Passes, tree-steps, opened, granted, taken}
-use Rattle.theory.specs.Weight.{Outweighs, Houses}
+use Rattle.theory.specs.Weight.{Outweighs, HasRoom}
 use Rattle.theory.specs.Hypotheses.{Static, Hypotheses}
 use Rattle.theory.specs.Scope.{Store, Scope, localised, Lexical}
 
@@ -112,4 +112,4 @@ module _ {Context Values : Type 0} (g : Grammar Context Values) (tests : Tests) 
 
   -- Room: the list of pending entries never grows longer than the room that the opening use is given.
   abbrev pub RoomTheorem : (Context → ℕ → ℕ) → Type 0
-  RoomTheorem rooms = Hypotheses g tests → Houses g rooms → (s : Bits) (n : ℕ) → length (pending-of (state-of (granted g tests n (opened g tests s)))) ≤ rooms (g .context) (g .start)
+  RoomTheorem rooms = Hypotheses g tests → HasRoom g rooms → (s : Bits) (n : ℕ) → length (pending-of (state-of (granted g tests n (opened g tests s)))) ≤ rooms (g .context) (g .start)

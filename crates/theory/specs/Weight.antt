@@ -57,5 +57,5 @@ room rooms c eod = 0
 
 -- `rooms` gives each construct enough, itself counted. (With no rule that reaches itself, refusal 7, a construct stands in the list at
 -- most once, so the number of constructs is enough.)
-abbrev pub Houses : {Context Values : Type 0} → Grammar Context Values → (Context → ℕ → ℕ) → Type 0
-Houses {Context} g rooms = (c : Context) (i : ℕ) → (1 ≤ rooms c i) × (room rooms c (g .node i) ≤ rooms c i)
+abbrev pub HasRoom : {Context Values : Type 0} → Grammar Context Values → (Context → ℕ → ℕ) → Type 0
+HasRoom {Context} g rooms = (c : Context) (i : ℕ) → (1 ≤ rooms c i) × (room rooms c (g .node i) ≤ rooms c i)

@@ -10,20 +10,20 @@ use borrow.Author.Tests.{eqb-true, leb-true}
 use lib.Dec.{eqb, leb}
 use Rattle.text_header.proofs.Tests.{which}
 use Rattle.text_tokens.specs.Names.{reserved-of}
-use Rattle.text_parsing.specs.Terminals.{sight}
+use Rattle.text_parsing.specs.Terminals.{terminal}
 use Rattle.text_store.specs.Store.{State}
 use Rattle.text_parsing.specs.Symbols.{Symbol}
-use Rattle.text_parsing.specs.Form.{Fed, go, done, fault, primary-begins, operand-begins, item-begins, test-begins, atom-begins, feed}
+use Rattle.text_parsing.specs.Form.{Consumed, go, done, fault, primary-begins, operand-begins, item-begins, test-begins, atom-begins, consume}
 use Rattle.tree.specs.Lexemes.{Lexeme, sign, word, numeral, quoted, stray, finish}
 use Rattle.tree_form.proofs.Classified.{code, seen-with}
 use Rattle.tree_form.proofs.Rests.{Ground}
 
-abbrev faulty : Fed → Bool
+abbrev faulty : Consumed → Bool
 faulty (go st ks) = false
 faulty (done st) = false
 faulty fault = true
 
-faulty-is : (f : Fed) → faulty f ≡ true → f ≡ fault
+faulty-is : (f : Consumed) → faulty f ≡ true → f ≡ fault
 faulty-is (go st ks) e = let z : _≡_ {A = ℕ} 0 1 = cc in absurd (omega arith)
 faulty-is (done st) e = let z : _≡_ {A = ℕ} 0 1 = cc in absurd (omega arith)
 faulty-is fault e = refl
@@ -32,13 +32,13 @@ faulty-is fault e = refl
 unwanted : (c k : ℕ) → c ≤ 9 → leb 10 k ≡ true → eqb c k ≡ false
 unwanted c k l h = ⊎-elim (λ (e : eqb c k ≡ true). absurd (omega (arith, eqb-true c k e, leb-true 10 k h))) (λ e. e) (which (eqb c k))
 
-off : (A B : Fed) (t : Bool) → t ≡ false → faulty (elim t [ true ↦ A | false ↦ B ]) ≡ faulty B
+off : (A B : Consumed) (t : Bool) → t ≡ false → faulty (elim t [ true ↦ A | false ↦ B ]) ≡ faulty B
 off A B true e = let z : _≡_ {A = ℕ} 0 1 = cc in absurd (omega arith)
 off A B false e = refl
 
 -- `uint` and `var` before `(` cannot stand where a plain name cannot
-same : (a b z : ℕ) (st : State) (ks : List Symbol) → Ground ks → (faulty (feed (sight 6 a b z) st ks) ≡ faulty (feed (sight 1 a b z) st ks)) × (faulty (feed (sight 8 a b z) st ks) ≡ faulty (feed (sight 1 a b z) st ks))
-unfolding feed primary-begins operand-begins item-begins test-begins atom-begins
+same : (a b z : ℕ) (st : State) (ks : List Symbol) → Ground ks → (faulty (consume (terminal 6 a b z) st ks) ≡ faulty (consume (terminal 1 a b z) st ks)) × (faulty (consume (terminal 8 a b z) st ks) ≡ faulty (consume (terminal 1 a b z) st ks))
+unfolding consume primary-begins operand-begins item-begins test-begins atom-begins
 same a b z st [] g = (refl, refl)
 same a b z st (Symbol.want k ∷ ks) g = (off _ _ (eqb 6 k) (unwanted 6 k (omega arith) (g .0)) ∙ sym (off _ _ (eqb 1 k) (unwanted 1 k (omega arith) (g .0))), off _ _ (eqb 8 k) (unwanted 8 k (omega arith) (g .0)) ∙ sym (off _ _ (eqb 1 k) (unwanted 1 k (omega arith) (g .0))))
 same a b z st (Symbol.sign tag p o ∷ ks) g = same a b z _ ks g
@@ -97,11 +97,11 @@ by-next F a b false true e false true = sym b
 by-next F a b false true e false false = refl
 by-next F a b false false e m n = refl
 
-pub ahead : (x : Lexeme) (m n : Bool) (st : State) (ks : List Symbol) → Ground ks → feed (seen-with x (code x m)) st ks ≡ fault → feed (seen-with x (code x n)) st ks ≡ fault
+pub ahead : (x : Lexeme) (m n : Bool) (st : State) (ks : List Symbol) → Ground ks → consume (seen-with x (code x m)) st ks ≡ fault → consume (seen-with x (code x n)) st ks ≡ fault
 ahead (sign kind s) m n st ks g e = e
 ahead (word x) m n st ks g e =
-    faulty-is (feed (seen-with (word x) (code (word x) n)) st ks)
-    (by-next (λ (c : ℕ). faulty (feed (sight c (x .start) (x .end) 0) st ks)) (same (x .start) (x .end) 0 st ks g .0) (same (x .start) (x .end) 0 st ks g .1) (eqb (reserved-of (x .letters)) 12) (eqb (reserved-of (x .letters)) 9) (eqb (reserved-of (x .letters)) 10) n m
+    faulty-is (consume (seen-with (word x) (code (word x) n)) st ks)
+    (by-next (λ (c : ℕ). faulty (consume (terminal c (x .start) (x .end) 0) st ks)) (same (x .start) (x .end) 0 st ks g .0) (same (x .start) (x .end) 0 st ks g .1) (eqb (reserved-of (x .letters)) 12) (eqb (reserved-of (x .letters)) 9) (eqb (reserved-of (x .letters)) 10) n m
     ∙ ap faulty e)
 ahead (numeral x) m n st ks g e = e
 ahead (quoted l) m n st ks g e = e

@@ -12,9 +12,9 @@ use Rattle.text_tokens.specs.Names.{reserved-of}
 use Rattle.text_tokens.specs.Tokens.{token-of}
 use Rattle.text_tokens.specs.declared.Kind.{Kind}
 use Rattle.text_tokens.specs.declared.Token.{Token}
-use Rattle.text_parsing.specs.Terminals.{code-of, opens-at, word-code, name-code, literal-code, sight, seen, sight-of, sights, sights-from, live}
-use Rattle.text_parsing.specs.declared.Sight.{Sight}
-use Rattle.text_parsing.proofs.Sights.{Stands, ended, moving, stands, seen-as, live-end}
+use Rattle.text_parsing.specs.Terminals.{code-of, opens-at, word-code, name-code, literal-code, terminal, seen, terminal-of, terminals, terminals-from, live}
+use Rattle.text_parsing.specs.declared.Terminal.{Terminal}
+use Rattle.text_parsing.proofs.TerminalLaws.{Stands, ended, moving, stands, seen-as, live-end}
 use Rattle.tree.specs.Lexemes.{Name, Number, Literal, Lexeme, sign, word, numeral, quoted, stray, finish, place-of, lexeme-as, lexeme-of, lexemes-from, lexemes}
 
 -- the code of a sign; what is no sign can stand nowhere
@@ -93,11 +93,11 @@ abbrev pub value-of : Lexeme → ℕ
 value-of x = capped (value-in x)
 
 -- the terminal that a token with a code is
-abbrev pub seen-with : Lexeme → ℕ → Sight
-seen-with x c = sight c (place-of x) (end-of x) (value-of x)
+abbrev pub seen-with : Lexeme → ℕ → Terminal
+seen-with x c = terminal c (place-of x) (end-of x) (value-of x)
 
 -- the terminals that tokens are
-unfoldable pub classified : List Lexeme → List Sight
+unfoldable pub classified : List Lexeme → List Terminal
 classified [] = []
 classified (x ∷ ls) = seen-with x (code x (opens ls)) ∷ classified ls
 
@@ -105,7 +105,7 @@ classified (x ∷ ls) = seen-with x (code x (opens ls)) ∷ classified ls
 
 sees-end : (xs : List ℕ) (t : Token) (k : Kind) → k ≡ Kind.End → t .start ≡ t .end → seen xs (code-of k) (t .start) (t .end) ≡ seen-with (finish (t .start)) 5
 unfolding seen
-sees-end xs t k e z = rw e (ap (λ (n : ℕ). sight 5 (t .start) n 0) (sym z))
+sees-end xs t k e z = rw e (ap (λ (n : ℕ). terminal 5 (t .start) n 0) (sym z))
 
 -- those after a token
 abbrev pub after : ℕ → List ℕ → Lexeme → List Lexeme
@@ -172,10 +172,10 @@ opening (suc n) xs at f = ap opens (begun n xs at) ∙ of-kind n xs (token-of xs
 -- ---- all tokens
 
 -- a terminal and those after it
-abbrev shown : ℕ → List ℕ → Sight → List Sight
-shown n xs s = s ∷ elim (eqb (s .code) 5) [ true ↦ [] | false ↦ sights n xs (s .end) ]
+abbrev shown : ℕ → List ℕ → Terminal → List Terminal
+shown n xs s = s ∷ elim (eqb (s .code) 5) [ true ↦ [] | false ↦ terminals n xs (s .end) ]
 
-going : (n : ℕ) (xs : List ℕ) (s : Sight) (e : ℕ) → eqb (s .code) 5 ≡ false → s .end ≡ e → shown n xs s ≡ s ∷ sights n xs e
+going : (n : ℕ) (xs : List ℕ) (s : Terminal) (e : ℕ) → eqb (s .code) 5 ≡ false → s .end ≡ e → shown n xs s ≡ s ∷ terminals n xs e
 going n xs s e f z = rw (f, z)
 
 module _ (n : ℕ) (xs : List ℕ) (t : Token) where
@@ -185,7 +185,7 @@ module _ (n : ℕ) (xs : List ℕ) (t : Token) where
       rw (sees-end xs t (t .kind) e z)
       (let f : lexeme-as xs t (t .kind) ≡ finish (t .start) = ap (λ (k : Kind). lexeme-as xs t k) e in rw f)
 
-  turn : live (code-of (t .kind)) ≡ true → opens (lexemes-from n xs (t .end)) ≡ opens-at xs (t .end) → sights n xs (t .end) ≡ classified (lexemes-from n xs (t .end)) → shown n xs (seen xs (code-of (t .kind)) (t .start) (t .end)) ≡ classified (lexeme-as xs t (t .kind) ∷ after n xs (lexeme-as xs t (t .kind)))
+  turn : live (code-of (t .kind)) ≡ true → opens (lexemes-from n xs (t .end)) ≡ opens-at xs (t .end) → terminals n xs (t .end) ≡ classified (lexemes-from n xs (t .end)) → shown n xs (seen xs (code-of (t .kind)) (t .start) (t .end)) ≡ classified (lexeme-as xs t (t .kind) ∷ after n xs (lexeme-as xs t (t .kind)))
   unfolding classified
   turn l o h =
       let s = seen xs (code-of (t .kind)) (t .start) (t .end) in
@@ -193,19 +193,19 @@ module _ (n : ℕ) (xs : List ℕ) (t : Token) where
       let v = seen-as xs (code-of (t .kind)) (t .start) (t .end) in
       let k = of-kind n xs t (t .kind) .1 l in
       going n xs s (t .end) (live-end (s .code) (v .is-live l)) (v .end-is)
-      ∙ ap₂ (λ (a : Sight) (b : List Sight). a ∷ b) (k .0 ∙ ap (λ (b : Bool). seen-with x (code x b)) (sym o ∙ ap opens (sym (k .1)))) (h ∙ ap classified (sym (k .1)))
+      ∙ ap₂ (λ (a : Terminal) (b : List Terminal). a ∷ b) (k .0 ∙ ap (λ (b : Bool). seen-with x (code x b)) (sym o ∙ ap opens (sym (k .1)))) (h ∙ ap classified (sym (k .1)))
 
-all : (n : ℕ) (xs : List ℕ) (at : ℕ) → length xs - at < n → sights n xs at ≡ classified (lexemes-from n xs at)
-unfolding sights sight-of
+all : (n : ℕ) (xs : List ℕ) (at : ℕ) → length xs - at < n → terminals n xs at ≡ classified (lexemes-from n xs at)
+unfolding terminals terminal-of
 all zero xs at f = absurd (omega arith)
 all (suc n) xs at f = by (stands xs at) (λ l. all n xs (token-of xs at .end) l) ∙ ap classified (sym (begun n xs at))
   where
-    by : Stands xs at (token-of xs at) → (length xs - token-of xs at .end < n → sights n xs (token-of xs at .end) ≡ classified (lexemes-from n xs (token-of xs at .end))) → shown n xs (sight-of xs at) ≡ classified (lexeme-of xs at ∷ after n xs (lexeme-of xs at))
+    by : Stands xs at (token-of xs at) → (length xs - token-of xs at .end < n → terminals n xs (token-of xs at .end) ≡ classified (lexemes-from n xs (token-of xs at .end))) → shown n xs (terminal-of xs at) ≡ classified (lexeme-of xs at ∷ after n xs (lexeme-of xs at))
     by (ended e z) h = last n xs (token-of xs at) e z
     by (moving l a m i) h =
         let less : length xs - token-of xs at .end < n = omega arith
         in turn n xs (token-of xs at) l (opening n xs (token-of xs at .end) less) (h less)
 
 -- the reader's terminals are the classified tokens of the text
-pub terminals : (xs : List ℕ) → sights-from xs 0 ≡ classified (lexemes xs)
-terminals xs = all (suc (length xs)) xs 0 (omega arith)
+pub terminals-classified : (xs : List ℕ) → terminals-from xs 0 ≡ classified (lexemes xs)
+terminals-classified xs = all (suc (length xs)) xs 0 (omega arith)

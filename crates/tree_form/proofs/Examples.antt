@@ -8,9 +8,9 @@ use Rattle.text_literals.specs.Literals.{literal-reach, characters}
 use Rattle.text_tokens.specs.Names.{word-number}
 use Rattle.text_tokens.specs.Numbers.{radix-at, digits-at, number-end-of, digits-value}
 use Rattle.text_tokens.specs.Tokens.{gap-end, name-token, number-token, literal-token, sign-token, token-begun, token-of}
-use Rattle.text_parsing.specs.Terminals.{name-code, literal-code, seen, sight-of, sights}
+use Rattle.text_parsing.specs.Terminals.{name-code, literal-code, seen, terminal-of, terminals}
 use Rattle.text_store.specs.Store.{State, state, put-term, put-single, put-words, over, room, put-node, put-condition, put-rule}
-use Rattle.text_parsing.specs.Form.{Outcome, right, refused, primary-begins, operand-begins, item-begins, test-begins, atom-begins, feed, run}
+use Rattle.text_parsing.specs.Form.{Outcome, right, refused, primary-begins, operand-begins, item-begins, test-begins, atom-begins, consume, run}
 use Rattle.tree.specs.Lexemes.{lexemes}
 use Rattle.tree.proofs.Examples.{bytes, tokens, spelling, k1-tree, k1}
 use Rattle.tree_form.specs.Spelled.{answer, FirstFault}
@@ -24,7 +24,7 @@ nothing = state [] [] [] 0 0 0 0
 
 -- what the reader answers, computed
 unfoldable reads : String → Outcome
-unfolding bytes span-end starts literal-reach characters word-number radix-at digits-at number-end-of digits-value gap-end name-token number-token literal-token sign-token token-begun token-of name-code literal-code seen sight-of sights put-term put-single put-words over room put-node put-condition put-rule primary-begins operand-begins item-begins test-begins atom-begins feed run
+unfolding bytes span-end starts literal-reach characters word-number radix-at digits-at number-end-of digits-value gap-end name-token number-token literal-token sign-token token-begun token-of name-code literal-code seen terminal-of terminals put-term put-single put-words over room put-node put-condition put-rule primary-begins operand-begins item-begins test-begins atom-begins consume run
 reads text = answer (bytes text) nothing
 
 -- K1's rules are right, and stored as their tree is

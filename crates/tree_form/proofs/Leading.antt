@@ -13,8 +13,8 @@ use Rattle.text_tokens.specs.declared.Kind.{Kind}
 use Rattle.text_parsing.specs.Terminals.{begins, name-like}
 use Rattle.text_store.specs.Store.{State, nodes-of, terms-of, add, single, insert, leaf}
 use Rattle.text_parsing.specs.Symbols.{Symbol}
-use Rattle.text_parsing.specs.Form.{Fed, go, done, fault, primary-begins, operand-begins, calculation-begins, item-begins, test-begins, atom-begins, mark-of, chained, feed}
-use Rattle.text_parsing.specs.declared.Sight.{Sight}
+use Rattle.text_parsing.specs.Form.{Consumed, go, done, fault, primary-begins, operand-begins, calculation-begins, item-begins, test-begins, atom-begins, mark-of, chained, consume}
+use Rattle.text_parsing.specs.declared.Terminal.{Terminal}
 use Rattle.tree.specs.Lexemes.{Sign, Name, Number, Literal, Lexeme, sign, word, numeral, quoted, stray, finish, place-of}
 use Rattle.tree.specs.Tree.{number, variable, Operand, plain, opposite, no-factor, times, product, no-summand, plus, minus, Calculation, sum, only, whole, Choices, item, last-choice, exactly, at-most, equal, unequal, less, at-most-as, greater, at-least-as, test, Tests, compare, test-group, one-test, optional, any-number, one-or-more, counted, expression, concatenation, factor, atom, cases, Tree, literal, rule-use, eod, group, switch, once, last-member, last-branch, rule, last-rule}
 use Rattle.tree.specs.Spelling.{spell-factors, spell-summands, spell}
@@ -119,10 +119,10 @@ Going (finish p) = ⊥
 
 -- no token is taken
 abbrev pub Stuck : List Symbol → Type 0
-Stuck ks = (s : Sight) (st : State) → feed s st ks ≡ fault
+Stuck ks = (s : Terminal) (st : State) → consume s st ks ≡ fault
 
 -- it is taken, and what waits then has these rests; or the text ends; or it cannot stand there
-pub data Leads (x : Lexeme) (st : State) (ks : List Symbol) : Fed → Type 0 where
+pub data Leads (x : Lexeme) (st : State) (ks : List Symbol) : Consumed → Type 0 where
   goes : {st′ : State} {ks′ : List Symbol} (back : Rests ks′ → Rests ks) → ((r : Rests ks′) → spell-all ks (back r) ≡ x ∷ spell-all ks′ r) → ((r : Rests ks′) → store-all ks (back r) st ≡ store-all ks′ r st′) → Ground ks′ → (Room ks → Room ks′ ⊎ (Other x ks × Stuck ks′)) → Going x → Leads x st ks (go st′ ks′)
   ends : {st′ : State} (r : Rests ks) → x ≡ finish (place-of x) → spell-all ks r ≡ x ∷ [] → store-all ks r st ≡ st′ → Leads x st ks (done st′)
   faults : Leads x st ks fault
@@ -134,7 +134,7 @@ pub record Turns (x : Lexeme) (a : State) (ks : List Symbol) (b : State) (js : L
   pub stores : (r : Rests js) → first-place (spell-all js r) ≡ place-of x → store-all ks (back r) a ≡ store-all js r b
   pub room : Room ks → Room js
 
-unfoldable pub turned : {x : Lexeme} {a b : State} {ks js : List Symbol} {f : Fed} → Turns x a ks b js → Leads x b js f → Leads x a ks f
+unfoldable pub turned : {x : Lexeme} {a b : State} {ks js : List Symbol} {f : Consumed} → Turns x a ks b js → Leads x b js f → Leads x a ks f
 turned T (goes back s t g m v) =
     goes (λ r. T .back (back r)) (λ r. T .spells (back r) ∙ s r) (λ r. T .stores (back r) (ap first-place (s r)) ∙ t r) g
     (λ h. ⊎-elim (λ n. inl n) (λ o. inr (record { rests = T .back (o .0 .rests); after = o .0 .after; spells = T .spells (o .0 .rests) ∙ o .0 .spells }, o .1)) (m (T .room h))) v
@@ -142,29 +142,29 @@ turned T (ends r q s t) = ends (T .back r) q (T .spells r ∙ s) (T .stores r (a
 turned T faults = faults
 
 -- one way or the other, by a test
-unfoldable pub by-test : {x : Lexeme} {st : State} {ks : List Symbol} (t : Bool) {a b : Fed} → (t ≡ true → Leads x st ks a) → (t ≡ false → Leads x st ks b) → Leads x st ks (elim t [ true ↦ a | false ↦ b ])
+unfoldable pub by-test : {x : Lexeme} {st : State} {ks : List Symbol} (t : Bool) {a b : Consumed} → (t ≡ true → Leads x st ks a) → (t ≡ false → Leads x st ks b) → Leads x st ks (elim t [ true ↦ a | false ↦ b ])
 by-test true f g = f refl
 by-test false f g = g refl
 
 -- the same of `cond`
-unfoldable pub by-cond : {x : Lexeme} {st : State} {ks : List Symbol} (t : Bool) {a b : Fed} → (t ≡ true → Leads x st ks a) → (t ≡ false → Leads x st ks b) → Leads x st ks (cond t a b)
+unfoldable pub by-cond : {x : Lexeme} {st : State} {ks : List Symbol} (t : Bool) {a b : Consumed} → (t ≡ true → Leads x st ks a) → (t ≡ false → Leads x st ks b) → Leads x st ks (cond t a b)
 by-cond true f g = f refl
 by-cond false f g = g refl
 
 -- the same of tags
-unfoldable pub by-tag : {x : Lexeme} {st : State} {ks : List Symbol} (F : ℕ → Fed) (t : Bool) {m n : ℕ} → (t ≡ true → Leads x st ks (F m)) → (t ≡ false → Leads x st ks (F n)) → Leads x st ks (F (cond t m n))
+unfoldable pub by-tag : {x : Lexeme} {st : State} {ks : List Symbol} (F : ℕ → Consumed) (t : Bool) {m n : ℕ} → (t ≡ true → Leads x st ks (F m)) → (t ≡ false → Leads x st ks (F n)) → Leads x st ks (F (cond t m n))
 by-tag F true f g = f refl
 by-tag F false f g = g refl
 
 -- what comes of a tag
-abbrev pub summing : Sight → State → ℕ → List Symbol → ℕ → Fed
-summing s st o ks n = elim (eqb n 0) [ true ↦ feed s st ks | false ↦ go st (Symbol.operand o ∷ Symbol.factors o ∷ Symbol.sign n (s .start) o ∷ Symbol.summands o ∷ ks) ]
+abbrev pub summing : Terminal → State → ℕ → List Symbol → ℕ → Consumed
+summing s st o ks n = elim (eqb n 0) [ true ↦ consume s st ks | false ↦ go st (Symbol.operand o ∷ Symbol.factors o ∷ Symbol.sign n (s .start) o ∷ Symbol.summands o ∷ ks) ]
 
-abbrev pub comparing : Sight → State → List Symbol → ℕ → Fed
+abbrev pub comparing : Terminal → State → List Symbol → ℕ → Consumed
 comparing s st ks n = elim (eqb n 0) [ true ↦ fault | false ↦ go st (Symbol.calculation ∷ Symbol.sign n (s .start) 0 ∷ ks) ]
 
-abbrev pub marking : Sight → (p i : ℕ) → State → List Symbol → ℕ → Fed
-marking s p i st ks n = elim (eqb n 0) [ true ↦ feed s st ks | false ↦ go (insert 3 p i n (s .start) 0 0 0 st) ks ]
+abbrev pub marking : Terminal → (p i : ℕ) → State → List Symbol → ℕ → Consumed
+marking s p i st ks n = elim (eqb n 0) [ true ↦ consume s st ks | false ↦ go (insert 3 p i n (s .start) 0 0 0 st) ks ]
 
 -- taken as what it is
 unfoldable pub takes : {x y : Lexeme} {st st′ : State} {ks ks′ : List Symbol} → x ≡ y → (back : Rests ks′ → Rests ks) → ((r : Rests ks′) → spell-all ks (back r) ≡ y ∷ spell-all ks′ r) → ((r : Rests ks′) → store-all ks (back r) st ≡ store-all ks′ r st′) → Ground ks′ → (Room ks → Room ks′) → Going y → Leads x st ks (go st′ ks′)
@@ -290,8 +290,8 @@ case-begun x st d p i ks = record { back = λ r. (more-cases (cases-from (r .0) 
 
 -- `(` that is too deep cannot be taken
 pub too-deep : (ks : List Symbol) (d : ℕ) → ltb d 16 ≡ false → Stuck (Symbol.paren d ∷ ks)
-unfolding feed
-too-deep ks d l s st = rw (l, feed)
+unfolding consume
+too-deep ks d l s st = rw (l, consume)
 
 -- ---- a token of a code
 
@@ -390,14 +390,14 @@ module _ (x : Lexeme) (next : Bool) (c : ℕ) (e : code x next ≡ c) where
       turned (concatenation-begun x st d ks) (factor-leads d st (Symbol.members d (place-of x) (nodes-of st) false ∷ ks) g)
 
   -- signs that have tags
-  unfoldable pub summand-leads : (o : ℕ) (st : State) (ks : List Symbol) → Ground ks → Leads x st ks (feed (seen-with x c) st ks) → Leads x st (Symbol.summands o ∷ ks) (feed (seen-with x c) st (Symbol.summands o ∷ ks))
-  unfolding feed opened
+  unfoldable pub summand-leads : (o : ℕ) (st : State) (ks : List Symbol) → Ground ks → Leads x st ks (consume (seen-with x c) st ks) → Leads x st (Symbol.summands o ∷ ks) (consume (seen-with x c) st (Symbol.summands o ∷ ks))
+  unfolding consume opened
   summand-leads o st ks g h =
       by-tag (summing (seen-with x c) st o ks) (eqb c 43) (λ t. takes (sign-is 43 refl t) (λ r. (plus (sign-in x) (product (r .0) (r .1 .0)) (r .1 .1 .1 .0), r .1 .1 .1 .1)) (λ r. refl) (λ r. refl) g (λ m. m) tt)
       (λ u. by-tag (summing (seen-with x c) st o ks) (eqb c 45) (λ t. takes (sign-is 45 refl t) (λ r. (minus (sign-in x) (product (r .0) (r .1 .0)) (r .1 .1 .1 .0), r .1 .1 .1 .1)) (λ r. refl) (λ r. refl) g (λ m. m) tt) (λ v. turned (summands-end x st o ks) h))
 
-  unfoldable pub comparison-leads : (st : State) (ks : List Symbol) → Ground ks → Leads x st (Symbol.comparison ∷ ks) (feed (seen-with x c) st (Symbol.comparison ∷ ks))
-  unfolding feed opened
+  unfoldable pub comparison-leads : (st : State) (ks : List Symbol) → Ground ks → Leads x st (Symbol.comparison ∷ ks) (consume (seen-with x c) st (Symbol.comparison ∷ ks))
+  unfolding consume opened
   comparison-leads st ks g =
       by-tag (comparing (seen-with x c) st ks) (eqb c 61) (λ t. takes (sign-is 61 refl t) (λ r. ((equal, sign-in x, r .0), r .1 .1)) (λ r. refl) (λ r. refl) g (λ m. m) tt)
       (λ u61. by-tag (comparing (seen-with x c) st ks) (eqb c 161) (λ t. takes (sign-is 161 refl t) (λ r. ((unequal, sign-in x, r .0), r .1 .1)) (λ r. refl) (λ r. refl) g (λ m. m) tt)
@@ -407,7 +407,7 @@ module _ (x : Lexeme) (next : Bool) (c : ℕ) (e : code x next ≡ c) where
       (λ u62. by-tag (comparing (seen-with x c) st ks) (eqb c 190) (λ t. takes (sign-is 190 refl t) (λ r. ((at-least-as, sign-in x, r .0), r .1 .1)) (λ r. refl) (λ r. refl) g (λ m. m) tt)
       (λ u190. faults))))))
 
-  unfoldable pub mark-leads : (p i : ℕ) (st : State) (ks : List Symbol) → Ground ks → Leads x st ks (feed (seen-with x c) st ks) → Leads x st (Symbol.marked p i ∷ ks) (elim (eqb (mark-of c) 0) [ true ↦ feed (seen-with x c) st ks | false ↦ go (insert 3 p i (mark-of c) (place-of x) 0 0 0 st) ks ])
+  unfoldable pub mark-leads : (p i : ℕ) (st : State) (ks : List Symbol) → Ground ks → Leads x st ks (consume (seen-with x c) st ks) → Leads x st (Symbol.marked p i ∷ ks) (elim (eqb (mark-of c) 0) [ true ↦ consume (seen-with x c) st ks | false ↦ go (insert 3 p i (mark-of c) (place-of x) 0 0 0 st) ks ])
   unfolding opened
   mark-leads p i st ks g h =
       by-tag (marking (seen-with x c) p i st ks) (eqb c 63) (λ t. takes (sign-is 63 refl t) (λ r. (a-mark (optional (sign-in x)), r)) (λ r. refl) (λ r. refl) g (λ m. m) tt)
@@ -434,55 +434,55 @@ module _ (x : Lexeme) (next : Bool) (c : ℕ) (e : code x next ≡ c) where
   end-leads true st a t = ends (no-rule (place-of x), tt) (is-end x next c e t) (ap (λ (z : Lexeme). z ∷ []) (sym (is-end x next c e t))) refl
   end-leads false st a t = let z : _≡_ {A = ℕ} 0 1 = cc in absurd (omega arith)
 
-  unfoldable pub fed : (st : State) (ks : List Symbol) → Ground ks → Leads x st ks (feed (seen-with x c) st ks)
-  unfolding feed opened
-  fed st [] g = faults
-  fed st (Symbol.want k ∷ ks) g = by-test (eqb c k) (λ t. takes (sign-is k (g .0) t) (λ r. (sign-in x, r)) (λ r. refl) (λ r. refl) (g .1) (λ m. m) tt) (λ u. faults)
-  fed st (Symbol.sign tag p o ∷ ks) g = turned (signed x st tag p o ks) (fed _ ks g)
-  fed st (Symbol.paren d ∷ ks) g = by-test (ltb d 16) (λ l. by-test (eqb c 40) (λ t. takes (sign-is 40 refl t) (λ r. ((ltb-true d 16 l, sign-in x), r)) (λ r. refl) (λ r. refl) g (λ m. m .1) tt) (λ u. faults)) (λ l. faults)
-  fed st (Symbol.primary o ∷ ks) g = primary-leads o st ks g
-  fed st (Symbol.operand o ∷ ks) g = operand-leads o st ks g
-  fed st (Symbol.factors o ∷ ks) g = by-test (eqb c 42) (λ t. takes (sign-is 42 refl t) (λ r. (times (sign-in x) (r .0) (r .1 .1 .0), r .1 .1 .1)) (λ r. refl) (λ r. refl) g (λ m. m) tt) (λ u. turned (factors-end x st o ks) (fed st ks g))
-  fed st (Symbol.summands o ∷ ks) g = summand-leads o st ks g (fed st ks g)
-  fed st (Symbol.calculation ∷ ks) g = calculation-leads st ks g
-  fed st (Symbol.item ∷ ks) g = item-leads st ks g
-  fed st (Symbol.item-tail ∷ ks) g = by-test (eqb c 126) (λ t. takes (sign-is 126 refl t) (λ r. (reaches (sign-in x) (r .0), r .1)) (λ r. refl) (λ r. refl) g (λ m. m) tt) (λ u. turned (item-end x st ks) (fed _ ks g))
-  fed st (Symbol.bound some none p ∷ ks) g = by-test (begins (seen-with x c)) (λ t. turned (upper x st some none p ks) (calculation-leads st (Symbol.sign some p 0 ∷ ks) g)) (λ u. turned (upper-end x st some none p ks) (fed _ ks g))
-  fed st (Symbol.exception d ∷ ks) g = by-test (eqb c 33) (λ t. takes (sign-is 33 refl t) (λ r. (excepted (sign-in x) (r .0), r .1 .1)) (λ r. excepted-spells (sign-in x) (r .0) (spell-all ks (r .1 .1))) (λ r. ap (store-all ks (r .1 .1)) (excepted-stores (sign-in x) (r .0) st)) g (λ m. m) tt) (λ u. turned (exception-end x st d ks) (fed st ks g))
-  fed st (Symbol.excluded d ∷ ks) g = by-test (eqb c 40) (λ t. by-cond (ltb d 16) (λ l. takes (sign-is 40 refl t) (λ r. (excluded-set (ltb-true d 16 l) (sign-in x) (r .0) (r .1 .0), r .1 .1)) (λ r. refl) (λ r. refl) (refl, g) (λ m. m) tt) (λ l. faults)) (λ u. turned (excluded-one x st d ks) (item-leads st ks g))
-  fed st (Symbol.alternative d ∷ ks) g = choice-leads d st ks g
-  fed st (Symbol.alternatives d ∷ ks) g = by-test (eqb c 124) (λ t. takes (sign-is 124 refl t) (λ r. (more-choices (sign-in x) (chosen (r .0) (r .1 .1 .0)), r .1 .1 .1)) (λ r. ap (λ (v : List Lexeme). sign Kind.Bar (sign-in x) ∷ v) (chosen-spells (r .0) (r .1 .1 .0) (spell-all ks (r .1 .1 .1)))) (λ r. ap (store-all ks (r .1 .1 .1)) (chosen-stores (r .0) (r .1 .1 .0) (add 11 0 (place-of x) 0) st)) g (λ m. m) tt) (λ u. turned (choices-end x st d ks) (fed st ks g))
-  fed st (Symbol.value-set d ∷ ks) g = set-leads d st ks g
-  fed st (Symbol.counts ∷ ks) g = by-test (eqb c 126) (λ t. takes (sign-is 126 refl t) (λ r. (at-most (sign-in x) (r .0), r .1 .1)) (λ r. refl) (λ r. refl) g (λ m. m) tt) (λ u. turned (counts-begun x st ks) (calculation-leads st (Symbol.counts-tail ∷ ks) g))
-  fed st (Symbol.counts-tail ∷ ks) g = by-test (eqb c 126) (λ t. takes (sign-is 126 refl t) (λ r. (reaches (sign-in x) (r .0), r .1)) (λ r. refl) (λ r. refl) g (λ m. m) tt) (λ u. turned (counts-tail-end x st ks) (fed st ks g))
-  fed st (Symbol.test d ∷ ks) g = test-leads d st ks g
-  fed st (Symbol.comparison ∷ ks) g = comparison-leads st ks g
-  fed st (Symbol.condition d ∷ ks) g = condition-leads d st ks g
-  fed st (Symbol.joined d ∷ ks) g = by-test (eqb c 38) (λ t. takes (sign-is 38 refl t) (λ r. (by-and (sign-in x) (all-from (r .0) (r .1 .1 .0)), r .1 .1 .1)) (λ r. ap (λ (v : List Lexeme). sign Kind.Ampersand (sign-in x) ∷ v) (all-from-spells (r .0) (r .1 .1 .0) (spell-all ks (r .1 .1 .1)))) (λ r. ap (store-all ks (r .1 .1 .1)) (all-from-stores (r .0) (r .1 .1 .0) (add 13 0 (place-of x) 0) st)) (refl, g) (λ m. m) tt) (λ u. by-test (eqb c 124) (λ t. takes (sign-is 124 refl t) (λ r. (by-or (sign-in x) (any-from (r .0) (r .1 .1 .0)), r .1 .1 .1)) (λ r. ap (λ (v : List Lexeme). sign Kind.Bar (sign-in x) ∷ v) (any-from-spells (r .0) (r .1 .1 .0) (spell-all ks (r .1 .1 .1)))) (λ r. ap (store-all ks (r .1 .1 .1)) (any-from-stores (r .0) (r .1 .1 .0) (add 11 0 (place-of x) 0) st)) (refl, g) (λ m. m) tt) (λ v. turned (joined-end x st d ks) (fed st ks g)))
-  fed st (Symbol.chain k tag d ∷ ks) g = by-test (eqb c k) (λ t. takes (sign-is k (g .0) t) (λ r. (link (sign-in x) (r .0) (r .1 .1 .0), r .1 .1 .1)) (λ r. refl) (λ r. refl) g (λ m. m) tt) (λ u. turned (chain-end x st k tag d ks) (fed st ks (g .1)))
-  fed st (Symbol.atom d ∷ ks) g = atom-leads d st ks g
-  fed st (Symbol.factor d ∷ ks) g = factor-leads d st ks g
-  fed st (Symbol.concatenation d ∷ ks) g = concatenation-leads d st ks g
-  fed st (Symbol.expression d ∷ ks) g = turned (expression-begun x st d ks) (concatenation-leads d st (Symbol.branches d (place-of x) (nodes-of st) false ∷ ks) g)
-  fed st (Symbol.marked p i ∷ ks) g = by-test (eqb c 123) (λ t. takes (sign-is 123 refl t) (λ r. (a-mark (counted (sign-in x) (r .0) (r .1 .0)), r .1 .1)) (λ r. refl) (λ r. refl) g (λ m. m) tt) (λ u. mark-leads p i st ks g (fed st ks g))
-  fed st (Symbol.counts-end p i mark f ∷ ks) g = by-test (eqb c 125) (λ t. takes (sign-is 125 refl t) (λ r. (sign-in x, r)) (λ r. refl) (λ r. refl) g (λ m. m) tt) (λ u. faults)
-  fed st (Symbol.members d p i many ∷ ks) g = by-test (eqb c 38) (λ t. takes (sign-is 38 refl t) (λ r. (more-members (sign-in x) (members-from (r .0) (r .1 .0)), r .1 .1)) (λ r. ap (λ (v : List Lexeme). sign Kind.Ampersand (sign-in x) ∷ v) (members-from-spells (r .0) (r .1 .0) (spell-all ks (r .1 .1)))) (λ r. ap (store-all ks (r .1 .1)) (members-from-on (r .0) (r .1 .0) p i st)) g (λ m. m) tt) (λ u. turned (members-end x st d p i many ks) (fed _ ks g))
-  fed st (Symbol.branches d p i many ∷ ks) g = by-test (eqb c 124) (λ t. takes (sign-is 124 refl t) (λ r. (more-branches (sign-in x) (branches-from (r .0) (r .1 .0)), r .1 .1)) (λ r. ap (λ (v : List Lexeme). sign Kind.Bar (sign-in x) ∷ v) (branches-from-spells (r .0) (r .1 .0) (spell-all ks (r .1 .1)))) (λ r. ap (store-all ks (r .1 .1)) (branches-from-on (r .0) (r .1 .0) p i st)) g (λ m. m) tt) (λ u. turned (branches-end x st d p i many ks) (fed _ ks g))
-  fed st (Symbol.character-tail p ∷ ks) g = by-test (eqb c 126) (λ t. takes (sign-is 126 refl t) (λ r. (to-character (sign-in x) (r .0 .0) (r .0 .1), r .1)) (λ r. refl) (λ r. refl) g (λ m. m) tt) (λ u. turned (character-end x st p ks) (fed _ ks g))
-  fed st (Symbol.last-character p ∷ ks) g = by-test (eqb c 9) (λ t. takes (is-character x next c e t) (λ r. ((literal-in x, is-single x next c e t), r)) (λ r. refl) (λ r. refl) g (λ m. m) tt) (λ u. faults)
-  fed st (Symbol.width d p ∷ ks) g = by-test (eqb c 2) (λ t. takes (is-number x next c e t) (λ r. ((number-in x, r .0, r .1 .0), r .1 .1)) (λ r. refl) (λ r. refl) (refl, g) (λ m. m) tt) (λ u. faults)
-  fed st (Symbol.field-set d p v ∷ ks) g = by-test (eqb c 8) (λ t. binder-leads d p v st ks g t) (λ u. turned (set-not-bound x st d p v ks) (set-leads d st (Symbol.field-end p v 0 0 (terms-of st) ∷ ks) g))
-  fed st (Symbol.bound-name d p v ∷ ks) g = by-test (name-like c) (λ t. takes (is-name x next c e t) (λ r. ((name-in x, r .0, r .1 .0, r .1 .1 .0, r .1 .1 .1 .0), r .1 .1 .1 .1)) (λ r. refl) (λ r. refl) (refl, (refl, g)) (λ m. m) tt) (λ u. faults)
-  fed st (Symbol.field-end p v name how f ∷ ks) g = by-test (eqb c 41) (λ t. takes (sign-is 41 refl t) (λ r. (sign-in x, r)) (λ r. refl) (λ r. refl) g (λ m. m) tt) (λ u. faults)
-  fed st (Symbol.colon d f ∷ ks) g = by-test (eqb c 58) (λ t. takes (sign-is 58 refl t) (λ r. ((sign-in x, r .0, r .1 .0), r .1 .1)) (λ r. refl) (λ r. refl) g (λ m. m) tt) (λ u. faults)
-  fed st (Symbol.case-end i f end ∷ ks) g = by-test (eqb c 59) (λ t. takes (sign-is 59 refl t) (λ r. (sign-in x, r)) (λ r. refl) (λ r. refl) g (λ m. m) tt) (λ u. faults)
-  fed st (Symbol.cases d p i ∷ ks) g = by-test (eqb c 93) (λ t. takes (sign-is 93 refl t) (λ r. (no-case (sign-in x), r)) (λ r. refl) (λ r. refl) g (λ m. m) tt) (λ u. by-test (eqb c 58) (λ t. takes (sign-is 58 refl t) (λ r. (default (sign-in x) (r .0) (r .1 .0) (r .1 .1 .0), r .1 .1 .1)) (λ r. refl) (λ r. refl) (refl, g) (λ m. m) tt) (λ v. turned (case-begun x st d p i ks) (condition-leads d st (Symbol.colon d (terms-of st) ∷ Symbol.cases d p i ∷ ks) g)))
-  fed st (Symbol.switch-end p i ∷ ks) g = by-test (eqb c 93) (λ t. takes (sign-is 93 refl t) (λ r. (sign-in x, r)) (λ r. refl) (λ r. refl) g (λ m. m) tt) (λ u. faults)
-  fed st (Symbol.rules any ∷ []) g = by-test (name-like c) (λ t. takes (is-name x next c e t) (λ r. (rules-from (rule (name-in x) (r .0) (r .1 .0) (r .1 .1 .0)) (r .1 .1 .1 .0), tt)) (λ r. rules-from-spells any (rule (name-in x) (r .0) (r .1 .0) (r .1 .1 .0)) (r .1 .1 .1 .0)) (λ r. rules-from-stores any (rule (name-in x) (r .0) (r .1 .0) (r .1 .1 .0)) (r .1 .1 .1 .0) st) (refl, tt) (λ m. m) tt) (λ u. by-test (any && eqb c 5) (λ t. end-leads any st (both-first any (eqb c 5) t) (both-second any (eqb c 5) t)) (λ v. faults))
-  fed st (Symbol.rules any ∷ k ∷ ks) g = absurd g
-  fed st (Symbol.rule-end p i ∷ ks) g = by-test (eqb c 59) (λ t. takes (sign-is 59 refl t) (λ r. (sign-in x, r)) (λ r. refl) (λ r. refl) g (λ m. m) tt) (λ u. faults)
+  unfoldable pub consumed : (st : State) (ks : List Symbol) → Ground ks → Leads x st ks (consume (seen-with x c) st ks)
+  unfolding consume opened
+  consumed st [] g = faults
+  consumed st (Symbol.want k ∷ ks) g = by-test (eqb c k) (λ t. takes (sign-is k (g .0) t) (λ r. (sign-in x, r)) (λ r. refl) (λ r. refl) (g .1) (λ m. m) tt) (λ u. faults)
+  consumed st (Symbol.sign tag p o ∷ ks) g = turned (signed x st tag p o ks) (consumed _ ks g)
+  consumed st (Symbol.paren d ∷ ks) g = by-test (ltb d 16) (λ l. by-test (eqb c 40) (λ t. takes (sign-is 40 refl t) (λ r. ((ltb-true d 16 l, sign-in x), r)) (λ r. refl) (λ r. refl) g (λ m. m .1) tt) (λ u. faults)) (λ l. faults)
+  consumed st (Symbol.primary o ∷ ks) g = primary-leads o st ks g
+  consumed st (Symbol.operand o ∷ ks) g = operand-leads o st ks g
+  consumed st (Symbol.factors o ∷ ks) g = by-test (eqb c 42) (λ t. takes (sign-is 42 refl t) (λ r. (times (sign-in x) (r .0) (r .1 .1 .0), r .1 .1 .1)) (λ r. refl) (λ r. refl) g (λ m. m) tt) (λ u. turned (factors-end x st o ks) (consumed st ks g))
+  consumed st (Symbol.summands o ∷ ks) g = summand-leads o st ks g (consumed st ks g)
+  consumed st (Symbol.calculation ∷ ks) g = calculation-leads st ks g
+  consumed st (Symbol.item ∷ ks) g = item-leads st ks g
+  consumed st (Symbol.item-tail ∷ ks) g = by-test (eqb c 126) (λ t. takes (sign-is 126 refl t) (λ r. (reaches (sign-in x) (r .0), r .1)) (λ r. refl) (λ r. refl) g (λ m. m) tt) (λ u. turned (item-end x st ks) (consumed _ ks g))
+  consumed st (Symbol.bound some none p ∷ ks) g = by-test (begins (seen-with x c)) (λ t. turned (upper x st some none p ks) (calculation-leads st (Symbol.sign some p 0 ∷ ks) g)) (λ u. turned (upper-end x st some none p ks) (consumed _ ks g))
+  consumed st (Symbol.exception d ∷ ks) g = by-test (eqb c 33) (λ t. takes (sign-is 33 refl t) (λ r. (excepted (sign-in x) (r .0), r .1 .1)) (λ r. excepted-spells (sign-in x) (r .0) (spell-all ks (r .1 .1))) (λ r. ap (store-all ks (r .1 .1)) (excepted-stores (sign-in x) (r .0) st)) g (λ m. m) tt) (λ u. turned (exception-end x st d ks) (consumed st ks g))
+  consumed st (Symbol.excluded d ∷ ks) g = by-test (eqb c 40) (λ t. by-cond (ltb d 16) (λ l. takes (sign-is 40 refl t) (λ r. (excluded-set (ltb-true d 16 l) (sign-in x) (r .0) (r .1 .0), r .1 .1)) (λ r. refl) (λ r. refl) (refl, g) (λ m. m) tt) (λ l. faults)) (λ u. turned (excluded-one x st d ks) (item-leads st ks g))
+  consumed st (Symbol.alternative d ∷ ks) g = choice-leads d st ks g
+  consumed st (Symbol.alternatives d ∷ ks) g = by-test (eqb c 124) (λ t. takes (sign-is 124 refl t) (λ r. (more-choices (sign-in x) (chosen (r .0) (r .1 .1 .0)), r .1 .1 .1)) (λ r. ap (λ (v : List Lexeme). sign Kind.Bar (sign-in x) ∷ v) (chosen-spells (r .0) (r .1 .1 .0) (spell-all ks (r .1 .1 .1)))) (λ r. ap (store-all ks (r .1 .1 .1)) (chosen-stores (r .0) (r .1 .1 .0) (add 11 0 (place-of x) 0) st)) g (λ m. m) tt) (λ u. turned (choices-end x st d ks) (consumed st ks g))
+  consumed st (Symbol.value-set d ∷ ks) g = set-leads d st ks g
+  consumed st (Symbol.counts ∷ ks) g = by-test (eqb c 126) (λ t. takes (sign-is 126 refl t) (λ r. (at-most (sign-in x) (r .0), r .1 .1)) (λ r. refl) (λ r. refl) g (λ m. m) tt) (λ u. turned (counts-begun x st ks) (calculation-leads st (Symbol.counts-tail ∷ ks) g))
+  consumed st (Symbol.counts-tail ∷ ks) g = by-test (eqb c 126) (λ t. takes (sign-is 126 refl t) (λ r. (reaches (sign-in x) (r .0), r .1)) (λ r. refl) (λ r. refl) g (λ m. m) tt) (λ u. turned (counts-tail-end x st ks) (consumed st ks g))
+  consumed st (Symbol.test d ∷ ks) g = test-leads d st ks g
+  consumed st (Symbol.comparison ∷ ks) g = comparison-leads st ks g
+  consumed st (Symbol.condition d ∷ ks) g = condition-leads d st ks g
+  consumed st (Symbol.joined d ∷ ks) g = by-test (eqb c 38) (λ t. takes (sign-is 38 refl t) (λ r. (by-and (sign-in x) (all-from (r .0) (r .1 .1 .0)), r .1 .1 .1)) (λ r. ap (λ (v : List Lexeme). sign Kind.Ampersand (sign-in x) ∷ v) (all-from-spells (r .0) (r .1 .1 .0) (spell-all ks (r .1 .1 .1)))) (λ r. ap (store-all ks (r .1 .1 .1)) (all-from-stores (r .0) (r .1 .1 .0) (add 13 0 (place-of x) 0) st)) (refl, g) (λ m. m) tt) (λ u. by-test (eqb c 124) (λ t. takes (sign-is 124 refl t) (λ r. (by-or (sign-in x) (any-from (r .0) (r .1 .1 .0)), r .1 .1 .1)) (λ r. ap (λ (v : List Lexeme). sign Kind.Bar (sign-in x) ∷ v) (any-from-spells (r .0) (r .1 .1 .0) (spell-all ks (r .1 .1 .1)))) (λ r. ap (store-all ks (r .1 .1 .1)) (any-from-stores (r .0) (r .1 .1 .0) (add 11 0 (place-of x) 0) st)) (refl, g) (λ m. m) tt) (λ v. turned (joined-end x st d ks) (consumed st ks g)))
+  consumed st (Symbol.chain k tag d ∷ ks) g = by-test (eqb c k) (λ t. takes (sign-is k (g .0) t) (λ r. (link (sign-in x) (r .0) (r .1 .1 .0), r .1 .1 .1)) (λ r. refl) (λ r. refl) g (λ m. m) tt) (λ u. turned (chain-end x st k tag d ks) (consumed st ks (g .1)))
+  consumed st (Symbol.atom d ∷ ks) g = atom-leads d st ks g
+  consumed st (Symbol.factor d ∷ ks) g = factor-leads d st ks g
+  consumed st (Symbol.concatenation d ∷ ks) g = concatenation-leads d st ks g
+  consumed st (Symbol.expression d ∷ ks) g = turned (expression-begun x st d ks) (concatenation-leads d st (Symbol.branches d (place-of x) (nodes-of st) false ∷ ks) g)
+  consumed st (Symbol.marked p i ∷ ks) g = by-test (eqb c 123) (λ t. takes (sign-is 123 refl t) (λ r. (a-mark (counted (sign-in x) (r .0) (r .1 .0)), r .1 .1)) (λ r. refl) (λ r. refl) g (λ m. m) tt) (λ u. mark-leads p i st ks g (consumed st ks g))
+  consumed st (Symbol.counts-end p i mark f ∷ ks) g = by-test (eqb c 125) (λ t. takes (sign-is 125 refl t) (λ r. (sign-in x, r)) (λ r. refl) (λ r. refl) g (λ m. m) tt) (λ u. faults)
+  consumed st (Symbol.members d p i many ∷ ks) g = by-test (eqb c 38) (λ t. takes (sign-is 38 refl t) (λ r. (more-members (sign-in x) (members-from (r .0) (r .1 .0)), r .1 .1)) (λ r. ap (λ (v : List Lexeme). sign Kind.Ampersand (sign-in x) ∷ v) (members-from-spells (r .0) (r .1 .0) (spell-all ks (r .1 .1)))) (λ r. ap (store-all ks (r .1 .1)) (members-from-on (r .0) (r .1 .0) p i st)) g (λ m. m) tt) (λ u. turned (members-end x st d p i many ks) (consumed _ ks g))
+  consumed st (Symbol.branches d p i many ∷ ks) g = by-test (eqb c 124) (λ t. takes (sign-is 124 refl t) (λ r. (more-branches (sign-in x) (branches-from (r .0) (r .1 .0)), r .1 .1)) (λ r. ap (λ (v : List Lexeme). sign Kind.Bar (sign-in x) ∷ v) (branches-from-spells (r .0) (r .1 .0) (spell-all ks (r .1 .1)))) (λ r. ap (store-all ks (r .1 .1)) (branches-from-on (r .0) (r .1 .0) p i st)) g (λ m. m) tt) (λ u. turned (branches-end x st d p i many ks) (consumed _ ks g))
+  consumed st (Symbol.character-tail p ∷ ks) g = by-test (eqb c 126) (λ t. takes (sign-is 126 refl t) (λ r. (to-character (sign-in x) (r .0 .0) (r .0 .1), r .1)) (λ r. refl) (λ r. refl) g (λ m. m) tt) (λ u. turned (character-end x st p ks) (consumed _ ks g))
+  consumed st (Symbol.last-character p ∷ ks) g = by-test (eqb c 9) (λ t. takes (is-character x next c e t) (λ r. ((literal-in x, is-single x next c e t), r)) (λ r. refl) (λ r. refl) g (λ m. m) tt) (λ u. faults)
+  consumed st (Symbol.width d p ∷ ks) g = by-test (eqb c 2) (λ t. takes (is-number x next c e t) (λ r. ((number-in x, r .0, r .1 .0), r .1 .1)) (λ r. refl) (λ r. refl) (refl, g) (λ m. m) tt) (λ u. faults)
+  consumed st (Symbol.field-set d p v ∷ ks) g = by-test (eqb c 8) (λ t. binder-leads d p v st ks g t) (λ u. turned (set-not-bound x st d p v ks) (set-leads d st (Symbol.field-end p v 0 0 (terms-of st) ∷ ks) g))
+  consumed st (Symbol.bound-name d p v ∷ ks) g = by-test (name-like c) (λ t. takes (is-name x next c e t) (λ r. ((name-in x, r .0, r .1 .0, r .1 .1 .0, r .1 .1 .1 .0), r .1 .1 .1 .1)) (λ r. refl) (λ r. refl) (refl, (refl, g)) (λ m. m) tt) (λ u. faults)
+  consumed st (Symbol.field-end p v name how f ∷ ks) g = by-test (eqb c 41) (λ t. takes (sign-is 41 refl t) (λ r. (sign-in x, r)) (λ r. refl) (λ r. refl) g (λ m. m) tt) (λ u. faults)
+  consumed st (Symbol.colon d f ∷ ks) g = by-test (eqb c 58) (λ t. takes (sign-is 58 refl t) (λ r. ((sign-in x, r .0, r .1 .0), r .1 .1)) (λ r. refl) (λ r. refl) g (λ m. m) tt) (λ u. faults)
+  consumed st (Symbol.case-end i f end ∷ ks) g = by-test (eqb c 59) (λ t. takes (sign-is 59 refl t) (λ r. (sign-in x, r)) (λ r. refl) (λ r. refl) g (λ m. m) tt) (λ u. faults)
+  consumed st (Symbol.cases d p i ∷ ks) g = by-test (eqb c 93) (λ t. takes (sign-is 93 refl t) (λ r. (no-case (sign-in x), r)) (λ r. refl) (λ r. refl) g (λ m. m) tt) (λ u. by-test (eqb c 58) (λ t. takes (sign-is 58 refl t) (λ r. (default (sign-in x) (r .0) (r .1 .0) (r .1 .1 .0), r .1 .1 .1)) (λ r. refl) (λ r. refl) (refl, g) (λ m. m) tt) (λ v. turned (case-begun x st d p i ks) (condition-leads d st (Symbol.colon d (terms-of st) ∷ Symbol.cases d p i ∷ ks) g)))
+  consumed st (Symbol.switch-end p i ∷ ks) g = by-test (eqb c 93) (λ t. takes (sign-is 93 refl t) (λ r. (sign-in x, r)) (λ r. refl) (λ r. refl) g (λ m. m) tt) (λ u. faults)
+  consumed st (Symbol.rules any ∷ []) g = by-test (name-like c) (λ t. takes (is-name x next c e t) (λ r. (rules-from (rule (name-in x) (r .0) (r .1 .0) (r .1 .1 .0)) (r .1 .1 .1 .0), tt)) (λ r. rules-from-spells any (rule (name-in x) (r .0) (r .1 .0) (r .1 .1 .0)) (r .1 .1 .1 .0)) (λ r. rules-from-stores any (rule (name-in x) (r .0) (r .1 .0) (r .1 .1 .0)) (r .1 .1 .1 .0) st) (refl, tt) (λ m. m) tt) (λ u. by-test (any && eqb c 5) (λ t. end-leads any st (both-first any (eqb c 5) t) (both-second any (eqb c 5) t)) (λ v. faults))
+  consumed st (Symbol.rules any ∷ k ∷ ks) g = absurd g
+  consumed st (Symbol.rule-end p i ∷ ks) g = by-test (eqb c 59) (λ t. takes (sign-is 59 refl t) (λ r. (sign-in x, r)) (λ r. refl) (λ r. refl) g (λ m. m) tt) (λ u. faults)
 
 -- opens a step
 unfoldable pub stepping : Unit {0}
-unfolding turned by-test by-cond by-tag takes fed primary-leads operand-leads calculation-leads item-leads choice-leads set-leads test-leads condition-leads field-leads switch-leads atom-leads factor-leads concatenation-leads summand-leads comparison-leads mark-leads binder-leads end-leads
+unfolding turned by-test by-cond by-tag takes consumed primary-leads operand-leads calculation-leads item-leads choice-leads set-leads test-leads condition-leads field-leads switch-leads atom-leads factor-leads concatenation-leads summand-leads comparison-leads mark-leads binder-leads end-leads
 stepping = tt

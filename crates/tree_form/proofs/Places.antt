@@ -11,14 +11,14 @@ use Rattle.text_tokens.specs.Tokens.{token-of}
 use Rattle.text_tokens.specs.declared.Kind.{Kind}
 use Rattle.text_store.specs.Store.{State}
 use Rattle.text_parsing.specs.Symbols.{Symbol}
-use Rattle.text_parsing.specs.Form.{Fed, go, done, fault, feed, Outcome, right, refused, run}
-use Rattle.text_parsing.specs.declared.Sight.{Sight}
-use Rattle.text_parsing.proofs.Sights.{Stands, ended, moving, stands}
+use Rattle.text_parsing.specs.Form.{Consumed, go, done, fault, consume, Outcome, right, refused, run}
+use Rattle.text_parsing.specs.declared.Terminal.{Terminal}
+use Rattle.text_parsing.proofs.TerminalLaws.{Stands, ended, moving, stands}
 use Rattle.tree.specs.Lexemes.{Lexeme, place-of, lexeme-as, lexeme-of, lexemes-from, lexemes}
 use Rattle.tree_form.specs.Spelled.{answer, Begins, FirstFault}
-use Rattle.tree_form.proofs.Classified.{opens, code, seen-with, classified, after, begun, of-kind, terminals}
+use Rattle.tree_form.proofs.Classified.{opens, code, seen-with, classified, after, begun, of-kind, terminals-classified}
 use Rattle.tree_form.proofs.Rests.{MoreRules, more-rules, Rests, spell-all, spell-more-rules, Ground, Room}
-use Rattle.tree_form.proofs.Leading.{Going, Stuck, Leads, goes, ends, faults, shortest, fed}
+use Rattle.tree_form.proofs.Leading.{Going, Stuck, Leads, goes, ends, faults, shortest, consumed}
 use Rattle.tree_form.proofs.Ahead.{ahead}
 use Rattle.tree_form.proofs.Right.{start, spelled-right, sound}
 
@@ -51,24 +51,24 @@ pub record Located (ls : List Lexeme) (st : State) (ks : List Symbol) (p : ℕ) 
   pub begins : spell-all ks rests ≡ before ++ left
 
 -- how it goes on after a token
-abbrev next : Lexeme → Fed → List Sight → Outcome
+abbrev next : Lexeme → Consumed → List Terminal → Outcome
 next x f ss = elim f [ go st′ ks′ ↦ run ss st′ ks′ | done st′ ↦ right st′ | fault ↦ refused (place-of x) ]
 
-data Found (x : Lexeme) (ls : List Lexeme) (ks : List Symbol) (f : Fed) (p : ℕ) : Type 0 where
+data Found (x : Lexeme) (ls : List Lexeme) (ks : List Symbol) (f : Consumed) (p : ℕ) : Type 0 where
   at-once : f ≡ fault → place-of x ≡ p → Found x ls ks f p
   later : (before : List Lexeme) (there : Lexeme) (rest : List Lexeme) → ls ≡ before ++ there ∷ rest → place-of there ≡ p → ((more : List Lexeme) → next x f (classified (before ++ there ∷ more)) ≡ refused (place-of there)) → (r : Rests ks) (left : List Lexeme) → spell-all ks r ≡ x ∷ before ++ left → Found x ls ks f p
 
 -- at the next token, where none is taken
 stopped : (y : Lexeme) (ls : List Lexeme) (st : State) (ks : List Symbol) → Stuck ks → run (classified (y ∷ ls)) st ks ≡ refused (place-of y)
 unfolding run classified
-stopped y ls st ks h = ap (λ (f : Fed). next y f (classified ls)) (h (seen-with y (code y (opens ls))) st)
+stopped y ls st ks h = ap (λ (f : Consumed). next y f (classified ls)) (h (seen-with y (code y (opens ls))) st)
 
 module _ (x : Lexeme) (st : State) (ks : List Symbol) (p : ℕ) where
   at-next : {st′ : State} {ks′ : List Symbol} (ls : List Lexeme) → Ended ls → Stuck ks′ → (r : Rests ks) (left : List Lexeme) → spell-all ks r ≡ x ∷ left → run (classified ls) st′ ks′ ≡ refused p → Found x ls ks (go st′ ks′) p
   at-next [] n h r left s e = absurd n
   at-next {st′} {ks′} (y ∷ ls) n h r left s e = later [] y ls refl (let z : place-of y ≡ p = cc (stopped y ls st′ ks′ h) in z) (λ more. stopped y more st′ ks′ h) r left s
 
-  find : (ls : List Lexeme) {f : Fed} → Leads x st ks f → Room ks → (Going x → Ended ls) → ((st′ : State) (ks′ : List Symbol) → Ground ks′ → Room ks′ → Ended ls → run (classified ls) st′ ks′ ≡ refused p → Located ls st′ ks′ p) → next x f (classified ls) ≡ refused p → Found x ls ks f p
+  find : (ls : List Lexeme) {f : Consumed} → Leads x st ks f → Room ks → (Going x → Ended ls) → ((st′ : State) (ks′ : List Symbol) → Ground ks′ → Room ks′ → Ended ls → run (classified ls) st′ ks′ ≡ refused p → Located ls st′ ks′ p) → next x f (classified ls) ≡ refused p → Found x ls ks f p
   find ls (goes {st′} {ks′} back s t g′ m v) room n h e =
       ⊎-elim
       (λ room′.
@@ -82,7 +82,7 @@ opens-same : (before : List Lexeme) (there : Lexeme) (rest more : List Lexeme) �
 opens-same [] there rest more = refl
 opens-same (x ∷ before) there rest more = refl
 
-settled : (x : Lexeme) (ls : List Lexeme) (st : State) (ks : List Symbol) (p : ℕ) → Ground ks → Room ks → Found x ls ks (feed (seen-with x (code x (opens ls))) st ks) p → Located (x ∷ ls) st ks p
+settled : (x : Lexeme) (ls : List Lexeme) (st : State) (ks : List Symbol) (p : ℕ) → Ground ks → Room ks → Found x ls ks (consume (seen-with x (code x (opens ls))) st ks) p → Located (x ∷ ls) st ks p
 unfolding run classified
 settled x ls st ks p g m (at-once q z) =
     record {
@@ -91,7 +91,7 @@ settled x ls st ks p g m (at-once q z) =
       rest = ls;
       are = refl;
       place = z;
-      stuck = λ more. ap (λ (f : Fed). next x f (classified more)) (ahead x (opens ls) (opens more) st ks g q);
+      stuck = λ more. ap (λ (f : Consumed). next x f (classified more)) (ahead x (opens ls) (opens more) st ks g q);
       rests = shortest ks g m;
       left = spell-all ks (shortest ks g m);
       begins = refl;
@@ -103,7 +103,7 @@ settled x ls st ks p g m (later b y c a z k r left q) =
       rest = c;
       are = ap (λ (w : List Lexeme). x ∷ w) a;
       place = z;
-      stuck = λ more. subst (λ (o : Bool). next x (feed (seen-with x (code x o)) st ks) (classified (b ++ y ∷ more)) ≡ refused (place-of y)) (ap opens a ∙ opens-same b y c more) (k more);
+      stuck = λ more. subst (λ (o : Bool). next x (consume (seen-with x (code x o)) st ks) (classified (b ++ y ∷ more)) ≡ refused (place-of y)) (ap opens a ∙ opens-same b y c more) (k more);
       rests = r;
       left = left;
       begins = q;
@@ -113,7 +113,7 @@ located : (ls : List Lexeme) → Ended ls → (st : State) (ks : List Symbol) (p
 unfolding run classified
 located [] n st ks p g m e = absurd n
 located (x ∷ ls) n st ks p g m e =
-    settled x ls st ks p g m (find x st ks p ls (fed x (opens ls) (code x (opens ls)) refl st ks g) m n (λ st′ ks′ g′ m′ n′ e′. located ls n′ st′ ks′ p g′ m′ e′) e)
+    settled x ls st ks p g m (find x st ks p ls (consumed x (opens ls) (code x (opens ls)) refl st ks g) m n (λ st′ ks′ g′ m′ n′ e′. located ls n′ st′ ks′ p g′ m′ e′) e)
 
 -- ---- the first fault
 
@@ -146,7 +146,7 @@ first-fault {st = st} l =
 -- refused: at the first fault
 pub refused-first : (xs : List ℕ) (st : State) (p : ℕ) → answer xs st ≡ refused p → FirstFault (lexemes xs) p
 refused-first xs st p e =
-    first-fault (located (lexemes xs) (ended-from (suc (length xs)) xs 0 (omega arith)) st start p tt tt (ap (λ s. run s st start) (sym (terminals xs)) ∙ e))
+    first-fault (located (lexemes xs) (ended-from (suc (length xs)) xs 0 (omega arith)) st start p tt tt (ap (λ s. run s st start) (sym (terminals-classified xs)) ∙ e))
 
 -- ---- there is one first fault
 

@@ -5,11 +5,11 @@ use mathlib.Core.Path.{_≡_, refl, ap, subst, _∙_}
 use mathlib.Core.List.{List, [], _∷_}
 use Rattle.text_store.specs.Store.{State}
 use Rattle.text_parsing.specs.Symbols.{Symbol}
-use Rattle.text_parsing.specs.Form.{Fed, go, done, fault, Outcome, right, refused, run}
+use Rattle.text_parsing.specs.Form.{Consumed, go, done, fault, Outcome, right, refused, run}
 use Rattle.tree.specs.Lexemes.{Lexeme, sign, word, numeral, quoted, stray, finish, place-of}
 use Rattle.tree_form.proofs.Classified.{code, opens, classified}
 use Rattle.tree_form.proofs.Rests.{Rests, spell-all, store-all, Ground}
-use Rattle.tree_form.proofs.Leading.{Leads, goes, ends, faults, fed, stepping}
+use Rattle.tree_form.proofs.Leading.{Leads, goes, ends, faults, consumed, stepping}
 
 -- ---- the tree of the tokens, if they have one
 
@@ -25,14 +25,14 @@ mapped f no-tree = no-tree
 abbrev pub Onward : Type 0
 Onward = (st : State) (ks : List Symbol) → Ground ks → Parsed ks
 
-unfoldable pub after : {x : Lexeme} {st : State} {ks : List Symbol} {f : Fed} → Onward → Leads x st ks f → Parsed ks
+unfoldable pub after : {x : Lexeme} {st : State} {ks : List Symbol} {f : Consumed} → Onward → Leads x st ks f → Parsed ks
 after h (goes {st′} {ks′} back s t g m v) = mapped back (h st′ ks′ g)
 after h (ends r q s t) = tree r
 after h faults = no-tree
 
 unfoldable pub parse : (ls : List Lexeme) → Onward
 parse [] st ks g = no-tree
-parse (x ∷ ls) st ks g = after (λ st′ ks′ g′. parse ls st′ ks′ g′) (fed x (opens ls) (code x (opens ls)) refl st ks g)
+parse (x ∷ ls) st ks g = after (λ st′ ks′ g′. parse ls st′ ks′ g′) (consumed x (opens ls) (code x (opens ls)) refl st ks g)
 
 -- ---- the reader's answer
 
@@ -65,9 +65,9 @@ lifted back s t is-refused = is-refused
 pub agrees : (ls : List Lexeme) (st : State) (ks : List Symbol) (g : Ground ks) → Agrees ls st ks (parse ls st ks g) (run (classified ls) st ks)
 unfolding parse run classified after
 agrees [] st ks g = is-refused
-agrees (x ∷ ls) st ks g = by (fed x (opens ls) (code x (opens ls)) refl st ks g) (λ st′ ks′ g′. agrees ls st′ ks′ g′)
+agrees (x ∷ ls) st ks g = by (consumed x (opens ls) (code x (opens ls)) refl st ks g) (λ st′ ks′ g′. agrees ls st′ ks′ g′)
   where
-    by : {f : Fed} (L : Leads x st ks f) → ((st′ : State) (ks′ : List Symbol) (g′ : Ground ks′) → Agrees ls st′ ks′ (parse ls st′ ks′ g′) (run (classified ls) st′ ks′)) → Agrees (x ∷ ls) st ks (after (λ st′ ks′ g′. parse ls st′ ks′ g′) L) (elim f [ go st′ ks′ ↦ run (classified ls) st′ ks′ | done st′ ↦ right st′ | fault ↦ refused (place-of x) ])
+    by : {f : Consumed} (L : Leads x st ks f) → ((st′ : State) (ks′ : List Symbol) (g′ : Ground ks′) → Agrees ls st′ ks′ (parse ls st′ ks′ g′) (run (classified ls) st′ ks′)) → Agrees (x ∷ ls) st ks (after (λ st′ ks′ g′. parse ls st′ ks′ g′) L) (elim f [ go st′ ks′ ↦ run (classified ls) st′ ks′ | done st′ ↦ right st′ | fault ↦ refused (place-of x) ])
     by (goes {st′} {ks′} back s t g′ m v) h = lifted back s t (h st′ ks′ g′)
     by (ends r q s t) h = is-right r (λ c. s ∙ nothing-after x ls q (c .0)) t
     by faults h = is-refused

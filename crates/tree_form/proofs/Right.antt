@@ -14,7 +14,7 @@ use Rattle.tree.specs.Tree.{Rules}
 use Rattle.tree.specs.Spelling.{spelled}
 use Rattle.tree_form.specs.Stored.{stored}
 use Rattle.tree_form.specs.Spelled.{answer, SpellsStored}
-use Rattle.tree_form.proofs.Classified.{classified, terminals}
+use Rattle.tree_form.proofs.Classified.{classified, terminals-classified}
 use Rattle.tree_form.proofs.Rests.{MoreRules, more-rules, Rests, spell-all, store-all, spell-more-rules, store-more-rules}
 use Rattle.tree_form.proofs.Reading.{Parsed, tree, no-tree, parse, Closed, Agrees, is-right, is-refused, agrees}
 use Rattle.tree_form.proofs.Told.{reads-rules}
@@ -49,7 +49,7 @@ unfolding store-more-rules
 spelled-right t end st = answered (more-rules t end, tt) (agrees (spelled t end) st start tt) (reads-rules t false end .read st)
 
 pub complete : (xs : List ℕ) (t : Rules) (end : ℕ) (st : State) → lexemes xs ≡ spelled t end → answer xs st ≡ right (stored t st)
-complete xs t end st e = ap (λ s. run s st start) (terminals xs ∙ ap classified e) ∙ spelled-right t end st
+complete xs t end st e = ap (λ s. run s st start) (terminals-classified xs ∙ ap classified e) ∙ spelled-right t end st
 
 -- ---- right: spelled
 
@@ -62,7 +62,7 @@ told c (is-right {f = h} r s t) e = found (r .0) (s c) (t ∙ let w : h ≡ _ = 
 told c is-refused e = let z : _≡_ {A = ℕ} 0 1 = cc in absurd (omega arith)
 
 pub sound : (xs : List ℕ) (st f : State) → answer xs st ≡ right f → SpellsStored (lexemes xs) st f
-sound xs st f e = told (closed (suc (length xs)) xs 0) (agrees (lexemes xs) st start tt) (ap (λ s. run s st start) (sym (terminals xs)) ∙ e)
+sound xs st f e = told (closed (suc (length xs)) xs 0) (agrees (lexemes xs) st start tt) (ap (λ s. run s st start) (sym (terminals-classified xs)) ∙ e)
 
 -- ---- exactly one
 

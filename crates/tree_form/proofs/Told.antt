@@ -18,7 +18,7 @@ use Rattle.tree_form.proofs.Classified.{code, opens}
 use Rattle.tree_form.proofs.Rests.{no-mark, a-mark, MoreMembers, no-member, more-members, MoreBranches, no-branch, more-branches, to-character, FieldSet, plain-set, bound-set, MoreCases, no-case, default, more-cases, MoreRules, no-rule, more-rules, Rests, Ground}
 use Rattle.tree_form.proofs.Words.{is-single, is-other, plain-name, word-has}
 use Rattle.tree_form.proofs.Parts.{members-from, branches-from, field-from, closing, cases-from, rules-from}
-use Rattle.tree_form.proofs.Leading.{fed}
+use Rattle.tree_form.proofs.Leading.{consumed}
 use Rattle.tree_form.proofs.Reading.{tree, after, parse, reading}
 use mathlib.Core.Bool.{Bool-set}
 use native.Mathlib.Nat.{ℕ-set}
@@ -45,12 +45,12 @@ not-single l one f = absurd (eqb-false (length (l .characters)) 1 f one)
 reads-literal : (d : ℕ) (l : Literal) {w : List Lexeme} {ks : List Symbol} {g : Ground ks} {r : Rests ks} → Not 126 w → Reads w ks g r → Reads (quoted l ∷ w) (Symbol.atom d ∷ ks) g (literal l, r)
 unfolding reading
 reads-literal d l {w} {ks} {g} {r} f h =
-    record { read = λ st. quoted-has l (opens w) (λ c e. after (λ st′ ks′ g′. parse w st′ ks′ g′) (fed (quoted l) (opens w) c e st (Symbol.atom d ∷ ks) g) ≡ tree (literal l, r)) (λ e. onward _ (past-character (l .start) w f h .read _)) (λ t e. onward _ (h .read _)) (code (quoted l) (opens w)) refl }
+    record { read = λ st. quoted-has l (opens w) (λ c e. after (λ st′ ks′ g′. parse w st′ ks′ g′) (consumed (quoted l) (opens w) c e st (Symbol.atom d ∷ ks) g) ≡ tree (literal l, r)) (λ e. onward _ (past-character (l .start) w f h .read _)) (λ t e. onward _ (h .read _)) (code (quoted l) (opens w)) refl }
 
 reads-last-character : (p : ℕ) (l : Literal) (one : Single l) {w : List Lexeme} {ks : List Symbol} {g : Ground ks} {r : Rests ks} → Reads w ks g r → Reads (quoted l ∷ w) (Symbol.last-character p ∷ ks) g ((l, one), r)
 unfolding reading
 reads-last-character p l one {w} {ks} {g} {r} h =
-    record { read = λ st. quoted-has l (opens w) (λ c e. after (λ st′ ks′ g′. parse w st′ ks′ g′) (fed (quoted l) (opens w) c e st (Symbol.last-character p ∷ ks) g) ≡ tree ((l, one), r)) (λ e. onward _ (h .read _) ∙ λ i. tree ((l, ℕ-set (length (l .characters)) 1 (is-single (quoted l) (opens w) 9 e refl) one i), r)) (λ t e. not-single l one t) (code (quoted l) (opens w)) refl }
+    record { read = λ st. quoted-has l (opens w) (λ c e. after (λ st′ ks′ g′. parse w st′ ks′ g′) (consumed (quoted l) (opens w) c e st (Symbol.last-character p ∷ ks) g) ≡ tree ((l, one), r)) (λ e. onward _ (h .read _) ∙ λ i. tree ((l, ℕ-set (length (l .characters)) 1 (is-single (quoted l) (opens w) 9 e refl) one i), r)) (λ t e. not-single l one t) (code (quoted l) (opens w)) refl }
 
 reads-to-character : (p : ℕ) (s : Sign) (l : Literal) (one : Single l) {w : List Lexeme} {ks : List Symbol} {g : Ground ks} {r : Rests ks} → Reads w (Symbol.last-character p ∷ ks) g ((l, one), r) → Reads (sign Kind.Tilde s ∷ w) (Symbol.character-tail p ∷ ks) g (to-character s l one, r)
 unfolding reading
@@ -59,7 +59,7 @@ reads-to-character p s l one h = record { read = λ st. onward _ (h .read _) }
 reads-range : (d : ℕ) (a : Literal) (s : Sign) (b : Literal) (one : Single a) (one′ : Single b) {w : List Lexeme} {ks : List Symbol} {g : Ground ks} {r : Rests ks} → Reads w (Symbol.character-tail (a .start) ∷ ks) g (to-character s b one′, r) → Reads (quoted a ∷ w) (Symbol.atom d ∷ ks) g (range a s b one one′, r)
 unfolding reading
 reads-range d a s b one one′ {w} {ks} {g} {r} h =
-    record { read = λ st. quoted-has a (opens w) (λ c e. after (λ st′ ks′ g′. parse w st′ ks′ g′) (fed (quoted a) (opens w) c e st (Symbol.atom d ∷ ks) g) ≡ tree (range a s b one one′, r)) (λ e. onward _ (h .read _) ∙ λ i. tree (range a s b (ℕ-set (length (a .characters)) 1 (is-single (quoted a) (opens w) 9 e refl) one i) one′, r)) (λ t e. not-single a one t) (code (quoted a) (opens w)) refl }
+    record { read = λ st. quoted-has a (opens w) (λ c e. after (λ st′ ks′ g′. parse w st′ ks′ g′) (consumed (quoted a) (opens w) c e st (Symbol.atom d ∷ ks) g) ≡ tree (range a s b one one′, r)) (λ e. onward _ (h .read _) ∙ λ i. tree (range a s b (ℕ-set (length (a .characters)) 1 (is-single (quoted a) (opens w) 9 e refl) one i) one′, r)) (λ t e. not-single a one t) (code (quoted a) (opens w)) refl }
 
 -- a rule's name, which is not `eod`, and which no `(` follows
 not-one : {A : Type 0} (x : Name) (next : Bool) → next ≡ false → is-same eod-word (x .letters) ≡ false → (k : ℕ) → eqb 1 k ≡ false → code (word x) next ≡ k → A
@@ -69,7 +69,7 @@ not-one x false n f k t e = absurd (eqb-false 1 k t (sym (plain-name x f) ∙ e)
 reads-use : (d : ℕ) (x : Name) (other : is-same eod-word (x .letters) ≡ false) {w : List Lexeme} {ks : List Symbol} {g : Ground ks} {r : Rests ks} → opens w ≡ false → Reads w ks g r → Reads (word x ∷ w) (Symbol.atom d ∷ ks) g (rule-use x other, r)
 unfolding reading
 reads-use d x other {w} {ks} {g} {r} f h =
-    record { read = λ st. word-has x (opens w) (λ c e. after (λ st′ ks′ g′. parse w st′ ks′ g′) (fed (word x) (opens w) c e st (Symbol.atom d ∷ ks) g) ≡ tree (rule-use x other, r)) (λ e. onward _ (h .read _) ∙ λ i. tree (rule-use x (Bool-set (is-same eod-word (x .letters)) false (is-other (word x) (opens w) 1 e refl refl) other i), r)) (λ e. not-one x (opens w) f other 6 refl e) (λ e. not-one x (opens w) f other 7 refl e) (λ e. not-one x (opens w) f other 8 refl e) (code (word x) (opens w)) refl }
+    record { read = λ st. word-has x (opens w) (λ c e. after (λ st′ ks′ g′. parse w st′ ks′ g′) (consumed (word x) (opens w) c e st (Symbol.atom d ∷ ks) g) ≡ tree (rule-use x other, r)) (λ e. onward _ (h .read _) ∙ λ i. tree (rule-use x (Bool-set (is-same eod-word (x .letters)) false (is-other (word x) (opens w) 1 e refl refl) other i), r)) (λ e. not-one x (opens w) f other 6 refl e) (λ e. not-one x (opens w) f other 7 refl e) (λ e. not-one x (opens w) f other 8 refl e) (code (word x) (opens w)) refl }
 
 reads-eod : (d : ℕ) (s : Sign) {w : List Lexeme} {ks : List Symbol} {g : Ground ks} {r : Rests ks} → Reads w ks g r → Reads (spelled-as eod-word s ∷ w) (Symbol.atom d ∷ ks) g (eod s, r)
 unfolding reading word-number starts
@@ -96,7 +96,7 @@ reads-uint d l u o n m x h = record { read = λ st. onward _ (h .read _) }
 reads-bound-name : (d p v : ℕ) (x : Name) (m : Sign) (y : Choices whole d) (c c′ : Sign) {w : List Lexeme} {ks : List Symbol} {g : Ground ks} {r : Rests ks} → Reads w ks g r → Reads (word x ∷ sign Kind.Comma m ∷ spell-set y (sign Kind.CloseParen c ∷ sign Kind.CloseParen c′ ∷ w)) (Symbol.bound-name d p v ∷ ks) g ((x, m, y, c, c′), r)
 unfolding reading
 reads-bound-name d p v x m y c c′ {w} {ks} {g} {r} h =
-    record { read = λ st. word-has x false (λ k e. after (λ st′ ks′ g′. parse rest st′ ks′ g′) (fed (word x) false k e st (Symbol.bound-name d p v ∷ ks) g) ≡ tree ((x, m, y, c, c′), r)) (λ e. onward _ (inner st .read _)) (λ e. onward _ (inner st .read _)) (λ e. onward _ (inner st .read _)) (λ e. onward _ (inner st .read _)) (code (word x) false) refl }
+    record { read = λ st. word-has x false (λ k e. after (λ st′ ks′ g′. parse rest st′ ks′ g′) (consumed (word x) false k e st (Symbol.bound-name d p v ∷ ks) g) ≡ tree ((x, m, y, c, c′), r)) (λ e. onward _ (inner st .read _)) (λ e. onward _ (inner st .read _)) (λ e. onward _ (inner st .read _)) (λ e. onward _ (inner st .read _)) (code (word x) false) refl }
   where
     rest : List Lexeme
     rest = sign Kind.Comma m ∷ spell-set y (sign Kind.CloseParen c ∷ sign Kind.CloseParen c′ ∷ w)
@@ -286,7 +286,7 @@ reads-rule-end p i e h = record { read = λ st. onward _ (h .read _) }
 reads-rule : (any : Bool) (x : Name) (s : Sign) (e : Tree expression 0) (z : Sign) (u : MoreRules true) (w : List Lexeme) → Reads w (Symbol.rules true ∷ []) tt (u, tt) → Reads (spell-rule (rule x s e z) w) (Symbol.rules any ∷ []) tt (rules-from (rule x s e z) u, tt)
 unfolding reading
 reads-rule any x s e z u w h =
-    record { read = λ st. word-has x false (λ k t. after (λ st′ ks′ g′. parse rest st′ ks′ g′) (fed (word x) false k t st (Symbol.rules any ∷ []) tt) ≡ tree (rules-from (rule x s e z) u, tt)) (λ t. onward _ (inner st .read _)) (λ t. onward _ (inner st .read _)) (λ t. onward _ (inner st .read _)) (λ t. onward _ (inner st .read _)) (code (word x) false) refl }
+    record { read = λ st. word-has x false (λ k t. after (λ st′ ks′ g′. parse rest st′ ks′ g′) (consumed (word x) false k t st (Symbol.rules any ∷ []) tt) ≡ tree (rules-from (rule x s e z) u, tt)) (λ t. onward _ (inner st .read _)) (λ t. onward _ (inner st .read _)) (λ t. onward _ (inner st .read _)) (λ t. onward _ (inner st .read _)) (code (word x) false) refl }
   where
     rest : List Lexeme
     rest = sign Kind.Equal s ∷ spell e (sign Kind.Semicolon z ∷ w)

@@ -18,7 +18,7 @@ use Rattle.tree_form.proofs.Classified.{code, opens}
 use Rattle.tree_form.proofs.Rests.{Upper, no-upper, an-upper, reaches, but-item, but-set, excluded-set, MoreChoices, no-choice, more-choices, Links, no-link, link, not-joined, by-and, by-or, a-mark, Rests, Ground}
 use Rattle.tree_form.proofs.Words.{word-has}
 use Rattle.tree_form.proofs.Parts.{chosen, all-from, any-from}
-use Rattle.tree_form.proofs.Leading.{fed}
+use Rattle.tree_form.proofs.Leading.{consumed}
 use Rattle.tree_form.proofs.Reading.{tree, after, parse, reading}
 use native.Mathlib.Bridge.{le-prop}
 use Rattle.text_header.proofs.Tests.{picked}
@@ -147,7 +147,7 @@ reads-primary : (o : ℕ) (a : Primary) {w : List Lexeme} {ks : List Symbol} {g 
 unfolding reading spell-primary
 reads-primary o (number n) h = record { read = λ st. onward _ (h .read _) }
 reads-primary o (variable x) {w} {ks} {g} {r} h =
-    record { read = λ st. word-has x (opens w) (λ c e. after (λ st′ ks′ g′. parse w st′ ks′ g′) (fed (word x) (opens w) c e st (Symbol.primary o ∷ ks) g) ≡ tree (variable x, r)) (λ e. onward _ (h .read _)) (λ e. onward _ (h .read _)) (λ e. onward _ (h .read _)) (λ e. onward _ (h .read _)) (code (word x) (opens w)) refl }
+    record { read = λ st. word-has x (opens w) (λ c e. after (λ st′ ks′ g′. parse w st′ ks′ g′) (consumed (word x) (opens w) c e st (Symbol.primary o ∷ ks) g) ≡ tree (variable x, r)) (λ e. onward _ (h .read _)) (λ e. onward _ (h .read _)) (λ e. onward _ (h .read _)) (λ e. onward _ (h .read _)) (code (word x) (opens w)) refl }
 
 reads-operand : (o : ℕ) (a : Operand) {w : List Lexeme} {ks : List Symbol} {g : Ground ks} {r : Rests ks} → Reads w ks g r → Reads (spell-operand a w) (Symbol.operand o ∷ ks) g (a, r)
 unfolding reading spell-operand

@@ -4,7 +4,7 @@ use Prim.Native.Nat.{ℕ}
 use mathlib.Core.Path.{_≡_}
 use mathlib.Core.Bool.{false}
 use mathlib.Core.List.{List, [], _∷_, _++_}
-use Rattle.text_parsing.specs.Terminals.{sights-from}
+use Rattle.text_parsing.specs.Terminals.{terminals-from}
 use Rattle.text_store.specs.Store.{State}
 use Rattle.text_parsing.specs.Symbols.{rules}
 use Rattle.text_parsing.specs.Form.{Outcome, right, refused, run}
@@ -15,7 +15,7 @@ use Rattle.tree_form.specs.Stored.{stored}
 
 -- what the reader answers for the text after its header, from what is stored before: `form-of` of crate `text_syntax`
 abbrev pub answer : List ℕ → State → Outcome
-answer xs st = run (sights-from xs 0) st (rules false ∷ [])
+answer xs st = run (terminals-from xs 0) st (rules false ∷ [])
 
 -- tokens spell a tree, and it is stored so
 pub record SpellsStored (ls : List Lexeme) (st f : State) : Type 0 where

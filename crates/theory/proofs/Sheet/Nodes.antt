@@ -24,7 +24,7 @@ use Rattle.theory.proofs.Sheet.Samples.{store, Variables, SheetNode, Sh
 use Rattle.theory.proofs.Turns.{decide}
 use Rattle.theory.proofs.Inversion.{First-of, FirstBy, first-by, BindsBy, binds-by}
 use Rattle.theory.proofs.NodeLaws.{Law, hypotheses}
-use Rattle.theory.proofs.Weights.{houses}
+use Rattle.theory.proofs.Weights.{has-room}
 use Rattle.theory.proofs.Sheet.Sets.{Exactly, decides, apart, apart-true}
 use Rattle.theory.proofs.Sheet.Scopes.{Names, top-names, field-names, binder-names, repetition-names, switch-names, alternative-names, lexical}
 use Rattle.theory.proofs.Sheet.Numbers.{Listed, listed-map, each, weighs}
@@ -134,6 +134,6 @@ module _ (s : Sample) where
       record {
         hypotheses = h;
         weighs = weighs s o e;
-        houses = houses (grammar-of s) (λ c. weight-in s) (weighs s o e);
+        has-room = has-room (grammar-of s) (λ c. weight-in s) (weighs s o e);
         lexical = lexical s h l z (listed-map (λ i n r. r .1) (s .constructs) p);
       }

@@ -15,7 +15,7 @@ use Rattle.theory.specs.Derivation.{Capture}
 use Rattle.theory.specs.Scope.{Store, one-level, Scope, Lexical}
 use Rattle.theory.specs.Hypotheses.{Hypotheses}
 use Rattle.theory.specs.Theorems.{Derivable}
-use Rattle.theory.specs.Weight.{Weighs, Houses}
+use Rattle.theory.specs.Weight.{Weighs, HasRoom}
 use Rattle.theory.specs.Machine.{Tests, state, Verdict, undecided, matched, unmatched, Run, run, opened, granted}
 
 -- the variables' values, by number in text order, 0 before a binding; entries carry nothing
@@ -278,7 +278,7 @@ lettered =
 pub record Meets (s : Sample) : Type 0 where
   pub hypotheses : Hypotheses (grammar-of s) (s .tests)
   pub weighs : Weighs (grammar-of s) (λ c. weight-in s)
-  pub houses : Houses (grammar-of s) (λ c. weight-in s)
+  pub has-room : HasRoom (grammar-of s) (λ c. weight-in s)
   pub lexical : Lexical store (scope-of s) fresh (grammar-of s)
 
 -- The sheet.

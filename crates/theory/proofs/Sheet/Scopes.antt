@@ -99,16 +99,16 @@ module _ (scope : Scope) where
   repetition-names i b counts static fixed e q a = ((e, q, a), λ x h. subst (λ (l : List ℕ). x ∈ l) (sym q) h, nothing-bound i e)
 
   -- an alternative or a switch, all of whose parts see what it sees
-  same-sight : (i : ℕ) (is : List ℕ) → ((b : ℕ) → b ∈ is → scope .sees b ≡ scope .sees i) → (b : ℕ) → b ∈ is → SeenIn i b
-  same-sight i is q b m x h = subst (λ (l : List ℕ). x ∈ l) (sym (q b m)) h
+  same-terminal : (i : ℕ) (is : List ℕ) → ((b : ℕ) → b ∈ is → scope .sees b ≡ scope .sees i) → (b : ℕ) → b ∈ is → SeenIn i b
+  same-terminal i is q b m x h = subst (λ (l : List ℕ). x ∈ l) (sym (q b m)) h
 
   pub alternative-names : (i : ℕ) (is : List ℕ) → scope .binds i ≡ [] → ((b : ℕ) → b ∈ is → scope .sees b ≡ scope .sees i) → Names i (alternative is)
-  alternative-names i is e q = ((e, q), same-sight i is q, nothing-bound i e)
+  alternative-names i is e q = ((e, q), same-terminal i is q, nothing-bound i e)
 
   pub switch-names : (i : ℕ) (chosen : Unit {0} → Variables → Option ℕ) (is : List ℕ) → scope .binds i ≡ [] → ((b : ℕ) → b ∈ is → scope .sees b ≡ scope .sees i)
       → ((c : Unit {0}) (v : Variables) (b : ℕ) → chosen c v ≡ some b → b ∈ is) → ((c : Unit {0}) (v v′ : Variables) → Agree store c (scope .sees i) v v′ → chosen c v ≡ chosen c v′)
       → Names i (switch chosen is)
-  switch-names i chosen is e q listed a = ((e, λ c v b z. q b (listed c v b z), a), same-sight i is q, nothing-bound i e)
+  switch-names i chosen is e q listed a = ((e, λ c v b z. q b (listed c v b z), a), same-terminal i is q, nothing-bound i e)
 
   -- a rule's top concatenation, which sees nothing
   pub top-names : (i : ℕ) (is : List ℕ) → scope .binds i ≡ [] → scope .sees i ≡ [] → Chain scope (scope .sees i) is → Names i (concatenation is)

@@ -1,4 +1,4 @@
-use Rattle.text_parsing.specs.declared.Sight.{Sight}
+use Rattle.text_parsing.specs.declared.Terminal.{Terminal}
 use Rattle.text_parsing.specs.Cursors.{counts-of}
 use mathlib.Core.Path.{ap}
 use borrow.Author.Needs.{needs}
@@ -14,7 +14,7 @@ look-requires c κs = search needs
 
 -- src/reading.rt:31:1
 returns : tie.Need-returns
-returns c = ap (λ (s : Sight). counts-of s ((c .before .before) .args .c)) ((c .look) .ensures)
+returns c = ap (λ (s : Terminal). counts-of s ((c .before .before) .args .c)) ((c .look) .ensures)
 
 pub passed-spec : {M : Type 1} → statement M
 passed-spec = tie.close (tie.spec look-requires returns)

@@ -1,4 +1,4 @@
-use Rattle.text_parsing.specs.Terminals.{sight, seen}
+use Rattle.text_parsing.specs.Terminals.{terminal, seen}
 use borrow.Author.Tests.{ne-eqb}
 use Prim.Native.Nat.{ℕ, _-_}
 use mathlib.Core.Path.{ap}
@@ -18,7 +18,7 @@ name-of-requires c κs = search needs
 -- src/terminals.rt:97:9
 returns : tie.Need-returns
 unfolding seen
-returns c = rw ((c .before .if1) .taken) (ap (λ (n : ℕ). sight n ((c .before .before .before) .args .start) ((c .before .before .before) .args .end) 0) ((c .name-of) .ensures))
+returns c = rw ((c .before .if1) .taken) (ap (λ (n : ℕ). terminal n ((c .before .before .before) .args .start) ((c .before .before .before) .args .end) 0) ((c .name-of) .ensures))
 
 -- src/terminals.rt:109:20
 number-at-requires : tie.Need-number-at-requires
@@ -27,7 +27,7 @@ number-at-requires c κs = search needs
 -- src/terminals.rt:105:9
 returns-2 : tie.Need-returns-2
 unfolding seen
-returns-2 c = rw ((c .before .if2) .taken) (ap (λ (n : ℕ). sight 2 ((c .before .before .before .before) .args .start) ((c .before .before .before .before) .args .end) n) ((c .number-at) .ensures))
+returns-2 c = rw ((c .before .if2) .taken) (ap (λ (n : ℕ). terminal 2 ((c .before .before .before .before) .args .start) ((c .before .before .before .before) .args .end) n) ((c .number-at) .ensures))
 
 -- src/terminals.rt:114:19
 literal-of-requires : tie.Need-literal-of-requires
@@ -36,7 +36,7 @@ literal-of-requires c κs = search needs
 -- src/terminals.rt:113:9
 returns-3 : tie.Need-returns-3
 unfolding seen
-returns-3 c = rw ((c .before .if3) .taken) (ap (λ (n : ℕ). sight n ((c .before .before .before .before .before) .args .start) ((c .before .before .before .before .before) .args .end) 0) ((c .literal-of) .ensures))
+returns-3 c = rw ((c .before .if3) .taken) (ap (λ (n : ℕ). terminal n ((c .before .before .before .before .before) .args .start) ((c .before .before .before .before .before) .args .end) 0) ((c .literal-of) .ensures))
 
 -- src/terminals.rt:92:1
 returns-4 : tie.Need-returns-4

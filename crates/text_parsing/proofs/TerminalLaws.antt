@@ -16,8 +16,8 @@ use Rattle.text_tokens.specs.declared.Kind.{Kind}
 use Rattle.text_tokens.specs.declared.Token.{Token}
 use Rattle.text_tokens.proofs.Bounds.{Placed, placed}
 use Rattle.text_literals.specs.Literals.{characters-at}
-use Rattle.text_parsing.specs.Terminals.{code-of, opens-at, name-code, literal-code, seen, sight-of, sights, sights-from, sights-after, live}
-use Rattle.text_parsing.specs.declared.Sight.{Sight}
+use Rattle.text_parsing.specs.Terminals.{code-of, opens-at, name-code, literal-code, seen, terminal-of, terminals, terminals-from, terminals-after, live}
+use Rattle.text_parsing.specs.declared.Terminal.{Terminal}
 
 -- a kind is the end's, or neither a failure nor the end
 pub kind-live : (k : Kind) → (k ≡ Kind.End) ⊎ (live (code-of k) ≡ true)
@@ -69,12 +69,12 @@ unfolding literal-code
 literal-live xs start = chosen Live (eqb (length (characters-at xs start)) 1) refl refl
 
 -- the terminal of a token
-pub record Seen (xs : List ℕ) (code start end : ℕ) (s : Sight) : Type 0 where
+pub record Seen (xs : List ℕ) (code start end : ℕ) (s : Terminal) : Type 0 where
   pub start-is : s .start ≡ start
   pub end-is : s .end ≡ end
   pub is-live : live code ≡ true → live (s .code) ≡ true
 
-seen-chosen : {xs : List ℕ} {code start end : ℕ} (b : Bool) {s t : Sight} → Seen xs code start end s → Seen xs code start end t → Seen xs code start end (cond b s t)
+seen-chosen : {xs : List ℕ} {code start end : ℕ} (b : Bool) {s t : Terminal} → Seen xs code start end s → Seen xs code start end t → Seen xs code start end (cond b s t)
 seen-chosen true p q = p
 seen-chosen false p q = q
 
@@ -111,7 +111,7 @@ stands xs at =
     ⊎-elim (λ e. inside xs at (placed xs at (leb-true at (length xs) e)) (kind-live (token-of xs at .kind))) (λ e. past xs at (leb-false at (length xs) e)) (which (leb at (length xs)))
 
 -- the same of terminals
-pub data Shows (xs : List ℕ) (at : ℕ) (s : Sight) : Type 0 where
+pub data Shows (xs : List ℕ) (at : ℕ) (s : Terminal) : Type 0 where
   end-shown : s .code ≡ 5 → Shows xs at s
   live-shown : live (s .code) ≡ true → at < s .end → s .end ≤ length xs → Shows xs at s
 
@@ -125,8 +125,8 @@ shown xs at t (moving l a m i) =
     let s : Seen xs (code-of (t .kind)) (t .start) (t .end) (seen xs (code-of (t .kind)) (t .start) (t .end)) = seen-as xs (code-of (t .kind)) (t .start) (t .end)
     in live-shown (s .is-live l) (omega (arith, s .end-is)) (omega (arith, s .end-is))
 
-pub shows : (xs : List ℕ) (at : ℕ) → Shows xs at (sight-of xs at)
-unfolding sight-of
+pub shows : (xs : List ℕ) (at : ℕ) → Shows xs at (terminal-of xs at)
+unfolding terminal-of
 shows xs at = shown xs at (token-of xs at) (stands xs at)
 
 -- ---- enough is enough
@@ -138,25 +138,25 @@ live-end n e = ⊎-elim (λ (z : eqb n 5 ≡ true). absurd (dead n (eqb-true n 5
     dead k z l = let w : live 5 ≡ true = subst (λ (j : ℕ). live j ≡ true) z l in let v : _≡_ {A = ℕ} 0 1 = cc in omega arith
 
 -- what a terminal is followed by, n more at most
-abbrev tail : ℕ → List ℕ → Sight → List Sight
-tail n xs s = elim (eqb (s .code) 5) [ true ↦ [] | false ↦ sights n xs (s .end) ]
+abbrev tail : ℕ → List ℕ → Terminal → List Terminal
+tail n xs s = elim (eqb (s .code) 5) [ true ↦ [] | false ↦ terminals n xs (s .end) ]
 
-same-tail : (f g : ℕ) (xs : List ℕ) (at : ℕ) (s : Sight) → Shows xs at s → (at < s .end → s .end ≤ length xs → sights f xs (s .end) ≡ sights g xs (s .end)) → tail f xs s ≡ tail g xs s
+same-tail : (f g : ℕ) (xs : List ℕ) (at : ℕ) (s : Terminal) → Shows xs at s → (at < s .end → s .end ≤ length xs → terminals f xs (s .end) ≡ terminals g xs (s .end)) → tail f xs s ≡ tail g xs s
 same-tail f g xs at s (end-shown e) h = rw (e, tail)
 same-tail f g xs at s (live-shown l m i) h = rw (live-end (s .code) l, tail) (h m i)
 
-pub sights-fuel : (f g : ℕ) (xs : List ℕ) (at : ℕ) → length xs - at < f → length xs - at < g → sights f xs at ≡ sights g xs at
-unfolding sights
-sights-fuel zero g xs at a b = absurd (omega arith)
-sights-fuel (suc f) zero xs at a b = absurd (omega arith)
-sights-fuel (suc f) (suc g) xs at a b =
-    ap (λ (l : List Sight). sight-of xs at ∷ l)
-    (same-tail f g xs at (sight-of xs at) (shows xs at) (λ m i. sights-fuel f g xs (sight-of xs at .end) (omega arith) (omega arith)))
+pub terminals-fuel : (f g : ℕ) (xs : List ℕ) (at : ℕ) → length xs - at < f → length xs - at < g → terminals f xs at ≡ terminals g xs at
+unfolding terminals
+terminals-fuel zero g xs at a b = absurd (omega arith)
+terminals-fuel (suc f) zero xs at a b = absurd (omega arith)
+terminals-fuel (suc f) (suc g) xs at a b =
+    ap (λ (l : List Terminal). terminal-of xs at ∷ l)
+    (same-tail f g xs at (terminal-of xs at) (shows xs at) (λ m i. terminals-fuel f g xs (terminal-of xs at .end) (omega arith) (omega arith)))
 
 -- the terminals from a place on are the one there and those after it
-pub sights-on : (xs : List ℕ) (at : ℕ) → sights-from xs at ≡ sight-of xs at ∷ sights-after xs (sight-of xs at)
-unfolding sights sights-after
-sights-on xs at =
-    ap (λ (l : List Sight). sight-of xs at ∷ l)
-    (same-tail (length xs) (suc (length xs)) xs at (sight-of xs at) (shows xs at)
-    (λ m i. sights-fuel (length xs) (suc (length xs)) xs (sight-of xs at .end) (omega arith) (omega arith)))
+pub terminals-on : (xs : List ℕ) (at : ℕ) → terminals-from xs at ≡ terminal-of xs at ∷ terminals-after xs (terminal-of xs at)
+unfolding terminals terminals-after
+terminals-on xs at =
+    ap (λ (l : List Terminal). terminal-of xs at ∷ l)
+    (same-tail (length xs) (suc (length xs)) xs at (terminal-of xs at) (shows xs at)
+    (λ m i. terminals-fuel (length xs) (suc (length xs)) xs (terminal-of xs at .end) (omega arith) (omega arith)))
