@@ -1,4 +1,5 @@
 // Refusals 1 to 9 and 11: what each means, and what to change.
+use crate::empty;
 use crate::limits;
 use crate::names;
 use report_wording::lines;
@@ -8,7 +9,7 @@ fn late(grammar: &[u8], n: usize, at: usize) {
     match n {
         7 => report_advice::rest::recursive(grammar, at),
         8 => report_advice::rest::extent(grammar, at),
-        9 => report_advice::rest::empty_body(),
+        9 => empty::explained(grammar, at),
         11 => report_advice::rest::weight(),
         _ => report_advice::rest::table(),
     }

@@ -47,10 +47,14 @@ pub fn extent(grammar: &[u8], at: usize) {
 
 pub fn empty_body() {
     say(b"What this sign repeats can take no bits at all, so nobody could say\n");
-    say(b"how many passes there were.\n");
-    say(b"What to change: let each pass take at least one bit. Take away the\n");
-    say(b"?, * or {0~..} inside of it, or this sign. Where a rule is repeated,\n");
-    say(b"look into the rule. eod alone cannot be repeated.\n");
+    say(b"how many passes there were. This is how:\n");
+}
+
+pub fn change_empty_body() {
+    say(b"What to change: let each pass take at least one bit. A ?, * or {0~..}\n");
+    say(b"around the whole of what is repeated can go: (\"A\"?)* and (\"A\"?)+ match\n");
+    say(b"what \"A\"* matches. Else take this sign away, or let a pass begin with\n");
+    say(b"a field that is always there. eod cannot be repeated.\n");
 }
 
 pub fn weight() {
