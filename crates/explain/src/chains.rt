@@ -14,7 +14,6 @@ use report_wording::quoting::quote;
 use report_wording::quoting::token;
 use report_wording::variables::first_name;
 use report_wording::windows::binary;
-use report_wording::writing::number;
 use report_wording::writing::say;
 use text_parsing::terminals::look;
 
@@ -109,18 +108,26 @@ fn left_out(n: usize) {
     if n == 0 {
         say(b"  is left out\n");
     } else {
-        number(b"  comes; passes seen here: ", n);
-        say(b"\n");
+        say(b"  comes\n");
     }
 }
 
-fn repeated(grammar: &[u8], table: &[u32], i: usize, n: usize) {
+fn repetition(grammar: &[u8], i: usize, n: usize) {
     let at = place_of(grammar, i);
     here(grammar, at);
     quote(grammar, at, Part::Member);
     left_out(n);
+}
+
+// A body that comes is listed by its fields.
+fn repeated(grammar: &[u8], table: &[u32], i: usize, n: usize) {
     if varies(table, i) {
-        counts_note(grammar, at);
+        repetition(grammar, i, n);
+        counts_note(grammar, place_of(grammar, i));
+        return;
+    }
+    if n == 0 {
+        repetition(grammar, i, n);
     }
 }
 
@@ -169,32 +176,58 @@ fn is_free(table: &[u32], tag: usize, i: usize) -> bool {
     false
 }
 
+// The three numbers of step k.
+fn tag_at(steps: &[usize], k: usize) -> usize {
+    if k < 256 {
+        return number_at(steps, 3 * k);
+    }
+    0
+}
+
+fn construct_of(steps: &[usize], k: usize) -> usize {
+    if k < 256 {
+        return number_at(steps, 3 * k + 1);
+    }
+    0
+}
+
+fn value_at(steps: &[usize], k: usize) -> usize {
+    if k < 256 {
+        return number_at(steps, 3 * k + 2);
+    }
+    0
+}
+
+fn free_at(table: &[u32], steps: &[usize], k: usize) -> bool {
+    is_free(table, tag_at(steps, k), construct_of(steps, k))
+}
+
 // Whether a set or a count with a variable is among the steps.
 pub fn free(table: &[u32], steps: &[usize], count: usize) -> bool {
     let mut k: usize = 0;
     while k < count {
-        if k < 256 {
-            if is_free(table, number_at(steps, 3 * k), number_at(steps, 3 * k + 1)) {
-                return true;
-            }
+        if free_at(table, steps, k) {
+            return true;
         }
         k += 1;
     }
     false
 }
 
+fn step_at(grammar: &[u8], table: &[u32], steps: &[usize], k: usize) {
+    step(
+        grammar,
+        table,
+        tag_at(steps, k),
+        construct_of(steps, k),
+        value_at(steps, k),
+    );
+}
+
 pub fn listed(grammar: &[u8], table: &[u32], steps: &[usize], count: usize) {
     let mut k: usize = 0;
     while k < count {
-        if k < 256 {
-            step(
-                grammar,
-                table,
-                number_at(steps, 3 * k),
-                number_at(steps, 3 * k + 1),
-                number_at(steps, 3 * k + 2),
-            );
-        }
+        step_at(grammar, table, steps, k);
         k += 1;
     }
 }

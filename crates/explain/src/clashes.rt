@@ -228,25 +228,34 @@ fn clashes_at(table: &[u32], follow: &[u64], prediction: &[u64], i: usize) -> bo
     is_clash(sets::clash(table, follow, prediction, i))
 }
 
+fn counted(table: &[u32], follow: &[u64], prediction: &[u64], i: usize, n: usize) -> usize {
+    if clashes_at(table, follow, prediction, i) {
+        if n < 256 {
+            return n + 1;
+        }
+    }
+    n
+}
+
 // How many constructs from one on have a clash.
 fn count_from(table: &[u32], follow: &[u64], prediction: &[u64], from: usize) -> usize {
     let mut n: usize = 0;
     let mut i = from;
     while i < 256 {
-        if clashes_at(table, follow, prediction, i) {
-            if n < 256 {
-                n += 1;
-            }
-        }
+        n = counted(table, follow, prediction, i, n);
         i += 1;
     }
     n
 }
 
+fn another_at(grammar: &[u8], table: &[u32], follow: &[u64], prediction: &[u64], i: usize) {
+    another(grammar, table, i, sets::clash(table, follow, prediction, i));
+}
+
 fn each_from(grammar: &[u8], table: &[u32], follow: &[u64], prediction: &[u64], from: usize) {
     let mut i = from;
     while i < 256 {
-        another(grammar, table, i, sets::clash(table, follow, prediction, i));
+        another_at(grammar, table, follow, prediction, i);
         i += 1;
     }
 }
@@ -274,7 +283,6 @@ fn told(grammar: &[u8], table: &[u32], construct: usize, clash: Clash) {
 pub fn conflict(grammar: &[u8], at: usize, construct: usize, clash: Clash) {
     say(b"refused, number 10: a clash\n");
     lines::shown(grammar, at);
-    let mut words = [0u32; 16384];
-    report_places::tables::encode(grammar, &mut words);
+    let words = sets::encoded(grammar).words;
     told(grammar, &words, construct, clash);
 }

@@ -43,16 +43,16 @@ fn is_here(grammar: &[u8], table: &[u32], first: &[u64], i: usize, at: usize) ->
     false
 }
 
-// The repetition whose sign stands at a place.
-fn this(grammar: &[u8], table: &[u32], first: &[u64], at: usize) {
+// The repetition whose sign stands at a place; 256 where there is none.
+fn this(grammar: &[u8], table: &[u32], first: &[u64], at: usize) -> usize {
     let mut i: usize = 0;
     while i < 256 {
         if is_here(grammar, table, first, i, at) {
-            body(grammar, table, first, i);
-            return;
+            return i;
         }
         i += 1;
     }
+    256
 }
 
 fn is_other(grammar: &[u8], table: &[u32], first: &[u64], i: usize, at: usize) -> bool {
@@ -100,13 +100,12 @@ fn told(grammar: &[u8], table: &[u32], at: usize) {
     let mut prediction = [0u64; 2056];
     sets::all(table, &mut first, &mut follow, &mut prediction);
     report_advice::rest::empty_body();
-    this(grammar, table, &first, at);
+    body(grammar, table, &first, this(grammar, table, &first, at));
     report_advice::rest::change_empty_body();
     others(grammar, table, &first, at);
 }
 
 pub fn explained(grammar: &[u8], at: usize) {
-    let mut words = [0u32; 16384];
-    report_places::tables::encode(grammar, &mut words);
+    let words = sets::encoded(grammar).words;
     told(grammar, &words, at);
 }

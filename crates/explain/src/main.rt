@@ -5,11 +5,14 @@ mod chains;
 mod clashes;
 mod empty;
 mod fields;
+mod heavy;
 mod limits;
 mod names;
+mod recursion;
 mod refusals;
 mod rewriting;
 mod sets;
+mod warnings;
 
 use report_wording::writing::number;
 use report_wording::writing::say;
@@ -25,8 +28,14 @@ fn status(word: &[u8], n: usize, middle: &[u8], m: usize) {
 
 fn admitted(grammar: &[u8], weight: usize) {
     fields::admitted(grammar, weight);
+    warned(grammar);
     number(b"admitted weight ", weight);
     say(b"\n");
+}
+
+fn warned(grammar: &[u8]) {
+    let words = sets::encoded(grammar).words;
+    warnings::told(grammar, &words);
 }
 
 fn refused(grammar: &[u8], n: usize, place: usize) {
@@ -108,15 +117,19 @@ fn each(i: usize) {
     word(&path[..n]);
 }
 
+fn every(count: usize) {
+    let mut i: usize = 1;
+    while i < count {
+        each(i);
+        i += 1;
+    }
+}
+
 fn main() {
     let count = os::arg_count();
     if count < 2 {
         file(b"kiosk.dogma");
         return;
     }
-    let mut i: usize = 1;
-    while i < count {
-        each(i);
-        i += 1;
-    }
+    every(count);
 }

@@ -34,3 +34,20 @@ pub fn empty_body(table: &[u32], first: &[u64], i: usize) -> bool {
     }
     false
 }
+
+pub fn first(table: &[u32], family: &mut [u64]) {
+    if family.len() == 2056 {
+        table_first_follow::first::first(table, family);
+    }
+}
+
+pub struct Words {
+    pub words: [u32; 16384],
+}
+
+// The table's words of a text, whether or not it is refused.
+pub fn encoded(grammar: &[u8]) -> Words {
+    let mut words = [0u32; 16384];
+    report_places::tables::encode(grammar, &mut words);
+    Words { words }
+}

@@ -303,7 +303,7 @@ fn opened(code: usize, seen: Context) {
 
 // What can stand there, and what is wrong.
 fn not_a_slip(code: usize, seen: Context, kind: usize) {
-    if both(seen.second != 59, seen.last != 59) {
+    if both(seen.depth < 16, both(seen.second != 59, seen.last != 59)) {
         expected::told(kind, seen.last);
     }
     opened(code, seen);

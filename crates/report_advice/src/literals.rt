@@ -1,5 +1,6 @@
 // Refusal 4: what is wrong with a literal.
 use report_wording::lines;
+use report_wording::lines::saturating_next;
 use report_wording::writing::hexadecimal;
 use report_wording::writing::number;
 use report_wording::writing::say;
@@ -60,7 +61,7 @@ fn wrong(grammar: &[u8], at: usize, place: usize) {
         foreign(grammar, place);
         return;
     }
-    if place <= at + 1 {
+    if place <= saturating_next(at) {
         empty();
         return;
     }

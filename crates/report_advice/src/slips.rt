@@ -65,6 +65,11 @@ fn unclosed(sign: &[u8]) {
     say(b"What to change: close the bracket, and end the rule with ;.\n");
 }
 
+fn open_case() {
+    say(b"The text ends here in a switch: the ; of its case and its ] are missing.\n");
+    say(b"What to change: put them there, and end the rule with ;.\n");
+}
+
 fn formula(kind: usize) -> bool {
     either(kind == 2, either(kind == 3, kind == 7))
 }
@@ -177,7 +182,7 @@ pub fn ended(grammar: &[u8], kind: usize, end: usize) {
     match kind {
         0 => unfinished(grammar, end),
         4 => unclosed(b"]"),
-        5 => unclosed(b"] and the ; of the case before it"),
+        5 => open_case(),
         6 => unclosed(b"}"),
         _ => unclosed(b")"),
     }

@@ -80,3 +80,15 @@ pub fn use_before(table: &[u32], follow: &[u64], rule: usize, target: usize, who
     }
     256
 }
+
+// Whether a construct uses the rule.
+pub fn is_used(table: &[u32], rule: usize) -> bool {
+    let mut j: usize = 0;
+    while j < 256 {
+        if is_use(table, j, rule) {
+            return true;
+        }
+        j += 1;
+    }
+    false
+}

@@ -66,8 +66,31 @@ fn longer(grammar: &[u8], at: usize, n: usize) -> bool {
     plus(at, plus(2, n)) < look(grammar, at).end
 }
 
+// No comment and no line's end.
+fn in_line(grammar: &[u8], from: usize, to: usize) -> bool {
+    let mut i = from;
+    while i < to {
+        if breaks(byte_at(grammar, i)) {
+            return false;
+        }
+        i += 1;
+    }
+    true
+}
+
+fn breaks(b: u8) -> bool {
+    if b < 32 {
+        return true;
+    }
+    b == 35
+}
+
 fn short(grammar: &[u8], at: usize) -> bool {
-    end_of(grammar, at, Part::Branch) < plus(at, 60)
+    let end = end_of(grammar, at, Part::Branch);
+    if end < plus(at, 60) {
+        return in_line(grammar, at, end);
+    }
+    false
 }
 
 fn fit(grammar: &[u8], first: usize, second: usize, n: usize) -> bool {
