@@ -5,19 +5,19 @@ use report_places::locate;
 
 fn more(rules: usize, constructs: usize) {
     if 64 < rules {
-        report_advice::limits::rules();
+        report_advice::limits::rules(rules);
     }
     if 256 < constructs {
-        report_advice::limits::constructs();
+        report_advice::limits::constructs(constructs);
     }
 }
 
 fn within(terms: usize, variables: usize) {
     if 1024 < terms {
-        report_advice::limits::terms();
+        report_advice::limits::terms(terms);
     }
     if 64 < variables {
-        report_advice::limits::variables();
+        report_advice::limits::variables(variables);
     }
 }
 

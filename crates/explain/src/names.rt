@@ -4,11 +4,13 @@ use report_places::Located;
 use report_places::Query;
 use report_places::locate;
 use report_wording::lines;
+use report_wording::nearest::nearest;
 use report_wording::quoting::Part;
 use report_wording::quoting::quote;
 use report_wording::quoting::token;
 use report_wording::writing::say;
 use text_header::Class;
+use text_header::Heading;
 use text_header::spans::span;
 use text_tokens::names::reserved;
 
@@ -66,22 +68,48 @@ fn elsewhere(grammar: &[u8], at: usize) {
     report_advice::names::change_elsewhere();
 }
 
-fn no_variable() {
+fn meant(grammar: &[u8], at: usize, near: usize) {
+    if near == at {
+        return;
+    }
+    say(b"Is ");
+    token(grammar, near);
+    say(b" meant, of ");
+    lines::place(grammar, near);
+    say(b"?\n");
+}
+
+// A name that is nearly the one at the place.
+fn nearly(grammar: &[u8], at: usize, variable: bool) {
+    match text_header::header::header(grammar) {
+        Heading::Rules(base) => meant(grammar, at, nearest(grammar, base, at, variable)),
+        Heading::Wrong(_) => {}
+    }
+}
+
+fn no_rule(grammar: &[u8], at: usize) {
+    report_advice::names::no_rule();
+    nearly(grammar, at, false);
+    report_advice::names::change_no_rule();
+}
+
+fn no_variable(grammar: &[u8], at: usize) {
     report_advice::names::no_variable();
+    nearly(grammar, at, true);
     report_advice::names::change_unbound();
 }
 
-fn told(grammar: &[u8], fault: Fault) {
+fn told(grammar: &[u8], name: usize, fault: Fault) {
     match fault {
         Fault::Double(at) => double(grammar, at),
-        Fault::NoRule => report_advice::names::no_rule(),
+        Fault::NoRule => no_rule(grammar, name),
         Fault::Variable(at) => variable(grammar, at),
         Fault::Twice(at) => twice(grammar, at),
         Fault::Misplaced => report_advice::names::misplaced(),
         Fault::Later(at) => later(grammar, at),
         Fault::Rule(at) => rule(grammar, at),
         Fault::Elsewhere(at) => elsewhere(grammar, at),
-        Fault::NoVariable => no_variable(),
+        Fault::NoVariable => no_variable(grammar, name),
     }
 }
 
@@ -91,7 +119,7 @@ fn fault_at(grammar: &[u8], at: usize, end: usize) {
         return;
     }
     match locate(grammar, Query::Name(at)) {
-        Located::Name(fault) => told(grammar, fault),
+        Located::Name(fault) => told(grammar, at, fault),
         _ => {}
     }
 }

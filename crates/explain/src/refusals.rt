@@ -1,15 +1,18 @@
 // Refusals 1 to 9 and 11: what each means, and what to change.
+use crate::empty;
+use crate::heavy;
 use crate::limits;
 use crate::names;
+use crate::recursion;
 use report_wording::lines;
 use report_wording::writing::number;
 
 fn late(grammar: &[u8], n: usize, at: usize) {
     match n {
-        7 => report_advice::rest::recursive(grammar, at),
+        7 => recursion::explained(grammar, at),
         8 => report_advice::rest::extent(grammar, at),
-        9 => report_advice::rest::empty_body(),
-        11 => report_advice::rest::weight(),
+        9 => empty::explained(grammar, at),
+        11 => heavy::explained(grammar),
         _ => report_advice::rest::table(),
     }
 }

@@ -8,24 +8,21 @@ pub fn ends() {
 }
 
 pub fn begins() {
-    say(b"What to change, one of these:\n");
-    say(b"  - Let the two differ in their first 8 bits. Take what they share out\n");
-    say(b"    of one of the sets or ranges, or change what one begins with.\n");
+    say(b"What to change, one of these. The first two leave the frames as they are:\n");
     say(b"  - Put what both begin with in front of the alternative, once:\n");
     say(b"    \"A\" & (\"B\" | \"C\") for \"AB\" | \"AC\".\n");
-    say(b"  - Bind a field that comes before, and choose by a switch:\n");
-    say(b"    uint(8, var(kind, ~)) & [kind = 1: \"AB\"; kind = 2: \"AC\";].\n");
+    say(b"  - Where the frame has a field in front that says which of the two comes,\n");
+    say(b"    bind it in the rule itself, and choose by a switch:\n");
+    say(b"    uint(8, var(kind, ~)) & [kind = 1: \"AB\"; kind = 2: \"AC\";]\n");
+    say(b"  - If neither can be done, the frames must change: the two must differ in\n");
+    say(b"    the next 8 bits.\n");
 }
 
 pub fn passes() {
-    say(b"What to change, one of these:\n");
-    say(b"  - Let what comes after the repetition begin with bits that no pass\n");
-    say(b"    begins with, such as an end mark.\n");
-    say(b"  - Give the number of passes: {4}, or {n} with n bound by a field\n");
-    say(b"    that comes before: uint(8, var(n, ~)) & \"A\"{n}.\n");
-}
-
-pub fn after_rule() {
-    say(b"After it comes what follows the parentheses around it, or its rule\n");
-    say(b"where that is used; inside of a repetition also a further pass.\n");
+    say(b"What to change, one of these. The first leaves the frames as they are:\n");
+    say(b"  - Where a field in front says how many passes come, bind it and use it:\n");
+    say(b"    uint(8, var(n, ~)) & \"A\"{n}. A fixed number is written {4}.\n");
+    say(b"  - If there is none, the frames must change: what comes after the\n");
+    say(b"    repetition must begin with bits that no pass begins with, such as an\n");
+    say(b"    end mark.\n");
 }

@@ -1,5 +1,9 @@
 // Refusal 4: a token that cannot stand where it does.
-use basis::MAX_NESTING;
+use crate::expected;
+use crate::literals;
+use crate::slips;
+use report_wording::brackets::Brackets;
+use report_wording::brackets::open_at;
 use report_wording::quoting::mark;
 use report_wording::quoting::token;
 use report_wording::walking::Context;
@@ -16,15 +20,6 @@ use text_parsing::terminals::look;
 ghost use mathlib.Core.Path.{_≡_};
 ghost use Rattle.report_advice.specs.Codes.{begins-item, ends-item, is-literal, is-ranging, in-field, in-set, is-joining};
 
-fn literal() {
-    say(b"This literal is wrong. A literal has 1 to 32 characters of printable\n");
-    say(b"ASCII, and is closed on its line by the quote that opened it. A\n");
-    say(b"backslash stands only in \\\\ \\\" \\' and \\[hex], from \\[0] to \\[7f].\n");
-    say(b"What to change: close it, shorten it, or write a byte that cannot be\n");
-    say(b"typed as \\[hex]: a line consume is \\[0a]. For bytes from 80 to ff write\n");
-    say(b"uint(8, 0x80).\n");
-}
-
 fn long_name() {
     say(b"This name has more than 32 bytes.\n");
     say(b"What to change: shorten it here and wherever it is used.\n");
@@ -33,6 +28,9 @@ fn long_name() {
 fn stray(b: u8) {
     hexadecimal(b"This byte (hexadecimal ", b as usize, 2);
     say(b") means nothing in the rules.\n");
+    if slips::byte(b) {
+        return;
+    }
     say(b"What to change: take it out, or put it into a comment (from # to the\n");
     say(b"line's end). Rules are plain ASCII, and quotes are \" or '.\n");
 }
@@ -40,7 +38,7 @@ fn stray(b: u8) {
 fn no_token(grammar: &[u8], at: usize) {
     let b = byte_at(grammar, at);
     if quote(b) {
-        literal();
+        literals::fault(grammar, at);
         return;
     }
     if letter(b) {
@@ -56,19 +54,32 @@ fn no_rule() {
     say(b"    name = expression ;\n");
 }
 
-fn unfinished() {
+fn unfinished(last: usize) {
     say(b"The text ends here in the middle of a rule. A rule is written\n");
     say(b"    name = expression ;\n");
-    say(b"What to change: finish the rule. Is its ; missing, or a ) or ]?\n");
+    expected::told(0, last);
+    say(b"What to change: finish the rule.\n");
+}
+
+// What an item, or a repetition of one, can end with.
+fn completes(code: usize) -> bool {
+    either(
+        either(code == 63, code == 42),
+        either(code == 43, ends_item(code)),
+    )
 }
 
 // Outside of brackets a `;` ends a rule; in front of all rules stands as much as one.
-fn end(seen: Context) {
+fn end(grammar: &[u8], seen: Context, kind: usize, place: usize) {
     if both(seen.depth == 0, seen.last == 59) {
         no_rule();
         return;
     }
-    unfinished();
+    if both(completes(seen.last), seen.second != 59) {
+        slips::ended(grammar, kind, place);
+        return;
+    }
+    unfinished(seen.last);
 }
 
 fn repetition() {
@@ -279,7 +290,7 @@ fn outside(code: usize, seen: Context) {
 }
 
 fn opened(code: usize, seen: Context) {
-    if both(MAX_NESTING <= seen.depth, either(code == 40, code == 91)) {
+    if both(16 <= seen.depth, either(code == 40, code == 91)) {
         deep();
         return;
     }
@@ -290,28 +301,47 @@ fn opened(code: usize, seen: Context) {
     misplaced(code, seen);
 }
 
-fn standing(grammar: &[u8], at: usize, code: usize, seen: Context) {
+// What can stand there, and what is wrong.
+fn not_a_slip(code: usize, seen: Context, kind: usize) {
+    if both(seen.depth < 16, both(seen.second != 59, seen.last != 59)) {
+        expected::told(kind, seen.last);
+    }
+    opened(code, seen);
+}
+
+fn standing(grammar: &[u8], at: usize, code: usize, next: usize, seen: Context, open: Brackets) {
+    let kind = open.kinds % 8;
     if code == 5 {
-        end(seen);
+        end(grammar, seen, kind, open.end);
         return;
     }
     say(b"This cannot stand here:  ");
     token(grammar, at);
     say(b"\n");
-    opened(code, seen);
+    if slips::told(grammar, kind, seen.last, code, next, open.end) {
+        return;
+    }
+    not_a_slip(code, seen, kind);
 }
 
-fn form_at(grammar: &[u8], base: usize, at: usize, code: usize) {
+fn form_at(grammar: &[u8], base: usize, at: usize, code: usize, next: usize) {
     if code == 4 {
         no_token(grammar, at);
         return;
     }
-    standing(grammar, at, code, before(grammar, base, at));
+    let open = open_at(grammar, base, at);
+    standing(grammar, at, code, next, before(grammar, base, at), open);
+}
+
+fn wrong_at(grammar: &[u8], base: usize, at: usize) {
+    let sight = look(grammar, at);
+    let next = look(grammar, sight.end).code;
+    form_at(grammar, base, at, sight.code, next);
 }
 
 pub fn wrong(grammar: &[u8], at: usize) {
     match text_header::header::header(grammar) {
-        Heading::Rules(base) => form_at(grammar, base, at, look(grammar, at).code),
+        Heading::Rules(base) => wrong_at(grammar, base, at),
         Heading::Wrong(_) => {}
     }
 }

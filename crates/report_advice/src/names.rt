@@ -18,6 +18,9 @@ pub fn change_double() {
 
 pub fn no_rule() {
     say(b" belongs to no rule.\n");
+}
+
+pub fn change_no_rule() {
     say(b"What to change: write the rule's name as the rule itself has it, in\n");
     say(b"the same letter case; or add a rule of this name:\n");
     say(b"    name = expression ;\n");

@@ -3,11 +3,14 @@ use report_wording::quoting::token;
 use report_wording::writing::say;
 use text_parsing::terminals::look;
 
-pub fn recursive(grammar: &[u8], at: usize) {
-    say(b"This rule reaches itself: it uses its own name, or a rule that leads\n");
-    say(b"back to it.\n");
-    say(b"What to change: write what is repeated with *, + or {n}, and let\n");
-    say(b"nothing lead back to the rule ");
+pub fn recursive() {
+    say(b"This rule leads back to itself:\n");
+}
+
+pub fn change_recursive(grammar: &[u8], at: usize) {
+    say(b"What to change: take one of these uses away. What comes again and again\n");
+    say(b"is written with *, + or {n}: \"A\"+ for a rule that is \"A\" and then itself\n");
+    say(b"or nothing. Nothing may lead back to the rule ");
     token(grammar, at);
     say(b".\n");
 }
@@ -47,18 +50,25 @@ pub fn extent(grammar: &[u8], at: usize) {
 
 pub fn empty_body() {
     say(b"What this sign repeats can take no bits at all, so nobody could say\n");
-    say(b"how many passes there were.\n");
-    say(b"What to change: let each pass take at least one bit. Take away the\n");
-    say(b"?, * or {0~..} inside of it, or this sign. Where a rule is repeated,\n");
-    say(b"look into the rule. eod alone cannot be repeated.\n");
+    say(b"how many passes there were. This is how:\n");
+}
+
+pub fn change_empty_body() {
+    say(b"What to change: let each pass take at least one bit. A ?, * or {0~..}\n");
+    say(b"around the whole of what is repeated can go: (\"A\"?)* and (\"A\"?)+ match\n");
+    say(b"what \"A\"* matches. Else take this sign away, or let a pass begin with\n");
+    say(b"a field that is always there. eod cannot be repeated.\n");
 }
 
 pub fn weight() {
-    say(b"The grammar is too heavy: its weight is over 65535, so a frame could\n");
-    say(b"take too many steps. A field weighs 1; a use of a rule 1 more than\n");
-    say(b"the rule; a concatenation 1 more than its members together; an\n");
-    say(b"alternative or a switch 1 more than its heaviest branch; a repetition\n");
-    say(b"twice what is repeated, and 1.\n");
+    say(b",\nand at most 65535 is allowed, so that no frame takes too many steps. A\n");
+    say(b"field weighs 1; a use of a rule 1 more than the rule; a concatenation 1\n");
+    say(b"more than its members together; an alternative or a switch 1 more than\n");
+    say(b"its heaviest branch; a repetition twice what is repeated, and 1.\n");
+    say(b"The heaviest rules:\n");
+}
+
+pub fn change_weight() {
     say(b"What to change: put fewer repetitions inside of each other, and use\n");
     say(b"heavy rules in fewer places.\n");
 }

@@ -1,3 +1,4 @@
 -- What `locate` promises.
 pub mod Faults
 pub mod Located
+pub mod Tables

@@ -25,6 +25,7 @@ ghost use Rattle.report_places.specs.Faults.{from-base, rule-number, fir
 ghost use Rattle.report_places.specs.Located.{totals-of, answered, located-in, located};
 
 mod faults;
+pub mod tables;
 
 // A construct by its number; the rule that a place lies in; the rule that has the name at a place; what is wrong with the name at a place.
 pub enum Query {

@@ -58,7 +58,7 @@ fn digit(n: usize) -> u8
     b'1'
 }
 
-fn binary(window: usize, n: usize) {
+pub fn binary(window: usize, n: usize) {
     let digits = [
         digit(window / 128),
         digit(window / 64),
@@ -134,8 +134,37 @@ fn short(n: usize) {
     }
 }
 
+fn into(k: usize) {
+    number(b" (they begin ", k);
+    say(b" bits into a byte).\n");
+}
+
+// Where the bits begin in a byte is a set of remainders by 8: at one place, at several, or nowhere.
+fn elsewhere(starts: usize) {
+    match starts {
+        0 => say(b" (no frame comes to this place: nothing uses the rule).\n"),
+        2 => into(1),
+        4 => into(2),
+        8 => into(3),
+        16 => into(4),
+        32 => into(5),
+        64 => into(6),
+        128 => into(7),
+        _ => say(b" (they can begin at different bits of a byte).\n"),
+    }
+}
+
+// A byte and its character only where a byte begins.
+fn placed(window: usize, n: usize, starts: usize) {
+    if starts == 1 {
+        value(window, n);
+    } else {
+        elsewhere(starts);
+    }
+}
+
 // A full stop and a line's end follow the bits.
-pub fn window(window: usize) {
+pub fn window(window: usize, starts: usize) {
     let n = size(window);
     if n == 0 {
         say(b" the frame's end: no bits come next.\n");
@@ -143,6 +172,6 @@ pub fn window(window: usize) {
     }
     say(b" the bits ");
     binary(window, n);
-    value(window, n);
+    placed(window, n, starts);
     short(n);
 }
