@@ -12,8 +12,8 @@ use text_parsing::terminals::look;
 // The place of a repetition's sign.
 fn mark_of(grammar: &[u8], construct: usize) -> usize {
     let end = end_of(grammar, chains::place_of(grammar, construct), Part::Field);
-    let sight = look(grammar, end);
-    sight.start
+    let terminal = look(grammar, end);
+    terminal.start
 }
 
 fn next(i: usize) -> usize {

@@ -334,9 +334,9 @@ fn form_at(grammar: &[u8], base: usize, at: usize, code: usize, next: usize) {
 }
 
 fn wrong_at(grammar: &[u8], base: usize, at: usize) {
-    let sight = look(grammar, at);
-    let next = look(grammar, sight.end).code;
-    form_at(grammar, base, at, sight.code, next);
+    let terminal = look(grammar, at);
+    let next = look(grammar, terminal.end).code;
+    form_at(grammar, base, at, terminal.code, next);
 }
 
 pub fn wrong(grammar: &[u8], at: usize) {

@@ -7,7 +7,7 @@ use mathlib.Core.List.{List}
 use lib.ListN.{drop}
 use Rattle.text_header.specs.Header.{header-of}
 use Rattle.text_header.specs.declared.Heading.{Heading}
-use Rattle.text_parsing.specs.Store.{State}
+use Rattle.text_store.specs.Store.{State}
 use Rattle.admission.specs.Admitted.{words-of, Named}
 
 -- the words of the rules xs, in which 4 to 6 find no fault

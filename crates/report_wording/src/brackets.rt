@@ -81,14 +81,14 @@ pub fn open_at(grammar: &[u8], base: usize, at: usize) -> Brackets {
     let mut end = base;
     let mut tokens: usize = 0;
     while tokens < 8192 {
-        let sight = look(grammar, end);
-        let next = sight.code;
-        if at <= sight.start {
+        let terminal = look(grammar, end);
+        let next = terminal.code;
+        if at <= terminal.start {
             return Brackets { kinds, code, end };
         }
         kinds = stepped(kinds, code, next);
         code = next;
-        end = sight.end;
+        end = terminal.end;
         tokens += 1;
     }
     Brackets { kinds, code, end }

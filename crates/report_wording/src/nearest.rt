@@ -134,10 +134,10 @@ pub fn nearest(grammar: &[u8], base: usize, at: usize, variable: bool) -> usize 
     let mut last: usize = 59;
     let mut tokens: usize = 0;
     while tokens < 8192 {
-        let sight = look(grammar, here);
-        let code = sight.code;
-        let start = sight.start;
-        let end = sight.end;
+        let terminal = look(grammar, here);
+        let code = terminal.code;
+        let start = terminal.start;
+        let end = terminal.end;
         if code == 5 {
             return at;
         }

@@ -21,11 +21,11 @@ pub fn first_name(grammar: &[u8], at: usize) -> usize {
     let mut here = at;
     let mut n: usize = 0;
     while n < 1024 {
-        let sight = look(grammar, here);
-        if sight.code == 1 {
-            return sight.start;
+        let terminal = look(grammar, here);
+        if terminal.code == 1 {
+            return terminal.start;
         }
-        here = next(grammar, sight.code, sight.start, sight.end);
+        here = next(grammar, terminal.code, terminal.start, terminal.end);
         n += 1;
     }
     here
