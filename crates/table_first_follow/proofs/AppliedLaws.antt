@@ -1,6 +1,6 @@
 -- A set that a construct's words give is what the rule of its node makes of the family's sets.
 -- Assumes nothing.
-use Prim.Native.Nat.{ℕ, zero, suc, _+_, _-_, _<_}
+use Prim.Native.Nat.{ℕ, zero, suc, _+_, _*_, _-_, _<_}
 use mathlib.Core.Path.{_≡_, refl, sym, ap, _∙_, subst}
 use mathlib.Core.Bool.{true, false}
 use mathlib.Core.List.{List, [], List·Memᴰ·not-nil}
@@ -16,7 +16,7 @@ use Rattle.lookahead.proofs.PassLaws.{is-map}
 use Rattle.table_layout.specs.Places.{rule-word, terms-at, literals-at}
 use Rattle.table_layout.specs.Constructs.{constructAt}
 use Rattle.table_layout.specs.Attributes.{attributes-of}
-use Rattle.table_layout.specs.Held.{held, node-of, parts, allowed, passes-static, HeldNode, term-words}
+use Rattle.table_layout.specs.Held.{opening, held, node-of, parts, allowed, passes-static, HeldNode, term-words}
 use Rattle.table_layout.specs.declared.Construct.{Construct}
 use Rattle.table_layout.specs.declared.Below.{Below}
 use Rattle.table_layout.specs.declared.Attributes.{Attributes}

@@ -6,7 +6,8 @@ use mathlib.Core.List.{List, []}
 use native.Mathlib.Omega.{arith}
 use borrow.Author.Tests.{ne-eqb, eq-eqb}
 use Rattle.table_layout.specs.Constructs.{constructAt}
-use Rattle.table_layout.specs.Held.{held, node-of, use-node}
+use Rattle.table_layout.specs.Held.{held, node-of, use-node, opening}
+use Rattle.table_first_follow.specs.Sets.{sets-held}
 use Rattle.table_layout.proofs.Bounds.{missing-past}
 use Rattle.theory.specs.Grammar.{alternative}
 

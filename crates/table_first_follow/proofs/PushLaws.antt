@@ -15,7 +15,7 @@ use Rattle.lookahead.proofs.LanguageLaws.{Strings}
 use Rattle.table_layout.specs.Places.{rule-word}
 use Rattle.table_layout.specs.Constructs.{constructAt}
 use Rattle.table_layout.specs.Attributes.{attributes-of}
-use Rattle.table_layout.specs.Held.{held, node-of}
+use Rattle.table_layout.specs.Held.{opening, held, node-of}
 use Rattle.table_layout.specs.declared.Construct.{Construct}
 use Rattle.table_layout.specs.declared.Below.{Below}
 use Rattle.table_layout.specs.declared.Attributes.{Attributes}
