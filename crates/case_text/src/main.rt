@@ -236,7 +236,7 @@ fn tokens_c() {
     listed(b"NUL", b"\x00");
     listed(b"7f", b"\x7f");
     listed(b"80", b"\x80");
-    listed(b"form consume", b"\x0c");
+    listed(b"form feed", b"\x0c");
 }
 
 fn tokens_d() {

@@ -21,7 +21,7 @@ fn unclosed() {
     say(b"This literal is not closed. It must end on its line, by the quote that\n");
     say(b"opened it.\n");
     say(b"What to change: put the quote at its end. A quote inside of it is\n");
-    say(b"written \\\" or \\', a backslash \\\\, a line consume \\[0a].\n");
+    say(b"written \\\" or \\', a backslash \\\\, a line feed \\[0a].\n");
 }
 
 fn empty() {
@@ -34,7 +34,7 @@ fn escape(grammar: &[u8], at: usize) {
     say(b"In this literal a backslash is not followed as it must be, at\n");
     lines::shown(grammar, at);
     say(b"What to change: a backslash stands only in \\\\ \\\" \\' and \\[hex], from\n");
-    say(b"\\[0] to \\[7f]. A line consume is \\[0a]. For a byte from 80 to ff write\n");
+    say(b"\\[0] to \\[7f]. A line feed is \\[0a]. For a byte from 80 to ff write\n");
     say(b"uint(8, 0x80).\n");
 }
 

@@ -19,7 +19,8 @@ use Rattle.table_layout.specs.Attributes.{counts-list}
 use Rattle.table_layout.specs.declared.Construct.{Construct}
 use Rattle.table_layout.specs.declared.Passes.{Passes}
 use Rattle.table_wellformed.specs.Lists.{own-start as list-start, own-end as list-end, list-start as counts-start, list-end as counts-end, begins, after, lists-begin, after-lists, lists-from, lists-laid}
-use Rattle.text_store.specs.Words.{node-word, kind-of}
+use Rattle.text_store.specs.Words.{kind-of, node-mark}
+use Rattle.text_encoding.proofs.Sizes.{operands-length}
 use Rattle.text_encoding.specs.Lists.{sum, narrow}
 use Rattle.text_encoding.specs.Numbers.{condition-length, own-length, lists-length, condition-start, own-start}
 use Rattle.text_encoding.specs.Encoded.{start-word, end-word, operands, construct-words}
