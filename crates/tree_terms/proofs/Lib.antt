@@ -1,0 +1,3 @@
+-- Sets, counts and conditions mean the same as the trees that their terms hold.
+pub mod Meanings
+pub mod Variables
