@@ -2,3 +2,4 @@
 pub mod Meanings
 pub mod Variables
 pub mod Small
+pub mod Fitting
