@@ -3,3 +3,4 @@ pub mod Meanings
 pub mod Variables
 pub mod Small
 pub mod Fitting
+pub mod Rooms
