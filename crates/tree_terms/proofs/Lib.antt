@@ -4,3 +4,4 @@ pub mod Variables
 pub mod Small
 pub mod Fitting
 pub mod Rooms
+pub mod Worked
