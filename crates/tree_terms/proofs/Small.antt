@@ -111,10 +111,10 @@ variable-kept w k s h = go (ltb k (length w))
 abbrev Ready : List ℤ → Operation → Numbers → ℕ → ℤ → Numbers → ℕ → Type 0
 Ready w o s t z s′ t′ = (t′ ≡ t) × Kept s z (operateOf Mode.Sizes w o s′)
 
-abbrev Put : Numbers → ℕ → ℤ → Numbers → ℕ → Type 0
+abbrev pub Put : Numbers → ℕ → ℤ → Numbers → ℕ → Type 0
 Put s t z s′ t′ = (t′ ≡ t) × (pushed s z ≡ Outcome.Stack s′)
 
-abbrev Two : Numbers → ℕ → ℤ → ℤ → Numbers → ℕ → Type 0
+abbrev pub Two : Numbers → ℕ → ℤ → ℤ → Numbers → ℕ → Type 0
 Two s t a b s′ t′ = (t′ ≡ t) × (pairOf s′ ≡ Pair.Of s a b)
 
 part-step : (k : Kind) (w : List ℤ) (v : ℤ) (o : Operation) (s : Numbers) (t : ℕ) → stepOf k Mode.Sizes w v (Term.Part o) s t ≡ afterOf (operateOf Mode.Sizes w o s) t
@@ -148,10 +148,10 @@ module _ (k : Kind) (w : List ℤ) (v : ℤ) where
       calm-last (Ready w (lastSign c) s t (size-of w c)) (Put s t (size-of w c)) (before c) (Term.Part (lastSign c)) s t r
       (λ s′ t′ q. subst (Calm (Put s t (size-of w c))) (sym (part-step k w v (lastSign c) s′ t′)) (after-put s t t′ (size-of w c) (operateOf Mode.Sizes w (lastSign c) s′) (q .0) (q .1)))
 
-  abbrev Puts : Calculation → Type 0
+  abbrev pub Puts : Calculation → Type 0
   Puts c = (s : Numbers) (t : ℕ) → Calm (Put s t (size-of w c)) (ends k Mode.Sizes w v (calculationTerms c) s t)
 
-  two-from : (a b : Calculation) → Puts a → Puts b → (s : Numbers) (t : ℕ) → Calm (Two s t (size-of w a) (size-of w b)) (ends k Mode.Sizes w v (calculationTerms a ++ calculationTerms b) s t)
+  pub two-from : (a b : Calculation) → Puts a → Puts b → (s : Numbers) (t : ℕ) → Calm (Two s t (size-of w a) (size-of w b)) (ends k Mode.Sizes w v (calculationTerms a ++ calculationTerms b) s t)
   two-from a b p q s t =
       calm-append (Put s t (size-of w a)) (Two s t (size-of w a) (size-of w b)) (calculationTerms a) (calculationTerms b) s t (p s t)
       (λ s′ t′ x. calm-map (Put s′ t′ (size-of w b)) (Two s t (size-of w a) (size-of w b)) (ends k Mode.Sizes w v (calculationTerms b) s′ t′) (q s′ t′) (λ s″ t″ y. (y .0 ∙ x .0, pair-of s s′ s″ (size-of w a) (size-of w b) (x .1) (y .1))))
@@ -173,7 +173,7 @@ module _ (k : Kind) (w : List ℤ) (v : ℤ) where
       calm-map (Put s t (size-of w a)) (Ready w Operation.Negate s t (size-of w a)) (ends k Mode.Sizes w v (calculationTerms a) s t) (put-from a s t (ready a (h .0) s t))
       (λ s′ t′ x. (x .0, subst (λ (p : Top). Kept s (size-of w a) (unary (λ z. z) p)) (sym (top-of s s′ (size-of w a) (x .1))) (small-kept s (size-of w a) (h .1))))
 
-  puts : (c : Calculation) → Small w c → Puts c
+  pub puts : (c : Calculation) → Small w c → Puts c
   puts c h s t = put-from c s t (ready c h s t)
 
   -- ---- tests
