@@ -1,0 +1,3 @@
+-- What the reader's store holds of a tree.
+pub mod Rows
+pub mod Holding
