@@ -1,3 +1,5 @@
 -- What the reader's store holds of a tree.
 pub mod Rows
 pub mod Holding
+pub mod Lengths
+pub mod Adding

@@ -162,8 +162,8 @@ term-rows (eod s) = []
 term-rows (group depth opens x closes) = term-rows x
 term-rows (switch depth opens x closes) = term-rows x
 term-rows (last-case c colon x end) = tests-rows c [] ++ term-rows x
-term-rows (case-default c colon x end colon′ y end′) = tests-rows c [] ++ (term-rows x ++ term-rows y)
-term-rows (case-cases c colon x end more) = tests-rows c [] ++ (term-rows x ++ term-rows more)
+term-rows (case-default c colon x end colon′ y end′) = tests-rows c [] ++ term-rows x ++ term-rows y
+term-rows (case-cases c colon x end more) = tests-rows c [] ++ term-rows x ++ term-rows more
 term-rows (once x) = term-rows x
 term-rows (repeated x m) = term-rows x ++ mark-rows m
 term-rows (last-member x) = term-rows x
@@ -194,10 +194,10 @@ node-rows begun (last-case c colon x end) t =
     on-first t (t + length (tests-rows c [])) (node-rows false x (t + length (tests-rows c [])))
 node-rows begun (case-default c colon x end colon′ y end′) t =
     on-first t (t + length (tests-rows c [])) (node-rows false x (t + length (tests-rows c [])))
-    ++ node-rows false y (t + length (tests-rows c []) + length (term-rows x))
+    ++ node-rows false y (t + length (tests-rows c [] ++ term-rows x))
 node-rows begun (case-cases c colon x end more) t =
     on-first t (t + length (tests-rows c [])) (node-rows false x (t + length (tests-rows c [])))
-    ++ node-rows false more (t + length (tests-rows c []) + length (term-rows x))
+    ++ node-rows false more (t + length (tests-rows c [] ++ term-rows x))
 node-rows begun (once x) t = node-rows false x t
 node-rows begun (repeated x m) t = mark-row m (suc (constructs false x)) (start-of x) (t + length (term-rows x)) ∷ node-rows false x t
 node-rows begun (last-member x) t = node-rows false x t
