@@ -3,3 +3,4 @@ pub mod Rows
 pub mod Holding
 pub mod Lengths
 pub mod Adding
+pub mod Building
