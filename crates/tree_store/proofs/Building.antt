@@ -26,9 +26,9 @@ pub builds-then : {f g : State → State} {M L : ℕ → List NodeRow} {A B : Li
 builds-then {f} {g} {M} {L} {A} {B} {c} {e} x y =
     record {
       builds = λ N T b R st h.
-      held-as (append-assoc N (M (length T)) (L (length (T ++ A))) ∙ ap (λ (k : ℕ). N ++ (M (length T) ++ L k)) (length-append T A)) (append-assoc T A B)
-      (let q : b + c + e ≡ b + (c + e) = omega arith in q)
-      (y .builds (N ++ M (length T)) (T ++ A) (b + c) R (f st) (x .builds N T b R st h));
+          held-as (append-assoc N (M (length T)) (L (length (T ++ A))) ∙ ap (λ (k : ℕ). N ++ (M (length T) ++ L k)) (length-append T A)) (append-assoc T A B)
+          (let q : b + c + e ≡ b + (c + e) = omega arith in q)
+          (y .builds (N ++ M (length T)) (T ++ A) (b + c) R (f st) (x .builds N T b R st h));
     }
 
 -- ---- nodes without parts
@@ -43,7 +43,7 @@ bare-builds : (kind place a : ℕ) → Builds (λ st. leaf kind place a 0 0 0 0 
 bare-builds kind place a =
     record {
       builds = λ N T b R st h.
-      held-as refl (sym (append-nil T)) (let q : b ≡ b + 0 = omega arith in q) (leaf-holds kind place a 0 0 0 0 0 0 N T b R st (λ x. refl) (λ x. refl) h);
+          held-as refl (sym (append-nil T)) (let q : b ≡ b + 0 = omega arith in q) (leaf-holds kind place a 0 0 0 0 0 0 N T b R st (λ x. refl) (λ x. refl) h);
     }
 
 -- with a set, added by f
@@ -52,13 +52,13 @@ field-builds : (place a b e : ℕ) {f : State → State} {A : List TermRow} → 
 field-builds place a b e {f} {A} x =
     record {
       builds = λ N T u R st h. (
-      let k : Holds N (T ++ A) u R (f st) = x .adds N T u R st h
-      in let l : length (T ++ A) ≡ length T + length A = length-append T A
-      in held-as refl refl (let q : u ≡ u + 0 = omega arith in q)
-      (leaf-holds 8 place a b (terms-of st) (length T) (terms-of (f st)) (length T + length A) e N (T ++ A) u R (f st)
-      (λ y. let q : terms-of st ≡ length T = omega (arith, h .terms) in q)
-      (λ y. let q : terms-of (f st) ≡ length T + length A = omega (arith, k .terms) in q) k)
-      );
+          let k : Holds N (T ++ A) u R (f st) = x .adds N T u R st h
+          in let l : length (T ++ A) ≡ length T + length A = length-append T A
+          in held-as refl refl (let q : u ≡ u + 0 = omega arith in q)
+          (leaf-holds 8 place a b (terms-of st) (length T) (terms-of (f st)) (length T + length A) e N (T ++ A) u R (f st)
+          (λ y. let q : terms-of st ≡ length T = omega (arith, h .terms) in q)
+          (λ y. let q : terms-of (f st) ≡ length T + length A = omega (arith, k .terms) in q) k)
+          );
     }
 
 -- the same as a binder
@@ -67,12 +67,12 @@ binder-builds : (place a b e : ℕ) {f : State → State} {A : List TermRow} →
 binder-builds place a b e {f} {A} x =
     record {
       builds = λ N T u R st h. (
-      let k : Holds N (T ++ A) (u + 1) R (f (bind st)) = x .adds N T (u + 1) R (bind st) (bind-holds N T u R st h)
-      in let l : length (T ++ A) ≡ length T + length A = length-append T A
-      in leaf-holds 8 place a b (terms-of st) (length T) (terms-of (f (bind st))) (length T + length A) e N (T ++ A) (u + 1) R (f (bind st))
-      (λ y. let q : terms-of st ≡ length T = omega (arith, h .terms) in q)
-      (λ y. let q : terms-of (f (bind st)) ≡ length T + length A = omega (arith, k .terms) in q) k
-      );
+          let k : Holds N (T ++ A) (u + 1) R (f (bind st)) = x .adds N T (u + 1) R (bind st) (bind-holds N T u R st h)
+          in let l : length (T ++ A) ≡ length T + length A = length-append T A
+          in leaf-holds 8 place a b (terms-of st) (length T) (terms-of (f (bind st))) (length T + length A) e N (T ++ A) (u + 1) R (f (bind st))
+          (λ y. let q : terms-of st ≡ length T = omega (arith, h .terms) in q)
+          (λ y. let q : terms-of (f (bind st)) ≡ length T + length A = omega (arith, k .terms) in q) k
+          );
     }
 
 -- ---- a node in front of its parts
@@ -82,7 +82,7 @@ insert-builds : (kind size place : ℕ) {f : State → State} {M : ℕ → List 
 insert-builds kind size place {f} {M} {A} {c} e x =
     record {
       builds = λ N T b R st h.
-      insert-holds kind size place 0 0 0 0 0 0 0 (nodes-of st) N (M (length T)) (T ++ A) (b + c) R (f st) (h .nodes) (e (length T)) (λ y. refl) (λ y. refl) (x .builds N T b R st h);
+          insert-holds kind size place 0 0 0 0 0 0 0 (nodes-of st) N (M (length T)) (T ++ A) (b + c) R (f st) (h .nodes) (e (length T)) (λ y. refl) (λ y. refl) (x .builds N T b R st h);
     }
 
 -- a repetition mark without counts
@@ -91,8 +91,8 @@ plain-mark : (size p k s : ℕ) {f : State → State} {M : ℕ → List NodeRow}
 plain-mark size p k s {f} {M} {A} {c} e x =
     record {
       builds = λ N T b R st h.
-      held-as refl (ap (λ (l : List TermRow). T ++ l) (sym (append-nil A))) refl
-      (insert-holds 3 size p k s 0 0 0 0 0 (nodes-of st) N (M (length T)) (T ++ A) (b + c) R (f st) (h .nodes) (e (length T)) (λ y. refl) (λ y. refl) (x .builds N T b R st h));
+          held-as refl (ap (λ (l : List TermRow). T ++ l) (sym (append-nil A))) refl
+          (insert-holds 3 size p k s 0 0 0 0 0 (nodes-of st) N (M (length T)) (T ++ A) (b + c) R (f st) (h .nodes) (e (length T)) (λ y. refl) (λ y. refl) (x .builds N T b R st h));
     }
 
 -- with counts, added by g
@@ -102,15 +102,15 @@ counted-mark : (size p s : ℕ) {f g : State → State} {M : ℕ → List NodeRo
 counted-mark size p s {f} {g} {M} {A} {B} {c} e x z =
     record {
       builds = λ N T b R st h. (
-      let k : Holds (N ++ M (length T)) (T ++ A) (b + c) R (f st) = x .builds N T b R st h
-      in let v : Holds (N ++ M (length T)) (T ++ A ++ B) (b + c) R (g (f st)) = z .adds (N ++ M (length T)) (T ++ A) (b + c) R (f st) k
-      in let l : length (T ++ A) ≡ length T + length A = length-append T A
-      in let m : length (T ++ A ++ B) ≡ length (T ++ A) + length B = length-append (T ++ A) B
-      in held-as refl (append-assoc T A B) refl
-      (insert-holds 3 size p 4 s (terms-of (f st)) (length T + length A) (terms-of (g (f st))) (length T + length A + length B) 0 (nodes-of st) N (M (length T)) (T ++ A ++ B) (b + c) R (g (f st)) (h .nodes) (e (length T))
-      (λ y. let q : terms-of (f st) ≡ length T + length A = omega (arith, k .terms) in q)
-      (λ y. let q : terms-of (g (f st)) ≡ length T + length A + length B = omega (arith, v .terms) in q) v)
-      );
+          let k : Holds (N ++ M (length T)) (T ++ A) (b + c) R (f st) = x .builds N T b R st h
+          in let v : Holds (N ++ M (length T)) (T ++ A ++ B) (b + c) R (g (f st)) = z .adds (N ++ M (length T)) (T ++ A) (b + c) R (f st) k
+          in let l : length (T ++ A) ≡ length T + length A = length-append T A
+          in let m : length (T ++ A ++ B) ≡ length (T ++ A) + length B = length-append (T ++ A) B
+          in held-as refl (append-assoc T A B) refl
+          (insert-holds 3 size p 4 s (terms-of (f st)) (length T + length A) (terms-of (g (f st))) (length T + length A + length B) 0 (nodes-of st) N (M (length T)) (T ++ A ++ B) (b + c) R (g (f st)) (h .nodes) (e (length T))
+          (λ y. let q : terms-of (f st) ≡ length T + length A = omega (arith, k .terms) in q)
+          (λ y. let q : terms-of (g (f st)) ≡ length T + length A + length B = omega (arith, v .terms) in q) v)
+          );
     }
 
 mark-builds : (m : Mark) (size p : ℕ) {f : State → State} {M : ℕ → List NodeRow} {A : List TermRow} {c : ℕ} → ((t : ℕ) → size ≡ suc (length (M t))) → Builds f M A c
@@ -128,15 +128,15 @@ case-builds : {f g : State → State} {M : ℕ → List NodeRow} {A B : List Ter
 case-builds {f} {g} {M} {A} {B} {c} x some y =
     record {
       builds = λ N T b R st h. (
-      let k : Holds N (T ++ A) b R (f st) = x .adds N T b R st h
-      in let l : length (T ++ A) ≡ length T + length A = length-append T A
-      in let m : length (T ++ A ++ B) ≡ length (T ++ A) + length B = length-append (T ++ A) B
-      in let v : Holds (N ++ M (length T + length A)) (T ++ A ++ B) (b + c) R (g (f st)) = held-as (ap (λ (q : ℕ). N ++ M q) l) refl refl (y .builds N (T ++ A) b R (f st) k)
-      in held-as refl (append-assoc T A B) refl
-      (condition-holds (terms-of st) (length T) (terms-of (f st)) (length T + length A) (nodes-of (f st)) N (M (length T + length A)) (T ++ A ++ B) (b + c) R (g (f st)) (k .nodes) (some (length T + length A))
-      (λ z. let q : terms-of st ≡ length T = omega (arith, h .terms) in q)
-      (λ z. let q : terms-of (f st) ≡ length T + length A = omega (arith, k .terms) in q) v)
-      );
+          let k : Holds N (T ++ A) b R (f st) = x .adds N T b R st h
+          in let l : length (T ++ A) ≡ length T + length A = length-append T A
+          in let m : length (T ++ A ++ B) ≡ length (T ++ A) + length B = length-append (T ++ A) B
+          in let v : Holds (N ++ M (length T + length A)) (T ++ A ++ B) (b + c) R (g (f st)) = held-as (ap (λ (q : ℕ). N ++ M q) l) refl refl (y .builds N (T ++ A) b R (f st) k)
+          in held-as refl (append-assoc T A B) refl
+          (condition-holds (terms-of st) (length T) (terms-of (f st)) (length T + length A) (nodes-of (f st)) N (M (length T + length A)) (T ++ A ++ B) (b + c) R (g (f st)) (k .nodes) (some (length T + length A))
+          (λ z. let q : terms-of st ≡ length T = omega (arith, h .terms) in q)
+          (λ z. let q : terms-of (f st) ≡ length T + length A = omega (arith, k .terms) in q) v)
+          );
     }
 
 -- ---- a tree

@@ -161,7 +161,7 @@ single-more ts T t e l z all k w h g =
     marked-other ts t (term-start k + w) (omega arith)
     ∙ all k w (omega arith) g
     ∙ ap (λ (x : TermRow). getD (term-fields x) w 0) (sym (marked-before T k (omega arith))))
-    (λ (x : k ≡ t). 
+    (λ (x : k ≡ t).
     ap (λ (x : ℕ). term-word (marked-at ts t) x w) x
     ∙ here w g
     ∙ ap (λ (x : TermRow). getD (term-fields x) w 0) (sym (ap (λ (x : ℕ). getD (last-marked T) x no-term) x ∙ marked-last T t e)))
@@ -247,9 +247,9 @@ insert-holds kind size place a b c c′ d d′ e i N M T u R (state ns ts rs n t
       long-terms = h .long-terms;
       long-rules = h .long-rules;
       node = λ f g. (
-      let q : counted 256 n - i ≡ size = omega arith in
-      rw (q, from g, up-to g) (node-more kind size place a b c′ d′ e ns N M i (omega arith) (omega arith) (h .long-nodes) (h .node (omega arith) g))
-      );
+          let q : counted 256 n - i ≡ size = omega arith in
+          rw (q, from g, up-to g) (node-more kind size place a b c′ d′ e ns N M i (omega arith) (omega arith) (h .long-nodes) (h .node (omega arith) g))
+          );
       term = h .term;
       rule = h .rule;
     }

@@ -4,3 +4,4 @@ pub mod Holding
 pub mod Lengths
 pub mod Adding
 pub mod Building
+pub mod Storing

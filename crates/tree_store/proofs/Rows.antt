@@ -239,6 +239,10 @@ unfoldable pub rules-terms : List Rule → List TermRow
 rules-terms [] = []
 rules-terms (r ∷ more) = term-rows (rule-body r) ++ rules-terms more
 
+unfoldable pub rules-binders : List Rule → ℕ
+rules-binders [] = 0
+rules-binders (r ∷ more) = binders-in (rule-body r) + rules-binders more
+
 -- a rule after rules of these totals; each total is counted up to one past its limit
 abbrev pub rule-row : Totals → Rule → RuleRow
 rule-row n r =
@@ -254,6 +258,11 @@ unfoldable pub rules-rows : Totals → List Rule → List RuleRow
 rules-rows n [] = []
 rules-rows n (r ∷ more) = rule-row n r ∷ rules-rows (with-rule n r) more
 
+-- the totals of these rules, after rules of these totals
+unfoldable pub totals : Totals → List Rule → Totals
+totals n [] = n
+totals n (r ∷ more) = totals (with-rule n r) more
+
 -- ---- of a text's rules
 
 abbrev pub tree-nodes : Rules → List NodeRow
@@ -264,3 +273,9 @@ tree-terms t = rules-terms (rules-of t)
 
 abbrev pub tree-rules : Rules → List RuleRow
 tree-rules t = rules-rows no-rule (rules-of t)
+
+abbrev pub tree-binders : Rules → ℕ
+tree-binders t = rules-binders (rules-of t)
+
+abbrev pub tree-totals : Rules → Totals
+tree-totals t = totals no-rule (rules-of t)
