@@ -5,3 +5,4 @@ pub mod Lengths
 pub mod Adding
 pub mod Building
 pub mod Storing
+pub mod Limits
