@@ -5,4 +5,6 @@ pub mod Lengths
 pub mod Adding
 pub mod Building
 pub mod Storing
+pub mod Low
+pub mod Standing
 pub mod Limits

@@ -20,13 +20,11 @@ use Rattle.tree_form.specs.Stored.{stored}
 use Rattle.tree_meaning.specs.Pieces.{rules-of as rules-in, rule-name}
 use Rattle.tree_meaning.specs.Least.{place-if as listed-if, lesser, least}
 use Rattle.tree_meaning.specs.Counted.{Totals, no-rule, with-rule, is-past, limit-faults, refusal-5 as tree-refusal-5}
+use Rattle.tree.specs.Lexemes.{finish}
 use Rattle.tree_store.proofs.Rows.{RuleRow, no-rule-row, rule-row, rules-rows, totals, tree-totals}
+use Rattle.tree_store.proofs.Low.{or-nowhere}
+use Rattle.tree_store.proofs.Standing.{Ascending, ascended, ascends, SpelledBy, spelled-stand, rules-ascend}
 use Rattle.tree_store.proofs.Storing.{RuleIs, totalled-tree, rule-read, rules-read}
-
--- a place as the store's refusals have it
-abbrev pub or-nowhere : Option ℕ → ℕ
-or-nowhere none = nowhere
-or-nowhere (some p) = p
 
 -- ---- totals that are counted up to one past a limit
 
@@ -67,11 +65,6 @@ row-past n r k e =
     ∙ ap (λ (q : ℕ). ltb 64 (suc q) || (ltb 256 (with-rule n r .all-constructs) || (ltb 64 (with-rule n r .variables) || ltb 1024 (with-rule n r .all-terms)))) e)
 
 -- ---- rules in the order of their places
-
--- names of rules stand in order, from p on and none past `most`
-pub data Ascending (most : ℕ) : ℕ → List Rule → Type 0 where
-  ascended : {p : ℕ} → Ascending most p []
-  ascends : {p : ℕ} {r : Rule} {rs : List Rule} → p ≤ rule-name r .start → rule-name r .start ≤ most → Ascending most (rule-name r .start) rs → Ascending most p (r ∷ rs)
 
 -- no place of a fault is before theirs
 later-faults : {most p : ℕ} (n : Totals) (rs : List Rule) → Ascending most p rs → (q : ℕ) → q ≤ p → lesser q (least (limit-faults n rs)) ≡ q
@@ -198,3 +191,7 @@ pub limits : {most p : ℕ} (t : Rules) → most ≤ nowhere → Ascending most 
 limits t m a =
     let e : tree-totals t .rules ≡ length (rules-in t) = sym (totalled-tree t .in-rules) ∙ rows-many no-rule (rules-in t)
     in limits-of (rule-words (stored t blank)) (rules-of (stored t blank)) (rules-in t) m a (rules-read t ∙ ap (λ (q : ℕ). min q 65) e) (λ k g l. rule-read t k (omega arith) l)
+
+-- Refusal 5 of what the reader stores of a text that spells a tree is refusal 5 of the tree.
+pub refused-5 : {xs : List ℕ} {t : Rules} → length xs ≤ nowhere → SpelledBy xs t → refusal-5 (rule-words (stored t blank)) (rules-of (stored t blank)) ≡ or-nowhere (tree-refusal-5 t)
+refused-5 {xs} {t} l h = limits t l (rules-ascend t (finish (h .end) ∷ []) (spelled-stand h))
