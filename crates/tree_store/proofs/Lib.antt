@@ -8,3 +8,4 @@ pub mod Storing
 pub mod Low
 pub mod Standing
 pub mod Limits
+pub mod Uses
