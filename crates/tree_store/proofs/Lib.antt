@@ -9,3 +9,4 @@ pub mod Low
 pub mod Standing
 pub mod Limits
 pub mod Uses
+pub mod Spots
