@@ -17,7 +17,7 @@ use Rattle.tree_store.proofs.Holding.{length-marked}
 
 -- ---- nodes
 
-length-first : (f g : ℕ) (M : List NodeRow) → length (on-first f g M) ≡ length M
+pub length-first : (f g : ℕ) (M : List NodeRow) → length (on-first f g M) ≡ length M
 length-first f g [] = refl
 length-first f g (r ∷ more) = refl
 

@@ -10,3 +10,4 @@ pub mod Standing
 pub mod Limits
 pub mod Uses
 pub mod Spots
+pub mod Binding
