@@ -102,7 +102,7 @@ bound-two {xs} {ns} {i} {M} {L} {l} {m} a b =
           ∙ sym (ap (λ (q : List Name). is-among q y) (bound-append l m) ∙ among-append (bound-in l) (bound-in m) y);
     }
 
-bound-cased : {xs ns : List ℕ} {i : ℕ} (f g : ℕ) {M : List NodeRow} {l : List Piece} → Bound xs ns i M l → Bound xs ns i (on-first f g M) l
+pub bound-cased : {xs ns : List ℕ} {i : ℕ} (f g : ℕ) {M : List NodeRow} {l : List Piece} → Bound xs ns i M l → Bound xs ns i (on-first f g M) l
 bound-cased {xs} {ns} {i} f g {M} b = record { bound = λ y h. ap (λ (n : ℕ). any-of n i (binds xs ns (y .start))) (length-first f g M) ∙ b .bound y h }
 
 bound-marked : {xs ns : List ℕ} {i : ℕ} {M : List NodeRow} (m : Mark) {l : List Piece} → Bound xs ns i M l → Bound xs ns i M (mark-pieces m ++ l)
@@ -112,7 +112,7 @@ bound-marked (any-number s) b = record { bound = b .bound }
 bound-marked (one-or-more s) b = record { bound = b .bound }
 bound-marked (counted opens n closes) b = record { bound = b .bound }
 
-bound-formula : {xs ns : List ℕ} {i : ℕ} {M : List NodeRow} (f : List Component) {l : List Piece} → Bound xs ns i M l → Bound xs ns i M (formula f ∷ l)
+pub bound-formula : {xs ns : List ℕ} {i : ℕ} {M : List NodeRow} (f : List Component) {l : List Piece} → Bound xs ns i M l → Bound xs ns i M (formula f ∷ l)
 unfolding bound-in
 bound-formula f b = record { bound = b .bound }
 

@@ -11,3 +11,4 @@ pub mod Limits
 pub mod Uses
 pub mod Spots
 pub mod Binding
+pub mod Naming

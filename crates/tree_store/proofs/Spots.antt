@@ -67,13 +67,13 @@ fits-first : (f g : ℕ) (M : List NodeRow) → FitsIn (length M) M → FitsIn (
 fits-first f g [] a = fits-none
 fits-first f g (r ∷ M) (fits-more h a) = fits-more h a
 
-mark-size : (m : Mark) (size p t : ℕ) → mark-row m size p t .size ≡ size
+pub mark-size : (m : Mark) (size p t : ℕ) → mark-row m size p t .size ≡ size
 mark-size (optional s) size p t = refl
 mark-size (any-number s) size p t = refl
 mark-size (one-or-more s) size p t = refl
 mark-size (counted opens n closes) size p t = refl
 
-chain-long : {p q : Part} {d e : ℕ} (x : Tree p d) (y : Tree q e) (t s : ℕ) → suc (constructs false x + constructs true y) ≡ suc (length (node-rows false x t ++ node-rows true y s))
+pub chain-long : {p q : Part} {d e : ℕ} (x : Tree p d) (y : Tree q e) (t s : ℕ) → suc (constructs false x + constructs true y) ≡ suc (length (node-rows false x t ++ node-rows true y s))
 chain-long x y t s = omega (arith, length-append (node-rows false x t) (node-rows true y s), nodes-counted false x t, nodes-counted true y s)
 
 pub fits : {p : Part} {d : ℕ} (on : Bool) (x : Tree p d) (t : ℕ) → FitsIn (length (node-rows on x t)) (node-rows on x t)
