@@ -12,3 +12,4 @@ pub mod Uses
 pub mod Spots
 pub mod Binding
 pub mod Naming
+pub mod Names

@@ -48,7 +48,7 @@ swapped false false true false = refl
 swapped false false false true = refl
 swapped false false false false = refl
 
-or-first : (a b : Bool) → (a || b) ≡ false → a ≡ false
+pub or-first : (a b : Bool) → (a || b) ≡ false → a ≡ false
 or-first true b e = e
 or-first false b e = refl
 
@@ -170,7 +170,7 @@ least-kept {most} {p} f k n (r ∷ rs) m (ascends a b more) l h =
 
 -- ---- all rules
 
-rows-many : (n : Totals) (rs : List Rule) → length (rules-rows n rs) ≡ length rs
+pub rows-many : (n : Totals) (rs : List Rule) → length (rules-rows n rs) ≡ length rs
 unfolding rules-rows
 rows-many n [] = refl
 rows-many n (r ∷ rs) = ap suc (rows-many (with-rule n r) rs)

@@ -36,11 +36,11 @@ pub data TermsAt (ts : List ℕ) : ℕ → List TermRow → Type 0 where
   none-at : {k : ℕ} → TermsAt ts k []
   next-at : {k : ℕ} {r : TermRow} {A : List TermRow} → term-tag ts k ≡ r .tag → term-at ts k ≡ r .place → TermsAt ts (k + 1) A → TermsAt ts k (r ∷ A)
 
-terms-left : {ts : List ℕ} {k : ℕ} (A B : List TermRow) → TermsAt ts k (A ++ B) → TermsAt ts k A
+pub terms-left : {ts : List ℕ} {k : ℕ} (A B : List TermRow) → TermsAt ts k (A ++ B) → TermsAt ts k A
 terms-left [] B h = none-at
 terms-left (r ∷ A) B (next-at e f more) = next-at e f (terms-left A B more)
 
-terms-right : {ts : List ℕ} {k : ℕ} (A B : List TermRow) → TermsAt ts k (A ++ B) → TermsAt ts (k + length A) B
+pub terms-right : {ts : List ℕ} {k : ℕ} (A B : List TermRow) → TermsAt ts k (A ++ B) → TermsAt ts (k + length A) B
 terms-right {ts} {k} [] B h = subst (λ (q : ℕ). TermsAt ts q B) (let q : k ≡ k + 0 = omega arith in q) h
 terms-right {ts} {k} (r ∷ A) B (next-at e f more) = subst (λ (q : ℕ). TermsAt ts q B) (let q : k + 1 + length A ≡ k + suc (length A) = omega arith in q) (terms-right A B more)
 
@@ -262,8 +262,8 @@ module _ (xs ns ts rs : List ℕ) (r a e : ℕ) where
     binder-right {on} {top} {d} {i} {t} {names} {u} {v} {x} A h s b k us =
         record {
           low =
-            low-as (binder-min (listed i t (t + length A)) (place-if (wrong-binder names top x) (x .start)) ∙ ap (λ (n : ℕ). min (min n (min nowhere (listed i t (t + length A)))) nowhere) (sym at-fault))
-            (low-both (list-low t A b k us) (low-both (low-if (wrong-binder names top x) (x .start) (inside h)) low-none));
+              low-as (binder-min (listed i t (t + length A)) (place-if (wrong-binder names top x) (x .start)) ∙ ap (λ (n : ℕ). min (min n (min nowhere (listed i t (t + length A)))) nowhere) (sym at-fault))
+              (low-both (list-low t A b k us) (low-both (low-if (wrong-binder names top x) (x .start) (inside h)) low-none));
         }
       where
         wrong : Bool
@@ -399,13 +399,15 @@ module _ (xs ns ts rs : List ℕ) (r a e : ℕ) where
         branches-right x more t (sign Kind.Bar g ∷ spell more w) h k s (more-spot z) b
         (λ l m v. named false false x t (sign Kind.Bar g ∷ spell more w) l m s v b)
         (λ l m v c. named true false more (t + length (term-rows x)) w l m (past (after-tree x s)) v c)
-    named on top (case-default c colon x end colon′ y end′) t w h k s z b =
+    named on top (case-default c colon x end colon′ y end′) t w {q = q} h k s z b =
         let v : List Lexeme = sign Kind.Semicolon end ∷ sign Kind.Colon colon′ ∷ spell y (sign Kind.Semicolon end′ ∷ w)
-        in cases-right c x y t (sign Kind.Colon colon ∷ spell x v) v h k s (past (after-tests c s)) (case-spot z) b
-        (λ l m g. named false false x (t + length (tests-rows c [])) v l m (past (after-tests c s)) g b)
-        (λ j later l m g f. named false false y (t + length (tests-rows c [] ++ term-rows x)) (sign Kind.Semicolon end′ ∷ w) l m (past (past (after-tree x (past (after-tests c s))))) g f)
-    named on top (case-cases c colon x end more) t w h k s z b =
+        in let u : Standing xs q (spell x v) = past (after-tests c {w = sign Kind.Colon colon ∷ spell x v} s)
+        in cases-right c x y t (sign Kind.Colon colon ∷ spell x v) v h k s u (case-spot z) b
+        (λ l m g. named false false x (t + length (tests-rows c [])) v l m u g b)
+        (λ j later l m g f. named false false y (t + length (tests-rows c [] ++ term-rows x)) (sign Kind.Semicolon end′ ∷ w) l m (past (past (after-tree x {w = v} u))) g f)
+    named on top (case-cases c colon x end more) t w {q = q} h k s z b =
         let v : List Lexeme = sign Kind.Semicolon end ∷ spell more w
-        in cases-right c x more t (sign Kind.Colon colon ∷ spell x v) v h k s (past (after-tests c s)) (case-spot z) b
-        (λ l m g. named false false x (t + length (tests-rows c [])) v l m (past (after-tests c s)) g b)
-        (λ j later l m g f. named false false more (t + length (tests-rows c [] ++ term-rows x)) w l m (past (after-tree x (past (after-tests c s)))) g f)
+        in let u : Standing xs q (spell x v) = past (after-tests c {w = sign Kind.Colon colon ∷ spell x v} s)
+        in cases-right c x more t (sign Kind.Colon colon ∷ spell x v) v h k s u (case-spot z) b
+        (λ l m g. named false false x (t + length (tests-rows c [])) v l m u g b)
+        (λ j later l m g f. named false false more (t + length (tests-rows c [] ++ term-rows x)) w l m (past (after-tree x {w = v} u)) g f)

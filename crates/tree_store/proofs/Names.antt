@@ -1,0 +1,235 @@
+-- Refusal 6 of what is stored is refusal 6 of the tree.
+-- Assumes nothing.
+use Prim.Native.Nat.{ℕ, zero, suc, _+_, _-_, _≤_, _<_, min}
+use mathlib.Core.Path.{_≡_, refl, sym, ap, ap₂, subst, _∙_}
+use mathlib.Core.Bool.{Bool, true, false, _||_}
+use mathlib.Core.List.{List, [], _∷_, _++_, map, append-assoc}
+use native.Mathlib.Omega.{arith}
+use lib.ListN.{length, getD, length-append}
+use Rattle.text_tokens.specs.Names.{is-same}
+use Rattle.text_tokens.specs.declared.Kind.{Kind}
+use Rattle.text_store.specs.Store.{blank, node-words, term-words, rule-words, rules-of}
+use Rattle.text_store.specs.Words.{named-at, first-node, last-node}
+use Rattle.text_names.specs.Counting.{nowhere, place-if, least-of, any-of, any-between}
+use Rattle.text_names.specs.Names.{same-name, is-reserved, rule-named, binds, bound-between, rule-fault, node-place, nodes-place, rule-place, refusal-6}
+use Rattle.tree.specs.Lexemes.{Name, Lexeme, sign, finish}
+use Rattle.tree.specs.Tree.{expression, Tree, Rule, rule, Rules, last-rule, and-rules}
+use Rattle.tree.specs.Spelling.{spell, spell-rule, spell-rules}
+use Rattle.tree_form.specs.Stored.{stored}
+use Rattle.tree_meaning.specs.Pieces.{pieces, bound-in, rules-of as rules-in, rule-name, rule-body, rule-pieces, variables-of}
+use Rattle.tree_meaning.specs.Counted.{constructs, Totals, no-rule, with-rule}
+use Rattle.tree_meaning.specs.Least.{place-if as listed-if}
+use Rattle.tree_meaning.specs.Names.{is-among, rule-fault as wrong-rule, faults-after, name-faults, rule-names, refusal-6 as tree-refusal-6}
+use Rattle.tree_store.proofs.Rows.{NodeRow, no-node, TermRow, no-term, RuleRow, no-rule-row, term-rows, node-rows, rules-nodes, rules-terms, rule-row, rules-rows, totals, tree-nodes, tree-terms, tree-totals}
+use Rattle.tree_store.proofs.Lengths.{nodes-counted, terms-counted}
+use Rattle.tree_store.proofs.Storing.{NodeIs, TermIs, RuleIs, totalled-tree, node-read, term-read, rule-read, rules-read}
+use Rattle.tree_store.proofs.Low.{or-nowhere, Low, low-as, low-none, low-if, low-both, any-suc, any-between-on}
+use Rattle.tree_store.proofs.Limits.{rows-many}
+use Rattle.tree_store.proofs.Standing.{Standing, past, after-tree, SpelledBy, spelled-stand}
+use Rattle.tree_store.proofs.Uses.{Here, here}
+use Rattle.tree_store.proofs.Spots.{Like, LikeAt, none-like, next-like, Spot, free}
+use Rattle.tree_store.proofs.Binding.{same-here, bound-rows, before-none}
+use Rattle.tree_store.proofs.Naming.{TermsAt, none-at, next-at, terms-left, terms-right, reserved-here, Known, row-place, row-is, rows-place, named}
+
+-- ---- words that are rows, one after the other
+
+data NodesAt (ns : List ℕ) : ℕ → List NodeRow → Type 0 where
+  no-nodes : {i : ℕ} → NodesAt ns i []
+  node-then : {i : ℕ} {x : NodeRow} {M : List NodeRow} → NodeIs ns i x → NodesAt ns (i + 1) M → NodesAt ns i (x ∷ M)
+
+nodes-from : {ns : List ℕ} (i : ℕ) (M : List NodeRow) → ((j : ℕ) → j < length M → NodeIs ns (i + j) (getD M j no-node)) → NodesAt ns i M
+nodes-from i [] h = no-nodes
+nodes-from {ns} i (x ∷ M) h =
+    node-then (subst (λ (q : ℕ). NodeIs ns q x) (let q : i + 0 ≡ i = omega arith in q) (h 0 (omega arith)))
+    (nodes-from (i + 1) M (λ j g. subst (λ (q : ℕ). NodeIs ns q (getD M j no-node)) (let q : i + suc j ≡ i + 1 + j = omega arith in q) (h (suc j) (omega arith))))
+
+nodes-left : {ns : List ℕ} {i : ℕ} (M L : List NodeRow) → NodesAt ns i (M ++ L) → NodesAt ns i M
+nodes-left [] L h = no-nodes
+nodes-left (x ∷ M) L (node-then h more) = node-then h (nodes-left M L more)
+
+nodes-right : {ns : List ℕ} {i : ℕ} (M L : List NodeRow) → NodesAt ns i (M ++ L) → NodesAt ns (i + length M) L
+nodes-right {ns} {i} [] L h = subst (λ (q : ℕ). NodesAt ns q L) (let q : i ≡ i + 0 = omega arith in q) h
+nodes-right {ns} {i} (x ∷ M) L (node-then h more) = subst (λ (q : ℕ). NodesAt ns q L) (let q : i + 1 + length M ≡ i + suc (length M) = omega arith in q) (nodes-right M L more)
+
+nodes-like : {ns : List ℕ} {i : ℕ} (M : List NodeRow) → NodesAt ns i M → LikeAt ns i M
+nodes-like [] no-nodes = none-like
+nodes-like (x ∷ M) (node-then h more) =
+    next-like (record { kind-like = h .kind-is; size-like = h .size-is; second-like = h .second-is; how-like = h .how-is }) (nodes-like M more)
+
+nodes-least : (xs ns ts rs : List ℕ) (r a e : ℕ) {i : ℕ} (M : List NodeRow) → NodesAt ns i M → rows-place xs ns ts rs r a e i M ≡ least-of (length M) i (node-place xs ns ts rs r a e)
+unfolding rows-place least-of
+nodes-least xs ns ts rs r a e [] no-nodes = refl
+nodes-least xs ns ts rs r a e (x ∷ M) (node-then h more) = ap₂ min (sym (row-is xs ns ts rs r a e h)) (nodes-least xs ns ts rs r a e M more)
+
+terms-from : {ts : List ℕ} (i : ℕ) (A : List TermRow) → ((j : ℕ) → j < length A → TermIs ts (i + j) (getD A j no-term)) → TermsAt ts i A
+terms-from i [] h = none-at
+terms-from {ts} i (x ∷ A) h =
+    let first : TermIs ts i x = subst (λ (q : ℕ). TermIs ts q x) (let q : i + 0 ≡ i = omega arith in q) (h 0 (omega arith))
+    in next-at (first .tag-is) (first .place-is)
+    (terms-from (i + 1) A (λ j g. subst (λ (q : ℕ). TermIs ts q (getD A j no-term)) (let q : i + suc j ≡ i + 1 + j = omega arith in q) (h (suc j) (omega arith))))
+
+-- the words of these rules, after rules of these totals
+data RulesIn (ws : List ℕ) : Totals → List Rule → Type 0 where
+  no-rules : {n : Totals} → RulesIn ws n []
+  rule-then : {n : Totals} {x : Rule} {more : List Rule} → named-at ws (n .rules) ≡ rule-name x .start → first-node ws (n .rules) ≡ n .all-constructs → last-node ws (n .rules) ≡ with-rule n x .all-constructs
+      → RulesIn ws (with-rule n x) more → RulesIn ws n (x ∷ more)
+
+totals-grow : (n : Totals) (l : List Rule) → n .all-constructs ≤ totals n l .all-constructs
+unfolding totals
+totals-grow n [] = omega arith
+totals-grow n (x ∷ l) = omega (arith, totals-grow (with-rule n x) l)
+
+rules-from : {ws : List ℕ} (n : Totals) (l : List Rule) → totals n l .all-constructs ≤ 256 → ((j : ℕ) → j < length l → RuleIs ws (n .rules + j) (getD (rules-rows n l) j no-rule-row)) → RulesIn ws n l
+unfolding totals rules-rows
+rules-from n [] m h = no-rules
+rules-from {ws} n (x ∷ l) m h =
+    let first : RuleIs ws (n .rules) (rule-row n x) = subst (λ (q : ℕ). RuleIs ws q (rule-row n x)) (let q : n .rules + 0 ≡ n .rules = omega arith in q) (h 0 (omega arith))
+    in let g : with-rule n x .all-constructs ≤ totals (with-rule n x) l .all-constructs = totals-grow (with-rule n x) l
+    in rule-then (first .name-is) (first .first-is ∙ (let q : min (n .all-constructs) 257 ≡ n .all-constructs = omega arith in q)) (first .nodes-is ∙ (let q : min (with-rule n x .all-constructs) 257 ≡ with-rule n x .all-constructs = omega arith in q))
+    (rules-from (with-rule n x) l m (λ j k. subst (λ (q : ℕ). RuleIs ws q (getD (rules-rows (with-rule n x) l) j no-rule-row)) (let q : n .rules + suc j ≡ suc (n .rules) + j = omega arith in q) (h (suc j) (omega arith))))
+
+-- ---- the names of rules
+
+-- rules up to k have these names
+pub record Earlier (xs ws : List ℕ) (k : ℕ) (names : List Name) : Type 0 where
+  pub earlier-are : (y : Name) → Here xs y → rule-named xs ws k (y .start) ≡ is-among names y
+
+earlier-none : {xs ws : List ℕ} → Earlier xs ws 0 []
+unfolding any-of is-among
+earlier-none = record { earlier-are = λ y h. refl }
+
+or-turned : (a b : Bool) → (a || (b || false)) ≡ (b || a)
+or-turned true true = refl
+or-turned true false = refl
+or-turned false true = refl
+or-turned false false = refl
+
+-- whether rule k has the name y
+abbrev named-so : List ℕ → List ℕ → Name → ℕ → Bool
+named-so xs ws y k = same-name xs (named-at ws k) (y .start)
+
+named-here : {xs : List ℕ} (ws : List ℕ) (k : ℕ) {x y : Name} → named-at ws k ≡ x .start → Here xs x → Here xs y → named-so xs ws y k ≡ is-same (x .letters) (y .letters)
+named-here {xs} ws k {x} {y} e h g = ap (λ (q : ℕ). same-name xs q (y .start)) e ∙ same-here h g
+
+earlier-more : {xs ws : List ℕ} {k : ℕ} {names : List Name} {x : Name} → named-at ws k ≡ x .start → Here xs x → Earlier xs ws k names → Earlier xs ws (k + 1) (x ∷ names)
+unfolding any-of is-among
+earlier-more {xs} {ws} {k} {names} {x} e h b =
+    record {
+      earlier-are = λ y g.
+          any-between-on 0 k 1 (named-so xs ws y) (omega arith)
+          ∙ ap₂ _||_ (b .earlier-are y g) (any-suc 0 k (named-so xs ws y) ∙ ap (λ (c : Bool). c || false) (named-here ws k e h g))
+          ∙ or-turned (is-among names y) (is-same (x .letters) (y .letters));
+    }
+
+-- all of them
+all-named : {xs ws : List ℕ} (t : Rules) (n : Totals) (w : List Lexeme) {q : ℕ} → RulesIn ws n (rules-in t) → Standing xs q (spell-rules t w) → (y : Name) → Here xs y → any-of (length (rules-in t)) (n .rules) (named-so xs ws y) ≡ is-among (map rule-name (rules-in t)) y
+unfolding spell-rules rules-in any-of is-among
+all-named {xs} {ws} (last-rule (rule x is b end)) n w (rule-then e f g more) s y h = any-suc 0 (n .rules) (named-so xs ws y) ∙ ap (λ (c : Bool). c || false) (named-here ws (n .rules) e (here s) h)
+all-named {xs} {ws} (and-rules (rule x is b end) t) n w (rule-then e f g more) s y h =
+    any-suc (length (rules-in t)) (n .rules) (named-so xs ws y)
+    ∙ ap₂ _||_ (named-here ws (n .rules) e (here s) h)
+    (ap (λ (k : ℕ). any-of (length (rules-in t)) k (named-so xs ws y)) (let q : n .rules + 1 ≡ suc (n .rules) = omega arith in q)
+    ∙ all-named t (with-rule n (rule x is b end)) w more (past (after-tree b (past (past s)))) y h)
+
+-- ---- one rule
+
+module _ (xs ns ts ws : List ℕ) (r : ℕ) (rules : List Name) (small : length xs ≤ nowhere) (ruled : (y : Name) → Here xs y → rule-named xs ws r (y .start) ≡ is-among rules y) where
+  -- the nodes of a body
+  body-low : (x : Tree expression 0) (t a e : ℕ) (w : List Lexeme) {q : ℕ} → e ≡ a + constructs false x → NodesAt ns a (node-rows false x t) → TermsAt ts t (term-rows x) → Standing xs q (spell x w)
+      → Low (nodes-place xs ns ts ws r a e) (faults-after rules (bound-in (pieces true x)) [] (pieces true x))
+  body-low x t a e w z h k s = low-as many (named xs ns ts ws r a e rules (bound-in (pieces true x)) known false true x t w (nodes-like M h) k s spot before-none .low)
+    where
+      M : List NodeRow
+      M = node-rows false x t
+
+      long : e - a ≡ length (node-rows false x t)
+      long = omega (arith, nodes-counted false x t)
+
+      known : Known xs ns ws r a e rules (bound-in (pieces true x))
+      known = record { fits-in = small; ruled = ruled; varied = λ y g. ap (λ (n : ℕ). any-of n a (binds xs ns (y .start))) long ∙ bound-rows false true x t w (nodes-like M h) s .bound y g }
+
+      spot : Spot ns a expression false true 0 a (length (node-rows false x t))
+      spot = free {i = a} {m = length (node-rows false x t)} refl refl (λ j m f g u v. absurd (omega arith))
+
+      many : rows-place xs ns ts ws r a e a M ≡ nodes-place xs ns ts ws r a e
+      many = nodes-least xs ns ts ws r a e M h ∙ ap (λ (n : ℕ). least-of n a (node-place xs ns ts ws r a e)) (sym long)
+
+  rule-low : {x : Name} {names : List Name} (k : ℕ) (l : List ℕ) (a e : ℕ) → named-at ws k ≡ x .start → first-node ws k ≡ a → last-node ws k ≡ e → Here xs x → Earlier xs ws k names → Low (nodes-place xs ns ts ws r a e) l
+      → Low (rule-place xs ns ts ws r k) (listed-if (wrong-rule names x) (x .start) ++ l)
+  rule-low {x} {names} k l a e f g z h b low = low-as (sym whole) (low-both (low-if (wrong-rule names x) (x .start) (omega (arith, h .inside))) low)
+    where
+      own : place-if (rule-fault xs ws k) (named-at ws k) ≡ place-if (wrong-rule names x) (x .start)
+      own = ap (λ (p : ℕ). place-if (is-reserved xs p || rule-named xs ws k p) p) f ∙ (λ i. place-if (reserved-here h i || b .earlier-are x h i) (x .start))
+
+      whole : rule-place xs ns ts ws r k ≡ min (place-if (wrong-rule names x) (x .start)) (nodes-place xs ns ts ws r a e)
+      whole = ap₂ min own (ap₂ (nodes-place xs ns ts ws r) g z)
+
+  -- ---- all rules
+
+  assoc-low : {m n : ℕ} (l k : List ℕ) {j : List ℕ} → Low m (l ++ k) → Low n j → Low (min m n) (l ++ (k ++ j))
+  assoc-low {m} {n} l k {j} a b = subst (Low (min m n)) (append-assoc l k j) (low-both a b)
+
+  rules-low : (t : Rules) (n : Totals) {names : List Name} (w : List Lexeme) {q : ℕ} → NodesAt ns (n .all-constructs) (rules-nodes (n .all-terms) (rules-in t)) → TermsAt ts (n .all-terms) (rules-terms (rules-in t)) → RulesIn ws n (rules-in t)
+      → Standing xs q (spell-rules t w) → Earlier xs ws (n .rules) names → Low (least-of (length (rules-in t)) (n .rules) (rule-place xs ns ts ws r)) (name-faults rules names (rules-in t))
+  unfolding spell-rules rules-in least-of name-faults rules-nodes rules-terms
+  rules-low (last-rule (rule x is b end)) n {names} w h k (rule-then e f g more) s c =
+      let A : List TermRow = term-rows b
+      in let M : List NodeRow = node-rows false b (n .all-terms)
+      in assoc-low (listed-if (wrong-rule names x) (x .start)) (faults-after rules (bound-in (pieces true b)) [] (pieces true b))
+      (rule-low (n .rules) (faults-after rules (bound-in (pieces true b)) [] (pieces true b)) (n .all-constructs) (with-rule n (rule x is b end) .all-constructs) e f g (here s) c
+      (body-low b (n .all-terms) (n .all-constructs) (with-rule n (rule x is b end) .all-constructs) (sign Kind.Semicolon end ∷ w) refl (nodes-left M [] h) (terms-left A [] k) (past (past s)))) low-none
+  rules-low (and-rules (rule x is b end) t) n {names} w h k (rule-then e f g more) s c =
+      let A : List TermRow = term-rows b
+      in let M : List NodeRow = node-rows false b (n .all-terms)
+      in let m : Totals = with-rule n (rule x is b end)
+      in assoc-low (listed-if (wrong-rule names x) (x .start)) (faults-after rules (bound-in (pieces true b)) [] (pieces true b))
+      (rule-low (n .rules) (faults-after rules (bound-in (pieces true b)) [] (pieces true b)) (n .all-constructs) (m .all-constructs) e f g (here s) c
+      (body-low b (n .all-terms) (n .all-constructs) (m .all-constructs) (sign Kind.Semicolon end ∷ spell-rules t w) refl (nodes-left M (rules-nodes (n .all-terms + length A) (rules-in t)) h) (terms-left A (rules-terms (rules-in t)) k) (past (past s))))
+      (low-as (ap (λ (i : ℕ). least-of (length (rules-in t)) i (rule-place xs ns ts ws r)) (let q : suc (n .rules) ≡ n .rules + 1 = omega arith in q))
+      (rules-low t m w (subst (λ (i : ℕ). NodesAt ns i (rules-nodes (m .all-terms) (rules-in t))) (ap (λ (i : ℕ). n .all-constructs + i) (nodes-counted false b (n .all-terms)))
+      (subst (λ (i : ℕ). NodesAt ns (n .all-constructs + length M) (rules-nodes i (rules-in t))) (ap (λ (i : ℕ). n .all-terms + i) (terms-counted true b)) (nodes-right M (rules-nodes (n .all-terms + length A) (rules-in t)) h))) (subst (λ (i : ℕ). TermsAt ts i (rules-terms (rules-in t))) (ap (λ (i : ℕ). n .all-terms + i) (terms-counted true b)) (terms-right A (rules-terms (rules-in t)) k)) more (past (after-tree b (past (past s)))) (subst (λ (i : ℕ). Earlier xs ws i (x ∷ names)) (let q : n .rules + 1 ≡ suc (n .rules) = omega arith in q) (earlier-more e (here s) c))))
+
+-- ---- a text
+
+-- the numbers of the Limits line are not passed
+pub record Limited (t : Rules) : Type 0 where
+  pub few-rules : tree-totals t .rules ≤ 64
+  pub few-constructs : tree-totals t .all-constructs ≤ 256
+  pub few-terms : tree-totals t .all-terms ≤ 1024
+
+-- of any words that hold the rows of a tree that the text spells
+names-of : (xs ns ts ws : List ℕ) (r : ℕ) (t : Rules) → length xs ≤ nowhere → SpelledBy xs t → r ≡ length (rules-in t) → NodesAt ns 0 (tree-nodes t) → TermsAt ts 0 (tree-terms t) → RulesIn ws no-rule (rules-in t)
+    → Low (refusal-6 xs ns ts ws r) (name-faults (rule-names t) [] (rules-in t))
+names-of xs ns ts ws r t small h e nodes terms rules =
+    low-as (ap (λ (n : ℕ). least-of n 0 (rule-place xs ns ts ws r)) (let q : length (rules-in t) ≡ r - 0 = omega arith in q))
+    (rules-low xs ns ts ws r (rule-names t) small ruled t no-rule (finish (h .end) ∷ []) nodes terms rules (spelled-stand h) earlier-none)
+  where
+    ruled : (y : Name) → Here xs y → rule-named xs ws r (y .start) ≡ is-among (rule-names t) y
+    ruled y g = ap (λ (n : ℕ). any-of n 0 (named-so xs ws y)) (let q : r - 0 ≡ length (rules-in t) = omega arith in q) ∙ all-named t no-rule (finish (h .end) ∷ []) rules (spelled-stand h) y g
+
+-- Refusal 6 of what the reader stores of a text that spells a tree within the limits is refusal 6 of the tree.
+pub refused-6 : {xs : List ℕ} {t : Rules} → length xs ≤ nowhere → SpelledBy xs t → Limited t
+    → refusal-6 xs (node-words (stored t blank)) (term-words (stored t blank)) (rule-words (stored t blank)) (rules-of (stored t blank)) ≡ or-nowhere (tree-refusal-6 t)
+refused-6 {xs} {t} small h l =
+    sym (names-of xs (node-words (stored t blank)) (term-words (stored t blank)) (rule-words (stored t blank)) (rules-of (stored t blank)) t small h number nodes terms words .is)
+  where
+    many : tree-totals t .rules ≡ length (rules-in t)
+    many = sym (totalled-tree t .in-rules) ∙ rows-many no-rule (rules-in t)
+
+    number : rules-of (stored t blank) ≡ length (rules-in t)
+    number = rules-read t ∙ (let q : min (tree-totals t .rules) 65 ≡ tree-totals t .rules = omega (arith, l .few-rules) in q) ∙ many
+
+    nodes : NodesAt (node-words (stored t blank)) 0 (tree-nodes t)
+    nodes =
+        nodes-from 0 (tree-nodes t)
+        (λ j g. subst (λ (q : ℕ). NodeIs (node-words (stored t blank)) q (getD (tree-nodes t) j no-node)) (let q : j ≡ 0 + j = omega arith in q) (node-read t (l .few-constructs) (l .few-terms) j (omega (arith, totalled-tree t .in-nodes))))
+
+    terms : TermsAt (term-words (stored t blank)) 0 (tree-terms t)
+    terms =
+        terms-from 0 (tree-terms t)
+        (λ j g. subst (λ (q : ℕ). TermIs (term-words (stored t blank)) q (getD (tree-terms t) j no-term)) (let q : j ≡ 0 + j = omega arith in q) (term-read t (l .few-terms) j (omega (arith, totalled-tree t .in-terms))))
+
+    words : RulesIn (rule-words (stored t blank)) no-rule (rules-in t)
+    words =
+        rules-from no-rule (rules-in t) (l .few-constructs)
+        (λ j g. subst (λ (q : ℕ). RuleIs (rule-words (stored t blank)) q (getD (rules-rows no-rule (rules-in t)) j no-rule-row)) (let q : j ≡ 0 + j = omega arith in q) (rule-read t j (omega (arith, many)) (omega (arith, many, l .few-rules))))
