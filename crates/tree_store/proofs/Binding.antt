@@ -1,7 +1,7 @@
 -- The variables that nodes bind are those that a tree's pieces bind.
 -- Assumes nothing.
-use Prim.Native.Nat.{ℕ, suc, _+_, _-_, _≤_}
-use mathlib.Core.Path.{_≡_, refl, sym, ap, ap₂, subst, _∙_}
+use Prim.Native.Nat.{ℕ, _+_, _-_, _≤_}
+use mathlib.Core.Path.{_≡_, refl, sym, ap, ap₂, _∙_}
 use mathlib.Core.Bool.{Bool, true, false, not, _&&_, _||_}
 use mathlib.Core.List.{List, [], _∷_, _++_}
 use native.Mathlib.Omega.{arith}
@@ -9,16 +9,15 @@ use lib.Dec.{eqb}
 use lib.ListN.{length, length-append}
 use Rattle.text_header.proofs.Tests.{picked}
 use Rattle.text_tokens.specs.Names.{is-same}
-use Rattle.text_names.specs.Counting.{any-of, any-between}
-use Rattle.text_names.specs.Names.{name-at, same-name, binds, bound-between}
+use Rattle.text_names.specs.Counting.{any-of}
+use Rattle.text_names.specs.Names.{same-name, binds, bound-between}
 use Rattle.tree.specs.Lexemes.{Name, Number, Lexeme, sign}
 use Rattle.text_tokens.specs.declared.Kind.{Kind}
 use Rattle.tree.specs.Tree.{TestPart, Tests, Mark, optional, any-number, one-or-more, counted, Part, Tree, literal, range, field, binder, rule-use, eod, group, switch, last-case, case-default, case-cases, once, repeated, last-member, and-members, last-branch, or-branches}
-use Rattle.tree.specs.Spelling.{spell-set, spell-tests, spell-mark, spell}
-use Rattle.tree_form.specs.Stored.{start-of, how-bound as way-bound}
+use Rattle.tree.specs.Spelling.{spell-mark, spell}
+use Rattle.tree_form.specs.Stored.{how-bound as way-bound}
 use Rattle.tree_meaning.specs.Pieces.{Component, Piece, use-of-rule, width, formula, binding, mark-pieces, pieces, bound-in}
 use Rattle.tree_meaning.specs.Names.{is-among}
-use Rattle.tree_meaning.specs.Counted.{constructs}
 use Rattle.tree_store.proofs.Rows.{NodeRow, a-node, on-first, tests-rows, term-rows, mark-row, node-rows}
 use Rattle.tree_store.proofs.Lengths.{bound-append, length-first}
 use Rattle.tree_store.proofs.Low.{any-suc, any-append, any-between-on}

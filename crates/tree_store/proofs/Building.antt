@@ -1,19 +1,18 @@
 -- What a tree adds to the nodes and terms of a store: its rows.
 -- Assumes nothing.
-use Prim.Native.Nat.{ℕ, suc, _+_, _≤_, min}
+use Prim.Native.Nat.{ℕ, suc, _+_, _≤_}
 use mathlib.Core.Path.{_≡_, refl, sym, ap, _∙_}
-use mathlib.Core.Bool.{Bool, true, false, not}
+use mathlib.Core.Bool.{Bool, true, false}
 use mathlib.Core.List.{List, [], _∷_, _++_, append-nil, append-assoc}
 use native.Mathlib.Omega.{arith}
 use lib.ListN.{length, length-append}
-use Rattle.text_store.specs.Store.{State, nodes-of, terms-of, insert, leaf, bind, close-rule}
-use Rattle.text_parsing.specs.Form.{chained}
-use Rattle.tree.specs.Tree.{Mark, optional, any-number, one-or-more, counted, Part, Tree, literal, range, field, binder, rule-use, eod, group, switch, last-case, case-default, case-cases, once, repeated, last-member, and-members, last-branch, or-branches, Rule, rule, Rules, last-rule, and-rules}
-use Rattle.tree_form.specs.Stored.{store-set, store-counts, store-tests, start-of, store-mark, store-case, how-bound, store, store-rule, stored}
+use Rattle.text_store.specs.Store.{State, nodes-of, terms-of, insert, leaf, bind}
+use Rattle.tree.specs.Tree.{Mark, optional, any-number, one-or-more, counted, Part, Tree, literal, range, field, binder, rule-use, eod, group, switch, last-case, case-default, case-cases, once, repeated, last-member, and-members, last-branch, or-branches}
+use Rattle.tree_form.specs.Stored.{start-of, store-mark, store-case, how-bound, store}
 use Rattle.tree_meaning.specs.Counted.{constructs}
-use Rattle.tree_store.proofs.Rows.{NodeRow, a-node, on-first, TermRow, RuleRow, set-rows, counts-rows, tests-rows, mark-rows, term-rows, mark-row, node-rows, binders-in}
+use Rattle.tree_store.proofs.Rows.{NodeRow, a-node, on-first, TermRow, RuleRow, mark-rows, term-rows, mark-row, node-rows, binders-in}
 use Rattle.tree_store.proofs.Holding.{Holds, held-as, insert-holds, condition-holds, bind-holds}
-use Rattle.tree_store.proofs.Lengths.{nodes-counted, some-node}
+use Rattle.tree_store.proofs.Lengths.{nodes-counted, chain-long, some-node}
 use Rattle.tree_store.proofs.Adding.{Adds, adds-none, set-adds, counts-adds, tests-adds}
 
 -- a step of the reader that adds these nodes (of which the first term has number t), these terms and so many binders
@@ -140,10 +139,6 @@ case-builds {f} {g} {M} {A} {B} {c} x some y =
     }
 
 -- ---- a tree
-
--- the parts of a chain are as many as are counted
-chain-long : {p q : Part} {d e : ℕ} (x : Tree p d) (y : Tree q e) (t s : ℕ) → suc (constructs false x + constructs true y) ≡ suc (length (node-rows false x t ++ node-rows true y s))
-chain-long x y t s = omega (arith, length-append (node-rows false x t) (node-rows true y s), nodes-counted false x t, nodes-counted true y s)
 
 inner-long : {p : Part} {d : ℕ} (x : Tree p d) (t : ℕ) → suc (constructs false x) ≡ suc (length (node-rows false x t))
 inner-long x t = ap suc (sym (nodes-counted false x t))

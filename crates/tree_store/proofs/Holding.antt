@@ -6,14 +6,14 @@ use mathlib.Core.Logic.{⊎-elim, _≢_}
 use mathlib.Core.Bool.{true, false}
 use mathlib.Core.List.{List, [], _∷_, _++_}
 use native.Mathlib.Omega.{arith}
-use borrow.Author.Tests.{ltb-true, ltb-false, eqb-true, eqb-false, le-leb, lt-leb, le-ltb, leb-true, leb-false}
+use borrow.Author.Tests.{ltb-true, ltb-false, eqb-true, eqb-false, leb-true, leb-false}
 use lib.Dec.{eqb, ltb, leb}
 use lib.ListN.{length, getD, length-append, length-replicate, List·getD-append}
 use lib.Seq.{getD-append-add, getD-append-seam}
 use Rattle.text_header.proofs.Tests.{which}
-use Rattle.text_store.specs.Store.{State, state, blank, marked-tag, node-words, term-words, rule-words, nodes-of, terms-of, binders-of, rules-of, counted, put-term, put-single, put-node, put-condition, put-rule, add, single, insert, condition-on, bind, close-rule}
-use Rattle.text_store.specs.Words.{node-start, term-start, rule-start, node-word, term-word, rule-word, condition-from, condition-end}
-use Rattle.text_store.proofs.StoreLaws.{ten, length-put-node, node-before, node-at, node-after, length-put-condition, condition-before, condition-after, from-put, end-put, length-put-term, length-put-single, term-before, term-put, marked-at, single-marks, marked-other, marked-here, length-put-rule, rule-before, rule-at}
+use Rattle.text_store.specs.Store.{State, state, blank, marked-tag, node-words, term-words, rule-words, nodes-of, terms-of, binders-of, rules-of, counted, put-term, put-node, put-condition, put-rule, add, single, insert, condition-on, bind, close-rule}
+use Rattle.text_store.specs.Words.{node-start, term-start, rule-start, node-word, term-word, rule-word}
+use Rattle.text_store.proofs.StoreLaws.{length-put-node, node-before, node-at, node-after, length-put-condition, condition-before, condition-after, from-put, end-put, length-put-term, length-put-single, term-before, term-put, marked-at, single-marks, marked-other, marked-here, length-put-rule, rule-before, rule-at}
 use Rattle.tree_store.proofs.Rows.{NodeRow, node-fields, a-node, no-node, in-case, on-first, TermRow, term-fields, a-term, no-term, marked, last-marked, RuleRow, rule-fields, no-rule-row}
 
 -- ---- lists

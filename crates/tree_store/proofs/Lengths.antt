@@ -7,12 +7,12 @@ use mathlib.Core.List.{List, [], _∷_, _++_}
 use native.Mathlib.Omega.{arith}
 use lib.ListN.{length, length-append}
 use Rattle.tree.specs.Lexemes.{Sign, Name}
-use Rattle.tree.specs.Tree.{Primary, number, variable, Operand, plain, opposite, Factors, no-factor, times, Product, product, Summands, no-summand, plus, minus, Calculation, sum, Item, everything, only, between, from, up-to, SetPart, Choices, item, item-but-item, item-but-set, last-choice, or-choices, Counts, exactly, at-least, at-most, span, TestPart, Tests, compare, test-group, one-test, all-of, any-of, last-conjunct, and-conjuncts, last-disjunct, or-disjuncts, Mark, optional, any-number, one-or-more, counted, Part, Tree, literal, range, field, binder, rule-use, eod, group, switch, last-case, case-default, case-cases, once, repeated, last-member, and-members, last-branch, or-branches, Rule, Rules}
+use Rattle.tree.specs.Tree.{Primary, number, variable, Operand, plain, opposite, Factors, no-factor, times, Product, product, Summands, no-summand, plus, minus, Calculation, sum, Item, everything, only, between, from, up-to, SetPart, Choices, item, item-but-item, item-but-set, last-choice, or-choices, Counts, exactly, at-least, at-most, span, TestPart, Tests, compare, test-group, one-test, all-of, any-of, last-conjunct, and-conjuncts, last-disjunct, or-disjuncts, Mark, optional, any-number, one-or-more, counted, Part, Tree, literal, range, field, binder, rule-use, eod, group, switch, last-case, case-default, case-cases, once, repeated, last-member, and-members, last-branch, or-branches}
 use Rattle.tree_form.specs.Stored.{start-of-product, tag-of}
-use Rattle.tree_meaning.specs.Pieces.{Term, a-sign, primary-terms, operand-terms, factor-terms, product-terms, summand-terms, calculation-terms, Component, whole-number, joined-by, in-item, in-set, in-counts, in-tests, terms-of, Piece, use-of-rule, width, formula, binding, mark-pieces, pieces, bound-in, rules-of, rule-body, rule-pieces, variables-of}
-use Rattle.tree_meaning.specs.Counted.{constructs, rule-constructs, terms, Totals, with-rule}
+use Rattle.tree_meaning.specs.Pieces.{primary-terms, operand-terms, factor-terms, product-terms, summand-terms, calculation-terms, Component, whole-number, joined-by, in-item, in-set, in-counts, in-tests, terms-of, Piece, use-of-rule, width, formula, binding, mark-pieces, pieces, bound-in}
+use Rattle.tree_meaning.specs.Counted.{constructs, terms}
 use Rattle.tree_meaning.proofs.Lengths.{some-construct}
-use Rattle.tree_store.proofs.Rows.{NodeRow, on-first, TermRow, a-term, last-marked, primary-rows, operand-rows, factors-rows, product-rows, summands-rows, calculation-rows, item-rows, set-rows, counts-rows, tests-rows, mark-rows, term-rows, mark-row, node-rows, binders-in}
+use Rattle.tree_store.proofs.Rows.{NodeRow, on-first, TermRow, a-term, primary-rows, operand-rows, factors-rows, product-rows, summands-rows, calculation-rows, item-rows, set-rows, counts-rows, tests-rows, mark-rows, term-rows, node-rows, binders-in}
 use Rattle.tree_store.proofs.Holding.{length-marked}
 
 -- ---- nodes
@@ -55,6 +55,10 @@ nodes-counted false (or-branches x s more) t =
     ap suc (two (node-rows false x t) (node-rows true more (t + length (term-rows x))) _ _ (nodes-counted false x t) (nodes-counted true more (t + length (term-rows x))))
 nodes-counted true (or-branches x s more) t =
     two (node-rows false x t) (node-rows true more (t + length (term-rows x))) _ _ (nodes-counted false x t) (nodes-counted true more (t + length (term-rows x)))
+
+-- the parts of a chain are as many as are counted
+pub chain-long : {p q : Part} {d e : ℕ} (x : Tree p d) (y : Tree q e) (t s : ℕ) → suc (constructs false x + constructs true y) ≡ suc (length (node-rows false x t ++ node-rows true y s))
+chain-long x y t s = omega (arith, length-append (node-rows false x t) (node-rows true y s), nodes-counted false x t, nodes-counted true y s)
 
 pub some-node : {p : Part} {d : ℕ} (begun : Bool) (x : Tree p d) (t : ℕ) → 1 ≤ length (node-rows begun x t)
 some-node begun x t = rw (nodes-counted begun x t) (some-construct begun x)

@@ -1,18 +1,17 @@
 -- Refusal 5 of what is stored is refusal 5 of the tree.
 -- Assumes nothing.
 use Prim.Native.Nat.{ℕ, zero, suc, _+_, _-_, _≤_, _<_, min}
-use mathlib.Core.Path.{_≡_, refl, sym, ap, ap₂, subst, _∙_}
+use mathlib.Core.Path.{_≡_, refl, sym, ap, subst, _∙_}
 use mathlib.Core.Logic.{⊎-elim}
 use mathlib.Core.Bool.{Bool, true, false, _||_}
 use mathlib.Core.List.{List, [], _∷_, _++_}
-use mathlib.Core.Option.{Option, none, some}
+use mathlib.Core.Option.{none}
 use native.Mathlib.Omega.{arith}
 use borrow.Author.Tests.{ltb-true, ltb-false, lt-ltb, le-ltb, le-leb, lt-leb}
 use lib.Dec.{ltb, leb}
 use lib.ListN.{length, getD}
 use Rattle.text_header.proofs.Tests.{which}
 use Rattle.text_store.specs.Store.{blank, rule-words, rules-of}
-use Rattle.text_store.specs.Words.{named-at, last-node, terms-at-end, binders-at-end}
 use Rattle.text_names.specs.Counting.{nowhere, place-if, least-of}
 use Rattle.text_names.specs.Limits.{limit-place, refusal-5}
 use Rattle.tree.specs.Tree.{Rule, Rules}
@@ -195,3 +194,49 @@ limits t m a =
 -- Refusal 5 of what the reader stores of a text that spells a tree is refusal 5 of the tree.
 pub refused-5 : {xs : List ℕ} {t : Rules} → length xs ≤ nowhere → SpelledBy xs t → refusal-5 (rule-words (stored t blank)) (rules-of (stored t blank)) ≡ or-nowhere (tree-refusal-5 t)
 refused-5 {xs} {t} l h = limits t l (rules-ascend t (finish (h .end) ∷ []) (spelled-stand h))
+
+-- ---- where nothing is passed
+
+-- the numbers of the Limits line are not
+pub record Limited (t : Rules) : Type 0 where
+  pub few-rules : tree-totals t .rules ≤ 64
+  pub few-constructs : tree-totals t .all-constructs ≤ 256
+  pub few-variables : tree-totals t .variables ≤ 64
+  pub few-terms : tree-totals t .all-terms ≤ 1024
+
+or-later : (a b : Bool) → (a || b) ≡ false → b ≡ false
+or-later true b e = let z : _≡_ {A = ℕ} 0 1 = cc in absurd (omega arith)
+or-later false b e = e
+
+some-none : (p : ℕ) (l : List ℕ) → least (p ∷ l) ≡ none → ⊥
+unfolding least
+some-none p l e = let z : _≡_ {A = ℕ} 0 1 = cc in omega arith
+
+-- after rules none of which is past
+none-past : (n : Totals) (rs : List Rule) → is-past n ≡ false → least (limit-faults n rs) ≡ none → is-past (totals n rs) ≡ false
+unfolding limit-faults totals
+none-past n [] p e = p
+none-past n (r ∷ rs) p e =
+    ⊎-elim (λ (z : is-past (with-rule n r) ≡ true). absurd (refused z)) (λ (z : is-past (with-rule n r) ≡ false). none-past (with-rule n r) rs z (later z)) (which (is-past (with-rule n r)))
+  where
+    told : (b : Bool) → is-past (with-rule n r) ≡ b → least (listed-if b (rule-name r .start) ++ limit-faults (with-rule n r) rs) ≡ none
+    told b z = ap (λ (c : Bool). least (listed-if c (rule-name r .start) ++ limit-faults (with-rule n r) rs)) (sym z) ∙ e
+
+    refused : is-past (with-rule n r) ≡ true → ⊥
+    refused z = some-none (rule-name r .start) (limit-faults (with-rule n r) rs) (told true z)
+
+    later : is-past (with-rule n r) ≡ false → least (limit-faults (with-rule n r) rs) ≡ none
+    later z = told false z
+
+pub limited : (t : Rules) → tree-refusal-5 t ≡ none → Limited t
+limited t e =
+    let n : Totals = tree-totals t
+    in let p : is-past n ≡ false = none-past no-rule (rules-in t) refl e
+    in let q : (ltb 256 (n .all-constructs) || (ltb 64 (n .variables) || ltb 1024 (n .all-terms))) ≡ false = or-later (ltb 64 (n .rules)) (ltb 256 (n .all-constructs) || (ltb 64 (n .variables) || ltb 1024 (n .all-terms))) p
+    in let r : (ltb 64 (n .variables) || ltb 1024 (n .all-terms)) ≡ false = or-later (ltb 256 (n .all-constructs)) (ltb 64 (n .variables) || ltb 1024 (n .all-terms)) q
+    in record {
+      few-rules = ltb-false 64 (n .rules) (or-first (ltb 64 (n .rules)) (ltb 256 (n .all-constructs) || (ltb 64 (n .variables) || ltb 1024 (n .all-terms))) p);
+      few-constructs = ltb-false 256 (n .all-constructs) (or-first (ltb 256 (n .all-constructs)) (ltb 64 (n .variables) || ltb 1024 (n .all-terms)) q);
+      few-variables = ltb-false 64 (n .variables) (or-first (ltb 64 (n .variables)) (ltb 1024 (n .all-terms)) r);
+      few-terms = ltb-false 1024 (n .all-terms) (or-later (ltb 64 (n .variables)) (ltb 1024 (n .all-terms)) r);
+    }

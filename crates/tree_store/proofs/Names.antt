@@ -1,35 +1,35 @@
 -- Refusal 6 of what is stored is refusal 6 of the tree.
 -- Assumes nothing.
-use Prim.Native.Nat.{ℕ, zero, suc, _+_, _-_, _≤_, _<_, min}
+use Prim.Native.Nat.{ℕ, suc, _+_, _-_, _≤_, _<_, min}
 use mathlib.Core.Path.{_≡_, refl, sym, ap, ap₂, subst, _∙_}
 use mathlib.Core.Bool.{Bool, true, false, _||_}
 use mathlib.Core.List.{List, [], _∷_, _++_, map, append-assoc}
 use native.Mathlib.Omega.{arith}
-use lib.ListN.{length, getD, length-append}
+use lib.ListN.{length, getD}
 use Rattle.text_tokens.specs.Names.{is-same}
 use Rattle.text_tokens.specs.declared.Kind.{Kind}
 use Rattle.text_store.specs.Store.{blank, node-words, term-words, rule-words, rules-of}
 use Rattle.text_store.specs.Words.{named-at, first-node, last-node}
-use Rattle.text_names.specs.Counting.{nowhere, place-if, least-of, any-of, any-between}
-use Rattle.text_names.specs.Names.{same-name, is-reserved, rule-named, binds, bound-between, rule-fault, node-place, nodes-place, rule-place, refusal-6}
+use Rattle.text_names.specs.Counting.{nowhere, place-if, least-of, any-of}
+use Rattle.text_names.specs.Names.{same-name, is-reserved, rule-named, binds, rule-fault, node-place, nodes-place, rule-place, refusal-6}
 use Rattle.tree.specs.Lexemes.{Name, Lexeme, sign, finish}
 use Rattle.tree.specs.Tree.{expression, Tree, Rule, rule, Rules, last-rule, and-rules}
-use Rattle.tree.specs.Spelling.{spell, spell-rule, spell-rules}
+use Rattle.tree.specs.Spelling.{spell, spell-rules}
 use Rattle.tree_form.specs.Stored.{stored}
-use Rattle.tree_meaning.specs.Pieces.{pieces, bound-in, rules-of as rules-in, rule-name, rule-body, rule-pieces, variables-of}
+use Rattle.tree_meaning.specs.Pieces.{pieces, bound-in, rules-of as rules-in, rule-name}
 use Rattle.tree_meaning.specs.Counted.{constructs, Totals, no-rule, with-rule}
 use Rattle.tree_meaning.specs.Least.{place-if as listed-if}
 use Rattle.tree_meaning.specs.Names.{is-among, rule-fault as wrong-rule, faults-after, name-faults, rule-names, refusal-6 as tree-refusal-6}
-use Rattle.tree_store.proofs.Rows.{NodeRow, no-node, TermRow, no-term, RuleRow, no-rule-row, term-rows, node-rows, rules-nodes, rules-terms, rule-row, rules-rows, totals, tree-nodes, tree-terms, tree-totals}
+use Rattle.tree_store.proofs.Rows.{NodeRow, no-node, TermRow, no-term, no-rule-row, term-rows, node-rows, rules-nodes, rules-terms, rule-row, rules-rows, totals, tree-nodes, tree-terms, tree-totals}
 use Rattle.tree_store.proofs.Lengths.{nodes-counted, terms-counted}
 use Rattle.tree_store.proofs.Storing.{NodeIs, TermIs, RuleIs, totalled-tree, node-read, term-read, rule-read, rules-read}
 use Rattle.tree_store.proofs.Low.{or-nowhere, Low, low-as, low-none, low-if, low-both, any-suc, any-between-on}
-use Rattle.tree_store.proofs.Limits.{rows-many}
+use Rattle.tree_store.proofs.Limits.{Limited, rows-many}
 use Rattle.tree_store.proofs.Standing.{Standing, past, after-tree, SpelledBy, spelled-stand}
 use Rattle.tree_store.proofs.Uses.{Here, here}
-use Rattle.tree_store.proofs.Spots.{Like, LikeAt, none-like, next-like, Spot, free}
+use Rattle.tree_store.proofs.Spots.{LikeAt, none-like, next-like, Spot, free}
 use Rattle.tree_store.proofs.Binding.{same-here, bound-rows, before-none}
-use Rattle.tree_store.proofs.Naming.{TermsAt, none-at, next-at, terms-left, terms-right, reserved-here, Known, row-place, row-is, rows-place, named}
+use Rattle.tree_store.proofs.Naming.{TermsAt, none-at, next-at, terms-left, terms-right, reserved-here, Known, row-is, rows-place, named}
 
 -- ---- words that are rows, one after the other
 
@@ -190,12 +190,6 @@ module _ (xs ns ts ws : List ℕ) (r : ℕ) (rules : List Name) (small : length 
       (subst (λ (i : ℕ). NodesAt ns (n .all-constructs + length M) (rules-nodes i (rules-in t))) (ap (λ (i : ℕ). n .all-terms + i) (terms-counted true b)) (nodes-right M (rules-nodes (n .all-terms + length A) (rules-in t)) h))) (subst (λ (i : ℕ). TermsAt ts i (rules-terms (rules-in t))) (ap (λ (i : ℕ). n .all-terms + i) (terms-counted true b)) (terms-right A (rules-terms (rules-in t)) k)) more (past (after-tree b (past (past s)))) (subst (λ (i : ℕ). Earlier xs ws i (x ∷ names)) (let q : n .rules + 1 ≡ suc (n .rules) = omega arith in q) (earlier-more e (here s) c))))
 
 -- ---- a text
-
--- the numbers of the Limits line are not passed
-pub record Limited (t : Rules) : Type 0 where
-  pub few-rules : tree-totals t .rules ≤ 64
-  pub few-constructs : tree-totals t .all-constructs ≤ 256
-  pub few-terms : tree-totals t .all-terms ≤ 1024
 
 -- of any words that hold the rows of a tree that the text spells
 names-of : (xs ns ts ws : List ℕ) (r : ℕ) (t : Rules) → length xs ≤ nowhere → SpelledBy xs t → r ≡ length (rules-in t) → NodesAt ns 0 (tree-nodes t) → TermsAt ts 0 (tree-terms t) → RulesIn ws no-rule (rules-in t)

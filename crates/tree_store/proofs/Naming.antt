@@ -1,34 +1,33 @@
 -- The names at fault in a rule: what the store's words say is what the tree says.
 -- Assumes nothing.
-use Prim.Native.Nat.{ℕ, suc, _+_, _-_, _≤_, _<_, min}
+use Prim.Native.Nat.{ℕ, suc, _+_, _-_, _≤_, min}
 use mathlib.Core.Path.{_≡_, refl, sym, ap, ap₂, subst, _∙_}
 use mathlib.Core.Bool.{Bool, true, false, cond, not, _&&_, _||_}
 use mathlib.Core.List.{List, [], _∷_, _++_, append-assoc}
 use native.Mathlib.Omega.{arith}
 use lib.Dec.{eqb}
 use lib.ListN.{length, length-append}
-use Rattle.text_header.proofs.Tests.{picked}
 use Rattle.text_tokens.specs.Names.{reserved-of}
 use Rattle.text_tokens.specs.declared.Kind.{Kind}
-use Rattle.text_names.specs.Counting.{nowhere, place-if, least-of, least-between}
+use Rattle.text_names.specs.Counting.{nowhere, place-if, least-of}
 use Rattle.text_names.specs.Names.{is-reserved, rule-named, bound-between, use-fault, held-between, variable-fault, term-place, list-place, node-place}
 use Rattle.text_store.specs.Words.{is-use, term-tag, term-at}
 use Rattle.tree.specs.Lexemes.{Name, Number, Lexeme, sign}
-use Rattle.tree.specs.Tree.{TestPart, tests, Tests, Mark, optional, any-number, one-or-more, counted, Part, expression, concatenation, factor, atom, cases, Tree, literal, range, field, binder, rule-use, eod, group, switch, last-case, case-default, case-cases, once, repeated, last-member, and-members, last-branch, or-branches}
+use Rattle.tree.specs.Tree.{tests, Tests, Mark, optional, any-number, one-or-more, counted, Part, expression, concatenation, factor, atom, cases, Tree, literal, range, field, binder, rule-use, eod, group, switch, last-case, case-default, case-cases, once, repeated, last-member, and-members, last-branch, or-branches}
 use Rattle.tree.specs.Spelling.{spell-tests, spell-mark, spell}
 use Rattle.tree_form.specs.Stored.{start-of, how-bound as way-bound}
-use Rattle.tree_meaning.specs.Pieces.{Component, in-set, in-counts, in-tests, Piece, use-of-rule, width, formula, binding, mark-pieces, pieces}
+use Rattle.tree_meaning.specs.Pieces.{Component, in-tests, Piece, use-of-rule, width, formula, binding, mark-pieces, pieces}
 use Rattle.tree_meaning.specs.Counted.{constructs}
 use Rattle.tree_meaning.specs.Least.{place-if as listed-if}
 use Rattle.tree_meaning.specs.Names.{is-reserved as is-kept, is-among, use-fault as wrong-use, binder-fault as wrong-binder, variable-fault as wrong-variable, variable-faults, faults-after}
-use Rattle.tree_store.proofs.Rows.{NodeRow, a-node, in-case, on-first, TermRow, set-rows, counts-rows, tests-rows, mark-rows, term-rows, mark-row, node-rows}
-use Rattle.tree_store.proofs.Lengths.{length-first, nodes-counted}
+use Rattle.tree_store.proofs.Rows.{NodeRow, a-node, on-first, TermRow, set-rows, counts-rows, tests-rows, mark-rows, term-rows, mark-row, node-rows}
+use Rattle.tree_store.proofs.Lengths.{length-first, nodes-counted, chain-long}
 use Rattle.tree_store.proofs.Low.{Low, low-as, low-none, low-if, low-both}
 use Rattle.tree_store.proofs.Standing.{Standing, past, after-tests, after-tree}
 use Rattle.tree_store.proofs.Storing.{NodeIs}
 use Rattle.tree_store.proofs.Uses.{Here, here, UsesAre, no-more, used, other as skipped, uses-of, set-uses, counts-uses, tests-uses}
-use Rattle.tree_store.proofs.Spots.{Like, LikeAt, like-first, like-rest, like-left, like-right, like-uncased, mark-size, chain-long, fits, Spot, grouped, sub-spot, branch-spot, member-spot, once-spot, more-spot, case-spot, inner-spot, chain-spot, first-spot, rest-spot, misplaced}
-use Rattle.tree_store.proofs.Binding.{after-bound, Quiet, mark-quiet, binds-here, Bound, bound-cased, bound-formula, bound-rows, Before, before-node, before-more}
+use Rattle.tree_store.proofs.Spots.{LikeAt, like-first, like-rest, like-left, like-right, like-uncased, mark-size, fits, Spot, grouped, sub-spot, branch-spot, member-spot, once-spot, more-spot, case-spot, inner-spot, chain-spot, first-spot, rest-spot, misplaced}
+use Rattle.tree_store.proofs.Binding.{after-bound, mark-quiet, bound-cased, bound-formula, bound-rows, Before, before-node, before-more}
 
 -- ---- terms that are these rows
 
@@ -371,10 +370,11 @@ module _ (xs ns ts rs : List ℕ) (r a e : ℕ) where
     named on top (group depth opens x closes) t w h k s z b = named false false x t (sign Kind.CloseParen closes ∷ w) h k (past s) (grouped (omega arith)) b
     named on top (switch depth opens x closes) t w h k s z b =
         node-right refl (named false false x t (sign Kind.CloseBracket closes ∷ w) (like-rest h) k (past s) (grouped (omega arith)) (before-node (like-first h) refl b))
-    named on top (last-case c colon x end) t w h k s z b =
+    named on top (last-case c colon x end) t w {q = q} h k s z b =
         let m : ℕ = t + length (tests-rows c [])
+        in let u : Standing xs q (spell x (sign Kind.Semicolon end ∷ w)) = past (after-tests c {w = sign Kind.Colon colon ∷ spell x (sign Kind.Semicolon end ∷ w)} s)
         in case-right (tests-rows c []) (plain false x m) b (terms-left (tests-rows c []) (term-rows x) k) (tests-uses c (sign Kind.Colon colon ∷ spell x (sign Kind.Semicolon end ∷ w)) no-more s)
-        (named false false x m (sign Kind.Semicolon end ∷ w) (like-uncased t m (node-rows false x m) h) (terms-right (tests-rows c []) (term-rows x) k) (past (after-tests c s)) (sub-spot (omega arith) (omega (arith, length-first t m (node-rows false x m))) (case-spot z)) b)
+        (named false false x m (sign Kind.Semicolon end ∷ w) (like-uncased t m (node-rows false x m) h) (terms-right (tests-rows c []) (term-rows x) k) u (sub-spot (omega arith) (omega (arith, length-first t m (node-rows false x m))) (case-spot z)) b)
     named on top (once x) t w h k s z b = named false top x t w h k s (once-spot z) b
     named on top (repeated x m) t w h k s z b =
         mark-right m _ _ w b (terms-right (term-rows x) (mark-rows m) k) (after-tree x s)

@@ -3,7 +3,7 @@
 use Prim.Native.Nat.{ℕ, suc, _+_, _-_, _≤_, _<_}
 use mathlib.Core.Path.{_≡_, refl, sym, ap, ap₂, subst, _∙_}
 use mathlib.Core.Logic.{⊎-elim}
-use mathlib.Core.Bool.{Bool, true, false, cond, not, _&&_, _||_}
+use mathlib.Core.Bool.{Bool, true, false, not, _&&_, _||_}
 use mathlib.Core.List.{List, [], _∷_, _++_}
 use native.Mathlib.Omega.{arith}
 use borrow.Author.Tests.{ltb-true, ltb-false, lt-ltb, le-ltb, eqb-true, eq-eqb, ne-eqb}
@@ -11,13 +11,13 @@ use lib.Dec.{ltb, eqb}
 use lib.ListN.{length, length-append}
 use Rattle.text_header.proofs.Tests.{which}
 use Rattle.text_names.specs.Names.{holds, held, held-between}
-use Rattle.text_store.specs.Words.{kind-of, node-size, place-of, second-place, how-bound}
+use Rattle.text_store.specs.Words.{kind-of, node-size, second-place, how-bound}
 use Rattle.tree.specs.Tree.{Mark, optional, any-number, one-or-more, counted, Part, expression, concatenation, factor, atom, cases, Tree, literal, range, field, binder, rule-use, eod, group, switch, last-case, case-default, case-cases, once, repeated, last-member, and-members, last-branch, or-branches}
 use Rattle.tree_form.specs.Stored.{start-of, how-bound as way-bound}
 use Rattle.tree_meaning.specs.Counted.{constructs}
-use Rattle.tree_store.proofs.Rows.{NodeRow, in-case, on-first, tests-rows, term-rows, mark-row, node-rows}
+use Rattle.tree_store.proofs.Rows.{NodeRow, on-first, tests-rows, term-rows, mark-row, node-rows}
 use Rattle.tree_store.proofs.Holding.{compared}
-use Rattle.tree_store.proofs.Lengths.{nodes-counted}
+use Rattle.tree_store.proofs.Lengths.{nodes-counted, chain-long}
 use Rattle.tree_store.proofs.Low.{any-false, any-true}
 
 -- ---- nodes that are these rows, conditions and terms left out
@@ -72,9 +72,6 @@ mark-size (optional s) size p t = refl
 mark-size (any-number s) size p t = refl
 mark-size (one-or-more s) size p t = refl
 mark-size (counted opens n closes) size p t = refl
-
-pub chain-long : {p q : Part} {d e : ℕ} (x : Tree p d) (y : Tree q e) (t s : ℕ) → suc (constructs false x + constructs true y) ≡ suc (length (node-rows false x t ++ node-rows true y s))
-chain-long x y t s = omega (arith, length-append (node-rows false x t) (node-rows true y s), nodes-counted false x t, nodes-counted true y s)
 
 pub fits : {p : Part} {d : ℕ} (on : Bool) (x : Tree p d) (t : ℕ) → FitsIn (length (node-rows on x t)) (node-rows on x t)
 unfolding node-rows

@@ -1,7 +1,7 @@
 -- Where the tokens of a text stand, and that each is what stands there: so the names, numbers and literals of a tree that a text spells are the text's.
 -- Assumes nothing.
-use Prim.Native.Nat.{ℕ, zero, suc, _+_, _-_, _≤_, _<_}
-use mathlib.Core.Path.{_≡_, refl, sym, ap, subst, _∙_}
+use Prim.Native.Nat.{ℕ, zero, suc, _+_, _-_, _≤_}
+use mathlib.Core.Path.{_≡_, refl, sym, ap, subst}
 use mathlib.Core.Logic.{⊎-elim}
 use mathlib.Core.Bool.{true, false}
 use mathlib.Core.List.{List, [], _∷_}
@@ -19,11 +19,11 @@ use Rattle.text_tokens.specs.Names.{name-of}
 use Rattle.text_tokens.specs.Tokens.{is-pair, pair-of, sign-of, token, name-token, number-token, literal-token, sign-token, token-begun, gap-end, token-from, token-of}
 use Rattle.text_tokens.specs.declared.Kind.{Kind}
 use Rattle.text_tokens.specs.declared.Token.{Token}
-use Rattle.text_tokens.proofs.Bounds.{Begun, begun, Placed, placed}
+use Rattle.text_tokens.proofs.Bounds.{begun, Placed, placed}
 use Rattle.text_names.specs.Names.{name-at}
-use Rattle.tree.specs.Lexemes.{Sign, Name, Number, Literal, Lexeme, sign, word, numeral, quoted, stray, finish, place-of, sign-at, lexeme-as, lexeme-of, lexemes-from, lexemes}
+use Rattle.tree.specs.Lexemes.{Name, Number, Literal, Lexeme, sign, word, numeral, quoted, stray, finish, place-of, lexeme-as, lexemes-from, lexemes}
 use Rattle.tree.specs.Tree.{Primary, number, variable, Operand, plain, opposite, Factors, no-factor, times, Product, product, Summands, no-summand, plus, minus, Calculation, sum, Item, everything, only, between, from, up-to, SetPart, Choices, item, item-but-item, item-but-set, last-choice, or-choices, Counts, exactly, at-least, at-most, span, TestPart, Tests, compare, test-group, one-test, all-of, any-of, last-conjunct, and-conjuncts, last-disjunct, or-disjuncts, Mark, optional, any-number, one-or-more, counted, Part, Tree, literal, range, field, binder, rule-use, eod, group, switch, last-case, case-default, case-cases, once, repeated, last-member, and-members, last-branch, or-branches, Rule, rule, Rules, last-rule, and-rules}
-use Rattle.tree.specs.Spelling.{spell-primary, spell-operand, spell-factors, spell-product, spell-summands, spell-calculation, spell-item, spell-set, spell-counts, spell-tests, spell-mark, spell, spell-rule, spell-rules, spelled}
+use Rattle.tree.specs.Spelling.{spell-primary, spell-operand, spell-factors, spell-product, spell-summands, spell-calculation, spell-item, spell-set, spell-counts, spell-tests, spell-mark, spell, spell-rules, spelled}
 use Rattle.tree_meaning.specs.Pieces.{rules-of, rule-name}
 
 -- ---- a name ends where its letters end

@@ -1,6 +1,6 @@
 -- What the reader has stored of a text's tree is its rows.
 -- Assumes nothing.
-use Prim.Native.Nat.{ℕ, suc, _+_, _≤_, _<_, min}
+use Prim.Native.Nat.{ℕ, _+_, _≤_, _<_, min}
 use mathlib.Core.Path.{_≡_, refl, sym, ap, subst, _∙_}
 use mathlib.Core.Bool.{true, false}
 use mathlib.Core.List.{List, [], _∷_, _++_, append-nil, append-assoc}
@@ -10,8 +10,8 @@ use Rattle.text_store.specs.Store.{State, blank, node-words, term-words, rule-w
 use Rattle.text_store.specs.Words.{kind-of, node-size, place-of, second-place, node-mark, own-from, own-end, how-bound, condition-from, condition-end, term-tag, term-value, term-at, term-origin, named-at, first-node, last-node, terms-at-end, binders-at-end}
 use Rattle.tree.specs.Tree.{Rule, rule, Rules, last-rule, and-rules}
 use Rattle.tree_form.specs.Stored.{store, store-rule, stored}
-use Rattle.tree_meaning.specs.Pieces.{rules-of as rules-in, rule-name, rule-body, rule-pieces, variables-of}
-use Rattle.tree_meaning.specs.Counted.{constructs, rule-constructs, terms, Totals, no-rule, with-rule}
+use Rattle.tree_meaning.specs.Pieces.{rules-of as rules-in, rule-body}
+use Rattle.tree_meaning.specs.Counted.{terms, Totals, no-rule, with-rule}
 use Rattle.tree_store.proofs.Rows.{NodeRow, no-node, TermRow, no-term, RuleRow, no-rule-row, term-rows, node-rows, binders-in, rules-nodes, rules-terms, rules-binders, rule-row, rules-rows, totals, tree-nodes, tree-terms, tree-rules, tree-binders, tree-totals}
 use Rattle.tree_store.proofs.Holding.{Holds, held-as, holds-blank, closed, close-holds}
 use Rattle.tree_store.proofs.Lengths.{nodes-counted, terms-counted, binders-counted}

@@ -3,7 +3,7 @@
 use Prim.Native.Nat.{ℕ, _+_, _≤_, _<_}
 use mathlib.Core.Path.{_≡_, refl, sym, ap, ap₂, subst, _∙_}
 use mathlib.Core.Logic.{⊎-elim}
-use mathlib.Core.Bool.{Bool, true, false, _||_}
+use mathlib.Core.Bool.{true, false, _||_}
 use mathlib.Core.List.{List, [], _∷_, _++_, append-nil, append-assoc}
 use native.Mathlib.Omega.{arith}
 use borrow.Author.Tests.{ltb-true, eqb-true, eqb-false, ne-eqb}
@@ -19,8 +19,8 @@ use Rattle.tree.specs.Spelling.{comparison-sign, spell-primary, spell-operand, 
 use Rattle.text_tokens.specs.declared.Kind.{Kind}
 use Rattle.tree_form.specs.Stored.{start-of-product, tag-of}
 use Rattle.tree_meaning.specs.Pieces.{Term, a-number, a-use, a-sign, primary-terms, operand-terms, factor-terms, product-terms, summand-terms, calculation-terms, Component, whole-number, joined-by, in-item, in-set, in-counts, in-tests, terms-of, uses-in}
-use Rattle.tree_store.proofs.Rows.{TermRow, a-term, marked, last-marked, primary-rows, operand-rows, factors-rows, product-rows, summands-rows, calculation-rows, item-rows, set-rows, counts-rows, tests-rows}
-use Rattle.tree_store.proofs.Standing.{Standing, past, shown, within, after-primary, after-operand, after-factors, after-product, after-summands, after-calculation, after-item, after-set, after-counts, after-tests}
+use Rattle.tree_store.proofs.Rows.{TermRow, a-term, last-marked, primary-rows, operand-rows, factors-rows, product-rows, summands-rows, calculation-rows, item-rows, set-rows, counts-rows, tests-rows}
+use Rattle.tree_store.proofs.Standing.{Standing, past, shown, within, after-operand, after-product, after-calculation, after-item, after-set, after-tests}
 
 -- a name stands in the text where it says
 pub record Here (xs : List ℕ) (x : Name) : Type 0 where
