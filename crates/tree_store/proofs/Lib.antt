@@ -8,6 +8,7 @@ pub mod Storing
 pub mod Low
 pub mod Standing
 pub mod Limits
+pub mod Rowed
 pub mod Uses
 pub mod Spots
 pub mod Binding

@@ -1,11 +1,11 @@
 -- Refusal 6 of what is stored is refusal 6 of the tree.
 -- Assumes nothing.
-use Prim.Native.Nat.{ℕ, suc, _+_, _-_, _≤_, _<_, min}
+use Prim.Native.Nat.{ℕ, suc, _+_, _-_, _≤_, min}
 use mathlib.Core.Path.{_≡_, refl, sym, ap, ap₂, subst, _∙_}
 use mathlib.Core.Bool.{Bool, true, false, _||_}
 use mathlib.Core.List.{List, [], _∷_, _++_, map, append-assoc}
 use native.Mathlib.Omega.{arith}
-use lib.ListN.{length, getD}
+use lib.ListN.{length}
 use Rattle.text_tokens.specs.Names.{is-same}
 use Rattle.text_tokens.specs.declared.Kind.{Kind}
 use Rattle.text_store.specs.Store.{blank, node-words, term-words, rule-words, rules-of}
@@ -13,43 +13,25 @@ use Rattle.text_store.specs.Words.{named-at, first-node, last-node}
 use Rattle.text_names.specs.Counting.{nowhere, place-if, least-of, any-of}
 use Rattle.text_names.specs.Names.{same-name, is-reserved, rule-named, binds, rule-fault, node-place, nodes-place, rule-place, refusal-6}
 use Rattle.tree.specs.Lexemes.{Name, Lexeme, sign, finish}
-use Rattle.tree.specs.Tree.{expression, Tree, Rule, rule, Rules, last-rule, and-rules}
+use Rattle.tree.specs.Tree.{expression, Tree, rule, Rules, last-rule, and-rules}
 use Rattle.tree.specs.Spelling.{spell, spell-rules}
 use Rattle.tree_form.specs.Stored.{stored}
 use Rattle.tree_meaning.specs.Pieces.{pieces, bound-in, rules-of as rules-in, rule-name}
 use Rattle.tree_meaning.specs.Counted.{constructs, Totals, no-rule, with-rule}
 use Rattle.tree_meaning.specs.Least.{place-if as listed-if}
 use Rattle.tree_meaning.specs.Names.{is-among, rule-fault as wrong-rule, faults-after, name-faults, rule-names, refusal-6 as tree-refusal-6}
-use Rattle.tree_store.proofs.Rows.{NodeRow, no-node, TermRow, no-term, no-rule-row, term-rows, node-rows, rules-nodes, rules-terms, rule-row, rules-rows, totals, tree-nodes, tree-terms, tree-totals}
+use Rattle.tree_store.proofs.Rows.{NodeRow, TermRow, term-rows, node-rows, rules-nodes, rules-terms}
 use Rattle.tree_store.proofs.Lengths.{nodes-counted, terms-counted}
-use Rattle.tree_store.proofs.Storing.{NodeIs, TermIs, RuleIs, totalled-tree, node-read, term-read, rule-read, rules-read}
 use Rattle.tree_store.proofs.Low.{or-nowhere, Low, low-as, low-none, low-if, low-both, any-suc, any-between-on}
-use Rattle.tree_store.proofs.Limits.{Limited, rows-many}
+use Rattle.tree_store.proofs.Limits.{Limited}
+use Rattle.tree_store.proofs.Rowed.{NodesAt, no-nodes, node-then, nodes-left, nodes-right, TermsAt, terms-left, terms-right, RulesIn, rule-then, Rowed, rowed}
 use Rattle.tree_store.proofs.Standing.{Standing, past, after-tree, SpelledBy, spelled-stand}
 use Rattle.tree_store.proofs.Uses.{Here, here}
 use Rattle.tree_store.proofs.Spots.{LikeAt, none-like, next-like, Spot, free}
 use Rattle.tree_store.proofs.Binding.{same-here, bound-rows, before-none}
-use Rattle.tree_store.proofs.Naming.{TermsAt, none-at, next-at, terms-left, terms-right, reserved-here, Known, row-is, rows-place, named}
+use Rattle.tree_store.proofs.Naming.{reserved-here, Known, row-is, rows-place, named}
 
--- ---- words that are rows, one after the other
-
-data NodesAt (ns : List ℕ) : ℕ → List NodeRow → Type 0 where
-  no-nodes : {i : ℕ} → NodesAt ns i []
-  node-then : {i : ℕ} {x : NodeRow} {M : List NodeRow} → NodeIs ns i x → NodesAt ns (i + 1) M → NodesAt ns i (x ∷ M)
-
-nodes-from : {ns : List ℕ} (i : ℕ) (M : List NodeRow) → ((j : ℕ) → j < length M → NodeIs ns (i + j) (getD M j no-node)) → NodesAt ns i M
-nodes-from i [] h = no-nodes
-nodes-from {ns} i (x ∷ M) h =
-    node-then (subst (λ (q : ℕ). NodeIs ns q x) (let q : i + 0 ≡ i = omega arith in q) (h 0 (omega arith)))
-    (nodes-from (i + 1) M (λ j g. subst (λ (q : ℕ). NodeIs ns q (getD M j no-node)) (let q : i + suc j ≡ i + 1 + j = omega arith in q) (h (suc j) (omega arith))))
-
-nodes-left : {ns : List ℕ} {i : ℕ} (M L : List NodeRow) → NodesAt ns i (M ++ L) → NodesAt ns i M
-nodes-left [] L h = no-nodes
-nodes-left (x ∷ M) L (node-then h more) = node-then h (nodes-left M L more)
-
-nodes-right : {ns : List ℕ} {i : ℕ} (M L : List NodeRow) → NodesAt ns i (M ++ L) → NodesAt ns (i + length M) L
-nodes-right {ns} {i} [] L h = subst (λ (q : ℕ). NodesAt ns q L) (let q : i ≡ i + 0 = omega arith in q) h
-nodes-right {ns} {i} (x ∷ M) L (node-then h more) = subst (λ (q : ℕ). NodesAt ns q L) (let q : i + 1 + length M ≡ i + suc (length M) = omega arith in q) (nodes-right M L more)
+-- ---- nodes that are rows
 
 nodes-like : {ns : List ℕ} {i : ℕ} (M : List NodeRow) → NodesAt ns i M → LikeAt ns i M
 nodes-like [] no-nodes = none-like
@@ -60,33 +42,6 @@ nodes-least : (xs ns ts rs : List ℕ) (r a e : ℕ) {i : ℕ} (M : List NodeRow
 unfolding rows-place least-of
 nodes-least xs ns ts rs r a e [] no-nodes = refl
 nodes-least xs ns ts rs r a e (x ∷ M) (node-then h more) = ap₂ min (sym (row-is xs ns ts rs r a e h)) (nodes-least xs ns ts rs r a e M more)
-
-terms-from : {ts : List ℕ} (i : ℕ) (A : List TermRow) → ((j : ℕ) → j < length A → TermIs ts (i + j) (getD A j no-term)) → TermsAt ts i A
-terms-from i [] h = none-at
-terms-from {ts} i (x ∷ A) h =
-    let first : TermIs ts i x = subst (λ (q : ℕ). TermIs ts q x) (let q : i + 0 ≡ i = omega arith in q) (h 0 (omega arith))
-    in next-at (first .tag-is) (first .place-is)
-    (terms-from (i + 1) A (λ j g. subst (λ (q : ℕ). TermIs ts q (getD A j no-term)) (let q : i + suc j ≡ i + 1 + j = omega arith in q) (h (suc j) (omega arith))))
-
--- the words of these rules, after rules of these totals
-data RulesIn (ws : List ℕ) : Totals → List Rule → Type 0 where
-  no-rules : {n : Totals} → RulesIn ws n []
-  rule-then : {n : Totals} {x : Rule} {more : List Rule} → named-at ws (n .rules) ≡ rule-name x .start → first-node ws (n .rules) ≡ n .all-constructs → last-node ws (n .rules) ≡ with-rule n x .all-constructs
-      → RulesIn ws (with-rule n x) more → RulesIn ws n (x ∷ more)
-
-totals-grow : (n : Totals) (l : List Rule) → n .all-constructs ≤ totals n l .all-constructs
-unfolding totals
-totals-grow n [] = omega arith
-totals-grow n (x ∷ l) = omega (arith, totals-grow (with-rule n x) l)
-
-rules-from : {ws : List ℕ} (n : Totals) (l : List Rule) → totals n l .all-constructs ≤ 256 → ((j : ℕ) → j < length l → RuleIs ws (n .rules + j) (getD (rules-rows n l) j no-rule-row)) → RulesIn ws n l
-unfolding totals rules-rows
-rules-from n [] m h = no-rules
-rules-from {ws} n (x ∷ l) m h =
-    let first : RuleIs ws (n .rules) (rule-row n x) = subst (λ (q : ℕ). RuleIs ws q (rule-row n x)) (let q : n .rules + 0 ≡ n .rules = omega arith in q) (h 0 (omega arith))
-    in let g : with-rule n x .all-constructs ≤ totals (with-rule n x) l .all-constructs = totals-grow (with-rule n x) l
-    in rule-then (first .name-is) (first .first-is ∙ (let q : min (n .all-constructs) 257 ≡ n .all-constructs = omega arith in q)) (first .nodes-is ∙ (let q : min (with-rule n x .all-constructs) 257 ≡ with-rule n x .all-constructs = omega arith in q))
-    (rules-from (with-rule n x) l m (λ j k. subst (λ (q : ℕ). RuleIs ws q (getD (rules-rows (with-rule n x) l) j no-rule-row)) (let q : n .rules + suc j ≡ suc (n .rules) + j = omega arith in q) (h (suc j) (omega arith))))
 
 -- ---- the names of rules
 
@@ -192,38 +147,17 @@ module _ (xs ns ts ws : List ℕ) (r : ℕ) (rules : List Name) (small : length 
 -- ---- a text
 
 -- of any words that hold the rows of a tree that the text spells
-names-of : (xs ns ts ws : List ℕ) (r : ℕ) (t : Rules) → length xs ≤ nowhere → SpelledBy xs t → r ≡ length (rules-in t) → NodesAt ns 0 (tree-nodes t) → TermsAt ts 0 (tree-terms t) → RulesIn ws no-rule (rules-in t)
-    → Low (refusal-6 xs ns ts ws r) (name-faults (rule-names t) [] (rules-in t))
-names-of xs ns ts ws r t small h e nodes terms rules =
-    low-as (ap (λ (n : ℕ). least-of n 0 (rule-place xs ns ts ws r)) (let q : length (rules-in t) ≡ r - 0 = omega arith in q))
-    (rules-low xs ns ts ws r (rule-names t) small ruled t no-rule (finish (h .end) ∷ []) nodes terms rules (spelled-stand h) earlier-none)
+names-of : (xs ns ts ws : List ℕ) (r : ℕ) (t : Rules) → length xs ≤ nowhere → SpelledBy xs t → Rowed t ns ts ws r → Low (refusal-6 xs ns ts ws r) (name-faults (rule-names t) [] (rules-in t))
+names-of xs ns ts ws r t small h w =
+    low-as (ap (λ (n : ℕ). least-of n 0 (rule-place xs ns ts ws r)) (let q : length (rules-in t) ≡ r - 0 = omega (arith, w .number) in q))
+    (rules-low xs ns ts ws r (rule-names t) small ruled t no-rule (finish (h .end) ∷ []) (w .nodes-are) (w .terms-are) (w .rules-are) (spelled-stand h) earlier-none)
   where
     ruled : (y : Name) → Here xs y → rule-named xs ws r (y .start) ≡ is-among (rule-names t) y
-    ruled y g = ap (λ (n : ℕ). any-of n 0 (named-so xs ws y)) (let q : r - 0 ≡ length (rules-in t) = omega arith in q) ∙ all-named t no-rule (finish (h .end) ∷ []) rules (spelled-stand h) y g
+    ruled y g = ap (λ (n : ℕ). any-of n 0 (named-so xs ws y)) (let q : r - 0 ≡ length (rules-in t) = omega (arith, w .number) in q) ∙ all-named t no-rule (finish (h .end) ∷ []) (w .rules-are) (spelled-stand h) y g
 
 -- Refusal 6 of what the reader stores of a text that spells a tree within the limits is refusal 6 of the tree.
 pub refused-6 : {xs : List ℕ} {t : Rules} → length xs ≤ nowhere → SpelledBy xs t → Limited t
     → refusal-6 xs (node-words (stored t blank)) (term-words (stored t blank)) (rule-words (stored t blank)) (rules-of (stored t blank)) ≡ or-nowhere (tree-refusal-6 t)
 refused-6 {xs} {t} small h l =
-    sym (names-of xs (node-words (stored t blank)) (term-words (stored t blank)) (rule-words (stored t blank)) (rules-of (stored t blank)) t small h number nodes terms words .is)
-  where
-    many : tree-totals t .rules ≡ length (rules-in t)
-    many = sym (totalled-tree t .in-rules) ∙ rows-many no-rule (rules-in t)
-
-    number : rules-of (stored t blank) ≡ length (rules-in t)
-    number = rules-read t ∙ (let q : min (tree-totals t .rules) 65 ≡ tree-totals t .rules = omega (arith, l .few-rules) in q) ∙ many
-
-    nodes : NodesAt (node-words (stored t blank)) 0 (tree-nodes t)
-    nodes =
-        nodes-from 0 (tree-nodes t)
-        (λ j g. subst (λ (q : ℕ). NodeIs (node-words (stored t blank)) q (getD (tree-nodes t) j no-node)) (let q : j ≡ 0 + j = omega arith in q) (node-read t (l .few-constructs) (l .few-terms) j (omega (arith, totalled-tree t .in-nodes))))
-
-    terms : TermsAt (term-words (stored t blank)) 0 (tree-terms t)
-    terms =
-        terms-from 0 (tree-terms t)
-        (λ j g. subst (λ (q : ℕ). TermIs (term-words (stored t blank)) q (getD (tree-terms t) j no-term)) (let q : j ≡ 0 + j = omega arith in q) (term-read t (l .few-terms) j (omega (arith, totalled-tree t .in-terms))))
-
-    words : RulesIn (rule-words (stored t blank)) no-rule (rules-in t)
-    words =
-        rules-from no-rule (rules-in t) (l .few-constructs)
-        (λ j g. subst (λ (q : ℕ). RuleIs (rule-words (stored t blank)) q (getD (rules-rows no-rule (rules-in t)) j no-rule-row)) (let q : j ≡ 0 + j = omega arith in q) (rule-read t j (omega (arith, many)) (omega (arith, many, l .few-rules))))
+    let w : Rowed t (node-words (stored t blank)) (term-words (stored t blank)) (rule-words (stored t blank)) (rules-of (stored t blank)) = rowed t l
+    in sym (names-of xs (node-words (stored t blank)) (term-words (stored t blank)) (rule-words (stored t blank)) (rules-of (stored t blank)) t small h w .is)

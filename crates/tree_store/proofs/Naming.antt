@@ -11,7 +11,7 @@ use Rattle.text_tokens.specs.Names.{reserved-of}
 use Rattle.text_tokens.specs.declared.Kind.{Kind}
 use Rattle.text_names.specs.Counting.{nowhere, place-if, least-of}
 use Rattle.text_names.specs.Names.{is-reserved, rule-named, bound-between, use-fault, held-between, variable-fault, term-place, list-place, node-place}
-use Rattle.text_store.specs.Words.{is-use, term-tag, term-at}
+use Rattle.text_store.specs.Words.{is-use, term-at}
 use Rattle.tree.specs.Lexemes.{Name, Number, Lexeme, sign}
 use Rattle.tree.specs.Tree.{tests, Tests, Mark, optional, any-number, one-or-more, counted, Part, expression, concatenation, factor, atom, cases, Tree, literal, range, field, binder, rule-use, eod, group, switch, last-case, case-default, case-cases, once, repeated, last-member, and-members, last-branch, or-branches}
 use Rattle.tree.specs.Spelling.{spell-tests, spell-mark, spell}
@@ -25,23 +25,10 @@ use Rattle.tree_store.proofs.Lengths.{length-first, nodes-counted, chai
 use Rattle.tree_store.proofs.Low.{Low, low-as, low-none, low-if, low-both}
 use Rattle.tree_store.proofs.Standing.{Standing, past, after-tests, after-tree}
 use Rattle.tree_store.proofs.Storing.{NodeIs}
+use Rattle.tree_store.proofs.Rowed.{TermsAt, none-at, next-at, terms-left, terms-right}
 use Rattle.tree_store.proofs.Uses.{Here, here, UsesAre, no-more, used, other as skipped, uses-of, set-uses, counts-uses, tests-uses}
 use Rattle.tree_store.proofs.Spots.{LikeAt, like-first, like-rest, like-left, like-right, like-uncased, mark-size, fits, Spot, grouped, sub-spot, branch-spot, member-spot, once-spot, more-spot, case-spot, inner-spot, chain-spot, first-spot, rest-spot, misplaced}
 use Rattle.tree_store.proofs.Binding.{after-bound, mark-quiet, bound-cased, bound-formula, bound-rows, Before, before-node, before-more}
-
--- ---- terms that are these rows
-
-pub data TermsAt (ts : List ℕ) : ℕ → List TermRow → Type 0 where
-  none-at : {k : ℕ} → TermsAt ts k []
-  next-at : {k : ℕ} {r : TermRow} {A : List TermRow} → term-tag ts k ≡ r .tag → term-at ts k ≡ r .place → TermsAt ts (k + 1) A → TermsAt ts k (r ∷ A)
-
-pub terms-left : {ts : List ℕ} {k : ℕ} (A B : List TermRow) → TermsAt ts k (A ++ B) → TermsAt ts k A
-terms-left [] B h = none-at
-terms-left (r ∷ A) B (next-at e f more) = next-at e f (terms-left A B more)
-
-pub terms-right : {ts : List ℕ} {k : ℕ} (A B : List TermRow) → TermsAt ts k (A ++ B) → TermsAt ts (k + length A) B
-terms-right {ts} {k} [] B h = subst (λ (q : ℕ). TermsAt ts q B) (let q : k ≡ k + 0 = omega arith in q) h
-terms-right {ts} {k} (r ∷ A) B (next-at e f more) = subst (λ (q : ℕ). TermsAt ts q B) (let q : k + 1 + length A ≡ k + suc (length A) = omega arith in q) (terms-right A B more)
 
 -- ---- rows whose first is no case's body
 
