@@ -14,3 +14,4 @@ pub mod Spots
 pub mod Binding
 pub mod Naming
 pub mod Names
+pub mod Steps
