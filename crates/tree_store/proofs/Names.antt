@@ -60,10 +60,10 @@ or-turned false true = refl
 or-turned false false = refl
 
 -- whether rule k has the name y
-abbrev named-so : List ℕ → List ℕ → Name → ℕ → Bool
+abbrev pub named-so : List ℕ → List ℕ → Name → ℕ → Bool
 named-so xs ws y k = same-name xs (named-at ws k) (y .start)
 
-named-here : {xs : List ℕ} (ws : List ℕ) (k : ℕ) {x y : Name} → named-at ws k ≡ x .start → Here xs x → Here xs y → named-so xs ws y k ≡ is-same (x .letters) (y .letters)
+pub named-here : {xs : List ℕ} (ws : List ℕ) (k : ℕ) {x y : Name} → named-at ws k ≡ x .start → Here xs x → Here xs y → named-so xs ws y k ≡ is-same (x .letters) (y .letters)
 named-here {xs} ws k {x} {y} e h g = ap (λ (q : ℕ). same-name xs q (y .start)) e ∙ same-here h g
 
 earlier-more : {xs ws : List ℕ} {k : ℕ} {names : List Name} {x : Name} → named-at ws k ≡ x .start → Here xs x → Earlier xs ws k names → Earlier xs ws (k + 1) (x ∷ names)

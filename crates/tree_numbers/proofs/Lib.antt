@@ -1,0 +1,2 @@
+-- Numbers of rules in what is stored of a tree.
+pub mod Rules
