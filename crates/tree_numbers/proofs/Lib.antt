@@ -1,2 +1,3 @@
 -- Numbers of rules in what is stored of a tree.
 pub mod Rules
+pub mod Reaching

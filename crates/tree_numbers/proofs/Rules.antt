@@ -1,6 +1,6 @@
 -- Rules by their numbers: what is stored of each, and which number a name has.
 -- Assumes nothing.
-use Prim.Native.Nat.{ℕ, zero, suc, _+_, _≤_, _<_}
+use Prim.Native.Nat.{ℕ, zero, suc, _+_, _<_}
 use mathlib.Core.Path.{_≡_, refl, sym, ap, subst, _∙_}
 use mathlib.Core.Logic.{⊎-elim}
 use mathlib.Core.Bool.{Bool, true, false, _||_}
@@ -12,7 +12,6 @@ use Rattle.text_header.proofs.Tests.{which}
 use Rattle.text_tokens.specs.Names.{is-same}
 use Rattle.text_tokens.specs.declared.Kind.{Kind}
 use Rattle.text_store.specs.Words.{named-at, first-node, last-node}
-use Rattle.text_names.specs.Names.{same-name}
 use Rattle.text_encoding.specs.Lists.{first-of}
 use Rattle.tree.specs.Lexemes.{Name, Lexeme, sign}
 use Rattle.tree.specs.Tree.{Rule, rule, Rules, last-rule, and-rules}
@@ -21,7 +20,7 @@ use Rattle.tree_meaning.specs.Pieces.{rules-of as rules-in, rule-name, rule-bod
 use Rattle.tree_meaning.specs.Counted.{Totals, with-rule}
 use Rattle.tree_meaning.specs.Names.{is-among}
 use Rattle.tree_meaning.proofs.Passing.{neither-first, neither-second, RulesNamed}
-use Rattle.tree_store.proofs.Rows.{NodeRow, TermRow, term-rows, node-rows, rules-nodes}
+use Rattle.tree_store.proofs.Rows.{term-rows, node-rows, rules-nodes}
 use Rattle.tree_store.proofs.Lengths.{nodes-counted, terms-counted}
 use Rattle.tree_store.proofs.Standing.{Standing, past, after-tree}
 use Rattle.tree_store.proofs.Uses.{Here, here}
@@ -119,11 +118,11 @@ pub record NumberOf (xs ws : List ℕ) (l : List Rule) (k : ℕ) (y : Name) : Ty
   pub found : first-of (length l) k (named-so xs ws y) ≡ k + number
   pub same : rule-name rule-there .letters ≡ y .letters
 
-first-here : (n i : ℕ) (f : ℕ → Bool) → f i ≡ true → first-of (suc n) i f ≡ i
+pub first-here : (n i : ℕ) (f : ℕ → Bool) → f i ≡ true → first-of (suc n) i f ≡ i
 unfolding first-of
 first-here n i f e = rw (e, first-of) refl
 
-first-later : (n i : ℕ) (f : ℕ → Bool) → f i ≡ false → first-of (suc n) i f ≡ first-of n (i + 1) f
+pub first-later : (n i : ℕ) (f : ℕ → Bool) → f i ≡ false → first-of (suc n) i f ≡ first-of n (i + 1) f
 unfolding first-of
 first-later n i f e = rw (e, first-of) refl
 
