@@ -1,6 +1,6 @@
 -- Nodes and pieces of a tree in step: which node is which use, which field and which binder.
 -- Assumes nothing.
-use Prim.Native.Nat.{ℕ, suc, _+_}
+use Prim.Native.Nat.{ℕ, _+_}
 use mathlib.Core.Path.{_≡_, refl}
 use mathlib.Core.Bool.{Bool, true, false, cond, not, _&&_}
 use mathlib.Core.List.{List, [], _∷_, _++_}
@@ -8,7 +8,7 @@ use lib.Dec.{eqb}
 use lib.ListN.{length}
 use Rattle.text_tokens.specs.declared.Kind.{Kind}
 use Rattle.text_tokens.specs.Numbers.{number-value}
-use Rattle.tree.specs.Lexemes.{Name, Number, Lexeme, sign, numeral}
+use Rattle.tree.specs.Lexemes.{Name, Number, Lexeme, sign}
 use Rattle.tree.specs.Tree.{Mark, optional, any-number, one-or-more, counted, Part, Tree, literal, range, field, binder, rule-use, eod, group, switch, last-case, case-default, case-cases, once, repeated, last-member, and-members, last-branch, or-branches}
 use Rattle.tree.specs.Spelling.{spell-mark, spell}
 use Rattle.tree_form.specs.Stored.{how-bound as way-bound}
