@@ -1,0 +1,1 @@
+// What the reader's store holds of a tree: no code, only laws (proofs/).
