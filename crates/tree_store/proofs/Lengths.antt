@@ -9,7 +9,7 @@ use lib.ListN.{length, length-append}
 use Rattle.tree.specs.Lexemes.{Sign, Name}
 use Rattle.tree.specs.Tree.{Primary, number, variable, Operand, plain, opposite, Factors, no-factor, times, Product, product, Summands, no-summand, plus, minus, Calculation, sum, Item, everything, only, between, from, up-to, SetPart, Choices, item, item-but-item, item-but-set, last-choice, or-choices, Counts, exactly, at-least, at-most, span, TestPart, Tests, compare, test-group, one-test, all-of, any-of, last-conjunct, and-conjuncts, last-disjunct, or-disjuncts, Mark, optional, any-number, one-or-more, counted, Part, Tree, literal, range, field, binder, rule-use, eod, group, switch, last-case, case-default, case-cases, once, repeated, last-member, and-members, last-branch, or-branches}
 use Rattle.tree_form.specs.Stored.{start-of-product, tag-of}
-use Rattle.tree_meaning.specs.Pieces.{primary-terms, operand-terms, factor-terms, product-terms, summand-terms, calculation-terms, Component, whole-number, joined-by, in-item, in-set, in-counts, in-tests, terms-of, Piece, use-of-rule, width, formula, binding, mark-pieces, pieces, bound-in}
+use Rattle.tree_meaning.specs.Pieces.{primary-terms, operand-terms, factor-terms, product-terms, summand-terms, calculation-terms, Component, whole-number, joined-by, item-parts, set-parts, counts-parts, tests-parts, terms-of, Piece, use-of-rule, width, formula, binding, mark-pieces, pieces, bound-in}
 use Rattle.tree_meaning.specs.Counted.{constructs, terms}
 use Rattle.tree_meaning.proofs.Lengths.{some-construct}
 use Rattle.tree_store.proofs.Rows.{NodeRow, on-first, TermRow, a-term, primary-rows, operand-rows, factors-rows, product-rows, summands-rows, calculation-rows, item-rows, set-rows, counts-rows, tests-rows, mark-rows, term-rows, node-rows, binders-in}
@@ -140,7 +140,7 @@ first-terms : (a : Calculation) (more : List Component) → length (terms-of (wh
 unfolding terms-of
 first-terms a more = length-append (calculation-terms a) (terms-of more)
 
-item-length : (x : Item) → length (item-rows x) ≡ length (terms-of (in-item x))
+item-length : (x : Item) → length (item-rows x) ≡ length (terms-of (item-parts x))
 unfolding item-rows terms-of
 item-length (everything s) = refl
 item-length (only a) = omega (arith, length-marked (calculation-rows a), calculation-length a, one-terms a)
@@ -153,18 +153,18 @@ joined-terms : (l m : List Component) (s : Sign) → length (terms-of (l ++ join
 unfolding terms-of
 joined-terms l m s = omega (arith, terms-append l (joined-by s ∷ m))
 
-pub set-length : {p : SetPart} {d : ℕ} (x : Choices p d) (j : List TermRow) → length (set-rows x j) ≡ length (terms-of (in-set x)) + length j
-unfolding set-rows in-set
+pub set-length : {p : SetPart} {d : ℕ} (x : Choices p d) (j : List TermRow) → length (set-rows x j) ≡ length (terms-of (set-parts x)) + length j
+unfolding set-rows set-parts
 set-length (item a) j = omega (arith, length-append (item-rows a) j, item-length a)
 set-length (item-but-item a s b) j =
-    omega (arith, length-append (item-rows a) (item-rows b ++ a-term 12 0 (s .start) 0 ∷ j), length-append (item-rows b) (a-term 12 0 (s .start) 0 ∷ j), item-length a, item-length b, joined-terms (in-item a) (in-item b) s)
+    omega (arith, length-append (item-rows a) (item-rows b ++ a-term 12 0 (s .start) 0 ∷ j), length-append (item-rows b) (a-term 12 0 (s .start) 0 ∷ j), item-length a, item-length b, joined-terms (item-parts a) (item-parts b) s)
 set-length (item-but-set depth a s opens b closes) j =
-    omega (arith, length-append (item-rows a) (set-rows b [] ++ a-term 12 0 (s .start) 0 ∷ j), length-append (set-rows b []) (a-term 12 0 (s .start) 0 ∷ j), item-length a, set-length b [], joined-terms (in-item a) (in-set b) s)
+    omega (arith, length-append (item-rows a) (set-rows b [] ++ a-term 12 0 (s .start) 0 ∷ j), length-append (set-rows b []) (a-term 12 0 (s .start) 0 ∷ j), item-length a, set-length b [], joined-terms (item-parts a) (set-parts b) s)
 set-length (last-choice a) j = set-length a j
 set-length (or-choices a s b) j =
-    omega (arith, length-append (set-rows a j) (set-rows b (a-term 11 0 (s .start) 0 ∷ [])), set-length a j, set-length b (a-term 11 0 (s .start) 0 ∷ []), joined-terms (in-set a) (in-set b) s)
+    omega (arith, length-append (set-rows a j) (set-rows b (a-term 11 0 (s .start) 0 ∷ [])), set-length a j, set-length b (a-term 11 0 (s .start) 0 ∷ []), joined-terms (set-parts a) (set-parts b) s)
 
-counts-length : (x : Counts) → length (counts-rows x) ≡ length (terms-of (in-counts x))
+counts-length : (x : Counts) → length (counts-rows x) ≡ length (terms-of (counts-parts x))
 unfolding counts-rows terms-of
 counts-length (exactly n) = omega (arith, calculation-length n, one-terms n)
 counts-length (at-least a s) = omega (arith, one-length a (a-term 9 0 (s .start) 0) [], first-terms a (joined-by s ∷ []))
@@ -175,21 +175,21 @@ compared-terms : (a b : Calculation) (s : Sign) → length (terms-of (whole-numb
 unfolding terms-of
 compared-terms a b s = omega (arith, first-terms a (joined-by s ∷ whole-number b ∷ []), one-terms b)
 
-pub tests-length : {p : TestPart} {d : ℕ} (x : Tests p d) (j : List TermRow) → length (tests-rows x j) ≡ length (terms-of (in-tests x)) + length j
-unfolding tests-rows in-tests
+pub tests-length : {p : TestPart} {d : ℕ} (x : Tests p d) (j : List TermRow) → length (tests-rows x j) ≡ length (terms-of (tests-parts x)) + length j
+unfolding tests-rows tests-parts
 tests-length (compare a c s b) j = omega (arith, both-length a b (a-term (tag-of c) 0 (s .start) 0) j, compared-terms a b s)
 tests-length (test-group depth opens a closes) j = omega (arith, length-append (tests-rows a []) j, tests-length a [])
 tests-length (one-test a) j = tests-length a j
 tests-length (all-of a s b) j =
-    omega (arith, length-append (tests-rows a j) (tests-rows b (a-term 13 0 (s .start) 0 ∷ [])), tests-length a j, tests-length b (a-term 13 0 (s .start) 0 ∷ []), joined-terms (in-tests a) (in-tests b) s)
+    omega (arith, length-append (tests-rows a j) (tests-rows b (a-term 13 0 (s .start) 0 ∷ [])), tests-length a j, tests-length b (a-term 13 0 (s .start) 0 ∷ []), joined-terms (tests-parts a) (tests-parts b) s)
 tests-length (any-of a s b) j =
-    omega (arith, length-append (tests-rows a j) (tests-rows b (a-term 11 0 (s .start) 0 ∷ [])), tests-length a j, tests-length b (a-term 11 0 (s .start) 0 ∷ []), joined-terms (in-tests a) (in-tests b) s)
+    omega (arith, length-append (tests-rows a j) (tests-rows b (a-term 11 0 (s .start) 0 ∷ [])), tests-length a j, tests-length b (a-term 11 0 (s .start) 0 ∷ []), joined-terms (tests-parts a) (tests-parts b) s)
 tests-length (last-conjunct a) j = tests-length a j
 tests-length (and-conjuncts a s b) j =
-    omega (arith, length-append (tests-rows a j) (tests-rows b (a-term 13 0 (s .start) 0 ∷ [])), tests-length a j, tests-length b (a-term 13 0 (s .start) 0 ∷ []), joined-terms (in-tests a) (in-tests b) s)
+    omega (arith, length-append (tests-rows a j) (tests-rows b (a-term 13 0 (s .start) 0 ∷ [])), tests-length a j, tests-length b (a-term 13 0 (s .start) 0 ∷ []), joined-terms (tests-parts a) (tests-parts b) s)
 tests-length (last-disjunct a) j = tests-length a j
 tests-length (or-disjuncts a s b) j =
-    omega (arith, length-append (tests-rows a j) (tests-rows b (a-term 11 0 (s .start) 0 ∷ [])), tests-length a j, tests-length b (a-term 11 0 (s .start) 0 ∷ []), joined-terms (in-tests a) (in-tests b) s)
+    omega (arith, length-append (tests-rows a j) (tests-rows b (a-term 11 0 (s .start) 0 ∷ [])), tests-length a j, tests-length b (a-term 11 0 (s .start) 0 ∷ []), joined-terms (tests-parts a) (tests-parts b) s)
 
 -- ---- of a tree
 

@@ -17,7 +17,7 @@ use Rattle.text_names.specs.Limits.{limit-place, refusal-5}
 use Rattle.tree.specs.Tree.{Rule, Rules}
 use Rattle.tree_form.specs.Stored.{stored}
 use Rattle.tree_meaning.specs.Pieces.{rules-of as rules-in, rule-name}
-use Rattle.tree_meaning.specs.Least.{place-if as listed-if, lesser, least}
+use Rattle.tree_meaning.specs.Places.{place-if as listed-if, lesser, least}
 use Rattle.tree_meaning.specs.Counted.{Totals, no-rule, with-rule, is-past, limit-faults, refusal-5 as tree-refusal-5}
 use Rattle.tree.specs.Lexemes.{finish}
 use Rattle.tree_store.proofs.Rows.{RuleRow, no-rule-row, rule-row, rules-rows, totals, tree-totals}

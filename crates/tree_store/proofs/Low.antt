@@ -8,7 +8,7 @@ use mathlib.Core.Option.{Option, none, some}
 use native.Mathlib.Omega.{arith}
 use Rattle.tree_store.proofs.Holding.{compared}
 use Rattle.text_names.specs.Counting.{nowhere, place-if, any-of, any-between}
-use Rattle.tree_meaning.specs.Least.{place-if as listed-if, lesser, least}
+use Rattle.tree_meaning.specs.Places.{place-if as listed-if, lesser, least}
 
 -- a place as the store's refusals have it
 abbrev pub or-nowhere : Option ℕ → ℕ

@@ -18,7 +18,7 @@ use Rattle.tree.specs.Spelling.{spell, spell-rules}
 use Rattle.tree_form.specs.Stored.{stored}
 use Rattle.tree_meaning.specs.Pieces.{pieces, bound-in, rules-of as rules-in, rule-name}
 use Rattle.tree_meaning.specs.Counted.{constructs, Totals, no-rule, with-rule}
-use Rattle.tree_meaning.specs.Least.{place-if as listed-if}
+use Rattle.tree_meaning.specs.Places.{place-if as listed-if}
 use Rattle.tree_meaning.specs.Names.{is-among, rule-fault as wrong-rule, faults-after, name-faults, rule-names, refusal-6 as tree-refusal-6}
 use Rattle.tree_store.proofs.Rows.{NodeRow, TermRow, term-rows, node-rows, rules-nodes, rules-terms}
 use Rattle.tree_store.proofs.Lengths.{nodes-counted, terms-counted}

@@ -16,9 +16,9 @@ use Rattle.tree.specs.Lexemes.{Name, Number, Lexeme, sign}
 use Rattle.tree.specs.Tree.{tests, Tests, Mark, optional, any-number, one-or-more, counted, Part, expression, concatenation, factor, atom, cases, Tree, literal, range, field, binder, rule-use, eod, group, switch, last-case, case-default, case-cases, once, repeated, last-member, and-members, last-branch, or-branches}
 use Rattle.tree.specs.Spelling.{spell-tests, spell-mark, spell}
 use Rattle.tree_form.specs.Stored.{start-of, how-bound as way-bound}
-use Rattle.tree_meaning.specs.Pieces.{Component, in-tests, Piece, use-of-rule, width, formula, binding, mark-pieces, pieces}
+use Rattle.tree_meaning.specs.Pieces.{Component, tests-parts, Piece, use-of-rule, width, formula, binding, mark-pieces, pieces}
 use Rattle.tree_meaning.specs.Counted.{constructs}
-use Rattle.tree_meaning.specs.Least.{place-if as listed-if}
+use Rattle.tree_meaning.specs.Places.{place-if as listed-if}
 use Rattle.tree_meaning.specs.Names.{is-reserved as is-kept, is-among, use-fault as wrong-use, binder-fault as wrong-binder, variable-fault as wrong-variable, variable-faults, faults-after}
 use Rattle.tree_store.proofs.Rows.{NodeRow, a-node, on-first, TermRow, set-rows, counts-rows, tests-rows, mark-rows, term-rows, mark-row, node-rows}
 use Rattle.tree_store.proofs.Lengths.{length-first, nodes-counted, chain-long}
@@ -323,7 +323,7 @@ module _ (xs ns ts rs : List ℕ) (r a e : ℕ) where
         → ((j : ℕ) (later : List Name) → LikeAt ns j (node-rows false y (t + length (tests-rows c [] ++ term-rows x))) → TermsAt ts (t + length (tests-rows c [] ++ term-rows x)) (term-rows y)
         → Spot ns a p false false d j (length (node-rows false y (t + length (tests-rows c [] ++ term-rows x)))) → Before xs ns a j later
         → Right j (node-rows false y (t + length (tests-rows c [] ++ term-rows x))) later (pieces false y))
-        → Right i (on-first t (t + length (tests-rows c [])) (node-rows false x (t + length (tests-rows c []))) ++ node-rows false y (t + length (tests-rows c [] ++ term-rows x))) names (formula (in-tests c) ∷ (pieces false x ++ pieces false y))
+        → Right i (on-first t (t + length (tests-rows c [])) (node-rows false x (t + length (tests-rows c []))) ++ node-rows false y (t + length (tests-rows c [] ++ term-rows x))) names (formula (tests-parts c) ∷ (pieces false x ++ pieces false y))
     cases-right c x y t {i} {names} v w h k s u z b f g =
         let A : List TermRow = tests-rows c []
         in let m : ℕ = t + length (tests-rows c [])
@@ -336,9 +336,9 @@ module _ (xs ns ts rs : List ℕ) (r a e : ℕ) where
         in two-right
         (case-right A (plain false x m) b (terms-left A (term-rows x) T) (tests-uses c v no-more s)
         (f o (terms-right A (term-rows x) T) (sub-spot (let q : i ≤ i = omega arith in q) (let q : i + length (node-rows false x m) ≤ i + length (M ++ L) = omega arith in q) z)))
-        (g (i + length M) (after-bound (formula (in-tests c) ∷ pieces false x) names) (like-right M L h) (terms-right (A ++ term-rows x) (term-rows y) k)
+        (g (i + length M) (after-bound (formula (tests-parts c) ∷ pieces false x) names) (like-right M L h) (terms-right (A ++ term-rows x) (term-rows y) k)
         (sub-spot (let q : i ≤ i + length M = omega arith in q) (let q : i + length M + length L ≤ i + length (M ++ L) = omega arith in q) z)
-        (before-more M (formula (in-tests c) ∷ pieces false x) (bound-cased t m (bound-formula (in-tests c) (bound-rows false false x m w o u))) b))
+        (before-more M (formula (tests-parts c) ∷ pieces false x) (bound-cased t m (bound-formula (tests-parts c) (bound-rows false false x m w o u))) b))
 
     -- ---- a tree
 

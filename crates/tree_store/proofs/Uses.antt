@@ -18,7 +18,7 @@ use Rattle.tree.specs.Tree.{Primary, number, variable, Operand, plain, opposite
 use Rattle.tree.specs.Spelling.{comparison-sign, spell-primary, spell-operand, spell-factors, spell-product, spell-summands, spell-calculation, spell-item, spell-set, spell-counts, spell-tests}
 use Rattle.text_tokens.specs.declared.Kind.{Kind}
 use Rattle.tree_form.specs.Stored.{start-of-product, tag-of}
-use Rattle.tree_meaning.specs.Pieces.{Term, a-number, a-use, a-sign, primary-terms, operand-terms, factor-terms, product-terms, summand-terms, calculation-terms, Component, whole-number, joined-by, in-item, in-set, in-counts, in-tests, terms-of, uses-in}
+use Rattle.tree_meaning.specs.Pieces.{Term, a-number, a-use, a-sign, primary-terms, operand-terms, factor-terms, product-terms, summand-terms, calculation-terms, Component, whole-number, joined-by, item-parts, set-parts, counts-parts, tests-parts, terms-of, uses-in}
 use Rattle.tree_store.proofs.Rows.{TermRow, a-term, last-marked, primary-rows, operand-rows, factors-rows, product-rows, summands-rows, calculation-rows, item-rows, set-rows, counts-rows, tests-rows}
 use Rattle.tree_store.proofs.Standing.{Standing, past, shown, within, after-operand, after-product, after-calculation, after-item, after-set, after-tests}
 
@@ -142,7 +142,7 @@ unfolding terms-of uses-in
 two-uses a b k s r w q j h =
     counted-first a (sign k s ∷ spell-calculation b w) (joined-by s ∷ whole-number b ∷ []) h (counted-first b w [] (past (after-calculation a h)) (other q j))
 
-item-uses : {xs : List ℕ} (x : Item) (w : List Lexeme) {p : ℕ} → Standing xs p (spell-item x w) → UsesAre xs (item-rows x) (uses-of (in-item x))
+item-uses : {xs : List ℕ} (x : Item) (w : List Lexeme) {p : ℕ} → Standing xs p (spell-item x w) → UsesAre xs (item-rows x) (uses-of (item-parts x))
 unfolding item-rows spell-item terms-of uses-in
 item-uses (everything s) w h = other refl no-more
 item-uses {xs} (only a) w h =
@@ -151,19 +151,19 @@ item-uses (between a s b) w h = two-uses a b Kind.Tilde s (a-term 8 0 (s .start)
 item-uses (from a s) w h = counted-first a (sign Kind.Tilde s ∷ w) (joined-by s ∷ []) h (other refl no-more)
 item-uses (up-to s b) w h = counted-first b w [] (past h) (other refl no-more)
 
-pub set-uses : {xs : List ℕ} {k : SetPart} {d : ℕ} (x : Choices k d) (w : List Lexeme) {p : ℕ} {J : List TermRow} → UsesAre xs J [] → Standing xs p (spell-set x w) → UsesAre xs (set-rows x J) (uses-of (in-set x))
-unfolding set-rows spell-set in-set terms-of uses-in
+pub set-uses : {xs : List ℕ} {k : SetPart} {d : ℕ} (x : Choices k d) (w : List Lexeme) {p : ℕ} {J : List TermRow} → UsesAre xs J [] → Standing xs p (spell-set x w) → UsesAre xs (set-rows x J) (uses-of (set-parts x))
+unfolding set-rows spell-set set-parts terms-of uses-in
 set-uses (item a) w j h = quiet (item-uses a w h) j
 set-uses (item-but-item a s b) w j h =
-    parted (in-item a) (joined-by s ∷ in-item b) (item-uses a (sign Kind.Bang s ∷ spell-item b w) h) (quiet (item-uses b w (past (after-item a h))) (other refl j))
+    parted (item-parts a) (joined-by s ∷ item-parts b) (item-uses a (sign Kind.Bang s ∷ spell-item b w) h) (quiet (item-uses b w (past (after-item a h))) (other refl j))
 set-uses (item-but-set depth a s opens b closes) w j h =
-    parted (in-item a) (joined-by s ∷ in-set b) (item-uses a (sign Kind.Bang s ∷ sign Kind.OpenParen opens ∷ spell-set b (sign Kind.CloseParen closes ∷ w)) h)
+    parted (item-parts a) (joined-by s ∷ set-parts b) (item-uses a (sign Kind.Bang s ∷ sign Kind.OpenParen opens ∷ spell-set b (sign Kind.CloseParen closes ∷ w)) h)
     (quiet (set-uses b (sign Kind.CloseParen closes ∷ w) no-more (past (past (after-item a h)))) (other refl j))
 set-uses (last-choice a) w j h = set-uses a w j h
 set-uses (or-choices a s b) w j h =
-    parted (in-set a) (joined-by s ∷ in-set b) (set-uses a (sign Kind.Bar s ∷ spell-set b w) j h) (set-uses b w (other refl no-more) (past (after-set a h)))
+    parted (set-parts a) (joined-by s ∷ set-parts b) (set-uses a (sign Kind.Bar s ∷ spell-set b w) j h) (set-uses b w (other refl no-more) (past (after-set a h)))
 
-pub counts-uses : {xs : List ℕ} (x : Counts) (w : List Lexeme) {p : ℕ} → Standing xs p (spell-counts x w) → UsesAre xs (counts-rows x) (uses-of (in-counts x))
+pub counts-uses : {xs : List ℕ} (x : Counts) (w : List Lexeme) {p : ℕ} → Standing xs p (spell-counts x w) → UsesAre xs (counts-rows x) (uses-of (counts-parts x))
 unfolding counts-rows spell-counts terms-of uses-in
 counts-uses {xs} (exactly n) w h = subst (λ (q : List Term). UsesAre xs (calculation-rows n) (uses-in q)) (sym (append-nil (calculation-terms n))) (calculation-uses n w h)
 counts-uses (at-least a s) w h = counted-first a (sign Kind.Tilde s ∷ w) (joined-by s ∷ []) h (other refl no-more)
@@ -178,18 +178,18 @@ comparison-quiet at-most-as = refl
 comparison-quiet greater = refl
 comparison-quiet at-least-as = refl
 
-pub tests-uses : {xs : List ℕ} {k : TestPart} {d : ℕ} (x : Tests k d) (w : List Lexeme) {p : ℕ} {J : List TermRow} → UsesAre xs J [] → Standing xs p (spell-tests x w) → UsesAre xs (tests-rows x J) (uses-of (in-tests x))
-unfolding tests-rows spell-tests in-tests terms-of uses-in
+pub tests-uses : {xs : List ℕ} {k : TestPart} {d : ℕ} (x : Tests k d) (w : List Lexeme) {p : ℕ} {J : List TermRow} → UsesAre xs J [] → Standing xs p (spell-tests x w) → UsesAre xs (tests-rows x J) (uses-of (tests-parts x))
+unfolding tests-rows spell-tests tests-parts terms-of uses-in
 tests-uses (compare a c s b) w j h = two-uses a b (comparison-sign c) s (a-term (tag-of c) 0 (s .start) 0) w (comparison-quiet c) j h
 tests-uses (test-group depth opens a closes) w j h = quiet (tests-uses a (sign Kind.CloseParen closes ∷ w) no-more (past h)) j
 tests-uses (one-test a) w j h = tests-uses a w j h
 tests-uses (all-of a s b) w j h =
-    parted (in-tests a) (joined-by s ∷ in-tests b) (tests-uses a (sign Kind.Ampersand s ∷ spell-tests b w) j h) (tests-uses b w (other refl no-more) (past (after-tests a h)))
+    parted (tests-parts a) (joined-by s ∷ tests-parts b) (tests-uses a (sign Kind.Ampersand s ∷ spell-tests b w) j h) (tests-uses b w (other refl no-more) (past (after-tests a h)))
 tests-uses (any-of a s b) w j h =
-    parted (in-tests a) (joined-by s ∷ in-tests b) (tests-uses a (sign Kind.Bar s ∷ spell-tests b w) j h) (tests-uses b w (other refl no-more) (past (after-tests a h)))
+    parted (tests-parts a) (joined-by s ∷ tests-parts b) (tests-uses a (sign Kind.Bar s ∷ spell-tests b w) j h) (tests-uses b w (other refl no-more) (past (after-tests a h)))
 tests-uses (last-conjunct a) w j h = tests-uses a w j h
 tests-uses (and-conjuncts a s b) w j h =
-    parted (in-tests a) (joined-by s ∷ in-tests b) (tests-uses a (sign Kind.Ampersand s ∷ spell-tests b w) j h) (tests-uses b w (other refl no-more) (past (after-tests a h)))
+    parted (tests-parts a) (joined-by s ∷ tests-parts b) (tests-uses a (sign Kind.Ampersand s ∷ spell-tests b w) j h) (tests-uses b w (other refl no-more) (past (after-tests a h)))
 tests-uses (last-disjunct a) w j h = tests-uses a w j h
 tests-uses (or-disjuncts a s b) w j h =
-    parted (in-tests a) (joined-by s ∷ in-tests b) (tests-uses a (sign Kind.Bar s ∷ spell-tests b w) j h) (tests-uses b w (other refl no-more) (past (after-tests a h)))
+    parted (tests-parts a) (joined-by s ∷ tests-parts b) (tests-uses a (sign Kind.Bar s ∷ spell-tests b w) j h) (tests-uses b w (other refl no-more) (past (after-tests a h)))
