@@ -7,6 +7,7 @@ use mathlib.Core.List.{List, [], _∷_, _++_}
 use mathlib.Core.Option.{Option}
 use lib.Dec.{ltb}
 use lib.ListN.{length}
+use Rattle.basis.specs.Limits.{max-rules, max-constructs, max-variables, max-terms}
 use Rattle.tree.specs.Tree.{Part, Tree, literal, range, field, binder, rule-use, eod, group, switch, last-case, case-default, case-cases, once, repeated, last-member, and-members, last-branch, or-branches, Rule, Rules}
 use Rattle.tree_meaning.specs.Pieces.{terms-of, Piece, use-of-rule, width, formula, binding, rules-of, rule-name, rule-body, rule-pieces, variables-of}
 use Rattle.tree_meaning.specs.Places.{place-if, least}
@@ -68,7 +69,7 @@ with-rule n r =
 
 -- one is passed
 abbrev pub is-past : Totals → Bool
-is-past n = ltb 64 (n .rules) || (ltb 256 (n .all-constructs) || (ltb 64 (n .variables) || ltb 1024 (n .all-terms)))
+is-past n = ltb max-rules (n .rules) || (ltb max-constructs (n .all-constructs) || (ltb max-variables (n .variables) || ltb max-terms (n .all-terms)))
 
 -- the rules at whose end one is passed, after rules of these totals
 unfoldable pub limit-faults : Totals → List Rule → List ℕ

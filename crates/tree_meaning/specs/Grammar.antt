@@ -7,6 +7,7 @@ use mathlib.Core.Option.{Option, none, some}
 use lib.Dec.{leb, eqb}
 use lib.IntN.{ℤ, pos}
 use lib.ListN.{length, getD, set, replicate}
+use Rattle.basis.specs.Limits.{max-constructs, max-variables}
 use Rattle.basis.specs.Bits.{value as number-of, frameBits, same}
 use Rattle.basis.specs.Counts.{Counts as Passes, zero-or-one, zero-or-more, one-or-more as one-to-more}
 use Rattle.theory.specs.Grammar.{Node, alternative, concatenation as sequence, repetition, switch as choice-by, use-of, field as bits-of, eod as frame-end, Grammar}
@@ -181,13 +182,13 @@ rules-constructs all i b (r ∷ more) =
 abbrev pub tree-constructs : Rules → List Construct
 tree-constructs t = rules-constructs (rules-of t) 0 0 (rules-of t)
 
--- beyond the last nothing derives
+-- beyond the last nothing derives (but at the number of the opening use, which within the limits is none of theirs)
 abbrev pub construct-at : Rules → ℕ → Construct
 construct-at t i = getD (tree-constructs t) i (plain-at 0 (alternative []))
 
--- the opening use of the start rule has number 256
+-- the opening use of the start rule has the first number that no construct has
 abbrev pub opening : ℕ
-opening = 256
+opening = max-constructs
 
 -- "The first is the start rule": its body is number 0
 unfoldable pub tree-grammar : Rules → Grammar Context Values
@@ -196,5 +197,5 @@ tree-grammar t =
       node = λ i. cond (eqb i opening) (use-node 0) (construct-at t i .node);
       start = opening;
       context = first-context;
-      values = replicate 64 (pos 0);
+      values = replicate max-variables (pos 0);
     }

@@ -1,5 +1,5 @@
 -- Document 01's table "Numbers of refusal", rows 5 to 11, each a sentence about a tree: when it is given, and its place, which counts from where the rules
--- begin. Each is said whatever the others do.
+-- begin. Rows are tried in order: 7 is meant of a tree that passes 5 and 6, 8 to 11 of one that passes 5 to 7 (an unknown name has no meaning).
 -- Assumes nothing.
 use Prim.Native.Nat.{ℕ, _≤_, _<_}
 use mathlib.Core.Path.{_≡_}

@@ -6,6 +6,7 @@ use mathlib.Core.Bool.{Bool, cond, not, _&&_}
 use mathlib.Core.List.{List, [], _∷_, _++_}
 use mathlib.Core.Option.{Option}
 use lib.Dec.{leb, ltb}
+use Rattle.basis.specs.Limits.{max-width}
 use Rattle.text_tokens.specs.Names.{is-same}
 use Rattle.tree.specs.Lexemes.{Number}
 use Rattle.tree.specs.Tree.{Primary, number, variable, Operand, plain, opposite, Factors, no-factor, times, Product, product, Summands, no-summand, plus, minus, Calculation, sum, Rule, Rules}
@@ -62,7 +63,7 @@ module _ (widest : List ℕ → ℕ) where
 
 -- "width a number from 1 to 32"
 abbrev pub wrong-width : Number → Bool
-wrong-width n = not (leb 1 (n .value) && leb (n .value) 32)
+wrong-width n = not (leb 1 (n .value) && leb (n .value) max-width)
 
 -- "Numbers: … to 4,294,967,295"
 abbrev pub wrong-number : Number → Bool
