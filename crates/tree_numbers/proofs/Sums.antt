@@ -1,7 +1,7 @@
 -- How many terms the lists of all nodes have together, and how many nodes bind: as many as the tree has terms and binders.
 -- Assumes nothing.
-use Prim.Native.Nat.{ℕ, zero, suc, _+_, _-_, _≤_}
-use mathlib.Core.Path.{_≡_, refl, sym, ap, ap₂, _∙_}
+use Prim.Native.Nat.{ℕ, suc, _+_, _-_}
+use mathlib.Core.Path.{_≡_, refl, ap, ap₂, _∙_}
 use mathlib.Core.Bool.{Bool, true, false, cond, not, _&&_}
 use mathlib.Core.List.{List, [], _∷_, _++_}
 use native.Mathlib.Omega.{arith}
@@ -14,8 +14,7 @@ use Rattle.tree.specs.Tree.{Mark, optional, any-number, one-or-more, counted, P
 use Rattle.tree_form.specs.Stored.{start-of, how-bound as way-bound}
 use Rattle.tree_meaning.specs.Pieces.{rules-of as rules-in, rule-body}
 use Rattle.tree_meaning.specs.Counted.{constructs}
-use Rattle.tree_store.proofs.Rows.{NodeRow, a-node, on-first, set-rows, counts-rows, tests-rows, mark-rows, term-rows, mark-row, node-rows, binders-in, rules-nodes, rules-terms, rules-binders, tree-nodes, tree-terms, tree-binders}
-use Rattle.tree_store.proofs.Storing.{NodeIs}
+use Rattle.tree_store.proofs.Rows.{NodeRow, a-node, on-first, tests-rows, mark-rows, term-rows, mark-row, node-rows, binders-in, rules-nodes, rules-terms, rules-binders, tree-nodes, tree-terms, tree-binders}
 use Rattle.tree_store.proofs.Naming.{Plain, plain}
 use Rattle.tree_store.proofs.Rowed.{NodesAt, no-nodes, node-then, Rowed}
 use Rattle.tree_store.proofs.Steps.{row-binds}
