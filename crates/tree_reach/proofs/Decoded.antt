@@ -1,14 +1,12 @@
 -- A construct of the table is a use exactly where its node is one.
 -- Assumes nothing.
-use Prim.Native.Nat.{ℕ, suc, _+_, _≤_, _<_}
-use mathlib.Core.Path.{_≡_, refl, sym, ap, subst, _∙_}
-use mathlib.Core.Logic.{⊎-elim}
+use Prim.Native.Nat.{ℕ, _<_}
+use mathlib.Core.Path.{_≡_, refl, subst}
 use mathlib.Core.Bool.{Bool, true, false}
-use mathlib.Core.List.{List, [], _∷_}
-use native.Mathlib.Omega.{arith}
+use mathlib.Core.List.{List}
 use borrow.Author.Tests.{lt-ltb, eqb-true}
 use lib.Dec.{leb, ltb, eqb}
-use lib.ListN.{getD}
+use Rattle.table_layout.specs.Places.{construct-word}
 use Rattle.table_layout.specs.Constructs.{pick, both, branches, listed, constructOf, constructAt}
 use Rattle.table_layout.specs.declared.Construct.{Construct}
 
@@ -49,3 +47,23 @@ use-of i kind size a b c d =
   where
     P : Construct → Type 0
     P x = UseOf kind a x
+
+-- ---- in a table
+
+pub use-back : (ws : List ℕ) (i q : ℕ) → constructAt ws i ≡ Construct.Use q → (construct-word ws i 0 ≡ 5) × (construct-word ws i 2 ≡ q)
+unfolding constructAt
+use-back ws i q e = subst (UseOf (construct-word ws i 0) (construct-word ws i 2)) e said
+  where
+    said : UseOf (construct-word ws i 0) (construct-word ws i 2) (constructAt ws i)
+    said =
+        picked-by (UseOf (construct-word ws i 0) (construct-word ws i 2)) (ltb i 256)
+        (λ z. use-of i (construct-word ws i 0) (construct-word ws i 1) (construct-word ws i 2) (construct-word ws i 3) (construct-word ws i 4) (construct-word ws i 5))
+        (λ z. tt)
+
+use-here : (i q b c d : ℕ) → q < 64 → constructOf i 5 1 q b c d ≡ Construct.Use q
+unfolding constructOf
+use-here i q b c d h = let e : ltb q 64 ≡ true = lt-ltb q 64 h in rw e
+
+pub use-forth : (ws : List ℕ) (i q : ℕ) → i < 256 → construct-word ws i 0 ≡ 5 → construct-word ws i 1 ≡ 1 → construct-word ws i 2 ≡ q → q < 64 → constructAt ws i ≡ Construct.Use q
+unfolding constructAt
+use-forth ws i q h e f g k = let z : ltb i 256 ≡ true = lt-ltb i 256 h in rw (z, e, f, g) (use-here i q (construct-word ws i 3) (construct-word ws i 4) (construct-word ws i 5) k)
