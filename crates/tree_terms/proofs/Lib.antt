@@ -1,0 +1,2 @@
+-- The lists of terms of a tree.
+pub mod Folding
