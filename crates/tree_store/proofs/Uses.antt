@@ -45,7 +45,7 @@ joined (other t a) b = other t (joined a b)
 quiet : {xs : List ℕ} {A B : List TermRow} {us : List Name} → UsesAre xs A us → UsesAre xs B [] → UsesAre xs (A ++ B) us
 quiet {xs} {A} {B} {us} a b = subst (λ (l : List Name). UsesAre xs (A ++ B) l) (append-nil us) (joined a b)
 
-use-marked : (tag : ℕ) → is-use (marked-tag tag) ≡ is-use tag
+pub use-marked : (tag : ℕ) → is-use (marked-tag tag) ≡ is-use tag
 use-marked tag =
     ⊎-elim
     (λ (z : ltb tag 32 ≡ true). rw z (small (ltb-true tag 32 z)))

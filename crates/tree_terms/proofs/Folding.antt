@@ -5,12 +5,13 @@ use mathlib.Core.Path.{_≡_, refl, sym, ap, ap₂, subst, _∙_}
 use mathlib.Core.Bool.{Bool, true, false, cond}
 use mathlib.Core.List.{List, [], _∷_, _++_, map, append-nil, append-assoc}
 use native.Mathlib.Omega.{arith}
-use borrow.Author.Tests.{lt-ltb, le-ltb}
+use borrow.Author.Tests.{ltb-true, lt-ltb, le-ltb}
 use lib.Dec.{ltb, leb}
 use Rattle.text_tokens.specs.Numbers.{capped}
 use Rattle.text_store.specs.Store.{marked-tag}
 use Rattle.text_store.specs.Words.{is-use}
-use Rattle.term_words.specs.Words.{operationOf, termOf}
+use Rattle.term_words.specs.Numbers.{pick}
+use Rattle.term_words.specs.Words.{operationOf, signOf, termOf}
 use Rattle.term_words.specs.declared.Operation.{Operation}
 use Rattle.term_words.specs.declared.Comparison.{Comparison}
 use Rattle.term_words.specs.declared.Term.{Term}
@@ -18,6 +19,7 @@ use Rattle.term_trees.specs.Trees.{Calculation as Held, literal, use-of, plus a
 use Rattle.term_trees.specs.Postfix.{lastSign, before, calculationTerms, setTerms, conditionTerms, repeatTerms}
 use Rattle.tree.specs.Tree.{Primary, number, variable, Operand, plain, opposite, Factors, no-factor, times, Product, product, Summands, no-summand, plus, minus, Calculation, sum, Item, everything, only, between, from, up-to, SetPart, Choices, item, item-but-item, item-but-set, last-choice, or-choices, Counts, exactly, at-least, at-most, span, Comparison as Sign-of, equal, unequal, less, at-most-as, greater, at-least-as, TestPart, Tests, compare, test-group, one-test, all-of, any-of, last-conjunct, and-conjuncts, last-disjunct, or-disjuncts}
 use Rattle.tree_form.specs.Stored.{start-of-product, tag-of}
+use Rattle.tree_store.proofs.Uses.{use-marked}
 use Rattle.tree_store.proofs.Rows.{TermRow, a-term, marked, last-marked, primary-rows, operand-rows, factors-rows, product-rows, summands-rows, calculation-rows, item-rows, set-rows, counts-rows, tests-rows}
 
 -- what a row says
@@ -104,3 +106,131 @@ calculation-terms (sum x more) =
     rows-append (product-rows (start-of-product x) x) (summands-rows (start-of-product x) more)
     ∙ ap (λ (l : List Term). l ++ row-terms (summands-rows (start-of-product x) more)) (product-terms (start-of-product x) x)
     ∙ sym (summands-terms (start-of-product x) (held-product x) more)
+
+-- ---- the last term of an item
+
+-- parts of a calculation
+data Parts : List TermRow → Type 0 where
+  no-parts : Parts []
+  next-part : {r : TermRow} {A : List TermRow} → ltb (r .tag) 7 ≡ true → Parts A → Parts (r ∷ A)
+
+parts-both : {A B : List TermRow} → Parts A → Parts B → Parts (A ++ B)
+parts-both no-parts b = b
+parts-both (next-part e a) b = next-part e (parts-both a b)
+
+primary-parts : (o : ℕ) (x : Primary) → Parts (primary-rows o x)
+unfolding primary-rows
+primary-parts o (number n) = next-part refl no-parts
+primary-parts o (variable x) = next-part refl no-parts
+
+operand-parts : (o : ℕ) (x : Operand) → Parts (operand-rows o x)
+unfolding operand-rows
+operand-parts o (plain x) = primary-parts o x
+operand-parts o (opposite s x) = parts-both (primary-parts o x) (next-part refl no-parts)
+
+factors-parts : (o : ℕ) (x : Factors) → Parts (factors-rows o x)
+unfolding factors-rows
+factors-parts o no-factor = no-parts
+factors-parts o (times s x more) = parts-both (operand-parts o x) (next-part refl (factors-parts o more))
+
+product-parts : (o : ℕ) (x : Product) → Parts (product-rows o x)
+unfolding product-rows
+product-parts o (product x more) = parts-both (operand-parts o x) (factors-parts o more)
+
+summands-parts : (o : ℕ) (x : Summands) → Parts (summands-rows o x)
+unfolding summands-rows
+summands-parts o no-summand = no-parts
+summands-parts o (plus s x more) = parts-both (product-parts o x) (next-part refl (summands-parts o more))
+summands-parts o (minus s x more) = parts-both (product-parts o x) (next-part refl (summands-parts o more))
+
+calculation-parts : (x : Calculation) → Parts (calculation-rows x)
+unfolding calculation-rows
+calculation-parts (sum x more) = parts-both (product-parts (start-of-product x) x) (summands-parts (start-of-product x) more)
+
+-- a part that ends an item
+abbrev single-of : Term → Term
+single-of (Term.Part o) = Term.Single o
+single-of (Term.Single o) = Term.Single o
+single-of Term.All = Term.All
+single-of Term.Range = Term.Range
+single-of Term.From = Term.From
+single-of Term.UpTo = Term.UpTo
+single-of Term.Or = Term.Or
+single-of Term.Except = Term.Except
+single-of Term.And = Term.And
+single-of (Term.Compare k) = Term.Compare k
+single-of Term.Bad = Term.Bad
+
+unfoldable last-single : List Term → List Term
+last-single [] = []
+last-single (t ∷ []) = single-of t ∷ []
+last-single (t ∷ u ∷ l) = t ∷ last-single (u ∷ l)
+
+single-end : (l : List Term) (o : Operation) → last-single (l ++ (Term.Part o ∷ [])) ≡ l ++ (Term.Single o ∷ [])
+unfolding last-single
+single-end [] o = refl
+single-end (t ∷ []) o = refl
+single-end (t ∷ u ∷ l) o = ap {B = List Term} (λ q. t ∷ q) (single-end (u ∷ l) o)
+
+single-term : (tag low : ℕ) → termOf (tag + 32) low 0 ≡ Term.Single (operationOf tag low 0)
+unfolding termOf
+single-term tag low =
+    let p : ltb (tag + 32) 7 ≡ false = le-ltb (tag + 32) 7 (omega arith)
+    in let q : ltb (tag + 32) 32 ≡ false = le-ltb (tag + 32) 32 (omega arith)
+    in let s : tag + 32 - 32 ≡ tag = omega arith
+    in rw (p, q, s) refl
+
+part-term : (tag low : ℕ) → ltb tag 7 ≡ true → single-of (termOf tag low 0) ≡ Term.Single (operationOf tag low 0)
+unfolding termOf
+part-term tag low e = ap single-of (ap (λ (b : Bool). pick b (Term.Part (operationOf tag low 0)) (pick (ltb tag 32) (signOf tag) (Term.Single (operationOf (tag - 32) low 0)))) e)
+
+marked-term : (r : TermRow) → ltb (r .tag) 7 ≡ true → row-term (marked r) ≡ single-of (row-term r)
+marked-term r e =
+    let h : r .tag < 7 = ltb-true (r .tag) 7 e
+    in let a : marked-tag (r .tag) ≡ r .tag + 32 = ap (λ (b : Bool). cond b (r .tag + 32) (r .tag)) (lt-ltb (r .tag) 32 (omega arith))
+    in ap (λ (b : Bool). termOf (marked-tag (r .tag)) (cond b (r .place) (r .value)) 0) (use-marked (r .tag))
+    ∙ ap (λ (k : ℕ). termOf k (cond (is-use (r .tag)) (r .place) (r .value)) 0) a
+    ∙ single-term (r .tag) (cond (is-use (r .tag)) (r .place) (r .value))
+    ∙ sym (part-term (r .tag) (cond (is-use (r .tag)) (r .place) (r .value)) e)
+
+marked-terms : (A : List TermRow) → Parts A → row-terms (last-marked A) ≡ last-single (row-terms A)
+unfolding last-marked last-single
+marked-terms [] no-parts = refl
+marked-terms (r ∷ []) (next-part e a) = ap {B = List Term} (λ t. t ∷ []) (marked-term r e)
+marked-terms (r ∷ q ∷ A) (next-part e a) = ap {B = List Term} (λ l. row-term r ∷ l) (marked-terms (q ∷ A) a)
+
+-- ---- sets
+
+abbrev pub held-item : Item → HeldSet
+held-item (everything s) = whole-line
+held-item (only a) = single (held-calculation a)
+held-item (between a s b) = within (held-calculation a) (held-calculation b)
+held-item (from a s) = onward (held-calculation a)
+held-item (up-to s b) = upTo (held-calculation b)
+
+-- alternatives from the left: `acc` joins the first one to those before
+unfoldable pub held-set : {p : SetPart} {d : ℕ} → Choices p d → (HeldSet → HeldSet) → HeldSet
+held-set (item a) acc = acc (held-item a)
+held-set (item-but-item a s b) acc = acc (without (held-item a) (held-item b))
+held-set (item-but-set depth a s opens b closes) acc = acc (without (held-item a) (held-set b (λ y. y)))
+held-set (last-choice a) acc = held-set a acc
+held-set (or-choices a s b) acc = held-set b (λ y. either (held-set a acc) y)
+
+-- one or two calculations and a sign
+one-terms : (a : Calculation) (r : TermRow) → row-terms (calculation-rows a ++ r ∷ []) ≡ calculationTerms (held-calculation a) ++ (row-term r ∷ [])
+one-terms a r = rows-append (calculation-rows a) (r ∷ []) ∙ ap (λ (l : List Term). l ++ (row-term r ∷ [])) (calculation-terms a)
+
+two-terms : (a b : Calculation) (r : TermRow) (j : List TermRow) → row-terms (calculation-rows a ++ (calculation-rows b ++ r ∷ j)) ≡ ((calculationTerms (held-calculation a) ++ calculationTerms (held-calculation b)) ++ (row-term r ∷ [])) ++ row-terms j
+two-terms a b r j =
+    rows-append (calculation-rows a) (calculation-rows b ++ r ∷ j)
+    ∙ ap₂ (λ (l m : List Term). l ++ m) (calculation-terms a) (rows-append (calculation-rows b) (r ∷ j) ∙ ap (λ (l : List Term). l ++ (row-term r ∷ row-terms j)) (calculation-terms b))
+    ∙ sym (in-line (calculationTerms (held-calculation a)) (calculationTerms (held-calculation b)) (row-terms j) (row-term r))
+
+item-terms : (x : Item) → row-terms (item-rows x) ≡ setTerms (held-item x)
+unfolding item-rows setTerms termOf
+item-terms (everything s) = refl
+item-terms (only a) =
+    marked-terms (calculation-rows a) (calculation-parts a) ∙ ap last-single (calculation-terms a) ∙ single-end (before (held-calculation a)) (lastSign (held-calculation a))
+item-terms (between a s b) = two-terms a b (a-term 8 0 (s .start) 0) [] ∙ append-nil ((calculationTerms (held-calculation a) ++ calculationTerms (held-calculation b)) ++ (Term.Range ∷ []))
+item-terms (from a s) = one-terms a (a-term 9 0 (s .start) 0)
+item-terms (up-to s b) = one-terms b (a-term 10 0 (s .start) 0)
