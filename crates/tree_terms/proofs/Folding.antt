@@ -1,12 +1,12 @@
 -- A set, counts or a condition of a tree as the tree that a list of terms holds (`term_trees`): what is stored is its list. A variable is the place of its name.
 -- Assumes nothing.
-use Prim.Native.Nat.{ℕ, zero, suc, _+_, _-_, _*_, _<_}
-use mathlib.Core.Path.{_≡_, refl, sym, ap, ap₂, subst, _∙_}
+use Prim.Native.Nat.{ℕ, _+_, _-_, _*_, _<_}
+use mathlib.Core.Path.{_≡_, refl, sym, ap, ap₂, _∙_}
 use mathlib.Core.Bool.{Bool, true, false, cond}
 use mathlib.Core.List.{List, [], _∷_, _++_, map, append-nil, append-assoc}
 use native.Mathlib.Omega.{arith}
 use borrow.Author.Tests.{ltb-true, lt-ltb, le-ltb}
-use lib.Dec.{ltb, leb}
+use lib.Dec.{ltb}
 use Rattle.text_tokens.specs.Numbers.{capped}
 use Rattle.text_store.specs.Store.{marked-tag}
 use Rattle.text_store.specs.Words.{is-use}
@@ -234,3 +234,112 @@ item-terms (only a) =
 item-terms (between a s b) = two-terms a b (a-term 8 0 (s .start) 0) [] ∙ append-nil ((calculationTerms (held-calculation a) ++ calculationTerms (held-calculation b)) ++ (Term.Range ∷ []))
 item-terms (from a s) = one-terms a (a-term 9 0 (s .start) 0)
 item-terms (up-to s b) = one-terms b (a-term 10 0 (s .start) 0)
+
+-- two lists of rows, a sign, and what joins them to those before
+but-terms : (A B J : List TermRow) (r : TermRow) (u v : List Term) → row-terms A ≡ u → row-terms B ≡ v → ((u ++ v) ++ (row-term r ∷ [])) ++ row-terms J ≡ row-terms (A ++ (B ++ r ∷ J))
+but-terms A B J r u v e f =
+    in-line u v (row-terms J) (row-term r)
+    ∙ ap₂ (λ (l m : List Term). l ++ (m ++ (row-term r ∷ row-terms J))) (sym e) (sym f)
+    ∙ ap (λ (l : List Term). row-terms A ++ l) (sym (rows-append B (r ∷ J)))
+    ∙ sym (rows-append A (B ++ r ∷ J))
+
+-- a join after what stands before, and once more
+onward-terms : (P a y : List Term) (t : Term) (whole : List Term) → whole ≡ P ++ a → (whole ++ y) ++ (t ∷ []) ≡ (P ++ a) ++ (y ++ (t ∷ []))
+onward-terms P a y t whole e = append-assoc whole y (t ∷ []) ∙ ap (λ (l : List Term). l ++ (y ++ (t ∷ []))) e
+
+joined-terms : (P : List Term) (A B : List TermRow) → (P ++ row-terms A) ++ row-terms B ≡ P ++ row-terms (A ++ B)
+joined-terms P A B = append-assoc P (row-terms A) (row-terms B) ∙ ap (λ (l : List Term). P ++ l) (sym (rows-append A B))
+
+set-from : {p : SetPart} {d : ℕ} (x : Choices p d) (acc : HeldSet → HeldSet) (P : List Term) (J : List TermRow) → ((y : HeldSet) → setTerms (acc y) ≡ P ++ (setTerms y ++ row-terms J)) → setTerms (held-set x acc) ≡ P ++ row-terms (set-rows x J)
+unfolding held-set set-rows setTerms termOf
+set-from (item a) acc P J h = h (held-item a) ∙ ap (λ (l : List Term). P ++ l) (ap (λ (l : List Term). l ++ row-terms J) (sym (item-terms a)) ∙ sym (rows-append (item-rows a) J))
+set-from (item-but-item a s b) acc P J h =
+    h (without (held-item a) (held-item b)) ∙ ap (λ (l : List Term). P ++ l) (but-terms (item-rows a) (item-rows b) J (a-term 12 0 (s .start) 0) (setTerms (held-item a)) (setTerms (held-item b)) (item-terms a) (item-terms b))
+set-from (item-but-set depth a s opens b closes) acc P J h =
+    h (without (held-item a) (held-set b (λ y. y)))
+    ∙ ap (λ (l : List Term). P ++ l)
+    (but-terms (item-rows a) (set-rows b []) J (a-term 12 0 (s .start) 0) (setTerms (held-item a)) (setTerms (held-set b (λ y. y))) (item-terms a) (sym (set-from b (λ y. y) [] [] (λ y. sym (append-nil (setTerms y))))))
+set-from (last-choice a) acc P J h = set-from a acc P J h
+set-from (or-choices a s b) acc P J h =
+    set-from b (λ y. either (held-set a acc) y) (P ++ row-terms (set-rows a J)) (a-term 11 0 (s .start) 0 ∷ []) (λ y. onward-terms P (row-terms (set-rows a J)) (setTerms y) Term.Or (setTerms (held-set a acc)) (set-from a acc P J h))
+    ∙ joined-terms P (set-rows a J) (set-rows b (a-term 11 0 (s .start) 0 ∷ []))
+
+-- the terms that are stored of a set hold it
+pub set-terms : {p : SetPart} {d : ℕ} (x : Choices p d) → row-terms (set-rows x []) ≡ setTerms (held-set x (λ y. y))
+set-terms x = sym (set-from x (λ y. y) [] [] (λ y. sym (append-nil (setTerms y))))
+
+-- ---- counts
+
+abbrev pub held-counts : Counts → Repeats
+held-counts (exactly n) = exact (held-calculation n)
+held-counts (at-least a s) = on-from (held-calculation a)
+held-counts (at-most s b) = at-most-so (held-calculation b)
+held-counts (span a s b) = spanning (held-calculation a) (held-calculation b)
+
+pub counts-terms : (x : Counts) → row-terms (counts-rows x) ≡ repeatTerms (held-counts x)
+unfolding counts-rows repeatTerms termOf
+counts-terms (exactly n) = calculation-terms n
+counts-terms (at-least a s) = one-terms a (a-term 9 0 (s .start) 0)
+counts-terms (at-most s b) = one-terms b (a-term 10 0 (s .start) 0)
+counts-terms (span a s b) = two-terms a b (a-term 8 0 (s .start) 0) [] ∙ append-nil ((calculationTerms (held-calculation a) ++ calculationTerms (held-calculation b)) ++ (Term.Range ∷ []))
+
+-- ---- conditions
+
+abbrev pub held-sign : Sign-of → Comparison
+held-sign equal = Comparison.Equal
+held-sign unequal = Comparison.Unequal
+held-sign less = Comparison.Less
+held-sign at-most-as = Comparison.AtMost
+held-sign greater = Comparison.Greater
+held-sign at-least-as = Comparison.AtLeast
+
+sign-term : (c : Sign-of) (p : ℕ) → row-term (a-term (tag-of c) 0 p 0) ≡ Term.Compare (held-sign c)
+unfolding termOf
+sign-term equal p = refl
+sign-term unequal p = refl
+sign-term less p = refl
+sign-term at-most-as p = refl
+sign-term greater p = refl
+sign-term at-least-as p = refl
+
+-- `acc` as for sets
+unfoldable pub held-tests : {p : TestPart} {d : ℕ} → Tests p d → (HeldCondition → HeldCondition) → HeldCondition
+held-tests (compare a c s b) acc = acc (comparing (held-sign c) (held-calculation a) (held-calculation b))
+held-tests (test-group depth opens a closes) acc = acc (held-tests a (λ y. y))
+held-tests (one-test a) acc = held-tests a acc
+held-tests (all-of a s b) acc = held-tests b (λ y. all-hold (held-tests a acc) y)
+held-tests (any-of a s b) acc = held-tests b (λ y. one-holds (held-tests a acc) y)
+held-tests (last-conjunct a) acc = held-tests a acc
+held-tests (and-conjuncts a s b) acc = held-tests b (λ y. all-hold (held-tests a acc) y)
+held-tests (last-disjunct a) acc = held-tests a acc
+held-tests (or-disjuncts a s b) acc = held-tests b (λ y. one-holds (held-tests a acc) y)
+
+tests-from : {p : TestPart} {d : ℕ} (x : Tests p d) (acc : HeldCondition → HeldCondition) (P : List Term) (J : List TermRow) → ((y : HeldCondition) → conditionTerms (acc y) ≡ P ++ (conditionTerms y ++ row-terms J))
+    → conditionTerms (held-tests x acc) ≡ P ++ row-terms (tests-rows x J)
+unfolding held-tests tests-rows conditionTerms termOf
+tests-from (compare a c s b) acc P J h =
+    h (comparing (held-sign c) (held-calculation a) (held-calculation b))
+    ∙ ap (λ (t : Term). P ++ (((calculationTerms (held-calculation a) ++ calculationTerms (held-calculation b)) ++ (t ∷ [])) ++ row-terms J)) (sym (sign-term c (s .start)))
+    ∙ ap (λ (l : List Term). P ++ l) (sym (two-terms a b (a-term (tag-of c) 0 (s .start) 0) J))
+tests-from (test-group depth opens a closes) acc P J h =
+    h (held-tests a (λ y. y))
+    ∙ ap (λ (l : List Term). P ++ l) (ap (λ (l : List Term). l ++ row-terms J) (tests-from a (λ y. y) [] [] (λ y. sym (append-nil (conditionTerms y)))) ∙ sym (rows-append (tests-rows a []) J))
+tests-from (one-test a) acc P J h = tests-from a acc P J h
+tests-from (all-of a s b) acc P J h =
+    tests-from b (λ y. all-hold (held-tests a acc) y) (P ++ row-terms (tests-rows a J)) (a-term 13 0 (s .start) 0 ∷ []) (λ y. onward-terms P (row-terms (tests-rows a J)) (conditionTerms y) Term.And (conditionTerms (held-tests a acc)) (tests-from a acc P J h))
+    ∙ joined-terms P (tests-rows a J) (tests-rows b (a-term 13 0 (s .start) 0 ∷ []))
+tests-from (any-of a s b) acc P J h =
+    tests-from b (λ y. one-holds (held-tests a acc) y) (P ++ row-terms (tests-rows a J)) (a-term 11 0 (s .start) 0 ∷ []) (λ y. onward-terms P (row-terms (tests-rows a J)) (conditionTerms y) Term.Or (conditionTerms (held-tests a acc)) (tests-from a acc P J h))
+    ∙ joined-terms P (tests-rows a J) (tests-rows b (a-term 11 0 (s .start) 0 ∷ []))
+tests-from (last-conjunct a) acc P J h = tests-from a acc P J h
+tests-from (and-conjuncts a s b) acc P J h =
+    tests-from b (λ y. all-hold (held-tests a acc) y) (P ++ row-terms (tests-rows a J)) (a-term 13 0 (s .start) 0 ∷ []) (λ y. onward-terms P (row-terms (tests-rows a J)) (conditionTerms y) Term.And (conditionTerms (held-tests a acc)) (tests-from a acc P J h))
+    ∙ joined-terms P (tests-rows a J) (tests-rows b (a-term 13 0 (s .start) 0 ∷ []))
+tests-from (last-disjunct a) acc P J h = tests-from a acc P J h
+tests-from (or-disjuncts a s b) acc P J h =
+    tests-from b (λ y. one-holds (held-tests a acc) y) (P ++ row-terms (tests-rows a J)) (a-term 11 0 (s .start) 0 ∷ []) (λ y. onward-terms P (row-terms (tests-rows a J)) (conditionTerms y) Term.Or (conditionTerms (held-tests a acc)) (tests-from a acc P J h))
+    ∙ joined-terms P (tests-rows a J) (tests-rows b (a-term 11 0 (s .start) 0 ∷ []))
+
+-- the terms that are stored of a condition hold it
+pub tests-terms : {p : TestPart} {d : ℕ} (x : Tests p d) → row-terms (tests-rows x []) ≡ conditionTerms (held-tests x (λ y. y))
+tests-terms x = sym (tests-from x (λ y. y) [] [] (λ y. sym (append-nil (conditionTerms y))))
