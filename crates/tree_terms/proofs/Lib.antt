@@ -1,2 +1,3 @@
 -- The lists of terms of a tree.
 pub mod Folding
+pub mod Meaning

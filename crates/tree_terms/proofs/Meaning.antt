@@ -1,0 +1,120 @@
+-- What a held formula means is what the tree's formula means, where each name's variable has the value that the tree gives the name.
+-- Assumes nothing.
+use Prim.Native.Nat.{ℕ}
+use mathlib.Core.Path.{_≡_, refl, sym, ap, ap₂, _∙_}
+use mathlib.Core.Bool.{Bool, true, false, not, _&&_, _||_}
+use mathlib.Core.List.{List, [], _∷_, _++_}
+use lib.IntN.{ℤ, pos, negℤ, _+ℤ_, _-ℤ_, _*ℤ_}
+use lib.ListN.{getD}
+use lib.Signed.{leZ}
+use Rattle.basis.specs.Counts.{exactly as just, atLeast, span as from-to}
+use Rattle.text_tokens.specs.Numbers.{capped}
+use Rattle.term_words.specs.Numbers.{pick, equals}
+use Rattle.term_trees.specs.Trees.{Calculation as Held, value, ValueSet as HeldSet, has, either, repeats}
+use Rattle.text_shapes.specs.TermShapes.{renamed, renamed-set, renamed-repeats}
+use Rattle.tree.specs.Lexemes.{Sign, Name, Number}
+use Rattle.tree.specs.Tree.{Primary, number, variable, Operand, plain, opposite, Factors, no-factor, times, Product, product, Summands, no-summand, plus, minus, Calculation, sum, Item, everything, only, between, from, up-to, SetPart, Choices, item, item-but-item, item-but-set, last-choice, or-choices, Counts, exactly, at-least, at-most, span}
+use Rattle.tree_meaning.specs.Pieces.{Term, a-number, a-use, a-sign, primary-terms, operand-terms, factor-terms, product-terms, summand-terms, calculation-terms, Component, whole-number, joined-by, in-item as item-parts, in-set as set-parts, in-counts, terms-of}
+use Rattle.tree_meaning.specs.Values.{Environment, equalZ, primary-value, operand-value, times-value, product-value, sum-value, calculation-value, in-item, in-set, passes-in}
+use Rattle.tree_terms.proofs.Folding.{held-primary, held-operand, held-factors, held-product, held-summands, held-calculation, held-item, held-set, held-counts}
+
+-- ---- tests
+
+pick-and : (a b : Bool) → pick a b false ≡ (a && b)
+pick-and true b = refl
+pick-and false b = refl
+
+pick-not : (a b : Bool) → pick b false a ≡ (a && not b)
+pick-not true true = refl
+pick-not true false = refl
+pick-not false true = refl
+pick-not false false = refl
+
+pick-or : (a b : Bool) → pick a true b ≡ (a || b)
+pick-or true b = refl
+pick-or false b = refl
+
+or-assoc : (a b c : Bool) → ((a || b) || c) ≡ (a || (b || c))
+or-assoc true b c = refl
+or-assoc false b c = refl
+
+module _ (g : ℕ → ℕ) (v : List ℤ) (env : Environment) where
+  -- a number is not capped, and a name's variable has its value
+  abbrev pub Fits : Term → Type 0
+  Fits (a-number n) = capped (n .value) ≡ n .value
+  Fits (a-use x) = getD v (g (x .start)) (pos 0) ≡ env (x .letters)
+  Fits (a-sign s) = Unit {0}
+
+  pub data AllFit : List Term → Type 0 where
+    none-fit : AllFit []
+    next-fit : {t : Term} {l : List Term} → Fits t → AllFit l → AllFit (t ∷ l)
+
+  fit-left : (l m : List Term) → AllFit (l ++ m) → AllFit l
+  fit-left [] m h = none-fit
+  fit-left (t ∷ l) m (next-fit f h) = next-fit f (fit-left l m h)
+
+  fit-right : (l m : List Term) → AllFit (l ++ m) → AllFit m
+  fit-right [] m h = h
+  fit-right (t ∷ l) m (next-fit f h) = fit-right l m h
+
+  fit-tail : {t : Term} {l : List Term} → AllFit (t ∷ l) → AllFit l
+  fit-tail (next-fit f h) = h
+
+  -- ---- calculations
+
+  primary-means : (x : Primary) → AllFit (primary-terms x) → value v (renamed g (held-primary x)) ≡ primary-value env x
+  unfolding value renamed
+  primary-means (number n) (next-fit f h) = ap pos f
+  primary-means (variable x) (next-fit f h) = f
+
+  operand-means : (x : Operand) → AllFit (operand-terms x) → value v (renamed g (held-operand x)) ≡ operand-value env x
+  unfolding value renamed
+  operand-means (plain x) h = primary-means x h
+  operand-means (opposite s x) (next-fit f h) = ap negℤ (primary-means x h)
+
+  factors-mean : (c : Held) (a : ℤ) (x : Factors) → value v (renamed g c) ≡ a → AllFit (factor-terms x) → value v (renamed g (held-factors c x)) ≡ times-value env a x
+  unfolding value renamed held-factors times-value factor-terms
+  factors-mean c a no-factor e h = e
+  factors-mean c a (times s x more) e (next-fit f h) =
+      factors-mean _ (a *ℤ operand-value env x) more (ap₂ _*ℤ_ e (operand-means x (fit-left (operand-terms x) (factor-terms more) h))) (fit-right (operand-terms x) (factor-terms more) h)
+
+  product-means : (x : Product) → AllFit (product-terms x) → value v (renamed g (held-product x)) ≡ product-value env x
+  product-means (product x more) h =
+      factors-mean (held-operand x) (operand-value env x) more (operand-means x (fit-left (operand-terms x) (factor-terms more) h)) (fit-right (operand-terms x) (factor-terms more) h)
+
+  summands-mean : (c : Held) (a : ℤ) (x : Summands) → value v (renamed g c) ≡ a → AllFit (summand-terms x) → value v (renamed g (held-summands c x)) ≡ sum-value env a x
+  unfolding value renamed held-summands sum-value summand-terms
+  summands-mean c a no-summand e h = e
+  summands-mean c a (plus s x more) e (next-fit f h) =
+      summands-mean _ (a +ℤ product-value env x) more (ap₂ _+ℤ_ e (product-means x (fit-left (product-terms x) (summand-terms more) h))) (fit-right (product-terms x) (summand-terms more) h)
+  summands-mean c a (minus s x more) e (next-fit f h) =
+      summands-mean _ (a -ℤ product-value env x) more (ap₂ _-ℤ_ e (product-means x (fit-left (product-terms x) (summand-terms more) h))) (fit-right (product-terms x) (summand-terms more) h)
+
+  pub calculation-means : (x : Calculation) → AllFit (calculation-terms x) → value v (renamed g (held-calculation x)) ≡ calculation-value env x
+  calculation-means (sum x more) h =
+      summands-mean (held-product x) (product-value env x) more (product-means x (fit-left (product-terms x) (summand-terms more) h)) (fit-right (product-terms x) (summand-terms more) h)
+
+  -- ---- counts
+
+  pub counts-mean : (x : Counts) → AllFit (terms-of (in-counts x)) → repeats v (renamed-repeats g (held-counts x)) ≡ passes-in env x
+  unfolding repeats renamed-repeats terms-of
+  counts-mean (exactly n) h = ap just (calculation-means n (fit-left (calculation-terms n) [] h))
+  counts-mean (at-least a s) h = ap atLeast (calculation-means a (fit-left (calculation-terms a) (a-sign s ∷ []) h))
+  counts-mean (at-most s b) (next-fit f h) = ap (from-to (pos 0)) (calculation-means b (fit-left (calculation-terms b) [] h))
+  counts-mean (span a s b) h =
+      ap₂ from-to (calculation-means a (fit-left (calculation-terms a) (a-sign s ∷ (calculation-terms b ++ [])) h))
+      (calculation-means b (fit-left (calculation-terms b) [] (fit-tail (fit-right (calculation-terms a) (a-sign s ∷ (calculation-terms b ++ [])) h))))
+
+  -- ---- sets
+
+  item-means : (x : Item) (n : ℤ) → AllFit (terms-of (item-parts x)) → has v (renamed-set g (held-item x)) n ≡ in-item env x n
+  unfolding has renamed-set terms-of equals
+  item-means (everything s) n h = refl
+  item-means (only a) n h =
+      ap (λ (k : ℤ). equals k n) (calculation-means a (fit-left (calculation-terms a) [] h)) ∙ pick-and (leZ (calculation-value env a) n) (leZ n (calculation-value env a))
+  item-means (between a s b) n h =
+      ap₂ (λ (k m : ℤ). pick (leZ k n) (leZ n m) false) (calculation-means a (fit-left (calculation-terms a) (a-sign s ∷ (calculation-terms b ++ [])) h))
+      (calculation-means b (fit-left (calculation-terms b) [] (fit-tail (fit-right (calculation-terms a) (a-sign s ∷ (calculation-terms b ++ [])) h))))
+      ∙ pick-and (leZ (calculation-value env a) n) (leZ n (calculation-value env b))
+  item-means (from a s) n h = ap (λ (k : ℤ). leZ k n) (calculation-means a (fit-left (calculation-terms a) (a-sign s ∷ []) h))
+  item-means (up-to s b) n (next-fit f h) = ap (λ (k : ℤ). leZ n k) (calculation-means b (fit-left (calculation-terms b) [] h))
