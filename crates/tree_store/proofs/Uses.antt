@@ -77,7 +77,7 @@ uses-append (a-number n ∷ l) m = uses-append l m
 uses-append (a-use x ∷ l) m = ap {B = List Name} (λ r. x ∷ r) (uses-append l m)
 uses-append (a-sign s ∷ l) m = uses-append l m
 
-terms-append : (l m : List Component) → terms-of (l ++ m) ≡ terms-of l ++ terms-of m
+pub terms-append : (l m : List Component) → terms-of (l ++ m) ≡ terms-of l ++ terms-of m
 unfolding terms-of
 terms-append [] m = refl
 terms-append (whole-number c ∷ l) m = ap (λ (q : List Term). calculation-terms c ++ q) (terms-append l m) ∙ sym (append-assoc (calculation-terms c) (terms-of l) (terms-of m))

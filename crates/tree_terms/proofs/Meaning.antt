@@ -1,7 +1,7 @@
 -- What a held formula means is what the tree's formula means, where each name's variable has the value that the tree gives the name.
 -- Assumes nothing.
 use Prim.Native.Nat.{ℕ}
-use mathlib.Core.Path.{_≡_, refl, sym, ap, ap₂, _∙_}
+use mathlib.Core.Path.{_≡_, refl, sym, ap, ap₂, subst, _∙_}
 use mathlib.Core.Bool.{Bool, true, false, not, _&&_, _||_}
 use mathlib.Core.List.{List, [], _∷_, _++_}
 use lib.IntN.{ℤ, pos, negℤ, _+ℤ_, _-ℤ_, _*ℤ_}
@@ -16,6 +16,7 @@ use Rattle.tree.specs.Lexemes.{Sign, Name, Number}
 use Rattle.tree.specs.Tree.{Primary, number, variable, Operand, plain, opposite, Factors, no-factor, times, Product, product, Summands, no-summand, plus, minus, Calculation, sum, Item, everything, only, between, from, up-to, SetPart, Choices, item, item-but-item, item-but-set, last-choice, or-choices, Counts, exactly, at-least, at-most, span}
 use Rattle.tree_meaning.specs.Pieces.{Term, a-number, a-use, a-sign, primary-terms, operand-terms, factor-terms, product-terms, summand-terms, calculation-terms, Component, whole-number, joined-by, in-item as item-parts, in-set as set-parts, in-counts, terms-of}
 use Rattle.tree_meaning.specs.Values.{Environment, equalZ, primary-value, operand-value, times-value, product-value, sum-value, calculation-value, in-item, in-set, passes-in}
+use Rattle.tree_store.proofs.Uses.{terms-append}
 use Rattle.tree_terms.proofs.Folding.{held-primary, held-operand, held-factors, held-product, held-summands, held-calculation, held-item, held-set, held-counts}
 
 -- ---- tests
@@ -118,3 +119,34 @@ module _ (g : ℕ → ℕ) (v : List ℤ) (env : Environment) where
       ∙ pick-and (leZ (calculation-value env a) n) (leZ n (calculation-value env b))
   item-means (from a s) n h = ap (λ (k : ℤ). leZ k n) (calculation-means a (fit-left (calculation-terms a) (a-sign s ∷ []) h))
   item-means (up-to s b) n (next-fit f h) = ap (λ (k : ℤ). leZ n k) (calculation-means b (fit-left (calculation-terms b) [] h))
+
+  -- of two parts and a sign between them
+  parts-left : (l m : List Component) (s : Sign) → AllFit (terms-of (l ++ joined-by s ∷ m)) → AllFit (terms-of l)
+  parts-left l m s h = fit-left (terms-of l) (terms-of (joined-by s ∷ m)) (subst AllFit (terms-append l (joined-by s ∷ m)) h)
+
+  parts-right : (l m : List Component) (s : Sign) → AllFit (terms-of (l ++ joined-by s ∷ m)) → AllFit (terms-of m)
+  unfolding terms-of
+  parts-right l m s h = fit-tail (fit-right (terms-of l) (terms-of (joined-by s ∷ m)) (subst AllFit (terms-append l (joined-by s ∷ m)) h))
+
+  -- where `acc` joins the first alternative to those before, in which n is or is not
+  set-from : {p : SetPart} {d : ℕ} (x : Choices p d) (acc : HeldSet → HeldSet) (earlier : Bool) (n : ℤ) → AllFit (terms-of (set-parts x))
+      → ((y : HeldSet) → has v (renamed-set g (acc y)) n ≡ (earlier || has v (renamed-set g y) n)) → has v (renamed-set g (held-set x acc)) n ≡ (earlier || in-set env x n)
+  unfolding has renamed-set held-set in-set set-parts
+  set-from (item a) acc p n h f = f (held-item a) ∙ ap (λ (b : Bool). p || b) (item-means a n h)
+  set-from (item-but-item a s b) acc p n h f =
+      f _
+      ∙ ap (λ (c : Bool). p || c)
+      (ap₂ (λ (c d : Bool). pick d false c) (item-means a n (parts-left (item-parts a) (item-parts b) s h)) (item-means b n (parts-right (item-parts a) (item-parts b) s h)) ∙ pick-not (in-item env a n) (in-item env b n))
+  set-from (item-but-set depth a s opens b closes) acc p n h f =
+      f _
+      ∙ ap (λ (c : Bool). p || c)
+      (ap₂ (λ (c d : Bool). pick d false c) (item-means a n (parts-left (item-parts a) (set-parts b) s h)) (set-from b (λ y. y) false n (parts-right (item-parts a) (set-parts b) s h) (λ y. refl)) ∙ pick-not (in-item env a n) (in-set env b n))
+  set-from (last-choice a) acc p n h f = set-from a acc p n h f
+  set-from (or-choices a s b) acc p n h f =
+      set-from b (λ y. either (held-set a acc) y) (p || in-set env a n) n (parts-right (set-parts a) (set-parts b) s h)
+      (λ y. ap (λ (c : Bool). pick c true (has v (renamed-set g y) n)) (set-from a acc p n (parts-left (set-parts a) (set-parts b) s h) f) ∙ pick-or (p || in-set env a n) (has v (renamed-set g y) n))
+      ∙ or-assoc p (in-set env a n) (in-set env b n)
+
+  -- a number is in the held set exactly where it is in the tree's
+  pub set-means : {p : SetPart} {d : ℕ} (x : Choices p d) (n : ℤ) → AllFit (terms-of (set-parts x)) → has v (renamed-set g (held-set x (λ y. y))) n ≡ in-set env x n
+  set-means x n h = set-from x (λ y. y) false n h (λ y. refl)
