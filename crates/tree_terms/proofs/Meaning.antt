@@ -2,22 +2,27 @@
 -- Assumes nothing.
 use Prim.Native.Nat.{ℕ}
 use mathlib.Core.Path.{_≡_, refl, sym, ap, ap₂, subst, _∙_}
+use mathlib.Core.Logic.{⊎-elim}
 use mathlib.Core.Bool.{Bool, true, false, not, _&&_, _||_}
 use mathlib.Core.List.{List, [], _∷_, _++_}
-use lib.IntN.{ℤ, pos, negℤ, _+ℤ_, _-ℤ_, _*ℤ_}
+use lib.Dec.{ltb, leb}
+use lib.IntN.{ℤ, pos, negsuc, negℤ, _+ℤ_, _-ℤ_, _*ℤ_}
 use lib.ListN.{getD}
-use lib.Signed.{leZ}
+use lib.Signed.{leZ, ltZ}
+use borrow.Author.Tests.{leb-true, leb-false, lt-ltb, le-ltb}
+use Rattle.text_header.proofs.Tests.{which}
 use Rattle.basis.specs.Counts.{exactly as just, atLeast, span as from-to}
 use Rattle.text_tokens.specs.Numbers.{capped}
 use Rattle.term_words.specs.Numbers.{pick, equals}
-use Rattle.term_trees.specs.Trees.{Calculation as Held, value, ValueSet as HeldSet, has, either, repeats}
-use Rattle.text_shapes.specs.TermShapes.{renamed, renamed-set, renamed-repeats}
+use Rattle.term_words.specs.Steps.{compares}
+use Rattle.term_trees.specs.Trees.{Calculation as Held, value, ValueSet as HeldSet, has, either, Condition as HeldCondition, true-at, both as all-hold, any as one-holds, repeats}
+use Rattle.text_shapes.specs.TermShapes.{renamed, renamed-set, renamed-condition, renamed-repeats}
 use Rattle.tree.specs.Lexemes.{Sign, Name, Number}
-use Rattle.tree.specs.Tree.{Primary, number, variable, Operand, plain, opposite, Factors, no-factor, times, Product, product, Summands, no-summand, plus, minus, Calculation, sum, Item, everything, only, between, from, up-to, SetPart, Choices, item, item-but-item, item-but-set, last-choice, or-choices, Counts, exactly, at-least, at-most, span}
-use Rattle.tree_meaning.specs.Pieces.{Term, a-number, a-use, a-sign, primary-terms, operand-terms, factor-terms, product-terms, summand-terms, calculation-terms, Component, whole-number, joined-by, in-item as item-parts, in-set as set-parts, in-counts, terms-of}
-use Rattle.tree_meaning.specs.Values.{Environment, equalZ, primary-value, operand-value, times-value, product-value, sum-value, calculation-value, in-item, in-set, passes-in}
+use Rattle.tree.specs.Tree.{Primary, number, variable, Operand, plain, opposite, Factors, no-factor, times, Product, product, Summands, no-summand, plus, minus, Calculation, sum, Item, everything, only, between, from, up-to, SetPart, Choices, item, item-but-item, item-but-set, last-choice, or-choices, Counts, exactly, at-least, at-most, span, Comparison, equal, unequal, less, at-most-as, greater, at-least-as, TestPart, tests, test, conjuncts, disjuncts, Tests, compare, test-group, one-test, all-of, any-of, last-conjunct, and-conjuncts, last-disjunct, or-disjuncts}
+use Rattle.tree_meaning.specs.Pieces.{Term, a-number, a-use, a-sign, primary-terms, operand-terms, factor-terms, product-terms, summand-terms, calculation-terms, Component, whole-number, joined-by, in-item as item-parts, in-set as set-parts, in-counts, in-tests, terms-of}
+use Rattle.tree_meaning.specs.Values.{Environment, equalZ, primary-value, operand-value, times-value, product-value, sum-value, calculation-value, in-item, in-set, passes-in, holds, is-true}
 use Rattle.tree_store.proofs.Uses.{terms-append}
-use Rattle.tree_terms.proofs.Folding.{held-primary, held-operand, held-factors, held-product, held-summands, held-calculation, held-item, held-set, held-counts}
+use Rattle.tree_terms.proofs.Folding.{held-primary, held-operand, held-factors, held-product, held-summands, held-calculation, held-item, held-set, held-counts, held-sign, held-tests}
 
 -- ---- tests
 
@@ -34,6 +39,20 @@ pick-not false false = refl
 pick-or : (a b : Bool) → pick a true b ≡ (a || b)
 pick-or true b = refl
 pick-or false b = refl
+
+not-le : (a b : ℕ) → not (leb b a) ≡ ltb a b
+not-le a b =
+    ⊎-elim (λ (z : leb b a ≡ true). ap not z ∙ sym (le-ltb a b (leb-true b a z))) (λ (z : leb b a ≡ false). ap not z ∙ sym (lt-ltb a b (leb-false b a z))) (which (leb b a))
+
+not-leZ : (a b : ℤ) → not (leZ b a) ≡ ltZ a b
+not-leZ (pos a) (pos b) = not-le a b
+not-leZ (pos a) (negsuc b) = refl
+not-leZ (negsuc a) (pos b) = refl
+not-leZ (negsuc a) (negsuc b) = not-le b a
+
+and-assoc : (a b c : Bool) → ((a && b) && c) ≡ (a && (b && c))
+and-assoc true b c = refl
+and-assoc false b c = refl
 
 or-assoc : (a b c : Bool) → ((a || b) || c) ≡ (a || (b || c))
 or-assoc true b c = refl
@@ -150,3 +169,55 @@ module _ (g : ℕ → ℕ) (v : List ℤ) (env : Environment) where
   -- a number is in the held set exactly where it is in the tree's
   pub set-means : {p : SetPart} {d : ℕ} (x : Choices p d) (n : ℤ) → AllFit (terms-of (set-parts x)) → has v (renamed-set g (held-set x (λ y. y))) n ≡ in-set env x n
   set-means x n h = set-from x (λ y. y) false n h (λ y. refl)
+
+  -- ---- conditions
+
+  -- what joins the first test to those before; a whole condition has none before
+  abbrev Joins : TestPart → (Bool → Bool) → Type 0
+  Joins tests j = (b : Bool) → j b ≡ b
+  Joins test j = Unit {0}
+  Joins conjuncts j = (b c : Bool) → (j b && c) ≡ j (b && c)
+  Joins disjuncts j = (b c : Bool) → (j b || c) ≡ j (b || c)
+
+  compare-means : (c : Comparison) (a b : ℤ) → compares (held-sign c) a b ≡ holds c a b
+  unfolding equals
+  compare-means equal a b = pick-and (leZ a b) (leZ b a)
+  compare-means unequal a b = ap not (pick-and (leZ a b) (leZ b a))
+  compare-means less a b = not-leZ a b
+  compare-means at-most-as a b = refl
+  compare-means greater a b = not-leZ b a
+  compare-means at-least-as a b = refl
+
+  tests-from : {p : TestPart} {d : ℕ} (x : Tests p d) (acc : HeldCondition → HeldCondition) (j : Bool → Bool) → Joins p j → AllFit (terms-of (in-tests x))
+      → ((y : HeldCondition) → true-at v (renamed-condition g (acc y)) ≡ j (true-at v (renamed-condition g y))) → true-at v (renamed-condition g (held-tests x acc)) ≡ j (is-true env x)
+  unfolding true-at renamed-condition held-tests is-true in-tests terms-of
+  tests-from (compare a c s b) acc j k h f =
+      f _
+      ∙ ap j
+      (ap₂ (compares (held-sign c)) (calculation-means a (fit-left (calculation-terms a) (a-sign s ∷ (calculation-terms b ++ [])) h))
+      (calculation-means b (fit-left (calculation-terms b) [] (fit-tail (fit-right (calculation-terms a) (a-sign s ∷ (calculation-terms b ++ [])) h))))
+      ∙ compare-means c (calculation-value env a) (calculation-value env b))
+  tests-from (test-group depth opens a closes) acc j k h f = f _ ∙ ap j (tests-from a (λ y. y) (λ b. b) (λ b. refl) h (λ y. refl))
+  tests-from (one-test a) acc j k h f = tests-from a acc j tt h f
+  tests-from (last-conjunct a) acc j k h f = tests-from a acc j tt h f
+  tests-from (last-disjunct a) acc j k h f = tests-from a acc j tt h f
+  tests-from (all-of a s b) acc j k h f =
+      tests-from b (λ y. all-hold (held-tests a acc) y) (λ c. j (is-true env a) && c) (λ c d. and-assoc (j (is-true env a)) c d) (parts-right (in-tests a) (in-tests b) s h)
+      (λ y. ap (λ (c : Bool). pick c (true-at v (renamed-condition g y)) false) (tests-from a acc j tt (parts-left (in-tests a) (in-tests b) s h) f) ∙ pick-and (j (is-true env a)) (true-at v (renamed-condition g y)))
+      ∙ (ap (λ (c : Bool). c && is-true env b) (k (is-true env a)) ∙ sym (k (is-true env a && is-true env b)))
+  tests-from (and-conjuncts a s b) acc j k h f =
+      tests-from b (λ y. all-hold (held-tests a acc) y) (λ c. j (is-true env a) && c) (λ c d. and-assoc (j (is-true env a)) c d) (parts-right (in-tests a) (in-tests b) s h)
+      (λ y. ap (λ (c : Bool). pick c (true-at v (renamed-condition g y)) false) (tests-from a acc j tt (parts-left (in-tests a) (in-tests b) s h) f) ∙ pick-and (j (is-true env a)) (true-at v (renamed-condition g y)))
+      ∙ k (is-true env a) (is-true env b)
+  tests-from (any-of a s b) acc j k h f =
+      tests-from b (λ y. one-holds (held-tests a acc) y) (λ c. j (is-true env a) || c) (λ c d. or-assoc (j (is-true env a)) c d) (parts-right (in-tests a) (in-tests b) s h)
+      (λ y. ap (λ (c : Bool). pick c true (true-at v (renamed-condition g y))) (tests-from a acc j tt (parts-left (in-tests a) (in-tests b) s h) f) ∙ pick-or (j (is-true env a)) (true-at v (renamed-condition g y)))
+      ∙ (ap (λ (c : Bool). c || is-true env b) (k (is-true env a)) ∙ sym (k (is-true env a || is-true env b)))
+  tests-from (or-disjuncts a s b) acc j k h f =
+      tests-from b (λ y. one-holds (held-tests a acc) y) (λ c. j (is-true env a) || c) (λ c d. or-assoc (j (is-true env a)) c d) (parts-right (in-tests a) (in-tests b) s h)
+      (λ y. ap (λ (c : Bool). pick c true (true-at v (renamed-condition g y))) (tests-from a acc j tt (parts-left (in-tests a) (in-tests b) s h) f) ∙ pick-or (j (is-true env a)) (true-at v (renamed-condition g y)))
+      ∙ k (is-true env a) (is-true env b)
+
+  -- the held condition holds exactly where the tree's does
+  pub tests-mean : {d : ℕ} (x : Tests tests d) → AllFit (terms-of (in-tests x)) → true-at v (renamed-condition g (held-tests x (λ y. y))) ≡ is-true env x
+  tests-mean x h = tests-from x (λ y. y) (λ b. b) (λ b. refl) h (λ y. refl)
