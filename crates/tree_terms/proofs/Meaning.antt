@@ -17,10 +17,10 @@ use Rattle.term_words.specs.Numbers.{pick, equals}
 use Rattle.term_words.specs.Steps.{compares}
 use Rattle.term_trees.specs.Trees.{Calculation as Held, value, ValueSet as HeldSet, has, either, Condition as HeldCondition, true-at, both as all-hold, any as one-holds, repeats}
 use Rattle.text_shapes.specs.TermShapes.{renamed, renamed-set, renamed-condition, renamed-repeats}
-use Rattle.tree.specs.Lexemes.{Sign, Name, Number}
+use Rattle.tree.specs.Lexemes.{Sign}
 use Rattle.tree.specs.Tree.{Primary, number, variable, Operand, plain, opposite, Factors, no-factor, times, Product, product, Summands, no-summand, plus, minus, Calculation, sum, Item, everything, only, between, from, up-to, SetPart, Choices, item, item-but-item, item-but-set, last-choice, or-choices, Counts, exactly, at-least, at-most, span, Comparison, equal, unequal, less, at-most-as, greater, at-least-as, TestPart, tests, test, conjuncts, disjuncts, Tests, compare, test-group, one-test, all-of, any-of, last-conjunct, and-conjuncts, last-disjunct, or-disjuncts}
-use Rattle.tree_meaning.specs.Pieces.{Term, a-number, a-use, a-sign, primary-terms, operand-terms, factor-terms, product-terms, summand-terms, calculation-terms, Component, whole-number, joined-by, in-item as item-parts, in-set as set-parts, in-counts, in-tests, terms-of}
-use Rattle.tree_meaning.specs.Values.{Environment, equalZ, primary-value, operand-value, times-value, product-value, sum-value, calculation-value, in-item, in-set, passes-in, holds, is-true}
+use Rattle.tree_meaning.specs.Pieces.{Term, a-number, a-use, a-sign, primary-terms, operand-terms, factor-terms, product-terms, summand-terms, calculation-terms, Component, joined-by, in-item as item-parts, in-set as set-parts, in-counts, in-tests, terms-of}
+use Rattle.tree_meaning.specs.Values.{Environment, primary-value, operand-value, times-value, product-value, sum-value, calculation-value, in-item, in-set, passes-in, holds, is-true}
 use Rattle.tree_store.proofs.Uses.{terms-append}
 use Rattle.tree_terms.proofs.Folding.{held-primary, held-operand, held-factors, held-product, held-summands, held-calculation, held-item, held-set, held-counts, held-sign, held-tests}
 
