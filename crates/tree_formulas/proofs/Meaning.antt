@@ -22,7 +22,7 @@ use Rattle.tree.specs.Tree.{Primary, number, variable, Operand, plain, opposite
 use Rattle.tree_meaning.specs.Pieces.{Term, a-number, a-use, a-sign, primary-terms, operand-terms, factor-terms, product-terms, summand-terms, calculation-terms, Component, joined-by, in-item as item-parts, in-set as set-parts, in-counts, in-tests, terms-of}
 use Rattle.tree_meaning.specs.Values.{Environment, primary-value, operand-value, times-value, product-value, sum-value, calculation-value, in-item, in-set, passes-in, holds, is-true}
 use Rattle.tree_store.proofs.Uses.{terms-append}
-use Rattle.tree_terms.proofs.Folding.{held-primary, held-operand, held-factors, held-product, held-summands, held-calculation, held-item, held-set, held-counts, held-sign, held-tests}
+use Rattle.tree_formulas.proofs.Folding.{held-primary, held-operand, held-factors, held-product, held-summands, held-calculation, held-item, held-set, held-counts, held-sign, held-tests}
 
 -- ---- tests
 

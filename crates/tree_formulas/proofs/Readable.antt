@@ -9,7 +9,7 @@ use Rattle.term_words.specs.declared.Term.{Term}
 use Rattle.text_shapes.specs.TermShapes.{read-term, read-terms}
 use Rattle.tree_store.proofs.Rows.{TermRow, no-term}
 use Rattle.tree_store.proofs.Storing.{TermIs}
-use Rattle.tree_terms.proofs.Folding.{row-term, row-terms}
+use Rattle.tree_formulas.proofs.Folding.{row-term, row-terms}
 
 read-row : {ts : List ℕ} {k : ℕ} {r : TermRow} → TermIs ts k r → read-term ts k ≡ row-term r
 read-row h = rw (h .tag-is, h .value-is, h .place-is) refl
