@@ -4,3 +4,4 @@ pub mod Reaching
 pub mod Bodies
 pub mod Variables
 pub mod Owners
+pub mod Sums

@@ -15,3 +15,4 @@ pub mod Binding
 pub mod Naming
 pub mod Names
 pub mod Steps
+pub mod Places

@@ -32,11 +32,11 @@ use Rattle.tree_store.proofs.Binding.{after-bound, mark-quiet, bound-ca
 
 -- ---- rows whose first is no case's body
 
-abbrev Plain : List NodeRow → Type 0
+abbrev pub Plain : List NodeRow → Type 0
 Plain [] = ⊥
 Plain (r ∷ M) = (r .case-from ≡ 0) × (r .case-end ≡ 0)
 
-abbrev PlainFor : Part → List NodeRow → Type 0
+abbrev pub PlainFor : Part → List NodeRow → Type 0
 PlainFor expression M = Plain M
 PlainFor concatenation M = Plain M
 PlainFor factor M = Plain M
@@ -53,7 +53,7 @@ plain-mark (any-number s) size p t M = (refl, refl)
 plain-mark (one-or-more s) size p t M = (refl, refl)
 plain-mark (counted opens n closes) size p t M = (refl, refl)
 
-plain : {p : Part} {d : ℕ} (on : Bool) (x : Tree p d) (t : ℕ) → PlainFor p (node-rows on x t)
+pub plain : {p : Part} {d : ℕ} (on : Bool) (x : Tree p d) (t : ℕ) → PlainFor p (node-rows on x t)
 unfolding node-rows
 plain on (literal l) t = (refl, refl)
 plain on (range a s b one one′) t = (refl, refl)

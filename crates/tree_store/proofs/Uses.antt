@@ -45,7 +45,7 @@ joined (other t a) b = other t (joined a b)
 quiet : {xs : List ℕ} {A B : List TermRow} {us : List Name} → UsesAre xs A us → UsesAre xs B [] → UsesAre xs (A ++ B) us
 quiet {xs} {A} {B} {us} a b = subst (λ (l : List Name). UsesAre xs (A ++ B) l) (append-nil us) (joined a b)
 
-use-marked : (tag : ℕ) → is-use (marked-tag tag) ≡ is-use tag
+pub use-marked : (tag : ℕ) → is-use (marked-tag tag) ≡ is-use tag
 use-marked tag =
     ⊎-elim
     (λ (z : ltb tag 32 ≡ true). rw z (small (ltb-true tag 32 z)))
@@ -77,7 +77,7 @@ uses-append (a-number n ∷ l) m = uses-append l m
 uses-append (a-use x ∷ l) m = ap {B = List Name} (λ r. x ∷ r) (uses-append l m)
 uses-append (a-sign s ∷ l) m = uses-append l m
 
-terms-append : (l m : List Component) → terms-of (l ++ m) ≡ terms-of l ++ terms-of m
+pub terms-append : (l m : List Component) → terms-of (l ++ m) ≡ terms-of l ++ terms-of m
 unfolding terms-of
 terms-append [] m = refl
 terms-append (whole-number c ∷ l) m = ap (λ (q : List Term). calculation-terms c ++ q) (terms-append l m) ∙ sym (append-assoc (calculation-terms c) (terms-of l) (terms-of m))
