@@ -19,7 +19,7 @@ use Rattle.term_trees.specs.Trees.{Calculation as Held, value, ValueSet as Held
 use Rattle.text_shapes.specs.TermShapes.{renamed, renamed-set, renamed-condition, renamed-repeats}
 use Rattle.tree.specs.Lexemes.{Sign}
 use Rattle.tree.specs.Tree.{Primary, number, variable, Operand, plain, opposite, Factors, no-factor, times, Product, product, Summands, no-summand, plus, minus, Calculation, sum, Item, everything, only, between, from, up-to, SetPart, Choices, item, item-but-item, item-but-set, last-choice, or-choices, Counts, exactly, at-least, at-most, span, Comparison, equal, unequal, less, at-most-as, greater, at-least-as, TestPart, tests, test, conjuncts, disjuncts, Tests, compare, test-group, one-test, all-of, any-of, last-conjunct, and-conjuncts, last-disjunct, or-disjuncts}
-use Rattle.tree_meaning.specs.Pieces.{Term, a-number, a-use, a-sign, primary-terms, operand-terms, factor-terms, product-terms, summand-terms, calculation-terms, Component, joined-by, in-item as item-parts, in-set as set-parts, in-counts, in-tests, terms-of}
+use Rattle.tree_meaning.specs.Pieces.{Term, a-number, a-use, a-sign, primary-terms, operand-terms, factor-terms, product-terms, summand-terms, calculation-terms, Component, joined-by, item-parts, set-parts, counts-parts, tests-parts, terms-of}
 use Rattle.tree_meaning.specs.Values.{Environment, primary-value, operand-value, times-value, product-value, sum-value, calculation-value, in-item, in-set, passes-in, holds, is-true}
 use Rattle.tree_store.proofs.Uses.{terms-append}
 use Rattle.tree_formulas.proofs.Folding.{held-primary, held-operand, held-factors, held-product, held-summands, held-calculation, held-item, held-set, held-counts, held-sign, held-tests}
@@ -116,7 +116,7 @@ module _ (g : ℕ → ℕ) (v : List ℤ) (env : Environment) where
 
   -- ---- counts
 
-  pub counts-mean : (x : Counts) → AllFit (terms-of (in-counts x)) → repeats v (renamed-repeats g (held-counts x)) ≡ passes-in env x
+  pub counts-mean : (x : Counts) → AllFit (terms-of (counts-parts x)) → repeats v (renamed-repeats g (held-counts x)) ≡ passes-in env x
   unfolding repeats renamed-repeats terms-of
   counts-mean (exactly n) h = ap just (calculation-means n (fit-left (calculation-terms n) [] h))
   counts-mean (at-least a s) h = ap atLeast (calculation-means a (fit-left (calculation-terms a) (a-sign s ∷ []) h))
@@ -188,9 +188,9 @@ module _ (g : ℕ → ℕ) (v : List ℤ) (env : Environment) where
   compare-means greater a b = not-leZ b a
   compare-means at-least-as a b = refl
 
-  tests-from : {p : TestPart} {d : ℕ} (x : Tests p d) (acc : HeldCondition → HeldCondition) (j : Bool → Bool) → Joins p j → AllFit (terms-of (in-tests x))
+  tests-from : {p : TestPart} {d : ℕ} (x : Tests p d) (acc : HeldCondition → HeldCondition) (j : Bool → Bool) → Joins p j → AllFit (terms-of (tests-parts x))
       → ((y : HeldCondition) → true-at v (renamed-condition g (acc y)) ≡ j (true-at v (renamed-condition g y))) → true-at v (renamed-condition g (held-tests x acc)) ≡ j (is-true env x)
-  unfolding true-at renamed-condition held-tests is-true in-tests terms-of
+  unfolding true-at renamed-condition held-tests is-true tests-parts terms-of
   tests-from (compare a c s b) acc j k h f =
       f _
       ∙ ap j
@@ -202,22 +202,22 @@ module _ (g : ℕ → ℕ) (v : List ℤ) (env : Environment) where
   tests-from (last-conjunct a) acc j k h f = tests-from a acc j tt h f
   tests-from (last-disjunct a) acc j k h f = tests-from a acc j tt h f
   tests-from (all-of a s b) acc j k h f =
-      tests-from b (λ y. all-hold (held-tests a acc) y) (λ c. j (is-true env a) && c) (λ c d. and-assoc (j (is-true env a)) c d) (parts-right (in-tests a) (in-tests b) s h)
-      (λ y. ap (λ (c : Bool). pick c (true-at v (renamed-condition g y)) false) (tests-from a acc j tt (parts-left (in-tests a) (in-tests b) s h) f) ∙ pick-and (j (is-true env a)) (true-at v (renamed-condition g y)))
+      tests-from b (λ y. all-hold (held-tests a acc) y) (λ c. j (is-true env a) && c) (λ c d. and-assoc (j (is-true env a)) c d) (parts-right (tests-parts a) (tests-parts b) s h)
+      (λ y. ap (λ (c : Bool). pick c (true-at v (renamed-condition g y)) false) (tests-from a acc j tt (parts-left (tests-parts a) (tests-parts b) s h) f) ∙ pick-and (j (is-true env a)) (true-at v (renamed-condition g y)))
       ∙ (ap (λ (c : Bool). c && is-true env b) (k (is-true env a)) ∙ sym (k (is-true env a && is-true env b)))
   tests-from (and-conjuncts a s b) acc j k h f =
-      tests-from b (λ y. all-hold (held-tests a acc) y) (λ c. j (is-true env a) && c) (λ c d. and-assoc (j (is-true env a)) c d) (parts-right (in-tests a) (in-tests b) s h)
-      (λ y. ap (λ (c : Bool). pick c (true-at v (renamed-condition g y)) false) (tests-from a acc j tt (parts-left (in-tests a) (in-tests b) s h) f) ∙ pick-and (j (is-true env a)) (true-at v (renamed-condition g y)))
+      tests-from b (λ y. all-hold (held-tests a acc) y) (λ c. j (is-true env a) && c) (λ c d. and-assoc (j (is-true env a)) c d) (parts-right (tests-parts a) (tests-parts b) s h)
+      (λ y. ap (λ (c : Bool). pick c (true-at v (renamed-condition g y)) false) (tests-from a acc j tt (parts-left (tests-parts a) (tests-parts b) s h) f) ∙ pick-and (j (is-true env a)) (true-at v (renamed-condition g y)))
       ∙ k (is-true env a) (is-true env b)
   tests-from (any-of a s b) acc j k h f =
-      tests-from b (λ y. one-holds (held-tests a acc) y) (λ c. j (is-true env a) || c) (λ c d. or-assoc (j (is-true env a)) c d) (parts-right (in-tests a) (in-tests b) s h)
-      (λ y. ap (λ (c : Bool). pick c true (true-at v (renamed-condition g y))) (tests-from a acc j tt (parts-left (in-tests a) (in-tests b) s h) f) ∙ pick-or (j (is-true env a)) (true-at v (renamed-condition g y)))
+      tests-from b (λ y. one-holds (held-tests a acc) y) (λ c. j (is-true env a) || c) (λ c d. or-assoc (j (is-true env a)) c d) (parts-right (tests-parts a) (tests-parts b) s h)
+      (λ y. ap (λ (c : Bool). pick c true (true-at v (renamed-condition g y))) (tests-from a acc j tt (parts-left (tests-parts a) (tests-parts b) s h) f) ∙ pick-or (j (is-true env a)) (true-at v (renamed-condition g y)))
       ∙ (ap (λ (c : Bool). c || is-true env b) (k (is-true env a)) ∙ sym (k (is-true env a || is-true env b)))
   tests-from (or-disjuncts a s b) acc j k h f =
-      tests-from b (λ y. one-holds (held-tests a acc) y) (λ c. j (is-true env a) || c) (λ c d. or-assoc (j (is-true env a)) c d) (parts-right (in-tests a) (in-tests b) s h)
-      (λ y. ap (λ (c : Bool). pick c true (true-at v (renamed-condition g y))) (tests-from a acc j tt (parts-left (in-tests a) (in-tests b) s h) f) ∙ pick-or (j (is-true env a)) (true-at v (renamed-condition g y)))
+      tests-from b (λ y. one-holds (held-tests a acc) y) (λ c. j (is-true env a) || c) (λ c d. or-assoc (j (is-true env a)) c d) (parts-right (tests-parts a) (tests-parts b) s h)
+      (λ y. ap (λ (c : Bool). pick c true (true-at v (renamed-condition g y))) (tests-from a acc j tt (parts-left (tests-parts a) (tests-parts b) s h) f) ∙ pick-or (j (is-true env a)) (true-at v (renamed-condition g y)))
       ∙ k (is-true env a) (is-true env b)
 
   -- the held condition holds exactly where the tree's does
-  pub tests-mean : {d : ℕ} (x : Tests tests d) → AllFit (terms-of (in-tests x)) → true-at v (renamed-condition g (held-tests x (λ y. y))) ≡ is-true env x
+  pub tests-mean : {d : ℕ} (x : Tests tests d) → AllFit (terms-of (tests-parts x)) → true-at v (renamed-condition g (held-tests x (λ y. y))) ≡ is-true env x
   tests-mean x h = tests-from x (λ y. y) (λ b. b) (λ b. refl) h (λ y. refl)

@@ -15,7 +15,7 @@ use Rattle.tree.specs.Spelling.{spell, spell-mark}
 use Rattle.tree_form.specs.Stored.{start-of, stored}
 use Rattle.tree_meaning.specs.Pieces.{rules-of as rules-in, rule-body, variables-of}
 use Rattle.tree_meaning.specs.Counted.{constructs, rule-constructs}
-use Rattle.tree_meaning.specs.Sizes.{first-byte}
+use Rattle.tree_meaning.specs.Places.{first-byte}
 use Rattle.tree_meaning.specs.Grammar.{Construct, plain-at, constructs-of, body-of, variable-of, rules-constructs, construct-at}
 use Rattle.tree_store.proofs.Rows.{NodeRow, no-node, on-first, tests-rows, term-rows, mark-row, node-rows, rules-nodes, tree-nodes, tree-totals}
 use Rattle.tree_store.proofs.Storing.{NodeIs, node-read, totalled-tree}
