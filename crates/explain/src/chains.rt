@@ -104,30 +104,31 @@ fn used(grammar: &[u8], i: usize) {
     say(b"\n");
 }
 
-fn left_out(n: usize) {
+fn counts_as(n: usize) {
     if n == 0 {
-        say(b"  is left out\n");
+        say(b"  counts as left out\n");
     } else {
-        say(b"  comes\n");
+        say(b"  counts as coming\n");
     }
 }
 
-fn repetition(grammar: &[u8], i: usize, n: usize) {
+fn repetition(grammar: &[u8], i: usize) {
     let at = place_of(grammar, i);
     here(grammar, at);
     quote(grammar, at, Part::Member);
-    left_out(n);
 }
 
 // A body that comes is listed by its fields.
 fn repeated(grammar: &[u8], table: &[u32], i: usize, n: usize) {
     if varies(table, i) {
-        repetition(grammar, i, n);
+        repetition(grammar, i);
+        counts_as(n);
         counts_note(grammar, place_of(grammar, i));
         return;
     }
     if n == 0 {
-        repetition(grammar, i, n);
+        repetition(grammar, i);
+        say(b"  is left out\n");
     }
 }
 
@@ -136,9 +137,17 @@ fn ended(grammar: &[u8], i: usize) {
     say(b"eod  takes no bits\n");
 }
 
+// What comes first needs no word in front.
+fn then(is_first: bool) {
+    say(b"        ");
+    if !is_first {
+        say(b"then ");
+    }
+}
+
 fn after_use(grammar: &[u8], i: usize) {
     let at = place_of(grammar, i);
-    say(b"        then what comes after ");
+    say(b"what comes after ");
     token(grammar, at);
     say(b" at ");
     lines::place(grammar, at);
@@ -147,22 +156,31 @@ fn after_use(grammar: &[u8], i: usize) {
 
 fn further(grammar: &[u8], i: usize) {
     let at = place_of(grammar, i);
-    say(b"        then a further pass of ");
+    say(b"a further pass of ");
     quote(grammar, at, Part::Member);
     say(b" at ");
     lines::place(grammar, at);
     say(b":\n");
 }
 
-fn step(grammar: &[u8], table: &[u32], tag: usize, i: usize, value: usize) {
+fn next(grammar: &[u8], tag: usize, i: usize) {
+    match tag {
+        5 => after_use(grammar, i),
+        6 => further(grammar, i),
+        _ => say(b"the frame ends\n"),
+    }
+}
+
+fn step(grammar: &[u8], table: &[u32], is_first: bool, tag: usize, i: usize, value: usize) {
     match tag {
         1 => field(grammar, table, i, value),
         2 => used(grammar, i),
         3 => repeated(grammar, table, i, value),
         4 => ended(grammar, i),
-        5 => after_use(grammar, i),
-        6 => further(grammar, i),
-        _ => say(b"        then the frame ends\n"),
+        _ => {
+            then(is_first);
+            next(grammar, tag, i);
+        }
     }
 }
 
@@ -218,6 +236,7 @@ fn step_at(grammar: &[u8], table: &[u32], steps: &[usize], k: usize) {
     step(
         grammar,
         table,
+        k == 0,
         tag_at(steps, k),
         construct_of(steps, k),
         value_at(steps, k),

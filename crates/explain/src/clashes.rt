@@ -2,8 +2,11 @@
 use crate::chains;
 use crate::rewriting;
 use crate::sets;
+use lookahead::Set;
 use report_chains::machine;
 use report_chains::starts;
+use report_chains::structure::parent_of;
+use report_chains::words::set_at;
 use report_places::Located;
 use report_places::Query;
 use report_places::locate;
@@ -14,6 +17,9 @@ use report_wording::windows;
 use report_wording::writing::number;
 use report_wording::writing::say;
 use table_conflicts::Clash;
+use table_layout::Construct;
+use table_layout::construct_at;
+use table_layout::size_of;
 use text_header::bytes::either;
 ghost use mathlib.Core.Path.{_≡_};
 ghost use Rattle.explain.specs.Report.{part-of};
@@ -57,9 +63,24 @@ fn is_plain(table: &[u32], construct: usize, count: usize) -> bool {
     false
 }
 
-// How construct i, and what comes after it, admits the window; whether a variable is on the way.
+// How construct i, and what comes after it, admits the window.
 fn goes(
     grammar: &[u8],
+    table: &[u32],
+    first: &[u64],
+    follow: &[u64],
+    construct: usize,
+    window: usize,
+) {
+    let mut steps = [0usize; 256];
+    let count = machine::goes(table, first, follow, &mut steps, construct, window);
+    if !is_plain(table, construct, count) {
+        chains::listed(grammar, table, &steps, count);
+    }
+}
+
+// Whether a variable is on the way.
+fn goes_free(
     table: &[u32],
     first: &[u64],
     follow: &[u64],
@@ -68,9 +89,6 @@ fn goes(
 ) -> bool {
     let mut steps = [0usize; 256];
     let count = machine::goes(table, first, follow, &mut steps, construct, window);
-    if !is_plain(table, construct, count) {
-        chains::listed(grammar, table, &steps, count);
-    }
     chains::free(table, &steps, count)
 }
 
@@ -81,11 +99,31 @@ fn stops(
     follow: &[u64],
     construct: usize,
     window: usize,
-) -> bool {
+) {
     let mut steps = [0usize; 256];
     let count = machine::stops(table, first, follow, &mut steps, construct, window);
     chains::listed(grammar, table, &steps, count);
+}
+
+fn stops_free(
+    table: &[u32],
+    first: &[u64],
+    follow: &[u64],
+    construct: usize,
+    window: usize,
+) -> bool {
+    let mut steps = [0usize; 256];
+    let count = machine::stops(table, first, follow, &mut steps, construct, window);
     chains::free(table, &steps, count)
+}
+
+// With a variable on the way the bits may say it after all.
+fn cannot(free: bool) {
+    if free {
+        say(b"Here the check cannot tell;\nit does not know the values of variables");
+    } else {
+        say(b"Here they cannot");
+    }
 }
 
 // With a variable on the way the two need not admit it in any frame; they count as if they did.
@@ -105,7 +143,48 @@ fn turns_admit(free: bool) {
     }
 }
 
-fn change_branches(grammar: &[u8], table: &[u32], window: usize, first: usize, second: usize) {
+fn is_number_field(table: &[u32], i: usize) -> bool {
+    match construct_at(table, i) {
+        Construct::Uint {
+            width: _,
+            start: _,
+            end: _,
+            binder: _,
+        } => true,
+        _ => false,
+    }
+}
+
+fn is_field_outside(table: &[u32], construct: usize, i: usize) -> bool {
+    if !is_number_field(table, i) {
+        return false;
+    }
+    if construct <= i {
+        return size_of(construct_at(table, construct)) <= i - construct;
+    }
+    true
+}
+
+// Whether a uint stands outside of the alternative. In front of the start rule's expression stands nothing.
+fn in_front(table: &[u32], construct: usize) -> bool {
+    let mut i: usize = 0;
+    while i < 256 {
+        if is_field_outside(table, construct, i) {
+            return 0 < construct;
+        }
+        i += 1;
+    }
+    false
+}
+
+fn change_branches(
+    grammar: &[u8],
+    table: &[u32],
+    construct: usize,
+    window: usize,
+    first: usize,
+    second: usize,
+) {
     if window < 2 {
         report_advice::clashes::ends();
         return;
@@ -113,7 +192,7 @@ fn change_branches(grammar: &[u8], table: &[u32], window: usize, first: usize, s
     if rewriting::written(grammar, table, first, second) {
         return;
     }
-    report_advice::clashes::begins();
+    report_advice::clashes::begins(in_front(table, construct));
 }
 
 fn branches(
@@ -121,19 +200,23 @@ fn branches(
     table: &[u32],
     first: &[u64],
     follow: &[u64],
+    construct: usize,
     window: usize,
     one: usize,
     other: usize,
 ) {
+    let a = goes_free(table, first, follow, one, window);
+    let free = either(a, goes_free(table, first, follow, other, window));
     say(b"The next bits of a frame must say which branch of an alternative is\n");
-    say(b"taken. Here they cannot:\n");
+    say(b"taken. ");
+    cannot(free);
+    say(b":\n");
     part(grammar, one);
-    let a = goes(grammar, table, first, follow, one, window);
+    goes(grammar, table, first, follow, one, window);
     part(grammar, other);
-    let b = goes(grammar, table, first, follow, other, window);
-    both_admit(either(a, b));
+    goes(grammar, table, first, follow, other, window);
+    both_admit(free);
     windows::window(window, starts::start_of(table, one));
-    change_branches(grammar, table, window, one, other);
 }
 
 fn next(i: usize) -> usize {
@@ -151,15 +234,18 @@ fn passes(
     construct: usize,
     window: usize,
 ) {
-    say(b"Before each pass of a repetition (?, *, + or {..}) the next bits must\n");
-    say(b"say whether it comes. Here they cannot. A pass of\n");
+    let a = goes_free(table, first, follow, next(construct), window);
+    let free = either(a, stops_free(table, first, follow, construct, window));
+    say(b"Before each pass of ?, *, + or {2~4} the next 8 bits must say whether one\n");
+    say(b"more comes ({4} and {n} are not asked). ");
+    cannot(free);
+    say(b". A pass of\n");
     part_at(grammar, chains::place_of(grammar, construct), Part::Member);
-    let a = goes(grammar, table, first, follow, next(construct), window);
+    goes(grammar, table, first, follow, next(construct), window);
     say(b"may come, or what comes after it:\n");
-    let b = stops(grammar, table, first, follow, construct, window);
-    turns_admit(either(a, b));
+    stops(grammar, table, first, follow, construct, window);
+    turns_admit(free);
     windows::window(window, starts::turn_of(table, construct));
-    report_advice::clashes::passes();
 }
 
 fn explained(
@@ -176,8 +262,122 @@ fn explained(
             window,
             first: one,
             second,
-        } => branches(grammar, table, first, follow, window, one, second),
+        } => branches(
+            grammar,
+            table,
+            first,
+            follow,
+            construct,
+            window,
+            one,
+            second,
+        ),
         Clash::Passes { window } => passes(grammar, table, first, follow, construct, window),
+    }
+}
+
+// How many strings two sets have in common.
+fn common(a: Set, b: Set) -> usize {
+    let mut n: usize = 0;
+    let mut k: usize = 1;
+    while k < 512 {
+        n = counted_both(a, b, k, n);
+        k += 1;
+    }
+    n
+}
+
+fn counted_both(a: Set, b: Set, k: usize, n: usize) -> usize {
+    if lookahead::contains(a, k) {
+        if lookahead::contains(b, k) {
+            if n < 512 {
+                return n + 1;
+            }
+        }
+    }
+    n
+}
+
+// The window that is shown, and others.
+fn besides(n: usize) {
+    if n == 2 {
+        say(b"The check finds one more pattern of next bits that the two share.\n");
+        return;
+    }
+    if 2 < n {
+        number(b"The check finds ", n - 1);
+        say(b" more patterns of next bits that the two share.\n");
+    }
+}
+
+// The first branch from one on that has the window too; 256 where there is none.
+fn third(table: &[u32], prediction: &[u64], construct: usize, window: usize, from: usize) -> usize {
+    let mut i = from;
+    while i < 256 {
+        if is_branch(table, prediction, construct, window, i) {
+            return i;
+        }
+        i += 1;
+    }
+    256
+}
+
+fn is_branch(table: &[u32], prediction: &[u64], construct: usize, window: usize, i: usize) -> bool {
+    if lookahead::contains(set_at(prediction, i), window) {
+        return parent_of(table, i) == construct;
+    }
+    false
+}
+
+fn third_told(grammar: &[u8], i: usize) {
+    if i < 256 {
+        say(b"A further branch clashes with the two as well:\n");
+        part(grammar, i);
+    }
+}
+
+fn shared_branches(
+    grammar: &[u8],
+    table: &[u32],
+    prediction: &[u64],
+    construct: usize,
+    window: usize,
+    one: usize,
+    second: usize,
+) {
+    besides(common(set_at(prediction, one), set_at(prediction, second)));
+    third_told(
+        grammar,
+        third(table, prediction, construct, window, next(second)),
+    );
+    change_branches(grammar, table, construct, window, one, second);
+}
+
+fn shared_passes(follow: &[u64], prediction: &[u64], construct: usize) {
+    besides(common(
+        set_at(prediction, next(construct)),
+        set_at(follow, construct),
+    ));
+    report_advice::clashes::passes();
+}
+
+// What else is shared, and what to change.
+fn shared(
+    grammar: &[u8],
+    table: &[u32],
+    follow: &[u64],
+    prediction: &[u64],
+    construct: usize,
+    clash: Clash,
+) {
+    match clash {
+        Clash::None => {}
+        Clash::Branches {
+            window,
+            first,
+            second,
+        } => shared_branches(grammar, table, prediction, construct, window, first, second),
+        Clash::Passes { window: _ } => shared_passes(follow, prediction, construct),
     }
 }
 
@@ -193,7 +393,7 @@ fn also_branches(grammar: &[u8], table: &[u32], window: usize, one: usize, other
     quote(grammar, at, Part::Branch);
     say(b"  and  ");
     quote(grammar, chains::place_of(grammar, other), Part::Branch);
-    say(b"\n        both admit");
+    say(b"\n        by the check both admit");
     windows::window(window, starts::start_of(table, one));
 }
 
@@ -201,7 +401,7 @@ fn also_passes(grammar: &[u8], table: &[u32], construct: usize, window: usize) {
     let at = chains::place_of(grammar, construct);
     also(grammar, at);
     quote(grammar, at, Part::Member);
-    say(b"\n        going on and stopping both admit");
+    say(b"\n        by the check going on and stopping both admit");
     windows::window(window, starts::turn_of(table, construct));
 }
 
@@ -277,6 +477,7 @@ fn told(grammar: &[u8], table: &[u32], construct: usize, clash: Clash) {
     let mut prediction = [0u64; 2056];
     sets::all(table, &mut first, &mut follow, &mut prediction);
     explained(grammar, table, &first, &follow, construct, clash);
+    shared(grammar, table, &follow, &prediction, construct, clash);
     others(grammar, table, &follow, &prediction, construct);
 }
 

@@ -36,6 +36,13 @@ fn body(grammar: &[u8], table: &[u32], first: &[u64], construct: usize) {
     chains::listed(grammar, table, &steps, count);
 }
 
+// Whether a count with a variable is on the way.
+fn is_free(table: &[u32], first: &[u64], construct: usize) -> bool {
+    let mut steps = [0usize; 256];
+    let count = machine::takes_nothing(table, first, first, &mut steps, next(construct));
+    chains::free(table, &steps, count)
+}
+
 fn is_here(grammar: &[u8], table: &[u32], first: &[u64], i: usize, at: usize) -> bool {
     if sets::empty_body(table, first, i) {
         return mark_of(grammar, i) == at;
@@ -99,9 +106,11 @@ fn told(grammar: &[u8], table: &[u32], at: usize) {
     let mut follow = [0u64; 2056];
     let mut prediction = [0u64; 2056];
     sets::all(table, &mut first, &mut follow, &mut prediction);
-    report_advice::rest::empty_body();
-    body(grammar, table, &first, this(grammar, table, &first, at));
-    report_advice::rest::change_empty_body();
+    let construct = this(grammar, table, &first, at);
+    let free = is_free(table, &first, construct);
+    report_advice::rest::empty_body(free);
+    body(grammar, table, &first, construct);
+    report_advice::rest::change_empty_body(free);
     others(grammar, table, &first, at);
 }
 

@@ -1,4 +1,6 @@
 // An admitted grammar: its numbers, and its fields in order.
+use crate::sets;
+use report_chains::starts::start_of;
 use report_places::Located;
 use report_places::Query;
 use report_places::locate;
@@ -11,12 +13,15 @@ use text_header::bytes::either;
 ghost use mathlib.Core.Path.{_≡_};
 ghost use Rattle.explain.specs.Report.{is-field, bound-of};
 
-fn field_at(grammar: &[u8], construct: usize, at: usize) {
+fn field_at(grammar: &[u8], table: &[u32], construct: usize, at: usize) {
     number(b"    construct ", construct);
     say(b", ");
     lines::place(grammar, at);
     say(b":  ");
     quote(grammar, at, Part::Field);
+    if start_of(table, construct) == 0 {
+        say(b"  (never taken)");
+    }
     say(b"\n");
 }
 
@@ -27,27 +32,27 @@ fn is_field(kind: usize) -> bool
     either(kind == 6, either(kind == 7, kind == 8))
 }
 
-fn field_of(grammar: &[u8], construct: usize, kind: usize, at: usize) {
+fn field_of(grammar: &[u8], table: &[u32], construct: usize, kind: usize, at: usize) {
     if is_field(kind) {
-        field_at(grammar, construct, at);
+        field_at(grammar, table, construct, at);
     }
 }
 
-fn field(grammar: &[u8], construct: usize) {
+fn field(grammar: &[u8], table: &[u32], construct: usize) {
     match locate(grammar, Query::Construct(construct)) {
         Located::Construct {
             place,
             kind,
             count: _,
-        } => field_of(grammar, construct, kind, place),
+        } => field_of(grammar, table, construct, kind, place),
         _ => {}
     }
 }
 
-fn fields(grammar: &[u8], count: usize) {
+fn fields(grammar: &[u8], table: &[u32], count: usize) {
     let mut i = 0;
     while i < count {
-        field(grammar, i);
+        field(grammar, table, i);
         i += 1;
     }
 }
@@ -85,6 +90,7 @@ pub fn admitted(grammar: &[u8], weight: usize) {
     number(b", constructs ", count);
     say(b"\n");
     bound(weight);
-    say(b"The fields in order:\n");
-    fields(grammar, count);
+    say(b"The fields in the text's order, with the numbers that a reading gives:\n");
+    let words = sets::encoded(grammar).words;
+    fields(grammar, &words, count);
 }

@@ -5,19 +5,19 @@ use report_places::locate;
 
 fn more(rules: usize, constructs: usize) {
     if 64 < rules {
-        report_advice::limits::rules(rules);
+        report_advice::limits::rules();
     }
     if 256 < constructs {
-        report_advice::limits::constructs(constructs);
+        report_advice::limits::constructs();
     }
 }
 
 fn within(terms: usize, variables: usize) {
     if 1024 < terms {
-        report_advice::limits::terms(terms);
+        report_advice::limits::terms();
     }
     if 64 < variables {
-        report_advice::limits::variables(variables);
+        report_advice::limits::variables();
     }
 }
 

@@ -11,11 +11,11 @@ use report_wording::quoting::quote;
 use report_wording::writing::say;
 use table_layout::word;
 
-fn warned(grammar: &[u8], at: usize, sentence: &[u8]) {
+fn warned(grammar: &[u8], at: usize, part: Part, sentence: &[u8]) {
     say(b"Warning: ");
     lines::place(grammar, at);
     say(b":  ");
-    quote(grammar, at, Part::Field);
+    quote(grammar, at, part);
     say(b"\n    ");
     say(sentence);
 }
@@ -27,6 +27,7 @@ fn field(grammar: &[u8], table: &[u32], first: &[u64], i: usize) {
             warned(
                 grammar,
                 place_of(grammar, i),
+                Part::Field,
                 b"admits no value: no frame matches where it must come.\n",
             );
         }
@@ -47,7 +48,8 @@ fn rule(grammar: &[u8], table: &[u32], k: usize) {
             warned(
                 grammar,
                 place_of(grammar, body_of(table, k)),
-                b"is in a rule that nothing uses.\n",
+                Part::Whole,
+                b"is the expression of a rule that nothing uses.\n",
             );
         }
     }

@@ -13,8 +13,15 @@ fn close(kind: usize) {
     }
 }
 
-fn after_item(kind: usize) {
-    say(b"Here can come: ? * + {..} ");
+// A literal of one character may begin a range; the second of a range may not.
+fn after_item(kind: usize, second: usize, last: usize) {
+    say(b"Here can come: ");
+    if last == 9 {
+        if second != 126 {
+            say(b"~ ");
+        }
+    }
+    say(b"? * + {..} ");
     close(kind);
 }
 
@@ -23,7 +30,7 @@ fn after_mark(kind: usize) {
     close(kind);
 }
 
-fn expression(kind: usize, last: usize) {
+fn expression(kind: usize, second: usize, last: usize) {
     match last {
         61 => item(),
         38 => item(),
@@ -36,7 +43,7 @@ fn expression(kind: usize, last: usize) {
         125 => after_mark(kind),
         126 => say(b"Here must come a literal of one character.\n"),
         59 => say(b"Here must come the name of a rule.\n"),
-        _ => after_item(kind),
+        _ => after_item(kind, second, last),
     }
 }
 
@@ -86,12 +93,12 @@ fn condition(last: usize) {
     say(b"in front of the colon.\n");
 }
 
-// By the innermost bracket that is open, and the token before.
-pub fn told(kind: usize, last: usize) {
+// By the innermost bracket that is open, and the two tokens before.
+pub fn told(kind: usize, second: usize, last: usize) {
     match kind {
-        0 => expression(kind, last),
-        1 => expression(kind, last),
-        5 => expression(kind, last),
+        0 => expression(kind, second, last),
+        1 => expression(kind, second, last),
+        5 => expression(kind, second, last),
         6 => counts(last),
         4 => condition(last),
         _ => set(last),

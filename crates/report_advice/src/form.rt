@@ -54,10 +54,10 @@ fn no_rule() {
     say(b"    name = expression ;\n");
 }
 
-fn unfinished(last: usize) {
+fn unfinished(second: usize, last: usize) {
     say(b"The text ends here in the middle of a rule. A rule is written\n");
     say(b"    name = expression ;\n");
-    expected::told(0, last);
+    expected::told(0, second, last);
     say(b"What to change: finish the rule.\n");
 }
 
@@ -79,7 +79,7 @@ fn end(grammar: &[u8], seen: Context, kind: usize, place: usize) {
         slips::ended(grammar, kind, place);
         return;
     }
-    unfinished(seen.last);
+    unfinished(seen.second, seen.last);
 }
 
 fn repetition() {
@@ -101,7 +101,10 @@ fn equals() {
     say(b"What to change: put = here. Or is a ; one too many in front of it?\n");
 }
 
-fn field() {
+fn field(code: usize, last: usize) {
+    if both(code == 41, last == 2) {
+        say(b"A comma and a set are missing here.\n");
+    }
     say(b"A field is written uint(width, set): the width is one number from 1\n");
     say(b"to 32, then come a comma and a set, as in\n");
     say(b"    uint(8, 0~9 | 20)     uint(8, ~)     uint(8, var(n, 1~8))\n");
@@ -138,8 +141,8 @@ fn mixed() {
 
 fn number() {
     say(b"A number stands only in a uint, in counts {..} and in conditions.\n");
-    say(b"What to change: write the text in quotes, as in \"5\", or a field, as\n");
-    say(b"in uint(8, 5).\n");
+    say(b"What to change: write the text in quotes, as in \"5\" (byte 35), or a\n");
+    say(b"field, as in uint(8, 5) (byte 05).\n");
 }
 
 fn item() {
@@ -155,10 +158,14 @@ fn call() {
     say(b"missing in front of the ( ?\n");
 }
 
-fn rule_start() {
+fn rule_start(code: usize) {
     say(b"The name of a rule must stand here. A rule is written\n");
     say(b"    name = expression ;\n");
-    say(b"What to change: is a ; one too many in front of it?\n");
+    if code == 59 {
+        say(b"What to change: this ; is one too many; take it out.\n");
+    } else {
+        say(b"What to change: is a ; one too many in front of it?\n");
+    }
 }
 
 fn sign() {
@@ -254,7 +261,7 @@ fn general(code: usize, last: usize) {
 
 fn bracketed(code: usize, seen: Context) {
     if in_field(seen.third, seen.second, seen.last) {
-        field();
+        field(code, seen.last);
         return;
     }
     if in_set(seen.second, seen.last) {
@@ -279,7 +286,7 @@ fn misplaced(code: usize, seen: Context) {
 // Outside of brackets: after a `;`, and after that and a name.
 fn outside(code: usize, seen: Context) {
     if seen.last == 59 {
-        rule_start();
+        rule_start(code);
         return;
     }
     if both(seen.second == 59, seen.last == 1) {
@@ -304,7 +311,7 @@ fn opened(code: usize, seen: Context) {
 // What can stand there, and what is wrong.
 fn not_a_slip(code: usize, seen: Context, kind: usize) {
     if both(seen.depth < 16, both(seen.second != 59, seen.last != 59)) {
-        expected::told(kind, seen.last);
+        expected::told(kind, seen.second, seen.last);
     }
     opened(code, seen);
 }

@@ -32,7 +32,8 @@ fn first_line() {
     say(b"The first line of a grammar must be\n");
     say(b"    dogma_v1 utf-8\n");
     say(b"and nothing else: no blank at its start or end, no byte order mark\n");
-    say(b"in front of it.\n");
+    say(b"in front of it. (More blanks between the two words, and capitals in\n");
+    say(b"utf-8, are right too.)\n");
     say(b"What to change: write it so. An empty line must end the header,\n");
     say(b"before the rules.\n");
 }

@@ -59,7 +59,8 @@ pub fn later() {
 
 pub fn change_later() {
     say(b"What to change: use it in a member that comes after the field that\n");
-    say(b"binds it. The field's own set cannot use it.\n");
+    say(b"binds it. The field's own set cannot use it. To put the field elsewhere\n");
+    say(b"changes the frames.\n");
 }
 
 pub fn rule() {

@@ -22,15 +22,18 @@ fn large_number() {
 
 fn width() {
     say(b"The width of a uint is a number of bits from 1 to 32.\n");
-    say(b"What to change: write such a width. A wider field is two, as in\n");
-    say(b"uint(32, ~) & uint(8, ~).\n");
+    say(b"What to change: write such a width. A wider field is two, and the frames\n");
+    say(b"stay as they are meant: 64 bits are uint(32, ~) & uint(32, ~).\n");
 }
 
 fn calculation() {
-    say(b"This calculation can become too large: with every variable at its\n");
-    say(b"largest value, no part of it may pass 2^62 (about 4.6 times 10^18).\n");
-    say(b"What to change: multiply smaller numbers, or bind the variable by a\n");
-    say(b"uint of fewer bits.\n");
+    say(b"This calculation can become too large: with every variable at the largest\n");
+    say(b"value that its width allows, whatever its set, no part of it may pass 2^62\n");
+    say(b"(about 4.6 times 10^18).\n");
+    say(b"What to change: multiply smaller numbers, or bind the variable by a uint of\n");
+    say(b"fewer bits. The frames stay the same where the bits in front are a field of\n");
+    say(b"their own: uint(16, 0) & uint(16, var(n, ~)) for uint(32, var(n, 0~65535)).\n");
+    say(b"Else they may change.\n");
 }
 
 // 8: only a width is followed by a comma.
@@ -48,16 +51,28 @@ pub fn extent(grammar: &[u8], at: usize) {
     calculation();
 }
 
-pub fn empty_body() {
-    say(b"What this sign repeats can take no bits at all, so nobody could say\n");
-    say(b"how many passes there were. This is how:\n");
+// `free`: by a count with a variable.
+pub fn empty_body(free: bool) {
+    if free {
+        say(b"What this sign repeats is taken to be possibly empty; the check does not\n");
+        say(b"know the values of variables. This is how:\n");
+    } else {
+        say(b"What this sign repeats can take no bits at all, so nobody could say\n");
+        say(b"how many passes there were. This is how:\n");
+    }
 }
 
-pub fn change_empty_body() {
+pub fn change_empty_body(free: bool) {
     say(b"What to change: let each pass take at least one bit. A ?, * or {0~..}\n");
     say(b"around the whole of what is repeated can go: (\"A\"?)* and (\"A\"?)+ match\n");
-    say(b"what \"A\"* matches. Else take this sign away, or let a pass begin with\n");
-    say(b"a field that is always there. eod cannot be repeated.\n");
+    say(b"what \"A\"* matches. ");
+    if free {
+        say(b"Where n is never 0, (\"A\" & \"A\"{n - 1})* matches what\n");
+        say(b"(\"A\"{n})* would match. ");
+    }
+    say(b"Else take this sign away, or let a pass begin with a\n");
+    say(b"field that is always there: both may change the frames. eod cannot be\n");
+    say(b"repeated.\n");
 }
 
 pub fn weight() {

@@ -1,5 +1,6 @@
 // Refusal 4: slips that are often made, by name.
 use report_wording::lines;
+use report_wording::openings::open_before;
 use report_wording::writing::say;
 use text_header::bytes::both;
 use text_header::bytes::either;
@@ -47,8 +48,9 @@ fn semicolon(grammar: &[u8], end: usize) {
     say(b"What to change: put the ; there. Every rule is name = expression ;.\n");
 }
 
-fn open_group() {
-    say(b"A ) is missing in front of this ;.\n");
+fn open_group(grammar: &[u8], end: usize) {
+    say(b"A ) is missing in front of this ;. The ( that is not closed:\n");
+    lines::shown(grammar, open_before(grammar, end));
     say(b"What to change: close the group, or take its ( away.\n");
 }
 
@@ -58,15 +60,18 @@ fn unfinished(grammar: &[u8], end: usize) {
     say(b"What to change: put the ; there.\n");
 }
 
-fn unclosed(sign: &[u8]) {
+fn unclosed(grammar: &[u8], end: usize, sign: &[u8]) {
     say(b"The text ends here, and a ");
     say(sign);
-    say(b" is missing.\n");
+    say(b" is missing. The bracket that is not closed:\n");
+    lines::shown(grammar, open_before(grammar, end));
     say(b"What to change: close the bracket, and end the rule with ;.\n");
 }
 
-fn open_case() {
+fn open_case(grammar: &[u8], end: usize) {
     say(b"The text ends here in a switch: the ; of its case and its ] are missing.\n");
+    say(b"The switch begins here:\n");
+    lines::shown(grammar, open_before(grammar, end));
     say(b"What to change: put them there, and end the rule with ;.\n");
 }
 
@@ -157,7 +162,7 @@ pub fn told(
         return true;
     }
     if both(kind == 1, both(code == 59, item_end(last))) {
-        open_group();
+        open_group(grammar, end);
         return true;
     }
     in_brackets(kind, code, last)
@@ -181,17 +186,18 @@ fn item_end(code: usize) -> bool {
 pub fn ended(grammar: &[u8], kind: usize, end: usize) {
     match kind {
         0 => unfinished(grammar, end),
-        4 => unclosed(b"]"),
-        5 => open_case(),
-        6 => unclosed(b"}"),
-        _ => unclosed(b")"),
+        4 => unclosed(grammar, end, b"]"),
+        5 => open_case(grammar, end),
+        6 => unclosed(grammar, end, b"}"),
+        _ => unclosed(grammar, end, b")"),
     }
 }
 
 fn division() {
     say(b"There is no division.\n");
     say(b"What to change: bind the half itself: uint(8, var(n, ~)) & \"AB\"{n} has\n");
-    say(b"2 * n bytes. A comment goes from # to the line's end.\n");
+    say(b"2 * n + 1 bytes. That changes the frames where the field has the whole.\n");
+    say(b"A comment goes from # to the line's end.\n");
 }
 
 fn dots() {

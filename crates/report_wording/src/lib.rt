@@ -2,6 +2,7 @@
 pub mod brackets;
 pub mod lines;
 pub mod nearest;
+pub mod openings;
 pub mod prefixes;
 pub mod quoting;
 pub mod variables;

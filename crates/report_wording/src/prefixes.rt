@@ -107,6 +107,48 @@ fn fit(grammar: &[u8], first: usize, second: usize, n: usize) -> bool {
     false
 }
 
+// The branch is its literal.
+fn alone(grammar: &[u8], at: usize) -> bool {
+    end_of(grammar, at, Part::Branch) <= look(grammar, at).end
+}
+
+// One branch is all that the two share, and the other goes on.
+fn is_prefix(grammar: &[u8], whole: usize, other: usize, n: usize) -> bool {
+    if n == 0 {
+        return false;
+    }
+    if longer(grammar, whole, n) {
+        return false;
+    }
+    if alone(grammar, whole) {
+        if longer(grammar, other, n) {
+            return short(grammar, other);
+        }
+    }
+    false
+}
+
+fn optional(grammar: &[u8], other: usize, n: usize) {
+    say(b"What to change: put what both begin with in front of the two, once, and let\n");
+    say(b"the rest be left out. The frames stay the same. In place of the two branches\n");
+    say(b"write\n    \"");
+    bytes(
+        Style::Line,
+        grammar,
+        plus(other, 1),
+        plus(other, plus(1, n)),
+    );
+    say(b"\" & ");
+    if alone(grammar, other) {
+        rest(grammar, other, n);
+        say(b"?\n");
+        return;
+    }
+    say(b"(");
+    rest(grammar, other, n);
+    say(b")?\n");
+}
+
 fn written(grammar: &[u8], first: usize, second: usize, n: usize) {
     say(b"What to change: put what both begin with in front of the two, once.\n");
     say(b"The frames stay the same. In place of the two branches write\n");
@@ -124,9 +166,18 @@ fn written(grammar: &[u8], first: usize, second: usize, n: usize) {
     say(b")\n");
 }
 
-// Whether the two could be written so: both literals go on after what they share, and differ there.
+// Whether the two could be written so: both literals go on after what they share, and differ there; or one of the two does, and the other is a
+// whole branch.
 pub fn taken_out(grammar: &[u8], first: usize, second: usize) -> bool {
     let n = shared(grammar, first, second);
+    if is_prefix(grammar, first, second, n) {
+        optional(grammar, second, n);
+        return true;
+    }
+    if is_prefix(grammar, second, first, n) {
+        optional(grammar, first, n);
+        return true;
+    }
     if fit(grammar, first, second, n) {
         written(grammar, first, second, n);
         return true;

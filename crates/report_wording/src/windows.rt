@@ -139,8 +139,22 @@ fn into(k: usize) {
     say(b" bits into a byte).\n");
 }
 
+// Fewer than 8 bits are all that is left of the frame.
+fn several(n: usize) {
+    if n == 1 {
+        say(b" (the last bit of the frame).\n");
+        return;
+    }
+    if n < 8 {
+        number(b" (the last ", n);
+        say(b" bits of the frame).\n");
+        return;
+    }
+    say(b" (they can begin at different bits of a byte).\n");
+}
+
 // Where the bits begin in a byte is a set of remainders by 8: at one place, at several, or nowhere.
-fn elsewhere(starts: usize) {
+fn elsewhere(starts: usize, n: usize) {
     match starts {
         0 => say(b" (no frame comes to this place: nothing uses the rule).\n"),
         2 => into(1),
@@ -150,7 +164,7 @@ fn elsewhere(starts: usize) {
         32 => into(5),
         64 => into(6),
         128 => into(7),
-        _ => say(b" (they can begin at different bits of a byte).\n"),
+        _ => several(n),
     }
 }
 
@@ -159,7 +173,7 @@ fn placed(window: usize, n: usize, starts: usize) {
     if starts == 1 {
         value(window, n);
     } else {
-        elsewhere(starts);
+        elsewhere(starts, n);
     }
 }
 

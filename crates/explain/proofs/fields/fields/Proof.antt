@@ -5,10 +5,10 @@ use Rattle.explain.proofs.fields.fields.Statement.{statement}
 use Rattle.explain.proofs.fields.fields.Tie as tie
 
 abbrev Inv-loop : tie.InvT-loop
-Inv-loop grammar count i₀ i = Unit
+Inv-loop grammar table count i₀ i = Unit
 
 abbrev μ-loop : tie.MeasureT-loop
-μ-loop grammar count i₀ i = count - i
+μ-loop grammar table count i₀ i = count - i
 
 loop-holds : tie.Need-loop-holds Inv-loop μ-loop
 loop-holds c = tt
