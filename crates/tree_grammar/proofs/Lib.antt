@@ -1,0 +1,2 @@
+-- The grammar of what is stored of a tree is the tree's.
+pub mod Parts
