@@ -1,2 +1,3 @@
 -- The grammar of what is stored of a tree is the tree's.
 pub mod Parts
+pub mod Nodes
