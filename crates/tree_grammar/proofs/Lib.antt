@@ -1,3 +1,4 @@
 -- The grammar of what is stored of a tree is the tree's.
 pub mod Parts
 pub mod Nodes
+pub mod Terms
