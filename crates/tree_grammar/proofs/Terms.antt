@@ -168,3 +168,159 @@ module _ (g : ℕ → ℕ) (numbered : List ℕ → ℕ) where
 
   pub calculation-listed : (c : Calculation) → Resolved (calculation-terms c) → rows-terms (calculation-rows c) ≡ calculationTerms (calculation-tree numbered c)
   calculation-listed c h = whole (calculation-rowed c h)
+
+  -- ---- sets
+
+  -- of each calculation among these
+  unfoldable Each : List Component → Type 0
+  Each [] = Unit {0}
+  Each (whole-number c ∷ more) = Resolved (calculation-terms c) × Each more
+  Each (joined-by s ∷ more) = Each more
+
+  all-each : (f : List Component) → Resolved (terms-of f) → Each f
+  unfolding Resolved Each terms-of
+  all-each [] h = tt
+  all-each (whole-number c ∷ more) h = (resolved-first (calculation-terms c) (terms-of more) h, all-each more (resolved-second (calculation-terms c) (terms-of more) h))
+  all-each (joined-by s ∷ more) h = all-each more h
+
+  each-first : (f k : List Component) → Each (f ++ k) → Each f
+  unfolding Each
+  each-first [] k h = tt
+  each-first (whole-number c ∷ f) k h = (h .0, each-first f k (h .1))
+  each-first (joined-by s ∷ f) k h = each-first f k h
+
+  each-second : (f k : List Component) → Each (f ++ k) → Each k
+  unfolding Each
+  each-second [] k h = h
+  each-second (whole-number c ∷ f) k h = each-second f k (h .1)
+  each-second (joined-by s ∷ f) k h = each-second f k h
+
+  -- two lists and a sign
+  signed : (A B : List TermRow) (s : TermRow) (l m : List Term) (y : Term) → rows-terms A ≡ l → rows-terms B ≡ m → row-term s ≡ y → rows-terms (A ++ (B ++ (s ∷ []))) ≡ (l ++ m) ++ (y ∷ [])
+  signed A B s l m y p q e =
+      map-both row-term A (B ++ (s ∷ []))
+      ∙ ap (λ (k : List Term). rows-terms A ++ k) (map-both row-term B (s ∷ []))
+      ∙ sym (append-assoc (rows-terms A) (rows-terms B) (row-term s ∷ []))
+      ∙ (λ t. (p t ++ q t) ++ (e t ∷ []))
+
+  -- one and a sign
+  ended : (A : List TermRow) (s : TermRow) (l : List Term) (y : Term) → rows-terms A ≡ l → row-term s ≡ y → rows-terms (A ++ (s ∷ [])) ≡ l ++ (y ∷ [])
+  ended A s l y p e = map-both row-term A (s ∷ []) ∙ (λ t. p t ++ (e t ∷ []))
+
+  item-listed : (x : Item) → Each (item-parts x) → rows-terms (item-rows x) ≡ setTerms (item-tree numbered x)
+  unfolding Each item-rows setTerms termOf
+  item-listed (everything s) h = refl
+  item-listed (only a) h = single (calculation-rowed a (h .0))
+  item-listed (between a s b) h = signed (calculation-rows a) (calculation-rows b) (a-term 8 0 (s .start) 0) _ _ Term.Range (calculation-listed a (h .0)) (calculation-listed b (h .1 .0)) refl
+  item-listed (from a s) h = ended (calculation-rows a) (a-term 9 0 (s .start) 0) _ Term.From (calculation-listed a (h .0)) refl
+  item-listed (up-to s b) h = ended (calculation-rows b) (a-term 10 0 (s .start) 0) _ Term.UpTo (calculation-listed b (h .0)) refl
+
+  -- B are the rows of what stands before, J those of the sign that joins it
+  abbrev Joined : List TermRow → List TermRow → Option TermSet → Type 0
+  Joined B J none = (rows-terms B ≡ []) × (rows-terms J ≡ [])
+  Joined B J (some y) = (rows-terms B ≡ setTerms y) × (rows-terms J ≡ Term.Or ∷ [])
+
+  three : (B A J : List TermRow) (l : List Term) → rows-terms A ≡ l → rows-terms (B ++ (A ++ J)) ≡ rows-terms B ++ (l ++ rows-terms J)
+  three B A J l e = map-both row-term B (A ++ J) ∙ ap (λ (k : List Term). rows-terms B ++ k) (map-both row-term A J ∙ ap (λ (k : List Term). k ++ rows-terms J) e)
+
+  set-joined : (o : Option TermSet) (B A J : List TermRow) (z : TermSet) → Joined B J o → rows-terms A ≡ setTerms z → rows-terms (B ++ (A ++ J)) ≡ setTerms (set-after o z)
+  unfolding setTerms
+  set-joined none B A J z j e = three B A J (setTerms z) e ∙ (λ t. j .0 t ++ (setTerms z ++ j .1 t)) ∙ append-nil (setTerms z)
+  set-joined (some y) B A J z j e = three B A J (setTerms z) e ∙ (λ t. j .0 t ++ (setTerms z ++ j .1 t)) ∙ sym (append-assoc (setTerms y) (setTerms z) (Term.Or ∷ []))
+
+  but-listed : (s : ℕ) (A B : List TermRow) (y z : TermSet) → rows-terms A ≡ setTerms y → rows-terms B ≡ setTerms z → rows-terms (A ++ (B ++ (a-term 12 0 s 0 ∷ []))) ≡ setTerms (without y z)
+  unfolding setTerms termOf
+  but-listed s A B y z p q = signed A B (a-term 12 0 s 0) (setTerms y) (setTerms z) Term.Except p q refl
+
+  -- a set with its sign behind it
+  but-joined : (o : Option TermSet) (s : ℕ) (C A B J : List TermRow) (y z : TermSet) → Joined C J o → rows-terms A ≡ setTerms y → rows-terms B ≡ setTerms z
+      → rows-terms (C ++ (A ++ (B ++ (a-term 12 0 s 0 ∷ J)))) ≡ setTerms (set-after o (without y z))
+  but-joined o s C A B J y z j p q =
+      ap (λ (l : List TermRow). rows-terms (C ++ l)) (sym (moved A B J (a-term 12 0 s 0))) ∙ set-joined o C (A ++ (B ++ (a-term 12 0 s 0 ∷ []))) J (without y z) j (but-listed s A B y z p q)
+
+  set-rowed : {p : SetPart} {d : ℕ} (o : Option TermSet) (x : Choices p d) (B J : List TermRow) → Joined B J o → Each (set-parts x) → rows-terms (B ++ set-rows x J) ≡ setTerms (set-tree numbered o x)
+  unfolding Each set-rows set-tree set-parts termOf
+  set-rowed o (item a) B J j h = set-joined o B (item-rows a) J (item-tree numbered a) j (item-listed a h)
+  set-rowed o (item-but-item a s b) B J j h =
+      but-joined o (s .start) B (item-rows a) (item-rows b) J (item-tree numbered a) (item-tree numbered b) j (item-listed a (each-first (item-parts a) (joined-by s ∷ item-parts b) h)) (item-listed b (each-second (item-parts a) (joined-by s ∷ item-parts b) h))
+  set-rowed o (item-but-set depth a s opens b closes) B J j h =
+      but-joined o (s .start) B (item-rows a) (set-rows b []) J (item-tree numbered a) (set-tree numbered none b) j (item-listed a (each-first (item-parts a) (joined-by s ∷ set-parts b) h))
+      (set-rowed none b [] [] (refl, refl) (each-second (item-parts a) (joined-by s ∷ set-parts b) h))
+  set-rowed o (last-choice a) B J j h = set-rowed o a B J j h
+  set-rowed o (or-choices a s b) B J j h =
+      ap rows-terms (sym (append-assoc B (set-rows a J) (set-rows b (a-term 11 0 (s .start) 0 ∷ []))))
+      ∙ set-rowed (some (set-tree numbered o a)) b (B ++ set-rows a J) (a-term 11 0 (s .start) 0 ∷ []) (set-rowed o a B J j (each-first (set-parts a) (joined-by s ∷ set-parts b) h), refl) (each-second (set-parts a) (joined-by s ∷ set-parts b) h)
+
+  pub set-listed : {d : ℕ} (x : ValueSet d) → Resolved (terms-of (set-parts x)) → rows-terms (set-rows x []) ≡ setTerms (set-tree numbered none x)
+  set-listed x h = set-rowed none x [] [] (refl, refl) (all-each (set-parts x) h)
+
+  -- ---- counts
+
+  counts-rowed : (x : Counts) → Each (counts-parts x) → rows-terms (counts-rows x) ≡ repeatTerms (counts-tree numbered x)
+  unfolding Each counts-rows repeatTerms termOf
+  counts-rowed (exactly n) h = calculation-listed n (h .0)
+  counts-rowed (at-least a s) h = ended (calculation-rows a) (a-term 9 0 (s .start) 0) _ Term.From (calculation-listed a (h .0)) refl
+  counts-rowed (at-most s b) h = ended (calculation-rows b) (a-term 10 0 (s .start) 0) _ Term.UpTo (calculation-listed b (h .0)) refl
+  counts-rowed (span a s b) h = signed (calculation-rows a) (calculation-rows b) (a-term 8 0 (s .start) 0) _ _ Term.Range (calculation-listed a (h .0)) (calculation-listed b (h .1 .0)) refl
+
+  pub counts-listed : (x : Counts) → Resolved (terms-of (counts-parts x)) → rows-terms (counts-rows x) ≡ repeatTerms (counts-tree numbered x)
+  counts-listed x h = counts-rowed x (all-each (counts-parts x) h)
+
+  -- ---- conditions
+
+  abbrev JoinedTest : List TermRow → List TermRow → Before → Type 0
+  JoinedTest B J alone = (rows-terms B ≡ []) × (rows-terms J ≡ [])
+  JoinedTest B J (and-after y) = (rows-terms B ≡ conditionTerms y) × (rows-terms J ≡ Term.And ∷ [])
+  JoinedTest B J (or-after y) = (rows-terms B ≡ conditionTerms y) × (rows-terms J ≡ Term.Or ∷ [])
+
+  unfoldable JoinedPart : List TermRow → List TermRow → (p : TestPart) → BeforePart p → Type 0
+  JoinedPart B J tests o = (rows-terms B ≡ []) × (rows-terms J ≡ [])
+  JoinedPart B J test o = JoinedTest B J o
+  JoinedPart B J conjuncts o = (rows-terms B ≡ conditionTerms o) × (rows-terms J ≡ Term.And ∷ [])
+  JoinedPart B J disjuncts o = (rows-terms B ≡ conditionTerms o) × (rows-terms J ≡ Term.Or ∷ [])
+
+  test-joined : (o : Before) (B A J : List TermRow) (z : TermCondition) → JoinedTest B J o → rows-terms A ≡ conditionTerms z → rows-terms (B ++ (A ++ J)) ≡ conditionTerms (test-after o z)
+  unfolding conditionTerms
+  test-joined alone B A J z j e = three B A J (conditionTerms z) e ∙ (λ t. j .0 t ++ (conditionTerms z ++ j .1 t)) ∙ append-nil (conditionTerms z)
+  test-joined (and-after y) B A J z j e = three B A J (conditionTerms z) e ∙ (λ t. j .0 t ++ (conditionTerms z ++ j .1 t)) ∙ sym (append-assoc (conditionTerms y) (conditionTerms z) (Term.And ∷ []))
+  test-joined (or-after y) B A J z j e = three B A J (conditionTerms z) e ∙ (λ t. j .0 t ++ (conditionTerms z ++ j .1 t)) ∙ sym (append-assoc (conditionTerms y) (conditionTerms z) (Term.Or ∷ []))
+
+  comparison-row : (c : Comparison) (s : ℕ) → row-term (a-term (tag-of c) 0 s 0) ≡ Term.Compare (comparison-term c)
+  unfolding termOf
+  comparison-row equal s = refl
+  comparison-row unequal s = refl
+  comparison-row less s = refl
+  comparison-row at-most-as s = refl
+  comparison-row greater s = refl
+  comparison-row at-least-as s = refl
+
+  compare-listed : (a : Calculation) (c : Comparison) (s : ℕ) (b : Calculation) → Resolved (calculation-terms a) → Resolved (calculation-terms b)
+      → rows-terms (calculation-rows a ++ (calculation-rows b ++ (a-term (tag-of c) 0 s 0 ∷ []))) ≡ conditionTerms (compared (comparison-term c) (calculation-tree numbered a) (calculation-tree numbered b))
+  unfolding conditionTerms
+  compare-listed a c s b p q = signed (calculation-rows a) (calculation-rows b) (a-term (tag-of c) 0 s 0) _ _ (Term.Compare (comparison-term c)) (calculation-listed a p) (calculation-listed b q) (comparison-row c s)
+
+  tests-rowed : {p : TestPart} {d : ℕ} (o : BeforePart p) (x : Tests p d) (B J : List TermRow) → JoinedPart B J p o → Each (tests-parts x) → rows-terms (B ++ tests-rows x J) ≡ conditionTerms (tests-tree numbered o x)
+  unfolding Each tests-rows tests-tree tests-parts termOf JoinedPart
+  tests-rowed o (compare a c s b) B J j h =
+      ap (λ (l : List TermRow). rows-terms (B ++ l)) (sym (moved (calculation-rows a) (calculation-rows b) J (a-term (tag-of c) 0 (s .start) 0)))
+      ∙ test-joined o B (calculation-rows a ++ (calculation-rows b ++ (a-term (tag-of c) 0 (s .start) 0 ∷ []))) J (compared (comparison-term c) (calculation-tree numbered a) (calculation-tree numbered b)) j (compare-listed a c (s .start) b (h .0) (h .1 .0))
+  tests-rowed o (test-group depth opens a closes) B J j h = test-joined o B (tests-rows a []) J (tests-tree numbered tt a) j (tests-rowed tt a [] [] (refl, refl) h)
+  tests-rowed o (one-test a) B J j h = tests-rowed alone a B J j h
+  tests-rowed o (all-of a s b) B J j h =
+      ap rows-terms (sym (append-assoc B (tests-rows a J) (tests-rows b (a-term 13 0 (s .start) 0 ∷ []))))
+      ∙ tests-rowed (tests-tree numbered alone a) b (B ++ tests-rows a J) (a-term 13 0 (s .start) 0 ∷ []) (tests-rowed alone a B J j (each-first (tests-parts a) (joined-by s ∷ tests-parts b) h), refl) (each-second (tests-parts a) (joined-by s ∷ tests-parts b) h)
+  tests-rowed o (any-of a s b) B J j h =
+      ap rows-terms (sym (append-assoc B (tests-rows a J) (tests-rows b (a-term 11 0 (s .start) 0 ∷ []))))
+      ∙ tests-rowed (tests-tree numbered alone a) b (B ++ tests-rows a J) (a-term 11 0 (s .start) 0 ∷ []) (tests-rowed alone a B J j (each-first (tests-parts a) (joined-by s ∷ tests-parts b) h), refl) (each-second (tests-parts a) (joined-by s ∷ tests-parts b) h)
+  tests-rowed o (last-conjunct a) B J j h = tests-rowed (and-after o) a B J j h
+  tests-rowed o (and-conjuncts a s b) B J j h =
+      ap rows-terms (sym (append-assoc B (tests-rows a J) (tests-rows b (a-term 13 0 (s .start) 0 ∷ []))))
+      ∙ tests-rowed (tests-tree numbered (and-after o) a) b (B ++ tests-rows a J) (a-term 13 0 (s .start) 0 ∷ []) (tests-rowed (and-after o) a B J j (each-first (tests-parts a) (joined-by s ∷ tests-parts b) h), refl) (each-second (tests-parts a) (joined-by s ∷ tests-parts b) h)
+  tests-rowed o (last-disjunct a) B J j h = tests-rowed (or-after o) a B J j h
+  tests-rowed o (or-disjuncts a s b) B J j h =
+      ap rows-terms (sym (append-assoc B (tests-rows a J) (tests-rows b (a-term 11 0 (s .start) 0 ∷ []))))
+      ∙ tests-rowed (tests-tree numbered (or-after o) a) b (B ++ tests-rows a J) (a-term 11 0 (s .start) 0 ∷ []) (tests-rowed (or-after o) a B J j (each-first (tests-parts a) (joined-by s ∷ tests-parts b) h), refl) (each-second (tests-parts a) (joined-by s ∷ tests-parts b) h)
+
+  pub condition-listed : {d : ℕ} (x : Condition d) → Resolved (terms-of (tests-parts x)) → rows-terms (tests-rows x []) ≡ conditionTerms (tests-tree numbered tt x)
+  unfolding JoinedPart
+  condition-listed x h = tests-rowed tt x [] [] (refl, refl) (all-each (tests-parts x) h)
