@@ -2,3 +2,5 @@
 pub mod Parts
 pub mod Nodes
 pub mod Terms
+pub mod Lists
+pub mod Widths
