@@ -4,3 +4,4 @@ pub mod Nodes
 pub mod Terms
 pub mod Lists
 pub mod Widths
+pub mod Formulas

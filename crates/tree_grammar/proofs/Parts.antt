@@ -12,6 +12,7 @@ use Rattle.text_meaning.proofs.PartLists.{parts-next, parts-end}
 use Rattle.tree.specs.Tree.{Mark, optional, any-number, one-or-more, counted, Part, expression, concatenation, factor, atom, cases, Tree, literal, range, field, binder, rule-use, eod, group, switch, last-case, case-default, case-cases, once, repeated, last-member, and-members, last-branch, or-branches}
 use Rattle.tree_meaning.specs.Counted.{constructs}
 use Rattle.tree_meaning.specs.Grammar.{members, branches, case-bodies}
+use Rattle.tree_meaning.proofs.Lengths.{some-construct}
 use Rattle.tree_store.proofs.Rows.{NodeRow, on-first, in-case, mark-row, node-rows, term-rows, tests-rows}
 use Rattle.tree_store.proofs.Lengths.{length-first, nodes-counted}
 use Rattle.tree_store.proofs.Storing.{NodeIs}
@@ -61,28 +62,6 @@ first-size (last-member x) t w = first-size x t tt
 first-size (and-members x s more) t w = refl
 first-size (last-branch x) t w = first-size x t tt
 first-size (or-branches x s more) t w = refl
-
-some-construct : {p : Part} {d : ℕ} (begun : Bool) (x : Tree p d) → 1 ≤ constructs begun x
-unfolding constructs
-some-construct begun (literal l) = omega arith
-some-construct begun (range a s b one one′) = omega arith
-some-construct begun (field depth u opens n comma x closes) = omega arith
-some-construct begun (binder depth u opens n comma v opens′ x comma′ y closes closes′) = omega arith
-some-construct begun (rule-use x other) = omega arith
-some-construct begun (eod s) = omega arith
-some-construct begun (group depth opens x closes) = some-construct false x
-some-construct begun (switch depth opens x closes) = omega arith
-some-construct begun (last-case c colon x end) = some-construct false x
-some-construct begun (case-default c colon x end colon′ y end′) = omega (arith, some-construct false x)
-some-construct begun (case-cases c colon x end more) = omega (arith, some-construct false x)
-some-construct begun (once x) = some-construct false x
-some-construct begun (repeated x m) = omega arith
-some-construct begun (last-member x) = some-construct false x
-some-construct false (and-members x s more) = omega arith
-some-construct true (and-members x s more) = omega (arith, some-construct false x)
-some-construct begun (last-branch x) = some-construct false x
-some-construct false (or-branches x s more) = omega arith
-some-construct true (or-branches x s more) = omega (arith, some-construct false x)
 
 size-at : {ns : List ℕ} {i n : ℕ} (M : List NodeRow) → 1 ≤ length M → FirstSize n M → NodesAt ns i M → node-size ns i ≡ n
 size-at [] l h a = absurd (omega arith)

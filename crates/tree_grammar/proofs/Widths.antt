@@ -14,6 +14,7 @@ use lib.IntN.{ℤ, pos, natAbs}
 use lib.ListN.{length, getD, set, length-set}
 use lib.Seq.{getD-set-same, getD-set-other}
 use Rattle.basis.specs.Limits.{max-variables}
+use Rattle.text_header.proofs.Runs.{word-equal, word-self}
 use Rattle.text_header.proofs.Tests.{which}
 use Rattle.text_tokens.specs.Names.{is-same}
 use Rattle.term_evaluation.specs.Meaning.{membership, condition}
@@ -34,7 +35,7 @@ use Rattle.tree_meaning.specs.Grammar.{Values, values-at, has-variable, any-nam
 use Rattle.tree_meaning.proofs.Passing.{CalculationsFit, UsesRight}
 use Rattle.tree_meaning.proofs.Inside.{Held}
 use Rattle.tree_meaning.proofs.Binding.{Own}
-use Rattle.tree_meaning.proofs.Numbers.{variable-under, one-name}
+use Rattle.tree_meaning.proofs.Numbers.{among-later, one-name}
 use Rattle.tree_terms.specs.Terms.{set-tree, tests-tree}
 use Rattle.tree_terms.proofs.Fitting.{AsWide}
 use Rattle.tree_terms.proofs.Rooms.{Known}
@@ -152,3 +153,29 @@ module _ (numbered : List ℕ → ℕ) where
 
   pub sizes-inside : (v : Values) (ps : List Piece) → Held numbered v ps → Inside v (sizes-for v ps)
   sizes-inside v ps h = record { same = sym (sizes-many v ps); each = λ k l. below-each v ps h k (omega (arith, sizes-many v ps)) }
+
+-- each variable of the rule has its width's largest number there
+module _ (b : ℕ) (whole : List Piece) where
+  abbrev number : List ℕ → ℕ
+  number = variable-of b (bound-in whole)
+
+  pub sizes-wide : (v : Values) (ps : List Piece) → Own whole ps → (y : Name) → is-among (bound-in whole) y ≡ true → is-among (bound-in ps) y ≡ true → number (y .letters) < length v
+      → getD (sizes-for number v ps) (number (y .letters)) (pos 0) ≡ pos (widest-in ps (y .letters))
+  unfolding sizes-for Own bound-in is-among widest-in
+  sizes-wide v [] o y k e l = let z : _≡_ {A = ℕ} 0 1 = cc in absurd (omega arith)
+  sizes-wide v (use-of-rule x ∷ more) o y k e l = sizes-wide v more o y k e l
+  sizes-wide v (width n ∷ more) o y k e l = sizes-wide v more o y k e l
+  sizes-wide v (formula f ∷ more) o y k e l = sizes-wide v more o y k e l
+  sizes-wide v (binding x n placed ∷ more) o y k e l =
+      ⊎-elim
+      (λ (c : is-same (x .letters) (y .letters) ≡ true).
+      let q : x .letters ≡ y .letters = word-equal (x .letters) (y .letters) c
+      in ap (λ (j : List ℕ). getD (set (sizes-for number v more) (number (x .letters)) (pos (2 ^ n .value - 1))) (number j) (pos 0)) (sym q)
+      ∙ getD-set-same (sizes-for number v more) (number (x .letters)) (pos (2 ^ n .value - 1)) (pos 0) (omega (arith, sizes-many number v more, ap number q))
+      ∙ sym (ap (λ (j : Bool). pos (cond j (2 ^ n .value - 1) (widest-in more (y .letters)))) c))
+      (λ (c : is-same (x .letters) (y .letters) ≡ false).
+      getD-set-other (sizes-for number v more) (number (x .letters)) (number (y .letters)) (pos (2 ^ n .value - 1)) (pos 0)
+      (λ q. let z : _≡_ {A = Bool} true false = sym (word-self (x .letters)) ∙ ap (is-same (x .letters)) (one-name b (bound-in whole) x y (o .1) k (sym q)) ∙ c in let u : _≡_ {A = ℕ} 0 1 = cc in absurd (omega arith))
+      ∙ sizes-wide v more (o .2) y k (among-later x (bound-in more) y c e) l
+      ∙ sym (ap (λ (j : Bool). pos (cond j (2 ^ n .value - 1) (widest-in more (y .letters)))) c))
+      (which (is-same (x .letters) (y .letters)))
