@@ -5,3 +5,4 @@ pub mod Terms
 pub mod Lists
 pub mod Widths
 pub mod Formulas
+pub mod Counting

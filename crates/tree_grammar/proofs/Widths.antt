@@ -67,21 +67,21 @@ module _ (numbered widest : List ℕ → ℕ) (w : List ℤ) (names : List Name)
   all-known (a-sign s ∷ l) h = all-known l h
 
 -- without a variable any sizes do
-none-wide : (numbered widest : List ℕ → ℕ) (w : List ℤ) (l : List Term) → any-name (uses-in l) ≡ false → AsWide numbered widest w l
+pub none-wide : (numbered widest : List ℕ → ℕ) (w : List ℤ) (l : List Term) → any-name (uses-in l) ≡ false → AsWide numbered widest w l
 unfolding AsWide uses-in
 none-wide numbered widest w [] e = tt
 none-wide numbered widest w (a-number n ∷ l) e = none-wide numbered widest w l e
 none-wide numbered widest w (a-use y ∷ l) e = let z : _≡_ {A = ℕ} 0 1 = cc in absurd (omega arith)
 none-wide numbered widest w (a-sign s ∷ l) e = none-wide numbered widest w l e
 
-none-known : (numbered : List ℕ → ℕ) (n : ℕ) (l : List Term) → any-name (uses-in l) ≡ false → Known numbered n l
+pub none-known : (numbered : List ℕ → ℕ) (n : ℕ) (l : List Term) → any-name (uses-in l) ≡ false → Known numbered n l
 unfolding Known uses-in
 none-known numbered n [] e = tt
 none-known numbered n (a-number k ∷ l) e = none-known numbered n l e
 none-known numbered n (a-use y ∷ l) e = let z : _≡_ {A = ℕ} 0 1 = cc in absurd (omega arith)
 none-known numbered n (a-sign s ∷ l) e = none-known numbered n l e
 
-no-values : Inside [] []
+pub no-values : Inside [] []
 no-values = record { same = refl; each = λ k h. absurd (omega arith) }
 
 module _ (numbered widest : List ℕ → ℕ) where
