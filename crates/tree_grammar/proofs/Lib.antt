@@ -6,3 +6,5 @@ pub mod Lists
 pub mod Widths
 pub mod Formulas
 pub mod Counting
+pub mod Firsts
+pub mod Walk

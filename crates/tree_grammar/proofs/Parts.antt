@@ -36,7 +36,7 @@ mark-size (one-or-more s) size p t = refl
 mark-size (counted opens n closes) size p t = refl
 
 -- of all but the cases of a switch, which have no node of their own
-abbrev Whole : Part → Type 0
+abbrev pub Whole : Part → Type 0
 Whole expression = Unit {0}
 Whole concatenation = Unit {0}
 Whole factor = Unit {0}
