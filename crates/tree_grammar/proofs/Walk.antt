@@ -14,7 +14,7 @@ use Rattle.text_header.proofs.Runs.{word-self}
 use Rattle.text_tokens.specs.Numbers.{number-value, capped}
 use Rattle.text_tokens.specs.declared.Kind.{Kind}
 use Rattle.text_literals.specs.Literals.{characters-at}
-use Rattle.text_store.specs.Words.{kind-of, node-mark, is-binder, first-node}
+use Rattle.text_store.specs.Words.{kind-of, node-mark, is-binder, condition-from, condition-end, first-node}
 use Rattle.text_names.specs.Names.{binds, same-name}
 use Rattle.text_encoding.specs.Numbers.{rule-of, binders-before, width-of}
 use Rattle.table_layout.specs.Constructs.{pick}
@@ -43,7 +43,7 @@ use Rattle.tree_store.proofs.Standing.{Standing, past, shown, after-tests, afte
 use Rattle.tree_store.proofs.Uses.{Here, here, no-more, set-uses, counts-uses, tests-uses}
 use Rattle.tree_store.proofs.Spots.{Like, like-first}
 use Rattle.tree_store.proofs.Binding.{same-here, after-bound, Quiet, mark-quiet, bound-rows, Before, before-node, before-more}
-use Rattle.tree_store.proofs.Rowed.{NodesAt}
+use Rattle.tree_store.proofs.Rowed.{NodesAt, nodes-left, nodes-right}
 use Rattle.tree_grammar.proofs.Parts.{member-parts, branch-parts, case-parts}
 use Rattle.tree_grammar.proofs.Nodes.{Means, alternative-means, concatenation-means, literal-means, range-means, use-means, eod-means, uint-means, repetition-means, switch-means}
 use Rattle.tree_grammar.proofs.Lists.{RowsAt, rows-left, rows-right}
@@ -139,3 +139,64 @@ module _ {P : Values → Type 0} {xs ns rs : List ℕ} {r : ℕ} {body numbered 
       ∙ counts-answers numbered widest v (m .sizes) (m .inside) n (all-wide numbered widest (m .sizes) whole (m .wide) (m .known) (terms-of (counts-parts n)) (right .owned)) (all-known numbered widest (m .sizes) whole (m .wide) (m .known) (terms-of (counts-parts n)) (right .owned)) (right .small))
       (ap₂ (λ (k : ℕ) (l : List WordTerm). passes k (static-counts l)) (h .first-is) list ∙ counts-static numbered widest n (right .small))
       (ap₂ (λ (k : ℕ) (l : List WordTerm). is-fixed k l) (h .first-is) list ∙ form-is (counts-tree numbered n) ∙ exact-same numbered n)
+
+  -- ---- variables that are bound before a node
+
+  past-node : {i : ℕ} {row : NodeRow} {names : List Name} → Plain ns i row → Quiet row → Before xs ns a i names → Before xs ns a (suc i) names
+  past-node {i} {row} {names} h q b =
+      let like : Like ns i row = record { kind-like = h .kind-is; size-like = h .size-is; second-like = h .second-is; how-like = h .how-is }
+      in subst (λ (k : ℕ). Before xs ns a k names) (let z : i + 1 ≡ suc i = omega arith in z) (before-node like q b)
+
+  past-tree : {p : Part} {d : ℕ} (begun top : Bool) (x : Tree p d) (t : ℕ) (w : List Lexeme) {i q : ℕ} {names : List Name} → FirstAt ns i (node-rows begun x t) → Standing xs q (spell x w) → Before xs ns a i names
+      → Before xs ns a (i + constructs begun x) (after-bound (pieces top x) names)
+  past-tree begun top x t w {i} {names = names} h s b =
+      subst (λ (k : ℕ). Before xs ns a (i + k) (after-bound (pieces top x) names)) (nodes-counted begun x t)
+      (before-more (node-rows begun x t) (pieces top x) (bound-rows begun top x t w (first-like (node-rows begun x t) h) s) b)
+
+  -- ---- a switch
+
+  elim-cond : (c : Bool) (x y : Option ℕ) → elim c [ true ↦ x | false ↦ y ] ≡ cond c x y
+  elim-cond true x y = refl
+  elim-cond false x y = refl
+
+  case-step : (v : Values) (i : ℕ) (l : List ℕ) (z : Bool) (o : Option ℕ) → is-default ns i ≡ false → list-true xs ns ts rs r v i ≡ z → first-true xs ns ts rs r v l ≡ o → first-true xs ns ts rs r v (i ∷ l) ≡ cond z (some i) o
+  unfolding first-true
+  case-step v i l z o d e f = (λ t. elim (d t) [ true ↦ some i | false ↦ elim (e t) [ true ↦ some i | false ↦ f t ] ]) ∙ elim-cond z (some i) o
+
+  default-step : (v : Values) (i : ℕ) (l : List ℕ) → is-default ns i ≡ true → first-true xs ns ts rs r v (i ∷ l) ≡ some i
+  unfolding first-true
+  default-step v i l d = λ t. elim (d t) [ true ↦ some i | false ↦ elim (list-true xs ns ts rs r v i) [ true ↦ some i | false ↦ first-true xs ns ts rs r v l ] ]
+
+  no-more-cases : (v : Values) → first-true xs ns ts rs r v [] ≡ none
+  unfolding first-true
+  no-more-cases v = refl
+
+  is-case : (i f n : ℕ) → condition-from ns i ≡ f → condition-end ns i ≡ f + n → 1 ≤ n → is-default ns i ≡ false
+  is-case i f n p q l = ne-eqb (condition-from ns i) (condition-end ns i) (λ (z : condition-from ns i ≡ condition-end ns i). omega arith)
+
+  cases-chosen : {d : ℕ} (x : Tree cases d) (i t : ℕ) (names : List Name) (w : List Lexeme) {q : ℕ} → NodesAt ns i (node-rows false x t) → RowsAt ts t (term-rows x) → Standing xs q (spell x w) → Before xs ns a i names → i + constructs false x ≤ end
+      → Right P numbered widest rules whole names (pieces false x) → (v : Values) → P v → first-true xs ns ts rs r v (case-bodies i x) ≡ chosen numbered i x v
+  unfolding Right node-rows term-rows spell constructs pieces case-bodies chosen
+  cases-chosen (last-case c colon x close) i t names w h rows s b e ok v p =
+      let k = t + length (tests-rows c [])
+      in let at = case-at t k (node-rows false x k) (some-node false x k) h
+      in case-step v i [] _ none (is-case i t (length (tests-rows c [])) (at .0) (at .1) (some-tests c [])) (condition-same rule ts i names b (omega (arith, nodes-counted false x k, some-node false x k)) c t (at .0) (at .1) (rows-left (tests-rows c []) (term-rows x) rows) (ok .0) (tests-uses c (sign Kind.Colon colon ∷ spell x (sign Kind.Semicolon close ∷ w)) no-more s) v p) (no-more-cases v)
+  cases-chosen (case-default c colon x close colon′ y close′) i t names w h rows s b e ok v p =
+      let k = t + length (tests-rows c [])
+      in let M = on-first t k (node-rows false x k)
+      in let L = node-rows false y (t + length (tests-rows c [] ++ term-rows x))
+      in let at = case-at t k (node-rows false x k) (some-node false x k) (nodes-left M L h)
+      in let there : NodesAt ns (i + constructs false x) L = subst (λ (j : ℕ). NodesAt ns (i + j) L) (length-first t k (node-rows false x k) ∙ nodes-counted false x k) (nodes-right M L h)
+      in let off = none-at y (t + length (tests-rows c [] ++ term-rows x)) tt there
+      in case-step v i ((i + constructs false x) ∷ []) _ (some (i + constructs false x)) (is-case i t (length (tests-rows c [])) (at .0) (at .1) (some-tests c [])) (condition-same rule ts i names b (omega (arith, nodes-counted false x k, some-node false x k)) c t (at .0) (at .1) (rows-left (tests-rows c []) (term-rows x) (rows-left (tests-rows c [] ++ term-rows x) (term-rows y) rows)) (ok .0) (tests-uses c (sign Kind.Colon colon ∷ spell x (sign Kind.Semicolon close ∷ sign Kind.Colon colon′ ∷ spell y (sign Kind.Semicolon close′ ∷ w))) no-more s) v p)
+      (default-step v (i + constructs false x) [] (eq-eqb (condition-from ns (i + constructs false x)) (condition-end ns (i + constructs false x)) (off .0 ∙ sym (off .1))))
+  cases-chosen (case-cases c colon x close more) i t names w h rows s b e ok v p =
+      let k = t + length (tests-rows c [])
+      in let M = on-first t k (node-rows false x k)
+      in let L = node-rows false more (t + length (tests-rows c [] ++ term-rows x))
+      in let at = case-at t k (node-rows false x k) (some-node false x k) (nodes-left M L h)
+      in let there : NodesAt ns (i + constructs false x) L = subst (λ (j : ℕ). NodesAt ns (i + j) L) (length-first t k (node-rows false x k) ∙ nodes-counted false x k) (nodes-right M L h)
+      in case-step v i (case-bodies (i + constructs false x) more) _ _ (is-case i t (length (tests-rows c [])) (at .0) (at .1) (some-tests c [])) (condition-same rule ts i names b (omega (arith, nodes-counted false x k, some-node false x k)) c t (at .0) (at .1) (rows-left (tests-rows c []) (term-rows x) (rows-left (tests-rows c [] ++ term-rows x) (term-rows more) rows)) (ok .0) (tests-uses c (sign Kind.Colon colon ∷ spell x (sign Kind.Semicolon close ∷ spell more w)) no-more s) v p)
+      (cases-chosen more (i + constructs false x) (t + length (tests-rows c [] ++ term-rows x)) (after-bound (pieces false x) names) w there (rows-right (tests-rows c [] ++ term-rows x) (term-rows more) rows) (past (after-tree x (past (after-tests c s))))
+      (past-tree false false x k (sign Kind.Semicolon close ∷ spell more w) (uncased t k (node-rows false x k) (whole-first M (nodes-left M L h))) (past (after-tests c s)) b) (omega arith)
+      (right-two P numbered widest rules whole names (pieces false x) (pieces false more) (ok .1)) v p)
