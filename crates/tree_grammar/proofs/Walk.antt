@@ -200,3 +200,120 @@ module _ {P : Values → Type 0} {xs ns rs : List ℕ} {r : ℕ} {body numbered 
       (cases-chosen more (i + constructs false x) (t + length (tests-rows c [] ++ term-rows x)) (after-bound (pieces false x) names) w there (rows-right (tests-rows c [] ++ term-rows x) (term-rows more) rows) (past (after-tree x (past (after-tests c s))))
       (past-tree false false x k (sign Kind.Semicolon close ∷ spell more w) (uncased t k (node-rows false x k) (whole-first M (nodes-left M L h))) (past (after-tests c s)) b) (omega arith)
       (right-two P numbered widest rules whole names (pieces false x) (pieces false more) (ok .1)) v p)
+
+  -- ---- the walk
+
+  two : {p q : Part} {d e : ℕ} (bx by : Bool) (i : ℕ) (x : Tree p d) (y : Tree q e) → AllMeant P xs ns ts rs r i (constructs-of body numbered bx i x)
+      → AllMeant P xs ns ts rs r (i + constructs bx x) (constructs-of body numbered by (i + constructs bx x) y)
+      → AllMeant P xs ns ts rs r i (constructs-of body numbered bx i x ++ constructs-of body numbered by (i + constructs bx x) y)
+  two bx by i x y p q =
+      meant-both P xs ns ts rs r i (constructs-of body numbered bx i x) (constructs-of body numbered by (i + constructs bx x) y) p
+      (subst (λ (k : ℕ). AllMeant P xs ns ts rs r (i + k) (constructs-of body numbered by (i + constructs bx x) y)) (sym (as-counted body numbered bx i x)) q)
+
+  -- what stands after a tree in a chain
+  after : {p q : Part} {d e : ℕ} (x : Tree p d) (y : Tree q e) (by : Bool) (i t u : ℕ) → FirstAt ns i (node-rows false x t ++ node-rows by y u) → NodesAt ns (i + constructs false x) (node-rows by y u)
+  after x y by i t u h = subst (λ (k : ℕ). NodesAt ns (i + k) (node-rows by y u)) (nodes-counted false x t) (first-right (node-rows false x t) (node-rows by y u) (some-node false x t) h)
+
+  after-case : {p q : Part} {d e : ℕ} (x : Tree p d) (y : Tree q e) (f g i t u : ℕ) → FirstAt ns i (on-first f g (node-rows false x t) ++ node-rows false y u) → NodesAt ns (i + constructs false x) (node-rows false y u)
+  after-case x y f g i t u h =
+      let M = on-first f g (node-rows false x t)
+      in subst (λ (k : ℕ). NodesAt ns (i + k) (node-rows false y u)) (length-first f g (node-rows false x t) ∙ nodes-counted false x t) (first-right M (node-rows false y u) (omega (arith, length-first f g (node-rows false x t), some-node false x t)) h)
+
+  pub walk : {p : Part} {d : ℕ} (top begun : Bool) (x : Tree p d) (i t : ℕ) (names : List Name) (w : List Lexeme) {q : ℕ} → FirstAt ns i (node-rows begun x t) → RowsAt ts t (term-rows x) → Standing xs q (spell x w) → Before xs ns a i names → i + constructs begun x ≤ end
+      → Right P numbered widest rules whole names (pieces top x) → AllMeant P xs ns ts rs r i (constructs-of body numbered begun i x)
+  unfolding AllMeant Right node-rows term-rows spell constructs pieces constructs-of
+  walk top begun (literal l) i t names w (first-then h more) rows s b e ok = (literal-means P xs ns ts rs r i (l .characters) (h .kind-is) (ap (characters-at xs) (h .place-is) ∙ shown s), tt)
+  walk top begun (range c g z one one′) i t names w (first-then h more) rows s b e ok =
+      (range-means P xs ns ts rs r i (getD (c .characters) 0 0) (getD (z .characters) 0 0) (h .kind-is) (ap (λ (k : ℕ). getD (characters-at xs k) 0 0) (h .place-is) ∙ ap (λ (k : List ℕ). getD k 0 0) (shown s)) (ap (λ (k : ℕ). getD (characters-at xs k) 0 0) (h .first-is) ∙ ap (λ (k : List ℕ). getD k 0 0) (shown (past (past s)))), tt)
+  walk top begun (field depth u opens n comma x closes) i t names w (first-then h more) rows s b e ok =
+      let uses = set-uses x (sign Kind.CloseParen closes ∷ w) no-more (past (past (past (past s))))
+      in let below : i < end = omega arith
+      in let free : is-binder ns i ≡ false = ap₂ (λ (k j : ℕ). eqb k 8 && not (eqb j 0)) (h .kind-is) (h .how-is)
+      in (
+        uint-means P xs ns ts rs r i numbered n x (λ v k. v) (h .kind-is) (width-is i (n .start) (n .value) (h .first-is) (shown (past (past s))) (ok .0)) (set-same rule ts i names b below x t (h .own-from-is) (h .own-end-is) rows (ok .1 .0) uses) (set-first rule ts i names b below x t (h .own-from-is) (h .own-end-is) rows (ok .1 .0) uses)
+            (λ v k. ap (λ (c : Bool). pick c (set v (binders-before ns i) (pos k)) v) free) (λ v bits l p. p),
+        tt,
+      )
+  walk top begun (binder {d} depth u opens n comma v opens′ x comma′ y closes closes′) i t names w (first-then h more) rows s b e ok =
+      let uses = set-uses y (sign Kind.CloseParen closes ∷ sign Kind.CloseParen closes′ ∷ w) no-more (past (past (past (past (past (past (past (past s))))))))
+      in let below : i < end = omega arith
+      in let name : Here xs x = here (past (past (past (past (past (past s))))))
+      in let bound : is-binder ns i ≡ true = ap₂ (λ (k j : ℕ). eqb k 8 && not (eqb j 0)) (h .kind-is) (h .how-is) ∙ bound-so (d + 1 + 1)
+      in let this : binds xs ns (x .start) i ≡ true = ap₂ (λ (c : Bool) (k : ℕ). c && same-name xs k (x .start)) bound (h .second-is) ∙ same-here name name ∙ word-self (x .letters)
+      in let number : binders-before ns i ≡ numbered (x .letters) = rule .binders i x name (b .begins) below (b .before x name ∙ ok .1 .1 .0) this
+      in (
+        uint-means P xs ns ts rs r i numbered n y (λ v k. set v (numbered (x .letters)) (pos k)) (h .kind-is) (width-is i (n .start) (n .value) (h .first-is) (shown (past (past s))) (ok .0)) (set-same rule ts i names b below y t (h .own-from-is) (h .own-end-is) rows (ok .1 .0) uses) (set-first rule ts i names b below y t (h .own-from-is) (h .own-end-is) rows (ok .1 .0) uses)
+            (λ v k. ap₂ (λ (c : Bool) (j : ℕ). pick c (set v j (pos k)) v) bound number) (λ v bits l p. ok .1 .1 .1 v bits l p),
+        tt,
+      )
+  walk top begun (rule-use x other) i t names w (first-then h more) rows s b e ok =
+      (use-means P xs ns ts rs r i (body (x .letters)) (h .kind-is) (ap (λ (k : ℕ). first-node rs (rule-of xs rs r k)) (h .place-is) ∙ rule .bodies x (here s) (ok .0)), tt)
+  walk top begun (eod g) i t names w (first-then h more) rows s b e ok = (eod-means P xs ns ts rs r i (h .kind-is), tt)
+  walk top begun (group depth opens x closes) i t names w h rows s b e ok = walk false false x i t names (sign Kind.CloseParen closes ∷ w) h rows (past s) b e ok
+  walk top begun (switch depth opens x closes) i t names w (first-then h more) rows s b e ok =
+      let b′ = past-node h refl b
+      in (
+        switch-means P xs ns ts rs r i (λ v. chosen numbered (suc i) x v) (case-bodies (suc i) x) (h .kind-is) (parts-sized ns i (constructs false x) (case-bodies (suc i) x) (h .size-is) (case-parts x t (suc (constructs false x)) (omega arith) more))
+            (λ v p. cases-chosen x (suc i) t names (sign Kind.CloseBracket closes ∷ w) more rows (past s) b′ (omega arith) ok v p),
+        walk false false x (suc i) t names (sign Kind.CloseBracket closes ∷ w) (whole-first (node-rows false x t) more) rows (past s) b′ (omega arith) ok,
+      )
+  walk top begun (last-case c colon x close) i t names w h rows s b e ok =
+      let k = t + length (tests-rows c [])
+      in walk false false x i k names (sign Kind.Semicolon close ∷ w) (uncased t k (node-rows false x k) h) (rows-right (tests-rows c []) (term-rows x) rows) (past (after-tests c s)) b e (ok .1)
+  walk top begun (case-default c colon x close colon′ y close′) i t names w h rows s b e ok =
+      let k = t + length (tests-rows c [])
+      in let u = t + length (tests-rows c [] ++ term-rows x)
+      in let M = on-first t k (node-rows false x k)
+      in let first = uncased t k (node-rows false x k) (first-left M (node-rows false y u) h)
+      in let w′ = sign Kind.Semicolon close ∷ sign Kind.Colon colon′ ∷ spell y (sign Kind.Semicolon close′ ∷ w)
+      in two false false i x y
+      (walk false false x i k names w′ first (rows-right (tests-rows c []) (term-rows x) (rows-left (tests-rows c [] ++ term-rows x) (term-rows y) rows)) (past (after-tests c s)) b (omega arith) (right-one P numbered widest rules whole names (pieces false x) (pieces false y) (ok .1)))
+      (walk false false y (i + constructs false x) u (after-bound (pieces false x) names) (sign Kind.Semicolon close′ ∷ w) (whole-first (node-rows false y u) (after-case x y t k i k u h)) (rows-right (tests-rows c [] ++ term-rows x) (term-rows y) rows) (past (past (after-tree x (past (after-tests c s)))))
+      (past-tree false false x k w′ first (past (after-tests c s)) b) (omega arith) (right-two P numbered widest rules whole names (pieces false x) (pieces false y) (ok .1)))
+  walk top begun (case-cases c colon x close y) i t names w h rows s b e ok =
+      let k = t + length (tests-rows c [])
+      in let u = t + length (tests-rows c [] ++ term-rows x)
+      in let M = on-first t k (node-rows false x k)
+      in let first = uncased t k (node-rows false x k) (first-left M (node-rows false y u) h)
+      in let w′ = sign Kind.Semicolon close ∷ spell y w
+      in two false false i x y
+      (walk false false x i k names w′ first (rows-right (tests-rows c []) (term-rows x) (rows-left (tests-rows c [] ++ term-rows x) (term-rows y) rows)) (past (after-tests c s)) b (omega arith) (right-one P numbered widest rules whole names (pieces false x) (pieces false y) (ok .1)))
+      (walk false false y (i + constructs false x) u (after-bound (pieces false x) names) w (whole-first (node-rows false y u) (after-case x y t k i k u h)) (rows-right (tests-rows c [] ++ term-rows x) (term-rows y) rows) (past (after-tree x (past (after-tests c s))))
+      (past-tree false false x k w′ first (past (after-tests c s)) b) (omega arith) (right-two P numbered widest rules whole names (pieces false x) (pieces false y) (ok .1)))
+  walk top begun (once x) i t names w h rows s b e ok = walk top false x i t names w h rows s b e ok
+  walk top begun (repeated x m) i t names w (first-then h more) rows s b e ok = (
+    mark-means m i (suc (constructs false x)) (start-of x) (t + length (term-rows x)) names w (pieces false x) h (rows-right (term-rows x) (mark-rows m) rows) (after-tree x s) b (omega arith) ok,
+    walk false false x (suc i) t names (spell-mark m w) (whole-first (node-rows false x t) more) (rows-left (term-rows x) (mark-rows m) rows) s (past-node h (mark-quiet m (suc (constructs false x)) (start-of x) (t + length (term-rows x))) b) (omega arith) (right-marked P numbered widest rules whole names m (pieces false x) ok),
+  )
+  walk top begun (last-member x) i t names w h rows s b e ok = walk top false x i t names w h rows s b e ok
+  walk top false (and-members x g y) i t names w (first-then h more) rows s b e ok =
+      let u = t + length (term-rows x)
+      in let b′ = past-node h refl b
+      in let both = whole-first (node-rows false x t ++ node-rows true y u) more
+      in let first = first-left (node-rows false x t) (node-rows true y u) both
+      in (
+        concatenation-means P xs ns ts rs r i (members (suc i) (and-members x g y)) (h .kind-is) (parts-sized ns i (constructs false x + constructs true y) (members (suc i) (and-members x g y)) (h .size-is) (member-parts (and-members x g y) t (suc (constructs false x + constructs true y)) (omega arith) more)),
+        two false true (suc i) x y (walk top false x (suc i) t names (sign Kind.Ampersand g ∷ spell y w) first (rows-left (term-rows x) (term-rows y) rows) s b′ (omega arith) (right-one P numbered widest rules whole names (pieces top x) (pieces top y) ok))
+            (walk top true y (suc i + constructs false x) u (after-bound (pieces top x) names) w (whole-first (node-rows true y u) (after x y true (suc i) t u both)) (rows-right (term-rows x) (term-rows y) rows) (past (after-tree x s)) (past-tree false top x t (sign Kind.Ampersand g ∷ spell y w) first s b′) (omega arith) (right-two P numbered widest rules whole names (pieces top x) (pieces top y) ok)),
+      )
+  walk top true (and-members x g y) i t names w h rows s b e ok =
+      let u = t + length (term-rows x)
+      in let first = first-left (node-rows false x t) (node-rows true y u) h
+      in two false true i x y (walk top false x i t names (sign Kind.Ampersand g ∷ spell y w) first (rows-left (term-rows x) (term-rows y) rows) s b (omega arith) (right-one P numbered widest rules whole names (pieces top x) (pieces top y) ok))
+      (walk top true y (i + constructs false x) u (after-bound (pieces top x) names) w (whole-first (node-rows true y u) (after x y true i t u h)) (rows-right (term-rows x) (term-rows y) rows) (past (after-tree x s)) (past-tree false top x t (sign Kind.Ampersand g ∷ spell y w) first s b) (omega arith) (right-two P numbered widest rules whole names (pieces top x) (pieces top y) ok))
+  walk top begun (last-branch x) i t names w h rows s b e ok = walk top false x i t names w h rows s b e ok
+  walk top false (or-branches x g y) i t names w (first-then h more) rows s b e ok =
+      let u = t + length (term-rows x)
+      in let b′ = past-node h refl b
+      in let both = whole-first (node-rows false x t ++ node-rows true y u) more
+      in let first = first-left (node-rows false x t) (node-rows true y u) both
+      in (
+        alternative-means P xs ns ts rs r i (branches (suc i) (or-branches x g y)) (h .kind-is) (parts-sized ns i (constructs false x + constructs true y) (branches (suc i) (or-branches x g y)) (h .size-is) (branch-parts (or-branches x g y) t (suc (constructs false x + constructs true y)) (omega arith) more)),
+        two false true (suc i) x y (walk false false x (suc i) t names (sign Kind.Bar g ∷ spell y w) first (rows-left (term-rows x) (term-rows y) rows) s b′ (omega arith) (right-one P numbered widest rules whole names (pieces false x) (pieces false y) ok))
+            (walk false true y (suc i + constructs false x) u (after-bound (pieces false x) names) w (whole-first (node-rows true y u) (after x y true (suc i) t u both)) (rows-right (term-rows x) (term-rows y) rows) (past (after-tree x s)) (past-tree false false x t (sign Kind.Bar g ∷ spell y w) first s b′) (omega arith) (right-two P numbered widest rules whole names (pieces false x) (pieces false y) ok)),
+      )
+  walk top true (or-branches x g y) i t names w h rows s b e ok =
+      let u = t + length (term-rows x)
+      in let first = first-left (node-rows false x t) (node-rows true y u) h
+      in two false true i x y (walk false false x i t names (sign Kind.Bar g ∷ spell y w) first (rows-left (term-rows x) (term-rows y) rows) s b (omega arith) (right-one P numbered widest rules whole names (pieces false x) (pieces false y) ok))
+      (walk false true y (i + constructs false x) u (after-bound (pieces false x) names) w (whole-first (node-rows true y u) (after x y true i t u h)) (rows-right (term-rows x) (term-rows y) rows) (past (after-tree x s)) (past-tree false false x t (sign Kind.Bar g ∷ spell y w) first s b) (omega arith) (right-two P numbered widest rules whole names (pieces false x) (pieces false y) ok))
