@@ -8,3 +8,4 @@ pub mod Formulas
 pub mod Counting
 pub mod Firsts
 pub mod Walk
+pub mod Pieces
