@@ -9,3 +9,4 @@ pub mod Counting
 pub mod Firsts
 pub mod Walk
 pub mod Pieces
+pub mod OneRule
