@@ -10,3 +10,4 @@ pub mod Firsts
 pub mod Walk
 pub mod Pieces
 pub mod OneRule
+pub mod AllRules
