@@ -11,3 +11,4 @@ pub mod Walk
 pub mod Pieces
 pub mod OneRule
 pub mod AllRules
+pub mod SameGrammar
