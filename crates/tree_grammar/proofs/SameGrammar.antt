@@ -10,7 +10,7 @@ use mathlib.Core.Option.{none}
 use native.Mathlib.Omega.{arith}
 use borrow.Author.Tests.{ltb-true, ltb-false}
 use lib.Dec.{eqb, ltb}
-use lib.ListN.{length, getD, length-append, length-set, List·getD-eq-default}
+use lib.ListN.{length, getD, length-append, length-set}
 use Rattle.theory.specs.Grammar.{alternative}
 use Rattle.table_layout.specs.Constructs.{pick}
 use Rattle.text_header.proofs.Tests.{which}
@@ -62,6 +62,11 @@ unfolding rules-in
 begins-at (last-rule x) (rule-then e f g more) = f
 begins-at (and-rules x t) (rule-then e f g more) = f
 
+past-end : (cs : List Construct) (k : ℕ) (d : Construct) → length cs ≤ k → getD cs k d ≡ d
+past-end [] k d l = refl
+past-end (c ∷ cs) zero d l = absurd (omega arith)
+past-end (c ∷ cs) (suc k) d l = past-end cs k d (omega arith)
+
 at-number : (P : Values → Type 0) (xs ns ts ws : List ℕ) (r i : ℕ) (cs : List Construct) (d : Construct) → AllMeant P xs ns ts ws r i cs → (k : ℕ) → k < length cs → SameNode P (meant-node xs ns ts ws r (i + k)) (getD cs k d .node)
 unfolding AllMeant
 at-number P xs ns ts ws r i [] d h k l = absurd (omega arith)
@@ -90,3 +95,34 @@ module _ {xs : List ℕ} {t : Rules} (spelled : SpelledBy xs t) (five : refusal-
       rules-meant spelled (rowed t small) (λ v p. p .1) t no-rule [] (finish (spelled .end) ∷ []) (λ j x m. subst (λ (k : ℕ). At (rules-in t) k x) (let q : j ≡ 0 + j = omega arith in q) m)
       (rowed t small .nodes-are) (text-rows t small) (rowed t small .rules-are) (spelled-stand spelled) refl (omega (arith, Pass.limited t five .variables-fit)) (Pass.named t six) (Pass.fits t eight)
       (all-bindings (Kept t) (rule-names t) [] (λ v. length v ≡ 64) 0 (rules-in t) (λ v p. (p .1, p .0)) (λ v q p. (p, q)) (λ v k a l q. length-set v k a ∙ q) (Pass.named t six)) (λ v p. p .0)
+
+  abbrev n : ℕ
+  n = nodes-of (stored t blank)
+
+  count : n ≡ length (tree-constructs t)
+  count =
+      nodes-read t
+      ∙ (let q : min (tree-totals t .all-constructs) 257 ≡ tree-totals t .all-constructs = omega (arith, small .few-constructs) in q)
+      ∙ sym (totalled-tree t .in-nodes)
+      ∙ as-many (rules-in t) 0 0 0 (rules-in t)
+
+  inner : (i : ℕ) → SameNode (Kept t) (pick (ltb i n) (meant-node xs ns ts ws r i) (alternative [])) (construct-at t i .node)
+  inner i =
+      ⊎-elim
+      (λ (e : ltb i n ≡ true).
+      subst (λ (c : Bool). SameNode (Kept t) (pick c (meant-node xs ns ts ws r i) (alternative [])) (construct-at t i .node)) (sym e)
+      (subst (λ (j : ℕ). SameNode (Kept t) (meant-node xs ns ts ws r j) (construct-at t i .node)) (let q : 0 + i ≡ i = omega arith in q)
+      (at-number (Kept t) xs ns ts ws r 0 (tree-constructs t) (plain-at 0 (alternative [])) all-meant i (omega (arith, count, ltb-true i n e)))))
+      (λ (e : ltb i n ≡ false).
+      subst (λ (c : Bool). SameNode (Kept t) (pick c (meant-node xs ns ts ws r i) (alternative [])) (construct-at t i .node)) (sym e)
+      (subst (λ (c : Construct). SameNode (Kept t) (alternative []) (c .node)) (sym (past-end (tree-constructs t) i (plain-at 0 (alternative [])) (omega (arith, count, ltb-false i n e)))) same-alternative))
+      (which (ltb i n))
+
+  -- the claim
+  pub same-node : (i : ℕ) → SameNode (Kept t) (grammar-of xs ns ts ws n r .node i) (tree-grammar t .node i)
+  unfolding grammar-of tree-grammar
+  same-node i = by (eqb i opening)
+    where
+      by : (c : Bool) → SameNode (Kept t) (pick c (opened ws 0) (pick (ltb i n) (meant-node xs ns ts ws r i) (alternative []))) (cond c (use-node 0) (construct-at t i .node))
+      by true = subst (λ (k : ℕ). SameNode (Kept t) (use-node k) (use-node 0)) (sym (begins-at t (rowed t small .rules-are))) (same-use (λ c v p. p) (λ v v′ p q. q))
+      by false = inner i
