@@ -1,7 +1,7 @@
 -- All rules of a text, one after the other.
 -- Assumes nothing.
 use Prim.Native.Nat.{ℕ, suc, _+_, _≤_}
-use mathlib.Core.Path.{_≡_, refl, sym, ap, _∙_, subst}
+use mathlib.Core.Path.{_≡_, sym, ap, _∙_, subst}
 use mathlib.Core.Bool.{true, false}
 use mathlib.Core.List.{List, [], _∷_, _++_}
 use native.Mathlib.Omega.{arith}
@@ -11,7 +11,7 @@ use Rattle.text_encoding.specs.Numbers.{binders-before}
 use Rattle.tree.specs.Lexemes.{Name, Lexeme, sign}
 use Rattle.tree.specs.Tree.{Rule, rule, Rules, last-rule, and-rules}
 use Rattle.tree.specs.Spelling.{spell-rules}
-use Rattle.tree_meaning.specs.Pieces.{rules-of as rules-in, rule-name, rule-body, rule-pieces, variables-of}
+use Rattle.tree_meaning.specs.Pieces.{rules-of as rules-in, rule-body, variables-of}
 use Rattle.tree_meaning.specs.Counted.{Totals, with-rule, rule-constructs}
 use Rattle.tree_meaning.specs.Names.{rule-names}
 use Rattle.tree_meaning.specs.Grammar.{Values, constructs-of, body-of, variable-of as number-among, rules-constructs}

@@ -1,9 +1,9 @@
 -- The terms of counts for which 8 is not given, at values within the variables' sizes, allow what the tree says.
 -- Assumes nothing.
-use Prim.Native.Nat.{ℕ, zero, suc, _+_, _-_, _<_}
+use Prim.Native.Nat.{ℕ, _+_, _-_}
 use mathlib.Core.Path.{_≡_, refl, sym, ap, _∙_, subst}
 use mathlib.Core.Logic.{⊎-elim}
-use mathlib.Core.Bool.{Bool, true, false, cond}
+use mathlib.Core.Bool.{true, false, cond}
 use mathlib.Core.List.{List, [], _∷_, _++_}
 use mathlib.Core.Option.{none}
 use native.Mathlib.Omega.{arith}
@@ -37,13 +37,13 @@ use Rattle.table_layout.specs.Held.{allowed}
 use Rattle.text_meaning.specs.Meaning.{last-of, calculations, counts-in, static-counts}
 use Rattle.tree.specs.Lexemes.{Sign}
 use Rattle.tree.specs.Tree.{Calculation, only, between, from, up-to, item, last-choice, Counts, exactly, at-least, at-most, span}
-use Rattle.tree_meaning.specs.Pieces.{Term as TreeTerm, a-number, a-use, a-sign, calculation-terms, set-parts, counts-parts, terms-of, uses-in}
+use Rattle.tree_meaning.specs.Pieces.{Term as TreeTerm, a-number, a-use, a-sign, calculation-terms, set-parts, counts-parts, terms-of}
 use Rattle.tree_meaning.specs.Sizes.{too-large}
 use Rattle.tree_meaning.specs.Values.{passes-in}
-use Rattle.tree_meaning.specs.Grammar.{values-at, has-variable, any-name}
+use Rattle.tree_meaning.specs.Grammar.{values-at, has-variable}
 use Rattle.tree_meaning.proofs.Passing.{CalculationsFit}
 use Rattle.tree_terms.specs.Terms.{calculation-tree, counts-tree, set-tree}
-use Rattle.tree_terms.proofs.Small.{Calm, Put as SizePut, Two as SizeTwo, Puts, size-of, puts, two-from}
+use Rattle.tree_terms.proofs.Small.{Calm, Put as SizePut, Two as SizeTwo, size-of, puts, two-from}
 use Rattle.tree_terms.proofs.Fitting.{AsWide, calculation-sizes}
 use Rattle.tree_terms.proofs.Rooms.{Known, set-room}
 use Rattle.tree_terms.proofs.Meanings.{counts-mean}

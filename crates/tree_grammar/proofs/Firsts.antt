@@ -1,18 +1,17 @@
 -- Nodes that are rows but for the condition of the first, which may be the body of a case.
 -- Assumes nothing.
 use Prim.Native.Nat.{ℕ, suc, _+_, _≤_}
-use mathlib.Core.Path.{_≡_, refl, sym, ap, ap₂, _∙_, subst}
-use mathlib.Core.Bool.{Bool, true, false}
+use mathlib.Core.Path.{_≡_, refl, ap, ap₂, _∙_, subst}
+use mathlib.Core.Bool.{false}
 use mathlib.Core.List.{List, [], _∷_, _++_}
 use native.Mathlib.Omega.{arith}
 use lib.ListN.{length, length-append}
 use Rattle.text_store.specs.Words.{kind-of, node-size, place-of, node-mark, second-place, own-from, own-end, how-bound, condition-from, condition-end}
 use Rattle.text_meaning.specs.Meaning.{parts-from, parts-of}
-use Rattle.tree.specs.Tree.{Mark, optional, any-number, one-or-more, counted, Part, expression, concatenation, factor, atom, cases, Tree, literal, range, field, binder, rule-use, eod, group, switch, last-case, case-default, case-cases, once, repeated, last-member, and-members, last-branch, or-branches, TestPart, Tests, compare, test-group, one-test, all-of, any-of, last-conjunct, and-conjuncts, last-disjunct, or-disjuncts}
+use Rattle.tree.specs.Tree.{Mark, optional, any-number, one-or-more, counted, Part, Tree, literal, range, field, binder, rule-use, eod, group, switch, last-case, case-default, case-cases, once, repeated, last-member, and-members, last-branch, or-branches, TestPart, Tests, compare, test-group, one-test, all-of, any-of, last-conjunct, and-conjuncts, last-disjunct, or-disjuncts}
 use Rattle.tree_form.specs.Stored.{tag-of}
 use Rattle.tree_store.proofs.Rows.{NodeRow, TermRow, a-term, on-first, mark-row, node-rows, tests-rows, calculation-rows}
-use Rattle.tree_store.proofs.Lengths.{length-first, some-node, some-calculation}
-use Rattle.tree_store.proofs.Storing.{NodeIs}
+use Rattle.tree_store.proofs.Lengths.{some-node, some-calculation}
 use Rattle.tree_store.proofs.Spots.{LikeAt, none-like, next-like}
 use Rattle.tree_store.proofs.Rowed.{NodesAt, no-nodes, node-then, nodes-left, nodes-right}
 use Rattle.tree_grammar.proofs.Parts.{Whole}

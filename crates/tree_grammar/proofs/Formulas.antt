@@ -1,9 +1,9 @@
 -- The sets and conditions of a rule, in node i: the lists of terms that are stored are those of the tree, and answer what the tree says.
 -- Assumes nothing.
-use Prim.Native.Nat.{ℕ, suc, _+_, _≤_, _<_, min}
-use mathlib.Core.Path.{_≡_, refl, sym, ap, _∙_, subst}
-use mathlib.Core.Bool.{Bool, true, false, cond}
-use mathlib.Core.List.{List, [], _∷_, _++_}
+use Prim.Native.Nat.{ℕ, _+_, _≤_, _<_}
+use mathlib.Core.Path.{_≡_, ap, _∙_}
+use mathlib.Core.Bool.{true, false, cond}
+use mathlib.Core.List.{List, [], _∷_}
 use mathlib.Core.Option.{none}
 use native.Mathlib.Omega.{arith}
 use lib.IntN.{ℤ, pos}
@@ -16,21 +16,19 @@ use Rattle.term_words.specs.declared.Term.{Term as WordTerm}
 use Rattle.term_evaluation.specs.Meaning.{condition}
 use Rattle.term_sizes.specs.Inside.{Inside}
 use Rattle.table_layout.specs.Held.{isYes}
-use Rattle.term_trees.specs.Postfix.{setTerms, conditionTerms, repeatTerms}
-use Rattle.text_meaning.specs.Meaning.{own-list, condition-list, in-set as in-list, in-static-set, is-true as list-true, counts-in, static-counts}
-use Rattle.basis.specs.Counts.{zero-or-more}
+use Rattle.term_trees.specs.Postfix.{setTerms, repeatTerms}
+use Rattle.text_meaning.specs.Meaning.{own-list, in-set as in-list, in-static-set, is-true as list-true}
 use Rattle.tree.specs.Lexemes.{Name}
 use Rattle.tree.specs.Tree.{ValueSet, Condition, Counts}
-use Rattle.tree_meaning.specs.Pieces.{Term, a-number, a-use, a-sign, Component, set-parts, counts-parts, tests-parts, terms-of, uses-in, Piece, use-of-rule, width, formula, binding}
+use Rattle.tree_meaning.specs.Pieces.{Term, a-number, a-use, a-sign, Component, set-parts, counts-parts, tests-parts, terms-of, uses-in, formula}
 use Rattle.tree_meaning.specs.Names.{is-among}
-use Rattle.tree_meaning.specs.Values.{in-set, passes-in, is-true}
+use Rattle.tree_meaning.specs.Values.{in-set, is-true}
 use Rattle.tree_meaning.specs.Grammar.{Values, values-at, has-variable}
 use Rattle.tree_meaning.proofs.Passing.{NumbersFit, CalculationsFit, UsesRight}
-use Rattle.tree_meaning.proofs.Keeping.{BindingKeeps}
-use Rattle.tree_terms.specs.Terms.{set-tree, counts-tree, tests-tree}
+use Rattle.tree_terms.specs.Terms.{set-tree, counts-tree}
 use Rattle.tree_store.proofs.Rows.{TermRow, set-rows, counts-rows, tests-rows}
 use Rattle.tree_store.proofs.Uses.{Here, UsesAre, no-more, used, other}
-use Rattle.tree_store.proofs.Binding.{Before, after-bound}
+use Rattle.tree_store.proofs.Binding.{Before}
 use Rattle.tree_grammar.proofs.Terms.{Resolved, set-listed, counts-listed, condition-listed}
 use Rattle.tree_grammar.proofs.Lists.{RowsAt, number-here, own-is, condition-is}
 use Rattle.tree_grammar.proofs.Widths.{all-wide, all-known, set-answers, set-static, condition-answers}

@@ -1,7 +1,7 @@
 -- The lists of terms that a node has are the terms of its rows.
 -- Assumes nothing.
 use Prim.Native.Nat.{ℕ, suc, _+_, _-_, _<_}
-use mathlib.Core.Path.{_≡_, refl, sym, ap, ap₂, _∙_, subst}
+use mathlib.Core.Path.{_≡_, refl, ap, ap₂, _∙_, subst}
 use mathlib.Core.Bool.{cond}
 use mathlib.Core.List.{List, [], _∷_, _++_, map}
 use native.Mathlib.Omega.{arith}
@@ -11,7 +11,7 @@ use Rattle.term_words.specs.declared.Term.{Term}
 use Rattle.text_store.specs.Store.{blank, term-words}
 use Rattle.text_store.specs.Words.{is-use, own-from, own-end, condition-from, condition-end}
 use Rattle.text_encoding.specs.Numbers.{first-at, variable-of}
-use Rattle.text_shapes.specs.TermShapes.{read-term, read-terms, rename-term}
+use Rattle.text_shapes.specs.TermShapes.{read-terms, rename-term}
 use Rattle.text_meaning.specs.Meaning.{list-of, own-list, condition-list}
 use Rattle.tree.specs.Tree.{Rules}
 use Rattle.tree_form.specs.Stored.{stored}

@@ -4,15 +4,15 @@ use Prim.Native.Nat.{ℕ, suc, _+_}
 use mathlib.Core.Path.{_≡_, refl, sym, ap, _∙_, subst}
 use mathlib.Core.Bool.{Bool, true, false, cond, _&&_}
 use mathlib.Core.List.{List, []}
-use mathlib.Core.Option.{Option, some}
+use mathlib.Core.Option.{Option}
 use native.Mathlib.Omega.{arith}
 use lib.Dec.{leb}
 use lib.IntN.{pos}
 use lib.ListN.{length, getD, set}
 use Rattle.basis.specs.Bits.{Bits, value}
-use Rattle.theory.specs.Grammar.{Node, alternative, concatenation, repetition, switch, use-of, field, eod}
+use Rattle.theory.specs.Grammar.{alternative, concatenation, repetition, switch, field, eod}
 use Rattle.table_layout.specs.Constructs.{pick, both}
-use Rattle.table_layout.specs.Held.{HeldNode, range-node as held-range}
+use Rattle.table_layout.specs.Held.{range-node as held-range}
 use Rattle.text_literals.specs.Literals.{characters-at}
 use Rattle.text_store.specs.Words.{kind-of, place-of, node-mark, last-place, is-binder, first-node}
 use Rattle.text_encoding.specs.Numbers.{rule-of, binders-before, width-of}

@@ -1,22 +1,21 @@
 -- The parts of a node are those that the tree numbers: members of a concatenation, branches of an alternative, bodies of cases.
 -- Assumes nothing.
 use Prim.Native.Nat.{ℕ, zero, suc, _+_, _≤_}
-use mathlib.Core.Path.{_≡_, refl, sym, ap, _∙_, subst}
-use mathlib.Core.Bool.{Bool, true, false}
+use mathlib.Core.Path.{_≡_, refl, ap, _∙_, subst}
+use mathlib.Core.Bool.{true, false}
 use mathlib.Core.List.{List, [], _∷_, _++_}
 use native.Mathlib.Omega.{arith}
 use lib.ListN.{length}
 use Rattle.text_store.specs.Words.{node-size}
-use Rattle.text_meaning.specs.Meaning.{parts-from, parts-of}
+use Rattle.text_meaning.specs.Meaning.{parts-from}
 use Rattle.text_meaning.proofs.PartLists.{parts-next, parts-end}
 use Rattle.tree.specs.Tree.{Mark, optional, any-number, one-or-more, counted, Part, expression, concatenation, factor, atom, cases, Tree, literal, range, field, binder, rule-use, eod, group, switch, last-case, case-default, case-cases, once, repeated, last-member, and-members, last-branch, or-branches}
 use Rattle.tree_meaning.specs.Counted.{constructs}
 use Rattle.tree_meaning.specs.Grammar.{members, branches, case-bodies}
 use Rattle.tree_meaning.proofs.Lengths.{some-construct}
-use Rattle.tree_store.proofs.Rows.{NodeRow, on-first, in-case, mark-row, node-rows, term-rows, tests-rows}
+use Rattle.tree_store.proofs.Rows.{NodeRow, on-first, mark-row, node-rows, term-rows, tests-rows}
 use Rattle.tree_store.proofs.Lengths.{length-first, nodes-counted}
-use Rattle.tree_store.proofs.Storing.{NodeIs}
-use Rattle.tree_store.proofs.Rowed.{NodesAt, no-nodes, node-then, nodes-left, nodes-right}
+use Rattle.tree_store.proofs.Rowed.{NodesAt, node-then, nodes-left, nodes-right}
 
 -- ---- the size of a tree's first node
 

@@ -2,10 +2,10 @@
 -- number are the same at all values that a run or a derivation meets (`tree_meaning` `Agreeing`).
 -- Assumes nothing.
 use Prim.Native.Nat.{ℕ, zero, suc, _+_, _≤_, _<_, min}
-use mathlib.Core.Path.{_≡_, refl, sym, ap, _∙_, subst}
+use mathlib.Core.Path.{_≡_, refl, sym, _∙_, subst}
 use mathlib.Core.Logic.{⊎-elim}
 use mathlib.Core.Bool.{Bool, true, false, cond}
-use mathlib.Core.List.{List, [], _∷_, _++_}
+use mathlib.Core.List.{List, [], _∷_}
 use mathlib.Core.Option.{none}
 use native.Mathlib.Omega.{arith}
 use borrow.Author.Tests.{ltb-true, ltb-false}
@@ -17,27 +17,26 @@ use Rattle.text_header.proofs.Tests.{which}
 use Rattle.text_store.specs.Store.{blank, node-words, term-words, rule-words, nodes-of, rules-of}
 use Rattle.text_store.specs.Words.{first-node}
 use Rattle.text_encoding.specs.Lists.{sum}
-use Rattle.text_encoding.specs.Numbers.{binders-before, binds-one}
 use Rattle.text_meaning.specs.Meaning.{meant-node, opened, grammar-of}
 use Rattle.tree.specs.Lexemes.{finish}
 use Rattle.tree.specs.Tree.{Rule, Rules, last-rule, and-rules}
 use Rattle.tree_form.specs.Stored.{stored}
 use Rattle.tree_meaning.specs.Pieces.{rules-of as rules-in, rule-body, variables-of}
-use Rattle.tree_meaning.specs.Counted.{Totals, no-rule, rule-constructs, refusal-5}
+use Rattle.tree_meaning.specs.Counted.{no-rule, rule-constructs, refusal-5}
 use Rattle.tree_meaning.specs.Names.{rule-names, refusal-6}
 use Rattle.tree_meaning.specs.Sizes.{refusal-8}
-use Rattle.tree_meaning.specs.Grammar.{Values, TreeNode, Construct, plain-at, use-node, constructs-of, body-of, variable-of, rules-constructs, tree-constructs, construct-at, opening, tree-grammar}
+use Rattle.tree_meaning.specs.Grammar.{Values, Construct, plain-at, use-node, constructs-of, body-of, variable-of, rules-constructs, tree-constructs, construct-at, opening, tree-grammar}
 use Rattle.tree_meaning.proofs.Agreeing.{SameNode, same-alternative, same-use}
 use Rattle.tree_meaning.proofs.Meeting.{InText}
-use Rattle.tree_meaning.proofs.Keeping.{BindingKeeps, all-bindings}
+use Rattle.tree_meaning.proofs.Keeping.{all-bindings}
 use Rattle.tree_meaning.proofs.Lengths.{as-counted}
 use Rattle.tree_meaning.proofs.Passing as Pass
-use Rattle.tree_store.proofs.Rows.{node-rows, term-rows, rules-nodes, tree-nodes, tree-totals}
+use Rattle.tree_store.proofs.Rows.{node-rows, term-rows, rules-nodes, tree-totals}
 use Rattle.tree_store.proofs.Lengths.{nodes-counted}
 use Rattle.tree_store.proofs.Limits.{Limited, limited}
 use Rattle.tree_store.proofs.Standing.{SpelledBy, spelled-stand}
 use Rattle.tree_store.proofs.Storing.{totalled-tree, nodes-read}
-use Rattle.tree_store.proofs.Rowed.{RulesIn, rule-then, Rowed, rowed}
+use Rattle.tree_store.proofs.Rowed.{RulesIn, rule-then, rowed}
 use Rattle.tree_numbers.proofs.Rules.{At}
 use Rattle.tree_grammar.proofs.Lists.{text-rows}
 use Rattle.tree_grammar.proofs.Walk.{AllMeant}

@@ -1,17 +1,16 @@
 -- The rows that are stored of a calculation, a set, counts or a condition are the terms of its tree, once its variables have their numbers.
 -- Assumes nothing.
-use Prim.Native.Nat.{ℕ, suc, _+_, _*_, _≤_, _<_, min}
+use Prim.Native.Nat.{ℕ, _+_, _*_}
 use mathlib.Core.Path.{_≡_, refl, sym, ap, ap₂, _∙_, subst}
-use mathlib.Core.Bool.{Bool, true, false, cond}
+use mathlib.Core.Bool.{cond}
 use mathlib.Core.List.{List, [], _∷_, _++_, map, append-assoc, append-nil}
 use mathlib.Core.Option.{Option, none, some}
 use native.Mathlib.Omega.{arith}
-use lib.ListN.{length, getD}
 use Rattle.text_tokens.specs.Numbers.{capped}
 use Rattle.term_words.specs.Words.{termOf}
 use Rattle.term_words.specs.declared.Operation.{Operation}
 use Rattle.term_words.specs.declared.Term.{Term}
-use Rattle.term_trees.specs.Trees.{Calculation as TermCalculation, plus as added, minus as less-by, times as multiplied, opposite as negated, ValueSet as TermSet, either, without, Condition as TermCondition, compare as compared, both, any}
+use Rattle.term_trees.specs.Trees.{Calculation as TermCalculation, plus as added, minus as less-by, times as multiplied, ValueSet as TermSet, without, Condition as TermCondition, compare as compared}
 use Rattle.term_trees.specs.Postfix.{lastSign, before, calculationTerms, setTerms, conditionTerms, repeatTerms}
 use Rattle.text_store.specs.Words.{is-use}
 use Rattle.text_shapes.specs.TermShapes.{rename-term}

@@ -14,34 +14,30 @@ use Rattle.text_header.proofs.Runs.{word-self}
 use Rattle.text_tokens.specs.Numbers.{number-value, capped}
 use Rattle.text_tokens.specs.declared.Kind.{Kind}
 use Rattle.text_literals.specs.Literals.{characters-at}
-use Rattle.text_store.specs.Words.{kind-of, node-mark, is-binder, condition-from, condition-end, first-node}
+use Rattle.text_store.specs.Words.{node-mark, is-binder, condition-from, condition-end, first-node}
 use Rattle.text_names.specs.Names.{binds, same-name}
 use Rattle.text_encoding.specs.Numbers.{rule-of, binders-before, width-of}
 use Rattle.table_layout.specs.Constructs.{pick}
-use Rattle.table_layout.specs.Held.{isExact}
 use Rattle.term_words.specs.declared.Term.{Term as WordTerm}
-use Rattle.term_evaluation.specs.Counts.{formOf}
-use Rattle.term_trees.specs.Postfix.{repeatTerms}
-use Rattle.text_meaning.specs.Meaning.{last-of, own-list, counts-in, static-counts, passes, is-fixed, is-default, is-true as list-true, first-true}
+use Rattle.text_meaning.specs.Meaning.{own-list, counts-in, static-counts, passes, is-fixed, is-default, is-true as list-true, first-true}
 use Rattle.text_meaning.specs.Claims.{is-exact as is-exact-tree}
 use Rattle.text_meaning.proofs.TreeLists.{form-is}
 use Rattle.tree.specs.Lexemes.{Name, Lexeme, sign}
 use Rattle.tree.specs.Tree.{Counts, exactly, at-least, at-most, span, Mark, optional, any-number, one-or-more, counted, Part, cases, Tree, literal, range, field, binder, rule-use, eod, group, switch, last-case, case-default, case-cases, once, repeated, last-member, and-members, last-branch, or-branches}
-use Rattle.tree.specs.Spelling.{spell, spell-set, spell-mark, spell-tests}
+use Rattle.tree.specs.Spelling.{spell, spell-mark}
 use Rattle.tree_form.specs.Stored.{start-of, how-bound as way-bound}
-use Rattle.tree_meaning.specs.Pieces.{Component, set-parts, counts-parts, tests-parts, terms-of, uses-in, Piece, use-of-rule, width, formula, binding, mark-pieces, pieces}
+use Rattle.tree_meaning.specs.Pieces.{counts-parts, terms-of, Piece, use-of-rule, width, formula, binding, mark-pieces, pieces}
 use Rattle.tree_meaning.specs.Counted.{constructs}
 use Rattle.tree_meaning.specs.Names.{is-among}
-use Rattle.tree_meaning.specs.Values.{is-true}
-use Rattle.tree_meaning.specs.Grammar.{Values, Construct, values-at, is-exact, members, branches, case-bodies, chosen, repetition-node, constructs-of}
+use Rattle.tree_meaning.specs.Grammar.{Values, Construct, is-exact, members, branches, case-bodies, chosen, repetition-node, constructs-of}
 use Rattle.tree_meaning.proofs.Keeping.{BindingKeeps}
 use Rattle.tree_meaning.proofs.Lengths.{as-counted}
 use Rattle.tree_terms.specs.Terms.{counts-tree}
-use Rattle.tree_store.proofs.Rows.{NodeRow, on-first, mark-row, node-rows, term-rows, mark-rows, set-rows, counts-rows, tests-rows}
+use Rattle.tree_store.proofs.Rows.{NodeRow, on-first, mark-row, node-rows, term-rows, mark-rows, tests-rows}
 use Rattle.tree_store.proofs.Lengths.{length-first, nodes-counted, some-node}
 use Rattle.tree_store.proofs.Standing.{Standing, past, shown, after-tests, after-tree}
 use Rattle.tree_store.proofs.Uses.{Here, here, no-more, set-uses, counts-uses, tests-uses}
-use Rattle.tree_store.proofs.Spots.{Like, like-first}
+use Rattle.tree_store.proofs.Spots.{Like}
 use Rattle.tree_store.proofs.Binding.{same-here, after-bound, Quiet, mark-quiet, bound-rows, Before, before-node, before-more}
 use Rattle.tree_store.proofs.Rowed.{NodesAt, nodes-left, nodes-right}
 use Rattle.tree_grammar.proofs.Parts.{member-parts, branch-parts, case-parts}

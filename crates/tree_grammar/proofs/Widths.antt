@@ -1,7 +1,7 @@
 -- Sizes of the variables for values within the widths of a rule: where 8 is not given, the terms of the rule's sets and conditions answer at such values what
 -- its tree says.
 -- Assumes nothing.
-use Prim.Native.Nat.{ℕ, zero, suc, _+_, _-_, _^_, _≤_, _<_}
+use Prim.Native.Nat.{ℕ, zero, suc, _-_, _^_, _≤_, _<_}
 use mathlib.Core.Path.{_≡_, refl, sym, ap, _∙_, subst}
 use mathlib.Core.Logic.{⊎-elim}
 use mathlib.Core.Bool.{Bool, true, false, cond}
@@ -13,12 +13,10 @@ use lib.Dec.{eqb}
 use lib.IntN.{ℤ, pos, natAbs}
 use lib.ListN.{length, getD, set, length-set}
 use lib.Seq.{getD-set-same, getD-set-other}
-use Rattle.basis.specs.Limits.{max-variables}
 use Rattle.text_header.proofs.Runs.{word-equal, word-self}
 use Rattle.text_header.proofs.Tests.{which}
 use Rattle.text_tokens.specs.Names.{is-same}
-use Rattle.term_evaluation.specs.Meaning.{membership, condition}
-use Rattle.term_evaluation.specs.Variables.{hasVariable}
+use Rattle.term_evaluation.specs.Meaning.{condition}
 use Rattle.term_sizes.specs.Inside.{Below, Inside}
 use Rattle.term_trees.specs.Postfix.{setTerms, conditionTerms}
 use Rattle.term_trees.proofs.Theorems.{answer}
