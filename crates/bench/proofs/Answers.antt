@@ -4,8 +4,8 @@ use Prim.Native.Nat.{ℕ}
 use mathlib.Core.Path.{_≡_}
 use mathlib.Core.List.{List}
 use native.Mathlib.Omega.{arith}
-use Rattle.admission.specs.Admitted.{Answers}
-use Rattle.admission.specs.declared.Admission.{Admission}
+use Rattle.text_admission.specs.Admitted.{Answers}
+use Rattle.text_admission.specs.declared.Admission.{Admission}
 use Rattle.bench.specs.Weights.{Light}
 
 pub light : (text old new : List ℕ) (answer : Admission) → Answers text old new answer → Light answer

@@ -2,7 +2,7 @@
 -- Assumes nothing.
 use Prim.Native.Nat.{_≤_}
 use Rattle.basis.specs.Limits.{max-weight}
-use Rattle.admission.specs.declared.Admission.{Admission}
+use Rattle.text_admission.specs.declared.Admission.{Admission}
 
 -- an admitted grammar's weight is at most 65,535
 abbrev pub Light : Admission → Type 0

@@ -1,5 +1,5 @@
 // The bench program: reads kiosk.dogma, then frames from standard input, each a line of hexadecimal, and prints the answers (document 01).
-use admission::Admission;
+use text_admission::Admission;
 use basis::MAX_FRAME_BITS;
 use basis::MAX_FRAME_BYTES;
 use basis::TABLE_WORDS;
@@ -262,7 +262,7 @@ fn frames(table: &[u32; TABLE_WORDS], weight: usize)
 fn admit_text(bytes: &[u8], table: &mut [u32; TABLE_WORDS]) -> Admission
     ensures { λ r. ⌜ Light r ⌝ }
 {
-    admission::admit(bytes, &mut table[..])
+    text_admission::admit(bytes, &mut table[..])
 }
 
 // Of a longer text so many bytes are enough to refuse it.

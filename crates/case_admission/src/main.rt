@@ -1,6 +1,6 @@
 // Admits texts from standard input, each after a line with its length in bytes, and prints what the bench program prints of a grammar, with
 // the window of a clash. Any input is taken: a line without a number counts as 0, and a length past the end as all that is there.
-use admission::Admission;
+use text_admission::Admission;
 use libc::STDIN_FILENO;
 use libc::STDOUT_FILENO;
 use table_conflicts::Clash;
@@ -47,7 +47,7 @@ fn show(answer: Admission) {
 }
 
 fn admit(text: &[u8], table: &mut [u32; 16384]) {
-    show(admission::admit(text, &mut table[..]));
+    show(text_admission::admit(text, &mut table[..]));
 }
 
 // The text that is the bytes from `start` to `end`, where they are there.

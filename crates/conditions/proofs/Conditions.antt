@@ -13,8 +13,8 @@ use Rattle.theory.specs.Derivation.{Tree, Derivation}
 use Rattle.table_layout.specs.Places.{table-of, weight-of}
 use Rattle.table_layout.specs.Held.{Context, Values, held}
 use Rattle.run_actions.specs.Acts.{bits-of}
-use Rattle.admission.specs.Admitted.{Answers}
-use Rattle.admission.specs.declared.Admission.{Admission}
+use Rattle.text_admission.specs.Admitted.{Answers}
+use Rattle.text_admission.specs.declared.Admission.{Admission}
 use Rattle.table_judge.specs.Sound.{SoundTable}
 use Rattle.run_matcher.specs.Opening.{Answered, Opened}
 use Rattle.run_matcher.specs.declared.Answer.{Answer}

@@ -19,10 +19,10 @@ use Rattle.table_weights.proofs.Heights.{weight-at}
 use Rattle.table_weights.proofs.Theorems.{weights-exist}
 use Rattle.table_judge.specs.Judged.{Passed10}
 use Rattle.text_store.specs.Store.{State}
-use Rattle.admission.specs.Admitted.{number-of, place-in, window-in, words-of, Bounded, Headed, Refusal, RulesRefused, AnsweredRules, Answers, refused-early, by-rules, Clashes, LeastMark as TableMark}
+use Rattle.text_admission.specs.Admitted.{number-of, place-in, window-in, words-of, Bounded, Headed, Refusal, RulesRefused, AnsweredRules, Answers, refused-early, by-rules, Clashes, LeastMark as TableMark}
 use Rattle.table_conflicts.specs.Conflicts.{HasNumber, FirstHolders, Conflicting, Answered}
 use Rattle.table_conflicts.specs.declared.Clash.{Clash}
-use Rattle.admission.specs.declared.Admission.{Admission}
+use Rattle.text_admission.specs.declared.Admission.{Admission}
 use Rattle.conditions.specs.Texts.{meant}
 use Rattle.conditions.specs.Refusals.{Row, short-table, wrong-size, wrong-header, wrong-form, past-limit, wrong-name, recursive, too-large, empty-body, clashing, too-heavy, number, HasConflict, LeastMark, Weight, FirstTwo, Sharing, Clashed, Read, NoneBelow, First, Exactly}
 use Rattle.conditions.proofs.Refusals.{same-row, in-range, one-first, below-1, below-2, below-3, below-4, below-5, below-6, below-7, below-8, below-9, below-10, below-11, below-12, reading, to-text}

@@ -19,8 +19,8 @@ use Rattle.text_header.specs.Header.{header-of}
 use Rattle.text_header.specs.declared.Heading.{Heading}
 use Rattle.text_store.specs.Store.{State}
 use Rattle.text_parsing.specs.Form.{Outcome, right, refused}
-use Rattle.admission.specs.Admitted.{form, words-of, fault-8, Right, Limited, Named, NotRecursive, Bounded, Passes, Headed}
-use Rattle.admission.specs.declared.Found.{Found}
+use Rattle.text_admission.specs.Admitted.{form, words-of, fault-8, Right, Limited, Named, NotRecursive, Bounded, Passes, Headed}
+use Rattle.text_admission.specs.declared.Found.{Found}
 use Rattle.conditions.specs.Texts.{Reading, meant}
 use Rattle.conditions.specs.Refusals.{Row, short-table, wrong-size, wrong-header, wrong-form, past-limit, wrong-name, recursive, too-large, empty-body, clashing, too-heavy, number, HasConflict, LeastMark, PastLimit, WrongName, Recursive, TooLarge, EmptyBodies, Clashes, TooHeavy, Read, Fits, NoneBelow, First}
 use Rattle.conditions.proofs.Tables.{one-base, one-reading, words-hold}

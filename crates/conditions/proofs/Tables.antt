@@ -21,10 +21,10 @@ use Rattle.text_header.specs.Header.{header-of}
 use Rattle.text_header.specs.declared.Heading.{Heading}
 use Rattle.text_store.specs.Store.{State, state, node-words, term-words, rule-words, nodes-of, rules-of}
 use Rattle.text_parsing.specs.Form.{Outcome, right, refused}
-use Rattle.admission.specs.Admitted.{form, words-of, Bounded, Headed, RulesPass, Answers, refused-early, by-rules}
-use Rattle.admission.specs.declared.Admission.{Admission}
-use Rattle.admission.proofs.Facts.{facts}
-use Rattle.admission.proofs.Judging.{readable}
+use Rattle.text_admission.specs.Admitted.{form, words-of, Bounded, Headed, RulesPass, Answers, refused-early, by-rules}
+use Rattle.text_admission.specs.declared.Admission.{Admission}
+use Rattle.text_admission.proofs.Facts.{facts}
+use Rattle.text_admission.proofs.Judging.{readable}
 use Rattle.text_meaning.specs.Claims.{Meanings}
 use Rattle.text_meaning.proofs.Holding.{holds-text}
 use Rattle.text_meaning.proofs.Trees.{meanings}

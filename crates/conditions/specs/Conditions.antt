@@ -1,4 +1,4 @@
--- The mission's three conditions, of what the calls promise: `Answers` (`admission::admit`), `Answered` and `run-given` (`run_matcher::open`),
+-- The mission's three conditions, of what the calls promise: `Answers` (`text_admission::admit`), `Answered` and `run-given` (`run_matcher::open`),
 -- `grant-of` (`run_grants::advance`, `run_grants::grant`). They stand at the end of each part, and are proved: `Condition1` by `condition-1`
 -- (`proofs/Buffers.antt`), `Tables` by `text-table` (`proofs/Tables.antt`), `OneAnswer` and `OneTable` by `one-answer` and `one-table`
 -- (`proofs/OneAnswer.antt`), `Condition2`, `AtMostOne` and `Condition3` by `condition-2`, `at-most-one` and `condition-3` (`proofs/Conditions.antt`).
@@ -21,8 +21,8 @@ use Rattle.run_actions.specs.Acts.{bits-of}
 use Rattle.run_steps.specs.Steps.{undecided, matched, unmatched}
 use Rattle.run_refinement.specs.Runs.{words-of}
 use Rattle.table_judge.specs.Sound.{SoundTable}
-use Rattle.admission.specs.Admitted.{number-of, Answers}
-use Rattle.admission.specs.declared.Admission.{Admission}
+use Rattle.text_admission.specs.Admitted.{number-of, Answers}
+use Rattle.text_admission.specs.declared.Admission.{Admission}
 use Rattle.run_grants.specs.Runs.{After, run-in, reading-in, answer-in, grant-of, closed-run, number-of as grant-number, taken-of}
 use Rattle.run_grants.specs.Composing.{GrantsCompose}
 use Rattle.run_grants.specs.declared.Run.{Run}

@@ -14,7 +14,7 @@ use Rattle.text_header.specs.Header.{header-of}
 use Rattle.text_header.specs.declared.Heading.{Heading}
 use Rattle.text_store.specs.Store.{State, node-words, term-words, rule-words, nodes-of, rules-of}
 use Rattle.text_parsing.specs.Form.{right}
-use Rattle.admission.specs.Admitted.{form, Passes}
+use Rattle.text_admission.specs.Admitted.{form, Passes}
 use Rattle.text_meaning.specs.Meaning.{grammar-of}
 use Rattle.text_meaning.specs.Claims.{Meanings}
 

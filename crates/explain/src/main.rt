@@ -1,5 +1,5 @@
 // Says what is wrong with each grammar file that it is given (kiosk.dogma, where it is given none), and what to change.
-use admission::Admission;
+use text_admission::Admission;
 
 mod chains;
 mod clashes;
@@ -62,7 +62,7 @@ fn answered(grammar: &[u8], answer: Admission) {
 
 fn explained(grammar: &[u8]) {
     let mut table = [0u32; 16384];
-    let answer = admission::admit(grammar, &mut table);
+    let answer = text_admission::admit(grammar, &mut table);
     answered(grammar, answer);
 }
 

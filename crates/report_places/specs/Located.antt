@@ -12,7 +12,7 @@ use Rattle.text_header.specs.declared.Heading.{Heading}
 use Rattle.text_store.specs.Store.{node-words, rule-words, nodes-of, rules-of}
 use Rattle.text_parsing.specs.Form.{Outcome, right, refused}
 use Rattle.text_store.specs.Words.{kind-of, place-of, last-node, terms-at-end, binders-at-end}
-use Rattle.admission.specs.Admitted.{form}
+use Rattle.text_admission.specs.Admitted.{form}
 use Rattle.report_places.specs.Faults.{from-base, rule-number, first-rule, name-fault}
 use Rattle.report_places.specs.declared.Located.{Located}
 use Rattle.report_places.specs.declared.Query.{Query}

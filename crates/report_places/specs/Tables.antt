@@ -8,7 +8,7 @@ use lib.ListN.{drop}
 use Rattle.text_header.specs.Header.{header-of}
 use Rattle.text_header.specs.declared.Heading.{Heading}
 use Rattle.text_store.specs.Store.{State}
-use Rattle.admission.specs.Admitted.{words-of, Named}
+use Rattle.text_admission.specs.Admitted.{words-of, Named}
 
 -- the words of the rules xs, in which 4 to 6 find no fault
 pub record Encoded (xs words : List ℕ) : Type 0 where

@@ -20,7 +20,7 @@ ghost use Prim.Native.Nat.{ℕ, _+_, _-_, _≤_};
 ghost use lib.ListN.{length, drop};
 ghost use Rattle.basis.specs.Limits.{max-text-bytes, max-rules};
 ghost use Rattle.text_store.specs.Words.{node-word, place-of, kind-of, nodes-room, rules-room};
-ghost use Rattle.admission.specs.Admitted.{form};
+ghost use Rattle.text_admission.specs.Admitted.{form};
 ghost use Rattle.report_places.specs.Faults.{from-base, rule-number, first-rule, name-fault};
 ghost use Rattle.report_places.specs.Located.{totals-of, answered, located-in, located};
 

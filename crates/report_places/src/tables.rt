@@ -5,7 +5,7 @@ ghost use mathlib.Core.Path.{_≡_};
 ghost use Prim.Native.Nat.{ℕ, _≤_};
 ghost use lib.ListN.{length, drop, replicate};
 ghost use Rattle.text_parsing.specs.Cursors.{state-at};
-ghost use Rattle.admission.specs.Admitted.{words-of, Right, Named};
+ghost use Rattle.text_admission.specs.Admitted.{words-of, Right, Named};
 ghost use Rattle.report_places.specs.Tables.{Encoding, TextEncoding};
 
 fn encode_named(

@@ -11,11 +11,11 @@ use Rattle.text_header.specs.Header.{header-of}
 use Rattle.text_header.specs.declared.Heading.{Heading}
 use Rattle.text_parsing.specs.Form.{Outcome}
 use Rattle.text_store.specs.Store.{State}
-use Rattle.admission.specs.Admitted.{form, words-of, fault-5, fault-6, fault-8}
-use Rattle.admission.specs.declared.Found.{Found}
+use Rattle.text_admission.specs.Admitted.{form, words-of, fault-5, fault-6, fault-8}
+use Rattle.text_admission.specs.declared.Found.{Found}
 use Rattle.conditions.specs.Texts.{meant}
 use Rattle.sheet.specs.Sheet.{text-of}
-use Rattle.admission.specs.Extents.{least-found}
+use Rattle.text_admission.specs.Extents.{least-found}
 use Rattle.basis.specs.Bits.{append-digits, bitsOf, frameBits, same}
 use Rattle.basis.specs.Counts.{atLeast, between, exactly, span}
 use Rattle.text_encoding.specs.Encoded.{encoded}

@@ -17,8 +17,8 @@ use Rattle.run_actions.specs.Stored.{tests-of}
 use Rattle.table_hypotheses.proofs.Trust.{trusted}
 use Rattle.run_refinement.specs.Runs.{words-of}
 use Rattle.text_store.specs.Store.{State}
-use Rattle.admission.specs.Admitted.{Answers}
-use Rattle.admission.specs.declared.Admission.{Admission}
+use Rattle.text_admission.specs.Admitted.{Answers}
+use Rattle.text_admission.specs.declared.Admission.{Admission}
 use Rattle.run_matcher.specs.Opening.{Opened}
 use Rattle.conditions.specs.Texts.{meant}
 use Rattle.conditions.specs.Conditions.{TextTable}

@@ -11,7 +11,7 @@ use Rattle.theory.specs.Lookahead.{Conflict, EmptyBody}
 use Rattle.theory.specs.Weight.{Weighs, weigh, sum, largest}
 use Rattle.table_layout.specs.Held.{Context, first-context, opening}
 use Rattle.text_store.specs.Store.{State}
-use Rattle.admission.specs.Admitted.{Bounded}
+use Rattle.text_admission.specs.Admitted.{Bounded}
 use Rattle.conditions.specs.Texts.{meant}
 use Rattle.sheet.specs.Sheet.{G, K9, K10}
 use Rattle.sheet.proofs.Computing.{rules-in, grammar}

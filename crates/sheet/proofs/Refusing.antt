@@ -20,8 +20,8 @@ use Rattle.table_conflicts.specs.declared.Clash.{Clash}
 use Rattle.table_judge.specs.Judged.{Least}
 use Rattle.text_store.specs.Store.{node-words}
 use Rattle.text_store.specs.Words.{mark-place}
-use Rattle.admission.specs.Admitted.{window-in, place-in, number-of, words-of, Headed, Answers, refused-early, by-rules}
-use Rattle.admission.specs.declared.Admission.{Admission}
+use Rattle.text_admission.specs.Admitted.{window-in, place-in, number-of, words-of, Headed, Answers, refused-early, by-rules}
+use Rattle.text_admission.specs.declared.Admission.{Admission}
 use Rattle.conditions.specs.Texts.{Reading}
 use Rattle.conditions.specs.Refusals.{empty-body, clashing, recursive, EmptyBodies}
 use Rattle.conditions.proofs.Refusals.{below-next, below-7, below-9, read, fitting}

@@ -18,8 +18,8 @@ use Rattle.table_layout.specs.Attributes.{attributes-of}
 use Rattle.table_reach.specs.Reaching.{Uses, Reaches, directly, through, Acyclic, rule-end}
 use Rattle.text_store.specs.Store.{State}
 use Rattle.text_names.specs.Counting.{nowhere}
-use Rattle.admission.specs.Admitted.{Named, Bounded, words-of}
-use Rattle.admission.specs.declared.Found.{Found}
+use Rattle.text_admission.specs.Admitted.{Named, Bounded, words-of}
+use Rattle.text_admission.specs.declared.Found.{Found}
 use Rattle.sheet.specs.Sheet.{G, K5, K6, K8, K9, K10, K11}
 use Rattle.sheet.proofs.Computing.{rules-in, limits, names, words, sizes-in}
 use Rattle.sheet.proofs.Words.{Formed}

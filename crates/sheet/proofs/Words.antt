@@ -14,7 +14,7 @@ use Rattle.text_header.specs.Header.{header-of}
 use Rattle.text_header.specs.declared.Heading.{Heading}
 use Rattle.text_parsing.specs.Form.{Outcome, right, refused}
 use Rattle.text_store.specs.Store.{State, state}
-use Rattle.admission.specs.Admitted.{form}
+use Rattle.text_admission.specs.Admitted.{form}
 use Rattle.sheet.specs.Sheet.{text-of}
 use Rattle.sheet.proofs.Computing.{heading, rules-in, read}
 

@@ -1,5 +1,5 @@
 -- Document 01's bench sheet, K1 to K11: a table from text to answer, steps, values and reading. `Says` is what is claimed of a row, from the promises of
--- `admission::admit`, `run_matcher::open` and `run_grants::grant`; `sheet` (`proofs/Sheet.antt`) proves it of every row.
+-- `text_admission::admit`, `run_matcher::open` and `run_grants::grant`; `sheet` (`proofs/Sheet.antt`) proves it of every row.
 -- Assumes nothing.
 use Prim.Native.Nat.{ℕ, _+_, _*_, _-_, _≤_}
 use Prim.Native.Char.{code}
@@ -12,8 +12,8 @@ use lib.ListN.{length, drop, replicate}
 use Rattle.basis.specs.Limits.{max-variables}
 use Rattle.table_layout.specs.Places.{table-words}
 use Rattle.run_actions.specs.Acts.{bits-of}
-use Rattle.admission.specs.Admitted.{window-in, Answers}
-use Rattle.admission.specs.declared.Admission.{Admission}
+use Rattle.text_admission.specs.Admitted.{window-in, Answers}
+use Rattle.text_admission.specs.declared.Admission.{Admission}
 use Rattle.run_matcher.specs.Opening.{Opened}
 use Rattle.run_matcher.specs.Conditions.{Grant, granted, Kept, run-kept, reading-kept, OthersRefused, start, here}
 

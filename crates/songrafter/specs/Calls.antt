@@ -10,8 +10,8 @@ use Rattle.basis.specs.Limits.{max-frame-bytes}
 use Rattle.table_conflicts.specs.declared.Clash.{Clash}
 use Rattle.table_layout.specs.Constructs.{pick}
 use Rattle.table_layout.specs.Places.{table-of}
-use Rattle.admission.specs.Admitted as admitted
-use Rattle.admission.specs.declared.Admission.{Admission}
+use Rattle.text_admission.specs.Admitted as admitted
+use Rattle.text_admission.specs.declared.Admission.{Admission}
 use Rattle.run_matcher.specs.Opening as opening
 use Rattle.run_matcher.specs.declared.Answer.{Answer}
 use Rattle.run_grants.specs.Runs as runs

@@ -1,6 +1,6 @@
 // The calls of a C program: numbers and slices, each a pointer with a length. Nothing is trusted: any bytes and words, of any lengths, are
 // answered or refused by document 01's numbers. include/songrafter.h says the same in C.
-use admission::Admission;
+use text_admission::Admission;
 use basis::MAX_FRAME_BYTES;
 use basis::MAX_VARIABLES;
 use run_grants::Granted;
@@ -13,7 +13,7 @@ ghost use mathlib.Core.List.{[], _∷_};
 ghost use lib.ListN.{length, getD, set};
 ghost use lib.Seq.{sets};
 ghost use lib.IntN.{pos};
-ghost use Rattle.admission.specs.Admitted.{number-of};
+ghost use Rattle.text_admission.specs.Admitted.{number-of};
 ghost use Rattle.run_matcher.specs.Opening.{number-of as opening-number};
 ghost use Rattle.table_layout.specs.Places.{table-of};
 ghost use Rattle.run_grants.specs.Runs.{after, grant-of, number-of as grant-number, taken-of};
@@ -81,7 +81,7 @@ fn tell(answer: &mut [u64], admission: Admission) -> usize
 pub extern "C" fn songrafter_admit(text: &[u8], table: &mut [u32], answer: &mut [u64]) -> usize
     ensures { λ r. ⌜ Admits (now (text .entry)) (now (table .entry)) (now (table .exit)) (now (answer .entry)) (now (answer .exit)) r ⌝ }
 {
-    let admission = admission::admit(text, table);
+    let admission = text_admission::admit(text, table);
     tell(answer, admission)
 }
 

@@ -1,5 +1,5 @@
 use mathlib.Core.Path.{refl}
-use Rattle.admission.proofs.HeaderPlaces.{rules-inside}
+use Rattle.text_admission.proofs.HeaderPlaces.{rules-inside}
 use Rattle.report_places.specs.declared.Located.{Located}
 use Rattle.report_places.proofs.Laws.{too-long, short}
 use borrow.Author.Needs.{needs}

@@ -1,8 +1,8 @@
 use Prim.Native.Nat.{ℕ}
 use mathlib.Core.Path.{ap, _∙_}
 use mathlib.Core.List.{List}
-use Rattle.admission.specs.Admitted.{form}
-use Rattle.admission.proofs.HeaderPlaces.{rest}
+use Rattle.text_admission.specs.Admitted.{form}
+use Rattle.text_admission.proofs.HeaderPlaces.{rest}
 use Rattle.report_places.specs.Located.{located-in}
 use borrow.Author.Needs.{needs}
 use Rattle.report_places.proofs.locate_from.Statement.{statement}

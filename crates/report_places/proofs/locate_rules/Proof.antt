@@ -1,8 +1,8 @@
 use mathlib.Core.Path.{sym, ap, _∙_}
 use Rattle.text_store.specs.Store.{blank}
 use Rattle.text_parsing.specs.Cursors.{state-at}
-use Rattle.admission.proofs.Facts.{Basics, basics, within}
-use Rattle.admission.proofs.Stages.{formed, not-formed}
+use Rattle.text_admission.proofs.Facts.{Basics, basics, within}
+use Rattle.text_admission.proofs.Stages.{formed, not-formed}
 use Rattle.report_places.specs.Located.{located-in}
 use borrow.Author.Needs.{needs}
 use Rattle.report_places.proofs.locate_rules.Statement.{statement}

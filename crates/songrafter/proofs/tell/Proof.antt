@@ -1,7 +1,7 @@
 use mathlib.Core.Path.{sym, ap, _∙_}
 use lib.Seq.{sets}
-use Rattle.admission.specs.Admitted.{number-of}
-use Rattle.admission.specs.declared.Admission.{Admission}
+use Rattle.text_admission.specs.Admitted.{number-of}
+use Rattle.text_admission.specs.declared.Admission.{Admission}
 use Rattle.songrafter.specs.Calls.{told}
 use borrow.Author.Needs.{needs}
 use Rattle.songrafter.proofs.tell.Statement.{statement}

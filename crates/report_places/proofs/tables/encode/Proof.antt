@@ -1,4 +1,4 @@
-use Rattle.admission.proofs.HeaderPlaces.{rules-inside}
+use Rattle.text_admission.proofs.HeaderPlaces.{rules-inside}
 use Rattle.report_places.proofs.TableLaws.{text-encoded}
 use borrow.Author.Needs.{needs}
 use Rattle.report_places.proofs.tables.encode.Statement.{statement}

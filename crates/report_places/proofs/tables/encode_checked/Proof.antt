@@ -1,7 +1,7 @@
 use native.Mathlib.Omega.{arith}
 use Rattle.text_parsing.specs.Cursors.{state-at}
-use Rattle.admission.proofs.Facts.{basics}
-use Rattle.admission.proofs.Stages.{limited, named}
+use Rattle.text_admission.proofs.Facts.{basics}
+use Rattle.text_admission.proofs.Stages.{limited, named}
 use borrow.Author.Needs.{needs}
 use Rattle.report_places.proofs.tables.encode_checked.Statement.{statement}
 use Rattle.report_places.proofs.tables.encode_checked.Tie as tie

@@ -1,7 +1,7 @@
 use Prim.Native.Nat.{ℕ}
 use mathlib.Core.Path.{subst}
 use mathlib.Core.List.{List}
-use Rattle.admission.proofs.HeaderPlaces.{rest}
+use Rattle.text_admission.proofs.HeaderPlaces.{rest}
 use Rattle.report_places.specs.Tables.{Encoding}
 use borrow.Author.Needs.{needs}
 use Rattle.report_places.proofs.tables.encode_from.Statement.{statement}

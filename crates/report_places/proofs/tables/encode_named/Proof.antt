@@ -1,5 +1,5 @@
 use Rattle.text_parsing.specs.Cursors.{state-at}
-use Rattle.admission.proofs.Stages.{encodable}
+use Rattle.text_admission.proofs.Stages.{encodable}
 use borrow.Author.Needs.{needs}
 use Rattle.report_places.proofs.tables.encode_named.Statement.{statement}
 use Rattle.report_places.proofs.tables.encode_named.Tie as tie

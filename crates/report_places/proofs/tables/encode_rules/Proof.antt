@@ -1,8 +1,8 @@
 use mathlib.Core.Path.{sym}
 use Rattle.text_parsing.specs.Cursors.{state-at}
 use Rattle.text_store.specs.Store.{blank}
-use Rattle.admission.proofs.Facts.{basics}
-use Rattle.admission.proofs.Stages.{formed}
+use Rattle.text_admission.proofs.Facts.{basics}
+use Rattle.text_admission.proofs.Stages.{formed}
 use borrow.Author.Needs.{needs}
 use Rattle.report_places.proofs.tables.encode_rules.Statement.{statement}
 use Rattle.report_places.proofs.tables.encode_rules.Tie as tie
