@@ -98,8 +98,10 @@ fn field_as_told(case: &Case, random: &mut Random) -> usize {
     let bits = 8 * case.frame.length as u64;
     let reading: Vec<u32> = (0..words).map(|at| if at % 2 == 0 { random.below(9) as u32 } else { random.below(bits + 4) as u32 }).collect();
     let k = [random.index(4), usize::MAX - random.index(3), usize::MAX / 2 + random.index(3)][[0, 0, 0, 0, 1, 2][random.index(6)]];
-    let (number, told) = calls::field(&case.table, &case.frame, &Guarded::new(&reading), k);
-    let words = Words { table: &case.table.values()[..case.table.length.min(TABLE_WORDS)], frame: case.frame.values() };
+    let long = Guarded::new(&[7; 257]);
+    let frame = if random.once_in(9) { &long } else { &case.frame };
+    let (number, told) = calls::field(&case.table, frame, &Guarded::new(&reading), k);
+    let words = Words { table: &case.table.values()[..case.table.length.min(TABLE_WORDS)], frame: frame.values() };
     let expected = words.told(&reading, k).map_or_else(|number| (number, [9; 4]), |told| (0, told));
     assert_eq!((number, told), expected, "field {k} of {reading:?}");
     number

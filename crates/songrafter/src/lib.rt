@@ -1,6 +1,5 @@
 // The calls of a C program: numbers and slices, each a pointer with a length. Nothing is trusted: any bytes and words, of any lengths, are
 // answered or refused by document 01's numbers. include/songrafter.h says the same in C.
-use text_admission::Admission;
 use basis::MAX_FRAME_BYTES;
 use basis::MAX_VARIABLES;
 use run_grants::Granted;
@@ -8,6 +7,7 @@ use run_grants::Run;
 use run_matcher::Answer;
 use run_saved::SAVED_BYTES;
 use table_conflicts::Clash;
+use text_admission::Admission;
 ghost use mathlib.Core.Path.{_≡_};
 ghost use mathlib.Core.List.{[], _∷_};
 ghost use lib.ListN.{length, getD, set};
