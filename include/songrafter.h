@@ -120,7 +120,9 @@ size_t songrafter_grant(const uint32_t *table, size_t table_len, const uint8_t *
  *   22 where the reading ends before its words 2k and 2k + 1;
  *   23 where the table is shorter than 16,384 words, or its construct of that number is no field;
  *   24 where not all of the field's bits lie in the frame.
- * A run's fields are those with k below songrafter_fields(run); what the reading holds behind them is the caller's own.
+ * A run's fields are those with k below songrafter_fields(run): where the run is one of which a verdict means something,
+ * none of them is refused, and they lie one after the other from the frame's first bit up to songrafter_position(run).
+ * What the reading holds behind them is the caller's own.
  * The value of a literal of more than 4 characters is told as 0: its bits are in the frame, from its first bit on. */
 size_t songrafter_field(const uint32_t *table, size_t table_len, const uint8_t *frame, size_t frame_len,
                         const uint32_t *reading, size_t reading_len, size_t k, uint64_t *field, size_t field_len);
