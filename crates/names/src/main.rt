@@ -29,12 +29,12 @@ fn constructs(grammar: &[u8], count: usize, found: &mut [usize]) {
     }
 }
 
-fn admitted(grammar: &[u8], table: &[u32], weight: usize) {
+fn admitted(grammar: &[u8], prefix: &[u8], table: &[u32], weight: usize) {
     let mut rules = [0usize; 64];
     let mut found = [0usize; 256];
     places::rules(grammar, &mut rules);
     constructs(grammar, table_layout::word(table, 2), &mut found);
-    printing::header(grammar, table, &rules, &found, weight);
+    printing::header(grammar, prefix, table, &rules, &found, weight);
 }
 
 // A program that includes it is not compiled.
@@ -44,9 +44,9 @@ fn refused(n: usize, place: usize) {
     say(b"\"\n");
 }
 
-fn answered(grammar: &[u8], table: &[u32], answer: Admission) {
+fn answered(grammar: &[u8], prefix: &[u8], table: &[u32], answer: Admission) {
     match answer {
-        Admission::Admitted { weight } => admitted(grammar, table, weight),
+        Admission::Admitted { weight } => admitted(grammar, prefix, table, weight),
         Admission::Refused { number, place } => refused(number, place),
         Admission::Conflict {
             place,
@@ -56,60 +56,72 @@ fn answered(grammar: &[u8], table: &[u32], answer: Admission) {
     }
 }
 
-fn named(grammar: &[u8]) {
+fn named(grammar: &[u8], prefix: &[u8]) {
     let mut table = [0u32; 16384];
     let answer = text_admission::admit(grammar, &mut table);
-    answered(grammar, &table, answer);
+    answered(grammar, prefix, &table, answer);
 }
 
 // One byte more than a grammar may have.
-fn read(fd: i32) {
+fn read(fd: i32, prefix: &[u8]) {
     let mut buffer = [0u8; 8193];
     let n = io::read_full(fd, &mut buffer);
-    named(&buffer[..n]);
+    named(&buffer[..n], prefix);
 }
 
-fn file(path: &[u8]) {
+fn file(path: &[u8], prefix: &[u8]) {
     let fd = os::open_read(path);
     if fd < 0 {
         os::fail(path);
         say(b"#error \"the grammar cannot be opened\"\n");
         return;
     }
-    read(fd);
+    read(fd, prefix);
     libc::close(fd);
 }
 
 fn help() {
-    say(b"usage: names [FILE]\n");
+    say(b"usage: names [FILE [PREFIX]]\n");
     say(b"Prints a C header for the grammar FILE: a constant for each field and each\n");
     say(b"variable by its rule and its name, the weight, and macros for the steps and\n");
     say(b"the room that a frame needs. Without FILE it reads kiosk.dogma; - is standard\n");
-    say(b"input. Of a grammar that is refused it prints an #error with number and place.\n");
+    say(b"input. PREFIX is put in front of every name, for programs with more than one\n");
+    say(b"grammar. Of a grammar that is refused it prints an #error with number and place.\n");
 }
 
-fn word(path: &[u8]) {
+fn word(path: &[u8], prefix: &[u8]) {
     if spells(false, path, b"--help") {
         help();
         return;
     }
     if spells(false, path, b"-") {
-        read(libc::STDIN_FILENO);
+        read(libc::STDIN_FILENO, prefix);
         return;
     }
-    file(path);
+    file(path, prefix);
 }
 
-fn given() {
+fn given(prefix: &[u8]) {
     let mut path = io::buffer();
     let n = os::arg(1, &mut path);
-    word(&path[..n]);
+    word(&path[..n], prefix);
+}
+
+fn prefixed() {
+    let mut prefix = io::buffer();
+    let n = os::arg(2, &mut prefix);
+    given(&prefix[..n]);
 }
 
 fn main() {
-    if os::arg_count() < 2 {
-        file(b"kiosk.dogma");
+    let count = os::arg_count();
+    if count < 2 {
+        file(b"kiosk.dogma", b"");
         return;
     }
-    given();
+    if count < 3 {
+        given(b"");
+        return;
+    }
+    prefixed();
 }

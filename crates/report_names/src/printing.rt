@@ -51,8 +51,17 @@ fn apart(i: usize, again: bool) {
     }
 }
 
-fn constant(grammar: &[u8], named: Named, what: &[u8], i: usize, again: bool, value: usize) {
+fn constant(
+    grammar: &[u8],
+    prefix: &[u8],
+    named: Named,
+    what: &[u8],
+    i: usize,
+    again: bool,
+    value: usize,
+) {
     say(b"#define ");
+    say(prefix);
     spelling::name(grammar, named);
     say(what);
     apart(i, again);
@@ -60,10 +69,11 @@ fn constant(grammar: &[u8], named: Named, what: &[u8], i: usize, again: bool, va
     say(b"u");
 }
 
-fn variable(grammar: &[u8], named: Named, i: usize, again: bool, binder: usize) {
+fn variable(grammar: &[u8], prefix: &[u8], named: Named, i: usize, again: bool, binder: usize) {
     if 0 < binder {
         constant(
             grammar,
+            prefix,
             named,
             b"_VARIABLE",
             i,
@@ -74,65 +84,110 @@ fn variable(grammar: &[u8], named: Named, i: usize, again: bool, binder: usize) 
     }
 }
 
-fn field_named(grammar: &[u8], table: &[u32], i: usize, at: usize, named: Named, again: bool) {
-    constant(grammar, named, b"_CONSTRUCT", i, again, i);
+fn field_named(
+    grammar: &[u8],
+    prefix: &[u8],
+    table: &[u32],
+    i: usize,
+    at: usize,
+    named: Named,
+    again: bool,
+) {
+    constant(grammar, prefix, named, b"_CONSTRUCT", i, again, i);
     say(b" /* ");
     lines::place(grammar, at);
     say(b" */\n");
-    constant(grammar, named, b"_WIDTH", i, again, width_of(table, i));
+    constant(
+        grammar,
+        prefix,
+        named,
+        b"_WIDTH",
+        i,
+        again,
+        width_of(table, i),
+    );
     say(b"\n");
-    variable(grammar, named, i, again, binder_of(table, i));
+    variable(grammar, prefix, named, i, again, binder_of(table, i));
 }
 
-fn field_at(grammar: &[u8], table: &[u32], rules: &[usize], constructs: &[usize], i: usize) {
+fn field_at(
+    grammar: &[u8],
+    prefix: &[u8],
+    table: &[u32],
+    rules: &[usize],
+    constructs: &[usize],
+    i: usize,
+) {
     if 0 < kind_of(table, i) {
         let named = field(grammar, table, rules, constructs, i);
         let twice = again(grammar, table, rules, constructs, i, named);
-        field_named(grammar, table, i, number_at(constructs, i), named, twice);
+        field_named(
+            grammar,
+            prefix,
+            table,
+            i,
+            number_at(constructs, i),
+            named,
+            twice,
+        );
     }
 }
 
-fn fields(grammar: &[u8], table: &[u32], rules: &[usize], constructs: &[usize]) {
+fn fields(grammar: &[u8], prefix: &[u8], table: &[u32], rules: &[usize], constructs: &[usize]) {
     let mut i: usize = 0;
     while i < 256 {
-        field_at(grammar, table, rules, constructs, i);
+        field_at(grammar, prefix, table, rules, constructs, i);
         i += 1;
     }
 }
 
-// A line that begins with the start rule's name.
-fn whole(grammar: &[u8], before: &[u8], start: usize, what: &[u8]) {
+// A line with a name that begins with the start rule's.
+fn whole(grammar: &[u8], prefix: &[u8], before: &[u8], start: usize, what: &[u8]) {
     say(before);
+    say(prefix);
     spelling::word(grammar, start);
     say(what);
 }
 
-fn guarded(grammar: &[u8], start: usize) {
+fn guarded(grammar: &[u8], prefix: &[u8], start: usize) {
     say(b"/* Fields and variables of a grammar by their names, for songrafter_field and\n");
     say(b" * songrafter_value. Printed by `names`: to be printed anew where the grammar\n");
     say(b" * changes. */\n");
-    whole(grammar, b"#ifndef ", start, b"_NAMES_H\n");
-    whole(grammar, b"#define ", start, b"_NAMES_H\n\n");
+    whole(grammar, prefix, b"#ifndef ", start, b"_NAMES_H\n");
+    whole(grammar, prefix, b"#define ", start, b"_NAMES_H\n\n");
     say(b"#include <stddef.h>\n#include <stdint.h>\n\n");
 }
 
-fn bounds(grammar: &[u8], start: usize, weight: usize) {
-    whole(grammar, b"#define ", start, b"_WEIGHT ");
+fn bounds(grammar: &[u8], prefix: &[u8], start: usize, weight: usize) {
+    whole(grammar, prefix, b"#define ", start, b"_WEIGHT ");
     number(b"", weight);
     say(b"u\n/* So many steps decide a frame of so many bits. */\n");
-    whole(grammar, b"#define ", start, b"_STEPS(bits) (");
+    whole(grammar, prefix, b"#define ", start, b"_STEPS(bits) (");
     number(b"", weight);
     say(b"u * ((uint64_t)(bits) + 1u))\n");
     say(b"/* So many words are room for the reading of a frame of so many bytes. */\n");
-    whole(grammar, b"#define ", start, b"_READING_WORDS(bytes) ");
+    whole(
+        grammar,
+        prefix,
+        b"#define ",
+        start,
+        b"_READING_WORDS(bytes) ",
+    );
     say(b"((size_t)16 * (bytes))\n\n");
 }
 
-// The header of an admitted grammar.
-pub fn header(grammar: &[u8], table: &[u32], rules: &[usize], constructs: &[usize], weight: usize) {
+// The header of an admitted grammar, with a prefix in front of every name.
+pub fn header(
+    grammar: &[u8],
+    prefix: &[u8],
+    table: &[u32],
+    rules: &[usize],
+    constructs: &[usize],
+    weight: usize,
+) {
     let start = number_at(rules, 0);
-    guarded(grammar, start);
-    bounds(grammar, start, weight);
-    fields(grammar, table, rules, constructs);
+    guarded(grammar, prefix, start);
+    bounds(grammar, prefix, start, weight);
+    fields(grammar, prefix, table, rules, constructs);
     say(b"\n#endif\n");
 }

@@ -5,10 +5,10 @@ use Rattle.report_names.proofs.printing.fields.Statement.{statement}
 use Rattle.report_names.proofs.printing.fields.Tie as tie
 
 abbrev Inv-loop : tie.InvT-loop
-Inv-loop grammar table rules constructs i₀ i = Unit
+Inv-loop grammar prefix table rules constructs i₀ i = Unit
 
 abbrev μ-loop : tie.MeasureT-loop
-μ-loop grammar table rules constructs i₀ i = 256 - i
+μ-loop grammar prefix table rules constructs i₀ i = 256 - i
 
 loop-holds : tie.Need-loop-holds Inv-loop μ-loop
 loop-holds c = tt
