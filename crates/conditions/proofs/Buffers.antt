@@ -13,7 +13,8 @@ use Rattle.table_layout.specs.Places.{table-words}
 use Rattle.table_layout.specs.Constructs.{pick}
 use Rattle.run_steps.specs.Steps.{Whole, whole, steps-of}
 use Rattle.run_refinement.proofs.Readings.{Recorded, steps-record}
-use Rattle.text_admission.specs.Admitted.{number-of, Refusal, RulesRefused, AnsweredRules, Answers, refused-early, by-rules}
+use Rattle.text_admission.specs.Admitted.{Refusal, RulesRefused, AnsweredRules, Answers, refused-early, by-rules}
+use Rattle.text_admission.specs.Answers.{number-of}
 use Rattle.text_admission.specs.declared.Admission.{Admission}
 use Rattle.run_grants.specs.Runs.{head-of, whole-of, fitting, After, after, run-in, reading-in, answer-in, after-steps, grant-of, number-of as grant-number, taken-of}
 use Rattle.run_grants.specs.declared.Run.{Run}

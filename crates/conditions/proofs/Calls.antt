@@ -16,7 +16,8 @@ use Rattle.table_layout.specs.Constructs.{pick}
 use Rattle.table_layout.specs.Places.{table-of}
 use Rattle.run_actions.specs.Acts.{bits-of}
 use Rattle.table_conflicts.specs.declared.Clash.{Clash}
-use Rattle.text_admission.specs.Admitted.{number-of as text-number, Answers}
+use Rattle.text_admission.specs.Admitted.{Answers}
+use Rattle.text_admission.specs.Answers.{number-of as text-number}
 use Rattle.text_admission.specs.declared.Admission.{Admission}
 use Rattle.run_grants.specs.Runs.{closed-run, After, run-in, reading-in, answer-in, grant-of, number-of, taken-of}
 use Rattle.run_grants.specs.Composing.{further}

@@ -19,7 +19,8 @@ use Rattle.table_weights.proofs.Heights.{weight-at}
 use Rattle.table_weights.proofs.Theorems.{weights-exist}
 use Rattle.table_judge.specs.Judged.{Passed10}
 use Rattle.text_store.specs.Store.{State}
-use Rattle.text_admission.specs.Admitted.{number-of, place-in, window-in, words-of, Bounded, Headed, Refusal, RulesRefused, AnsweredRules, Answers, refused-early, by-rules, Clashes, LeastMark as TableMark}
+use Rattle.text_admission.specs.Admitted.{words-of, Bounded, Headed, Refusal, RulesRefused, AnsweredRules, Answers, refused-early, by-rules, Clashes, LeastMark as TableMark}
+use Rattle.text_admission.specs.Answers.{number-of, place-in, window-in}
 use Rattle.table_conflicts.specs.Conflicts.{HasNumber, FirstHolders, Conflicting, Answered}
 use Rattle.table_conflicts.specs.declared.Clash.{Clash}
 use Rattle.text_admission.specs.declared.Admission.{Admission}

@@ -19,7 +19,8 @@ use Rattle.table_hypotheses.specs.OneTable.{Alike}
 use Rattle.table_hypotheses.proofs.SameSets.{alike-equal}
 use Rattle.text_store.specs.Store.{State}
 use Rattle.text_header.specs.Header.{header-of}
-use Rattle.text_admission.specs.Admitted.{place-in, number-of, form, words-of, Passes, Tabled, RulesPass, Headed, Clashes, Answers, refused-early, by-rules}
+use Rattle.text_admission.specs.Admitted.{form, words-of, Passes, Tabled, RulesPass, Headed, Clashes, Answers, refused-early, by-rules}
+use Rattle.text_admission.specs.Answers.{place-in, number-of}
 use Rattle.text_admission.specs.declared.Admission.{Admission}
 use Rattle.conditions.specs.Refusals.{Row, short-table, wrong-size, wrong-header, wrong-form, past-limit, wrong-name, recursive, too-large, empty-body, clashing, too-heavy, number, Fits, NoneBelow}
 use Rattle.conditions.specs.Conditions.{OneAnswer, OneTable}

@@ -21,7 +21,8 @@ use Rattle.run_actions.specs.Acts.{bits-of}
 use Rattle.run_steps.specs.Steps.{undecided, matched, unmatched}
 use Rattle.run_refinement.specs.Runs.{words-of}
 use Rattle.table_judge.specs.Sound.{SoundTable}
-use Rattle.text_admission.specs.Admitted.{number-of, Answers}
+use Rattle.text_admission.specs.Admitted.{Answers}
+use Rattle.text_admission.specs.Answers.{number-of}
 use Rattle.text_admission.specs.declared.Admission.{Admission}
 use Rattle.run_grants.specs.Runs.{After, run-in, reading-in, answer-in, grant-of, closed-run, number-of as grant-number, taken-of}
 use Rattle.run_grants.specs.Composing.{GrantsCompose}

@@ -21,7 +21,8 @@ use Rattle.text_store.specs.Store.{State, node-words, rule-words, nodes-of}
 use Rattle.text_parsing.specs.Form.{refused}
 use Rattle.text_names.specs.Counting.{nowhere}
 use Rattle.text_store.specs.Words.{place-of, mark-place, named-at}
-use Rattle.text_admission.specs.Admitted.{number-of, place-in, window-in, form, words-of, fault-5, fault-6, fault-8}
+use Rattle.text_admission.specs.Admitted.{form, words-of, fault-5, fault-6, fault-8}
+use Rattle.text_admission.specs.Answers.{number-of, place-in, window-in}
 use Rattle.table_conflicts.specs.declared.Clash.{Clash}
 use Rattle.text_admission.specs.declared.Admission.{Admission}
 use Rattle.text_admission.specs.declared.Found.{Found}

@@ -11,7 +11,8 @@ use Rattle.theory.specs.Weight.{Weighs}
 use Rattle.table_layout.specs.Places.{table-words}
 use Rattle.table_layout.specs.Held.{Context, Values}
 use Rattle.text_store.specs.Store.{State}
-use Rattle.text_admission.specs.Admitted.{place-in, number-of, Headed, Answers}
+use Rattle.text_admission.specs.Admitted.{Headed, Answers}
+use Rattle.text_admission.specs.Answers.{place-in, number-of}
 use Rattle.text_admission.specs.declared.Admission.{Admission}
 use Rattle.conditions.specs.Texts.{Reading, meant, rules-grammar}
 use Rattle.conditions.specs.Refusals.{Row, empty-body, clashing, too-heavy, number, EmptyBodies, Clashes, TooHeavy, NoneBelow, First}

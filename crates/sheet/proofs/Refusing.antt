@@ -20,7 +20,8 @@ use Rattle.table_conflicts.specs.declared.Clash.{Clash}
 use Rattle.table_judge.specs.Judged.{Least}
 use Rattle.text_store.specs.Store.{node-words}
 use Rattle.text_store.specs.Words.{mark-place}
-use Rattle.text_admission.specs.Admitted.{window-in, place-in, number-of, words-of, Headed, Answers, refused-early, by-rules}
+use Rattle.text_admission.specs.Admitted.{words-of, Headed, Answers, refused-early, by-rules}
+use Rattle.text_admission.specs.Answers.{window-in, place-in, number-of}
 use Rattle.text_admission.specs.declared.Admission.{Admission}
 use Rattle.conditions.specs.Texts.{Reading}
 use Rattle.conditions.specs.Refusals.{empty-body, clashing, recursive, EmptyBodies}

@@ -12,7 +12,8 @@ use lib.ListN.{length, drop, replicate}
 use Rattle.basis.specs.Limits.{max-variables}
 use Rattle.table_layout.specs.Places.{table-words}
 use Rattle.run_actions.specs.Acts.{bits-of}
-use Rattle.text_admission.specs.Admitted.{window-in, Answers}
+use Rattle.text_admission.specs.Admitted.{Answers}
+use Rattle.text_admission.specs.Answers.{window-in}
 use Rattle.text_admission.specs.declared.Admission.{Admission}
 use Rattle.run_matcher.specs.Opening.{Opened}
 use Rattle.run_matcher.specs.Conditions.{Grant, granted, Kept, run-kept, reading-kept, OthersRefused, start, here}
