@@ -6,3 +6,4 @@ pub mod Holding
 pub mod Late
 pub mod Numbers
 pub mod Exactly
+pub mod Promised

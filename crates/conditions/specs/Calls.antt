@@ -18,8 +18,10 @@ use Rattle.run_grants.specs.Runs.{closed-run}
 use Rattle.run_saved.specs.Saved.{saved-bytes, encoded, restored}
 use Rattle.run_matcher.specs.Conditions.{Grant, own, granted as steps-granted, kept, run-kept, reading-kept, Decided, here, Unbroken, Granted}
 use Rattle.songrafter.specs.Calls.{Admits, Opens, Grants}
-use Rattle.conditions.specs.Texts.{rules-grammar, text-grammar, Admissible}
-use Rattle.conditions.specs.Refusals.{Exactly}
+use Rattle.tree_meaning.specs.Grammar.{tree-grammar}
+use Rattle.tree_meaning.specs.Local.{local-grammar}
+use Rattle.admission.specs.Texts.{TreeOf}
+use Rattle.admission.specs.Refusals.{Exactly, Weight}
 use Rattle.conditions.specs.Conditions.{Exact, Claim}
 
 -- ---- 1. "each is answered or refused by a number of document 01, buffers are left as stated, no caller is trusted"
@@ -141,10 +143,11 @@ pub record Lived (g : Grammar Context Values) (needed : ℕ) (table frame run re
 pub record Life (text table answer answer′ frame reading run : List ℕ) : Type 0 where
   pub weight : ℕ
   pub weight-told : 1 ≤ length answer → getD answer′ 0 0 ≡ weight
-  pub admissible : Admissible text weight
-  pub claim : Claim (rules-grammar (admissible .reading)) weight table frame reading
+  pub tree : TreeOf text
+  pub weighs : Weight weight (tree .tree)
+  pub claim : Claim (tree-grammar (tree .tree)) weight table frame reading
   pub calls : (gs : List Grant) (run′ reading′ : List ℕ) (cs : Kiosk table frame run reading gs run′ reading′)
-      → Lived (text-grammar (admissible .reading)) (claim .needed) table frame run reading gs run′ reading′ cs
+      → Lived (local-grammar (tree .tree)) (claim .needed) table frame run reading gs run′ reading′ cs
 
 -- songrafter_admit answered 0 and wrote `table`; songrafter_open answered 0 for that table, a frame and a reading, and wrote `run` over `room`
 abbrev pub Calls3 : Type 0

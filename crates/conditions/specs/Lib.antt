@@ -1,4 +1,2 @@
-pub mod Texts
-pub mod Refusals
 pub mod Conditions
 pub mod Calls
