@@ -1,7 +1,7 @@
 -- The conditions of a C program's calls, from those of the crates' calls.
 -- Assumes nothing.
 use Prim.Native.Nat.{ℕ, suc, _+_, _*_, _-_, _≤_, min}
-use mathlib.Core.Path.{_≡_, refl, sym, ap, ap₂, subst, _∙_}
+use mathlib.Core.Path.{_≡_, refl, sym, ap, ap₂, subst, subst₂, _∙_}
 use mathlib.Core.Logic.{_⊎_, inl, inr, _↔_}
 use mathlib.Core.Bool.{Bool, true, false}
 use mathlib.Core.List.{List, [], _∷_}
@@ -35,11 +35,13 @@ use Rattle.tree_meaning.specs.Local.{local-grammar}
 use Rattle.admission.specs.Promised.{Promised}
 use Rattle.admission.proofs.Numbers.{refused-number}
 use Rattle.conditions.specs.Conditions.{Exact}
+use Rattle.conditions.specs.Meaning.{Seeing}
 use Rattle.conditions.specs.Calls.{AdmitLeaves, OpenLeaves, GrantLeaves, Calls1, OneOutcome, OneAndMany, Calls2, handed, left, Kiosk, no-call, own-call, other-call, EachCounts, Calls3}
 use Rattle.conditions.proofs.Buffers.{condition-1}
 use Rattle.conditions.proofs.Tables.{text-table}
 use Rattle.conditions.proofs.OneAnswer.{one-answer}
-use Rattle.conditions.proofs.Conditions.{condition-2, condition-3}
+use Rattle.conditions.proofs.Conditions.{condition-2, at-most-one, condition-3}
+use Rattle.conditions.proofs.Seeing.{seen-of, seeing}
 
 -- ---- songrafter_admit
 
@@ -377,6 +379,15 @@ calls-3 text old table answer answer′ a frame reading room run o =
       weight = w .weight;
       weight-told = w .told-so;
       tree = x .tree;
+      one-derivation = at-most-one text old table (w .weight) (w .answers) (x .tree);
+      in-time = claim .within-bound;
+      meant = λ gs run′ reading′ cs.
+          let others = owns-refuse table frame cs (start reading) in
+          let s = leaves table frame cs (start reading) first in
+          let read : restored run′ ≡ run-kept (here table frame reading gs) = restored-is run′ (s .full) ∙ s .read-as in
+          subst₂ (λ (r : Run) (zs : List ℕ). Seeing (x .tree .tree) (claim .needed) frame reading (steps-granted gs) (seen-of r zs)) (sym read) (sym (s .words-are))
+          (seeing (x .tree .tree) (claim .needed) table frame reading gs (claim .granting gs others) (claim .by-steps gs others)
+          (condition-2 .matching text old table (w .weight) (w .answers) (x .tree) frame reading opened gs others));
       weighs = (x .weighable .0, x .weighable .1, x .weights (x .weighable .0) (x .weighable .1));
       claim = claim;
       calls = λ gs run′ reading′ cs.

@@ -3,4 +3,5 @@ pub mod Tables
 pub mod Buffers
 pub mod OneAnswer
 pub mod Conditions
+pub mod Seeing
 pub mod Calls
