@@ -19,9 +19,11 @@ module _ {Context Values : Type 0} {P : Values → Type 0} where
       (subst (λ (i : ℕ). Derives h (construct i (h .node i)) d (g .context) (g .values) s v []) (same .starts)
       (agree P g h (same .nodes) x (same-construct (same .nodes (g .start))) (same .begins) .0)))
 
+  -- the same trees, with the same values at the end
   pub same-derivations : {g h : Grammar Context Values} → SameNodes P g h → (s : Bits) (d : Tree) (v : Values) → Derivation g s d v ↔ Derivation h s d v
   same-derivations same s d v = (derivation-agrees same s d v, derivation-agrees (grammar-back same) s d v)
 
+  -- whether there is one
   pub same-derivable : {g h : Grammar Context Values} → SameNodes P g h → (s : Bits) → Derivable g s ↔ Derivable h s
   same-derivable same s =
       (λ x. (x .0, x .1, derivation-agrees same s (x .0) (x .1) (x .2)), λ x. (x .0, x .1, derivation-agrees (grammar-back same) s (x .0) (x .1) (x .2)))

@@ -94,6 +94,7 @@ module _ {xs : List ℕ} {t : Rules} (spelled : SpelledBy xs t) (five : refusal-
   pub text-derivations : (s : Bits) (d : Tree) (v : Values) → Derivation (stored-grammar xs t) s d v ↔ Derivation (tree-grammar t) s d v
   text-derivations = same-derivations same-text
 
+  -- whether there is one
   pub text-derivable : (s : Bits) → Derivable (stored-grammar xs t) s ↔ Derivable (tree-grammar t) s
   text-derivable = same-derivable same-text
 
@@ -103,6 +104,7 @@ module _ {xs : List ℕ} {t : Rules} (spelled : SpelledBy xs t) (five : refusal-
 
   -- variables local to a rule, where every use opens its rule
   module _ (scope : Scope) (opens : (i : ℕ) → scope .opens-rule i ≡ true) where
+    -- nodes and beginnings
     pub same-local : SameNodes (Kept t) (localised store scope fresh (stored-grammar xs t)) (local-grammar t)
     same-local =
         record {
@@ -115,8 +117,10 @@ module _ {xs : List ℕ} {t : Rules} (spelled : SpelledBy xs t) (five : refusal-
           begins = same-text .begins;
         }
 
+    -- derivations
     pub local-derivations : (s : Bits) (d : Tree) (v : Values) → Derivation (localised store scope fresh (stored-grammar xs t)) s d v ↔ Derivation (local-grammar t) s d v
     local-derivations = same-derivations same-local
 
+    -- whether there is one
     pub local-derivable : (s : Bits) → Derivable (localised store scope fresh (stored-grammar xs t)) s ↔ Derivable (local-grammar t) s
     local-derivable = same-derivable same-local
