@@ -1,9 +1,9 @@
 -- Of a text whose tokens spell a tree, and for which 5, 6 and 8 are not given: a construct with an empty body or a conflict is one of the tree's, its place and
 -- mark are stored as the tree has them, and so is the start rule's.
 -- Assumes nothing.
-use Prim.Native.Nat.{ℕ, _≤_, _<_, min}
-use mathlib.Core.Path.{_≡_, refl, sym, ap, subst}
-use mathlib.Core.Logic.{_⊎_, inl, inr, ⊎-elim}
+use Prim.Native.Nat.{ℕ, _≤_, _<_}
+use mathlib.Core.Path.{_≡_, sym, ap, subst}
+use mathlib.Core.Logic.{⊎-elim}
 use mathlib.Core.Bool.{Bool, true, false, cond}
 use mathlib.Core.List.{List, [], _∷_, List·Memᴰ·not-nil}
 use mathlib.Core.Option.{none}
@@ -14,12 +14,11 @@ use lib.ListN.{length}
 use Rattle.basis.specs.Bits.{Bits}
 use Rattle.theory.specs.Grammar.{alternative, concatenation, repetition, switch, use-of, field, eod, _∈_}
 use Rattle.theory.specs.Lookahead.{Conflict, of-branches, of-passes, EmptyBody, empty-body}
-use Rattle.table_layout.specs.Constructs.{pick}
 use Rattle.table_layout.proofs.Bounds.{picked}
 use Rattle.text_header.proofs.Tests.{which}
 use Rattle.text_store.specs.Store.{blank, node-words, term-words, rule-words, nodes-of, rules-of}
 use Rattle.text_store.specs.Words.{kind-of, place-of, mark-place, named-at}
-use Rattle.text_meaning.specs.Meaning.{meant-node, opened, grammar-of}
+use Rattle.text_meaning.specs.Meaning.{meant-node, grammar-of}
 use Rattle.tree.specs.Tree.{Rules, last-rule, and-rules}
 use Rattle.tree_form.specs.Stored.{stored}
 use Rattle.tree_meaning.specs.Pieces.{rules-of as rules-in, rule-name}
@@ -30,12 +29,10 @@ use Rattle.tree_meaning.specs.Grammar.{TreeNode, Construct, plain-at, use-node,
 use Rattle.tree_meaning.specs.Rows.{start-rule}
 use Rattle.tree_store.proofs.Limits.{Limited, limited}
 use Rattle.tree_store.proofs.Places.{Stands, stands-at}
-use Rattle.tree_store.proofs.Rows.{tree-totals}
 use Rattle.tree_store.proofs.Rowed.{RulesIn, rule-then, rowed}
 use Rattle.tree_store.proofs.Standing.{SpelledBy}
 use Rattle.tree_store.proofs.Storing.{nodes-read}
 use Rattle.tree_grammar.proofs.SameGrammar.{past-end, count}
-use Rattle.tree_agreement.proofs.SameSets.{SameSets}
 use Rattle.tree_agreement.proofs.Texts.{stored-grammar, text-sets}
 
 -- ---- numbers

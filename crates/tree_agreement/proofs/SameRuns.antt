@@ -16,7 +16,7 @@ use Rattle.theory.specs.Grammar.{Node, alternative, concatenation, repetition, 
 use Rattle.theory.specs.Derivation.{Capture}
 use Rattle.theory.specs.Machine.{Tests, Entry, entry, State, state, Turn, fail, again, leave, turn, choose, act, step, undecided, matched, unmatched, verdict, Run, run, open-state, opened, stepped, granted}
 use Rattle.tree_meaning.proofs.Agreeing.{SameNode, same-alternative, same-concatenation, same-repetition, same-switch, same-use, same-field, same-eod}
-use Rattle.tree_agreement.proofs.Derivations.{SameNodes}
+use Rattle.tree_agreement.proofs.SameNodes.{SameNodes}
 
 -- the bits that a field takes say themselves how many they are, whatever comes after them
 abbrev pub OwnWidth : {Context Values : Type 0} → Node Context Values → Type 0

@@ -2,7 +2,7 @@
 -- alternatives and repetitions.
 -- Assumes nothing.
 use Prim.Native.Nat.{ℕ}
-use mathlib.Core.Path.{_≡_, sym}
+use mathlib.Core.Path.{_≡_}
 use mathlib.Core.Logic.{_↔_}
 use mathlib.Core.Bool.{Bool}
 use mathlib.Core.List.{List}
@@ -11,8 +11,8 @@ use Rattle.basis.specs.Counts.{Counts}
 use Rattle.theory.specs.Grammar.{alternative, repetition, Grammar}
 use Rattle.theory.specs.Lookahead.{Predicted, Continues, Exits, Conflict, LeastConflict, EmptyBody}
 use Rattle.theory.specs.Weight.{Weighs}
-use Rattle.tree_meaning.proofs.Agreeing.{SameNode, same-back}
 use Rattle.tree_meaning.proofs.AgreeingSets.{as-alternative, as-repetition, known, follow-agrees, predicted-agrees, continues-agrees, conflict-agrees, empty-body-agrees, weights-agree}
+use Rattle.tree_agreement.proofs.SameNodes.{SameNodes, grammar-back}
 
 -- number i is a repetition of b, whichever its counts are at values
 abbrev pub Repeats : {Context Values : Type 0} → Grammar Context Values → ℕ → Counts → Bool → ℕ → Type 0
@@ -45,31 +45,48 @@ sets-back s =
       weighs-iff = λ w. (s .weighs-iff w .1, s .weighs-iff w .0);
     }
 
-module _ {Context Values : Type 0} (P : Values → Type 0) (g h : Grammar Context Values) (all : (i : ℕ) → SameNode P (g .node i) (h .node i)) (start : g .start ≡ h .start) where
-  back : (i : ℕ) → SameNode P (h .node i) (g .node i)
-  back i = same-back P (all i)
+module _ {Context Values : Type 0} {P : Values → Type 0} {g h : Grammar Context Values} (same : SameNodes P g h) where
+  -- one node that is known, and the other's
+  alternative-agrees : (i : ℕ) (is : List ℕ) → g .node i ≡ alternative is → h .node i ≡ alternative is
+  alternative-agrees i is e = as-alternative P (known P g h (same .nodes) (same .starts) i e)
 
-  forth-conflict : (i : ℕ) (x : Bits) → Conflict g i x → Conflict h i x
-  forth-conflict i x d = conflict-agrees P g h all start d
+  repetition-agrees : (i : ℕ) (static : Counts) (fixed : Bool) (b : ℕ) → Repeats g i static fixed b → Repeats h i static fixed b
+  repetition-agrees i static fixed b e = as-repetition P (known P g h (same .nodes) (same .starts) i (e .1))
 
-  back-conflict : (i : ℕ) (x : Bits) → Conflict h i x → Conflict g i x
-  back-conflict i x d = conflict-agrees P h g back (sym start) d
+  empty-agrees : (i : ℕ) → EmptyBody g i → EmptyBody h i
+  empty-agrees i d = empty-body-agrees P g h (same .nodes) (same .starts) d
 
-  -- the claim
-  pub same-sets : SameSets g h
-  same-sets =
-      record {
-        empty-body-iff = λ i. (λ d. empty-body-agrees P g h all start d, λ d. empty-body-agrees P h g back (sym start) d);
-        conflict-iff = λ i x. (forth-conflict i x, back-conflict i x);
-        least-iff =
-            λ i x. (
-              λ d. record { common = forth-conflict i x (d .common); least = λ y c. d .least y (back-conflict i y c) },
-              λ d. record { common = back-conflict i x (d .common); least = λ y c. d .least y (forth-conflict i y c) },
-            );
-        predicted-iff = λ i x. (λ d. predicted-agrees P g h all start d, λ d. predicted-agrees P h g back (sym start) d);
-        continues-iff = λ i b x. (λ d. continues-agrees P g h all start d, λ d. continues-agrees P h g back (sym start) d);
-        exits-iff = λ i x. (λ d. follow-agrees P g h all start d, λ d. follow-agrees P h g back (sym start) d);
-        alternative-iff = λ i is. (λ e. as-alternative P (known P g h all start i e), λ e. as-alternative P (known P h g back (sym start) i e));
-        repetition-iff = λ i static fixed b. (λ e. as-repetition P (known P g h all start i (e .1)), λ e. as-repetition P (known P h g back (sym start) i (e .1)));
-        weighs-iff = λ w. (weights-agree P g h all start w, weights-agree P h g back (sym start) w);
-      }
+  clash-agrees : (i : ℕ) (x : Bits) → Conflict g i x → Conflict h i x
+  clash-agrees i x d = conflict-agrees P g h (same .nodes) (same .starts) d
+
+  branch-agrees : (i : ℕ) (x : Bits) → Predicted g i x → Predicted h i x
+  branch-agrees i x d = predicted-agrees P g h (same .nodes) (same .starts) d
+
+  go-agrees : (i b : ℕ) (x : Bits) → Continues g i b x → Continues h i b x
+  go-agrees i b x d = continues-agrees P g h (same .nodes) (same .starts) d
+
+  stop-agrees : (i : ℕ) (x : Bits) → Exits g i x → Exits h i x
+  stop-agrees i x d = follow-agrees P g h (same .nodes) (same .starts) d
+
+  weighs-agrees : (w : Context → ℕ → ℕ) → Weighs g w → Weighs h w
+  weighs-agrees w d = weights-agree P g h (same .nodes) (same .starts) w d
+
+-- the claim
+pub same-sets : {Context Values : Type 0} {P : Values → Type 0} {g h : Grammar Context Values} → SameNodes P g h → SameSets g h
+same-sets same =
+    let back = grammar-back same in
+    record {
+      empty-body-iff = λ i. (empty-agrees same i, empty-agrees back i);
+      conflict-iff = λ i x. (clash-agrees same i x, clash-agrees back i x);
+      least-iff =
+          λ i x. (
+            λ d. record { common = clash-agrees same i x (d .common); least = λ y c. d .least y (clash-agrees back i y c) },
+            λ d. record { common = clash-agrees back i x (d .common); least = λ y c. d .least y (clash-agrees same i y c) },
+          );
+      predicted-iff = λ i x. (branch-agrees same i x, branch-agrees back i x);
+      continues-iff = λ i b x. (go-agrees same i b x, go-agrees back i b x);
+      exits-iff = λ i x. (stop-agrees same i x, stop-agrees back i x);
+      alternative-iff = λ i is. (alternative-agrees same i is, alternative-agrees back i is);
+      repetition-iff = λ i static fixed b. (repetition-agrees same i static fixed b, repetition-agrees back i static fixed b);
+      weighs-iff = λ w. (weighs-agrees same w, weighs-agrees back w);
+    }

@@ -44,15 +44,17 @@ module _ {g h : Grammar Context Values} (same : SameSets g h) {tests : Tests} (t
   tells-agrees : Tells h tests
   tells-agrees = record { branch = branch-told; go = go-told; stop = stop-told }
 
+-- what tells the one's windows tells the other's
 pub same-tells : {g h : Grammar Context Values} → SameSets g h → (tests : Tests) → Tells g tests ↔ Tells h tests
 same-tells same tests = (λ a. tells-agrees same a, λ a. tells-agrees (sets-back same) a)
 
--- the same runs too
+-- where their runs are the same too, a run over words is made of the one's steps exactly where it is made of the other's
 module _ {g h : Grammar Context Values} (same : SameSets g h) (runs : (tests : Tests) (n : ℕ) (s : Bits) → granted g tests n (opened g tests s) ≡ granted h tests n (opened h tests s)) where
   steps-agree : {ws fs rs : List ℕ} {gs : List Grant} → BySteps g ws fs rs gs → BySteps h ws fs rs gs
   steps-agree {ws} {fs} {rs} {gs} b =
       record { verdict = b .verdict; made = λ tests a. b .made tests (same-tells same tests .1 a) ∙ runs tests (granted-in gs) (frameBits fs) }
 
+-- both ways
 pub same-steps : {g h : Grammar Context Values} → SameSets g h → ((tests : Tests) (n : ℕ) (s : Bits) → granted g tests n (opened g tests s) ≡ granted h tests n (opened h tests s))
     → (ws fs rs : List ℕ) (gs : List Grant) → BySteps g ws fs rs gs ↔ BySteps h ws fs rs gs
 same-steps same runs ws fs rs gs = (λ b. steps-agree same runs b, λ b. steps-agree (sets-back same) (λ tests n s. sym (runs tests n s)) b)

@@ -14,8 +14,9 @@ use Rattle.basis.specs.Bits.{Bits}
 use Rattle.theory.specs.Grammar.{alternative, concatenation, repetition, switch, use-of, field, eod, Grammar}
 use Rattle.theory.specs.Derivation.{Tree, Derivation}
 use Rattle.theory.specs.Machine.{Tests, opened, granted}
-use Rattle.theory.specs.Scope.{Scope, one-level, localised}
+use Rattle.theory.specs.Scope.{Scope, localised}
 use Rattle.theory.specs.Theorems.{Derivable}
+use Rattle.table_scope.specs.Scope.{value-of, store, fresh}
 use Rattle.text_store.specs.Store.{blank, node-words, term-words, rule-words, nodes-of, rules-of}
 use Rattle.text_meaning.specs.Meaning.{grammar-of}
 use Rattle.tree.specs.Tree.{Rules}
@@ -33,8 +34,9 @@ use Rattle.tree_meaning.proofs.Meeting.{at-every}
 use Rattle.tree_meaning.proofs.Localising.{zeros, local-is, local-same}
 use Rattle.tree_store.proofs.Standing.{SpelledBy}
 use Rattle.tree_grammar.proofs.SameGrammar.{Kept, same-node}
+use Rattle.tree_agreement.proofs.SameNodes.{SameNodes, grammar-back}
 use Rattle.tree_agreement.proofs.SameSets.{SameSets, same-sets}
-use Rattle.tree_agreement.proofs.Derivations.{SameNodes, grammar-back, same-derivations, same-derivable}
+use Rattle.tree_agreement.proofs.Derivations.{same-derivations, same-derivable}
 use Rattle.tree_agreement.proofs.SameRuns.{OwnWidth, same-run}
 
 -- the grammar of what is stored of a tree that these bytes spell
@@ -86,12 +88,13 @@ module _ {xs : List ℕ} {t : Rules} (spelled : SpelledBy xs t) (five : refusal-
 
   -- windows, conflicts, empty bodies and weights
   pub text-sets : SameSets (stored-grammar xs t) (tree-grammar t)
-  text-sets = same-sets (Kept t) (stored-grammar xs t) (tree-grammar t) (same-text .nodes) (same-text .starts)
+  text-sets = same-sets same-text
 
   -- derivations, values threaded through
   pub text-derivations : (s : Bits) (d : Tree) (v : Values) → Derivation (stored-grammar xs t) s d v ↔ Derivation (tree-grammar t) s d v
   text-derivations = same-derivations same-text
 
+  -- whether there is one
   pub text-derivable : (s : Bits) → Derivable (stored-grammar xs t) s ↔ Derivable (tree-grammar t) s
   text-derivable = same-derivable same-text
 
@@ -99,16 +102,14 @@ module _ {xs : List ℕ} {t : Rules} (spelled : SpelledBy xs t) (five : refusal-
   pub text-run : (tests : Tests) (n : ℕ) (s : Bits) → granted (stored-grammar xs t) tests n (opened (stored-grammar xs t) tests s) ≡ granted (tree-grammar t) tests n (opened (tree-grammar t) tests s)
   text-run tests n s = sym (same-run (Kept t) (tree-grammar t) (stored-grammar xs t) tests tree-first (own-widths t eight) n s)
 
-  -- variables local to a rule: every use opens its rule, with one value for each variable
-  module _ (read : Values → ℕ → ℤ) (scope : Scope) (opens : (i : ℕ) → scope .opens-rule i ≡ true) where
-    abbrev local-stored : Grammar Context Values
-    local-stored = localised (one-level read) scope (λ i c v. zeros v) (stored-grammar xs t)
-
-    pub same-local : SameNodes (Kept t) local-stored (local-grammar t)
+  -- variables local to a rule, where every use opens its rule
+  module _ (scope : Scope) (opens : (i : ℕ) → scope .opens-rule i ≡ true) where
+    -- nodes and beginnings
+    pub same-local : SameNodes (Kept t) (localised store scope fresh (stored-grammar xs t)) (local-grammar t)
     same-local =
         record {
           nodes =
-              λ i. subst (λ (n : TreeNode). SameNode (Kept t) n (local-node (tree-grammar t .node i))) (sym (local-is read scope i (opens i) (stored-grammar xs t .node i)))
+              λ i. subst (λ (n : TreeNode). SameNode (Kept t) n (local-node (tree-grammar t .node i))) (sym (local-is value-of scope i (opens i) (stored-grammar xs t .node i)))
               (local-same (Kept t) (kept-zeros t) (same-text .nodes i));
           starts = same-text .starts;
           contexts = same-text .contexts;
@@ -116,8 +117,10 @@ module _ {xs : List ℕ} {t : Rules} (spelled : SpelledBy xs t) (five : refusal-
           begins = same-text .begins;
         }
 
-    pub local-derivations : (s : Bits) (d : Tree) (v : Values) → Derivation local-stored s d v ↔ Derivation (local-grammar t) s d v
+    -- derivations
+    pub local-derivations : (s : Bits) (d : Tree) (v : Values) → Derivation (localised store scope fresh (stored-grammar xs t)) s d v ↔ Derivation (local-grammar t) s d v
     local-derivations = same-derivations same-local
 
-    pub local-derivable : (s : Bits) → Derivable local-stored s ↔ Derivable (local-grammar t) s
+    -- whether there is one
+    pub local-derivable : (s : Bits) → Derivable (localised store scope fresh (stored-grammar xs t)) s ↔ Derivable (local-grammar t) s
     local-derivable = same-derivable same-local

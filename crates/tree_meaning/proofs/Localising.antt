@@ -7,9 +7,10 @@ use mathlib.Core.Bool.{Bool, true}
 use lib.IntN.{ℤ, pos}
 use lib.ListN.{length, replicate}
 use Rattle.theory.specs.Grammar.{alternative, concatenation, repetition, switch, use-of, field, eod}
-use Rattle.theory.specs.Scope.{Scope, one-level, local-use, local-node as theory-node}
-use Rattle.tree_meaning.specs.Grammar.{Context, Values, TreeNode}
-use Rattle.tree_meaning.specs.Local.{local-node}
+use Rattle.theory.specs.Scope.{Scope, one-level, local-use, local-node as theory-node, localised}
+use Rattle.tree.specs.Tree.{Rules}
+use Rattle.tree_meaning.specs.Grammar.{Values, TreeNode, tree-grammar}
+use Rattle.tree_meaning.specs.Local.{local-node, local-grammar}
 use Rattle.tree_meaning.proofs.Agreeing.{SameNode, same-alternative, same-concatenation, same-repetition, same-switch, same-use, same-field, same-eod}
 
 -- every variable 0
@@ -21,6 +22,7 @@ module _ (read : Values → ℕ → ℤ) (scope : Scope) where
   abbrev pub scoped-node : ℕ → TreeNode → TreeNode
   scoped-node i n = theory-node (one-level read) scope (λ i c v. zeros v) i n
 
+  -- it is the tree's
   pub local-is : (i : ℕ) → scope .opens-rule i ≡ true → (n : TreeNode) → scoped-node i n ≡ local-node n
   unfolding theory-node local-node
   local-is i e (alternative is) = refl
@@ -30,6 +32,16 @@ module _ (read : Values → ℕ → ℤ) (scope : Scope) where
   local-is i e (use-of enters opens closes b) = ap (λ (o : Bool). local-use (one-level read) scope (λ i c v. zeros v) o i enters opens closes b) e
   local-is i e (field w admits static binds) = refl
   local-is i e eod = refl
+
+  -- so the theory's grammar of a tree with local variables is the tree's own
+  pub local-grammar-is : ((i : ℕ) → scope .opens-rule i ≡ true) → (t : Rules) → localised (one-level read) scope (λ i c v. zeros v) (tree-grammar t) ≡ local-grammar t
+  local-grammar-is opens t =
+      λ k. record {
+        node = λ i. local-is i (opens i) (tree-grammar t .node i) k;
+        start = tree-grammar t .start;
+        context = tree-grammar t .context;
+        values = tree-grammar t .values;
+      }
 
 -- nodes that are the same stay so
 pub local-same : (P : Values → Type 0) → ((v : Values) → P v → P (zeros v)) → {n n′ : TreeNode} → SameNode P n n′ → SameNode P (local-node n) (local-node n′)
