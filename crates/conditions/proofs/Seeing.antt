@@ -5,12 +5,14 @@ use mathlib.Core.Path.{_≡_, refl, sym, ap, ap₂, subst, _∙_}
 use mathlib.Core.Logic.{_↔_}
 use mathlib.Core.List.{List, [], _∷_, _++_}
 use native.Mathlib.Omega.{arith}
-use lib.ListN.{length, drop}
+use lib.ListN.{length, drop, replicate, length-set, length-replicate}
+use Rattle.basis.specs.Limits.{max-entries}
 use Rattle.theory.specs.Derivation.{Capture, captures}
 use Rattle.theory.specs.Machine.{undecided, matched, unmatched, Run as MachineRun, run, opened, granted}
 use Rattle.table_layout.specs.Places.{table-of}
-use Rattle.run_steps.specs.Steps.{steps-of}
-use Rattle.run_refinement.specs.Runs.{HeldRun, words-of, recorded, verdict-as, run-of}
+use Rattle.table_layout.specs.Held.{opening}
+use Rattle.run_steps.specs.Steps.{Whole, steps-of}
+use Rattle.run_refinement.specs.Runs.{HeldRun, words-of, recorded, verdict-as, head-of, reading-of, run-of}
 use Rattle.run_refinement.proofs.Pending.{recorded-length}
 use Rattle.run_refinement.proofs.Readings.{reading-is}
 use Rattle.run_grants.specs.Runs.{whole-of, opened-run}
@@ -45,7 +47,10 @@ module _ (t : Rules) (needed : ℕ) (ws fs rs : List ℕ) (gs : List Grant) (g :
 
   -- the words of the fields, and then those that stood there
   lists : words ≡ listing (recorded words (now .captures)) rs
-  lists = ?lists
+  lists =
+      subst (λ (w : Whole). reading-of w ≡ words-of (recorded (reading-of w) (head-of w .captures)) ++ drop (2 * head-of w .captures) rs) (sym (g .state))
+      (reading-is (table-of ws) fs (steps-granted gs) (whole-of rs opened-run) (omega arith, omega arith, omega arith, length-set (replicate max-entries 0) 0 opening ∙ length-replicate max-entries 0, length-replicate max-entries 0))
+      ∙ ap₂ (λ (l : List ℕ) (n : ℕ). l ++ drop (2 * n) rs) (same-words (recorded words (now .captures))) (sym (recorded-length words (now .captures)))
 
   shown-held : Shown (run-of fs (whole-of words now)) rs (seen-of now words)
   shown-held = (numbered-back (now .verdict) (b .verdict), refl, refl, sym (recorded-length words (now .captures)), refl, lists)
