@@ -5,5 +5,4 @@ pub mod Derivations
 pub mod SameRuns
 pub mod Texts
 pub mod Places
-pub mod Rows
 pub mod Telling
