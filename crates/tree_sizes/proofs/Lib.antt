@@ -1,0 +1,7 @@
+-- Refusal 8 of a text is its tree's.
+pub mod Hits
+pub mod Tells
+pub mod Runs
+pub mod Reckoning
+pub mod Lists
+pub mod SetLists
