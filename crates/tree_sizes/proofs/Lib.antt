@@ -5,3 +5,4 @@ pub mod Runs
 pub mod Reckoning
 pub mod Lists
 pub mod SetLists
+pub mod TestLists

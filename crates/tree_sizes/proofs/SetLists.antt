@@ -51,7 +51,7 @@ module _ (g : ℕ → ℕ) (w : List ℤ) (wide : List ℕ → ℕ) where
   after-sign s m h = h
 
   -- a sign has no fault
-  again : (s : Sign) (f : List Component) (l : List ℕ) → l ++ calculation-faults wide (joined-by s ∷ f) ≡ l ++ calculation-faults wide f
+  pub again : (s : Sign) (f : List Component) (l : List ℕ) → l ++ calculation-faults wide (joined-by s ∷ f) ≡ l ++ calculation-faults wide f
   unfolding calculation-faults
   again s f l = refl
 
