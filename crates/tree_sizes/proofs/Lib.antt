@@ -6,3 +6,4 @@ pub mod Reckoning
 pub mod Lists
 pub mod SetLists
 pub mod TestLists
+pub mod Founds
