@@ -7,3 +7,4 @@ pub mod Lists
 pub mod SetLists
 pub mod TestLists
 pub mod Founds
+pub mod Rising
