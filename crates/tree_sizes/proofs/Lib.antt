@@ -8,3 +8,5 @@ pub mod SetLists
 pub mod TestLists
 pub mod Founds
 pub mod Rising
+pub mod Gathered
+pub mod Numbers
