@@ -10,3 +10,4 @@ pub mod Founds
 pub mod Rising
 pub mod Gathered
 pub mod Numbers
+pub mod Tables
