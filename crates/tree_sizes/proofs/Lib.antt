@@ -11,3 +11,4 @@ pub mod Rising
 pub mod Gathered
 pub mod Numbers
 pub mod Tables
+pub mod Widths
