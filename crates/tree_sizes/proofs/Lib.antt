@@ -12,3 +12,5 @@ pub mod Gathered
 pub mod Numbers
 pub mod Tables
 pub mod Widths
+pub mod Agreeing
+pub mod NodeLists
