@@ -14,3 +14,5 @@ pub mod Tables
 pub mod Widths
 pub mod Agreeing
 pub mod NodeLists
+pub mod Ready
+pub mod Walk
