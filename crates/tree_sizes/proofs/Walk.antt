@@ -14,12 +14,12 @@ use Rattle.tree.specs.Lexemes.{Name, Lexeme, sign, place-of}
 use Rattle.tree.specs.Tree.{Mark, optional, any-number, one-or-more, counted, Part, expression, concatenation, factor, atom, cases, Tree, literal, range, field, binder, rule-use, eod, group, switch, last-case, case-default, case-cases, once, repeated, last-member, and-members, last-branch, or-branches}
 use Rattle.tree.specs.Spelling.{spell, spell-mark}
 use Rattle.tree_form.specs.Stored.{start-of}
-use Rattle.tree_meaning.specs.Pieces.{counts-parts, set-parts, tests-parts, Piece, formula, mark-pieces, pieces}
+use Rattle.tree_meaning.specs.Pieces.{counts-parts, set-parts, tests-parts, Piece, use-of-rule, formula, mark-pieces, pieces}
 use Rattle.tree_meaning.specs.Counted.{constructs}
 use Rattle.tree_meaning.specs.Sizes.{calculation-faults}
 use Rattle.tree_store.proofs.Rows.{NodeRow, on-first, in-case, set-rows, tests-rows, mark-rows, term-rows, mark-row, node-rows}
 use Rattle.tree_store.proofs.Lengths.{length-first, nodes-counted, some-node}
-use Rattle.tree_store.proofs.Standing.{Standing, stands, past, shown, after-tests, after-mark as mark-passed, after-set, earlier}
+use Rattle.tree_store.proofs.Standing.{Standing, stands, past, shown, after-tests, after-mark as mark-passed, after-set, after-tree}
 use Rattle.tree_store.proofs.Spots.{Like}
 use Rattle.tree_store.proofs.Binding.{after-bound, Quiet, mark-quiet, bound-rows, Before, before-node, before-more}
 use Rattle.tree_store.proofs.Naming.{PlainFor, plain}
@@ -86,6 +86,13 @@ chained f g = (λ a. g .0 (f .0 a), λ c. f .1 (g .1 c))
 
 either : {A B C D : Type 0} → A ↔ B → C ↔ D → (A ⊎ C) ↔ (B ⊎ D)
 either f g = (λ h. ⊎-elim (λ z. inl (f .0 z)) (λ z. inr (g .0 z)) h, λ h. ⊎-elim (λ z. inl (f .1 z)) (λ z. inr (g .1 z)) h)
+
+same-as : {A : Type 0} → A ↔ A
+same-as = (λ z. z, λ z. z)
+
+-- what stands behind a token, from it on
+after-token : {xs : List ℕ} {q : ℕ} {l : Lexeme} {ls : List Lexeme} → Standing xs q (l ∷ ls) → (q ≤ place-of l) × Standing xs (place-of l) ls
+after-token (stands b c d more) = (b, more)
 
 -- without the first
 dropped : {A B C : Type 0} → (A → ⊥) → B ↔ C → (A ⊎ B) ↔ C
@@ -184,3 +191,165 @@ module _ (p : ℕ) {xs ns ts rs ws : List ℕ} {n r : ℕ} {numbered : List ℕ 
   -- nodes that begin at the number that constructs are counted to
   counted-to : {q : Part} {d : ℕ} (x : Tree q d) (t i : ℕ) (L : List NodeRow) → NodesHit p ns ts ws (i + length (node-rows false x t)) L ↔ NodesHit p ns ts ws (i + constructs false x) L
   counted-to x t i L = let z = nodes-counted false x t in (λ h. subst (λ (k : ℕ). NodesHit p ns ts ws (i + k) L) z h, λ h. subst (λ (k : ℕ). NodesHit p ns ts ws (i + k) L) (sym z) h)
+
+  moved : (i j : ℕ) (L : List NodeRow) → i ≡ j → NodesHit p ns ts ws i L ↔ NodesHit p ns ts ws j L
+  moved i j L e = (λ h. subst (λ (k : ℕ). NodesHit p ns ts ws k L) e h, λ h. subst (λ (k : ℕ). NodesHit p ns ts ws k L) (sym e) h)
+
+  -- ---- the walk
+
+  pub walk : {q : Part} {d : ℕ} (top begun : Bool) (x : Tree q d) (i t : ℕ) (names : List Name) (w : List Lexeme) {m : ℕ} → AtPart q i (node-rows begun x t) → RowsAt ts t (term-rows x) → Standing xs m (spell x w) → Before xs ns a i names
+      → i + constructs begun x ≤ end → Ready p ws numbered widest names (pieces top x) → Settled p ws numbered widest m names → Walked q i (node-rows begun x t) (pieces top x) names w
+  unfolding node-rows term-rows spell constructs pieces Ready gathered after-bound NodesHit FirstHit
+  walk top begun (literal l) i t names w (first-then h more) rows s b e ok settled = leaf [] refl refl (omega (arith, rule .inside)) h refl (omega arith) (λ z. omega arith) (past s) settled
+  walk top begun (range c g z one one′) i t names w (first-then h more) rows s b e ok settled = leaf [] refl refl (omega (arith, rule .inside)) h refl (omega arith) (λ z. omega arith) (past (past (past s))) settled
+  walk top begun (field depth u opens k comma x closes) i t names w {m} (first-then h more) rows s b e ok settled =
+      let st = after-token (past (past s)) in
+      let set = past (st .1) in
+      let on = settled-on p ws numbered widest m (k .start) names (st .0) settled in
+      record {
+        same = alone (calculation-faults widest (set-parts x)) (set-hit p rule widest i names b (omega arith) (k .start) on x t k (sign Kind.CloseParen closes ∷ w) (h .own-from-is) (h .own-end-is) rows set (ok .1 .0) (h .kind-is) (h .size-is) (h .first-is) (shown (past (past s))) (omega arith) (ok .0));
+        mid = k .start;
+        left = past (after-set x set);
+        settled = on;
+      }
+  walk top begun (binder depth u opens k comma v opens′ x comma′ y closes closes′) i t names w {m} (first-then h more) rows s b e ok settled =
+      let st = after-token (past (past s)) in
+      let set = past (past (past (past (past (st .1))))) in
+      let on = settled-on p ws numbered widest m (k .start) names (st .0) settled in
+      record {
+        same = alone (calculation-faults widest (set-parts y)) (set-hit p rule widest i names b (omega arith) (k .start) on y t k (sign Kind.CloseParen closes ∷ sign Kind.CloseParen closes′ ∷ w) (h .own-from-is) (h .own-end-is) rows set (ok .1 .0) (h .kind-is) (h .size-is) (h .first-is) (shown (past (past s))) (omega arith) (ok .0));
+        mid = k .start;
+        left = past (past (after-set y set));
+        settled = settled-more p ws numbered widest (k .start) names x k (ok .1 .1 .0) (omega arith) (ok .0) on;
+      }
+  walk top begun (rule-use x other) i t names w (first-then h more) rows s b e ok settled = leaf (use-of-rule x ∷ []) refl refl (omega (arith, rule .inside)) h refl (omega arith) (λ z. omega arith) (past s) settled
+  walk top begun (eod g) i t names w (first-then h more) rows s b e ok settled = leaf [] refl refl (omega (arith, rule .inside)) h refl (omega arith) (λ z. omega arith) (past s) settled
+  walk top begun (group depth opens x closes) i t names w h rows s b e ok settled =
+      let r = walk false false x i t names (sign Kind.CloseParen closes ∷ w) h rows (past s) b e ok settled in record { same = r .same; mid = r .mid; left = past (r .left); settled = r .settled }
+  walk top begun (switch depth opens x closes) i t names w (first-then h more) rows s b e ok settled =
+      let r = walk false false x (suc i) t names (sign Kind.CloseBracket closes ∷ w) more rows (past s) (past-node h refl b) (omega arith) ok settled in
+      record { same = dropped (quiet (omega (arith, rule .inside)) h refl (omega arith) (λ z. omega arith)) (r .same); mid = r .mid; left = past (r .left); settled = r .settled }
+  walk top begun (last-case c colon x close) i t names w {m} h rows s b e ok settled =
+      let k = t + length (tests-rows c []) in
+      let M = node-rows false x k in
+      let at = case-at t k M (some-node false x k) h in
+      let f = condition-hit p rule widest i names b (omega (arith, nodes-counted false x k, some-node false x k)) m settled c t (sign Kind.Colon colon ∷ spell x (sign Kind.Semicolon close ∷ w)) (at .0) (at .1) (rows-left (tests-rows c []) (term-rows x) rows) s (ok .0) in
+      let r = walk false false x i k names (sign Kind.Semicolon close ∷ w) (uncased t k M (whole-first (on-first t k M) h)) (rows-right (tests-rows c []) (term-rows x) rows) (past (after-tests c s)) b e (ok .1) settled in
+      record {
+        same = chained (cased p ns ts ws i t k M (some-node false x k)) (hits-both p (calculation-faults widest (tests-parts c)) (gathered (sizes-of widest) (pieces false x)) f (r .same));
+        mid = r .mid;
+        left = past (r .left);
+        settled = r .settled;
+      }
+  walk top begun (case-default c colon x close colon′ y close′) i t names w {m} h rows s b e ok settled =
+      let k = t + length (tests-rows c []) in
+      let u = t + length (tests-rows c [] ++ term-rows x) in
+      let X = node-rows false x k in
+      let M = on-first t k X in
+      let L = node-rows false y u in
+      let rest = sign Kind.Colon colon′ ∷ spell y (sign Kind.Semicolon close′ ∷ w) in
+      let at = case-at t k X (some-node false x k) (nodes-left M L h) in
+      let first = uncased t k X (whole-first M (nodes-left M L h)) in
+      let there : NodesAt ns (i + constructs false x) L = subst (λ (j : ℕ). NodesAt ns (i + j) L) (length-first t k X ∙ nodes-counted false x k) (nodes-right M L h) in
+      let front = rows-left (tests-rows c [] ++ term-rows x) (term-rows y) rows in
+      let f = condition-hit p rule widest i names b (omega (arith, nodes-counted false x k, some-node false x k)) m settled c t (sign Kind.Colon colon ∷ spell x (sign Kind.Semicolon close ∷ rest)) (at .0) (at .1) (rows-left (tests-rows c []) (term-rows x) front) s (ok .0) in
+      let r = walk false false x i k names (sign Kind.Semicolon close ∷ rest) first (rows-right (tests-rows c []) (term-rows x) front) (past (after-tests c s)) b (omega arith) (ready-one p ws numbered widest names (pieces false x) (pieces false y) (ok .1)) settled in
+      let r′ = walk false false y (i + constructs false x) u (after-bound (pieces false x) names) (sign Kind.Semicolon close′ ∷ w) (whole-first L there) (rows-right (tests-rows c [] ++ term-rows x) (term-rows y) rows) (past (past (r .left)))
+          (past-tree false false x k (sign Kind.Semicolon close ∷ rest) first (past (after-tests c s)) b) (omega arith) (ready-two p ws numbered widest names (pieces false x) (pieces false y) (ok .1)) (r .settled) in
+      two (formula (tests-parts c) ∷ pieces false x) (pieces false y) names cases i (M ++ L)
+      (chained (cased p ns ts ws i t k X (some-node false x k)) (hits-both p (calculation-faults widest (tests-parts c)) (gathered (sizes-of widest) (pieces false x)) f (r .same)))
+      (chained (bare (i + constructs false x) L (omega (arith, rule .inside, nodes-counted false y u, some-node false y u)) there (plain false y u)) (r′ .same))
+      (chained (nodes-two p ns ts ws i M L) (either same-as (moved (i + length M) (i + constructs false x) L (ap (λ (j : ℕ). i + j) (length-first t k X ∙ nodes-counted false x k)))))
+      (r′ .mid) (past (r′ .left)) (r′ .settled)
+  walk top begun (case-cases c colon x close y) i t names w {m} h rows s b e ok settled =
+      let k = t + length (tests-rows c []) in
+      let u = t + length (tests-rows c [] ++ term-rows x) in
+      let X = node-rows false x k in
+      let M = on-first t k X in
+      let L = node-rows false y u in
+      let rest = spell y w in
+      let at = case-at t k X (some-node false x k) (nodes-left M L h) in
+      let first = uncased t k X (whole-first M (nodes-left M L h)) in
+      let there : NodesAt ns (i + constructs false x) L = subst (λ (j : ℕ). NodesAt ns (i + j) L) (length-first t k X ∙ nodes-counted false x k) (nodes-right M L h) in
+      let front = rows-left (tests-rows c [] ++ term-rows x) (term-rows y) rows in
+      let f = condition-hit p rule widest i names b (omega (arith, nodes-counted false x k, some-node false x k)) m settled c t (sign Kind.Colon colon ∷ spell x (sign Kind.Semicolon close ∷ rest)) (at .0) (at .1) (rows-left (tests-rows c []) (term-rows x) front) s (ok .0) in
+      let r = walk false false x i k names (sign Kind.Semicolon close ∷ rest) first (rows-right (tests-rows c []) (term-rows x) front) (past (after-tests c s)) b (omega arith) (ready-one p ws numbered widest names (pieces false x) (pieces false y) (ok .1)) settled in
+      let r′ = walk false false y (i + constructs false x) u (after-bound (pieces false x) names) w there (rows-right (tests-rows c [] ++ term-rows x) (term-rows y) rows) (past (r .left))
+          (past-tree false false x k (sign Kind.Semicolon close ∷ rest) first (past (after-tests c s)) b) (omega arith) (ready-two p ws numbered widest names (pieces false x) (pieces false y) (ok .1)) (r .settled) in
+      two (formula (tests-parts c) ∷ pieces false x) (pieces false y) names cases i (M ++ L)
+      (chained (cased p ns ts ws i t k X (some-node false x k)) (hits-both p (calculation-faults widest (tests-parts c)) (gathered (sizes-of widest) (pieces false x)) f (r .same)))
+      (r′ .same)
+      (chained (nodes-two p ns ts ws i M L) (either same-as (moved (i + length M) (i + constructs false x) L (ap (λ (j : ℕ). i + j) (length-first t k X ∙ nodes-counted false x k)))))
+      (r′ .mid) (r′ .left) (r′ .settled)
+  walk top begun (once x) i t names w h rows s b e ok settled =
+      let r = walk top false x i t names w h rows s b e ok settled in record { same = r .same; mid = r .mid; left = r .left; settled = r .settled }
+  walk top begun (repeated x k) i t names w {m} (first-then h more) rows s b e ok settled =
+      let X = node-rows false x t in
+      let some = some-node false x t in
+      let count = nodes-counted false x t in
+      let r = walk false false x (suc i) t names (spell-mark k w) (whole-first X more) (rows-left (term-rows x) (mark-rows k) rows) s (past-node h (mark-quiet k _ _ _) b) (omega arith) (ready-marked p ws numbered widest names k (pieces false x) ok) settled in
+      let f = mark-hit k i (suc (constructs false x)) (start-of x) (t + length (term-rows x)) names w (pieces false x) h (rows-right (term-rows x) (mark-rows k) rows) (after-tree x s) b (omega arith) (omega (arith, some, count)) (omega (arith, rule .inside)) ok settled in
+      record {
+        same = gathered-both p (sizes-of widest) (mark-pieces k) (pieces false x) f (chained (bare (suc i) X (omega (arith, rule .inside, some, count)) more (plain false x t)) (r .same));
+        mid = r .mid;
+        left = mark-passed k (r .left);
+        settled = subst (Settled p ws numbered widest (r .mid)) (sym (after-mark k (pieces false x) names)) (r .settled);
+      }
+  walk top begun (last-member x) i t names w h rows s b e ok settled =
+      let r = walk top false x i t names w h rows s b e ok settled in record { same = r .same; mid = r .mid; left = r .left; settled = r .settled }
+  walk top false (and-members x g y) i t names w {m} (first-then h more) rows s b e ok settled =
+      let u = t + length (term-rows x) in
+      let X = node-rows false x t in
+      let Y = node-rows true y u in
+      let whole = whole-first (X ++ Y) more in
+      let first = first-left X Y whole in
+      let there = after x y true (suc i) t u whole in
+      let b′ = past-node h refl b in
+      let r = walk top false x (suc i) t names (sign Kind.Ampersand g ∷ spell y w) first (rows-left (term-rows x) (term-rows y) rows) s b′ (omega arith) (ready-one p ws numbered widest names (pieces top x) (pieces top y) ok) settled in
+      let r′ = walk top true y (suc i + constructs false x) u (after-bound (pieces top x) names) w (whole-first Y there) (rows-right (term-rows x) (term-rows y) rows) (past (r .left)) (past-tree false top x t (sign Kind.Ampersand g ∷ spell y w) first s b′) (omega arith)
+          (ready-two p ws numbered widest names (pieces top x) (pieces top y) ok) (r .settled) in
+      two (pieces top x) (pieces top y) names concatenation i _
+      (chained (bare (suc i) X (omega (arith, rule .inside, some-node false x t, nodes-counted false x t)) (nodes-left X Y more) (plain false x t)) (r .same))
+      (chained (bare (suc i + constructs false x) Y (omega (arith, rule .inside, some-node true y u, nodes-counted true y u)) there (plain true y u)) (r′ .same))
+      (dropped (quiet (omega (arith, rule .inside)) h refl (omega arith) (λ z. omega arith)) (chained (nodes-two p ns ts ws (suc i) X Y) (either same-as (counted-to x t (suc i) Y))))
+      (r′ .mid) (r′ .left) (r′ .settled)
+  walk top true (and-members x g y) i t names w {m} h rows s b e ok settled =
+      let u = t + length (term-rows x) in
+      let X = node-rows false x t in
+      let Y = node-rows true y u in
+      let first = first-left X Y h in
+      let there = after x y true i t u h in
+      let r = walk top false x i t names (sign Kind.Ampersand g ∷ spell y w) first (rows-left (term-rows x) (term-rows y) rows) s b (omega arith) (ready-one p ws numbered widest names (pieces top x) (pieces top y) ok) settled in
+      let r′ = walk top true y (i + constructs false x) u (after-bound (pieces top x) names) w (whole-first Y there) (rows-right (term-rows x) (term-rows y) rows) (past (r .left)) (past-tree false top x t (sign Kind.Ampersand g ∷ spell y w) first s b) (omega arith)
+          (ready-two p ws numbered widest names (pieces top x) (pieces top y) ok) (r .settled) in
+      two (pieces top x) (pieces top y) names concatenation i (X ++ Y) (r .same) (chained (bare (i + constructs false x) Y (omega (arith, rule .inside, some-node true y u, nodes-counted true y u)) there (plain true y u)) (r′ .same))
+      (chained (first-two p ns ts ws i X Y (some-node false x t)) (either same-as (counted-to x t i Y))) (r′ .mid) (r′ .left) (r′ .settled)
+  walk top begun (last-branch x) i t names w h rows s b e ok settled =
+      let r = walk top false x i t names w h rows s b e ok settled in record { same = r .same; mid = r .mid; left = r .left; settled = r .settled }
+  walk top false (or-branches x g y) i t names w {m} (first-then h more) rows s b e ok settled =
+      let u = t + length (term-rows x) in
+      let X = node-rows false x t in
+      let Y = node-rows true y u in
+      let whole = whole-first (X ++ Y) more in
+      let first = first-left X Y whole in
+      let there = after x y true (suc i) t u whole in
+      let b′ = past-node h refl b in
+      let r = walk false false x (suc i) t names (sign Kind.Bar g ∷ spell y w) first (rows-left (term-rows x) (term-rows y) rows) s b′ (omega arith) (ready-one p ws numbered widest names (pieces false x) (pieces false y) ok) settled in
+      let r′ = walk false true y (suc i + constructs false x) u (after-bound (pieces false x) names) w (whole-first Y there) (rows-right (term-rows x) (term-rows y) rows) (past (r .left)) (past-tree false false x t (sign Kind.Bar g ∷ spell y w) first s b′) (omega arith)
+          (ready-two p ws numbered widest names (pieces false x) (pieces false y) ok) (r .settled) in
+      two (pieces false x) (pieces false y) names expression i _
+      (chained (bare (suc i) X (omega (arith, rule .inside, some-node false x t, nodes-counted false x t)) (nodes-left X Y more) (plain false x t)) (r .same))
+      (chained (bare (suc i + constructs false x) Y (omega (arith, rule .inside, some-node true y u, nodes-counted true y u)) there (plain true y u)) (r′ .same))
+      (dropped (quiet (omega (arith, rule .inside)) h refl (omega arith) (λ z. omega arith)) (chained (nodes-two p ns ts ws (suc i) X Y) (either same-as (counted-to x t (suc i) Y))))
+      (r′ .mid) (r′ .left) (r′ .settled)
+  walk top true (or-branches x g y) i t names w {m} h rows s b e ok settled =
+      let u = t + length (term-rows x) in
+      let X = node-rows false x t in
+      let Y = node-rows true y u in
+      let first = first-left X Y h in
+      let there = after x y true i t u h in
+      let r = walk false false x i t names (sign Kind.Bar g ∷ spell y w) first (rows-left (term-rows x) (term-rows y) rows) s b (omega arith) (ready-one p ws numbered widest names (pieces false x) (pieces false y) ok) settled in
+      let r′ = walk false true y (i + constructs false x) u (after-bound (pieces false x) names) w (whole-first Y there) (rows-right (term-rows x) (term-rows y) rows) (past (r .left)) (past-tree false false x t (sign Kind.Bar g ∷ spell y w) first s b) (omega arith)
+          (ready-two p ws numbered widest names (pieces false x) (pieces false y) ok) (r .settled) in
+      two (pieces false x) (pieces false y) names expression i (X ++ Y) (r .same) (chained (bare (i + constructs false x) Y (omega (arith, rule .inside, some-node true y u, nodes-counted true y u)) there (plain true y u)) (r′ .same))
+      (chained (first-two p ns ts ws i X Y (some-node false x t)) (either same-as (counted-to x t i Y))) (r′ .mid) (r′ .left) (r′ .settled)
