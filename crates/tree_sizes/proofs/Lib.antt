@@ -16,3 +16,4 @@ pub mod Agreeing
 pub mod NodeLists
 pub mod Ready
 pub mod Walk
+pub mod Rules

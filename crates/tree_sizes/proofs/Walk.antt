@@ -142,7 +142,7 @@ module _ (p : ℕ) {xs ns ts rs ws : List ℕ} {n r : ℕ} {numbered : List ℕ 
 
   -- ---- nodes without a condition or a list
 
-  bare : (i : ℕ) (M : List NodeRow) → i < n → NodesAt ns i M → PlainFor expression M → NodesHit p ns ts ws i M ↔ FirstHit p ns ts ws i M
+  pub bare : (i : ℕ) (M : List NodeRow) → i < n → NodesAt ns i M → PlainFor expression M → NodesHit p ns ts ws i M ↔ FirstHit p ns ts ws i M
   bare i [] l no-nodes c = absurd c
   bare i (x ∷ M) l (node-then h more) c = unconditioned p ns ts ws i (x ∷ M) (no-condition-hit p rule widest i l (h .case-from-is ∙ c .0) (h .case-end-is ∙ c .1))
 
