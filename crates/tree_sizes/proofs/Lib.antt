@@ -17,3 +17,4 @@ pub mod NodeLists
 pub mod Ready
 pub mod Walk
 pub mod Rules
+pub mod Sizes
