@@ -1,5 +1,4 @@
 -- A text is answered by the first row of document 01's table that fits it.
-pub mod Eight
 pub mod Rows
 pub mod Stages
 pub mod Holding

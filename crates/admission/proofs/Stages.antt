@@ -34,7 +34,7 @@ use Rattle.tree_store.proofs.Limits.{limited, passed-5, given-5}
 use Rattle.tree_store.proofs.Names.{passed-6, given-6}
 use Rattle.tree_store.proofs.Standing.{SpelledBy}
 use Rattle.tree_reach.proofs.Tables.{refused-7-of, acyclic-7-of}
-use Rattle.admission.proofs.Eight.{passed-8, given-8}
+use Rattle.tree_sizes.proofs.Sizes.{refused-8, passed-8}
 use Rattle.admission.specs.Texts.{TreeOf, AtPlace}
 use Rattle.admission.specs.Refusals.{Row, short-table, wrong-size, wrong-header, wrong-form, past-limit, wrong-name, recursive, too-large, Fits, NoneBelow}
 use Rattle.admission.proofs.Rows.{one-base, one-tree, below-next, below-1}
@@ -100,10 +100,10 @@ module _ (xs : List ℕ) (short : length xs ≤ max-text-bytes) (st : State) (r 
           (refused-7-of by no-5 no-6 k (to-stored (λ z. Reaches (words-of xs z) k k) e) (to-stored (λ z. (q : ℕ) → q < k → Reaches (words-of xs z) q q → ⊥) f))
 
       pub eight : fault-8 xs st ≡ Found.Nothing → refusal-8 tree ≡ none
-      eight e = passed-8 by no-5 no-6 (to-stored (λ z. fault-8 xs z ≡ Found.Nothing) e)
+      eight e = passed-8 xs tree by no-5 no-6 .0 (to-stored (λ z. fault-8 xs z ≡ Found.Nothing) e)
 
       pub at-eight : (p : ℕ) → fault-8 xs st ≡ Found.At p → refusal-8 tree ≡ some p
-      at-eight p e = given-8 by no-5 no-6 p (to-stored (λ z. fault-8 xs z ≡ Found.At p) e)
+      at-eight p e = refused-8 xs tree by no-5 no-6 p .0 (to-stored (λ z. fault-8 xs z ≡ Found.At p) e)
 
 -- ---- rows that were passed do not fit
 
