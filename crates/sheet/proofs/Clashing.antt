@@ -37,6 +37,7 @@ marks-K8 i e =
       | inr z ↦ subst (λ (k : ℕ). 14 ≤ construct-at trees.K8 k .mark) (sym z) (omega arith)
     ]
 
+-- 9, at its mark
 pub empty-bodies-K8 : EmptyBodies trees.K8 14
 unfolding marked trees.K8
 empty-bodies-K8 = (0, empty-K8, refl, marks-K8)
@@ -60,6 +61,7 @@ predicted-branch : (i : ℕ) → i ∈ (1 ∷ 2 ∷ []) → Exactly (Predicted g
 unfolding grammar trees.K5
 predicted-branch i m = of-two (λ j. j ∈ (1 ∷ 2 ∷ []) → Exactly (Predicted g₅ j) (letter-A ∷ [])) 1 2 (predicted-A 1 0x42 refl) (predicted-A 2 0x43 refl) i m m
 
+-- both branches have it
 pub conflict-A : Conflict g₅ 0 letter-A
 unfolding grammar trees.K5
 conflict-A =
@@ -67,6 +69,7 @@ conflict-A =
     let second : 2 ∈ (1 ∷ 2 ∷ []) = List·Memᴰ·tail (List·Memᴰ·head refl) in
     Conflict.of-branches {a = 1} {b = 2} refl first second (λ e. omega arith) ((predicted-branch 1 first letter-A) .1 (List·Memᴰ·head refl)) ((predicted-branch 2 second letter-A) .1 (List·Memᴰ·head refl))
 
+-- and no other
 clash-A : (x : Bits) → Conflict g₅ 0 x → x ≡ letter-A
 unfolding grammar trees.K5
 clash-A x (Conflict.of-branches {a = a} e m n d p p′) = List·Memᴰ·eq-of-singleton ((predicted-branch a (subst (λ (l : List ℕ). a ∈ l) (sym (ap branches-in e)) m) x) .0 p)
@@ -77,10 +80,12 @@ pub window-K5 : (x : Bits) → Conflict g₅ 0 x → number x ≡ 321
 unfolding frameBits bitsOf append-digits
 window-K5 x c = ap number (clash-A x c)
 
+-- 10, at the alternative
 pub clashes-K5 : Clashes trees.K5 8
 unfolding placed trees.K5
 clashes-K5 = (0, (letter-A, conflict-A), (λ j b c. absurd (omega arith)), refl)
 
+-- nothing is repeated
 pub filled-K5 : (i : ℕ) → EmptyBody g₅ i → ⊥
 unfolding grammar trees.K5
 filled-K5 = filled-as trees.K5 3 refl (((tt, tt), tt), tt)
