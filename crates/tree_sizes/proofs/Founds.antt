@@ -164,9 +164,9 @@ module _ (g : ℕ → ℕ) (W : List ℕ) where
         subst (λ (k : Found). Matches k l) (sym z) (counted-found P l ts f i (y .at) A m (y .trial) rows q)
 
     -- one calculation
-    one-judged : (a : Calculation) → Measured g w wide (calculation-terms a) → Judged (Left Numbers.Zero 1) (fault-of g w wide Kind.Calculation a ++ []) i (calculation-rows a) (ran g w Kind.Calculation i (calculation-rows a) Numbers.Zero 1)
+    one-judged : (a : Calculation) → Measured g w wide (calculation-terms a) → Judged (Left Numbers.Zero 1) (fault-of wide a ++ []) i (calculation-rows a) (ran g w Kind.Calculation i (calculation-rows a) Numbers.Zero 1)
     one-judged a h =
-        let F = fault-of g w wide Kind.Calculation a in
+        let F = fault-of wide a in
         judged-as g w Kind.Calculation (Left Numbers.Zero 1) F (F ++ []) i (calculation-rows a) (ran g w Kind.Calculation i (calculation-rows a) Numbers.Zero 1) (sym (append-nil F)) (calculation-judged g w wide Kind.Calculation a h i Numbers.Zero 1 (omega arith))
 
     -- rows and then a sign that is their form
@@ -185,20 +185,20 @@ module _ (g : ℕ → ℕ) (W : List ℕ) where
     counts-found (exactly n) e q h rows at =
         let A = calculation-rows n in
         let some = some-calculation n in
-        tally-found (Left Numbers.Zero 1) (fault-of g w wide Kind.Calculation n ++ []) A Form.Exact e (omega (arith, q, some)) (ap (λ (k : ℕ). formOf (termAt W (k - 1))) q ∙ last-part i A some (reckoned-parts g (calculation-counts n)) at) (written-terms i e A q at) rows
+        tally-found (Left Numbers.Zero 1) (fault-of wide n ++ []) A Form.Exact e (omega (arith, q, some)) (ap (λ (k : ℕ). formOf (termAt W (k - 1))) q ∙ last-part i A some (reckoned-parts g (calculation-counts n)) at) (written-terms i e A q at) rows
         (one-judged n (measured-first g w wide (calculation-terms n) [] h))
     counts-found (at-least a s) e q h rows at =
-        signed-found (Left Numbers.Zero 1) (fault-of g w wide Kind.Calculation a ++ []) (calculation-rows a) (a-term 9 0 (s .start) 0) Form.Open e q refl refl rows at (one-judged a (measured-first g w wide (calculation-terms a) (terms-of (joined-by s ∷ [])) h))
+        signed-found (Left Numbers.Zero 1) (fault-of wide a ++ []) (calculation-rows a) (a-term 9 0 (s .start) 0) Form.Open e q refl refl rows at (one-judged a (measured-first g w wide (calculation-terms a) (terms-of (joined-by s ∷ [])) h))
     counts-found (at-most s b) e q h rows at =
-        signed-found (Left Numbers.Zero 1) (fault-of g w wide Kind.Calculation b ++ []) (calculation-rows b) (a-term 10 0 (s .start) 0) Form.UpTo e q refl refl rows at (one-judged b (measured-first g w wide (calculation-terms b) [] h))
+        signed-found (Left Numbers.Zero 1) (fault-of wide b ++ []) (calculation-rows b) (a-term 10 0 (s .start) 0) Form.UpTo e q refl refl rows at (one-judged b (measured-first g w wide (calculation-terms b) [] h))
     counts-found (span a s b) e q h rows at =
         let A = calculation-rows a in
         let B = calculation-rows b in
         let r = a-term 8 0 (s .start) 0 in
-        let F = fault-of g w wide Kind.Calculation b in
+        let F = fault-of wide b in
         let z : A ++ (B ++ (r ∷ [])) ≡ (A ++ B) ++ (r ∷ []) = sym (append-assoc A B (r ∷ [])) in
-        signed-found Any (fault-of g w wide Kind.Calculation a ++ (F ++ [])) (A ++ B) r Form.Closed e (q ∙ ap (λ (l : List TermRow). i + length l) z) refl refl (subst (RowsAt ts f) z rows) (subst (Written i) z at)
-        (judged-both g w Kind.Calculation (Left Numbers.Zero 1) Any (fault-of g w wide Kind.Calculation a) (F ++ []) A B i Numbers.Zero 1 (calculation-judged g w wide Kind.Calculation a (measured-first g w wide (calculation-terms a) (terms-of (joined-by s ∷ whole-number b ∷ [])) h) i Numbers.Zero 1 (omega arith))
+        signed-found Any (fault-of wide a ++ (F ++ [])) (A ++ B) r Form.Closed e (q ∙ ap (λ (l : List TermRow). i + length l) z) refl refl (subst (RowsAt ts f) z rows) (subst (Written i) z at)
+        (judged-both g w Kind.Calculation (Left Numbers.Zero 1) Any (fault-of wide a) (F ++ []) A B i Numbers.Zero 1 (calculation-judged g w wide Kind.Calculation a (measured-first g w wide (calculation-terms a) (terms-of (joined-by s ∷ whole-number b ∷ [])) h) i Numbers.Zero 1 (omega arith))
         (λ s₁ t₁ u.
         let y = ran g w Kind.Calculation (i + length A) B s₁ t₁ in
         judged-as g w Kind.Calculation Any F (F ++ []) (i + length A) B y (sym (append-nil F))

@@ -2,13 +2,13 @@
 -- Assumes nothing.
 use Prim.Native.Nat.{ℕ}
 use mathlib.Core.Path.{_≡_, refl, sym, ap, subst, _∙_}
-use mathlib.Core.Logic.{_⊎_, inl, inr, ⊎-elim, _↔_}
+use mathlib.Core.Logic.{_⊎_, inl, inr, ⊎-elim, _↔_, Iff·rfl, Iff·symm, Iff·trans}
 use mathlib.Core.List.{List, [], _∷_, _++_, append-assoc}
 use Rattle.tree.specs.Tree.{Rule}
 use Rattle.tree_meaning.specs.Pieces.{terms-of, Piece, use-of-rule, width, formula, binding, rule-pieces}
 use Rattle.tree_meaning.specs.Places.{place-if}
 use Rattle.tree_meaning.specs.Sizes.{wrong-width, number-faults, widest-in, calculation-faults, faults-in, size-faults}
-use Rattle.tree_sizes.proofs.Hits.{Hits, hits-two, hits-both}
+use Rattle.tree_sizes.proofs.Hits.{either, Hits, hits-two, hits-both}
 
 abbrev pub numbers-of : Piece → List ℕ
 numbers-of (use-of-rule x) = []
@@ -66,31 +66,20 @@ module _ {X N W C : Type 0} where
     λ h. ⊎-elim (λ n. inr (inl n)) (λ r. ⊎-elim (λ u. inr (inr (inl u))) (λ s. ⊎-elim (λ x. inl x) (λ u. inr (inr (inr u))) s) r) h,
   )
 
-chained : {A B C : Type 0} → A ↔ B → B ↔ C → A ↔ C
-chained f g = (λ a. g .0 (f .0 a), λ c. f .1 (g .1 c))
-
-second-same : {X A B : Type 0} → A ↔ B → (X ⊎ A) ↔ (X ⊎ B)
-second-same f = (λ h. ⊎-elim (λ x. inl x) (λ a. inr (f .0 a)) h, λ h. ⊎-elim (λ x. inl x) (λ b. inr (f .1 b)) h)
-
-first-same : {X A B : Type 0} → A ↔ B → (A ⊎ X) ↔ (B ⊎ X)
-first-same f = (λ h. ⊎-elim (λ a. inl (f .0 a)) (λ x. inr x) h, λ h. ⊎-elim (λ b. inl (f .1 b)) (λ x. inr x) h)
-
-backwards : {A B : Type 0} → A ↔ B → B ↔ A
-backwards f = (f .1, f .0)
-
+-- the faults of pieces are those of the three parts
 pub three-parts : (p : ℕ) (widest : List ℕ → ℕ) (l : List Piece) → Hits p (faults-in widest l) ↔ Three p widest l
 unfolding faults-in gathered Hits
 three-parts p widest [] = (λ h. absurd h, λ h. ⊎-elim (λ (z : ⊥). absurd z) (λ r. ⊎-elim (λ (z : ⊥). absurd z) (λ (z : ⊥). absurd z) r) h)
 three-parts p widest (use-of-rule x ∷ l) = three-parts p widest l
 three-parts p widest (width n ∷ l) =
     let F = place-if (wrong-width n) (n .start) in
-    chained (hits-two p F (faults-in widest l)) (chained (second-same (three-parts p widest l)) (chained in-second (second-same (first-same (backwards (hits-two p F (gathered widths-of l)))))))
+    Iff·trans (hits-two p F (faults-in widest l)) (Iff·trans (either Iff·rfl (three-parts p widest l)) (Iff·trans in-second (either Iff·rfl (either (Iff·symm (hits-two p F (gathered widths-of l))) Iff·rfl))))
 three-parts p widest (formula f ∷ l) =
     let F = number-faults (terms-of f) in
     let G = calculation-faults widest f in
-    chained (hits-two p F (G ++ faults-in widest l))
-    (chained (second-same (chained (hits-two p G (faults-in widest l)) (chained (second-same (three-parts p widest l)) in-third)))
-    (chained in-first (chained (first-same (backwards (hits-two p F (gathered numbers-of l)))) (second-same (second-same (backwards (hits-two p G (gathered (sizes-of widest) l))))))))
+    Iff·trans (hits-two p F (G ++ faults-in widest l))
+    (Iff·trans (either Iff·rfl (Iff·trans (hits-two p G (faults-in widest l)) (Iff·trans (either Iff·rfl (three-parts p widest l)) in-third)))
+    (Iff·trans in-first (Iff·trans (either (Iff·symm (hits-two p F (gathered numbers-of l))) Iff·rfl) (either Iff·rfl (either Iff·rfl (Iff·symm (hits-two p G (gathered (sizes-of widest) l))))))))
 three-parts p widest (binding x n placed ∷ l) = three-parts p widest l
 
 -- ---- of rules

@@ -2,7 +2,7 @@
 -- Assumes nothing.
 use Prim.Native.Nat.{ℕ, zero, suc, _+_, _≤_, _<_, min}
 use mathlib.Core.Path.{_≡_, refl, sym, ap, _∙_, subst}
-use mathlib.Core.Logic.{_⊎_, inl, inr, ⊎-elim, _↔_}
+use mathlib.Core.Logic.{_⊎_, inl, inr, ⊎-elim, _↔_, Iff·rfl, Iff·symm, Iff·trans}
 use mathlib.Core.Bool.{Bool, true, false, cond}
 use mathlib.Core.List.{List, [], _∷_, _++_}
 use mathlib.Core.Option.{Option, none, some}
@@ -13,6 +13,16 @@ use Rattle.text_admission.specs.Extents.{lesser, found-if, least-found}
 use Rattle.text_admission.specs.declared.Found.{Found}
 use Rattle.tree_store.proofs.Holding.{compared}
 use Rattle.tree_meaning.specs.Places.{place-if, lesser as lesser-place, least}
+
+-- ---- equivalences
+
+-- of one or the other
+pub either : {A B C D : Type 0} → A ↔ B → C ↔ D → (A ⊎ C) ↔ (B ⊎ D)
+either f g = (λ h. ⊎-elim (λ z. inl (f .0 z)) (λ z. inr (g .0 z)) h, λ h. ⊎-elim (λ z. inl (f .1 z)) (λ z. inr (g .1 z)) h)
+
+-- without a first that is never
+pub dropped : {A B C : Type 0} → (A → ⊥) → B ↔ C → (A ⊎ B) ↔ C
+dropped n f = (λ h. ⊎-elim (λ z. absurd (n z)) (λ z. f .0 z) h, λ h. inr (f .1 h))
 
 -- ---- found up to p
 
@@ -40,20 +50,37 @@ pub record Among (p n i : ℕ) (f : ℕ → Found) : Type 0 where
   pub upto : at < i + n
   pub hit : Hit p (f at)
 
-pub least-hit : (p n i : ℕ) (f : ℕ → Found) → Hit p (least-found n i f) → Among p n i f
-unfolding least-found
-least-hit p zero i f h = absurd h
-least-hit p (suc n) i f h =
-    ⊎-elim (λ (z : Hit p (f i)). record { at = i; from = omega arith; upto = omega arith; hit = z })
-    (λ z. let a = least-hit p n (i + 1) f z in record { at = a .at; from = omega (arith, a .from); upto = omega (arith, a .upto); hit = a .hit })
-    (hit-two p (f i) (least-found n (i + 1) f) .0 h)
+-- the first of them, or a later one
+pub among-next : (p n i j : ℕ) (f : ℕ → Found) → j ≡ i + 1 → Among p (suc n) i f ↔ (Hit p (f i) ⊎ Among p n j f)
+among-next p n i j f e = (
+  λ x. compared (x .at) i (λ y. absurd (omega (arith, x .from))) (λ y. inl (subst (λ (k : ℕ). Hit p (f k)) y (x .hit))) (λ y. inr (record { at = x .at; from = omega arith; upto = omega (arith, x .upto); hit = x .hit })),
+  λ x. ⊎-elim (λ y. record { at = i; from = omega arith; upto = omega arith; hit = y }) (λ y. record { at = y .at; from = omega (arith, y .from); upto = omega (arith, y .upto); hit = y .hit }) x,
+)
 
-pub hit-least : (p n i : ℕ) (f : ℕ → Found) → Among p n i f → Hit p (least-found n i f)
+-- none of none
+pub among-none : (p i : ℕ) (f : ℕ → Found) → Among p 0 i f → ⊥
+among-none p i f x = omega (arith, x .from, x .upto)
+
+-- one of the first n, or of the m after them
+pub among-two : (p n m i : ℕ) (f : ℕ → Found) → Among p (n + m) i f ↔ (Among p n i f ⊎ Among p m (i + n) f)
+among-two p n m i f = (
+  λ x. compared (x .at) (i + n) (λ y. inl (record { at = x .at; from = x .from; upto = y; hit = x .hit })) (λ y. inr (record { at = x .at; from = omega arith; upto = omega (arith, x .upto); hit = x .hit }))
+      (λ y. inr (record { at = x .at; from = omega arith; upto = omega (arith, x .upto); hit = x .hit })),
+  λ x. ⊎-elim (λ y. record { at = y .at; from = y .from; upto = omega (arith, y .upto); hit = y .hit }) (λ y. record { at = y .at; from = omega (arith, y .from); upto = omega (arith, y .upto); hit = y .hit }) x,
+)
+
+-- two things that are looked for in each
+pub among-either : (p n i : ℕ) (f g : ℕ → Found) → Among p n i (λ j. lesser (f j) (g j)) ↔ (Among p n i f ⊎ Among p n i g)
+among-either p n i f g = (
+  λ x. ⊎-elim (λ y. inl (record { at = x .at; from = x .from; upto = x .upto; hit = y })) (λ y. inr (record { at = x .at; from = x .from; upto = x .upto; hit = y })) (hit-two p (f (x .at)) (g (x .at)) .0 (x .hit)),
+  λ x. ⊎-elim (λ y. record { at = y .at; from = y .from; upto = y .upto; hit = hit-two p (f (y .at)) (g (y .at)) .1 (inl (y .hit)) }) (λ y. record { at = y .at; from = y .from; upto = y .upto; hit = hit-two p (f (y .at)) (g (y .at)) .1 (inr (y .hit)) }) x,
+)
+
+-- the least of n numbers from i on is found up to p exactly when one of them is
+pub hit-least : (p n i : ℕ) (f : ℕ → Found) → Hit p (least-found n i f) ↔ Among p n i f
 unfolding least-found
-hit-least p zero i f a = absurd (omega (arith, a .from, a .upto))
-hit-least p (suc n) i f a =
-    compared (a .at) i (λ y. absurd (omega (arith, a .from))) (λ y. hit-two p (f i) (least-found n (i + 1) f) .1 (inl (subst (λ (k : ℕ). Hit p (f k)) y (a .hit))))
-    (λ y. hit-two p (f i) (least-found n (i + 1) f) .1 (inr (hit-least p n (i + 1) f (record { at = a .at; from = omega arith; upto = omega (arith, a .upto); hit = a .hit }))))
+hit-least p zero i f = (λ h. absurd h, λ x. absurd (among-none p i f x))
+hit-least p (suc n) i f = Iff·trans (hit-two p (f i) (least-found n (i + 1) f)) (Iff·trans (either Iff·rfl (hit-least p n (i + 1) f)) (Iff·symm (among-next p n i (i + 1) f refl)))
 
 -- ---- listed up to p
 
@@ -93,14 +120,9 @@ hits-dec p (q ∷ l) = first (decLe q p) (hits-dec p l)
     first (yes z) r = inl (inl z)
     first (no z) r = ⊎-elim (λ y. inl (inr y)) (λ y. inr (λ h. ⊎-elim z y h)) r
 
--- ---- equivalences put together
-
-pub either-both : {A B C D : Type 0} → A ↔ B → C ↔ D → (A ⊎ C) ↔ (B ⊎ D)
-either-both f g = (λ h. ⊎-elim (λ z. inl (f .0 z)) (λ z. inr (g .0 z)) h, λ h. ⊎-elim (λ z. inl (f .1 z)) (λ z. inr (g .1 z)) h)
-
+-- of one list or the other
 pub hits-both : {A B : Type 0} (p : ℕ) (l m : List ℕ) → A ↔ Hits p l → B ↔ Hits p m → (A ⊎ B) ↔ Hits p (l ++ m)
-hits-both p l m f g =
-    (λ h. ⊎-elim (λ z. hits-left p l m (f .0 z)) (λ z. hits-right p l m (g .0 z)) h, λ h. ⊎-elim (λ z. inl (f .1 z)) (λ z. inr (g .1 z)) (hits-split p l m h))
+hits-both p l m f g = Iff·trans (either f g) (Iff·symm (hits-two p l m))
 
 -- ---- the same answers
 

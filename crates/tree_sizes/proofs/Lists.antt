@@ -197,6 +197,10 @@ module _ (g : ℕ → ℕ) where
           }
   reckoned-parts (counted-skip a) = reckoned-parts a
 
+-- the fault of a calculation, where it has one
+abbrev pub fault-of : (List ℕ → ℕ) → Calculation → List ℕ
+fault-of wide c = place-if (too-large wide c) (first-byte (spell-calculation c []))
+
 -- the size that it leaves
 pub record Left (s : Numbers) (t : ℕ) (s′ : Numbers) (t′ : ℕ) : Type 0 where
   pub tests : t′ ≡ t
@@ -204,16 +208,12 @@ pub record Left (s : Numbers) (t : ℕ) (s′ : Numbers) (t′ : ℕ) : Type 0 w
   pub put : pushed s (pos size) ≡ Outcome.Stack s′
 
 module _ (g : ℕ → ℕ) (w : List ℤ) (wide : List ℕ → ℕ) (k : Kind) where
-  -- the fault of a calculation, where it has one
-  abbrev pub fault-of : Calculation → List ℕ
-  fault-of c = place-if (too-large wide c) (first-byte (spell-calculation c []))
-
-  pub calculation-judged : (c : Calculation) → Measured g w wide (calculation-terms c) → (i : ℕ) (s : Numbers) (t : ℕ) → count s < 2 → Judged (Left s t) (fault-of c) i (calculation-rows c) (ran g w k i (calculation-rows c) s t)
+  pub calculation-judged : (c : Calculation) → Measured g w wide (calculation-terms c) → (i : ℕ) (s : Numbers) (t : ℕ) → count s < 2 → Judged (Left s t) (fault-of wide c) i (calculation-rows c) (ran g w k i (calculation-rows c) s t)
   calculation-judged c h i s t room =
       let y = ran g w k i (calculation-rows c) s t in
       let p = first-byte (spell-calculation c []) in
       let m = calculation-largest wide c in
-      came-map (Put s t (calculation-size wide c) m) (λ s′ t′. (fault-of c ≡ []) × Left s t s′ t′) (Past i (calculation-rows c) (calculation-start c) m) (Faulty i (calculation-rows c) (fault-of c)) (y .trial) (y .at)
+      came-map (Put s t (calculation-size wide c) m) (λ s′ t′. (fault-of wide c ≡ []) × Left s t s′ t′) (Past i (calculation-rows c) (calculation-start c) m) (Faulty i (calculation-rows c) (fault-of wide c)) (y .trial) (y .at)
       (λ s′ t′ q. (ap (λ (b : Bool). place-if b p) (le-ltb (2 ^ 62) m (q .1)), record { tests = q .0; size = calculation-size wide c; put = q .2 }))
       (λ j q. record { origin = calculation-start c; stop = q .0; rest = []; first-is = ap (λ (b : Bool). place-if b p) (lt-ltb (2 ^ 62) m (q .1)) ∙ ap (λ (x : ℕ). x ∷ []) (begins c) })
       (calculation-ran g w wide k c h i s t room)

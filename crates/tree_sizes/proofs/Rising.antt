@@ -17,6 +17,7 @@ use Rattle.tree_meaning.specs.Sizes.{too-large, calculation-faults}
 use Rattle.tree_store.proofs.Standing.{Standing, stands, past, after-primary, after-factors, after-summands}
 use Rattle.tree_sizes.proofs.Hits.{Hit, Hits}
 use Rattle.tree_sizes.proofs.Founds.{Matches}
+use Rattle.tree_sizes.proofs.Lists.{fault-of}
 use Rattle.tree_sizes.proofs.SetLists.{faults-append}
 
 -- places from `low` up to `high` that do not descend
@@ -63,10 +64,6 @@ unfolding Rising
 one-place true low p h = (h, omega arith)
 one-place false low p h = h
 
--- the fault of a calculation, where it has one
-abbrev fault : (List ℕ → ℕ) → Calculation → List ℕ
-fault wide c = place-if (too-large wide c) (first-byte (spell-calculation c []))
-
 module _ {xs : List ℕ} where
   token : {low : ℕ} {t : Lexeme} {w : List Lexeme} → Standing xs low (t ∷ w) → Rises xs low [] w
   unfolding Rising
@@ -76,7 +73,7 @@ module _ {xs : List ℕ} where
   then {low} {l = l} {k = k} p f = let q = f (p .mid) (p .left) in record { mid = q .mid; rises = rising-both low (p .mid) (q .mid) l k (p .rises) (q .rises); left = q .left }
 
   module _ (wide : List ℕ → ℕ) where
-    calculation-rises : {low : ℕ} (c : Calculation) (w : List Lexeme) → Standing xs low (spell-calculation c w) → Rises xs low (fault wide c) w
+    calculation-rises : {low : ℕ} (c : Calculation) (w : List Lexeme) → Standing xs low (spell-calculation c w) → Rises xs low (fault-of wide c) w
     unfolding spell-primary spell-operand spell-product spell-calculation
     calculation-rises {low} (sum (product (plain (number n)) f) more) w (stands a b c s) =
         record { mid = n .start; rises = one-place (too-large wide (sum (product (plain (number n)) f) more)) low (n .start) a; left = after-summands more (after-factors f s) }
@@ -96,10 +93,10 @@ module _ {xs : List ℕ} where
     signed : {low : ℕ} {t : Lexeme} {w v : List Lexeme} {l : List ℕ} → Standing xs low (t ∷ v) → ((m : ℕ) → Standing xs m v → Rises xs m l w) → Rises xs low l w
     signed h f = then (token h) f
 
-    last-rises : {low : ℕ} (c : Calculation) (w : List Lexeme) → Standing xs low (spell-calculation c w) → Rises xs low (fault wide c ++ []) w
-    last-rises c w h = rises-as (sym (append-nil (fault wide c))) (calculation-rises c w h)
+    last-rises : {low : ℕ} (c : Calculation) (w : List Lexeme) → Standing xs low (spell-calculation c w) → Rises xs low (fault-of wide c ++ []) w
+    last-rises c w h = rises-as (sym (append-nil (fault-of wide c))) (calculation-rises c w h)
 
-    two-rise : {low : ℕ} (a : Calculation) (t : Lexeme) (b : Calculation) (w : List Lexeme) → Standing xs low (spell-calculation a (t ∷ spell-calculation b w)) → Rises xs low (fault wide a ++ (fault wide b ++ [])) w
+    two-rise : {low : ℕ} (a : Calculation) (t : Lexeme) (b : Calculation) (w : List Lexeme) → Standing xs low (spell-calculation a (t ∷ spell-calculation b w)) → Rises xs low (fault-of wide a ++ (fault-of wide b ++ [])) w
     two-rise a t b w h = then (calculation-rises a (t ∷ spell-calculation b w) h) (λ m s. signed s (λ n u. last-rises b w u))
 
     item-rises : {low : ℕ} (x : Item) (w : List Lexeme) → Standing xs low (spell-item x w) → Rises xs low (calculation-faults wide (item-parts x)) w

@@ -47,7 +47,8 @@ use Rattle.tree_sizes.proofs.Numbers.{widths-found}
 use Rattle.tree_sizes.proofs.Widths.{variable-size}
 use Rattle.tree_sizes.proofs.NodeLists.{Ruled, cut}
 use Rattle.tree_sizes.proofs.Ready.{Bound, Ready, settled-none}
-use Rattle.tree_sizes.proofs.Walk.{NodesHit, nodes-two, bare, walk}
+use Rattle.tree_sizes.proofs.Nodes.{NodesHit, nodes-two}
+use Rattle.tree_sizes.proofs.Walk.{bare, walk}
 
 -- ---- its pieces
 

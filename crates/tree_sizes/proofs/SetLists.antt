@@ -34,7 +34,7 @@ pub faults-append : (wide : List ℕ → ℕ) (f m : List Component) → calcula
 unfolding calculation-faults
 faults-append wide [] m = refl
 faults-append wide (whole-number c ∷ f) m =
-    let l = fault-of (λ x. x) [] wide Kind.Set c in ap (λ (n : List ℕ). l ++ n) (faults-append wide f m) ∙ sym (append-assoc l (calculation-faults wide f) (calculation-faults wide m))
+    let l = fault-of wide c in ap (λ (n : List ℕ). l ++ n) (faults-append wide f m) ∙ sym (append-assoc l (calculation-faults wide f) (calculation-faults wide m))
 faults-append wide (joined-by s ∷ f) m = faults-append wide f m
 
 module _ (g : ℕ → ℕ) (w : List ℤ) (wide : List ℕ → ℕ) where
@@ -59,10 +59,10 @@ module _ (g : ℕ → ℕ) (w : List ℤ) (wide : List ℕ → ℕ) where
   k = Kind.Set
 
   -- an item `a`
-  only-judged : (a : Calculation) → Measured g w wide (calculation-terms a) → (i t d : ℕ) → Deep d t → d < 62 → Judged (Tested (suc d)) (fault-of g w wide k a) i (last-marked (calculation-rows a)) (ran g w k i (last-marked (calculation-rows a)) Numbers.Zero t)
+  only-judged : (a : Calculation) → Measured g w wide (calculation-terms a) → (i t d : ℕ) → Deep d t → d < 62 → Judged (Tested (suc d)) (fault-of wide a) i (last-marked (calculation-rows a)) (ran g w k i (last-marked (calculation-rows a)) Numbers.Zero t)
   only-judged a h i t d deep l =
       let A = calculation-rows a in
-      let F = fault-of g w wide k a in
+      let F = fault-of wide a in
       let y = ran g w k i (last-marked A) Numbers.Zero t in
       came-map (λ s′ t′. (F ≡ []) × Tested (suc d) s′ t′) (λ s′ t′. (F ≡ []) × Tested (suc d) s′ t′) (Faulty i A F) (Faulty i (last-marked A) F) (y .trial) (y .at) (λ s′ t′ q. q)
       (λ j q. record { origin = q .origin; stop = stop-marked A (q .stop); rest = q .rest; first-is = q .first-is })
@@ -76,25 +76,25 @@ module _ (g : ℕ → ℕ) (w : List ℤ) (wide : List ℕ → ℕ) where
   unfolding Measured item-rows terms-of calculation-faults termOf
   item-judged (everything s) h i t d deep l = judged-sign g w k d (a-term 7 0 (s .start) 0) i Numbers.Zero t t true refl deep l
   item-judged (only a) h i t d deep l =
-      judged-as g w k (Tested (suc d)) (fault-of g w wide k a) (fault-of g w wide k a ++ []) i (last-marked (calculation-rows a)) (ran g w k i (last-marked (calculation-rows a)) Numbers.Zero t) (sym (append-nil (fault-of g w wide k a)))
+      judged-as g w k (Tested (suc d)) (fault-of wide a) (fault-of wide a ++ []) i (last-marked (calculation-rows a)) (ran g w k i (last-marked (calculation-rows a)) Numbers.Zero t) (sym (append-nil (fault-of wide a)))
       (only-judged a (measured-first g w wide (calculation-terms a) [] h) i t d deep l)
   item-judged (between a s b) h i t d deep l =
       let A = calculation-rows a in
       let B = calculation-rows b in
       let r = a-term 8 0 (s .start) 0 in
-      judged-both g w k (Left Numbers.Zero t) (Tested (suc d)) (fault-of g w wide k a) (fault-of g w wide k b ++ []) A (B ++ (r ∷ [])) i Numbers.Zero t (calculation-judged g w wide k a (measured-first g w wide (calculation-terms a) (terms-of (joined-by s ∷ whole-number b ∷ [])) h) i Numbers.Zero t (omega arith))
+      judged-both g w k (Left Numbers.Zero t) (Tested (suc d)) (fault-of wide a) (fault-of wide b ++ []) A (B ++ (r ∷ [])) i Numbers.Zero t (calculation-judged g w wide k a (measured-first g w wide (calculation-terms a) (terms-of (joined-by s ∷ whole-number b ∷ [])) h) i Numbers.Zero t (omega arith))
       (λ s₁ t₁ q.
-      judged-both g w k (Left s₁ t₁) (Tested (suc d)) (fault-of g w wide k b) [] B (r ∷ []) (i + length A) s₁ t₁ (calculation-judged g w wide k b (measured-first g w wide (calculation-terms b) [] (measured-second g w wide (calculation-terms a) (terms-of (joined-by s ∷ whole-number b ∷ [])) h)) (i + length A) s₁ t₁ (one-room q))
+      judged-both g w k (Left s₁ t₁) (Tested (suc d)) (fault-of wide b) [] B (r ∷ []) (i + length A) s₁ t₁ (calculation-judged g w wide k b (measured-first g w wide (calculation-terms b) [] (measured-second g w wide (calculation-terms a) (terms-of (joined-by s ∷ whole-number b ∷ [])) h)) (i + length A) s₁ t₁ (one-room q))
       (λ s₂ t₂ u. judged-sign g w k d r (i + length A + length B) s₂ t₂ t _ (λ j. within (pos 0) (pairOf (sym (left-two q u) j)) ((u .tests ∙ q .tests) j)) deep l))
   item-judged (from a s) h i t d deep l =
       let A = calculation-rows a in
       let r = a-term 9 0 (s .start) 0 in
-      judged-both g w k (Left Numbers.Zero t) (Tested (suc d)) (fault-of g w wide k a) [] A (r ∷ []) i Numbers.Zero t (calculation-judged g w wide k a (measured-first g w wide (calculation-terms a) (terms-of (joined-by s ∷ [])) h) i Numbers.Zero t (omega arith))
+      judged-both g w k (Left Numbers.Zero t) (Tested (suc d)) (fault-of wide a) [] A (r ∷ []) i Numbers.Zero t (calculation-judged g w wide k a (measured-first g w wide (calculation-terms a) (terms-of (joined-by s ∷ [])) h) i Numbers.Zero t (omega arith))
       (λ s₁ t₁ q. judged-sign g w k d r (i + length A) s₁ t₁ t _ (λ j. on-from (pos 0) (topOf (sym (left-one q) j)) (q .tests j)) deep l)
   item-judged (up-to s b) h i t d deep l =
       let A = calculation-rows b in
       let r = a-term 10 0 (s .start) 0 in
-      judged-both g w k (Left Numbers.Zero t) (Tested (suc d)) (fault-of g w wide k b) [] A (r ∷ []) i Numbers.Zero t (calculation-judged g w wide k b (measured-first g w wide (calculation-terms b) [] h) i Numbers.Zero t (omega arith))
+      judged-both g w k (Left Numbers.Zero t) (Tested (suc d)) (fault-of wide b) [] A (r ∷ []) i Numbers.Zero t (calculation-judged g w wide k b (measured-first g w wide (calculation-terms b) [] h) i Numbers.Zero t (omega arith))
       (λ s₁ t₁ q. judged-sign g w k d r (i + length A) s₁ t₁ t _ (λ j. upTo (pos 0) (topOf (sym (left-one q) j)) (q .tests j)) deep l)
 
   -- J joins the tests from depth suc d on to depth suc m

@@ -76,9 +76,9 @@ module _ (g : ℕ → ℕ) (w : List ℤ) (wide : List ℕ → ℕ) where
       let A = calculation-rows a in
       let B = calculation-rows b in
       let r = a-term (tag-of c) 0 (s .start) 0 in
-      judged-both g w k (Left Numbers.Zero t) (Tested (suc m)) (fault-of g w wide k a) (fault-of g w wide k b ++ []) A (B ++ (r ∷ J)) i Numbers.Zero t (calculation-judged g w wide k a (measured-first g w wide (calculation-terms a) (terms-of (joined-by s ∷ whole-number b ∷ [])) h) i Numbers.Zero t (omega arith))
+      judged-both g w k (Left Numbers.Zero t) (Tested (suc m)) (fault-of wide a) (fault-of wide b ++ []) A (B ++ (r ∷ J)) i Numbers.Zero t (calculation-judged g w wide k a (measured-first g w wide (calculation-terms a) (terms-of (joined-by s ∷ whole-number b ∷ [])) h) i Numbers.Zero t (omega arith))
       (λ s₁ t₁ q.
-      judged-both g w k (Left s₁ t₁) (Tested (suc m)) (fault-of g w wide k b) [] B (r ∷ J) (i + length A) s₁ t₁ (calculation-judged g w wide k b (measured-first g w wide (calculation-terms b) [] (measured-second g w wide (calculation-terms a) (terms-of (joined-by s ∷ whole-number b ∷ [])) h)) (i + length A) s₁ t₁ (one-room q))
+      judged-both g w k (Left s₁ t₁) (Tested (suc m)) (fault-of wide b) [] B (r ∷ J) (i + length A) s₁ t₁ (calculation-judged g w wide k b (measured-first g w wide (calculation-terms b) [] (measured-second g w wide (calculation-terms a) (terms-of (joined-by s ∷ whole-number b ∷ [])) h)) (i + length A) s₁ t₁ (one-room q))
       (λ s₂ t₂ u.
       let n = notes g w c (s .start) (pos (q .size)) (pos (u .size)) t in
       judged-both g w k (Tested (suc d)) (Tested (suc m)) [] [] (r ∷ []) J (i + length A + length B) s₂ t₂
