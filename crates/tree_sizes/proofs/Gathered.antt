@@ -10,18 +10,21 @@ use Rattle.tree_meaning.specs.Places.{place-if}
 use Rattle.tree_meaning.specs.Sizes.{wrong-width, number-faults, widest-in, calculation-faults, faults-in, size-faults}
 use Rattle.tree_sizes.proofs.Hits.{either, Hits, hits-two, hits-both}
 
+-- numbers that are too large
 abbrev pub numbers-of : Piece → List ℕ
 numbers-of (use-of-rule x) = []
 numbers-of (width n) = []
 numbers-of (formula f) = number-faults (terms-of f)
 numbers-of (binding x n placed) = []
 
+-- a width that is wrong
 abbrev pub widths-of : Piece → List ℕ
 widths-of (use-of-rule x) = []
 widths-of (width n) = place-if (wrong-width n) (n .start)
 widths-of (formula f) = []
 widths-of (binding x n placed) = []
 
+-- calculations that are too large
 abbrev pub sizes-of : (List ℕ → ℕ) → Piece → List ℕ
 sizes-of widest (use-of-rule x) = []
 sizes-of widest (width n) = []
@@ -84,19 +87,24 @@ three-parts p widest (binding x n placed ∷ l) = three-parts p widest l
 
 -- ---- of rules
 
+-- the faults of each rule
 unfoldable pub of-rules : (Rule → List ℕ) → List Rule → List ℕ
 of-rules f [] = []
 of-rules f (r ∷ l) = f r ++ of-rules f l
 
+-- its numbers
 abbrev pub rule-numbers : Rule → List ℕ
 rule-numbers r = gathered numbers-of (rule-pieces r)
 
+-- its widths
 abbrev pub rule-widths : Rule → List ℕ
 rule-widths r = gathered widths-of (rule-pieces r)
 
+-- its calculations, with its own variables
 abbrev pub rule-sizes : Rule → List ℕ
 rule-sizes r = gathered (sizes-of (widest-in (rule-pieces r))) (rule-pieces r)
 
+-- the tree's faults are those of the three parts
 pub rules-parts : (p : ℕ) (l : List Rule) → Hits p (size-faults l) ↔ (Hits p (of-rules rule-numbers l) ⊎ (Hits p (of-rules rule-widths l) ⊎ Hits p (of-rules rule-sizes l)))
 unfolding size-faults of-rules Hits
 rules-parts p [] = (λ h. absurd h, λ h. ⊎-elim (λ (z : ⊥). absurd z) (λ r. ⊎-elim (λ (z : ⊥). absurd z) (λ (z : ⊥). absurd z) r) h)
@@ -106,8 +114,7 @@ rules-parts p (r ∷ l) =
     let m = rules-parts p l in
     let a = hits-two p (rule-numbers r) (of-rules rule-numbers l) in
     let b = hits-two p (rule-widths r) (of-rules rule-widths l) in
-    let c = hits-two p (rule-sizes r) (of-rules rule-sizes l) in
-    (
+    let c = hits-two p (rule-sizes r) (of-rules rule-sizes l) in (
       λ h. ⊎-elim
           (λ x. ⊎-elim (λ y. inl (a .1 (inl y))) (λ y. ⊎-elim (λ z. inr (inl (b .1 (inl z)))) (λ z. inr (inr (c .1 (inl z)))) y) (t .0 x))
           (λ x. ⊎-elim (λ y. inl (a .1 (inr y))) (λ y. ⊎-elim (λ z. inr (inl (b .1 (inr z)))) (λ z. inr (inr (c .1 (inr z)))) y) (m .0 x))

@@ -1,9 +1,9 @@
 -- Places that are found and places that are listed, by what they reach: two answers are the same where, for each place p, both have a fault up to p or none has.
 -- Assumes nothing.
 use Prim.Native.Nat.{ℕ, zero, suc, _+_, _≤_, _<_, min}
-use mathlib.Core.Path.{_≡_, refl, sym, ap, _∙_, subst}
+use mathlib.Core.Path.{_≡_, refl, sym, ap, subst}
 use mathlib.Core.Logic.{_⊎_, inl, inr, ⊎-elim, _↔_, Iff·rfl, Iff·symm, Iff·trans}
-use mathlib.Core.Bool.{Bool, true, false, cond}
+use mathlib.Core.Bool.{Bool, true, false}
 use mathlib.Core.List.{List, [], _∷_, _++_}
 use mathlib.Core.Option.{Option, none, some}
 use native.Mathlib.Omega.{arith}
@@ -26,10 +26,12 @@ dropped n f = (λ h. ⊎-elim (λ z. absurd (n z)) (λ z. f .0 z) h, λ h. inr (
 
 -- ---- found up to p
 
+-- what is found stands at p or before
 abbrev pub Hit : ℕ → Found → Type 0
 Hit p (Found.At q) = q ≤ p
 Hit p Found.Nothing = ⊥
 
+-- the lesser of two is, exactly when one of them is
 pub hit-two : (p : ℕ) (a b : Found) → Hit p (lesser a b) ↔ (Hit p a ⊎ Hit p b)
 hit-two p Found.Nothing b = (λ h. inr h, λ h. ⊎-elim (λ (z : ⊥). absurd z) (λ z. z) h)
 hit-two p (Found.At q) Found.Nothing = (λ h. inl h, λ h. ⊎-elim (λ z. z) (λ (z : ⊥). absurd z) h)
@@ -39,6 +41,7 @@ hit-two p (Found.At q) (Found.At r) = (λ h. which-one (decLe q p) h, λ h. ⊎-
     which-one (yes z) h = inl z
     which-one (no z) h = let y : p < q = lt-of-not-le z in inr (omega arith)
 
+-- a fault, where there is one
 pub hit-if : (p : ℕ) (b : Bool) (q : ℕ) → Hit p (found-if b q) ↔ ((b ≡ true) × (q ≤ p))
 hit-if p true q = (λ h. (refl, h), λ h. h .1)
 hit-if p false q = (λ h. absurd h, λ h. let z : _≡_ {A = ℕ} 0 1 = cc (h .0) in absurd (omega arith))
@@ -84,33 +87,40 @@ hit-least p (suc n) i f = Iff·trans (hit-two p (f i) (least-found n (i + 1) f))
 
 -- ---- listed up to p
 
+-- one of these places is p or before
 unfoldable pub Hits : ℕ → List ℕ → Type 0
 Hits p [] = ⊥
 Hits p (q ∷ l) = (q ≤ p) ⊎ Hits p l
 
+-- in the first list
 pub hits-left : (p : ℕ) (l m : List ℕ) → Hits p l → Hits p (l ++ m)
 unfolding Hits
 hits-left p [] m h = absurd h
 hits-left p (q ∷ l) m h = ⊎-elim (λ (z : q ≤ p). inl z) (λ z. inr (hits-left p l m z)) h
 
+-- in the second
 pub hits-right : (p : ℕ) (l m : List ℕ) → Hits p m → Hits p (l ++ m)
 unfolding Hits
 hits-right p [] m h = h
 hits-right p (q ∷ l) m h = inr (hits-right p l m h)
 
+-- in one of the two
 pub hits-split : (p : ℕ) (l m : List ℕ) → Hits p (l ++ m) → Hits p l ⊎ Hits p m
 unfolding Hits
 hits-split p [] m h = inr h
 hits-split p (q ∷ l) m h = ⊎-elim (λ (z : q ≤ p). inl (inl z)) (λ z. ⊎-elim (λ y. inl (inr y)) (λ y. inr y) (hits-split p l m z)) h
 
+-- in both directions
 pub hits-two : (p : ℕ) (l m : List ℕ) → Hits p (l ++ m) ↔ (Hits p l ⊎ Hits p m)
 hits-two p l m = (λ h. hits-split p l m h, λ h. ⊎-elim (λ z. hits-left p l m z) (λ z. hits-right p l m z) h)
 
+-- a fault, where there is one
 pub hits-if : (p : ℕ) (b : Bool) (q : ℕ) → Hits p (place-if b q) ↔ ((b ≡ true) × (q ≤ p))
 unfolding Hits
 hits-if p true q = (λ h. ⊎-elim (λ (z : q ≤ p). (refl, z)) (λ (z : ⊥). absurd z) h, λ h. inl (h .1))
 hits-if p false q = (λ h. absurd h, λ h. let z : _≡_ {A = ℕ} 0 1 = cc (h .0) in absurd (omega arith))
 
+-- there is one or not
 pub hits-dec : (p : ℕ) (l : List ℕ) → Hits p l ⊎ (Hits p l → ⊥)
 unfolding Hits
 hits-dec p [] = inr (λ h. h)
@@ -126,6 +136,7 @@ hits-both p l m f g = Iff·trans (either f g) (Iff·symm (hits-two p l m))
 
 -- ---- the same answers
 
+-- the tree's answer as the table's
 abbrev pub as-found : Option ℕ → Found
 as-found none = Found.Nothing
 as-found (some p) = Found.At p
@@ -134,14 +145,14 @@ lesser-as : (q : ℕ) (o : Option ℕ) → as-found (some (lesser-place q o)) �
 lesser-as q none = refl
 lesser-as q (some r) = refl
 
+-- the least of a list is up to p exactly when one of the list is
 pub hit-listed : (p : ℕ) (l : List ℕ) → Hit p (as-found (least l)) ↔ Hits p l
 unfolding Hits least
 hit-listed p [] = (λ h. h, λ h. h)
 hit-listed p (q ∷ l) =
     let e = lesser-as q (least l) in
     let t = hit-two p (Found.At q) (as-found (least l)) in
-    let r = hit-listed p l in
-    (
+    let r = hit-listed p l in (
       λ h. ⊎-elim (λ (z : q ≤ p). inl z) (λ z. inr (r .0 z)) (t .0 (subst (Hit p) e h)),
       λ h. subst (Hit p) (sym e) (t .1 (⊎-elim (λ (z : q ≤ p). inl z) (λ z. inr (r .1 z)) h)),
     )

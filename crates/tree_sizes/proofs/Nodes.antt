@@ -29,19 +29,18 @@ module _ (p : ℕ) (ns ts ws : List ℕ) where
       (λ h. inr (subst (λ (k : ℕ). NodesHit k L) e h), λ h. ⊎-elim (λ (z : ⊥). absurd z) (λ z. subst (λ (k : ℕ). NodesHit k L) (sym e) z) h)
   nodes-two i (r ∷ M) L =
       let t = nodes-two (suc i) M L in
-      let e : suc i + length M ≡ i + suc (length M) = omega arith in
-      (
+      let e : suc i + length M ≡ i + suc (length M) = omega arith in (
         λ h. ⊎-elim (λ x. inl (inl x)) (λ x. ⊎-elim (λ y. inl (inr y)) (λ y. inr (subst (λ (k : ℕ). NodesHit k L) e y)) (t .0 x)) h,
         λ h. ⊎-elim (λ x. ⊎-elim (λ y. inl y) (λ y. inr (t .1 (inl y))) x) (λ x. inr (t .1 (inr (subst (λ (k : ℕ). NodesHit k L) (sym e) x)))) h,
       )
 
+  -- the same, without the condition of the first
   pub first-two : (i : ℕ) (M L : List NodeRow) → 1 ≤ length M → FirstHit i (M ++ L) ↔ (FirstHit i M ⊎ NodesHit (i + length M) L)
   unfolding NodesHit FirstHit
   first-two i [] L l = absurd (omega arith)
   first-two i (r ∷ M) L l =
       let t = nodes-two (suc i) M L in
-      let e : suc i + length M ≡ i + suc (length M) = omega arith in
-      (
+      let e : suc i + length M ≡ i + suc (length M) = omega arith in (
         λ h. ⊎-elim (λ x. inl (inl x)) (λ x. ⊎-elim (λ y. inl (inr y)) (λ y. inr (subst (λ (k : ℕ). NodesHit k L) e y)) (t .0 x)) h,
         λ h. ⊎-elim (λ x. ⊎-elim (λ y. inl y) (λ y. inr (t .1 (inl y))) x) (λ x. inr (t .1 (inr (subst (λ (k : ℕ). NodesHit k L) (sym e) x)))) h,
       )

@@ -1,7 +1,7 @@
 -- Numbers that are too large, and widths that are wrong: those that are stored are the tree's.
 -- Assumes nothing.
-use Prim.Native.Nat.{ℕ, suc, _+_, _≤_, _<_, min}
-use mathlib.Core.Path.{_≡_, refl, sym, ap, ap₂, subst, _∙_}
+use Prim.Native.Nat.{ℕ, suc, _+_, _≤_, min}
+use mathlib.Core.Path.{_≡_, refl, sym, ap, ap₂, _∙_}
 use mathlib.Core.Logic.{_⊎_, inl, inr, ⊎-elim, _↔_, Iff·symm, Iff·trans}
 use mathlib.Core.Bool.{Bool, true, false, not, _&&_, _||_}
 use mathlib.Core.List.{List, [], _∷_, _++_}
@@ -14,13 +14,12 @@ use Rattle.text_header.proofs.Tests.{which}
 use Rattle.text_tokens.specs.Numbers.{capped, number-value}
 use Rattle.text_store.specs.Words.{kind-of, width-place, term-tag, term-value, term-at}
 use Rattle.text_encoding.specs.Numbers.{width-of}
-use Rattle.text_admission.specs.Extents.{found-if, width-found, number-found}
+use Rattle.text_admission.specs.Extents.{width-found, number-found}
 use Rattle.tree.specs.Lexemes.{Number}
 use Rattle.tree.specs.Tree.{Mark, optional, any-number, one-or-more, counted, Part, Tree, literal, range, field, binder, rule-use, eod, group, switch, last-case, case-default, case-cases, once, repeated, last-member, and-members, last-branch, or-branches, Rule}
 use Rattle.tree_meaning.specs.Pieces.{Term, Component, terms-of, Piece, formula, mark-pieces, pieces, set-parts, counts-parts, tests-parts, rule-body}
 use Rattle.tree_meaning.specs.Places.{place-if}
 use Rattle.tree_meaning.specs.Sizes.{wrong-width, wrong-number, number-faults}
-use Rattle.tree_store.proofs.Holding.{compared}
 use Rattle.tree_store.proofs.Rows.{NodeRow, TermRow, set-rows, counts-rows, tests-rows, mark-rows, term-rows, rules-terms}
 use Rattle.tree_store.proofs.Storing.{TermIs}
 use Rattle.tree_store.proofs.Rowed.{NodesAt, no-nodes, node-then}
@@ -45,8 +44,7 @@ module _ (p : ℕ) where
   unfolding RowsHit
   rows-hit-two [] B = (λ h. inr h, λ h. ⊎-elim (λ (z : ⊥). absurd z) (λ z. z) h)
   rows-hit-two (r ∷ A) B =
-      let t = rows-hit-two A B in
-      (
+      let t = rows-hit-two A B in (
         λ h. ⊎-elim (λ x. inl (inl x)) (λ x. ⊎-elim (λ y. inl (inr y)) (λ y. inr y) (t .0 x)) h,
         λ h. ⊎-elim (λ x. ⊎-elim (λ y. inl y) (λ y. inr (t .1 (inl y))) x) (λ x. inr (t .1 (inr x))) h,
       )
@@ -68,6 +66,7 @@ module _ (p : ℕ) where
   none-wrong : (r : TermRow) → (eqb (r .tag) 1 || eqb (r .tag) 33) ≡ false → (wrong-row r ≡ true) × (r .place ≤ p) → ⊥
   none-wrong r e h = let z : false ≡ true = sym (ap (λ (b : Bool). b && ltb 4294967295 (r .value)) e) ∙ h .0 in let u : _≡_ {A = ℕ} 0 1 = cc in omega arith
 
+  -- the rows of a formula have the faults of its terms
   pub told-hits : {A : List TermRow} {l : List Term} → Tells A l → RowsHit A ↔ Hits p (number-faults l)
   unfolding RowsHit Hits number-faults
   told-hits told = (λ h. h, λ h. h)
@@ -106,6 +105,7 @@ module _ (p : ℕ) where
   mark-numbers (one-or-more s) = (λ h. h, λ h. h)
   mark-numbers (counted opens n closes) = alone (counts-rows n) (counts-parts n) (told-hits (counts-tells n))
 
+  -- the rows of a tree
   pub tree-numbers : {q : Part} {d : ℕ} (top : Bool) (x : Tree q d) → RowsHit (term-rows x) ↔ Hits p (gathered numbers-of (pieces top x))
   unfolding RowsHit Hits gathered term-rows pieces
   tree-numbers top (literal l) = (λ h. h, λ h. h)
@@ -130,6 +130,7 @@ module _ (p : ℕ) where
   tree-numbers top (last-branch x) = tree-numbers top x
   tree-numbers top (or-branches x s more) = two-rows (term-rows x) (term-rows more) (pieces false x) (pieces false more) (tree-numbers false x) (tree-numbers false more)
 
+  -- the rows of all rules
   pub rules-numbers : (l : List Rule) → RowsHit (rules-terms l) ↔ Hits p (of-rules rule-numbers l)
   unfolding RowsHit Hits rules-terms of-rules
   rules-numbers [] = (λ h. h, λ h. h)
@@ -163,8 +164,8 @@ module _ (p : ℕ) where
     width-hit : (i q v : ℕ) → kind-of ns i ≡ 8 → width-place ns i ≡ q → number-value xs q ≡ v → Hit p (width-found xs ns i) ↔ ((not (leb 1 v && leb v max-width) ≡ true) × (q ≤ p))
     width-hit i q v k e f =
         let z : (eqb (kind-of ns i) 8 && not (leb 1 (width-of xs ns i) && leb (width-of xs ns i) max-width)) ≡ not (leb 1 v && leb v max-width) =
-            ap (λ (n : ℕ). eqb n 8 && not (leb 1 (width-of xs ns i) && leb (width-of xs ns i) max-width)) k
-            ∙ ap (λ (n : ℕ). not (leb 1 (min 33 (capped n)) && leb (min 33 (capped n)) max-width)) (ap (number-value xs) e ∙ f) ∙ width-same v in
+        ap (λ (n : ℕ). eqb n 8 && not (leb 1 (width-of xs ns i) && leb (width-of xs ns i) max-width)) k
+        ∙ ap (λ (n : ℕ). not (leb 1 (min 33 (capped n)) && leb (min 33 (capped n)) max-width)) (ap (number-value xs) e ∙ f) ∙ width-same v in
         let m = hit-if p (eqb (kind-of ns i) 8 && not (leb 1 (width-of xs ns i) && leb (width-of xs ns i) max-width)) (width-place ns i) in
         (λ x. let y = m .0 x in (sym z ∙ y .0, omega (arith, y .1, e)), λ x. m .1 (z ∙ x .0, omega (arith, x .1, e)))
 

@@ -1,20 +1,17 @@
 -- The rows of a set, worked out in sizes.
 -- Assumes nothing.
-use Prim.Native.Nat.{ℕ, suc, _+_, _*_, _-_, _^_, _≤_, _<_}
+use Prim.Native.Nat.{ℕ, suc, _+_, _*_, _-_, _≤_, _<_}
 use mathlib.Core.Path.{_≡_, refl, sym, ap, subst, _∙_}
-use mathlib.Core.Bool.{Bool, true, false}
+use mathlib.Core.Bool.{true}
 use mathlib.Core.List.{List, [], _∷_, _++_, append-nil, append-assoc}
 use native.Mathlib.Omega.{arith}
 use lib.IntN.{ℤ, pos}
 use lib.ListN.{length}
-use lib.Signed.{leZ}
-use Rattle.term_words.specs.Numbers.{pick, equals, topOf, pairOf}
-use Rattle.term_words.specs.Tests.{noted, combined}
+use Rattle.term_words.specs.Numbers.{equals, topOf, pairOf}
 use Rattle.term_words.specs.Words.{termOf}
-use Rattle.term_words.specs.Steps.{stepOf, equalTo, within, from as on-from, upTo}
+use Rattle.term_words.specs.Steps.{equalTo, within, from as on-from, upTo}
 use Rattle.term_words.specs.declared.Joint.{Joint}
 use Rattle.term_words.specs.declared.Kind.{Kind}
-use Rattle.term_words.specs.declared.Mode.{Mode}
 use Rattle.term_words.specs.declared.Numbers.{Numbers}
 use Rattle.term_words.specs.declared.Trial.{Trial}
 use Rattle.tree.specs.Lexemes.{Sign}
@@ -25,7 +22,7 @@ use Rattle.tree_store.proofs.Rows.{TermRow, a-term, last-marked, calculation-ro
 use Rattle.tree_store.proofs.Lengths.{some-calculation}
 use Rattle.tree_store.proofs.Uses.{terms-append}
 use Rattle.tree_sizes.proofs.Tells.{calculation-counts}
-use Rattle.tree_sizes.proofs.Runs.{Came, came-map, Ran, row-term, ran, ran-none, ran-marked, stop-marked}
+use Rattle.tree_sizes.proofs.Runs.{Came, came-map, ran, ran-none, ran-marked, stop-marked}
 use Rattle.tree_sizes.proofs.Reckoning.{Measured, measured-first, measured-second}
 use Rattle.tree_sizes.proofs.Lists.{Deep, more-deep, noted-is, Tested, Faulty, Passed, Judged, judged-both, judged-as, judged-quiet, judged-sign, judged-join, after-test, reckoned-parts, Left, fault-of, calculation-judged, left-one, left-two, one-room}
 
@@ -42,6 +39,7 @@ module _ (g : ℕ → ℕ) (w : List ℤ) (wide : List ℕ → ℕ) where
   pub parts-first : (f m : List Component) → Measured g w wide (terms-of (f ++ m)) → Measured g w wide (terms-of f)
   parts-first f m h = measured-first g w wide (terms-of f) (terms-of m) (subst (Measured g w wide) (terms-append f m) h)
 
+  -- of those after them
   pub parts-second : (f m : List Component) → Measured g w wide (terms-of (f ++ m)) → Measured g w wide (terms-of m)
   parts-second f m h = measured-second g w wide (terms-of f) (terms-of m) (subst (Measured g w wide) (terms-append f m) h)
 
@@ -112,9 +110,11 @@ module _ (g : ℕ → ℕ) (w : List ℤ) (wide : List ℕ → ℕ) where
       judged-both g w k (Tested (suc d)) (Tested (suc m)) [] [] (a-term 12 0 s 0 ∷ []) J i Numbers.Zero t (judged-join g w k Joint.Except d (a-term 12 0 s 0) (λ x y. refl) i t h l)
       (after-test g w k (suc d) (Tested (suc m)) [] (i + 1) J (λ t′ q. j (i + 1) t′ q))
 
+  -- a set alone
   pub nothing-joins : (d : ℕ) → Joins d d []
   nothing-joins d i t h = ran-none g w k (Passed (Tested (suc d)) []) (Faulty i [] []) i Numbers.Zero t (refl, (refl, h))
 
+  -- a set, whose first alternative J joins to what stands before it
   pub set-judged : {p : SetPart} {n : ℕ} (x : Choices p n) → Measured g w wide (terms-of (set-parts x)) → (J : List TermRow) (i t d m : ℕ) → Deep d t → d ≤ suc m → m + 2 * (16 - n) ≤ 57 → Joins d m J
       → Judged (Tested (suc m)) (calculation-faults wide (set-parts x)) i (set-rows x J) (ran g w k i (set-rows x J) Numbers.Zero t)
   unfolding set-rows set-parts

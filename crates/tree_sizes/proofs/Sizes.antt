@@ -1,6 +1,6 @@
 -- Refusal 8 of a text is refusal 8 of its tree.
 -- Assumes nothing.
-use Prim.Native.Nat.{ℕ, suc, _+_, _≤_, _<_, min}
+use Prim.Native.Nat.{ℕ, suc, _+_, _≤_, min}
 use mathlib.Core.Path.{_≡_, refl, sym, ap, subst, _∙_}
 use mathlib.Core.Logic.{_⊎_, inl, inr, ⊎-elim, _↔_, Iff·trans}
 use mathlib.Core.Bool.{true, false}
@@ -13,7 +13,7 @@ use Rattle.text_store.specs.Store.{State, blank, node-words, term-words, rule-w
 use Rattle.text_encoding.specs.Lists.{sum}
 use Rattle.text_encoding.specs.Numbers.{binders-before, condition-start}
 use Rattle.text_wellformed.proofs.EncodedWords.{encoded-words}
-use Rattle.text_admission.specs.Extents.{lesser, least-found, width-found, number-found, node-found, refusal-8 as found-8}
+use Rattle.text_admission.specs.Extents.{lesser, least-found, width-found, number-found, node-found}
 use Rattle.text_admission.specs.Admitted.{words-of, fault-8}
 use Rattle.text_admission.specs.declared.Found.{Found}
 use Rattle.tree.specs.Lexemes.{Lexeme, sign, finish}
@@ -25,7 +25,6 @@ use Rattle.tree_meaning.specs.Counted.{Totals, no-rule, with-rule, refusal-5}
 use Rattle.tree_meaning.specs.Names.{refusal-6}
 use Rattle.tree_meaning.specs.Sizes.{size-faults, refusal-8}
 use Rattle.tree_meaning.proofs.Passing as Pass
-use Rattle.tree_store.proofs.Holding.{compared}
 use Rattle.tree_store.proofs.Rows.{NodeRow, node-rows, term-rows, rules-nodes, tree-nodes, tree-terms, tree-totals}
 use Rattle.tree_store.proofs.Lengths.{nodes-counted, terms-counted}
 use Rattle.tree_store.proofs.Limits.{Limited, limited, rows-many}
@@ -72,8 +71,7 @@ module _ (p : ℕ) where
         let d : L ≡ K = ap (λ (i : ℕ). rules-nodes (m .all-terms + i) l) (terms-counted true (rule-body x)) in
         let c : length (M ++ L) ≡ length M + length K = length-append M L ∙ ap (λ (o : List NodeRow). length M + length o) d in
         let t = among-two p (length M) (length K) (m .all-constructs) (width-found xs ns) in
-        let h = hits-both p (rule-widths x) (of-rules rule-widths l) f g in
-        (
+        let h = hits-both p (rule-widths x) (of-rules rule-widths l) f g in (
           λ y. h .0 (⊎-elim (λ z. inl z) (λ z. inr (subst (λ (i : ℕ). Among p (length K) i (width-found xs ns)) e z)) (t .0 (subst (λ (i : ℕ). Among p i (m .all-constructs) (width-found xs ns)) c y))),
           λ y. subst (λ (i : ℕ). Among p i (m .all-constructs) (width-found xs ns)) (sym c) (t .1 (⊎-elim (λ z. inl z) (λ z. inr (subst (λ (i : ℕ). Among p (length K) i (width-found xs ns)) (sym e) z)) (h .1 y))),
         )

@@ -2,13 +2,12 @@
 -- Assumes nothing.
 use Prim.Native.Nat.{ℕ, suc, _+_, _≤_, _<_}
 use mathlib.Core.Path.{_≡_, refl, sym, ap, subst, _∙_}
-use mathlib.Core.Logic.{_⊎_, inl, inr, ⊎-elim, _↔_, Iff·rfl, Iff·trans}
+use mathlib.Core.Logic.{_⊎_, inl, ⊎-elim, _↔_, Iff·rfl, Iff·trans}
 use mathlib.Core.Bool.{Bool, true, false}
 use mathlib.Core.List.{List, [], _∷_, _++_}
 use native.Mathlib.Omega.{arith}
 use lib.Dec.{eqb}
 use lib.ListN.{length}
-use Rattle.text_store.specs.Words.{kind-of, node-mark, condition-from, condition-end}
 use Rattle.text_tokens.specs.declared.Kind.{Kind}
 use Rattle.tree.specs.Lexemes.{Name, Lexeme, sign, place-of}
 use Rattle.tree.specs.Tree.{Mark, optional, any-number, one-or-more, counted, Part, expression, concatenation, factor, atom, cases, Tree, literal, range, field, binder, rule-use, eod, group, switch, last-case, case-default, case-cases, once, repeated, last-member, and-members, last-branch, or-branches}
@@ -17,7 +16,7 @@ use Rattle.tree_form.specs.Stored.{start-of}
 use Rattle.tree_meaning.specs.Pieces.{counts-parts, set-parts, tests-parts, Piece, use-of-rule, formula, mark-pieces, pieces}
 use Rattle.tree_meaning.specs.Counted.{constructs}
 use Rattle.tree_meaning.specs.Sizes.{calculation-faults}
-use Rattle.tree_store.proofs.Rows.{NodeRow, on-first, in-case, set-rows, tests-rows, mark-rows, term-rows, mark-row, node-rows}
+use Rattle.tree_store.proofs.Rows.{NodeRow, on-first, tests-rows, mark-rows, term-rows, mark-row, node-rows}
 use Rattle.tree_store.proofs.Lengths.{length-first, nodes-counted, some-node}
 use Rattle.tree_store.proofs.Standing.{Standing, stands, past, shown, after-tests, after-mark as mark-passed, after-set, after-tree}
 use Rattle.tree_store.proofs.Spots.{Like}
@@ -25,11 +24,10 @@ use Rattle.tree_store.proofs.Binding.{after-bound, Quiet, mark-quiet, bound-row
 use Rattle.tree_store.proofs.Naming.{PlainFor, plain}
 use Rattle.tree_store.proofs.Rowed.{NodesAt, no-nodes, node-then, nodes-left, nodes-right}
 use Rattle.tree_grammar.proofs.Lists.{RowsAt, rows-left, rows-right}
-use Rattle.tree_grammar.proofs.Parts.{Whole}
-use Rattle.tree_grammar.proofs.Firsts.{Plain, FirstAt, first-none, first-then, whole-first, uncased, first-left, first-right, first-like, case-at}
+use Rattle.tree_grammar.proofs.Firsts.{Plain, FirstAt, first-then, whole-first, uncased, first-left, first-right, first-like, case-at}
 use Rattle.tree_sizes.proofs.Hits.{either, dropped, Hit, Hits, hits-both}
 use Rattle.tree_sizes.proofs.Gathered.{sizes-of, gathered, gathered-both}
-use Rattle.tree_sizes.proofs.NodeLists.{Ruled, condition-at, own-at, Settled, condition-hit, counts-hit, set-hit, no-own-hit, no-condition-hit}
+use Rattle.tree_sizes.proofs.NodeLists.{Ruled, own-at, Settled, condition-hit, counts-hit, set-hit, no-own-hit, no-condition-hit}
 use Rattle.tree_sizes.proofs.Nodes.{NodesHit, FirstHit, nodes-two, first-two, cased, unconditioned}
 use Rattle.tree_sizes.proofs.Ready.{Ready, ready-one, ready-two, ready-marked, settled-on, settled-more, after-append, after-mark}
 
@@ -81,6 +79,7 @@ module _ (p : ℕ) {xs ns ts rs ws : List ℕ} {n r : ℕ} {numbered : List ℕ 
 
   -- ---- nodes without a condition or a list
 
+  -- a tree's first node has no condition, but in a case
   pub bare : (i : ℕ) (M : List NodeRow) → i < n → NodesAt ns i M → PlainFor expression M → NodesHit p ns ts ws i M ↔ FirstHit p ns ts ws i M
   bare i [] l no-nodes c = absurd c
   bare i (x ∷ M) l (node-then h more) c = unconditioned p ns ts ws i (x ∷ M) (no-condition-hit p rule widest i l (h .case-from-is ∙ c .0) (h .case-end-is ∙ c .1))
@@ -136,6 +135,7 @@ module _ (p : ℕ) {xs ns ts rs ws : List ℕ} {n r : ℕ} {numbered : List ℕ 
 
   -- ---- the walk
 
+  -- every part of a rule's tree
   pub walk : {q : Part} {d : ℕ} (top begun : Bool) (x : Tree q d) (i t : ℕ) (names : List Name) (w : List Lexeme) {m : ℕ} → AtPart q i (node-rows begun x t) → RowsAt ts t (term-rows x) → Standing xs m (spell x w) → Before xs ns a i names
       → i + constructs begun x ≤ end → Ready p ws numbered widest names (pieces top x) → Settled p ws numbered widest m names → Walked q i (node-rows begun x t) (pieces top x) names w
   unfolding node-rows term-rows spell constructs pieces Ready gathered after-bound NodesHit FirstHit
@@ -194,7 +194,7 @@ module _ (p : ℕ) {xs ns ts rs ws : List ℕ} {n r : ℕ} {numbered : List ℕ 
       let f = condition-hit p rule widest i names b (omega (arith, nodes-counted false x k, some-node false x k)) m settled c t (sign Kind.Colon colon ∷ spell x (sign Kind.Semicolon close ∷ rest)) (at .0) (at .1) (rows-left (tests-rows c []) (term-rows x) front) s (ok .0) in
       let r = walk false false x i k names (sign Kind.Semicolon close ∷ rest) first (rows-right (tests-rows c []) (term-rows x) front) (past (after-tests c s)) b (omega arith) (ready-one p ws numbered widest names (pieces false x) (pieces false y) (ok .1)) settled in
       let r′ = walk false false y (i + constructs false x) u (after-bound (pieces false x) names) (sign Kind.Semicolon close′ ∷ w) (whole-first L there) (rows-right (tests-rows c [] ++ term-rows x) (term-rows y) rows) (past (past (r .left)))
-          (past-tree false false x k (sign Kind.Semicolon close ∷ rest) first (past (after-tests c s)) b) (omega arith) (ready-two p ws numbered widest names (pieces false x) (pieces false y) (ok .1)) (r .settled) in
+      (past-tree false false x k (sign Kind.Semicolon close ∷ rest) first (past (after-tests c s)) b) (omega arith) (ready-two p ws numbered widest names (pieces false x) (pieces false y) (ok .1)) (r .settled) in
       two (formula (tests-parts c) ∷ pieces false x) (pieces false y) names cases i (M ++ L)
       (Iff·trans (cased p ns ts ws i t k X (some-node false x k)) (hits-both p (calculation-faults widest (tests-parts c)) (gathered (sizes-of widest) (pieces false x)) f (r .same)))
       (Iff·trans (bare (i + constructs false x) L (omega (arith, rule .inside, nodes-counted false y u, some-node false y u)) there (plain false y u)) (r′ .same))
@@ -214,7 +214,7 @@ module _ (p : ℕ) {xs ns ts rs ws : List ℕ} {n r : ℕ} {numbered : List ℕ 
       let f = condition-hit p rule widest i names b (omega (arith, nodes-counted false x k, some-node false x k)) m settled c t (sign Kind.Colon colon ∷ spell x (sign Kind.Semicolon close ∷ rest)) (at .0) (at .1) (rows-left (tests-rows c []) (term-rows x) front) s (ok .0) in
       let r = walk false false x i k names (sign Kind.Semicolon close ∷ rest) first (rows-right (tests-rows c []) (term-rows x) front) (past (after-tests c s)) b (omega arith) (ready-one p ws numbered widest names (pieces false x) (pieces false y) (ok .1)) settled in
       let r′ = walk false false y (i + constructs false x) u (after-bound (pieces false x) names) w there (rows-right (tests-rows c [] ++ term-rows x) (term-rows y) rows) (past (r .left))
-          (past-tree false false x k (sign Kind.Semicolon close ∷ rest) first (past (after-tests c s)) b) (omega arith) (ready-two p ws numbered widest names (pieces false x) (pieces false y) (ok .1)) (r .settled) in
+      (past-tree false false x k (sign Kind.Semicolon close ∷ rest) first (past (after-tests c s)) b) (omega arith) (ready-two p ws numbered widest names (pieces false x) (pieces false y) (ok .1)) (r .settled) in
       two (formula (tests-parts c) ∷ pieces false x) (pieces false y) names cases i (M ++ L)
       (Iff·trans (cased p ns ts ws i t k X (some-node false x k)) (hits-both p (calculation-faults widest (tests-parts c)) (gathered (sizes-of widest) (pieces false x)) f (r .same)))
       (r′ .same)
@@ -246,7 +246,7 @@ module _ (p : ℕ) {xs ns ts rs ws : List ℕ} {n r : ℕ} {numbered : List ℕ 
       let b′ = past-node h refl b in
       let r = walk top false x (suc i) t names (sign Kind.Ampersand g ∷ spell y w) first (rows-left (term-rows x) (term-rows y) rows) s b′ (omega arith) (ready-one p ws numbered widest names (pieces top x) (pieces top y) ok) settled in
       let r′ = walk top true y (suc i + constructs false x) u (after-bound (pieces top x) names) w (whole-first Y there) (rows-right (term-rows x) (term-rows y) rows) (past (r .left)) (past-tree false top x t (sign Kind.Ampersand g ∷ spell y w) first s b′) (omega arith)
-          (ready-two p ws numbered widest names (pieces top x) (pieces top y) ok) (r .settled) in
+      (ready-two p ws numbered widest names (pieces top x) (pieces top y) ok) (r .settled) in
       two (pieces top x) (pieces top y) names concatenation i _
       (Iff·trans (bare (suc i) X (omega (arith, rule .inside, some-node false x t, nodes-counted false x t)) (nodes-left X Y more) (plain false x t)) (r .same))
       (Iff·trans (bare (suc i + constructs false x) Y (omega (arith, rule .inside, some-node true y u, nodes-counted true y u)) there (plain true y u)) (r′ .same))
@@ -260,7 +260,7 @@ module _ (p : ℕ) {xs ns ts rs ws : List ℕ} {n r : ℕ} {numbered : List ℕ 
       let there = after x y true i t u h in
       let r = walk top false x i t names (sign Kind.Ampersand g ∷ spell y w) first (rows-left (term-rows x) (term-rows y) rows) s b (omega arith) (ready-one p ws numbered widest names (pieces top x) (pieces top y) ok) settled in
       let r′ = walk top true y (i + constructs false x) u (after-bound (pieces top x) names) w (whole-first Y there) (rows-right (term-rows x) (term-rows y) rows) (past (r .left)) (past-tree false top x t (sign Kind.Ampersand g ∷ spell y w) first s b) (omega arith)
-          (ready-two p ws numbered widest names (pieces top x) (pieces top y) ok) (r .settled) in
+      (ready-two p ws numbered widest names (pieces top x) (pieces top y) ok) (r .settled) in
       two (pieces top x) (pieces top y) names concatenation i (X ++ Y) (r .same) (Iff·trans (bare (i + constructs false x) Y (omega (arith, rule .inside, some-node true y u, nodes-counted true y u)) there (plain true y u)) (r′ .same))
       (Iff·trans (first-two p ns ts ws i X Y (some-node false x t)) (either Iff·rfl (counted-to x t i Y))) (r′ .mid) (r′ .left) (r′ .settled)
   walk top begun (last-branch x) i t names w h rows s b e ok settled =
@@ -275,7 +275,7 @@ module _ (p : ℕ) {xs ns ts rs ws : List ℕ} {n r : ℕ} {numbered : List ℕ 
       let b′ = past-node h refl b in
       let r = walk false false x (suc i) t names (sign Kind.Bar g ∷ spell y w) first (rows-left (term-rows x) (term-rows y) rows) s b′ (omega arith) (ready-one p ws numbered widest names (pieces false x) (pieces false y) ok) settled in
       let r′ = walk false true y (suc i + constructs false x) u (after-bound (pieces false x) names) w (whole-first Y there) (rows-right (term-rows x) (term-rows y) rows) (past (r .left)) (past-tree false false x t (sign Kind.Bar g ∷ spell y w) first s b′) (omega arith)
-          (ready-two p ws numbered widest names (pieces false x) (pieces false y) ok) (r .settled) in
+      (ready-two p ws numbered widest names (pieces false x) (pieces false y) ok) (r .settled) in
       two (pieces false x) (pieces false y) names expression i _
       (Iff·trans (bare (suc i) X (omega (arith, rule .inside, some-node false x t, nodes-counted false x t)) (nodes-left X Y more) (plain false x t)) (r .same))
       (Iff·trans (bare (suc i + constructs false x) Y (omega (arith, rule .inside, some-node true y u, nodes-counted true y u)) there (plain true y u)) (r′ .same))
@@ -289,6 +289,6 @@ module _ (p : ℕ) {xs ns ts rs ws : List ℕ} {n r : ℕ} {numbered : List ℕ 
       let there = after x y true i t u h in
       let r = walk false false x i t names (sign Kind.Bar g ∷ spell y w) first (rows-left (term-rows x) (term-rows y) rows) s b (omega arith) (ready-one p ws numbered widest names (pieces false x) (pieces false y) ok) settled in
       let r′ = walk false true y (i + constructs false x) u (after-bound (pieces false x) names) w (whole-first Y there) (rows-right (term-rows x) (term-rows y) rows) (past (r .left)) (past-tree false false x t (sign Kind.Bar g ∷ spell y w) first s b) (omega arith)
-          (ready-two p ws numbered widest names (pieces false x) (pieces false y) ok) (r .settled) in
+      (ready-two p ws numbered widest names (pieces false x) (pieces false y) ok) (r .settled) in
       two (pieces false x) (pieces false y) names expression i (X ++ Y) (r .same) (Iff·trans (bare (i + constructs false x) Y (omega (arith, rule .inside, some-node true y u, nodes-counted true y u)) there (plain true y u)) (r′ .same))
       (Iff·trans (first-two p ns ts ws i X Y (some-node false x t)) (either Iff·rfl (counted-to x t i Y))) (r′ .mid) (r′ .left) (r′ .settled)
