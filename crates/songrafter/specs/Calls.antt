@@ -10,7 +10,8 @@ use Rattle.basis.specs.Limits.{max-frame-bytes}
 use Rattle.table_conflicts.specs.declared.Clash.{Clash}
 use Rattle.table_layout.specs.Constructs.{pick}
 use Rattle.table_layout.specs.Places.{table-of}
-use Rattle.text_admission.specs.Admitted as admitted
+use Rattle.admission.specs.Promised.{Promised}
+use Rattle.text_admission.specs.Answers.{number-of}
 use Rattle.text_admission.specs.declared.Admission.{Admission}
 use Rattle.run_matcher.specs.Opening as opening
 use Rattle.run_matcher.specs.declared.Answer.{Answer}
@@ -36,8 +37,8 @@ told (Admission.Conflict place construct clash) = told-clash place construct cla
 -- admission answers with its number; what fits of the five is written
 pub record Admits (text old new answer answer′ : List ℕ) (number : ℕ) : Type 0 where
   pub admission : Admission
-  pub answers : admitted.Answers text old new admission
-  pub number-is : number ≡ admitted.number-of admission
+  pub promised : Promised text old new admission
+  pub number-is : number ≡ number-of admission
   pub told-is : answer′ ≡ sets answer 0 (told admission)
 
 -- ---- opening: 23, 21, 22; then 24 where the room for the run is not that of a saved run. The run is written where there is room for it

@@ -13,7 +13,7 @@ ghost use mathlib.Core.List.{[], _∷_};
 ghost use lib.ListN.{length, getD, set};
 ghost use lib.Seq.{sets};
 ghost use lib.IntN.{pos};
-ghost use Rattle.text_admission.specs.Admitted.{number-of};
+ghost use Rattle.text_admission.specs.Answers.{number-of};
 ghost use Rattle.run_matcher.specs.Opening.{number-of as opening-number};
 ghost use Rattle.table_layout.specs.Places.{table-of};
 ghost use Rattle.run_grants.specs.Runs.{after, grant-of, number-of as grant-number, taken-of};
@@ -88,7 +88,7 @@ fn tell(answer: &mut [u64], admission: Admission) -> usize
 pub extern "C" fn songrafter_admit(text: &[u8], table: &mut [u32], answer: &mut [u64]) -> usize
     ensures { λ r. ⌜ Admits (now (text .entry)) (now (table .entry)) (now (table .exit)) (now (answer .entry)) (now (answer .exit)) r ⌝ }
 {
-    let admission = text_admission::admit(text, table);
+    let admission = admission::admit(text, table);
     tell(answer, admission)
 }
 

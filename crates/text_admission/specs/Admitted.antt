@@ -5,7 +5,6 @@ use Prim.Native.Nat.{ℕ, _+_, _≤_, _<_}
 use mathlib.Core.Path.{_≡_}
 use mathlib.Core.Logic.{_⊎_}
 use mathlib.Core.List.{List}
-use mathlib.Core.Option.{Option, none, some}
 use lib.ListN.{length, drop, replicate}
 use Rattle.basis.specs.Limits.{max-text-bytes, max-weight}
 use Rattle.theory.specs.Lookahead.{EmptyBody}
@@ -30,25 +29,6 @@ use Rattle.text_encoding.specs.Encoded.{encoded}
 use Rattle.text_admission.specs.Extents.{refusal-8}
 use Rattle.text_admission.specs.declared.Admission.{Admission}
 use Rattle.text_admission.specs.declared.Found.{Found}
-
--- ---- document 01's number of an answer
-
-abbrev pub number-of : Admission → ℕ
-number-of (Admission.Admitted weight) = 0
-number-of (Admission.Refused number place) = number
-number-of (Admission.Conflict place construct clash) = 10
-
--- the place that it carries
-abbrev pub place-in : Admission → ℕ
-place-in (Admission.Admitted weight) = 0
-place-in (Admission.Refused number place) = place
-place-in (Admission.Conflict place construct clash) = place
-
--- 10: "the answer carries the least common window"
-abbrev pub window-in : Clash → Option ℕ
-window-in Clash.None = none
-window-in (Clash.Branches window first second) = some window
-window-in (Clash.Passes window) = some window
 
 -- ---- what a text is, stage by stage. `xs` is the text that follows the empty line
 

@@ -1,3 +1,4 @@
 pub mod Extents
+pub mod Answers
 pub mod Admitted
 pub mod Late

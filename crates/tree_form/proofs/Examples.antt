@@ -13,7 +13,8 @@ use Rattle.text_store.specs.Store.{State, state, put-term, put-single, put-word
 use Rattle.text_parsing.specs.Form.{Outcome, right, refused, primary-begins, operand-begins, item-begins, test-begins, atom-begins, consume, run}
 use Rattle.tree.specs.Lexemes.{lexemes}
 use Rattle.tree.proofs.Examples.{bytes, tokens, spelling, k1-tree, k1}
-use Rattle.tree_form.specs.Spelled.{answer, FirstFault}
+use Rattle.tree_form.specs.Spelled.{answer}
+use Rattle.tree_form.specs.Form.{FirstFault}
 use Rattle.tree_form.specs.Stored.{stored}
 use Rattle.tree_form.proofs.Right.{complete}
 use Rattle.tree_form.proofs.Places.{refused-first}

@@ -15,7 +15,8 @@ use Rattle.text_parsing.specs.Form.{Consumed, go, done, fault, consume, Outcome
 use Rattle.text_parsing.specs.declared.Terminal.{Terminal}
 use Rattle.text_parsing.proofs.TerminalLaws.{Stands, ended, moving, stands}
 use Rattle.tree.specs.Lexemes.{Lexeme, place-of, lexeme-as, lexeme-of, lexemes-from, lexemes}
-use Rattle.tree_form.specs.Spelled.{answer, Begins, FirstFault}
+use Rattle.tree_form.specs.Spelled.{answer}
+use Rattle.tree_form.specs.Form.{Begins, FirstFault}
 use Rattle.tree_form.proofs.Classified.{opens, code, seen-with, classified, after, begun, of-kind, terminals-classified}
 use Rattle.tree_form.proofs.Rests.{MoreRules, more-rules, Rests, spell-all, spell-more-rules, Ground, Room}
 use Rattle.tree_form.proofs.Leading.{Going, Stuck, Leads, goes, ends, faults, shortest, consumed}

@@ -1,2 +1,3 @@
 pub mod Spelled
+pub mod Form
 pub mod Stored

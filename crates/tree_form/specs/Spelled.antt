@@ -3,14 +3,15 @@
 use Prim.Native.Nat.{ℕ}
 use mathlib.Core.Path.{_≡_}
 use mathlib.Core.Bool.{false}
-use mathlib.Core.List.{List, [], _∷_, _++_}
+use mathlib.Core.List.{List, [], _∷_}
 use Rattle.text_parsing.specs.Terminals.{terminals-from}
 use Rattle.text_store.specs.Store.{State}
 use Rattle.text_parsing.specs.Symbols.{rules}
 use Rattle.text_parsing.specs.Form.{Outcome, right, refused, run}
-use Rattle.tree.specs.Lexemes.{Lexeme, place-of, lexemes}
+use Rattle.tree.specs.Lexemes.{Lexeme, lexemes}
 use Rattle.tree.specs.Tree.{Rules}
 use Rattle.tree.specs.Spelling.{spelled}
+use Rattle.tree_form.specs.Form.{FirstFault}
 use Rattle.tree_form.specs.Stored.{stored}
 
 -- what the reader answers for the text after its header, from what is stored before: `form-of` of crate `text_syntax`
@@ -24,25 +25,8 @@ pub record SpellsStored (ls : List Lexeme) (st f : State) : Type 0 where
   pub spells : ls ≡ spelled tree end
   pub stores : f ≡ stored tree st
 
--- some tree's spelling begins with them
-pub record Begins (ls : List Lexeme) : Type 0 where
-  pub tree : Rules
-  pub end : ℕ
-  pub rest : List Lexeme
-  pub begins : spelled tree end ≡ ls ++ rest
-
--- 4: "first token that cannot stand there (text's end if none)": the tokens before it begin a spelling, and with it none begins
-pub record FirstFault (ls : List Lexeme) (p : ℕ) : Type 0 where
-  pub before : List Lexeme
-  pub there : Lexeme
-  pub rest : List Lexeme
-  pub are : ls ≡ before ++ there ∷ rest
-  pub place : place-of there ≡ p
-  pub begun : Begins before
-  pub unfit : Begins (before ++ there ∷ []) → ⊥
-
--- "the rules part is of the right form exactly when its tokens spell a tree of depth at most 16, and then exactly one tree; what the reader stores is that
--- tree's encoding"; "refused at p exactly when the tokens before p begin some tree's spelling, and with the token at p no spelling begins"
+-- The rules part is of the right form exactly when its tokens spell a tree, whose depth is at most 16, and then exactly one tree; what the reader stores is that
+-- tree's encoding. It is refused at p exactly when p is the place of the first fault.
 pub record Formed (xs : List ℕ) (st : State) : Type 0 where
   pub spelled-right : (t : Rules) (end : ℕ) → lexemes xs ≡ spelled t end → answer xs st ≡ right (stored t st)
   pub right-spelled : (f : State) → answer xs st ≡ right f → SpellsStored (lexemes xs) st f

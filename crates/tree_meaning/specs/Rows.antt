@@ -4,6 +4,7 @@
 use Prim.Native.Nat.{ℕ, _≤_, _<_}
 use mathlib.Core.Path.{_≡_}
 use mathlib.Core.Option.{some}
+use Rattle.basis.specs.Limits.{max-weight}
 use Rattle.basis.specs.Bits.{Bits}
 use Rattle.theory.specs.Lookahead.{Conflict, EmptyBody}
 use Rattle.theory.specs.Weight.{Weighs}
@@ -19,6 +20,10 @@ use Rattle.tree_meaning.specs.Grammar.{Context, first-context, construct
 abbrev pub start-rule : Rules → Rule
 start-rule (last-rule r) = r
 start-rule (and-rules r more) = r
+
+-- construct i has a clash, whichever its window is
+abbrev pub HasConflict : Rules → ℕ → Type 0
+HasConflict t i = (x : Bits) × Conflict (tree-grammar t) i x
 
 module _ (t : Rules) (p : ℕ) where
   -- "a number of the Limits line passed", at "the rule in which it first is"
@@ -43,8 +48,8 @@ module _ (t : Rules) (p : ℕ) where
 
   -- "clash", at "the construct": the first, as they are numbered "the outer before the inner"
   abbrev pub Clashes : Type 0
-  Clashes = (i : ℕ) × ((x : Bits) × Conflict (tree-grammar t) i x) × ((j : ℕ) → j < i → (x : Bits) → Conflict (tree-grammar t) j x → ⊥) × (p ≡ construct-at t i .place)
+  Clashes = (i : ℕ) × HasConflict t i × ((j : ℕ) → j < i → HasConflict t j → ⊥) × (p ≡ construct-at t i .place)
 
   -- "weight over 65,535", at the "start rule"
   abbrev pub TooHeavy : Type 0
-  TooHeavy = (w : Context → ℕ → ℕ) × Weighs (tree-grammar t) w × (65535 < w first-context opening) × (p ≡ rule-name (start-rule t) .start)
+  TooHeavy = (w : Context → ℕ → ℕ) × Weighs (tree-grammar t) w × (max-weight < w first-context opening) × (p ≡ rule-name (start-rule t) .start)

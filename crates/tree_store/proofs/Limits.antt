@@ -5,7 +5,7 @@ use mathlib.Core.Path.{_≡_, refl, sym, ap, subst, _∙_}
 use mathlib.Core.Logic.{⊎-elim}
 use mathlib.Core.Bool.{Bool, true, false, _||_}
 use mathlib.Core.List.{List, [], _∷_, _++_}
-use mathlib.Core.Option.{none}
+use mathlib.Core.Option.{none, some}
 use native.Mathlib.Omega.{arith}
 use borrow.Author.Tests.{ltb-true, ltb-false, lt-ltb, le-ltb, le-leb, lt-leb}
 use lib.Dec.{ltb, leb}
@@ -21,7 +21,7 @@ use Rattle.tree_meaning.specs.Places.{place-if as listed-if, lesser, least}
 use Rattle.tree_meaning.specs.Counted.{Totals, no-rule, with-rule, is-past, limit-faults, refusal-5 as tree-refusal-5}
 use Rattle.tree.specs.Lexemes.{finish}
 use Rattle.tree_store.proofs.Rows.{RuleRow, no-rule-row, rule-row, rules-rows, totals, tree-totals}
-use Rattle.tree_store.proofs.Low.{or-nowhere}
+use Rattle.tree_store.proofs.Low.{or-nowhere, Apart, told-none, told-some, apart-none, apart-if, apart-both}
 use Rattle.tree_store.proofs.Standing.{Ascending, ascended, ascends, SpelledBy, spelled-stand, rules-ascend}
 use Rattle.tree_store.proofs.Storing.{RuleIs, totalled-tree, rule-read, rules-read}
 
@@ -191,9 +191,26 @@ limits t m a =
     let e : tree-totals t .rules ≡ length (rules-in t) = sym (totalled-tree t .in-rules) ∙ rows-many no-rule (rules-in t)
     in limits-of (rule-words (stored t blank)) (rules-of (stored t blank)) (rules-in t) m a (rules-read t ∙ ap (λ (q : ℕ). min q 65) e) (λ k g l. rule-read t k (omega arith) l)
 
+limits-apart : {most p : ℕ} (n : Totals) (rs : List Rule) → most < nowhere → Ascending most p rs → Apart (limit-faults n rs)
+unfolding limit-faults
+limits-apart n [] m a = apart-none
+limits-apart n (r ∷ rs) m (ascends e f a) =
+    apart-both (listed-if (is-past (with-rule n r)) (rule-name r .start)) (limit-faults (with-rule n r) rs) (apart-if (is-past (with-rule n r)) (rule-name r .start) (omega arith)) (limits-apart (with-rule n r) rs m a)
+
 -- Refusal 5 of what the reader stores of a text that spells a tree is refusal 5 of the tree.
-pub refused-5 : {xs : List ℕ} {t : Rules} → length xs ≤ nowhere → SpelledBy xs t → refusal-5 (rule-words (stored t blank)) (rules-of (stored t blank)) ≡ or-nowhere (tree-refusal-5 t)
-refused-5 {xs} {t} l h = limits t l (rules-ascend t (finish (h .end) ∷ []) (spelled-stand h))
+module _ {xs : List ℕ} {t : Rules} (small : length xs < nowhere) (h : SpelledBy xs t) where
+  -- where it stands
+  abbrev pub stored-5 : ℕ
+  stored-5 = refusal-5 (rule-words (stored t blank)) (rules-of (stored t blank))
+
+  in-order : Ascending (length xs) 0 (rules-in t)
+  in-order = rules-ascend t (finish (h .end) ∷ []) (spelled-stand h)
+
+  pub passed-5 : stored-5 ≡ nowhere → tree-refusal-5 t ≡ none
+  passed-5 = told-none stored-5 (tree-refusal-5 t) (sym (limits t (omega arith) in-order)) (limits-apart no-rule (rules-in t) small in-order)
+
+  pub given-5 : (stored-5 ≡ nowhere → ⊥) → tree-refusal-5 t ≡ some stored-5
+  given-5 = told-some stored-5 (tree-refusal-5 t) (sym (limits t (omega arith) in-order))
 
 -- ---- where nothing is passed
 

@@ -15,22 +15,48 @@ abbrev pub or-nowhere : Option ℕ → ℕ
 or-nowhere none = nowhere
 or-nowhere (some p) = p
 
+-- none of them is `nowhere`
+abbrev pub Apart : List ℕ → Type 0
+Apart l = (q : ℕ) → least l ≡ some q → q < nowhere
+
+-- so it is told from the answer that nothing is wrong
+pub told-none : (n : ℕ) (o : Option ℕ) → or-nowhere o ≡ n → ((q : ℕ) → o ≡ some q → q < nowhere) → n ≡ nowhere → o ≡ none
+told-none n none e f z = refl
+told-none n (some q) e f z = absurd (omega (arith, e, z, f q refl))
+
+pub told-some : (n : ℕ) (o : Option ℕ) → or-nowhere o ≡ n → (n ≡ nowhere → ⊥) → o ≡ some n
+told-some n none e z = absurd (z (sym e))
+told-some n (some q) e z = ap some e
+
 -- n is the least of these places
 pub record Low (n : ℕ) (l : List ℕ) : Type 0 where
   pub is : or-nowhere (least l) ≡ n
   pub small : n ≤ nowhere
+  pub told-apart : Apart l
 
 pub low-as : {m n : ℕ} {l : List ℕ} → m ≡ n → Low m l → Low n l
 low-as {m} {n} {l} e h = subst (λ (k : ℕ). Low k l) e h
 
+some-same : {p q : ℕ} → _≡_ {A = Option ℕ} (some p) (some q) → p ≡ q
+some-same e = cc
+
+pub apart-none : Apart []
+unfolding least
+apart-none q e = let z : _≡_ {A = ℕ} 0 1 = cc in absurd (omega arith)
+
+pub apart-if : (t : Bool) (p : ℕ) → p < nowhere → Apart (listed-if t p)
+unfolding least
+apart-if true p h q e = omega (arith, some-same e)
+apart-if false p h q e = apart-none q e
+
 pub low-none : Low nowhere []
 unfolding least
-low-none = record { is = refl; small = omega arith }
+low-none = record { is = refl; small = omega arith; told-apart = apart-none }
 
-pub low-if : (t : Bool) (p : ℕ) → p ≤ nowhere → Low (place-if t p) (listed-if t p)
+pub low-if : (t : Bool) (p : ℕ) → p < nowhere → Low (place-if t p) (listed-if t p)
 unfolding least
-low-if true p h = record { is = refl; small = h }
-low-if false p h = record { is = refl; small = omega arith }
+low-if true p h = record { is = refl; small = omega arith; told-apart = apart-if true p h }
+low-if false p h = record { is = refl; small = omega arith; told-apart = apart-if false p h }
 
 -- the lesser of two, if there are any
 abbrev merged : Option ℕ → Option ℕ → Option ℕ
@@ -52,6 +78,17 @@ merged-min none b h k = omega arith
 merged-min (some p) none h k = omega arith
 merged-min (some p) (some q) h k = refl
 
+lesser-low : (p : ℕ) (b : Option ℕ) → lesser p b ≤ p
+lesser-low p none = omega arith
+lesser-low p (some q) = omega arith
+
+merged-low : (a b : Option ℕ) → ((q : ℕ) → a ≡ some q → q < nowhere) → ((q : ℕ) → b ≡ some q → q < nowhere) → (q : ℕ) → merged a b ≡ some q → q < nowhere
+merged-low none b f g q e = g q e
+merged-low (some p) b f g q e = omega (arith, some-same e, lesser-low p b, f p refl)
+
+pub apart-both : (l m : List ℕ) → Apart l → Apart m → Apart (l ++ m)
+apart-both l m f g q e = merged-low (least l) (least m) f g q (sym (least-append l m) ∙ e)
+
 pub low-both : {m n : ℕ} {l k : List ℕ} → Low m l → Low n k → Low (min m n) (l ++ k)
 low-both {m} {n} {l} {k} a b =
     let e : or-nowhere (least l) ≡ m = a .is
@@ -61,6 +98,7 @@ low-both {m} {n} {l} {k} a b =
     in record {
       is = ap or-nowhere (least-append l k) ∙ merged-min (least l) (least k) (omega arith) (omega arith) ∙ ap₂ min e f;
       small = omega arith;
+      told-apart = apart-both l k (a .told-apart) (b .told-apart);
     }
 
 -- ---- numbers from i on

@@ -1,8 +1,9 @@
 -- Refusal 6 of what is stored is refusal 6 of the tree.
 -- Assumes nothing.
-use Prim.Native.Nat.{ℕ, suc, _+_, _-_, _≤_, min}
+use Prim.Native.Nat.{ℕ, suc, _+_, _-_, _≤_, _<_, min}
 use mathlib.Core.Path.{_≡_, refl, sym, ap, ap₂, subst, _∙_}
 use mathlib.Core.Bool.{Bool, true, false, _||_}
+use mathlib.Core.Option.{none, some}
 use mathlib.Core.List.{List, [], _∷_, _++_, map, append-assoc}
 use native.Mathlib.Omega.{arith}
 use lib.ListN.{length}
@@ -22,7 +23,7 @@ use Rattle.tree_meaning.specs.Places.{place-if as listed-if}
 use Rattle.tree_meaning.specs.Names.{is-among, rule-fault as wrong-rule, faults-after, name-faults, rule-names, refusal-6 as tree-refusal-6}
 use Rattle.tree_store.proofs.Rows.{NodeRow, TermRow, term-rows, node-rows, rules-nodes, rules-terms}
 use Rattle.tree_store.proofs.Lengths.{nodes-counted, terms-counted}
-use Rattle.tree_store.proofs.Low.{or-nowhere, Low, low-as, low-none, low-if, low-both, any-suc, any-between-on}
+use Rattle.tree_store.proofs.Low.{told-none, told-some, Low, low-as, low-none, low-if, low-both, any-suc, any-between-on}
 use Rattle.tree_store.proofs.Limits.{Limited}
 use Rattle.tree_store.proofs.Rowed.{NodesAt, no-nodes, node-then, nodes-left, nodes-right, TermsAt, terms-left, terms-right, RulesIn, rule-then, Rowed, rowed}
 use Rattle.tree_store.proofs.Standing.{Standing, past, after-tree, SpelledBy, spelled-stand}
@@ -88,7 +89,7 @@ all-named {xs} {ws} (and-rules (rule x is b end) t) n w (rule-then e f g more) s
 
 -- ---- one rule
 
-module _ (xs ns ts ws : List ℕ) (r : ℕ) (rules : List Name) (small : length xs ≤ nowhere) (ruled : (y : Name) → Here xs y → rule-named xs ws r (y .start) ≡ is-among rules y) where
+module _ (xs ns ts ws : List ℕ) (r : ℕ) (rules : List Name) (small : length xs < nowhere) (ruled : (y : Name) → Here xs y → rule-named xs ws r (y .start) ≡ is-among rules y) where
   -- the nodes of a body
   body-low : (x : Tree expression 0) (t a e : ℕ) (w : List Lexeme) {q : ℕ} → e ≡ a + constructs false x → NodesAt ns a (node-rows false x t) → TermsAt ts t (term-rows x) → Standing xs q (spell x w)
       → Low (nodes-place xs ns ts ws r a e) (faults-after rules (bound-in (pieces true x)) [] (pieces true x))
@@ -147,7 +148,7 @@ module _ (xs ns ts ws : List ℕ) (r : ℕ) (rules : List Name) (small : length 
 -- ---- a text
 
 -- of any words that hold the rows of a tree that the text spells
-names-of : (xs ns ts ws : List ℕ) (r : ℕ) (t : Rules) → length xs ≤ nowhere → SpelledBy xs t → Rowed t ns ts ws r → Low (refusal-6 xs ns ts ws r) (name-faults (rule-names t) [] (rules-in t))
+names-of : (xs ns ts ws : List ℕ) (r : ℕ) (t : Rules) → length xs < nowhere → SpelledBy xs t → Rowed t ns ts ws r → Low (refusal-6 xs ns ts ws r) (name-faults (rule-names t) [] (rules-in t))
 names-of xs ns ts ws r t small h w =
     low-as (ap (λ (n : ℕ). least-of n 0 (rule-place xs ns ts ws r)) (let q : length (rules-in t) ≡ r - 0 = omega (arith, w .number) in q))
     (rules-low xs ns ts ws r (rule-names t) small ruled t no-rule (finish (h .end) ∷ []) (w .nodes-are) (w .terms-are) (w .rules-are) (spelled-stand h) earlier-none)
@@ -156,8 +157,16 @@ names-of xs ns ts ws r t small h w =
     ruled y g = ap (λ (n : ℕ). any-of n 0 (named-so xs ws y)) (let q : r - 0 ≡ length (rules-in t) = omega (arith, w .number) in q) ∙ all-named t no-rule (finish (h .end) ∷ []) (w .rules-are) (spelled-stand h) y g
 
 -- Refusal 6 of what the reader stores of a text that spells a tree within the limits is refusal 6 of the tree.
-pub refused-6 : {xs : List ℕ} {t : Rules} → length xs ≤ nowhere → SpelledBy xs t → Limited t
-    → refusal-6 xs (node-words (stored t blank)) (term-words (stored t blank)) (rule-words (stored t blank)) (rules-of (stored t blank)) ≡ or-nowhere (tree-refusal-6 t)
-refused-6 {xs} {t} small h l =
-    let w : Rowed t (node-words (stored t blank)) (term-words (stored t blank)) (rule-words (stored t blank)) (rules-of (stored t blank)) = rowed t l
-    in sym (names-of xs (node-words (stored t blank)) (term-words (stored t blank)) (rule-words (stored t blank)) (rules-of (stored t blank)) t small h w .is)
+module _ {xs : List ℕ} {t : Rules} (small : length xs < nowhere) (h : SpelledBy xs t) (l : Limited t) where
+  -- where it stands
+  abbrev pub stored-6 : ℕ
+  stored-6 = refusal-6 xs (node-words (stored t blank)) (term-words (stored t blank)) (rule-words (stored t blank)) (rules-of (stored t blank))
+
+  same-6 : Low stored-6 (name-faults (rule-names t) [] (rules-in t))
+  same-6 = names-of xs (node-words (stored t blank)) (term-words (stored t blank)) (rule-words (stored t blank)) (rules-of (stored t blank)) t small h (rowed t l)
+
+  pub passed-6 : stored-6 ≡ nowhere → tree-refusal-6 t ≡ none
+  passed-6 = told-none stored-6 (tree-refusal-6 t) (same-6 .is) (same-6 .told-apart)
+
+  pub given-6 : (stored-6 ≡ nowhere → ⊥) → tree-refusal-6 t ≡ some stored-6
+  given-6 = told-some stored-6 (tree-refusal-6 t) (same-6 .is)

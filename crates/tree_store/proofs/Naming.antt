@@ -1,6 +1,6 @@
 -- The names at fault in a rule: what the store's words say is what the tree says.
 -- Assumes nothing.
-use Prim.Native.Nat.{ℕ, suc, _+_, _-_, _≤_, min}
+use Prim.Native.Nat.{ℕ, suc, _+_, _-_, _≤_, _<_, min}
 use mathlib.Core.Path.{_≡_, refl, sym, ap, ap₂, subst, _∙_}
 use mathlib.Core.Bool.{Bool, true, false, cond, not, _&&_, _||_}
 use mathlib.Core.List.{List, [], _∷_, _++_, append-assoc}
@@ -89,7 +89,7 @@ reserved-here h = ap (λ (l : List ℕ). not (eqb (reserved-of l) 0)) (h .letter
 
 -- the rules of a text, and the variables of the rule whose nodes go from a up to e
 pub record Known (xs ns rs : List ℕ) (r a e : ℕ) (rules variables : List Name) : Type 0 where
-  pub fits-in : length xs ≤ nowhere
+  pub fits-in : length xs < nowhere
   pub ruled : (y : Name) → Here xs y → rule-named xs rs r (y .start) ≡ is-among rules y
   pub varied : (y : Name) → Here xs y → bound-between xs ns a e (y .start) ≡ is-among variables y
 
@@ -185,7 +185,7 @@ module _ (xs ns ts rs : List ℕ) (r a e : ℕ) where
     abbrev faults : List Name → List Piece → List ℕ
     faults names l = faults-after rules variables names l
 
-    inside : {x : Name} → Here xs x → x .start ≤ nowhere
+    inside : {x : Name} → Here xs x → x .start < nowhere
     inside h = omega (arith, h .inside, known .fits-in)
 
     -- a list of terms of node i

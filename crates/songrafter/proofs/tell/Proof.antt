@@ -1,6 +1,6 @@
 use mathlib.Core.Path.{sym, ap, _∙_}
 use lib.Seq.{sets}
-use Rattle.text_admission.specs.Admitted.{number-of}
+use Rattle.text_admission.specs.Answers.{number-of}
 use Rattle.text_admission.specs.declared.Admission.{Admission}
 use Rattle.songrafter.specs.Calls.{told}
 use borrow.Author.Needs.{needs}
