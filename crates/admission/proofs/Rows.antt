@@ -17,7 +17,7 @@ use Rattle.tree.specs.Spelling.{spelled}
 use Rattle.tree_form.specs.Form.{FirstFault}
 use Rattle.tree_form.proofs.Formed.{formed}
 use Rattle.tree_meaning.specs.Rows.{PastLimit, WrongName, Recursive, TooLarge, EmptyBodies, HasConflict, Clashes, TooHeavy}
-use Rattle.admission.specs.Texts.{TreeOf, AtPlace}
+use Rattle.admission.specs.Texts.{TreeOf, OneTree, AtPlace}
 use Rattle.admission.specs.Refusals.{Row, short-table, wrong-size, wrong-header, wrong-form, past-limit, wrong-name, recursive, too-large, empty-body, clashing, too-heavy, number, Fits, NoneBelow, First}
 
 -- ---- numbers name rows
@@ -57,6 +57,9 @@ pub one-tree : {text : List ℕ} (x y : TreeOf text) → (x .base ≡ y .base) �
 one-tree {text} x y =
     let b : x .base ≡ y .base = one-base (header-of text) (x .base) (y .base) (x .header) (y .header) in
     (b, formed (drop (y .base) text) blank .one-tree (x .tree) (y .tree) (x .end) (y .end) (subst (λ (k : ℕ). lexemes (drop k text) ≡ spelled (x .tree) (x .end)) b (x .spells)) (y .spells) .0)
+
+pub only-tree : OneTree
+only-tree text x y = one-tree x y
 
 -- ---- a row fits at one place
 

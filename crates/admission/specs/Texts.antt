@@ -10,13 +10,17 @@ use Rattle.tree.specs.Lexemes.{lexemes}
 use Rattle.tree.specs.Tree.{Rules}
 use Rattle.tree.specs.Spelling.{spelled}
 
--- `base`: where its rules begin. A text has at most one (`one-tree`).
+-- `base`: where its rules begin. A text has at most one (`OneTree`).
 pub record TreeOf (text : List ℕ) : Type 0 where
   pub base : ℕ
   pub tree : Rules
   pub end : ℕ
   pub header : header-of text ≡ Heading.Rules base
   pub spells : lexemes (drop base text) ≡ spelled tree end
+
+-- it has one base and one tree
+abbrev pub OneTree : Type 0
+OneTree = (text : List ℕ) (x y : TreeOf text) → (x .base ≡ y .base) × (x .tree ≡ y .tree)
 
 -- something holds of the text's tree
 abbrev pub OfTree : List ℕ → (Rules → Type 0) → Type 0

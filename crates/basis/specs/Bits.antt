@@ -1,4 +1,4 @@
--- Bit strings. "Most significant bit first" (document 01): the first bit of a byte or of a uint is its highest.
+-- Bit strings. "most significant bit first" (document 01): the first bit of a byte or of a uint is its highest.
 -- Assumes nothing.
 use Prim.Native.Nat.{ℕ, zero, suc, _+_, _*_, _/_, _%_, _^_}
 use mathlib.Core.Bool.{Bool, true, false, _&&_, Bool·beq}

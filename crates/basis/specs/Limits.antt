@@ -31,7 +31,7 @@ max-variables = 64
 abbrev pub max-terms : ℕ
 max-terms = 1024
 
--- a literal has "1 to 32 characters; 8 bits a character"
+-- a literal has "1 to 32 characters"
 abbrev pub max-literal-bytes : ℕ
 max-literal-bytes = 32
 

@@ -30,11 +30,12 @@ use Rattle.run_matcher.specs.Opening.{Answered, Opened, run-given, number-of as
 use Rattle.run_matcher.specs.declared.Answer.{Answer}
 use Rattle.run_matcher.specs.Conditions.{Grant, own, Kept, granted as steps-granted, kept, run-kept, reading-kept, Decided, start, here, call, next, after-grants, OthersRefused, EachCounts as GrantsCount}
 use Rattle.run_matcher.proofs.Answers.{answer-once}
-use Rattle.songrafter.specs.Calls.{told, Admits, number-with-room, Opens, granted, Grants}
+use Rattle.songrafter.specs.Calls.{Admits, number-with-room, Opens, granted, Grants}
+use Rattle.text_admission.specs.Answers.{told}
 use Rattle.tree_meaning.specs.Local.{local-grammar}
 use Rattle.admission.specs.Promised.{Promised}
 use Rattle.admission.proofs.Numbers.{refused-number}
-use Rattle.conditions.specs.Conditions.{Exact}
+use Rattle.conditions.specs.Conditions.{CopyOf, HasTable, Exact}
 use Rattle.conditions.specs.Meaning.{Seeing}
 use Rattle.conditions.specs.Calls.{AdmitLeaves, OpenLeaves, GrantLeaves, Calls1, OneOutcome, OneAndMany, Calls2, handed, left, Kiosk, no-call, own-call, other-call, EachCounts, Calls3}
 use Rattle.conditions.proofs.Buffers.{condition-1}
@@ -268,19 +269,23 @@ one-and-many table frame reading reading₁ reading₂ reading₃ run run₁ run
 
 -- ---- 2
 
-opens-where : (text old table answer answer′ : List ℕ) → Admits text old table answer answer′ 0
+-- the table that was left, or a copy of it
+copied : (text old left answer answer′ : List ℕ) (a : Admits text old left answer answer′ 0) (table : List ℕ) → CopyOf table left → HasTable text table (weighed text old left answer answer′ a .weight)
+copied text old left answer answer′ a table c = record { old = old; left = left; promised = weighed text old left answer answer′ a .answers; copy = c }
+
+opens-where : (text old left answer answer′ : List ℕ) → Admits text old left answer answer′ 0 → (table : List ℕ) → CopyOf table left
     → (frame reading run run′ : List ℕ) (number : ℕ) → Opens table frame reading run run′ number
     → (number ≡ 0) ↔ ((length frame ≤ max-frame-bytes) × (2 * bits-of frame ≤ length reading) × (length run ≡ saved-bytes))
-opens-where text old table answer answer′ a frame reading run run′ number o =
-    let w = weighed text old table answer answer′ a in
-    let e = condition-2 .opened text old table (w .weight) (w .answers) frame reading (o .answer) (o .answered) in (
+opens-where text old left answer answer′ a table copy frame reading run run′ number o =
+    let w = weighed text old left answer answer′ a in
+    let e = condition-2 .opened text table (w .weight) (copied text old left answer answer′ a table copy) frame reading (o .answer) (o .answered) in (
       λ z. let y = zero-is table frame reading run run′ number o z in (e .0 (y .0) .0, e .0 (y .0) .1, y .1),
       λ h. is-zero table frame reading run run′ number o (e .1 (h .0, h .1)) (h .2),
     )
 
 pub calls-2 : Calls2
 calls-2 =
-    record { admitting = λ text table table′ answer answer′ number a. a .promised .exactly; opening = opens-where }
+    record { admitting = λ text table table′ answer answer′ number a. (a .admission, a .promised .exactly, a .number-is, a .told-is); opening = opens-where }
 
 -- ---- the kiosk's calls
 
@@ -363,12 +368,13 @@ kept-parts : (k : Kept) → kept (run-kept k) (reading-kept k) ≡ k
 kept-parts (kept run rs) = refl
 
 pub calls-3 : Calls3
-calls-3 text old table answer answer′ a frame reading room run o =
-    let w = weighed text old table answer answer′ a in
-    let x = text-table text old table (w .weight) (w .answers) in
+calls-3 text old left answer answer′ a table copy frame reading room run o =
+    let w = weighed text old left answer answer′ a in
+    let x = text-table text old left (w .weight) (w .answers) in
+    let has = copied text old left answer answer′ a table copy in
     let z = zero-is table frame reading room run 0 o refl in
     let opened : Opened table frame reading = subst (Answered table frame reading) (z .0) (o .answered) in
-    let claim = condition-3 text old table (w .weight) (w .answers) (x .tree) frame reading opened in
+    let claim = condition-3 text table (w .weight) has (x .tree) frame reading opened in
     let first : Same run reading (start reading) = record {
       full = o .run-length ∙ z .1;
       bytes-are = o .run-is ∙ ap₂ (λ (s : Bool) (y : Answer). pick s (encoded (run-given y)) room) (eq-eqb (length room) saved-bytes (z .1)) (z .0);
@@ -379,7 +385,7 @@ calls-3 text old table answer answer′ a frame reading room run o =
       weight = w .weight;
       weight-told = w .told-so;
       tree = x .tree;
-      one-derivation = at-most-one text old table (w .weight) (w .answers) (x .tree);
+      one-derivation = at-most-one text old left (w .weight) (w .answers) (x .tree);
       in-time = claim .within-bound;
       meant = λ gs run′ reading′ cs.
           let others = owns-refuse table frame cs (start reading) in
@@ -387,7 +393,7 @@ calls-3 text old table answer answer′ a frame reading room run o =
           let read : restored run′ ≡ run-kept (here table frame reading gs) = restored-is run′ (s .full) ∙ s .read-as in
           subst₂ (λ (r : Run) (zs : List ℕ). Seeing (x .tree .tree) (claim .needed) frame reading (steps-granted gs) (seen-of r zs)) (sym read) (sym (s .words-are))
           (seeing (x .tree .tree) (claim .needed) table frame reading gs (claim .granting gs others) (claim .by-steps gs others)
-          (condition-2 .matching text old table (w .weight) (w .answers) (x .tree) frame reading opened gs others));
+          (condition-2 .matching text table (w .weight) has (x .tree) frame reading opened gs others) (x .windows));
       weighs = (x .weighable .0, x .weighable .1, x .weights (x .weighable .0) (x .weighable .1));
       claim = claim;
       calls = λ gs run′ reading′ cs.
@@ -404,6 +410,6 @@ calls-3 text old table answer answer′ a frame reading room run o =
             answers = counts table frame (claim .needed) 0 cs (start reading) first (g .answers);
             decided-iff = subst (λ (r : Run). Decided r ↔ (claim .needed ≤ steps-granted gs)) (sym read) (g .decided-iff);
             exact = subst (Exact (local-grammar (x .tree .tree)) frame reading) (sym (ap₂ kept read (s .words-are) ∙ kept-parts (here table frame reading gs)))
-                (condition-2 .matching text old table (w .weight) (w .answers) (x .tree) frame reading opened gs others);
+                (condition-2 .matching text table (w .weight) has (x .tree) frame reading opened gs others);
           };
     }

@@ -22,8 +22,8 @@ use Rattle.run_matcher.proofs.Conditions.{condition-2 as table-condition-2, con
 use Rattle.tree_meaning.specs.Local.{local-grammar}
 use Rattle.admission.specs.Texts.{TreeOf}
 use Rattle.admission.specs.Promised.{Promised}
-use Rattle.conditions.specs.Conditions.{Exact, AtMostOne, Claim, Condition2, Condition3}
-use Rattle.conditions.proofs.Tables.{text-table, same-local, same-steps}
+use Rattle.conditions.specs.Conditions.{HasTable, Exact, AtMostOne, Claim, Condition2, Condition3}
+use Rattle.conditions.proofs.Tables.{text-table, same-local, copy-sound, copy-weight, copy-local, copy-steps}
 
 module _ (ws fs rs : List ℕ) (o : Opened ws fs rs) where
   exact : (gs : List Grant) → OthersRefused ws fs gs (start rs) → Exact (grammar-of ws) fs rs (here ws fs rs gs)
@@ -53,9 +53,9 @@ exact-same {fs = fs} same e =
       fields = λ z t v d. e .fields z t v (same (frameBits fs) t v .1 d);
     }
 
-matching : (text old table : List ℕ) (weight : ℕ) → Promised text old table (Admission.Admitted weight) → (x : TreeOf text)
+matching : (text table : List ℕ) (weight : ℕ) → HasTable text table weight → (x : TreeOf text)
     → (fs rs : List ℕ) → Opened table fs rs → (gs : List Grant) → OthersRefused table fs gs (start rs) → Exact (local-grammar (x .tree)) fs rs (here table fs rs gs)
-matching text old table weight a x fs rs o gs r = exact-same (same-local text old table weight a x) (exact table fs rs o gs r)
+matching text table weight a x fs rs o gs r = exact-same (copy-local text table weight a x) (exact table fs rs o gs r)
 
 -- one answer, of a sound table
 opens : (ws fs rs : List ℕ) (answer : Answer) → SoundTable ws → Answered ws fs rs answer → (answer ≡ Answer.Opened) ↔ ((length fs ≤ max-frame-bytes) × (2 * bits-of fs ≤ length rs))
@@ -68,7 +68,7 @@ pub condition-2 : Condition2
 condition-2 =
     record {
       admitting = λ text old new answer a. a .exactly;
-      opened = λ text old table weight a fs rs answer. opens table fs rs answer (text-table text old table weight a .sound);
+      opened = λ text table weight a fs rs answer. opens table fs rs answer (copy-sound text table weight a);
       matching = matching;
     }
 
@@ -78,13 +78,13 @@ at-most-one text old table weight a x s t t′ v v′ d d′ =
     table-at-most-one table (text-table text old table weight a .sound) s t t′ v v′ (same s t v .1 d) (same s t′ v′ .1 d′)
 
 pub condition-3 : Condition3
-condition-3 text old table weight a x fs rs o =
-    let c = claim table fs rs o weight (text-table text old table weight a .weight-stored) in
+condition-3 text table weight a x fs rs o =
+    let c = claim table fs rs o weight (copy-weight text table weight a) in
     record {
       needed = c .needed;
       within-bound = c .within-bound;
       granting = c .granting;
-      by-steps = λ gs r. same-steps text old table weight a x fs rs gs .0 (c .by-steps gs r);
+      by-steps = λ gs r. copy-steps text table weight a x fs rs gs .0 (c .by-steps gs r);
       unbroken = c .unbroken;
       any-reading = c .any-reading;
     }

@@ -8,7 +8,7 @@ use native.Mathlib.Omega.{arith}
 use lib.ListN.{length, drop, replicate, length-set, length-replicate}
 use Rattle.basis.specs.Limits.{max-entries}
 use Rattle.theory.specs.Derivation.{Capture, captures}
-use Rattle.theory.specs.Machine.{undecided, matched, unmatched, Run as MachineRun, run, opened, granted}
+use Rattle.theory.specs.Machine.{Tests, undecided, matched, unmatched, Run as MachineRun, run, opened, granted}
 use Rattle.table_layout.specs.Places.{table-of}
 use Rattle.table_layout.specs.Held.{opening}
 use Rattle.run_steps.specs.Steps.{Whole, steps-of}
@@ -17,6 +17,7 @@ use Rattle.run_refinement.proofs.Pending.{recorded-length}
 use Rattle.run_refinement.proofs.Readings.{reading-is}
 use Rattle.run_grants.specs.Runs.{whole-of, opened-run}
 use Rattle.run_grants.specs.declared.Run.{Run}
+use Rattle.run_matcher.specs.Windows.{Tells}
 use Rattle.run_matcher.specs.Conditions.{Grant, granted as steps-granted, run-kept, reading-kept, here, Granted, BySteps}
 use Rattle.tree.specs.Tree.{Rules}
 use Rattle.tree_meaning.specs.Grammar.{tree-grammar}
@@ -38,7 +39,7 @@ numbered-back zero l = refl
 numbered-back (suc zero) l = refl
 numbered-back (suc (suc n)) l = omega arith
 
-module _ (t : Rules) (needed : ℕ) (ws fs rs : List ℕ) (gs : List Grant) (g : Granted ws fs rs gs needed) (b : BySteps (tree-grammar t) ws fs rs gs) (e : Exact (local-grammar t) fs rs (here ws fs rs gs)) where
+module _ (t : Rules) (needed : ℕ) (ws fs rs : List ℕ) (gs : List Grant) (g : Granted ws fs rs gs needed) (b : BySteps (tree-grammar t) ws fs rs gs) (e : Exact (local-grammar t) fs rs (here ws fs rs gs)) (windows : (tests : Tests) × Tells (tree-grammar t) tests) where
   abbrev now : Run
   now = run-kept (here ws fs rs gs)
 
@@ -68,6 +69,7 @@ module _ (t : Rules) (needed : ℕ) (ws fs rs : List ℕ) (gs : List Grant) (g :
       record {
         truthful = truthful;
         by-steps = λ tests told. subst (λ (r : HeldRun). Shown r rs (seen-of now words)) (b .made tests told) shown-held;
+        lookups = windows;
         counted = g .steps;
         decided-iff = g .decided-iff;
       }

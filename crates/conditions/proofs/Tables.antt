@@ -12,7 +12,8 @@ use Rattle.theory.specs.Grammar.{Grammar}
 use Rattle.theory.specs.Derivation.{Tree, Derivation}
 use Rattle.theory.specs.Scope.{localised}
 use Rattle.theory.specs.Weight.{Weighs}
-use Rattle.table_layout.specs.Places.{table-of}
+use Rattle.table_layout.specs.Places.{table-of, weight-of}
+use Rattle.table_judge.specs.Sound.{Sound, SoundTable}
 use Rattle.table_layout.specs.Held.{Context, first-context, Values, held, opening}
 use Rattle.table_scope.specs.Scope.{store, scope-of, fresh}
 use Rattle.table_weights.proofs.Heights.{weight-at}
@@ -38,7 +39,7 @@ use Rattle.admission.specs.Promised.{Promised}
 use Rattle.admission.proofs.Rows.{one-tree}
 use Rattle.admission.proofs.Stages.{fitting, treed, from-stored}
 use Rattle.admission.proofs.Holding.{meant, words-hold, its-tree, spelled, no-5, no-6, no-8, word-sets}
-use Rattle.conditions.specs.Conditions.{TextTable, Tables}
+use Rattle.conditions.specs.Conditions.{TextTable, Tables, HasTable}
 
 -- the grammar of a table's words, with variables local to a rule
 abbrev local-of : List ℕ → Grammar Context Values → Grammar Context Values
@@ -134,10 +135,33 @@ module _ (text old new : List ℕ) (weight : ℕ) (a : Promised text old new (Ad
         to-tree (λ t. (s : Bits) (d : Tree) (v : Values) → Derivation (grammar-of new) s d v ↔ Derivation (local-grammar t) s d v)
         (local-derives text old new weight (by-passing .base) (by-passing .headed) (by-passing .rules))
 
-    pub same-steps : (fs rs : List ℕ) (gs : List Grant) → BySteps (held (table-of new)) new fs rs gs ↔ BySteps (tree-grammar (x .tree)) new fs rs gs
-    same-steps fs rs gs =
-        to-tree (λ t. BySteps (held (table-of new)) new fs rs gs ↔ BySteps (tree-grammar t) new fs rs gs)
-        (table-steps text old new weight (by-passing .base) (by-passing .headed) (by-passing .rules) new fs rs gs)
+    pub same-steps : (ws fs rs : List ℕ) (gs : List Grant) → BySteps (held (table-of new)) ws fs rs gs ↔ BySteps (tree-grammar (x .tree)) ws fs rs gs
+    same-steps ws fs rs gs =
+        to-tree (λ t. BySteps (held (table-of new)) ws fs rs gs ↔ BySteps (tree-grammar t) ws fs rs gs)
+        (table-steps text old new weight (by-passing .base) (by-passing .headed) (by-passing .rules) ws fs rs gs)
+
+-- ---- of a copy of its table
+
+module _ (text table : List ℕ) (weight : ℕ) (h : HasTable text table weight) where
+  left-table : TextTable text (h .left) weight
+  left-table = text-table text (h .old) (h .left) weight (h .promised)
+
+  pub copy-sound : SoundTable table
+  copy-sound = (h .copy .0, subst Sound (sym (h .copy .1)) (left-table .sound .1))
+
+  pub copy-weight : weight-of (table-of table) ≡ weight
+  copy-weight = subst (λ (ws : List ℕ). weight-of ws ≡ weight) (sym (h .copy .1)) (left-table .weight-stored)
+
+  module _ (x : TreeOf text) where
+    pub copy-local : (s : Bits) (d : Tree) (v : Values) → Derivation (grammar-of table) s d v ↔ Derivation (local-grammar (x .tree)) s d v
+    copy-local =
+        subst (λ (ws : List ℕ). (s : Bits) (d : Tree) (v : Values) → Derivation (local-of ws (held ws)) s d v ↔ Derivation (local-grammar (x .tree)) s d v) (sym (h .copy .1))
+        (same-local text (h .old) (h .left) weight (h .promised) x)
+
+    pub copy-steps : (fs rs : List ℕ) (gs : List Grant) → BySteps (held (table-of table)) table fs rs gs ↔ BySteps (tree-grammar (x .tree)) table fs rs gs
+    copy-steps fs rs gs =
+        subst (λ (ws : List ℕ). BySteps (held ws) table fs rs gs ↔ BySteps (tree-grammar (x .tree)) table fs rs gs) (sym (h .copy .1))
+        (same-steps text (h .old) (h .left) weight (h .promised) x table fs rs gs)
 
 pub tables : Tables
 tables = text-table

@@ -8,6 +8,7 @@ use mathlib.Core.Logic.{_⊎_, _↔_}
 use mathlib.Core.List.{List, [], _∷_}
 use mathlib.Core.Option.{Option, none, some}
 use lib.ListN.{length, getD, set, take, drop}
+use lib.Seq.{sets}
 use Rattle.basis.specs.Limits.{max-frame-bytes}
 use Rattle.theory.specs.Grammar.{Grammar}
 use Rattle.table_layout.specs.Places.{table-words}
@@ -17,13 +18,15 @@ use Rattle.run_steps.specs.Steps.{undecided}
 use Rattle.run_grants.specs.Runs.{closed-run}
 use Rattle.run_saved.specs.Saved.{saved-bytes, encoded, restored}
 use Rattle.run_matcher.specs.Conditions.{Grant, own, granted as steps-granted, kept, run-kept, reading-kept, Decided, here, Unbroken, Granted}
+use Rattle.text_admission.specs.Answers.{number-of, told}
+use Rattle.text_admission.specs.declared.Admission.{Admission}
 use Rattle.songrafter.specs.Calls.{Admits, Opens, Grants}
 use Rattle.tree_meaning.specs.Grammar.{tree-grammar}
 use Rattle.tree_meaning.specs.Local.{local-grammar}
 use Rattle.admission.specs.Texts.{TreeOf}
 use Rattle.admission.specs.Refusals.{Exactly, Weight}
 use Rattle.conditions.specs.Meaning.{Seen, OneDerivation, InTime, Seeing}
-use Rattle.conditions.specs.Conditions.{Exact, Claim}
+use Rattle.conditions.specs.Conditions.{CopyOf, Exact, Claim}
 
 -- ---- 1. "each is answered or refused by a number of document 01, buffers are left as stated, no caller is trusted"
 
@@ -85,8 +88,9 @@ OneAndMany =
 
 pub record Calls2 : Type 0 where
   -- `number` and `answer` tell the first row of document 01's table that fits
-  pub admitting : (text table table′ answer answer′ : List ℕ) (number : ℕ) (a : Admits text table table′ answer answer′ number) → Exactly text table (a .admission)
-  pub opening : (text old table answer answer′ : List ℕ) → Admits text old table answer answer′ 0
+  pub admitting : (text table table′ answer answer′ : List ℕ) (number : ℕ) → Admits text table table′ answer answer′ number
+      → (x : Admission) × Exactly text table x × (number ≡ number-of x) × (answer′ ≡ sets answer 0 (told x))
+  pub opening : (text old left answer answer′ : List ℕ) → Admits text old left answer answer′ 0 → (table : List ℕ) → CopyOf table left
       → (frame reading run run′ : List ℕ) (number : ℕ) → Opens table frame reading run run′ number
       → (number ≡ 0) ↔ ((length frame ≤ max-frame-bytes) × (2 * bits-of frame ≤ length reading) × (length run ≡ saved-bytes))
 
@@ -166,8 +170,8 @@ pub record Life (text table answer answer′ frame reading run : List ℕ) : Typ
   pub calls : (gs : List Grant) (run′ reading′ : List ℕ) (cs : Kiosk table frame run reading gs run′ reading′)
       → Lived (local-grammar (tree .tree)) (claim .needed) table frame run reading gs run′ reading′ cs
 
--- songrafter_admit answered 0 and wrote `table`; songrafter_open answered 0 for that table, a frame and a reading, and wrote `run` over `room`
+-- songrafter_admit answered 0 and left a table; songrafter_open answered 0 for that table or a copy of it, a frame and a reading, and wrote `run` over `room`
 abbrev pub Calls3 : Type 0
 Calls3 =
-    (text old table answer answer′ : List ℕ) → Admits text old table answer answer′ 0
+    (text old left answer answer′ : List ℕ) → Admits text old left answer answer′ 0 → (table : List ℕ) → CopyOf table left
     → (frame reading room run : List ℕ) → Opens table frame reading room run 0 → Life text table answer answer′ frame reading run

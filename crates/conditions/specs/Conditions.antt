@@ -1,4 +1,4 @@
--- The mission's three conditions, of what the calls promise: `Promised` (`text_admission::admit`), `Answered` and `run-given` (`run_matcher::open`),
+-- The mission's three conditions, of what the calls promise: `Promised` (`admission::admit`), `Answered` and `run-given` (`run_matcher::open`),
 -- `grant-of` (`run_grants::advance`, `run_grants::grant`). They stand at the end of each part, and are proved: `Condition1` by `condition-1`
 -- (`proofs/Buffers.antt`), `Tables` by `tables` (`proofs/Tables.antt`), `OneAnswer` and `OneTable` by `one-answer` and `one-table`
 -- (`proofs/OneAnswer.antt`), `Condition2`, `AtMostOne` and `Condition3` by `condition-2`, `at-most-one` and `condition-3` (`proofs/Conditions.antt`).
@@ -79,6 +79,17 @@ pub record TextTable (text new : List ℕ) (weight : ℕ) : Type 0 where
 abbrev pub Tables : Type 0
 Tables = (text old new : List ℕ) (weight : ℕ) → Promised text old new (Admission.Admitted weight) → TextTable text new weight
 
+-- A table whose words are those that were left, perhaps in another array: "Words past 16,384 are neither read nor changed".
+abbrev pub CopyOf : (table left : List ℕ) → Type 0
+CopyOf table left = (table-words ≤ length table) × (table-of table ≡ table-of left)
+
+-- the table of an admitted text, or a copy of it
+pub record HasTable (text table : List ℕ) (weight : ℕ) : Type 0 where
+  pub old : List ℕ
+  pub left : List ℕ
+  pub promised : Promised text old left (Admission.Admitted weight)
+  pub copy : CopyOf table left
+
 -- an answer and the words that it leaves are the text's and the table's: no two are promised
 abbrev pub OneAnswer : Type 0
 OneAnswer =
@@ -106,10 +117,10 @@ pub record Condition2 : Type 0 where
   -- by the first row of document 01's table of numbers that fits, 0 where none does
   pub admitting : (text old new : List ℕ) (answer : Admission) → Promised text old new answer → Exactly text old answer
   -- a run is opened on its table exactly where the frame is not over 256 bytes and the reading has room
-  pub opened : (text old table : List ℕ) (weight : ℕ) → Promised text old table (Admission.Admitted weight) → (fs rs : List ℕ) (answer : Answer) → Answered table fs rs answer
+  pub opened : (text table : List ℕ) (weight : ℕ) → HasTable text table weight → (fs rs : List ℕ) (answer : Answer) → Answered table fs rs answer
       → (answer ≡ Answer.Opened) ↔ ((length fs ≤ max-frame-bytes) × (2 * bits-of fs ≤ length rs))
   -- of every text that is admitted, every frame and reading on which its table opens a run, and every list of grants
-  pub matching : (text old table : List ℕ) (weight : ℕ) → Promised text old table (Admission.Admitted weight) → (x : TreeOf text)
+  pub matching : (text table : List ℕ) (weight : ℕ) → HasTable text table weight → (x : TreeOf text)
       → (fs rs : List ℕ) → Opened table fs rs → (gs : List Grant) → OthersRefused table fs gs (start rs) → Exact (local-grammar (x .tree)) fs rs (here table fs rs gs)
 
 -- ---- 3. "At most one derivation; decided within weight × (bits + 1) steps; and for every list of grants, one claim"
@@ -135,5 +146,5 @@ pub record Claim (g : Grammar Context Values) (weight : ℕ) (ws fs rs : List �
 -- of every text that is admitted, and every frame and reading on which its table opens a run
 abbrev pub Condition3 : Type 0
 Condition3 =
-    (text old table : List ℕ) (weight : ℕ) → Promised text old table (Admission.Admitted weight) → (x : TreeOf text)
+    (text table : List ℕ) (weight : ℕ) → HasTable text table weight → (x : TreeOf text)
     → (fs rs : List ℕ) → Opened table fs rs → Claim (tree-grammar (x .tree)) weight table fs rs

@@ -58,7 +58,8 @@ pub record Truthful (t : Rules) (frame before : List ℕ) (x : Seen) : Type 0 wh
 abbrev pub OneDerivation : Rules → Type 0
 OneDerivation t = (s : Bits) (d d′ : Tree) (v v′ : Values) → Derivation (local-grammar t) s d v → Derivation (local-grammar t) s d′ v′ → d ≡ d′
 
--- "run, reading and count are exactly what document 01's steps make of them": what a run of the machine shows
+-- "run, reading and count are exactly what document 01's steps make of them": what a run of the machine shows, all but its to-do list, which no call shows
+-- (`Conditions.Claim`, `by-steps`, has it)
 abbrev pub Shown : Run Context Values → (before : List ℕ) → Seen → Type 0
 Shown (run (state pending rest position values fields) taken verdict) before x =
     (x .verdict ≡ verdict-number verdict) × (x .steps ≡ taken) × (x .position ≡ position) × (x .fields ≡ length fields) × (x .values ≡ values) × (x .reading ≡ listing fields before)
@@ -75,5 +76,7 @@ InTime weight frame needed = needed ≤ weight * (8 * length frame + 1)
 pub record Seeing (t : Rules) (needed : ℕ) (frame before : List ℕ) (steps : ℕ) (x : Seen) : Type 0 where
   pub truthful : Truthful t frame before x
   pub by-steps : BySteps t frame before steps x
+  -- and its windows can be looked up
+  pub lookups : (tests : Tests) × Tells (tree-grammar t) tests
   pub counted : x .steps ≡ min steps needed
   pub decided-iff : IsDecided x ↔ (needed ≤ steps)

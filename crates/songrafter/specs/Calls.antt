@@ -2,16 +2,15 @@
 -- Assumes nothing.
 use Prim.Native.Nat.{ℕ}
 use mathlib.Core.Path.{_≡_}
-use mathlib.Core.List.{List, [], _∷_}
+use mathlib.Core.List.{List}
 use lib.Dec.{ltb, eqb}
 use lib.ListN.{length, set}
 use lib.Seq.{sets}
 use Rattle.basis.specs.Limits.{max-frame-bytes}
-use Rattle.table_conflicts.specs.declared.Clash.{Clash}
 use Rattle.table_layout.specs.Constructs.{pick}
 use Rattle.table_layout.specs.Places.{table-of}
 use Rattle.admission.specs.Promised.{Promised}
-use Rattle.text_admission.specs.Answers.{number-of}
+use Rattle.text_admission.specs.Answers.{number-of, told}
 use Rattle.text_admission.specs.declared.Admission.{Admission}
 use Rattle.run_matcher.specs.Opening as opening
 use Rattle.run_matcher.specs.declared.Answer.{Answer}
@@ -20,19 +19,6 @@ use Rattle.run_saved.specs.Saved.{saved-bytes, encoded, decoded, restored}
 use Rattle.run_fields.specs.Fields as fields
 
 -- ---- admission
-
--- what is told of an answer, five numbers: the weight or the place; the window of a clash, its construct, and the two branches that share the
--- window (0, 0 where a repetition's going on and stopping do)
-abbrev pub told-clash : ℕ → ℕ → Clash → List ℕ
-told-clash place construct Clash.None = place ∷ 0 ∷ construct ∷ 0 ∷ 0 ∷ []
-told-clash place construct (Clash.Branches window first second) = place ∷ window ∷ construct ∷ first ∷ second ∷ []
-told-clash place construct (Clash.Passes window) = place ∷ window ∷ construct ∷ 0 ∷ 0 ∷ []
-
--- the five of any answer
-abbrev pub told : Admission → List ℕ
-told (Admission.Admitted weight) = weight ∷ 0 ∷ 0 ∷ 0 ∷ 0 ∷ []
-told (Admission.Refused number place) = place ∷ 0 ∷ 0 ∷ 0 ∷ 0 ∷ []
-told (Admission.Conflict place construct clash) = told-clash place construct clash
 
 -- admission answers with its number; what fits of the five is written
 pub record Admits (text old new answer answer′ : List ℕ) (number : ℕ) : Type 0 where

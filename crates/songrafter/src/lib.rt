@@ -19,7 +19,8 @@ ghost use Rattle.table_layout.specs.Places.{table-of};
 ghost use Rattle.run_grants.specs.Runs.{after, grant-of, number-of as grant-number, taken-of};
 ghost use Rattle.run_saved.specs.Saved.{restored};
 ghost use Rattle.run_fields.specs.Fields.{number-of as field-number, told as told-field};
-ghost use Rattle.songrafter.specs.Calls.{told-clash, told, Admits, number-with-room, Opens, no-run-number, Grants, TellsField, version};
+ghost use Rattle.songrafter.specs.Calls.{Admits, number-with-room, Opens, no-run-number, Grants, TellsField, version};
+ghost use Rattle.text_admission.specs.Answers.{told-clash, told};
 
 // A number of an answer, where it fits.
 fn put(answer: &mut [u64], k: usize, n: usize)

@@ -6,7 +6,7 @@ use Rattle.theory.specs.Grammar.{alternative, concatenation as sequence, repeti
 use Rattle.tree.specs.Tree.{Rules}
 use Rattle.tree_meaning.specs.Grammar.{Context, Values, TreeNode, tree-grammar}
 
--- A use of a rule opens it with all variables 0, whatever they are at the use ("the rest 0"), and at its end the user's values are as they were. No other
+-- A use of a rule opens it with all variables 0, whatever they are at the use, and at its end the user's values are as they were. No other
 -- construct changes.
 unfoldable pub local-node : TreeNode → TreeNode
 local-node (alternative is) = alternative is

@@ -30,7 +30,7 @@ rule-fault earlier x = is-reserved x || is-among earlier x
 abbrev pub use-fault : (rules variables : List Name) → Name → Bool
 use-fault rules variables x = is-reserved x || (not (is-among rules x) || is-among variables x)
 
--- a variable's name in its binder, after the binders of these names in its rule: "double, misplaced"
+-- a variable's name in its binder, after the binders of these names in its rule: "double", "reserved", "misplaced"
 abbrev pub binder-fault : (before : List Name) → (placed : Bool) → Name → Bool
 binder-fault before placed x = is-reserved x || (is-among before x || not placed)
 

@@ -25,7 +25,7 @@ module _ (widest : List ℕ → ℕ) where
   operand-size (plain x) = primary-size x
   operand-size (opposite s x) = primary-size x
 
-  -- "sizes multiplied": n and the factors that follow it
+  -- "sizes added and multiplied": n times the factors that follow it
   unfoldable pub times-size : ℕ → Factors → ℕ
   times-size n no-factor = n
   times-size n (times s x more) = times-size (n * operand-size x) more
@@ -33,7 +33,7 @@ module _ (widest : List ℕ → ℕ) where
   abbrev pub product-size : Product → ℕ
   product-size (product x more) = times-size (operand-size x) more
 
-  -- "sizes added"
+  -- n and the products that are added to it or taken from it
   unfoldable pub sum-size : ℕ → Summands → ℕ
   sum-size n no-summand = n
   sum-size n (plus s x more) = sum-size (n + product-size x) more

@@ -2,7 +2,7 @@ use mathlib.Core.Path.{sym, ap, _∙_}
 use lib.Seq.{sets}
 use Rattle.text_admission.specs.Answers.{number-of}
 use Rattle.text_admission.specs.declared.Admission.{Admission}
-use Rattle.songrafter.specs.Calls.{told}
+use Rattle.text_admission.specs.Answers.{told}
 use borrow.Author.Needs.{needs}
 use Rattle.songrafter.proofs.tell.Statement.{statement}
 use Rattle.songrafter.proofs.tell.Tie as tie

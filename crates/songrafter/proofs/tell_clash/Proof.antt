@@ -1,7 +1,7 @@
 use mathlib.Core.Path.{sym, ap, _∙_}
 use lib.Seq.{sets}
 use Rattle.table_conflicts.specs.declared.Clash.{Clash}
-use Rattle.songrafter.specs.Calls.{told-clash}
+use Rattle.text_admission.specs.Answers.{told-clash}
 use borrow.Author.Needs.{needs}
 use Rattle.songrafter.proofs.tell_clash.Statement.{statement}
 use Rattle.songrafter.proofs.tell_clash.Tie as tie
