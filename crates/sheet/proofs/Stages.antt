@@ -9,7 +9,7 @@ use mathlib.Core.List.{List}
 use native.Mathlib.Omega.{arith}
 use native.Mathlib.Decide.{decLt}
 use lib.ListN.{length}
-use Rattle.text_header.proofs.Tests.{which}
+use Rattle.basis.proofs.Booleans.{which}
 use Rattle.table_layout.specs.Places.{rule-count}
 use Rattle.table_layout.specs.Constructs.{constructAt}
 use Rattle.table_layout.specs.declared.Construct.{Construct}
