@@ -1,7 +1,7 @@
 -- The conditions of a C program's calls, from those of the crates' calls.
 -- Assumes nothing.
 use Prim.Native.Nat.{ℕ, suc, _+_, _*_, _-_, _≤_, min}
-use mathlib.Core.Path.{_≡_, refl, sym, ap, ap₂, subst, _∙_}
+use mathlib.Core.Path.{_≡_, refl, sym, ap, ap₂, subst, subst₂, _∙_}
 use mathlib.Core.Logic.{_⊎_, inl, inr, _↔_}
 use mathlib.Core.Bool.{Bool, true, false}
 use mathlib.Core.List.{List, [], _∷_}
@@ -16,7 +16,6 @@ use Rattle.table_layout.specs.Constructs.{pick}
 use Rattle.table_layout.specs.Places.{table-of}
 use Rattle.run_actions.specs.Acts.{bits-of}
 use Rattle.table_conflicts.specs.declared.Clash.{Clash}
-use Rattle.text_admission.specs.Admitted.{Answers}
 use Rattle.text_admission.specs.Answers.{number-of as text-number}
 use Rattle.text_admission.specs.declared.Admission.{Admission}
 use Rattle.run_grants.specs.Runs.{closed-run, After, run-in, reading-in, answer-in, grant-of, number-of, taken-of}
@@ -32,13 +31,17 @@ use Rattle.run_matcher.specs.declared.Answer.{Answer}
 use Rattle.run_matcher.specs.Conditions.{Grant, own, Kept, granted as steps-granted, kept, run-kept, reading-kept, Decided, start, here, call, next, after-grants, OthersRefused, EachCounts as GrantsCount}
 use Rattle.run_matcher.proofs.Answers.{answer-once}
 use Rattle.songrafter.specs.Calls.{told, Admits, number-with-room, Opens, granted, Grants}
-use Rattle.conditions.specs.Texts.{text-grammar}
+use Rattle.tree_meaning.specs.Local.{local-grammar}
+use Rattle.admission.specs.Promised.{Promised}
+use Rattle.admission.proofs.Numbers.{refused-number}
 use Rattle.conditions.specs.Conditions.{Exact}
+use Rattle.conditions.specs.Meaning.{Seeing}
 use Rattle.conditions.specs.Calls.{AdmitLeaves, OpenLeaves, GrantLeaves, Calls1, OneOutcome, OneAndMany, Calls2, handed, left, Kiosk, no-call, own-call, other-call, EachCounts, Calls3}
-use Rattle.conditions.proofs.Buffers.{refused-number, condition-1}
+use Rattle.conditions.proofs.Buffers.{condition-1}
 use Rattle.conditions.proofs.Tables.{text-table}
 use Rattle.conditions.proofs.OneAnswer.{one-answer}
-use Rattle.conditions.proofs.Conditions.{condition-2, condition-3}
+use Rattle.conditions.proofs.Conditions.{condition-2, at-most-one, condition-3}
+use Rattle.conditions.proofs.Seeing.{seen-of, seeing}
 
 -- ---- songrafter_admit
 
@@ -55,7 +58,7 @@ five (Admission.Conflict place construct (Clash.Passes window)) = refl
 
 admit-leaves : (text table table′ answer answer′ : List ℕ) (number : ℕ) → Admits text table table′ answer answer′ number → AdmitLeaves table table′ answer answer′ number
 admit-leaves text table table′ answer answer′ number a =
-    let c = condition-1 .admitting text table table′ (a .admission) (a .answers) in
+    let c = a .promised .leaves in
     record {
       numbered = subst (λ (n : ℕ). n ≤ 11) (sym (a .number-is)) (c .number);
       refused = λ h. c .refused (λ e. h (a .number-is ∙ e));
@@ -71,14 +74,14 @@ first-of-five (x ∷ xs) n h = refl
 record Weighed (text old table answer answer′ : List ℕ) : Type 0 where
   weight : ℕ
   told-so : 1 ≤ length answer → getD answer′ 0 0 ≡ weight
-  answers : Answers text old table (Admission.Admitted weight)
+  answers : Promised text old table (Admission.Admitted weight)
 
 weighed : (text old table answer answer′ : List ℕ) → Admits text old table answer answer′ 0 → Weighed text old table answer answer′
-weighed text old table answer answer′ a = by (a .admission) (a .answers) (a .number-is) (a .told-is)
+weighed text old table answer answer′ a = by (a .admission) (a .promised) (a .number-is) (a .told-is)
   where
-    by : (x : Admission) → Answers text old table x → 0 ≡ text-number x → answer′ ≡ sets answer 0 (told x) → Weighed text old table answer answer′
+    by : (x : Admission) → Promised text old table x → 0 ≡ text-number x → answer′ ≡ sets answer 0 (told x) → Weighed text old table answer answer′
     by (Admission.Admitted weight) p e t = record { weight = weight; told-so = λ h. ap (λ (l : List ℕ). getD l 0 0) t ∙ first-of-five answer weight h; answers = p }
-    by (Admission.Refused number place) p e t = absurd (omega (arith, refused-number text old table number place p .0, e))
+    by (Admission.Refused number place) p e t = absurd (omega (arith, refused-number text old table number place (p .answers) .0, e))
     by (Admission.Conflict place construct clash) p e t = absurd (omega (arith, e))
 
 -- ---- songrafter_open
@@ -191,7 +194,7 @@ calls-1 = record { admitting = admit-leaves; opening = open-leaves; granting = g
 admit-once : (text table table₁ table₂ answer answer₁ answer₂ : List ℕ) (m n : ℕ) → Admits text table table₁ answer answer₁ m → Admits text table table₂ answer answer₂ n
     → (m ≡ n) × (table₁ ≡ table₂) × (answer₁ ≡ answer₂)
 admit-once text table table₁ table₂ answer answer₁ answer₂ m n a b =
-    let e = one-answer text table table₁ table₂ (a .admission) (b .admission) (a .answers) (b .answers) in
+    let e = one-answer text table table₁ table₂ (a .admission) (b .admission) (a .promised) (b .promised) in
     (a .number-is ∙ ap text-number (e .0) ∙ sym (b .number-is), e .1, a .told-is ∙ ap (λ (x : Admission). sets answer 0 (told x)) (e .0) ∙ sym (b .told-is))
 
 open-once : (table frame reading run run₁ run₂ : List ℕ) (m n : ℕ) → Opens table frame reading run run₁ m → Opens table frame reading run run₂ n → (m ≡ n) × (run₁ ≡ run₂)
@@ -277,7 +280,7 @@ opens-where text old table answer answer′ a frame reading run run′ number o 
 
 pub calls-2 : Calls2
 calls-2 =
-    record { admitting = λ text table table′ answer answer′ number a. condition-2 .admitting text table table′ (a .admission) (a .answers); opening = opens-where }
+    record { admitting = λ text table table′ answer answer′ number a. a .promised .exactly; opening = opens-where }
 
 -- ---- the kiosk's calls
 
@@ -362,10 +365,10 @@ kept-parts (kept run rs) = refl
 pub calls-3 : Calls3
 calls-3 text old table answer answer′ a frame reading room run o =
     let w = weighed text old table answer answer′ a in
-    let x = text-table text old table (w .weight) (w .answers) .admissible in
+    let x = text-table text old table (w .weight) (w .answers) in
     let z = zero-is table frame reading room run 0 o refl in
     let opened : Opened table frame reading = subst (Answered table frame reading) (z .0) (o .answered) in
-    let claim = condition-3 text old table (w .weight) (w .answers) (x .reading) frame reading opened in
+    let claim = condition-3 text old table (w .weight) (w .answers) (x .tree) frame reading opened in
     let first : Same run reading (start reading) = record {
       full = o .run-length ∙ z .1;
       bytes-are = o .run-is ∙ ap₂ (λ (s : Bool) (y : Answer). pick s (encoded (run-given y)) room) (eq-eqb (length room) saved-bytes (z .1)) (z .0);
@@ -375,7 +378,17 @@ calls-3 text old table answer answer′ a frame reading room run o =
     record {
       weight = w .weight;
       weight-told = w .told-so;
-      admissible = x;
+      tree = x .tree;
+      one-derivation = at-most-one text old table (w .weight) (w .answers) (x .tree);
+      in-time = claim .within-bound;
+      meant = λ gs run′ reading′ cs.
+          let others = owns-refuse table frame cs (start reading) in
+          let s = leaves table frame cs (start reading) first in
+          let read : restored run′ ≡ run-kept (here table frame reading gs) = restored-is run′ (s .full) ∙ s .read-as in
+          subst₂ (λ (r : Run) (zs : List ℕ). Seeing (x .tree .tree) (claim .needed) frame reading (steps-granted gs) (seen-of r zs)) (sym read) (sym (s .words-are))
+          (seeing (x .tree .tree) (claim .needed) table frame reading gs (claim .granting gs others) (claim .by-steps gs others)
+          (condition-2 .matching text old table (w .weight) (w .answers) (x .tree) frame reading opened gs others));
+      weighs = (x .weighable .0, x .weighable .1, x .weights (x .weighable .0) (x .weighable .1));
       claim = claim;
       calls = λ gs run′ reading′ cs.
           let others = owns-refuse table frame cs (start reading) in
@@ -390,7 +403,7 @@ calls-3 text old table answer answer′ a frame reading room run o =
             unbroken = claim .unbroken gs others;
             answers = counts table frame (claim .needed) 0 cs (start reading) first (g .answers);
             decided-iff = subst (λ (r : Run). Decided r ↔ (claim .needed ≤ steps-granted gs)) (sym read) (g .decided-iff);
-            exact = subst (Exact (text-grammar (x .reading)) frame reading) (sym (ap₂ kept read (s .words-are) ∙ kept-parts (here table frame reading gs)))
-                (condition-2 .matching text old table (w .weight) (w .answers) (x .reading) frame reading opened gs others);
+            exact = subst (Exact (local-grammar (x .tree .tree)) frame reading) (sym (ap₂ kept read (s .words-are) ∙ kept-parts (here table frame reading gs)))
+                (condition-2 .matching text old table (w .weight) (w .answers) (x .tree) frame reading opened gs others);
           };
     }

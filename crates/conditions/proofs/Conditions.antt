@@ -7,23 +7,23 @@ use mathlib.Core.List.{List}
 use native.Mathlib.Omega.{arith}
 use lib.ListN.{length}
 use Rattle.basis.specs.Limits.{max-frame-bytes}
-use Rattle.basis.specs.Bits.{Bits}
+use Rattle.basis.specs.Bits.{Bits, frameBits}
 use Rattle.theory.specs.Grammar.{Grammar}
 use Rattle.theory.specs.Derivation.{Tree, Derivation}
 use Rattle.table_layout.specs.Places.{table-of, weight-of}
 use Rattle.table_layout.specs.Held.{Context, Values, held}
 use Rattle.run_actions.specs.Acts.{bits-of}
-use Rattle.text_admission.specs.Admitted.{Answers}
 use Rattle.text_admission.specs.declared.Admission.{Admission}
 use Rattle.table_judge.specs.Sound.{SoundTable}
 use Rattle.run_matcher.specs.Opening.{Answered, Opened}
 use Rattle.run_matcher.specs.declared.Answer.{Answer}
-use Rattle.run_matcher.specs.Conditions.{Grant, OthersRefused, start, here, grammar-of}
+use Rattle.run_matcher.specs.Conditions.{Grant, Kept, OthersRefused, start, here, grammar-of}
 use Rattle.run_matcher.proofs.Conditions.{condition-2 as table-condition-2, condition-3 as table-condition-3, at-most-one as table-at-most-one, never-broken}
-use Rattle.conditions.specs.Texts.{Reading, text-grammar}
+use Rattle.tree_meaning.specs.Local.{local-grammar}
+use Rattle.admission.specs.Texts.{TreeOf}
+use Rattle.admission.specs.Promised.{Promised}
 use Rattle.conditions.specs.Conditions.{Exact, AtMostOne, Claim, Condition2, Condition3}
-use Rattle.conditions.proofs.Exactly.{exactly}
-use Rattle.conditions.proofs.Tables.{text-table, same-rules, same-grammar}
+use Rattle.conditions.proofs.Tables.{text-table, same-local, same-steps}
 
 module _ (ws fs rs : List ℕ) (o : Opened ws fs rs) where
   exact : (gs : List Grant) → OthersRefused ws fs gs (start rs) → Exact (grammar-of ws) fs rs (here ws fs rs gs)
@@ -41,10 +41,21 @@ module _ (ws fs rs : List ℕ) (o : Opened ws fs rs) where
         any-reading = never-broken .any-reading ws fs rs o;
       }
 
-matching : (text old table : List ℕ) (weight : ℕ) → Answers text old table (Admission.Admitted weight) → (x : Reading text)
-    → (fs rs : List ℕ) → Opened table fs rs → (gs : List Grant) → OthersRefused table fs gs (start rs) → Exact (text-grammar x) fs rs (here table fs rs gs)
-matching text old table weight a x fs rs o gs r =
-    subst (λ (g : Grammar Context Values). Exact g fs rs (here table fs rs gs)) (same-grammar text old table weight a x) (exact table fs rs o gs r)
+-- the same of another grammar with the same derivations
+exact-same : {g h : Grammar Context Values} {fs rs : List ℕ} {k : Kept} → ((s : Bits) (d : Tree) (v : Values) → Derivation g s d v ↔ Derivation h s d v) → Exact g fs rs k → Exact h fs rs k
+exact-same {fs = fs} same e =
+    record {
+      match-iff = λ d. (λ z. (let x = e .match-iff d .0 z in (x .0, x .1, same (frameBits fs) (x .0) (x .1) .0 (x .2))), λ x. e .match-iff d .1 (x .0, x .1, same (frameBits fs) (x .0) (x .1) .1 (x .2)));
+      no-match-iff = λ d. (
+        λ z x. e .no-match-iff d .0 z (x .0, x .1, same (frameBits fs) (x .0) (x .1) .1 (x .2)),
+        λ n. e .no-match-iff d .1 (λ x. n (x .0, x .1, same (frameBits fs) (x .0) (x .1) .0 (x .2))),
+      );
+      fields = λ z t v d. e .fields z t v (same (frameBits fs) t v .1 d);
+    }
+
+matching : (text old table : List ℕ) (weight : ℕ) → Promised text old table (Admission.Admitted weight) → (x : TreeOf text)
+    → (fs rs : List ℕ) → Opened table fs rs → (gs : List Grant) → OthersRefused table fs gs (start rs) → Exact (local-grammar (x .tree)) fs rs (here table fs rs gs)
+matching text old table weight a x fs rs o gs r = exact-same (same-local text old table weight a x) (exact table fs rs o gs r)
 
 -- one answer, of a sound table
 opens : (ws fs rs : List ℕ) (answer : Answer) → SoundTable ws → Answered ws fs rs answer → (answer ≡ Answer.Opened) ↔ ((length fs ≤ max-frame-bytes) × (2 * bits-of fs ≤ length rs))
@@ -54,14 +65,26 @@ opens ws fs rs Answer.SmallReading s a = (λ e. (let z : _≡_ {A = ℕ} 0 1 = c
 opens ws fs rs Answer.Opened s a = (λ e. (a .1, a .2), λ h. refl)
 
 pub condition-2 : Condition2
-condition-2 = record { admitting = exactly; opened = λ text old table weight a fs rs answer. opens table fs rs answer (text-table text old table weight a .sound); matching = matching }
+condition-2 =
+    record {
+      admitting = λ text old new answer a. a .exactly;
+      opened = λ text old table weight a fs rs answer. opens table fs rs answer (text-table text old table weight a .sound);
+      matching = matching;
+    }
 
 pub at-most-one : AtMostOne
-at-most-one text old table weight a x =
-    subst (λ (g : Grammar Context Values). (s : Bits) (t t′ : Tree) (v v′ : Values) → Derivation g s t v → Derivation g s t′ v′ → t ≡ t′)
-    (same-grammar text old table weight a x) (table-at-most-one table (text-table text old table weight a .sound))
+at-most-one text old table weight a x s t t′ v v′ d d′ =
+    let same = same-local text old table weight a x in
+    table-at-most-one table (text-table text old table weight a .sound) s t t′ v v′ (same s t v .1 d) (same s t′ v′ .1 d′)
 
 pub condition-3 : Condition3
 condition-3 text old table weight a x fs rs o =
-    subst (λ (g : Grammar Context Values). Claim g weight table fs rs) (same-rules text old table weight a x)
-    (claim table fs rs o weight (text-table text old table weight a .weight-stored))
+    let c = claim table fs rs o weight (text-table text old table weight a .weight-stored) in
+    record {
+      needed = c .needed;
+      within-bound = c .within-bound;
+      granting = c .granting;
+      by-steps = λ gs r. same-steps text old table weight a x fs rs gs .0 (c .by-steps gs r);
+      unbroken = c .unbroken;
+      any-reading = c .any-reading;
+    }

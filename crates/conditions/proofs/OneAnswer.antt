@@ -22,12 +22,23 @@ use Rattle.text_header.specs.Header.{header-of}
 use Rattle.text_admission.specs.Admitted.{form, words-of, Passes, Tabled, RulesPass, Headed, Clashes, Answers, refused-early, by-rules}
 use Rattle.text_admission.specs.Answers.{place-in, number-of}
 use Rattle.text_admission.specs.declared.Admission.{Admission}
-use Rattle.conditions.specs.Refusals.{Row, short-table, wrong-size, wrong-header, wrong-form, past-limit, wrong-name, recursive, too-large, empty-body, clashing, too-heavy, number, Fits, NoneBelow}
+use Rattle.admission.specs.Refusals.{Row, short-table, wrong-size, wrong-header, wrong-form, past-limit, wrong-name, recursive, too-large, empty-body, clashing, too-heavy, number, Fits, NoneBelow}
 use Rattle.conditions.specs.Conditions.{OneAnswer, OneTable}
-use Rattle.conditions.proofs.Tables.{one-base, one-state}
-use Rattle.conditions.proofs.Refusals.{least-same}
-use Rattle.conditions.proofs.Exactly.{weights-of, told, exactly}
-use Rattle.conditions.proofs.Buffers.{refused-number, condition-1}
+use Rattle.text_parsing.specs.Form.{Outcome, right, refused}
+use Rattle.admission.specs.Promised.{Promised}
+use Rattle.admission.proofs.Rows.{one-base, least-same}
+use Rattle.admission.proofs.Late.{weights-of}
+use Rattle.admission.proofs.Numbers.{text-answered, refused-number}
+use Rattle.admission.proofs.Exactly.{told, exactly}
+
+-- ---- what is read is one
+
+abbrev state-in : State → Outcome → State
+state-in d (right st) = st
+state-in d (refused p) = d
+
+one-state : (o : Outcome) (st st′ : State) → o ≡ right st → o ≡ right st′ → st ≡ st′
+one-state o st st′ e e′ = ap (state-in st) (sym e ∙ e′)
 
 -- ---- the same number, and the same place where it is a refusal
 
@@ -149,7 +160,7 @@ module _ (text old new : List ℕ) where
 
   -- a refused text's table is as it was
   kept : (r : Admission) → Answers text old new r → (number-of r ≡ 0 → ⊥) → new ≡ old
-  kept r a n = condition-1 .admitting text old new r a .refused n
+  kept r a n = text-answered text old new r a .refused n
 
 -- two that are read by rules are so from the same place on
 together : (text old old′ : List ℕ) (A B : ℕ → Type 0) (C : Type 0) → ByRules text old A → ByRules text old′ B → ((base : ℕ) → Headed text old base → Headed text old′ base → A base → B base → C) → C
@@ -209,15 +220,15 @@ module _ (text old old′ new new′ : List ℕ) where
       by (Admission.Conflict p i c) (Admission.Conflict q j d) a b e = (both-clash p q i j c d (e .1 (λ z. omega (arith, z))) a b, λ z. absurd (omega (arith, z)))
 
 pub one-table : OneTable
-one-table text old old′ new new′ r r′ l l′ a a′ = one text old old′ new new′ (whole-rows text old old′ l l′) r r′ a a′
+one-table text old old′ new new′ r r′ l l′ a a′ = one text old old′ new new′ (whole-rows text old old′ l l′) r r′ (a .answers) (a′ .answers)
 
 pub one-answer : OneAnswer
 one-answer text old new new′ r r′ a a′ =
-    let x = one text old old new new′ (λ k p. (λ f. f, λ f. f)) r r′ a a′ in
+    let x = one text old old new new′ (λ k p. (λ f. f, λ f. f)) r r′ (a .answers) (a′ .answers) in
     (x .0, by (number-of r) refl (x .1) (ap number-of (x .0)))
   where
     by : (n : ℕ) → number-of r ≡ n → (number-of r ≡ 0 → table-of new ≡ table-of new′) → number-of r ≡ number-of r′ → new ≡ new′
     by zero e t s =
         sym (take-append-drop table-words new)
-        ∙ (ap₂ _++_ (t e) (condition-1 .admitting text old new r a .beyond ∙ sym (condition-1 .admitting text old new′ r′ a′ .beyond)) ∙ take-append-drop table-words new′)
-    by (suc n) e t s = kept text old new r a (λ z. omega (arith, e, z)) ∙ sym (kept text old new′ r′ a′ (λ z. omega (arith, e, s, z)))
+        ∙ (ap₂ _++_ (t e) (a .leaves .beyond ∙ sym (a′ .leaves .beyond)) ∙ take-append-drop table-words new′)
+    by (suc n) e t s = a .leaves .refused (λ z. omega (arith, e, z)) ∙ sym (a′ .leaves .refused (λ z. omega (arith, e, s, z)))

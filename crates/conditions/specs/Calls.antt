@@ -18,8 +18,11 @@ use Rattle.run_grants.specs.Runs.{closed-run}
 use Rattle.run_saved.specs.Saved.{saved-bytes, encoded, restored}
 use Rattle.run_matcher.specs.Conditions.{Grant, own, granted as steps-granted, kept, run-kept, reading-kept, Decided, here, Unbroken, Granted}
 use Rattle.songrafter.specs.Calls.{Admits, Opens, Grants}
-use Rattle.conditions.specs.Texts.{rules-grammar, text-grammar, Admissible}
-use Rattle.conditions.specs.Refusals.{Exactly}
+use Rattle.tree_meaning.specs.Grammar.{tree-grammar}
+use Rattle.tree_meaning.specs.Local.{local-grammar}
+use Rattle.admission.specs.Texts.{TreeOf}
+use Rattle.admission.specs.Refusals.{Exactly, Weight}
+use Rattle.conditions.specs.Meaning.{Seen, OneDerivation, InTime, Seeing}
 use Rattle.conditions.specs.Conditions.{Exact, Claim}
 
 -- ---- 1. "each is answered or refused by a number of document 01, buffers are left as stated, no caller is trusted"
@@ -123,6 +126,18 @@ EachCounts needed before run reading (own-call reading₁ run₁ taken taken₁ 
 EachCounts needed before run reading (other-call t f r b reading₁ run₁ taken taken₁ steps number g cs) =
     (taken₁ ≡ set taken 0 0) × (run₁ ≡ handed run b) × (reading₁ ≡ handed reading r) × EachCounts needed before (left run b run₁) (left reading r reading₁) cs
 
+-- what a program sees of the run's bytes and the reading (`songrafter_verdict` and the others promise just this)
+abbrev pub seen : (run reading : List ℕ) → Seen
+seen run reading =
+    record {
+      verdict = restored run .verdict;
+      steps = restored run .steps;
+      position = restored run .position;
+      fields = restored run .captures;
+      values = restored run .values;
+      reading = reading;
+    }
+
 -- after the calls: the run's bytes and the reading are those that condition 3's claim speaks of (`run_matcher`, `Granted`, `Unbroken`), and what
 -- songrafter_verdict, songrafter_fields and the others read in them is exact
 pub record Lived (g : Grammar Context Values) (needed : ℕ) (table frame run reading : List ℕ) (gs : List Grant) (run′ reading′ : List ℕ) (cs : Kiosk table frame run reading gs run′ reading′) : Type 0 where
@@ -141,10 +156,15 @@ pub record Lived (g : Grammar Context Values) (needed : ℕ) (table frame run re
 pub record Life (text table answer answer′ frame reading run : List ℕ) : Type 0 where
   pub weight : ℕ
   pub weight-told : 1 ≤ length answer → getD answer′ 0 0 ≡ weight
-  pub admissible : Admissible text weight
-  pub claim : Claim (rules-grammar (admissible .reading)) weight table frame reading
+  pub tree : TreeOf text
+  pub weighs : Weight weight (tree .tree)
+  pub one-derivation : OneDerivation (tree .tree)
+  pub claim : Claim (tree-grammar (tree .tree)) weight table frame reading
+  pub in-time : InTime weight frame (claim .needed)
+  -- what is seen after any calls is what the text's tree and document 01's steps make of the frame
+  pub meant : (gs : List Grant) (run′ reading′ : List ℕ) → Kiosk table frame run reading gs run′ reading′ → Seeing (tree .tree) (claim .needed) frame reading (steps-granted gs) (seen run′ reading′)
   pub calls : (gs : List Grant) (run′ reading′ : List ℕ) (cs : Kiosk table frame run reading gs run′ reading′)
-      → Lived (text-grammar (admissible .reading)) (claim .needed) table frame run reading gs run′ reading′ cs
+      → Lived (local-grammar (tree .tree)) (claim .needed) table frame run reading gs run′ reading′ cs
 
 -- songrafter_admit answered 0 and wrote `table`; songrafter_open answered 0 for that table, a frame and a reading, and wrote `run` over `room`
 abbrev pub Calls3 : Type 0

@@ -1,6 +1,6 @@
--- The mission's three conditions, of what the calls promise: `Answers` (`text_admission::admit`), `Answered` and `run-given` (`run_matcher::open`),
+-- The mission's three conditions, of what the calls promise: `Promised` (`text_admission::admit`), `Answered` and `run-given` (`run_matcher::open`),
 -- `grant-of` (`run_grants::advance`, `run_grants::grant`). They stand at the end of each part, and are proved: `Condition1` by `condition-1`
--- (`proofs/Buffers.antt`), `Tables` by `text-table` (`proofs/Tables.antt`), `OneAnswer` and `OneTable` by `one-answer` and `one-table`
+-- (`proofs/Buffers.antt`), `Tables` by `tables` (`proofs/Tables.antt`), `OneAnswer` and `OneTable` by `one-answer` and `one-table`
 -- (`proofs/OneAnswer.antt`), `Condition2`, `AtMostOne` and `Condition3` by `condition-2`, `at-most-one` and `condition-3` (`proofs/Conditions.antt`).
 -- Assumes nothing.
 use Prim.Native.Nat.{ℕ, _+_, _*_, _≤_}
@@ -21,7 +21,6 @@ use Rattle.run_actions.specs.Acts.{bits-of}
 use Rattle.run_steps.specs.Steps.{undecided, matched, unmatched}
 use Rattle.run_refinement.specs.Runs.{words-of}
 use Rattle.table_judge.specs.Sound.{SoundTable}
-use Rattle.text_admission.specs.Admitted.{Answers}
 use Rattle.text_admission.specs.Answers.{number-of}
 use Rattle.text_admission.specs.declared.Admission.{Admission}
 use Rattle.run_grants.specs.Runs.{After, run-in, reading-in, answer-in, grant-of, closed-run, number-of as grant-number, taken-of}
@@ -31,17 +30,13 @@ use Rattle.run_matcher.specs.Opening.{Answered, Opened, run-given, number-of as
 use Rattle.run_matcher.specs.declared.Answer.{Answer}
 use Rattle.run_matcher.specs.Windows.{Tells}
 use Rattle.run_matcher.specs.Conditions.{Grant, Kept, run-kept, reading-kept, OthersRefused, start, Decided, here, Unbroken, Granted, BySteps, Handing, AnyReading}
-use Rattle.conditions.specs.Refusals.{Exactly}
-use Rattle.conditions.specs.Texts.{Reading, rules-grammar, FormsMeant, text-grammar, Admissible}
+use Rattle.tree_meaning.specs.Grammar.{tree-grammar}
+use Rattle.tree_meaning.specs.Local.{local-grammar}
+use Rattle.admission.specs.Texts.{TreeOf}
+use Rattle.admission.specs.Refusals.{Exactly}
+use Rattle.admission.specs.Promised.{TextAnswered, Promised}
 
 -- ---- 1. "each is answered or refused by a number of document 01, buffers are left as stated, no caller is trusted"
-
--- a text, with any words as table: 0, or 1 to 11; "A refused grammar changes no word of the table", "Words past 16,384 are neither read nor changed"
-pub record TextAnswered (old new : List ℕ) (answer : Admission) : Type 0 where
-  pub number : number-of answer ≤ 11
-  pub refused : (number-of answer ≡ 0 → ⊥) → new ≡ old
-  pub length-kept : length new ≡ length old
-  pub beyond : drop table-words new ≡ drop table-words old
 
 -- an opening on any table, frame and reading (none of them is changed): 0, 21, 22 or 23, and "a refused open gives a closed run"
 pub record RunOpened (answer : Answer) : Type 0 where
@@ -61,7 +56,7 @@ pub record RunGranted (rs : List ℕ) (run : Run) (x : After) : Type 0 where
 
 -- of any text, table, frame, reading, run and number of steps
 pub record Condition1 : Type 0 where
-  pub admitting : (text old new : List ℕ) (answer : Admission) → Answers text old new answer → TextAnswered old new answer
+  pub admitting : (text old new : List ℕ) (answer : Admission) → Promised text old new answer → TextAnswered old new answer
   pub opening-runs : (ws fs rs : List ℕ) (answer : Answer) → Answered ws fs rs answer → RunOpened answer
   pub granting : (ws fs rs : List ℕ) (run : Run) (n : ℕ) → RunGranted rs run (grant-of ws fs rs run n)
   -- one grant and many: granting m steps and then n is granting m + n, refused or not (`run_grants`, `Composing`)
@@ -69,31 +64,30 @@ pub record Condition1 : Type 0 where
 
 -- ---- the table of an admitted text
 
--- "each admitted grammar has one table, sound": it holds the grammar that the text means, and its weight
+-- "each admitted grammar has one table, sound": its words hold a grammar with the derivations of the text's tree, and its weight
 pub record TextTable (text new : List ℕ) (weight : ℕ) : Type 0 where
-  pub admissible : Admissible text weight
-  pub forms : FormsMeant (admissible .reading)
+  pub tree : TreeOf text
   pub sound : SoundTable new
-  pub holds : held (table-of new) ≡ rules-grammar (admissible .reading)
+  pub derives : (s : Bits) (d : Tree) (v : Values) → Derivation (held (table-of new)) s d v ↔ Derivation (tree-grammar (tree .tree)) s d v
   pub weight-stored : weight-of (table-of new) ≡ weight
-  pub weights : (w : Context → ℕ → ℕ) → Weighs (rules-grammar (admissible .reading)) w → w first-context opening ≡ weight
-  pub weighable : (w : Context → ℕ → ℕ) × Weighs (rules-grammar (admissible .reading)) w
+  pub weights : (w : Context → ℕ → ℕ) → Weighs (tree-grammar (tree .tree)) w → w first-context opening ≡ weight
+  pub weighable : (w : Context → ℕ → ℕ) × Weighs (tree-grammar (tree .tree)) w
   -- its windows can be told
-  pub windows : (tests : Tests) × Tells (rules-grammar (admissible .reading)) tests
+  pub windows : (tests : Tests) × Tells (tree-grammar (tree .tree)) tests
 
 -- of every text that is admitted
 abbrev pub Tables : Type 0
-Tables = (text old new : List ℕ) (weight : ℕ) → Answers text old new (Admission.Admitted weight) → TextTable text new weight
+Tables = (text old new : List ℕ) (weight : ℕ) → Promised text old new (Admission.Admitted weight) → TextTable text new weight
 
 -- an answer and the words that it leaves are the text's and the table's: no two are promised
 abbrev pub OneAnswer : Type 0
 OneAnswer =
-    (text old new new′ : List ℕ) (answer answer′ : Admission) → Answers text old new answer → Answers text old new′ answer′ → (answer ≡ answer′) × (new ≡ new′)
+    (text old new new′ : List ℕ) (answer answer′ : Admission) → Promised text old new answer → Promised text old new′ answer′ → (answer ≡ answer′) × (new ≡ new′)
 
 -- "each admitted grammar has one table": one answer and one table to a text, whatever words stood there before
 abbrev pub OneTable : Type 0
 OneTable =
-    (text old old′ new new′ : List ℕ) (answer answer′ : Admission) → table-words ≤ length old → table-words ≤ length old′ → Answers text old new answer → Answers text old′ new′ answer′
+    (text old old′ new new′ : List ℕ) (answer answer′ : Admission) → table-words ≤ length old → table-words ≤ length old′ → Promised text old new answer → Promised text old′ new′ answer′
     → (answer ≡ answer′) × (number-of answer ≡ 0 → table-of new ≡ table-of new′)
 
 -- ---- 2. "A grammar is admitted exactly when document 01's rules admit it; a decided run says match exactly when some derivation covers the
@@ -110,20 +104,20 @@ pub record Exact (g : Grammar Context Values) (fs rs : List ℕ) (k : Kept) : Ty
 -- of every text that is answered, and every run on an admitted one's table
 pub record Condition2 : Type 0 where
   -- by the first row of document 01's table of numbers that fits, 0 where none does
-  pub admitting : (text old new : List ℕ) (answer : Admission) → Answers text old new answer → Exactly text old answer
+  pub admitting : (text old new : List ℕ) (answer : Admission) → Promised text old new answer → Exactly text old answer
   -- a run is opened on its table exactly where the frame is not over 256 bytes and the reading has room
-  pub opened : (text old table : List ℕ) (weight : ℕ) → Answers text old table (Admission.Admitted weight) → (fs rs : List ℕ) (answer : Answer) → Answered table fs rs answer
+  pub opened : (text old table : List ℕ) (weight : ℕ) → Promised text old table (Admission.Admitted weight) → (fs rs : List ℕ) (answer : Answer) → Answered table fs rs answer
       → (answer ≡ Answer.Opened) ↔ ((length fs ≤ max-frame-bytes) × (2 * bits-of fs ≤ length rs))
   -- of every text that is admitted, every frame and reading on which its table opens a run, and every list of grants
-  pub matching : (text old table : List ℕ) (weight : ℕ) → Answers text old table (Admission.Admitted weight) → (x : Reading text)
-      → (fs rs : List ℕ) → Opened table fs rs → (gs : List Grant) → OthersRefused table fs gs (start rs) → Exact (text-grammar x) fs rs (here table fs rs gs)
+  pub matching : (text old table : List ℕ) (weight : ℕ) → Promised text old table (Admission.Admitted weight) → (x : TreeOf text)
+      → (fs rs : List ℕ) → Opened table fs rs → (gs : List Grant) → OthersRefused table fs gs (start rs) → Exact (local-grammar (x .tree)) fs rs (here table fs rs gs)
 
 -- ---- 3. "At most one derivation; decided within weight × (bits + 1) steps; and for every list of grants, one claim"
 
 -- of every text that is admitted, and any bits
 abbrev pub AtMostOne : Type 0
-AtMostOne = (text old table : List ℕ) (weight : ℕ) → Answers text old table (Admission.Admitted weight) → (x : Reading text)
-    → (s : Bits) (t t′ : Tree) (v v′ : Values) → Derivation (text-grammar x) s t v → Derivation (text-grammar x) s t′ v′ → t ≡ t′
+AtMostOne = (text old table : List ℕ) (weight : ℕ) → Promised text old table (Admission.Admitted weight) → (x : TreeOf text)
+    → (s : Bits) (t t′ : Tree) (v v′ : Values) → Derivation (local-grammar (x .tree)) s t v → Derivation (local-grammar (x .tree)) s t′ v′ → t ≡ t′
 
 -- of a run on a table, a frame and a reading; the table is that of a text with this grammar and weight
 pub record Claim (g : Grammar Context Values) (weight : ℕ) (ws fs rs : List ℕ) : Type 0 where
@@ -141,5 +135,5 @@ pub record Claim (g : Grammar Context Values) (weight : ℕ) (ws fs rs : List �
 -- of every text that is admitted, and every frame and reading on which its table opens a run
 abbrev pub Condition3 : Type 0
 Condition3 =
-    (text old table : List ℕ) (weight : ℕ) → Answers text old table (Admission.Admitted weight) → (x : Reading text)
-    → (fs rs : List ℕ) → Opened table fs rs → Claim (rules-grammar x) weight table fs rs
+    (text old table : List ℕ) (weight : ℕ) → Promised text old table (Admission.Admitted weight) → (x : TreeOf text)
+    → (fs rs : List ℕ) → Opened table fs rs → Claim (tree-grammar (x .tree)) weight table fs rs

@@ -1,4 +1,3 @@
-pub mod Texts
-pub mod Refusals
+pub mod Meaning
 pub mod Conditions
 pub mod Calls

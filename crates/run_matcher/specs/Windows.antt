@@ -11,10 +11,9 @@ use Rattle.basis.specs.Counts.{Counts}
 use Rattle.theory.specs.Grammar.{alternative, repetition, Grammar, _∈_}
 use Rattle.theory.specs.Lookahead.{Predicted, Continues, Exits}
 use Rattle.theory.specs.Machine.{Tests}
-use Rattle.table_layout.specs.Held.{Context, Values}
 
 -- What a run looks up are the grammar's windows: a branch's, and go and stop of "a repetition not written `{n}`".
-pub record Tells (g : Grammar Context Values) (tests : Tests) : Type 0 where
+pub record Tells {Context Values : Type 0} (g : Grammar Context Values) (tests : Tests) : Type 0 where
   pub branch : {i b : ℕ} {is : List ℕ} → g .node i ≡ alternative is → b ∈ is → (x : Bits) → length x ≤ 8 → (tests .predicts b x ≡ true) ↔ Predicted g b x
   pub go : {i b : ℕ} {counts : Context → Values → Counts} {static : Counts}
       → g .node i ≡ repetition counts static false b → (x : Bits) → length x ≤ 8 → (tests .continues i x ≡ true) ↔ Continues g i b x

@@ -10,7 +10,7 @@ use Rattle.basis.specs.Limits.{max-frame-bytes}
 use Rattle.table_conflicts.specs.declared.Clash.{Clash}
 use Rattle.table_layout.specs.Constructs.{pick}
 use Rattle.table_layout.specs.Places.{table-of}
-use Rattle.text_admission.specs.Admitted as admitted
+use Rattle.admission.specs.Promised.{Promised}
 use Rattle.text_admission.specs.Answers.{number-of}
 use Rattle.text_admission.specs.declared.Admission.{Admission}
 use Rattle.run_matcher.specs.Opening as opening
@@ -36,7 +36,7 @@ told (Admission.Conflict place construct clash) = told-clash place construct cla
 -- admission answers with its number; what fits of the five is written
 pub record Admits (text old new answer answer′ : List ℕ) (number : ℕ) : Type 0 where
   pub admission : Admission
-  pub answers : admitted.Answers text old new admission
+  pub promised : Promised text old new admission
   pub number-is : number ≡ number-of admission
   pub told-is : answer′ ≡ sets answer 0 (told admission)
 

@@ -222,8 +222,8 @@ fn admit_from(text: &[u8], base: usize, table: &mut [u32]) -> Admission
     admit_rules(&text[base..], base, table)
 }
 
-// Any bytes as text, any words as table. Refused, no word of the table changes.
-pub fn admit(text: &[u8], table: &mut [u32]) -> Admission
+// Any bytes as text, any words as table: answered by what is stored of the text. `admission::admit` says what that means.
+pub fn answer(text: &[u8], table: &mut [u32]) -> Admission
     ensures { λ r. ⌜ Answers (now (text .entry)) (now (table .entry)) (now (table .exit)) r ⌝ }
 {
     if table.len() < TABLE_WORDS {

@@ -61,7 +61,8 @@ unfolding rules-in
 begins-at (last-rule x) (rule-then e f g more) = f
 begins-at (and-rules x t) (rule-then e f g more) = f
 
-past-end : (cs : List Construct) (k : ℕ) (d : Construct) → length cs ≤ k → getD cs k d ≡ d
+-- past the end of a list stands what stands for nothing
+pub past-end : (cs : List Construct) (k : ℕ) (d : Construct) → length cs ≤ k → getD cs k d ≡ d
 past-end [] k d l = refl
 past-end (c ∷ cs) zero d l = absurd (omega arith)
 past-end (c ∷ cs) (suc k) d l = past-end cs k d (omega arith)
@@ -98,7 +99,8 @@ module _ {xs : List ℕ} {t : Rules} (spelled : SpelledBy xs t) (five : refusal-
   abbrev n : ℕ
   n = nodes-of (stored t blank)
 
-  count : n ≡ length (tree-constructs t)
+  -- as many nodes are stored as the tree has constructs
+  pub count : n ≡ length (tree-constructs t)
   count =
       nodes-read t
       ∙ (let q : min (tree-totals t .all-constructs) 257 ≡ tree-totals t .all-constructs = omega (arith, small .few-constructs) in q)

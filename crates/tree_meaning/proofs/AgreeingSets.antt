@@ -9,20 +9,20 @@ use Rattle.basis.specs.Bits.{Bits}
 use Rattle.basis.specs.Counts.{Counts}
 use Rattle.theory.specs.Grammar.{Node, alternative, concatenation, repetition, switch, use-of, Grammar}
 use Rattle.theory.specs.Derivation.{Shape}
-use Rattle.theory.specs.Lookahead.{First, of-field, of-eod, of-alternative, of-switch, of-use, of-concatenation, no-members, more-members, of-repetition, no-passes, more-passes, Follow, of-start, of-rule, of-member, of-branch, of-case, of-body, Predicted, predicted, continues, Conflict, of-branches, of-passes, EmptyBody, empty-body}
+use Rattle.theory.specs.Lookahead.{First, of-field, of-eod, of-alternative, of-switch, of-use, of-concatenation, no-members, more-members, of-repetition, no-passes, more-passes, Follow, of-start, of-rule, of-member, of-branch, of-case, of-body, Predicted, predicted, Continues, continues, Conflict, of-branches, of-passes, EmptyBody, empty-body}
 use Rattle.theory.specs.Weight.{weigh, Weighs}
 use Rattle.tree_meaning.proofs.Agreeing.{SameNode, same-alternative, same-concatenation, same-repetition, same-switch, same-use, same-field, same-eod, SameShape, same-construct, same-members, same-passes}
 
 module _ {Context Values : Type 0} (P : Values → Type 0) where
-  -- ---- what the other node is
+  -- ---- what the other node is, where the one is known
 
-  as-alternative : {is : List ℕ} {n : Node Context Values} → SameNode P (alternative is) n → n ≡ alternative is
+  pub as-alternative : {is : List ℕ} {n : Node Context Values} → SameNode P (alternative is) n → n ≡ alternative is
   as-alternative same-alternative = refl
 
   as-concatenation : {is : List ℕ} {n : Node Context Values} → SameNode P (concatenation is) n → n ≡ concatenation is
   as-concatenation same-concatenation = refl
 
-  as-repetition : {counts : Context → Values → Counts} {static : Counts} {fixed : Bool} {b : ℕ} {n : Node Context Values} → SameNode P (repetition counts static fixed b) n
+  pub as-repetition : {counts : Context → Values → Counts} {static : Counts} {fixed : Bool} {b : ℕ} {n : Node Context Values} → SameNode P (repetition counts static fixed b) n
       → (counts′ : Context → Values → Counts) × (n ≡ repetition counts′ static fixed b)
   as-repetition (same-repetition {counts′} e) = (counts′, refl)
 
@@ -35,7 +35,7 @@ module _ {Context Values : Type 0} (P : Values → Type 0) where
 
   module _ (g h : Grammar Context Values) (all : (i : ℕ) → SameNode P (g .node i) (h .node i)) (start : g .start ≡ h .start) where
     -- a node that is known on the one side
-    known : (i : ℕ) {n : Node Context Values} → g .node i ≡ n → SameNode P n (h .node i)
+    pub known : (i : ℕ) {n : Node Context Values} → g .node i ≡ n → SameNode P n (h .node i)
     known i e = subst (λ (n : Node Context Values). SameNode P n (h .node i)) e (all i)
 
     -- ---- FIRST
@@ -68,9 +68,12 @@ module _ {Context Values : Type 0} (P : Values → Type 0) where
     pub predicted-agrees : {i : ℕ} {x : Bits} → Predicted g i x → Predicted h i x
     predicted-agrees {i} (predicted d f e) = predicted (first-agrees d (same-construct (all i))) (follow-agrees f) e
 
+    pub continues-agrees : {i b : ℕ} {x : Bits} → Continues g i b x → Continues h i b x
+    continues-agrees (continues k d f j) = continues k (first-agrees d same-passes) (follow-agrees f) j
+
     pub conflict-agrees : {i : ℕ} {x : Bits} → Conflict g i x → Conflict h i x
     conflict-agrees {i} (of-branches e m n d p q) = of-branches (as-alternative (known i e)) m n d (predicted-agrees p) (predicted-agrees q)
-    conflict-agrees {i} (of-passes e (continues k d f j) x) = of-passes (as-repetition (known i e) .1) (continues k (first-agrees d same-passes) (follow-agrees f) j) (follow-agrees x)
+    conflict-agrees {i} (of-passes e c x) = of-passes (as-repetition (known i e) .1) (continues-agrees c) (follow-agrees x)
 
     pub empty-body-agrees : {i : ℕ} → EmptyBody g i → EmptyBody h i
     empty-body-agrees {i} (empty-body {b} e d) = empty-body (as-repetition (known i e) .1) (first-agrees d (same-construct (all b)))

@@ -125,8 +125,8 @@ text-keeps t e =
     every-rule (rules-of t) (Keeps P) (λ b r. BindingKeeps P (variable-of b (variables-of r))) (λ b r. keeping P (body-of 0 (rules-of t)) (variable-of b (variables-of r))) 0 0 (rules-of t)
     (all-bindings P (rule-names t) [] (λ v. Unit {0}) 0 (rules-of t) (λ v p. (tt, p)) (λ v q p. p) (λ v k a l q. tt) (named t e))
 
--- at first every value is 0
-rules-first : (n b : ℕ) (rs : List Rule) → RulesHeld b (replicate n (pos 0)) rs
+-- at first every value is 0: within every width
+pub rules-first : (n b : ℕ) (rs : List Rule) → RulesHeld b (replicate n (pos 0)) rs
 unfolding RulesHeld
 rules-first n b [] = tt
 rules-first n b (r ∷ more) = (first-held (variable-of b (variables-of r)) n (rule-pieces r), rules-first n (b + length (variables-of r)) more)

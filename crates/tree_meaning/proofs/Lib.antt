@@ -25,3 +25,4 @@ pub mod Fields
 pub mod Agreeing
 pub mod AgreeingSets
 pub mod Meeting
+pub mod Localising

@@ -37,8 +37,8 @@ selves P body variable =
       alternatives = λ is. same-alternative;
     }
 
--- of every number
-at-every : (R : TreeNode → Type 0) (cs : List Construct) (d : Construct) → AllNodes R cs → R (d .node) → (k : ℕ) → R (getD cs k d .node)
+-- a property of all constructs of a list, and of the one that stands for those past its end, is one of every number
+pub at-every : (R : TreeNode → Type 0) (cs : List Construct) (d : Construct) → AllNodes R cs → R (d .node) → (k : ℕ) → R (getD cs k d .node)
 unfolding AllNodes
 at-every R [] d h e k = e
 at-every R (c ∷ more) d h e zero = h .0

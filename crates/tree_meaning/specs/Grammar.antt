@@ -55,7 +55,7 @@ abbrev pub range-node : ℕ → ℕ → TreeNode
 range-node low high =
     bits-of (λ bits. 8) (λ c v bits. leb low (number-of bits) && leb (number-of bits) high) (λ bits. leb low (number-of bits) && leb (number-of bits) high) (λ c v bits. v)
 
--- a use of the rule whose body is this construct: "Values stay as last bound". That variables are local to a rule is said by `localised` (`theory` `Scope`).
+-- a use of the rule whose body is this construct: "Values stay as last bound". That variables are local to a rule is said by `local-grammar` (`Local`).
 abbrev pub use-node : ℕ → TreeNode
 use-node body = use-of (λ c. some c) (λ c v. v) (λ v v′. v′) body
 

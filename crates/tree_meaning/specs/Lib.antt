@@ -6,4 +6,5 @@ pub mod Names
 pub mod Reaching
 pub mod Sizes
 pub mod Grammar
+pub mod Local
 pub mod Rows

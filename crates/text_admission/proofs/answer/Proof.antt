@@ -4,10 +4,10 @@ use native.Mathlib.Omega.{arith}
 use Rattle.text_admission.specs.Admitted.{short-table, wrong-size, refused-early}
 use Rattle.text_admission.proofs.HeaderPlaces.{rules-inside, wrong-inside, at-header, at-rules}
 use borrow.Author.Needs.{needs}
-use Rattle.text_admission.proofs.admit.Statement.{statement}
-use Rattle.text_admission.proofs.admit.Tie as tie
-use Rattle.text_admission.proofs.admit.Reads as reads
-use Rattle.text_admission.proofs.admit.Lts as lts
+use Rattle.text_admission.proofs.answer.Statement.{statement}
+use Rattle.text_admission.proofs.answer.Tie as tie
+use Rattle.text_admission.proofs.answer.Reads as reads
+use Rattle.text_admission.proofs.answer.Lts as lts
 use Rattle.text_admission.proofs.admit_from.Reads as admit-from-reads
 use Rattle.text_admission.proofs.refused.Reads as refused-reads
 use Rattle.text_header.proofs.header.header.Reads as header-reads
@@ -68,8 +68,8 @@ same-length c = search needs
 returns-5 : tie.Need-returns-5
 returns-5 c = at-rules (c .before .before .before .before .before .before .before .before .before .before .before .before .before .args .text .now) (c .before .before .before .before .before .before .before .before .before .before .before .before .before .args .table .now) (c .before .before .admit-from .last .1 .1 .0) (c .before .before .before .before .before .before .before .header .result) _ (c .before .before .admit-from .result) (c .before .before .before .before .before .before .before .header .ensures) (c .before .before .before .before .before .base .given .1) (c .before .before .before .before .before .before .before .before .before .before .if1 .left) (c .before .before .before .before .before .before .before .before .before .if2 .left) (c .before .before .before .before .before .before .before .before .if3 .left) (c .before .before .admit-from .ensures)
 
-pub admit-spec : {M : Type 1} → statement M
-admit-spec =
+pub answer-spec : {M : Type 1} → statement M
+answer-spec =
     tie.close
     (tie.spec
     refused-requires

@@ -1,0 +1,232 @@
+-- Refusal 8 of a text is refusal 8 of its tree.
+-- Assumes nothing.
+use Prim.Native.Nat.{ℕ, suc, _+_, _≤_, _<_, min}
+use mathlib.Core.Path.{_≡_, refl, sym, ap, subst, _∙_}
+use mathlib.Core.Logic.{_⊎_, inl, inr, ⊎-elim, _↔_}
+use mathlib.Core.Bool.{true, false}
+use mathlib.Core.List.{List, [], _∷_, _++_}
+use mathlib.Core.Option.{Option, none, some}
+use native.Mathlib.Omega.{arith}
+use lib.ListN.{length, length-append}
+use Rattle.text_tokens.specs.declared.Kind.{Kind}
+use Rattle.text_store.specs.Store.{State, blank, node-words, term-words, rule-words, nodes-of, terms-of, rules-of}
+use Rattle.text_encoding.specs.Lists.{sum}
+use Rattle.text_encoding.specs.Numbers.{binders-before, condition-start}
+use Rattle.text_wellformed.proofs.EncodedWords.{encoded-words}
+use Rattle.text_admission.specs.Extents.{lesser, least-found, width-found, number-found, node-found, refusal-8 as found-8}
+use Rattle.text_admission.specs.Admitted.{words-of, fault-8}
+use Rattle.text_admission.specs.declared.Found.{Found}
+use Rattle.tree.specs.Lexemes.{Lexeme, sign, finish}
+use Rattle.tree.specs.Tree.{Rule, rule, Rules, last-rule, and-rules}
+use Rattle.tree.specs.Spelling.{spell-rules}
+use Rattle.tree_form.specs.Stored.{stored}
+use Rattle.tree_meaning.specs.Pieces.{rules-of as rules-in, rule-body}
+use Rattle.tree_meaning.specs.Counted.{Totals, no-rule, with-rule, refusal-5}
+use Rattle.tree_meaning.specs.Names.{refusal-6}
+use Rattle.tree_meaning.specs.Sizes.{size-faults, refusal-8}
+use Rattle.tree_meaning.proofs.Passing as Pass
+use Rattle.tree_store.proofs.Holding.{compared}
+use Rattle.tree_store.proofs.Rows.{NodeRow, node-rows, term-rows, rules-nodes, tree-nodes, tree-terms, tree-totals}
+use Rattle.tree_store.proofs.Lengths.{nodes-counted, terms-counted}
+use Rattle.tree_store.proofs.Limits.{Limited, limited, rows-many}
+use Rattle.tree_store.proofs.Standing.{Standing, past, after-tree, SpelledBy, spelled-stand}
+use Rattle.tree_store.proofs.Steps.{in-step}
+use Rattle.tree_store.proofs.Storing.{totalled-tree, nodes-read, terms-read}
+use Rattle.tree_store.proofs.Rowed.{NodesAt, nodes-left, nodes-right, Rowed, rowed}
+use Rattle.tree_numbers.proofs.Rules.{At}
+use Rattle.tree_numbers.proofs.Sums.{terms-together, binders-together}
+use Rattle.tree_grammar.proofs.Lists.{text-rows}
+use Rattle.tree_sizes.proofs.Hits.{Hit, hit-two, Among, least-hit, hit-least, Hits, hits-both, hits-dec, as-found, found-least}
+use Rattle.tree_sizes.proofs.Gathered.{of-rules, rule-numbers, rule-widths, rule-sizes, rules-parts}
+use Rattle.tree_sizes.proofs.Numbers.{numbers-found, rules-numbers, widths-found}
+use Rattle.tree_sizes.proofs.NodeLists.{condition-at, own-at}
+use Rattle.tree_sizes.proofs.Walk.{NodesHit}
+use Rattle.tree_sizes.proofs.Rules.{Known, rules-hit}
+
+-- ---- numbers that are looked at, one after the other
+
+module _ (p : ℕ) where
+  among-two : (n m i : ℕ) (f : ℕ → Found) → Among p (n + m) i f ↔ (Among p n i f ⊎ Among p m (i + n) f)
+  among-two n m i f = (
+    λ x. compared (x .at) (i + n) (λ y. inl (record { at = x .at; from = x .from; upto = y; hit = x .hit })) (λ y. inr (record { at = x .at; from = omega arith; upto = omega (arith, x .upto); hit = x .hit }))
+        (λ y. inr (record { at = x .at; from = omega arith; upto = omega (arith, x .upto); hit = x .hit })),
+    λ x. ⊎-elim (λ y. record { at = y .at; from = y .from; upto = omega (arith, y .upto); hit = y .hit }) (λ y. record { at = y .at; from = omega (arith, y .from); upto = omega (arith, y .upto); hit = y .hit }) x,
+  )
+
+  among-either : (n i : ℕ) (f g : ℕ → Found) → Among p n i (λ j. lesser (f j) (g j)) ↔ (Among p n i f ⊎ Among p n i g)
+  among-either n i f g = (
+    λ x. ⊎-elim (λ y. inl (record { at = x .at; from = x .from; upto = x .upto; hit = y })) (λ y. inr (record { at = x .at; from = x .from; upto = x .upto; hit = y })) (hit-two p (f (x .at)) (g (x .at)) .0 (x .hit)),
+    λ x. ⊎-elim (λ y. record { at = y .at; from = y .from; upto = y .upto; hit = hit-two p (f (y .at)) (g (y .at)) .1 (inl (y .hit)) }) (λ y. record { at = y .at; from = y .from; upto = y .upto; hit = hit-two p (f (y .at)) (g (y .at)) .1 (inr (y .hit)) }) x,
+  )
+
+  -- the lists of nodes
+  lists-among : (ns ts ws : List ℕ) (i : ℕ) (M : List NodeRow) → Among p (length M) i (λ j. lesser (condition-at ns ts ws j) (own-at ns ts ws j)) ↔ NodesHit p ns ts ws i M
+  unfolding NodesHit
+  lists-among ns ts ws i [] = (λ x. absurd (omega (arith, x .from, x .upto)), λ x. absurd x)
+  lists-among ns ts ws i (r ∷ M) =
+      let t = hit-two p (condition-at ns ts ws i) (own-at ns ts ws i) in
+      let m = lists-among ns ts ws (suc i) M in
+      (
+        λ x. compared (x .at) i (λ y. absurd (omega (arith, x .from))) (λ y. inl (t .0 (subst (λ (j : ℕ). Hit p (lesser (condition-at ns ts ws j) (own-at ns ts ws j))) y (x .hit))))
+            (λ y. inr (m .0 (record { at = x .at; from = omega arith; upto = omega (arith, x .upto); hit = x .hit }))),
+        λ x. ⊎-elim (λ y. record { at = i; from = omega arith; upto = omega arith; hit = t .1 y }) (λ y. let b = m .1 y in record { at = b .at; from = omega (arith, b .from); upto = omega (arith, b .upto); hit = b .hit }) x,
+      )
+
+  -- ---- widths of all rules
+
+  module _ (xs ns : List ℕ) where
+    none-wide : (i : ℕ) → Among p 0 i (width-found xs ns) ↔ Hits p []
+    unfolding Hits
+    none-wide i = (λ x. absurd (omega (arith, x .from, x .upto)), λ x. absurd x)
+
+    next-widths : (m : Totals) (x : Rule) (l : List Rule) → Among p (length (node-rows false (rule-body x) (m .all-terms))) (m .all-constructs) (width-found xs ns) ↔ Hits p (rule-widths x)
+        → Among p (length (rules-nodes (with-rule m x .all-terms) l)) (with-rule m x .all-constructs) (width-found xs ns) ↔ Hits p (of-rules rule-widths l)
+        → Among p (length (node-rows false (rule-body x) (m .all-terms) ++ rules-nodes (m .all-terms + length (term-rows (rule-body x))) l)) (m .all-constructs) (width-found xs ns) ↔ Hits p (rule-widths x ++ of-rules rule-widths l)
+    next-widths m x l f g =
+        let M = node-rows false (rule-body x) (m .all-terms) in
+        let L = rules-nodes (m .all-terms + length (term-rows (rule-body x))) l in
+        let K = rules-nodes (with-rule m x .all-terms) l in
+        let e : m .all-constructs + length M ≡ with-rule m x .all-constructs = ap (λ (i : ℕ). m .all-constructs + i) (nodes-counted false (rule-body x) (m .all-terms)) in
+        let d : L ≡ K = ap (λ (i : ℕ). rules-nodes (m .all-terms + i) l) (terms-counted true (rule-body x)) in
+        let c : length (M ++ L) ≡ length M + length K = length-append M L ∙ ap (λ (o : List NodeRow). length M + length o) d in
+        let t = among-two (length M) (length K) (m .all-constructs) (width-found xs ns) in
+        let h = hits-both p (rule-widths x) (of-rules rule-widths l) f g in
+        (
+          λ y. h .0 (⊎-elim (λ z. inl z) (λ z. inr (subst (λ (i : ℕ). Among p (length K) i (width-found xs ns)) e z)) (t .0 (subst (λ (i : ℕ). Among p i (m .all-constructs) (width-found xs ns)) c y))),
+          λ y. subst (λ (i : ℕ). Among p i (m .all-constructs) (width-found xs ns)) (sym c) (t .1 (⊎-elim (λ z. inl z) (λ z. inr (subst (λ (i : ℕ). Among p (length K) i (width-found xs ns)) (sym e) z)) (h .1 y))),
+        )
+
+    rules-widths : (t : Rules) (m : Totals) (w : List Lexeme) {q : ℕ} → NodesAt ns (m .all-constructs) (rules-nodes (m .all-terms) (rules-in t)) → Standing xs q (spell-rules t w)
+        → Among p (length (rules-nodes (m .all-terms) (rules-in t))) (m .all-constructs) (width-found xs ns) ↔ Hits p (of-rules rule-widths (rules-in t))
+    unfolding rules-in rules-nodes spell-rules of-rules
+    rules-widths (last-rule (rule y is c close)) m w nodes s =
+        let x = rule y is c close in
+        next-widths m x [] (widths-found p xs ns (in-step false true c (m .all-terms) (sign Kind.Semicolon close ∷ w) (past (past s))) (nodes-left (node-rows false c (m .all-terms)) [] nodes)) (none-wide (with-rule m x .all-constructs))
+    rules-widths (and-rules (rule y is c close) t) m w nodes s =
+        let x = rule y is c close in
+        let M = node-rows false c (m .all-terms) in
+        let L = rules-nodes (m .all-terms + length (term-rows c)) (rules-in t) in
+        next-widths m x (rules-in t) (widths-found p xs ns (in-step false true c (m .all-terms) (sign Kind.Semicolon close ∷ spell-rules t w) (past (past s))) (nodes-left M L nodes))
+        (rules-widths t (with-rule m x) w
+        (subst (λ (i : ℕ). NodesAt ns i (rules-nodes (with-rule m x .all-terms) (rules-in t))) (ap (λ (i : ℕ). m .all-constructs + i) (nodes-counted false c (m .all-terms)))
+        (subst (λ (i : ℕ). NodesAt ns (m .all-constructs + length M) (rules-nodes i (rules-in t))) (ap (λ (i : ℕ). m .all-terms + i) (terms-counted true c)) (nodes-right M L nodes)))
+        (past (after-tree c (past (past s)))))
+
+-- ---- a text
+
+module _ {xs : List ℕ} {t : Rules} (spelled : SpelledBy xs t) (five : refusal-5 t ≡ none) (six : refusal-6 t ≡ none) where
+  abbrev st : State
+  st = stored t blank
+
+  abbrev ns : List ℕ
+  ns = node-words st
+
+  abbrev ts : List ℕ
+  ts = term-words st
+
+  abbrev ws : List ℕ
+  ws = words-of xs st
+
+  small : Limited t
+  small = limited t five
+
+  rows : Rowed t ns ts (rule-words st) (rules-of st)
+  rows = rowed t small
+
+  many-nodes : nodes-of st ≡ length (tree-nodes t)
+  many-nodes = nodes-read t ∙ (let q : min (tree-totals t .all-constructs) 257 ≡ tree-totals t .all-constructs = omega (arith, small .few-constructs) in q) ∙ sym (totalled-tree t .in-nodes)
+
+  many-terms : terms-of st ≡ length (tree-terms t)
+  many-terms = terms-read t ∙ (let q : min (tree-totals t .all-terms) 1025 ≡ tree-totals t .all-terms = omega (arith, small .few-terms) in q) ∙ sym (totalled-tree t .in-terms)
+
+  few-nodes : nodes-of st ≤ 256
+  few-nodes = omega (arith, many-nodes, totalled-tree t .in-nodes, small .few-constructs)
+
+  few-terms : condition-start ns (nodes-of st) ≤ 1024
+  few-terms = omega (arith, ap (condition-start ns) many-nodes, terms-together rows, totalled-tree t .in-terms, small .few-terms)
+
+  few-binders : binders-before ns (nodes-of st) ≤ 64
+  few-binders = omega (arith, ap (binders-before ns) many-nodes, binders-together rows, totalled-tree t .in-binders, small .few-variables)
+
+  few-rules : rules-of st ≤ 64
+  few-rules = omega (arith, rows .number, totalled-tree t .in-rules, rows-many no-rule (rules-in t), small .few-rules)
+
+  known : Known t xs ns ts (rule-words st) ws (nodes-of st) (rules-of st)
+  known = record { rowed = rows; words = encoded-words xs ns ts (rule-words st) (nodes-of st) (rules-of st) few-nodes few-rules few-binders few-terms; few-nodes = few-nodes; few-terms = few-terms; few-binders = few-binders }
+
+  module _ (p : ℕ) where
+    -- numbers
+    numbers-same : Hit p (least-found (terms-of st) 0 (number-found ts)) ↔ Hits p (of-rules rule-numbers (rules-in t))
+    numbers-same =
+        let f = numbers-found p (tree-terms t) (text-rows t small) in
+        let g = rules-numbers p (rules-in t) in
+        (
+          λ h. g .0 (f .0 (subst (λ (k : ℕ). Among p k 0 (number-found ts)) many-terms (least-hit p (terms-of st) 0 (number-found ts) h))),
+          λ h. hit-least p (terms-of st) 0 (number-found ts) (subst (λ (k : ℕ). Among p k 0 (number-found ts)) (sym many-terms) (f .1 (g .1 h))),
+        )
+
+    -- widths
+    widths-same : Among p (nodes-of st) 0 (width-found xs ns) ↔ Hits p (of-rules rule-widths (rules-in t))
+    widths-same =
+        let f = rules-widths p xs ns t no-rule (finish (spelled .end) ∷ []) (rows .nodes-are) (spelled-stand spelled) in
+        (λ h. f .0 (subst (λ (k : ℕ). Among p k 0 (width-found xs ns)) many-nodes h), λ h. subst (λ (k : ℕ). Among p k 0 (width-found xs ns)) (sym many-nodes) (f .1 h))
+
+    -- calculations, where the widths up to p are right
+    lists-same : (Hits p (of-rules rule-widths (rules-in t)) → ⊥) → Among p (nodes-of st) 0 (λ j. lesser (condition-at ns ts ws j) (own-at ns ts ws j)) ↔ Hits p (of-rules rule-sizes (rules-in t))
+    unfolding sum
+    lists-same right =
+        let f = lists-among p ns ts ws 0 (tree-nodes t) in
+        let g = rules-hit p known t no-rule [] (finish (spelled .end) ∷ []) (λ j x m. subst (λ (k : ℕ). At (rules-in t) k x) (let q : j ≡ 0 + j = omega arith in q) m) (rows .nodes-are) (text-rows t small) (rows .rules-are) (spelled-stand spelled) refl
+                (omega (arith, Pass.limited t five .variables-fit)) (omega (arith, many-nodes)) (Pass.named t six) right in
+        (
+          λ h. g .0 (f .0 (subst (λ (k : ℕ). Among p k 0 (λ j. lesser (condition-at ns ts ws j) (own-at ns ts ws j))) many-nodes h)),
+          λ h. subst (λ (k : ℕ). Among p k 0 (λ j. lesser (condition-at ns ts ws j) (own-at ns ts ws j))) (sym many-nodes) (f .1 (g .1 h)),
+        )
+
+    -- nodes: a width, or a list
+    nodes-found : Hit p (least-found (nodes-of st) 0 (node-found xs ns ts ws)) ↔ (Among p (nodes-of st) 0 (width-found xs ns) ⊎ Among p (nodes-of st) 0 (λ j. lesser (condition-at ns ts ws j) (own-at ns ts ws j)))
+    nodes-found =
+        let e = among-either p (nodes-of st) 0 (width-found xs ns) (λ j. lesser (condition-at ns ts ws j) (own-at ns ts ws j)) in
+        (λ h. e .0 (least-hit p (nodes-of st) 0 (node-found xs ns ts ws) h), λ h. hit-least p (nodes-of st) 0 (node-found xs ns ts ws) (e .1 h))
+
+    same-hits : Hit p (fault-8 xs st) ↔ Hits p (size-faults (rules-in t))
+    same-hits = by (hits-dec p (of-rules rule-widths (rules-in t)))
+      where
+        both : Hit p (fault-8 xs st) ↔ (Hit p (least-found (terms-of st) 0 (number-found ts)) ⊎ Hit p (least-found (nodes-of st) 0 (node-found xs ns ts ws)))
+        both = hit-two p (least-found (terms-of st) 0 (number-found ts)) (least-found (nodes-of st) 0 (node-found xs ns ts ws))
+
+        parts : Hits p (size-faults (rules-in t)) ↔ (Hits p (of-rules rule-numbers (rules-in t)) ⊎ (Hits p (of-rules rule-widths (rules-in t)) ⊎ Hits p (of-rules rule-sizes (rules-in t))))
+        parts = rules-parts p (rules-in t)
+
+        by : Hits p (of-rules rule-widths (rules-in t)) ⊎ (Hits p (of-rules rule-widths (rules-in t)) → ⊥) → Hit p (fault-8 xs st) ↔ Hits p (size-faults (rules-in t))
+        by (inl wrong) = (λ h. parts .1 (inr (inl wrong)), λ h. both .1 (inr (nodes-found .1 (inl (widths-same .1 wrong)))))
+        by (inr right) = (
+          λ h. parts .1 (⊎-elim (λ x. inl (numbers-same .0 x)) (λ x. inr (⊎-elim (λ y. inl (widths-same .0 y)) (λ y. inr (lists-same right .0 y)) (nodes-found .0 x))) (both .0 h)),
+          λ h. both .1 (⊎-elim (λ x. inl (numbers-same .1 x)) (λ x. inr (nodes-found .1 (⊎-elim (λ y. inl (widths-same .1 y)) (λ y. inr (lists-same right .1 y)) x))) (parts .0 h)),
+        )
+
+  -- what is found is the tree's refusal
+  pub found-same : fault-8 xs st ≡ as-found (refusal-8 t)
+  found-same = found-least (fault-8 xs st) (size-faults (rules-in t)) same-hits
+
+-- ---- the claim
+
+at-some : (o : Option ℕ) (p : ℕ) → as-found o ≡ Found.At p → o ≡ some p
+at-some none p e = let z : _≡_ {A = ℕ} 0 1 = cc e in absurd (omega arith)
+at-some (some q) p e = ap some (let z : q ≡ p = cc e in z)
+
+nothing-none : (o : Option ℕ) → as-found o ≡ Found.Nothing → o ≡ none
+nothing-none none e = refl
+nothing-none (some q) e = let z : _≡_ {A = ℕ} 0 1 = cc e in absurd (omega arith)
+
+-- A text that spells a tree, which 5 and 6 have passed, is refused by 8 at p exactly when the tree is.
+pub refused-8 : (xs : List ℕ) (t : Rules) → SpelledBy xs t → refusal-5 t ≡ none → refusal-6 t ≡ none → (p : ℕ) → (fault-8 xs (stored t blank) ≡ Found.At p) ↔ (refusal-8 t ≡ some p)
+refused-8 xs t spelled five six p =
+    let e = found-same spelled five six in
+    (λ h. at-some (refusal-8 t) p (sym e ∙ h), λ h. e ∙ ap as-found h)
+
+-- and is not refused by it exactly when the tree is not
+pub passed-8 : (xs : List ℕ) (t : Rules) → SpelledBy xs t → refusal-5 t ≡ none → refusal-6 t ≡ none → (fault-8 xs (stored t blank) ≡ Found.Nothing) ↔ (refusal-8 t ≡ none)
+passed-8 xs t spelled five six =
+    let e = found-same spelled five six in
+    (λ h. nothing-none (refusal-8 t) (sym e ∙ h), λ h. e ∙ ap as-found h)
