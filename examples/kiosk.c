@@ -3,8 +3,11 @@
  * among them: its run ends like every other.
  *
  *   kiosk GRAMMAR < REPLIES      one reply to a line, in hexadecimal
+ *
+ * Of a card's response (grammars/iso7816.dogma) it tells what stands in it, by the names that `names` printed.
  */
 #include "songrafter.h"
+#include "grammars/iso7816.h"
 
 #include <stdio.h>
 #include <string.h>
@@ -18,6 +21,7 @@ static uint8_t run[SONGRAFTER_RUN_BYTES];
 
 static unsigned keypad_polls;
 static unsigned tries_left = TRIES;
+static uint64_t weight;
 
 /* What must never wait for a parser. */
 static void serve_keypad(void) { keypad_polls++; }
@@ -33,10 +37,11 @@ static int admit(const char *path) {
     }
     number = songrafter_admit(text, length, table, SONGRAFTER_TABLE_WORDS, answer, SONGRAFTER_ANSWER_WORDS);
     if (number == SONGRAFTER_OK) {
-        printf("grammar admitted, weight %llu\n", (unsigned long long)answer[0]);
+        weight = answer[0];
+        printf("grammar admitted, weight %llu\n", (unsigned long long)weight);
         return 1;
     }
-    printf("grammar refused: %zu at byte %llu\n", number, (unsigned long long)answer[0]);
+    printf("grammar refused: %zu at byte %llu: %s\n", number, (unsigned long long)answer[0], songrafter_refusal_text(number));
     return 0;
 }
 
@@ -58,6 +63,30 @@ static int bytes_of(const char *line, uint8_t *frame, size_t room) {
     return line[strspn(line, "\r\n")] == '\0' ? (int)n : -1;
 }
 
+/* What a card's response says: a variable by its number, fields by their construct numbers. */
+static void response(const uint8_t *frame, size_t n) {
+    uint64_t field[SONGRAFTER_FIELD_WORDS];
+    uint64_t fields = songrafter_fields(run, sizeof run);
+    uint64_t k;
+    printf("    %lld bytes of data", (long long)songrafter_value(run, sizeof run, RESPONSE_LENGTH_VARIABLE));
+    for (k = 0; k < fields; k++) {
+        size_t number = songrafter_field(table, SONGRAFTER_TABLE_WORDS, frame, n, reading, SONGRAFTER_READING_WORDS, (size_t)k, field, SONGRAFTER_FIELD_WORDS);
+        if (number != SONGRAFTER_OK) {
+            printf(", %s", songrafter_refusal_text(number));
+            break;
+        }
+        switch (field[SONGRAFTER_FIELD_CONSTRUCT]) {
+        case MORE_DATA_UINT_2_CONSTRUCT:
+            printf(", %llu more to fetch", (unsigned long long)field[SONGRAFTER_FIELD_VALUE]);
+            break;
+        case TRIES_LEFT_UINT_3_CONSTRUCT:
+            printf(", %llu tries left on the card", (unsigned long long)field[SONGRAFTER_FIELD_VALUE]);
+            break;
+        }
+    }
+    printf("\n");
+}
+
 /* One reply: the try counter goes down before anything is compared, and the keypad is served after every slice. */
 static void reply(const char *line) {
     uint8_t frame[SONGRAFTER_FRAME_BYTES];
@@ -77,14 +106,15 @@ static void reply(const char *line) {
         slices++;
     }
     if (number != SONGRAFTER_OK) {
-        printf("refused %zu\n", number);
+        printf("refused %zu: %s\n", number, songrafter_refusal_text(number));
         return;
     }
     if (songrafter_verdict(run, sizeof run) == SONGRAFTER_MATCH) tries_left = TRIES;
     printf("%s after %llu steps in %u slices, %llu fields, tries left %u\n",
-           songrafter_verdict(run, sizeof run) == SONGRAFTER_MATCH ? "match" : "no match",
+           songrafter_verdict_text(songrafter_verdict(run, sizeof run)),
            (unsigned long long)songrafter_steps(run, sizeof run), slices,
            (unsigned long long)songrafter_fields(run, sizeof run), tries_left);
+    if (weight == RESPONSE_WEIGHT && songrafter_verdict(run, sizeof run) == SONGRAFTER_MATCH) response(frame, (size_t)n);
 }
 
 int main(int argc, char **argv) {

@@ -4,6 +4,7 @@ use crate::guarded::Guarded;
 pub const TABLE_WORDS: usize = 16384;
 pub const RUN_BYTES: usize = 2596;
 pub const ANSWER_WORDS: usize = 5;
+pub const FIELD_WORDS: usize = 4;
 
 extern "C" {
     fn songrafter_admit(text: *const u8, text_len: usize, table: *mut u32, table_len: usize, answer: *mut u64, answer_len: usize) -> usize;
@@ -13,6 +14,9 @@ extern "C" {
     fn songrafter_grant(
         table: *const u32, table_len: usize, frame: *const u8, frame_len: usize, reading: *mut u32, reading_len: usize, run: *mut u8, run_len: usize, steps: u64,
         taken: *mut u64, taken_len: usize,
+    ) -> usize;
+    fn songrafter_field(
+        table: *const u32, table_len: usize, frame: *const u8, frame_len: usize, reading: *const u32, reading_len: usize, k: usize, field: *mut u64, field_len: usize,
     ) -> usize;
     fn songrafter_verdict(run: *const u8, run_len: usize) -> u32;
     fn songrafter_steps(run: *const u8, run_len: usize) -> u64;
@@ -63,6 +67,19 @@ pub fn grant(table: &Guarded<u32>, frame: &Guarded<u8>, reading: &mut Guarded<u3
         )
     };
     (number, taken[0])
+}
+
+pub fn field_into(table: &Guarded<u32>, frame: &Guarded<u8>, reading: &Guarded<u32>, k: usize, field: &mut Guarded<u64>) -> usize {
+    unsafe {
+        songrafter_field(table.pointer(), table.length, frame.pointer(), frame.length, reading.pointer(), reading.length, k, field.pointer_mut(), field.length)
+    }
+}
+
+// The number, and what stands in `field` afterwards: 9 where nothing was written.
+pub fn field(table: &Guarded<u32>, frame: &Guarded<u8>, reading: &Guarded<u32>, k: usize) -> (usize, [u64; FIELD_WORDS]) {
+    let mut field = Guarded::new(&[9; FIELD_WORDS]);
+    let number = field_into(table, frame, reading, k, &mut field);
+    (number, field.values().try_into().expect("four words"))
 }
 
 pub fn verdict(run: &Guarded<u8>) -> u32 {

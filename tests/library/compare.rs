@@ -109,8 +109,22 @@ fn check_frame(grammar: &Grammar, table: &Guarded<u32>, frame: &[u8], random: &m
         same("steps taken", taken, more.min(whole.steps - granted.min(whole.steps)))?;
         granted += more;
         check_run(grammar, frame, granted, &run, &reading, &first)?;
+        check_fields(table, &lent, &run, &reading)?;
     }
     Ok(whole.steps)
+}
+
+// Every field that is recorded is told, one after the other up to the position.
+fn check_fields(table: &Guarded<u32>, frame: &Guarded<u8>, run: &Guarded<u8>, reading: &Guarded<u32>) -> Result<(), String> {
+    let mut at = 0;
+    for k in 0..calls::fields(run) {
+        let (number, [construct, first, width, value]) = calls::field(table, frame, reading, k);
+        same("field", (number, construct, first), (0, u64::from(reading.values()[2 * k]), at))?;
+        let bits = if width > 32 { 0..0 } else { at..at + width };
+        same("its value", value, bits.fold(0, |n, bit| 2 * n + u64::from(frame.values()[bit as usize / 8] >> (7 - bit % 8) & 1)))?;
+        at += width;
+    }
+    same("the end of the last field", at, calls::position(run) as u64)
 }
 
 fn check_run(grammar: &Grammar, frame: &[u8], granted: u64, run: &Guarded<u8>, reading: &Guarded<u32>, first: &[u32]) -> Result<(), String> {

@@ -81,11 +81,30 @@ pub fn report(seed: u64, runs: u64) {
         let case = Case { table, frame, reading: reading.values().to_vec(), run: run.values().to_vec(), steps: random.below(3000) };
         let left = case.ends_alike(&format!("seed {}", seed + k), &mut random);
         *numbers.entry(("grant", left.number)).or_insert(0) += 1;
+        for _ in 0..4 {
+            let number = field_as_told(&case, &mut random);
+            *numbers.entry(("field", number)).or_insert(0) += 1;
+        }
         if left.number == 0 {
             verdicts[calls::verdict(&Guarded::new(&left.run)) as usize] += 1;
         }
     }
     println!("library: {runs} forged runs, answered {numbers:?}, verdicts from undecided to broken {verdicts:?}, one grant, many and the second implementation alike");
+}
+
+// A field of a reading that chance makes: as the second implementation says, and `field` is left alone where it is refused.
+fn field_as_told(case: &Case, random: &mut Random) -> usize {
+    let words = random.index(7);
+    let bits = 8 * case.frame.length as u64;
+    let reading: Vec<u32> = (0..words).map(|at| if at % 2 == 0 { random.below(9) as u32 } else { random.below(bits + 4) as u32 }).collect();
+    let k = [random.index(4), usize::MAX - random.index(3), usize::MAX / 2 + random.index(3)][[0, 0, 0, 0, 1, 2][random.index(6)]];
+    let long = Guarded::new(&[7; 257]);
+    let frame = if random.once_in(9) { &long } else { &case.frame };
+    let (number, told) = calls::field(&case.table, frame, &Guarded::new(&reading), k);
+    let words = Words { table: &case.table.values()[..case.table.length.min(TABLE_WORDS)], frame: frame.values() };
+    let expected = words.told(&reading, k).map_or_else(|number| (number, [9; 4]), |told| (0, told));
+    assert_eq!((number, told), expected, "field {k} of {reading:?}");
+    number
 }
 
 // Tables that count fewer constructs, variables or terms than they hold, and a run that has passed more often than it may: broken, by one grant

@@ -24,6 +24,9 @@ fn check() -> Result<(), String> {
     same("no table to grant on", calls::grant_into(&no_words, &no_bytes, &mut Guarded::null(), &mut run, 9, &mut no_answer), 24)?;
     same("no run", calls::grant_into(&table, &no_bytes, &mut Guarded::null(), &mut Guarded::null(), 9, &mut no_answer), 24)?;
     same("no frame, reading or count", calls::grant_into(&table, &no_bytes, &mut Guarded::null(), &mut run, 9, &mut no_answer), 0)?;
+    same("no reading", calls::field_into(&table, &no_bytes, &no_words, 0, &mut no_answer), 22)?;
+    same("no table of a field", calls::field_into(&no_words, &no_bytes, &Guarded::new(&[0, 0]), 0, &mut no_answer), 23)?;
+    same("no frame", calls::field_into(&table, &no_bytes, &Guarded::new(&[0, 0]), 0, &mut no_answer), 23)?;
     same("its verdict", calls::verdict(&run), 1)?;
     same("a closed run", (calls::verdict(&no_bytes), calls::steps(&no_bytes), calls::fields(&no_bytes), calls::position(&no_bytes), calls::value(&no_bytes, 0)), (3, 0, 0, 0, 0))
 }

@@ -89,7 +89,7 @@ fn forged_calls(random: &mut Random, [_, open, grant, access]: &mut [Stack; 4]) 
     open.run(|| opened = calls::open(&table, &frame, &reading, &mut run));
     forged::forge(&mut run, opened, random);
     grant.run(|| _ = calls::grant(&table, &frame, &mut reading, &mut run, 3000));
-    access.run(|| _ = (calls::verdict(&run), calls::value(&run, 63)));
+    access.run(|| _ = (calls::verdict(&run), calls::value(&run, 63), calls::field_into(&table, &frame, &reading, 0, &mut Guarded::null())));
 }
 
 // The calls of a kiosk's life; where the text is refused, over a table of 0.
@@ -109,6 +109,7 @@ fn calls_on(text: &[u8], random: &mut Random, [admit, open, grant, access]: &mut
         open.run(|| _ = calls::open(&table, &frame, &reading, &mut run));
         grant.run(|| _ = calls::grant(&table, &frame, &mut reading, &mut run, u64::MAX));
         access.run(|| _ = (calls::verdict(&run), calls::steps(&run), calls::fields(&run), calls::position(&run), calls::value(&run, 63)));
+        access.run(|| _ = calls::field_into(&table, &frame, &reading, 0, &mut Guarded::null()));
     }
 }
 

@@ -229,6 +229,30 @@ impl Words<'_> {
         }
     }
 
+    // What songrafter_field answers: a number, and the four words where it is 0.
+    pub fn told(&self, reading: &[u32], k: usize) -> Result<[u64; 4], usize> {
+        if self.frame.len() > 256 {
+            return Err(21);
+        }
+        let first = k.checked_mul(2).ok_or(22usize)?;
+        let pair = first.checked_add(2).and_then(|end| reading.get(first..end)).ok_or(22usize)?;
+        let (construct, position) = (pair[0] as usize, pair[1] as usize);
+        if self.table.len() < TABLE_WORDS {
+            return Err(23);
+        }
+        let width = match self.construct(construct) {
+            Some((Kind::Literal(length), _)) => 8 * length,
+            Some((Kind::Range(_, _), _)) => 8,
+            Some((Kind::Uint { width, .. }, _)) => width,
+            _ => return Err(23),
+        };
+        if position + width > self.bits() {
+            return Err(24);
+        }
+        let value = if width > 32 { 0 } else { self.number(position, width) };
+        Ok([construct as u64, position as u64, width as u64, value])
+    }
+
     fn open_rule(&self, rule: usize) -> Result<Act, Broken> {
         let body = self.word(64 + 4 * rule);
         if rule < self.word(1) && body < 256 && body < self.word(2) { Ok(Act::Enter(body)) } else { Err(Broken) }

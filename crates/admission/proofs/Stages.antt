@@ -113,7 +113,8 @@ wrong-not-right h base place e f = let d : Heading.Rules base ≡ Heading.Wrong 
 refused-not-right : (o : Outcome) (st : State) (place : ℕ) → o ≡ right st → o ≡ refused place → ⊥
 refused-not-right o st place e f = let d : right st ≡ refused place = sym e ∙ f in let z : _≡_ {A = ℕ} 0 1 = cc in omega arith
 
-none-not-some : (o : Option ℕ) (p : ℕ) → o ≡ none → o ≡ some p → ⊥
+-- what is none is not some place
+pub none-not-some : (o : Option ℕ) (p : ℕ) → o ≡ none → o ≡ some p → ⊥
 none-not-some o p e f = let d : _≡_ {A = Option ℕ} none (some p) = sym e ∙ f in let z : _≡_ {A = ℕ} 0 1 = cc in omega arith
 
 some-size : (n : ℕ) → 1 ≤ n → n ≤ max-text-bytes → (n ≡ 0) ⊎ (max-text-bytes < n) → ⊥

@@ -49,7 +49,7 @@ module _ (t : Rules) (needed : ℕ) (ws fs rs : List ℕ) (gs : List Grant) (g :
   lists : words ≡ listing (recorded words (now .captures)) rs
   lists =
       subst (λ (w : Whole). reading-of w ≡ words-of (recorded (reading-of w) (head-of w .captures)) ++ drop (2 * head-of w .captures) rs) (sym (g .state))
-      (reading-is (table-of ws) fs (steps-granted gs) (whole-of rs opened-run) (omega arith, omega arith, omega arith, length-set (replicate max-entries 0) 0 opening ∙ length-replicate max-entries 0, length-replicate max-entries 0))
+      (reading-is (table-of ws) fs (steps-granted gs) (whole-of rs opened-run) (omega arith, omega arith, omega arith, length-set (replicate max-entries 0) 0 opening ∙ length-replicate {A = ℕ} max-entries 0, length-replicate {A = ℕ} max-entries 0))
       ∙ ap₂ (λ (l : List ℕ) (n : ℕ). l ++ drop (2 * n) rs) (same-words (recorded words (now .captures))) (sym (recorded-length words (now .captures)))
 
   shown-held : Shown (run-of fs (whole-of words now)) rs (seen-of now words)

@@ -14,7 +14,7 @@ use Rattle.theory.specs.Scope.{localised}
 use Rattle.theory.specs.Weight.{Weighs}
 use Rattle.table_layout.specs.Places.{table-of}
 use Rattle.table_layout.specs.Held.{Context, first-context, Values, held, opening}
-use Rattle.table_scope.specs.Scope.{value-of, store, scope-of, fresh}
+use Rattle.table_scope.specs.Scope.{store, scope-of, fresh}
 use Rattle.table_weights.proofs.Heights.{weight-at}
 use Rattle.run_actions.specs.Stored.{tests-of}
 use Rattle.table_hypotheses.proofs.HeldLocal.{held-local}
@@ -51,9 +51,6 @@ module _ (text old new : List ℕ) (weight base : ℕ) (h : Headed text old base
   abbrev passed : Bounded xs (p .st)
   passed = p .passes .passed
 
-  short : length xs ≤ _
-  short = fitting text old base h
-
   -- the text's tree
   abbrev pub tree-read : Rules
   tree-read = its-tree xs (fitting text old base h) (p .st) passed
@@ -80,7 +77,7 @@ module _ (text old new : List ℕ) (weight base : ℕ) (h : Headed text old base
   local-derives =
       to-table (λ g. (s : Bits) (d : Tree) (v : Values) → Derivation (local-of (table-of new) g) s d v ↔ Derivation (local-grammar tree-read) s d v)
       (local-derivations (spelled xs (fitting text old base h) (p .st) passed) (no-5 xs (fitting text old base h) (p .st) passed) (no-6 xs (fitting text old base h) (p .st) passed) (no-8 xs (fitting text old base h) (p .st) passed)
-      value-of (scope-of (table-of new)) (λ i. refl))
+      (scope-of (table-of new)) (λ i. refl))
 
   pub table-steps : (ws fs rs : List ℕ) (gs : List Grant) → BySteps (held (table-of new)) ws fs rs gs ↔ BySteps (tree-grammar tree-read) ws fs rs gs
   table-steps =

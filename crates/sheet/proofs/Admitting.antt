@@ -5,39 +5,33 @@ use Prim.Native.String.{String}
 use mathlib.Core.Path.{_≡_, sym, ap, ap₂, subst, _∙_}
 use mathlib.Core.List.{List}
 use native.Mathlib.Omega.{arith}
-use lib.ListN.{length, drop}
-use Rattle.theory.specs.Grammar.{Grammar}
-use Rattle.theory.specs.Weight.{Weighs}
+use lib.ListN.{length}
 use Rattle.table_layout.specs.Places.{table-words}
-use Rattle.table_layout.specs.Held.{Context, Values}
-use Rattle.text_store.specs.Store.{State}
-use Rattle.text_admission.specs.Admitted.{Headed, Answers}
+use Rattle.tree.specs.Tree.{Rules}
 use Rattle.text_admission.specs.Answers.{place-in, number-of}
 use Rattle.text_admission.specs.declared.Admission.{Admission}
-use Rattle.conditions.specs.Texts.{Reading, meant, rules-grammar}
-use Rattle.conditions.specs.Refusals.{Row, empty-body, clashing, too-heavy, number, EmptyBodies, Clashes, TooHeavy, NoneBelow, First}
-use Rattle.conditions.specs.Conditions.{TextTable}
-use Rattle.conditions.proofs.Refusals.{below-next, below-9, read}
-use Rattle.conditions.proofs.Exactly.{exactly}
-use Rattle.conditions.proofs.Tables.{one-reading, text-table}
-use Rattle.conditions.proofs.Buffers.{refused-number}
+use Rattle.admission.specs.Texts.{TreeOf}
+use Rattle.admission.specs.Refusals.{Row, number, NoneBelow, First, Weight}
+use Rattle.admission.specs.Promised.{Promised}
+use Rattle.admission.proofs.Rows.{one-tree}
+use Rattle.admission.proofs.Trees.{tree-below-7, tree-below-9, tree-below-10, tree-below-11, tree-below-12}
 use Rattle.sheet.specs.Sheet.{text-of}
-use Rattle.sheet.proofs.Computing.{rules-in}
-use Rattle.sheet.proofs.Words.{Formed}
+use Rattle.sheet.proofs.Texts.{Formed}
+use Rattle.sheet.proofs.Stages.{Named, Bounded}
 use Rattle.sheet.proofs.Nodes.{Passing}
 
-pub headed : (rules : String) (st : State) (table : List ℕ) → Formed rules st → table-words ≤ length table → Headed (text-of rules) table 16
-headed rules st table f l = record { table-fits = l; some = f .some; short = f .short; header = f .header }
+-- the text's tree
+abbrev pub tree-of : {rules : String} {t : Rules} → Formed rules t → TreeOf (text-of rules)
+tree-of {t = t} f = record { base = 16; tree = t; end = f .end; header = f .header; spells = f .spells }
 
-unfoldable pub reading : (rules : String) (st : State) → Formed rules st → Reading (text-of rules)
-unfolding rules-in
-reading rules st f = record { base = 16; st = st; header = f .header; formed = f .formed }
+module _ (rules : String) (t : Rules) (f : Formed rules t) (old : List ℕ) (l : table-words ≤ length old) where
+  -- 1 to 6 are not given
+  pub below-7 : Named t → NoneBelow (text-of rules) old 7
+  below-7 n = tree-below-7 old l (f .some) (f .short) (tree-of f) (n .five) (n .six)
 
--- every reading of the text means the same grammar
-pub same-meant : (rules : String) (st : State) → Formed rules st → (x : Reading (text-of rules)) → rules-grammar x ≡ meant (rules-in rules) st
-unfolding rules-in reading
-same-meant rules st f x =
-    let s = one-reading x (reading rules st f) in ap₂ (λ (k : ℕ) (y : State). meant (drop k (text-of rules)) y) (s .0) (s .1)
+  -- nor 7 and 8
+  pub below-9 : Bounded t → NoneBelow (text-of rules) old 9
+  below-9 b = tree-below-9 old l (f .some) (f .short) (tree-of f) (b .named .five) (b .named .six) (b .seven) (b .eight)
 
 -- ---- refused
 
@@ -46,33 +40,29 @@ refused-as (Admission.Admitted weight) n p z t e q = absurd (z (sym e))
 refused-as (Admission.Refused number place) n p z t e q = ap₂ Admission.Refused e q
 refused-as (Admission.Conflict place construct clash) n p z t e q = absurd (t (sym e))
 
-pub refused-by : (rules : String) (old new : List ℕ) (answer : Admission) → Answers (text-of rules) old new answer
+-- the first row that fits is the answer
+pub refused-by : (rules : String) (old new : List ℕ) (answer : Admission) → Promised (text-of rules) old new answer
     → (k : Row) (p : ℕ) → (number k ≡ 10 → ⊥) → (number k ≡ 0 → ⊥) → First (text-of rules) old k p → answer ≡ Admission.Refused (number k) p
-refused-by rules old new answer a k p t z f =
-    let e = exactly (text-of rules) old new answer a .refused-iff k p .1 f in refused-as answer (number k) p z t (e .0) (e .1)
+refused-by rules old new answer a k p t z f = let e = a .exactly .refused-iff k p .1 f in refused-as answer (number k) p z t (e .0) (e .1)
 
 -- ---- admitted
 
-module _ (rules : String) (st : State) (weight : ℕ) (p : Passing rules st weight) (old : List ℕ) (l : table-words ≤ length old) where
+module _ (rules : String) (t : Rules) (weight : ℕ) (p : Passing rules t weight) (old : List ℕ) (l : table-words ≤ length old) where
   abbrev text : List ℕ
   text = text-of rules
 
+  abbrev f : Formed rules t
+  f = p .formed
+
   none-fits : NoneBelow text old 12
-  unfolding rules-in
   none-fits =
-      let h : Headed text old 16 = headed rules st old (p .formed) l in
-      let r = p .bounded .passed .passed .passed .passed in
-      let b₁₀ = below-next text old empty-body (below-9 text old 16 h st (p .bounded)) (λ q e. (let x = read text old 16 h st EmptyBodies r q e in p .no-empty-body (x .1 .construct) (x .1 .empty))) in
-      let b₁₁ = below-next text old clashing b₁₀ (λ q e. (let x = read text old 16 h st Clashes r q e in p .no-conflict (x .0) (x .1 .0) (x .1 .1))) in
-      below-next text old too-heavy b₁₁ (λ q e. (let x = read text old 16 h st TooHeavy r q e in omega (arith, p .weighs (x .0) (x .1), x .2, p .light)))
+      let b₁₀ = tree-below-10 old l (f .some) (f .short) (tree-of f) (below-9 rules t f old l (p .bounded)) (p .no-empty-body) in
+      let b₁₁ = tree-below-11 old l (f .some) (f .short) (tree-of f) b₁₀ (p .no-conflict) in
+      tree-below-12 old l (f .some) (f .short) (tree-of f) b₁₁ (λ w e. omega (arith, p .weighs w e, p .light))
 
-  admitted-as : (new : List ℕ) (answer : Admission) → Answers text old new answer → number-of answer ≡ 0 → answer ≡ Admission.Admitted weight
-  admitted-as new (Admission.Admitted w) a e =
-      let t : TextTable text new w = text-table text old new w a in
-      let (f, h) = t .weighable in
-      ap Admission.Admitted (sym (t .weights f h) ∙ p .weighs f (subst (λ (g : Grammar Context Values). Weighs g f) (same-meant rules st (p .formed) (t .admissible .reading)) h))
-  admitted-as new (Admission.Refused n q) a e = absurd (omega (arith, e, refused-number text old new n q a .0))
-  admitted-as new (Admission.Conflict q construct clash) a e = absurd (omega arith)
-
-  pub admitted : (new : List ℕ) (answer : Admission) → Answers text old new answer → answer ≡ Admission.Admitted weight
-  admitted new answer a = admitted-as new answer a (exactly text old new answer a .admitted-iff .1 none-fits)
+  -- admitted with its weight
+  pub admitted : (new : List ℕ) (answer : Admission) → Promised text old new answer → answer ≡ Admission.Admitted weight
+  admitted new answer a =
+      let (n, e, (x, m)) = a .exactly .weight (a .exactly .admitted-iff .1 none-fits) in
+      let (w, h, z) = subst (Weight n) (one-tree x (tree-of f) .1) m in
+      e ∙ ap Admission.Admitted (sym z ∙ p .weighs w h)

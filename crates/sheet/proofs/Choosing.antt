@@ -2,7 +2,7 @@
 -- Assumes nothing.
 use Prim.Native.Nat.{ℕ, zero, suc, _+_, _*_, _≤_}
 use mathlib.Core.Path.{_≡_, refl, sym, ap, ap₂, subst, _∙_}
-use mathlib.Core.Logic.{_⊎_, inl, inr}
+use mathlib.Core.Logic.{_⊎_, _↔_, inl, inr}
 use mathlib.Core.Bool.{Bool, true, false, cond, _&&_}
 use mathlib.Core.List.{List, [], _∷_, List·Memᴰ, List·Memᴰ·head, List·Memᴰ·not-nil, List·Memᴰ·eq-of-singleton}
 use mathlib.Core.Option.{Option, none, some}
@@ -17,17 +17,18 @@ use Rattle.basis.proofs.Booleans.{which, both-true, same-test}
 use Rattle.theory.specs.Grammar.{alternative, concatenation, repetition, switch, use-of, field, eod, Grammar}
 use Rattle.theory.specs.Derivation.{construct, members}
 use Rattle.theory.specs.Lookahead.{First, Follow, Continues, Conflict}
-use Rattle.theory.specs.Hypotheses.{Hypotheses}
 use Rattle.theory.specs.Machine.{Tests}
 use Rattle.theory.proofs.Sheet.Samples.{one-of}
 use Rattle.theory.specs.Weight.{weigh, sum}
 use Rattle.theory.proofs.Inversion.{First-of, FirstBy, first-by, Keeps, follow-least}
 use Rattle.theory.proofs.Sheet.Sets.{Exactly, only-one, decides, apart, apart-true}
 use Rattle.theory.proofs.Sheet.Ones.{one, two, continuing, continues-ones}
-use Rattle.table_layout.specs.Held.{Context, first-context, Values, HeldNode, opening}
+use Rattle.run_matcher.specs.Windows.{Tells}
+use Rattle.tree_meaning.specs.Grammar.{Context, first-context, Values, TreeNode, opening, tree-grammar}
+use Rattle.tree_meaning.proofs.Sheet as trees
 use Rattle.sheet.specs.Sheet.{K6}
-use Rattle.sheet.proofs.Computing.{rules-in, grammar}
-use Rattle.sheet.proofs.Texts.{state-K6, formed-K6}
+use Rattle.sheet.proofs.Computing.{grammar}
+use Rattle.sheet.proofs.Texts.{formed-K6}
 use Rattle.sheet.proofs.Stages.{bounded-K6}
 use Rattle.sheet.proofs.Grammars.{each-node, branches-in, Quiet, quiet, filled-as, field-first}
 use Rattle.sheet.proofs.Nodes.{Passing}
@@ -52,25 +53,25 @@ every-one (suc n) test e (false ∷ bits) l =
 one-string : (h : Grammar Context Values) (i w : ℕ) (it : Bits) (admits : Context → Values → Bits → Bool) (static : Bits → Bool) (binds : Context → Values → Bits → Values)
     → h .node i ≡ field (λ bits. w) admits static binds → length it ≡ w → static it ≡ true → every w (λ s. cond (static s) (same s it) true) ≡ true
     → Exactly (First-of h i) (lookahead it ∷ [])
-one-string h i w it admits static binds e l t a x = (there, λ m. subst (λ (n : HeldNode). First h (construct i n) x) (sym e) (First.of-field it l t (List·Memᴰ·eq-of-singleton m)))
+one-string h i w it admits static binds e l t a x = (there, λ m. subst (λ (n : TreeNode). First h (construct i n) x) (sym e) (First.of-field it l t (List·Memᴰ·eq-of-singleton m)))
   where
     it-is : (bits : Bits) → length bits ≡ w → static bits ≡ true → bits ≡ it
     it-is bits k s = same-true bits it (subst (λ (b : Bool). cond b (same bits it) true ≡ true) s (every-one w (λ s. cond (static s) (same s it) true) a bits k))
 
     there : First-of h i x → List·Memᴰ x (lookahead it ∷ [])
-    there f = let (bits, k, s, q) = subst (λ (n : HeldNode). FirstBy h (construct i n) x) e (first-by h f) in List·Memᴰ·head (q ∙ ap lookahead (it-is bits k s))
+    there f = let (bits, k, s, q) = subst (λ (n : TreeNode). FirstBy h (construct i n) x) e (first-by h f) in List·Memᴰ·head (q ∙ ap lookahead (it-is bits k s))
 
 -- ---- FIRST
 
 abbrev g : Grammar Context Values
-g = grammar K6 state-K6
+g = tree-grammar trees.K6
 
 first-one : Exactly (First-of g 2) (one ∷ [])
-unfolding grammar bitsOf append-digits every same
+unfolding grammar trees.K6 bitsOf append-digits every same
 first-one = one-string g 2 4 one _ _ _ refl refl refl refl
 
 first-two : Exactly (First-of g 3) (two ∷ [])
-unfolding grammar bitsOf append-digits every same
+unfolding grammar trees.K6 bitsOf append-digits every same
 first-two = one-string g 3 4 two _ _ _ refl refl refl refl
 
 -- ---- FOLLOW
@@ -94,19 +95,19 @@ two-claimed x y f n =
     (ap₂ join (e ∙ ap₂ join (List·Memᴰ·eq-of-singleton ((first-two u) .0 h)) (first-by g hs)) (List·Memᴰ·eq-of-singleton n))
 
 keeps : (i : ℕ) → Keeps g Claimed i (g .node i)
-unfolding grammar
+unfolding grammar trees.K6
 keeps =
-    each-node (rules-in K6) state-K6 (Keeps g Claimed) (λ x h. h) (λ k h e b m. absurd (List·Memᴰ·not-nil m))
+    each-node trees.K6 4 refl (Keeps g Claimed) (λ x h. h) (λ k h e b m. absurd (List·Memᴰ·not-nil m))
     ((((tt, (two-claimed, (λ x y f h. tt, tt))), λ k x y f h. tt), tt), tt)
 
 two-follows : Follow g 1 two
-unfolding grammar bitsOf
+unfolding grammar trees.K6 bitsOf
 two-follows =
     Follow.of-member {i = 0} [] (3 ∷ []) refl (First.more-members ((first-two two) .1 (List·Memᴰ·head refl)) First.no-members refl)
     (Follow.of-rule {i = opening} refl (Follow.of-start refl)) refl
 
 follow-star : Exactly (Follow g 1) (two ∷ [])
-unfolding grammar
+unfolding grammar trees.K6
 follow-star x = (λ f. follow-least g Claimed (List·Memᴰ·head refl) keeps f, only-one (Follow g 1) two-follows x)
 
 continues-star : Exactly (Continues g 1 2) continuing
@@ -120,7 +121,7 @@ unfolding apart bitsOf
 star-apart x c f = apart-true continuing (two ∷ []) refl x ((continues-star x) .0 c) ((follow-star x) .0 f)
 
 -- the body of a repetition
-abbrev body-in : HeldNode → ℕ
+abbrev body-in : TreeNode → ℕ
 body-in (alternative is) = 0
 body-in (concatenation is) = 0
 body-in (repetition counts static fixed b) = b
@@ -130,26 +131,26 @@ body-in (field w admits static binds) = 0
 body-in eod = 0
 
 star-quiet : (x : Bits) → Conflict g 1 x → ⊥
-unfolding grammar
+unfolding grammar trees.K6
 star-quiet x (Conflict.of-branches {a = a} e m n d p p′) = List·Memᴰ·not-nil (subst (λ (l : List ℕ). List·Memᴰ a l) (sym (ap branches-in e)) m)
 star-quiet x (Conflict.of-passes {b = b} e c s) = star-apart x (subst (λ (k : ℕ). Continues g 1 k x) (sym (ap body-in e)) c) s
 
 no-conflict : (i : ℕ) (x : Bits) → Conflict g i x → ⊥
-unfolding grammar
+unfolding grammar trees.K6
 no-conflict i x c =
-    elim (each-node (rules-in K6) state-K6 (λ k n. Quiet n ⊎ (k ≡ 1)) (inl tt) (λ k h e. inl refl) ((((tt, inl tt), inr refl), inl tt), inl tt) i)
+    elim (each-node trees.K6 4 refl (λ k n. Quiet n ⊎ (k ≡ 1)) (inl tt) (λ k h e. inl refl) ((((tt, inl tt), inr refl), inl tt), inl tt) i)
     [ inl q ↦ quiet g i x q c | inr e ↦ star-quiet x (subst (λ (k : ℕ). Conflict g k x) e c) ]
 
 weigh-starred : (a b c d e : ℕ) → a ≡ 1 + b → b ≡ 1 + (c + (e + 0)) → c ≡ 2 * d + 1 → d ≡ 1 → e ≡ 1 → a ≡ 6
 weigh-starred a b c d e p q r s t = omega arith
 
-pub passing-K6 : Passing K6 state-K6 6
-unfolding grammar weigh sum
+pub passing-K6 : Passing K6 trees.K6 6
+unfolding grammar trees.K6 weigh sum
 passing-K6 =
     record {
       formed = formed-K6;
       bounded = bounded-K6;
-      no-empty-body = filled-as (rules-in K6) state-K6 ((((tt, tt), field-first g 2 3), tt), tt);
+      no-empty-body = filled-as trees.K6 4 refl ((((tt, tt), field-first g 2 3), tt), tt);
       no-conflict = no-conflict;
       weighs = λ w e. weigh-starred (w first-context opening) (w first-context 0) (w first-context 1) (w first-context 2) (w first-context 3) (e first-context opening) (e first-context 0) (e first-context 1) (e first-context 2) (e first-context 3);
       light = omega arith;
@@ -177,9 +178,9 @@ replaced a ys h i x =
       | inr e ↦ rw e
     ]
 
-pub same-tests : (tests : Tests) → Hypotheses g tests → tests ≡ known tests
-unfolding grammar
+pub same-tests : (tests : Tests) → Tells g tests → tests ≡ known tests
+unfolding grammar trees.K6
 same-tests tests h =
-    let c = replaced (tests .continues) continuing (λ x l. same-test (tests .continues 1 x) (one-of continuing x) (h .continues-exact {i = 1} {b = 2} refl x l) (decides continuing continues-star x)) in
-    let e = replaced (tests .exits) (two ∷ []) (λ x l. same-test (tests .exits 1 x) (one-of (two ∷ []) x) (h .exits-exact {i = 1} {b = 2} refl x l) (decides (two ∷ []) follow-star x)) in
+    let c = replaced (tests .continues) continuing (λ x l. same-test (tests .continues 1 x) (one-of continuing x) (h .go {i = 1} {b = 2} refl x l) (decides continuing continues-star x)) in
+    let e = replaced (tests .exits) (two ∷ []) (λ x l. same-test (tests .exits 1 x) (one-of (two ∷ []) x) (h .stop {i = 1} {b = 2} refl x l) (decides (two ∷ []) follow-star x)) in
     λ t. record { predicts = tests .predicts; continues = λ i x. c i x t; exits = λ i x. e i x t }

@@ -1,7 +1,7 @@
--- Grammars of texts, node by node: that they have no conflict and no empty body.
+-- Grammars of trees, node by node: that they have no conflict and no empty body.
 -- Assumes nothing.
 use Prim.Native.Nat.{ℕ, zero, suc, _≤_, _<_}
-use mathlib.Core.Path.{_≡_, refl, sym, subst}
+use mathlib.Core.Path.{_≡_, refl, sym, ap, subst}
 use mathlib.Core.Logic.{inl, inr}
 use mathlib.Core.Bool.{Bool, true, false, false≢true}
 use mathlib.Core.List.{List, [], _∷_, List·Memᴰ·not-nil}
@@ -17,10 +17,9 @@ use Rattle.theory.specs.Grammar.{alternative, concatenation, repetition, switch
 use Rattle.theory.specs.Derivation.{construct}
 use Rattle.theory.specs.Lookahead.{First, Conflict, EmptyBody}
 use Rattle.theory.proofs.Inversion.{first-by}
-use Rattle.table_layout.specs.Held.{Context, Values, HeldNode, opening}
-use Rattle.text_meaning.specs.Meaning.{opened, grammar-of}
-use Rattle.text_store.specs.Store.{State, rule-words, nodes-of}
-use Rattle.conditions.specs.Texts.{meant}
+use Rattle.tree.specs.Tree.{Rules}
+use Rattle.tree_meaning.specs.Grammar.{Context, Values, TreeNode, Construct, plain-at, use-node, tree-constructs, opening, tree-grammar}
+use Rattle.tree_grammar.proofs.SameGrammar.{past-end}
 
 -- ---- a property of each number below n
 
@@ -32,31 +31,31 @@ pub upto : (P : ℕ → Type 0) (n : ℕ) → Upto P n → (i : ℕ) → i < n �
 upto P zero u i l = absurd (omega arith)
 upto P (suc n) u i l = elim (decLt i n) [ yes m ↦ upto P n (u .0) i m | no m ↦ subst P (let z : n ≡ i = omega arith in z) (u .1) ]
 
--- ---- a property of each node: of the opening use, of each number that is none, and of each that is read
+-- ---- a property of each node: of the opening use, of each number that is none, and of each construct
 
-module _ (xs : List ℕ) (st : State) where
+module _ (t : Rules) (n : ℕ) (count : length (tree-constructs t) ≡ n) where
   abbrev pub g : Grammar Context Values
-  g = meant xs st
+  g = tree-grammar t
 
-  no-node : (i : ℕ) → eqb i opening ≡ false → ltb i (nodes-of st) ≡ false → g .node i ≡ alternative []
-  unfolding grammar-of
-  no-node i e l = rw (e, l)
+  no-node : (i : ℕ) → eqb i opening ≡ false → n ≤ i → g .node i ≡ alternative []
+  unfolding tree-grammar
+  no-node i e l = rw e (ap (λ (c : Construct). c .node) (past-end (tree-constructs t) i (plain-at 0 (alternative [])) (omega arith)))
 
-  pub each-node : (P : ℕ → HeldNode → Type 0) → P opening (opened (rule-words st) 0) → ((i : ℕ) → nodes-of st ≤ i → eqb i opening ≡ false → P i (alternative []))
-      → Upto (λ i. P i (g .node i)) (nodes-of st) → (i : ℕ) → P i (g .node i)
-  unfolding grammar-of
+  pub each-node : (P : ℕ → TreeNode → Type 0) → P opening (use-node 0) → ((i : ℕ) → n ≤ i → eqb i opening ≡ false → P i (alternative []))
+      → Upto (λ i. P i (g .node i)) n → (i : ℕ) → P i (g .node i)
+  unfolding tree-grammar
   each-node P o a u i =
-      elim (which (ltb i (nodes-of st))) [
-        | inl t ↦ upto (λ k. P k (g .node k)) (nodes-of st) u i (ltb-true i (nodes-of st) t)
-        | inr t ↦ elim (which (eqb i opening)) [
+      elim (which (ltb i n)) [
+        | inl l ↦ upto (λ k. P k (g .node k)) n u i (ltb-true i n l)
+        | inr l ↦ elim (which (eqb i opening)) [
           | inl e ↦ subst (λ (k : ℕ). P k (g .node k)) (sym (eqb-true i opening e)) o
-          | inr e ↦ subst (P i) (sym (no-node i e t)) (a i (ltb-false i (nodes-of st) t) e)
+          | inr e ↦ subst (P i) (sym (no-node i e (ltb-false i n l))) (a i (ltb-false i n l) e)
         ]
       ]
 
 -- ---- no conflict, where nothing is chosen
 
-abbrev pub branches-in : HeldNode → List ℕ
+abbrev pub branches-in : TreeNode → List ℕ
 branches-in (alternative is) = is
 branches-in (concatenation is) = []
 branches-in (repetition counts static fixed b) = []
@@ -66,7 +65,7 @@ branches-in (field w admits static binds) = []
 branches-in eod = []
 
 -- neither branches nor a repetition that is not written `{n}`
-abbrev pub Quiet : HeldNode → Type 0
+abbrev pub Quiet : TreeNode → Type 0
 Quiet (alternative is) = is ≡ []
 Quiet (concatenation is) = Unit {0}
 Quiet (repetition counts static fixed b) = fixed ≡ true
@@ -79,12 +78,12 @@ pub quiet : (h : Grammar Context Values) (i : ℕ) (x : Bits) → Quiet (h .node
 quiet h i x q (Conflict.of-branches {a = a} e m n d p p′) = List·Memᴰ·not-nil (subst (λ (l : List ℕ). a ∈ l) (subst Quiet e q) m)
 quiet h i x q (Conflict.of-passes e c s) = false≢true (subst Quiet e q)
 
-pub quiet-as : (xs : List ℕ) (st : State) → Upto (λ i. Quiet (meant xs st .node i)) (nodes-of st) → (i : ℕ) (x : Bits) → Conflict (meant xs st) i x → ⊥
-quiet-as xs st u i x = quiet (meant xs st) i x (each-node xs st (λ k n. Quiet n) tt (λ k h e. refl) u i)
+pub quiet-as : (t : Rules) (n : ℕ) → length (tree-constructs t) ≡ n → Upto (λ i. Quiet (tree-grammar t .node i)) n → (i : ℕ) (x : Bits) → Conflict (tree-grammar t) i x → ⊥
+quiet-as t n c u i x = quiet (tree-grammar t) i x (each-node t n c (λ k m. Quiet m) tt (λ k h e. refl) u i)
 
 -- ---- no empty body
 
-abbrev pub NotEmpty : Grammar Context Values → HeldNode → Type 0
+abbrev pub NotEmpty : Grammar Context Values → TreeNode → Type 0
 NotEmpty h (alternative is) = Unit {0}
 NotEmpty h (concatenation is) = Unit {0}
 NotEmpty h (repetition counts static fixed b) = First h (construct b (h .node b)) [] → ⊥
@@ -96,8 +95,8 @@ NotEmpty h eod = Unit {0}
 pub not-empty : (h : Grammar Context Values) (i : ℕ) → NotEmpty h (h .node i) → EmptyBody h i → ⊥
 not-empty h i q (EmptyBody.empty-body e f) = subst (NotEmpty h) e q f
 
-pub filled-as : (xs : List ℕ) (st : State) → Upto (λ i. NotEmpty (meant xs st) (meant xs st .node i)) (nodes-of st) → (i : ℕ) → EmptyBody (meant xs st) i → ⊥
-filled-as xs st u i = not-empty (meant xs st) i (each-node xs st (λ k n. NotEmpty (meant xs st) n) tt (λ k h e. tt) u i)
+pub filled-as : (t : Rules) (n : ℕ) → length (tree-constructs t) ≡ n → Upto (λ i. NotEmpty (tree-grammar t) (tree-grammar t .node i)) n → (i : ℕ) → EmptyBody (tree-grammar t) i → ⊥
+filled-as t n c u i = not-empty (tree-grammar t) i (each-node t n c (λ k m. NotEmpty (tree-grammar t) m) tt (λ k h e. tt) u i)
 
 -- a field takes some bits
 some-bits : (bits : Bits) (w : ℕ) → length bits ≡ suc w → [] ≡ lookahead bits → ⊥

@@ -1,6 +1,5 @@
 -- The sheet proved.
 mod Computing
-mod Words
 mod Texts
 mod Stages
 mod Grammars
@@ -9,5 +8,6 @@ mod Admitting
 mod Running
 mod Meeting
 mod Choosing
+mod Clashing
 mod Refusing
 pub mod Sheet

@@ -1,7 +1,7 @@
 -- A run on the table of a text, from what the theory's machine makes of the text's grammar.
 -- Assumes nothing.
 use Prim.Native.Nat.{ℕ, _+_, _*_, _-_, _≤_}
-use mathlib.Core.Path.{_≡_, refl, sym, ap, ap₂, _∙_}
+use mathlib.Core.Path.{_≡_, refl, sym, ap, ap₂, subst, _∙_}
 use mathlib.Core.List.{List, [], _∷_, _++_, map}
 use native.Mathlib.Omega.{arith}
 use lib.IntN.{pos}
@@ -12,11 +12,7 @@ use Rattle.theory.specs.Grammar.{Grammar}
 use Rattle.theory.specs.Derivation.{Capture}
 use Rattle.theory.specs.Machine.{Tests, captures-of, Verdict, matched, unmatched, verdict-of, state-of, taken-of, opened, granted}
 use Rattle.table_layout.specs.Places.{table-of}
-use Rattle.table_layout.specs.Held.{Context, Values, held}
-use Rattle.table_sizes.specs.Measures.{widest}
-use Rattle.table_weights.proofs.Heights.{weight-at}
-use Rattle.table_weights.proofs.Rooms.{rooms}
-use Rattle.run_actions.specs.Stored.{tests-of}
+use Rattle.table_layout.specs.Held.{Context, Values}
 use Rattle.run_steps.specs.Steps.{Whole}
 use Rattle.run_refinement.specs.Runs.{HeldRun, recorded, words-of, verdict-as, head-of as head-in, values-of, reading-of, run-of}
 use Rattle.run_refinement.proofs.Pending.{recorded-length}
@@ -24,12 +20,13 @@ use Rattle.run_refinement.proofs.Verdicts.{matched-as, unmatched-as}
 use Rattle.run_refinement.proofs.Readings.{reading-is}
 use Rattle.run_refinement.proofs.Steady.{state-values}
 use Rattle.run_refinement.proofs.Openings.{opening-fits}
-use Rattle.run_refinement.proofs.Fitting.{captures-held, values-held, agrees}
+use Rattle.run_refinement.proofs.Fitting.{captures-held, values-held}
 use Rattle.run_grants.specs.Runs.{whole-of, opened-run}
 use Rattle.run_matcher.specs.Opening.{Opened}
-use Rattle.run_matcher.specs.Conditions.{Grant, granted as granted-in, run-kept, reading-kept, OthersRefused, start, here}
-use Rattle.run_matcher.proofs.Moments.{words, begun, at, fits-at, at-rest}
-use Rattle.run_matcher.proofs.Conditions.{condition-3}
+use Rattle.run_matcher.specs.Windows.{Tells}
+use Rattle.run_matcher.specs.Conditions.{Grant, own, granted as granted-in, run-kept, reading-kept, OthersRefused, start, here}
+use Rattle.run_matcher.proofs.Moments.{begun, at, fits-at, at-rest}
+use Rattle.conditions.specs.Conditions.{Claim}
 use Rattle.sheet.specs.Sheet.{Verdict as Said, match, no-match, stored, Ended}
 
 abbrev pub said : Said → Verdict
@@ -66,21 +63,29 @@ pub makes : {g : Grammar Context Values} {tests : Tests} {fs : List ℕ} {d : Sa
     → Makes g tests fs d n values cs
 makes a b c d = record { verdict = a; steps = b; values-are = c; captures = d }
 
-module _ (ws fs rs : List ℕ) (o : Opened ws fs rs) where
+-- the table of a text with the grammar g, and tests that tell its windows
+module _ (ws fs rs : List ℕ) (o : Opened ws fs rs) (g : Grammar Context Values) (weight : ℕ) (claim : Claim g weight ws fs rs) (tests : Tests) (told : Tells g tests) where
   abbrev table : List ℕ
   table = table-of ws
 
-  -- the words' run is the theory's, on the grammar that the words hold
-  run-at : (n : ℕ) → run-of fs (at ws fs rs o n) ≡ granted (held table) (tests-of table) n (opened (held table) (tests-of table) (frameBits fs))
-  unfolding held
-  run-at n = agrees table (widest table) (λ c i. weight-at table i) (rooms table) (words ws fs rs o) fs (opened-run .constructs) (opened-run .passes) rs (begun ws fs rs o) n
+  granted-own : (n : ℕ) → granted-in (own n ∷ []) ≡ n
+  unfolding granted-in
+  granted-own n = omega arith
 
-  module _ (g : Grammar Context Values) (holds : held table ≡ g) (d : Said) (n : ℕ) (values : List ℕ) (cs : List Capture) (m : Makes g (tests-of table) fs d n values cs) where
+  own-turned : (n : ℕ) → OthersRefused ws fs (own n ∷ []) (start rs)
+  unfolding OthersRefused
+  own-turned n = (tt, tt)
+
+  module _ (d : Said) (n : ℕ) (values : List ℕ) (cs : List Capture) (m : Makes g tests fs d n values cs) where
     abbrev w : Whole
     w = at ws fs rs o n
 
-    same-run : run-of fs w ≡ made g (tests-of table) fs n
-    same-run = run-at n ∙ ap (λ (h : Grammar Context Values). made h (tests-of table) fs n) holds
+    -- the words' run is the theory's, on the text's grammar: it is what one grant leaves
+    same-run : run-of fs w ≡ made g tests fs n
+    same-run =
+        let gs : List Grant = own n ∷ [] in
+        subst (λ (k : ℕ). run-of fs (at ws fs rs o k) ≡ made g tests fs k) (granted-own n)
+        (sym (ap (run-of fs) (claim .granting gs (own-turned n) .state)) ∙ claim .by-steps gs (own-turned n) .made tests told)
 
     verdict-at : head-in w .verdict ≡ stored d
     verdict-at = stored-as (head-in w .verdict) d (fits-at ws fs rs o n .verdict) (ap verdict-of same-run ∙ m .verdict)
@@ -100,7 +105,7 @@ module _ (ws fs rs : List ℕ) (o : Opened ws fs rs) where
     -- and so it stays, however many more steps are granted
     kept-as : (gs : List Grant) → OthersRefused ws fs gs (start rs) → n ≤ granted-in gs → whole-of (reading-kept (here ws fs rs gs)) (run-kept (here ws fs rs gs)) ≡ w
     kept-as gs r l =
-        condition-3 ws fs rs o .granting gs r .state
+        claim .granting gs r .state
         ∙ (ap (at ws fs rs o) (let z : granted-in gs ≡ n + (granted-in gs - n) = omega arith in z)
         ∙ at-rest ws fs rs o n (granted-in gs - n) (λ z. not-stored d (sym verdict-at ∙ z)))
 

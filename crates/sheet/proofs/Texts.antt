@@ -1,95 +1,53 @@
--- The words that are read of each text of the sheet, and that they are read of it.
+-- Each text of the sheet has a right size and header, and its rules spell the tree that `tree_meaning` (`proofs/Sheet.antt`) has written out.
 -- Assumes nothing.
-use Prim.Native.Nat.{ℕ, _-_}
-use mathlib.Core.Path.{refl}
-use mathlib.Core.List.{List, [], _∷_, _++_}
+use Prim.Native.Nat.{ℕ, _≤_}
+use Prim.Native.String.{String}
+use mathlib.Core.Path.{_≡_, refl}
 use native.Mathlib.Omega.{arith}
-use lib.ListN.{length, replicate}
-use Rattle.text_store.specs.Store.{State, state}
+use lib.ListN.{length, drop}
+use Rattle.basis.specs.Limits.{max-text-bytes}
+use Rattle.text_header.specs.Header.{header-of}
+use Rattle.text_header.specs.declared.Heading.{Heading}
+use Rattle.tree.specs.Lexemes.{lexemes}
+use Rattle.tree.specs.Tree.{Rules}
+use Rattle.tree.specs.Spelling.{spelled}
+use Rattle.tree_meaning.proofs.Computing.{written}
+use Rattle.tree_meaning.proofs.Sheet as trees
 use Rattle.sheet.specs.Sheet.{text-of, G, K5, K6, K8, K9, K10, K11}
-use Rattle.sheet.proofs.Computing.{heading, read}
-use Rattle.sheet.proofs.Words.{same-words, Formed, formed-as}
+use Rattle.sheet.proofs.Computing.{heading, lexed}
 
--- an array of n words, 0 past those that are written
-abbrev filled : ℕ → List ℕ → List ℕ
-filled n ws = ws ++ replicate (n - length ws) 0
+-- the text of these rules has a right size and header, and its tokens from byte 16 on spell the tree; `end`: where they end
+pub record Formed (rules : String) (t : Rules) : Type 0 where
+  pub some : 1 ≤ length (text-of rules)
+  pub short : length (text-of rules) ≤ max-text-bytes
+  pub header : header-of (text-of rules) ≡ Heading.Rules 16
+  pub end : ℕ
+  pub spells : lexemes (drop 16 (text-of rules)) ≡ spelled t end
 
-abbrev stored : (ns ts rs : List ℕ) → (n t b r : ℕ) → State
-stored ns ts rs = state (filled 2560 ns) (filled 4096 ts) (filled 325 rs)
+pub formed-G : Formed G trees.G
+unfolding heading lexed written trees.G
+formed-G = record { some = omega arith; short = omega arith; header = refl; end = 49; spells = refl }
 
-abbrev pub state-G : State
-state-G =
-    stored
-    (2 ∷ 4 ∷ 8 ∷ 0 ∷ 0 ∷ 0 ∷ 0 ∷ 0 ∷ 0 ∷ 0 ∷ 8 ∷ 1 ∷ 8 ∷ 13 ∷ 20 ∷ 0 ∷ 3 ∷ 1 ∷ 0 ∷ 0 ∷ 3 ∷ 2 ∷ 33 ∷ 4 ∷ 43 ∷ 4 ∷ 5 ∷ 0 ∷ 0 ∷ 0 ∷ 8 ∷ 1 ∷ 33 ∷ 38 ∷ 0 ∷ 3 ∷ 4 ∷ [])
-    (1 ∷ 1 ∷ 25 ∷ 25 ∷ 1 ∷ 8 ∷ 27 ∷ 27 ∷ 8 ∷ 0 ∷ 26 ∷ 0 ∷ 7 ∷ 0 ∷ 41 ∷ 0 ∷ 2 ∷ 0 ∷ 44 ∷ 44 ∷ [])
-    (0 ∷ 0 ∷ 4 ∷ 5 ∷ 1 ∷ []) 4 5 1 1
+pub formed-K5 : Formed K5 trees.K5
+unfolding heading lexed written trees.K5
+formed-K5 = record { some = omega arith; short = omega arith; header = refl; end = 20; spells = refl }
 
-pub formed-G : Formed G state-G
-unfolding heading read same-words text-of
-formed-G = formed-as G state-G refl refl (omega arith) (omega arith)
+pub formed-K6 : Formed K6 trees.K6
+unfolding heading lexed written trees.K6
+formed-K6 = record { some = omega arith; short = omega arith; header = refl; end = 31; spells = refl }
 
-abbrev pub state-K5 : State
-state-K5 =
-    stored
-    (1 ∷ 3 ∷ 8 ∷ 0 ∷ 0 ∷ 0 ∷ 0 ∷ 0 ∷ 0 ∷ 0 ∷ 6 ∷ 1 ∷ 8 ∷ 0 ∷ 0 ∷ 0 ∷ 0 ∷ 0 ∷ 0 ∷ 0 ∷ 6 ∷ 1 ∷ 15 ∷ [])
-    ([])
-    (0 ∷ 0 ∷ 3 ∷ []) 3 0 0 1
+pub formed-K8 : Formed K8 trees.K8
+unfolding heading lexed written trees.K8
+formed-K8 = record { some = omega arith; short = omega arith; header = refl; end = 16; spells = refl }
 
-pub formed-K5 : Formed K5 state-K5
-unfolding heading read same-words text-of
-formed-K5 = formed-as K5 state-K5 refl refl (omega arith) (omega arith)
+pub formed-K9 : Formed K9 trees.K9
+unfolding heading lexed written trees.K9
+formed-K9 = record { some = omega arith; short = omega arith; header = refl; end = 47; spells = refl }
 
-abbrev pub state-K6 : State
-state-K6 =
-    stored
-    (2 ∷ 4 ∷ 8 ∷ 0 ∷ 0 ∷ 0 ∷ 0 ∷ 0 ∷ 0 ∷ 0 ∷ 3 ∷ 2 ∷ 8 ∷ 2 ∷ 17 ∷ 0 ∷ 0 ∷ 0 ∷ 0 ∷ 0 ∷ 8 ∷ 1 ∷ 8 ∷ 13 ∷ 0 ∷ 0 ∷ 1 ∷ 0 ∷ 0 ∷ 0 ∷ 8 ∷ 1 ∷ 21 ∷ 26 ∷ 0 ∷ 1 ∷ 2 ∷ [])
-    (33 ∷ 1 ∷ 15 ∷ 15 ∷ 33 ∷ 2 ∷ 28 ∷ 28 ∷ [])
-    (0 ∷ 0 ∷ 4 ∷ 2 ∷ []) 4 2 0 1
+pub formed-K10 : Formed K10 trees.K10
+unfolding heading lexed written trees.K10
+formed-K10 = record { some = omega arith; short = omega arith; header = refl; end = 63; spells = refl }
 
-pub formed-K6 : Formed K6 state-K6
-unfolding heading read same-words text-of
-formed-K6 = formed-as K6 state-K6 refl refl (omega arith) (omega arith)
-
-abbrev pub state-K8 : State
-state-K8 =
-    stored
-    (3 ∷ 3 ∷ 8 ∷ 2 ∷ 14 ∷ 0 ∷ 0 ∷ 0 ∷ 0 ∷ 0 ∷ 3 ∷ 2 ∷ 9 ∷ 1 ∷ 12 ∷ 0 ∷ 0 ∷ 0 ∷ 0 ∷ 0 ∷ 6 ∷ 1 ∷ 9 ∷ [])
-    ([])
-    (0 ∷ 0 ∷ 3 ∷ []) 3 0 0 1
-
-pub formed-K8 : Formed K8 state-K8
-unfolding heading read same-words text-of
-formed-K8 = formed-as K8 state-K8 refl refl (omega arith) (omega arith)
-
-abbrev pub state-K9 : State
-state-K9 =
-    stored
-    (2 ∷ 4 ∷ 8 ∷ 0 ∷ 0 ∷ 0 ∷ 0 ∷ 0 ∷ 0 ∷ 0 ∷ 8 ∷ 1 ∷ 8 ∷ 13 ∷ 20 ∷ 0 ∷ 1 ∷ 1 ∷ 0 ∷ 0 ∷ 3 ∷ 2 ∷ 29 ∷ 4 ∷ 39 ∷ 2 ∷ 5 ∷ 0 ∷ 0 ∷ 0 ∷ 8 ∷ 1 ∷ 29 ∷ 34 ∷ 0 ∷ 1 ∷ 2 ∷ [])
-    (7 ∷ 0 ∷ 23 ∷ 0 ∷ 7 ∷ 0 ∷ 37 ∷ 0 ∷ 2 ∷ 0 ∷ 40 ∷ 40 ∷ 1 ∷ 1 ∷ 44 ∷ 40 ∷ 4 ∷ 0 ∷ 42 ∷ 40 ∷ [])
-    (0 ∷ 0 ∷ 4 ∷ 5 ∷ 1 ∷ []) 4 5 1 1
-
-pub formed-K9 : Formed K9 state-K9
-unfolding heading read same-words text-of
-formed-K9 = formed-as K9 state-K9 refl refl (omega arith) (omega arith)
-
-abbrev pub state-K10 : State
-state-K10 =
-    stored
-    (2 ∷ 5 ∷ 8 ∷ 0 ∷ 0 ∷ 0 ∷ 0 ∷ 0 ∷ 0 ∷ 0 ∷ 8 ∷ 1 ∷ 8 ∷ 13 ∷ 20 ∷ 0 ∷ 1 ∷ 1 ∷ 0 ∷ 0 ∷ 4 ∷ 3 ∷ 29 ∷ 0 ∷ 0 ∷ 0 ∷ 0 ∷ 0 ∷ 0 ∷ 0 ∷ 6 ∷ 1 ∷ 37 ∷ 0 ∷ 0 ∷ 0 ∷ 0 ∷ 0 ∷ 1 ∷ 4 ∷ 8 ∷ 1 ∷ 49 ∷ 54 ∷ 0 ∷ 7 ∷ 8 ∷ 0 ∷ 4 ∷ 7 ∷ [])
-    (7 ∷ 0 ∷ 23 ∷ 0 ∷ 2 ∷ 0 ∷ 30 ∷ 30 ∷ 1 ∷ 1 ∷ 34 ∷ 34 ∷ 14 ∷ 0 ∷ 32 ∷ 0 ∷ 2 ∷ 0 ∷ 42 ∷ 42 ∷ 1 ∷ 2 ∷ 46 ∷ 46 ∷ 14 ∷ 0 ∷ 44 ∷ 0 ∷ 7 ∷ 0 ∷ 58 ∷ [])
-    (0 ∷ 0 ∷ 5 ∷ 8 ∷ 1 ∷ []) 5 8 1 1
-
-pub formed-K10 : Formed K10 state-K10
-unfolding heading read same-words text-of
-formed-K10 = formed-as K10 state-K10 refl refl (omega arith) (omega arith)
-
-abbrev pub state-K11 : State
-state-K11 =
-    stored
-    (2 ∷ 3 ∷ 4 ∷ 0 ∷ 0 ∷ 0 ∷ 0 ∷ 0 ∷ 0 ∷ 0 ∷ 6 ∷ 1 ∷ 4 ∷ 0 ∷ 0 ∷ 0 ∷ 0 ∷ 0 ∷ 0 ∷ 0 ∷ 5 ∷ 1 ∷ 10 ∷ 0 ∷ 0 ∷ 0 ∷ 0 ∷ 0 ∷ 0 ∷ 0 ∷ 5 ∷ 1 ∷ 17 ∷ [])
-    ([])
-    (0 ∷ 0 ∷ 3 ∷ 0 ∷ 0 ∷ 13 ∷ 3 ∷ 4 ∷ []) 4 0 0 2
-
-pub formed-K11 : Formed K11 state-K11
-unfolding heading read same-words text-of
-formed-K11 = formed-as K11 state-K11 refl refl (omega arith) (omega arith)
+pub formed-K11 : Formed K11 trees.K11
+unfolding heading lexed written trees.K11
+formed-K11 = record { some = omega arith; short = omega arith; header = refl; end = 19; spells = refl }

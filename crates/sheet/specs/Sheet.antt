@@ -1,5 +1,5 @@
 -- Document 01's bench sheet, K1 to K11: a table from text to answer, steps, values and reading. `Says` is what is claimed of a row, from the promises of
--- `text_admission::admit`, `run_matcher::open` and `run_grants::grant`; `sheet` (`proofs/Sheet.antt`) proves it of every row.
+-- `admission::admit`, `run_matcher::open` and `run_grants::grant`; `sheet` (`proofs/Sheet.antt`) proves it of every row.
 -- Assumes nothing.
 use Prim.Native.Nat.{ℕ, _+_, _*_, _-_, _≤_}
 use Prim.Native.Char.{code}
@@ -12,9 +12,9 @@ use lib.ListN.{length, drop, replicate}
 use Rattle.basis.specs.Limits.{max-variables}
 use Rattle.table_layout.specs.Places.{table-words}
 use Rattle.run_actions.specs.Acts.{bits-of}
-use Rattle.text_admission.specs.Admitted.{Answers}
 use Rattle.text_admission.specs.Answers.{window-in}
 use Rattle.text_admission.specs.declared.Admission.{Admission}
+use Rattle.admission.specs.Promised.{Promised}
 use Rattle.run_matcher.specs.Opening.{Opened}
 use Rattle.run_matcher.specs.Conditions.{Grant, granted, Kept, run-kept, reading-kept, OthersRefused, start, here}
 
@@ -85,7 +85,7 @@ Meets (run weight frame verdict steps values reading) table answer =
 -- whatever the table's words were, of a table that is long enough
 abbrev pub Says : Row → Type 0
 Says (row rules expected) =
-    (old new : List ℕ) (answer : Admission) → table-words ≤ length old → Answers (text-of rules) old new answer → Meets expected new answer
+    (old new : List ℕ) (answer : Admission) → table-words ≤ length old → Promised (text-of rules) old new answer → Meets expected new answer
 
 -- every row of a list says so
 abbrev pub Each : (Row → Type 0) → List Row → Type 0

@@ -21,10 +21,9 @@ use Rattle.run_saved.proofs.Bytes.{numbers-length}
 use Rattle.run_saved.proofs.Saving.{restored-is, stored-is}
 use Rattle.songrafter.specs.Calls.{granted, Grants}
 
--- five stores, one after the other
-pub five-stores : (l l₀ l₁ l₂ l₃ l₄ : List ℕ) (a b c d e : ℕ) → l₀ ≡ set l 0 a → l₁ ≡ set l₀ 1 b → l₂ ≡ set l₁ 2 c → l₃ ≡ set l₂ 3 d → l₄ ≡ set l₃ 4 e → l₄ ≡ sets l 0 (a ∷ b ∷ c ∷ d ∷ e ∷ [])
-five-stores l l₀ l₁ l₂ l₃ l₄ a b c d e p₀ p₁ p₂ p₃ p₄ =
-    p₄ ∙ ap (λ (x : List ℕ). set x 4 e) (p₃ ∙ ap (λ (x : List ℕ). set x 3 d) (p₂ ∙ ap (λ (x : List ℕ). set x 2 c) (p₁ ∙ ap (λ (x : List ℕ). set x 1 b) p₀)))
+-- four stores, one after the other
+pub four-stores : (l l₀ l₁ l₂ l₃ : List ℕ) (a b c d : ℕ) → l₀ ≡ set l 0 a → l₁ ≡ set l₀ 1 b → l₂ ≡ set l₁ 2 c → l₃ ≡ set l₂ 3 d → l₃ ≡ sets l 0 (a ∷ b ∷ c ∷ d ∷ [])
+four-stores l l₀ l₁ l₂ l₃ a b c d p₀ p₁ p₂ p₃ = p₃ ∙ ap (λ (x : List ℕ). set x 3 d) (p₂ ∙ ap (λ (x : List ℕ). set x 2 c) (p₁ ∙ ap (λ (x : List ℕ). set x 1 b) p₀))
 
 -- a grant on a saved run: decoded, advanced, encoded, and the count of the steps taken put down
 pub grants-run : (table frame reading reading′ run run′ taken taken′ : List ℕ) (steps number count : ℕ) (r d : Run) (a : Answer)

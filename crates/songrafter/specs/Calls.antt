@@ -17,6 +17,7 @@ use Rattle.run_matcher.specs.Opening as opening
 use Rattle.run_matcher.specs.declared.Answer.{Answer}
 use Rattle.run_grants.specs.Runs as runs
 use Rattle.run_saved.specs.Saved.{saved-bytes, encoded, decoded, restored}
+use Rattle.run_fields.specs.Fields as fields
 
 -- ---- admission
 
@@ -88,3 +89,15 @@ pub record Grants (table frame reading reading′ run run′ taken taken′ : Li
   pub run-length : length run′ ≡ length run
   -- a saved run's bytes are all of it, and what is written is read as the run that it is
   pub read-back : length run ≡ saved-bytes → (encoded (decoded run) ≡ run) × (restored run′ ≡ runs.run-in (granted table frame reading run steps))
+
+-- ---- a field of a reading: its construct, first bit, width and value
+
+-- field k is answered with its number; what fits of the four is written, and nothing where it is refused
+pub record TellsField (table frame reading : List ℕ) (k : ℕ) (field field′ : List ℕ) (number : ℕ) : Type 0 where
+  pub number-is : number ≡ fields.number-of (fields.field-of table frame reading k)
+  pub told-is : field′ ≡ sets field 0 (fields.told (fields.field-of table frame reading k))
+
+-- ---- the version: major × 1,000,000 + minor × 1,000 + patch
+
+abbrev pub version : ℕ
+version = 1000

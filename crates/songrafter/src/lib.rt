@@ -1,6 +1,5 @@
 // The calls of a C program: numbers and slices, each a pointer with a length. Nothing is trusted: any bytes and words, of any lengths, are
 // answered or refused by document 01's numbers. include/songrafter.h says the same in C.
-use text_admission::Admission;
 use basis::MAX_FRAME_BYTES;
 use basis::MAX_VARIABLES;
 use run_grants::Granted;
@@ -8,6 +7,7 @@ use run_grants::Run;
 use run_matcher::Answer;
 use run_saved::SAVED_BYTES;
 use table_conflicts::Clash;
+use text_admission::Admission;
 ghost use mathlib.Core.Path.{_≡_};
 ghost use mathlib.Core.List.{[], _∷_};
 ghost use lib.ListN.{length, getD, set};
@@ -18,7 +18,8 @@ ghost use Rattle.run_matcher.specs.Opening.{number-of as opening-number};
 ghost use Rattle.table_layout.specs.Places.{table-of};
 ghost use Rattle.run_grants.specs.Runs.{after, grant-of, number-of as grant-number, taken-of};
 ghost use Rattle.run_saved.specs.Saved.{restored};
-ghost use Rattle.songrafter.specs.Calls.{told-clash, told, Admits, number-with-room, Opens, no-run-number, Grants};
+ghost use Rattle.run_fields.specs.Fields.{number-of as field-number, told as told-field};
+ghost use Rattle.songrafter.specs.Calls.{told-clash, told, Admits, number-with-room, Opens, no-run-number, Grants, TellsField, version};
 
 // A number of an answer, where it fits.
 fn put(answer: &mut [u64], k: usize, n: usize)
@@ -29,13 +30,19 @@ fn put(answer: &mut [u64], k: usize, n: usize)
     }
 }
 
-fn put_five(answer: &mut [u64], a: usize, b: usize, c: usize, d: usize, e: usize)
-    ensures { λ r. ⌜ now (answer .exit) ≡ sets (now (answer .entry)) 0 (a ∷ b ∷ c ∷ d ∷ e ∷ []) ⌝ }
+fn put_four(answer: &mut [u64], a: usize, b: usize, c: usize, d: usize)
+    ensures { λ r. ⌜ now (answer .exit) ≡ sets (now (answer .entry)) 0 (a ∷ b ∷ c ∷ d ∷ []) ⌝ }
 {
     put(answer, 0, a);
     put(answer, 1, b);
     put(answer, 2, c);
     put(answer, 3, d);
+}
+
+fn put_five(answer: &mut [u64], a: usize, b: usize, c: usize, d: usize, e: usize)
+    ensures { λ r. ⌜ now (answer .exit) ≡ sets (now (answer .entry)) 0 (a ∷ b ∷ c ∷ d ∷ e ∷ []) ⌝ }
+{
+    put_four(answer, a, b, c, d);
     put(answer, 4, e);
 }
 
@@ -199,6 +206,49 @@ pub extern "C" fn songrafter_grant(
     let count = steps_taken(answer);
     put_count(taken, count);
     grant_number(answer)
+}
+
+// Tells what is found of a field, and gives its number.
+fn tell_field(field: &mut [u64], found: run_fields::Answer) -> usize
+    ensures { λ r. ⌜ (r ≡ field-number found) × (now (field .exit) ≡ sets (now (field .entry)) 0 (told-field found)) ⌝ }
+{
+    match found {
+        run_fields::Answer::LongFrame => 21,
+        run_fields::Answer::NoWords => 22,
+        run_fields::Answer::NoField => 23,
+        run_fields::Answer::Outside => 24,
+        run_fields::Answer::Found {
+            construct,
+            first,
+            width,
+            value,
+        } => {
+            put_four(field, construct, first, width, value);
+            0
+        }
+    }
+}
+
+#[no_mangle]
+pub extern "C" fn songrafter_field(
+    table: &[u32],
+    frame: &[u8],
+    reading: &[u32],
+    k: usize,
+    field: &mut [u64],
+) -> usize
+    ensures { λ r. ⌜ TellsField (now (table .entry)) (now (frame .entry)) (now (reading .entry)) k (now (field .entry)) (now (field .exit)) r ⌝ }
+{
+    let found = run_fields::field(table, frame, reading, k);
+    tell_field(field, found)
+}
+
+// The version of include/songrafter.h that this is: 0.1.0.
+#[no_mangle]
+pub extern "C" fn songrafter_version() -> u32
+    ensures { λ r. ⌜ r ≡ version ⌝ }
+{
+    1000
 }
 
 // Of a saved run, or of a closed one where the slice is none: verdict, steps taken, fields recorded, position, value of a variable.

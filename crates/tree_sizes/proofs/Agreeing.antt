@@ -1,14 +1,14 @@
 -- Calculations whose variables have the same sizes have the same faults.
 -- Assumes nothing.
 use Prim.Native.Nat.{ℕ, _+_, _*_, _^_, max}
-use mathlib.Core.Path.{_≡_, refl, ap, ap₂}
+use mathlib.Core.Path.{_≡_, refl, ap₂}
 use mathlib.Core.List.{List, [], _∷_, _++_}
 use lib.Dec.{ltb}
 use Rattle.tree.specs.Tree.{Primary, number, variable, Operand, plain, opposite, Factors, no-factor, times, Product, product, Summands, no-summand, plus, minus, Calculation, sum}
 use Rattle.tree.specs.Spelling.{spell-calculation}
 use Rattle.tree_meaning.specs.Pieces.{Term, a-number, a-use, a-sign, primary-terms, operand-terms, factor-terms, product-terms, summand-terms, calculation-terms, Component, whole-number, joined-by, terms-of}
 use Rattle.tree_meaning.specs.Places.{place-if, first-byte}
-use Rattle.tree_meaning.specs.Sizes.{primary-size, operand-size, times-size, product-size, sum-size, times-largest, product-largest, sum-largest, calculation-largest, too-large, calculation-faults}
+use Rattle.tree_meaning.specs.Sizes.{primary-size, operand-size, times-size, product-size, times-largest, product-largest, sum-largest, calculation-largest, calculation-faults}
 
 module _ (f g : List ℕ → ℕ) where
   -- of the variables that are used among these terms
@@ -71,6 +71,7 @@ module _ (f g : List ℕ → ℕ) where
       let q = sum-agrees (product-size f x) (product-size g x) more (o .0) (agree-second (product-terms x) (summand-terms more) h) in
       λ t. max (o .1 t) (q t)
 
+  -- the faults of components
   pub same-faults : (l : List Component) → Agree (terms-of l) → calculation-faults f l ≡ calculation-faults g l
   unfolding Agree terms-of calculation-faults
   same-faults [] h = refl

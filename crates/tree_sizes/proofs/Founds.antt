@@ -1,12 +1,12 @@
 -- What refusal 8 finds in a list of the table that holds the rows of a set, of counts or of a condition: the first of its calculations' faults.
 -- Assumes nothing.
-use Prim.Native.Nat.{ℕ, suc, _+_, _*_, _-_, _≤_, _<_}
+use Prim.Native.Nat.{ℕ, suc, _+_, _-_, _≤_, _<_}
 use mathlib.Core.Path.{_≡_, refl, sym, ap, subst, _∙_}
 use mathlib.Core.Bool.{Bool, true, false}
 use mathlib.Core.List.{List, [], _∷_, _++_, map, append-nil, append-assoc}
 use native.Mathlib.Omega.{arith}
 use borrow.Author.Tests.{lt-ltb}
-use lib.Dec.{ltb, eqb}
+use lib.Dec.{eqb}
 use lib.IntN.{ℤ, pos}
 use lib.ListN.{length, length-append}
 use Rattle.basis.specs.Counts.{Counts as Passes, exactly as so-many, atLeast, span as from-to}
@@ -20,12 +20,9 @@ use Rattle.term_words.specs.declared.Trial.{Trial}
 use Rattle.term_evaluation.specs.Meaning.{run, lastOf, verdictOf}
 use Rattle.term_evaluation.specs.Counts.{shown, formOf, calculationsEnd, ofNumbers, ofTrial, talliedBy, tallied}
 use Rattle.term_evaluation.specs.declared.Counted.{Counted}
-use Rattle.term_evaluation.specs.declared.Ended.{Ended}
 use Rattle.term_evaluation.specs.declared.Form.{Form}
-use Rattle.term_evaluation.specs.declared.Tally.{Tally}
 use Rattle.term_evaluation.specs.declared.Tested.{Tested as Answer}
 use Rattle.term_sizes.specs.Sizes.{ofTested, ofCounted, ofTally, sizes, countSizes}
-use Rattle.term_sizes.specs.declared.Sized.{Sized}
 use Rattle.text_store.specs.Words.{term-origin}
 use Rattle.text_admission.specs.Extents.{list-found}
 use Rattle.text_admission.specs.declared.Found.{Found}
@@ -36,7 +33,7 @@ use Rattle.tree_store.proofs.Rows.{TermRow, a-term, calculation-rows, set-rows,
 use Rattle.tree_store.proofs.Lengths.{some-calculation}
 use Rattle.tree_grammar.proofs.Lists.{RowsAt, rows-left}
 use Rattle.tree_sizes.proofs.Tells.{calculation-counts}
-use Rattle.tree_sizes.proofs.Runs.{stop-origin, Came, came-map, Ran, row-term, PartRows, no-parts, part-then, ran}
+use Rattle.tree_sizes.proofs.Runs.{stop-origin, Came, came-map, row-term, PartRows, part-then, ran}
 use Rattle.tree_sizes.proofs.Reckoning.{Measured, measured-first, measured-second}
 use Rattle.tree_sizes.proofs.Lists.{Tested, Faulty, Passed, Judged, judged-both, judged-as, reckoned-parts, Left, fault-of, calculation-judged, one-room}
 use Rattle.tree_sizes.proofs.SetLists.{set-judged, nothing-joins}
@@ -99,6 +96,7 @@ counted-found P l ts f i at A m Trial.Overflow h q = stopped h q
 -- ---- terms of the table that are rows
 
 module _ (g : ℕ → ℕ) (W : List ℕ) where
+  -- the table's terms from number i on are these rows
   unfoldable pub Written : ℕ → List TermRow → Type 0
   Written i [] = Unit {0}
   Written i (r ∷ A) = (termAt W i ≡ row-term g r) × Written (i + 1) A
@@ -118,6 +116,7 @@ module _ (g : ℕ → ℕ) (W : List ℕ) where
   written-from i [] h = refl
   written-from i (r ∷ A) h = λ t. h .0 t ∷ written-from (i + 1) A (h .1) t
 
+  -- so their list is the rows' terms
   pub written-terms : (i e : ℕ) (A : List TermRow) → e ≡ i + length A → Written i A → terms W i e ≡ map (row-term g) A
   written-terms i e A q h = ap (termsFrom W i) (let z : e - i ≡ length A = omega arith in z) ∙ written-from i A h
 
@@ -132,6 +131,7 @@ module _ (g : ℕ → ℕ) (W : List ℕ) where
   module _ (w : List ℤ) (wide : List ℕ → ℕ) (ts : List ℕ) (f i : ℕ) where
     -- ---- sets and conditions
 
+    -- of a set
     pub set-found : {n : ℕ} (x : ValueSet n) (e : ℕ) → e ≡ i + length (set-rows x []) → Measured g w wide (terms-of (set-parts x)) → RowsAt ts f (set-rows x []) → Written i (set-rows x [])
         → Matches (list-found ts f i (sizes Kind.Set w i (terms W i e))) (calculation-faults wide (set-parts x))
     unfolding sizes
@@ -141,6 +141,7 @@ module _ (g : ℕ → ℕ) (W : List ℕ) where
         subst (λ (L : List Term). Matches (list-found ts f i (sizes Kind.Set w i L)) (calculation-faults wide (set-parts x))) (sym (written-terms i e A q at))
         (tested-found (Tested 1) (calculation-faults wide (set-parts x)) ts f i (y .at) A (y .trial) rows (set-judged g w wide x h [] i 1 0 0 (omega arith, omega arith) (omega arith) (omega arith) (nothing-joins g w wide 0)))
 
+    -- of a condition
     pub condition-found : {n : ℕ} (x : Condition n) (e : ℕ) → e ≡ i + length (tests-rows x []) → Measured g w wide (terms-of (tests-parts x)) → RowsAt ts f (tests-rows x []) → Written i (tests-rows x [])
         → Matches (list-found ts f i (sizes Kind.Condition w i (terms W i e))) (calculation-faults wide (tests-parts x))
     unfolding sizes
@@ -158,15 +159,15 @@ module _ (g : ℕ → ℕ) (W : List ℕ) where
     tally-found P l A m e some form list rows q =
         let y = ran g w Kind.Calculation i A Numbers.Zero 1 in
         let z : list-found ts f i (countSizes w W i e) ≡ list-found ts f i (ofCounted (ofTrial m (y .trial)) (y .at)) =
-            ap (λ (b : Bool). list-found ts f i (ofTally (pick b (talliedBy (formOf (termAt W (e - 1))) Mode.Sizes w W i e) (record { counted = Counted.Malformed; at = i })))) (lt-ltb i e some)
-            ∙ ap (λ (k : Form). list-found ts f i (ofTally (talliedBy k Mode.Sizes w W i e))) form
-            ∙ ap (λ (L : List Term). list-found ts f i (ofCounted (ofTrial m (run Kind.Calculation Mode.Sizes w (pos 0) i L Numbers.Zero 1 .trial)) (run Kind.Calculation Mode.Sizes w (pos 0) i L Numbers.Zero 1 .at))) list in
+        ap (λ (b : Bool). list-found ts f i (ofTally (pick b (talliedBy (formOf (termAt W (e - 1))) Mode.Sizes w W i e) (record { counted = Counted.Malformed; at = i })))) (lt-ltb i e some)
+        ∙ ap (λ (k : Form). list-found ts f i (ofTally (talliedBy k Mode.Sizes w W i e))) form
+        ∙ ap (λ (L : List Term). list-found ts f i (ofCounted (ofTrial m (run Kind.Calculation Mode.Sizes w (pos 0) i L Numbers.Zero 1 .trial)) (run Kind.Calculation Mode.Sizes w (pos 0) i L Numbers.Zero 1 .at))) list in
         subst (λ (k : Found). Matches k l) (sym z) (counted-found P l ts f i (y .at) A m (y .trial) rows q)
 
     -- one calculation
-    one-judged : (a : Calculation) → Measured g w wide (calculation-terms a) → Judged (Left Numbers.Zero 1) (fault-of g w wide Kind.Calculation a ++ []) i (calculation-rows a) (ran g w Kind.Calculation i (calculation-rows a) Numbers.Zero 1)
+    one-judged : (a : Calculation) → Measured g w wide (calculation-terms a) → Judged (Left Numbers.Zero 1) (fault-of wide a ++ []) i (calculation-rows a) (ran g w Kind.Calculation i (calculation-rows a) Numbers.Zero 1)
     one-judged a h =
-        let F = fault-of g w wide Kind.Calculation a in
+        let F = fault-of wide a in
         judged-as g w Kind.Calculation (Left Numbers.Zero 1) F (F ++ []) i (calculation-rows a) (ran g w Kind.Calculation i (calculation-rows a) Numbers.Zero 1) (sym (append-nil F)) (calculation-judged g w wide Kind.Calculation a h i Numbers.Zero 1 (omega arith))
 
     -- rows and then a sign that is their form
@@ -179,26 +180,27 @@ module _ (g : ℕ → ℕ) (W : List ℕ) where
         tally-found P l A m e (omega (arith, n, q)) (ap (λ (k : ℕ). formOf (termAt W k)) d ∙ ap formOf (written-right i A (r ∷ []) at .0) ∙ form)
         (ap (terms W i) ends ∙ written-terms i (e - 1) A d (written-left i A (r ∷ []) at)) (rows-left A (r ∷ []) rows) j
 
+    -- of each form of counts
     pub counts-found : (x : Counts) (e : ℕ) → e ≡ i + length (counts-rows x) → Measured g w wide (terms-of (counts-parts x)) → RowsAt ts f (counts-rows x) → Written i (counts-rows x)
         → Matches (list-found ts f i (countSizes w W i e)) (calculation-faults wide (counts-parts x))
     unfolding counts-rows Measured terms-of calculation-faults termOf
     counts-found (exactly n) e q h rows at =
         let A = calculation-rows n in
         let some = some-calculation n in
-        tally-found (Left Numbers.Zero 1) (fault-of g w wide Kind.Calculation n ++ []) A Form.Exact e (omega (arith, q, some)) (ap (λ (k : ℕ). formOf (termAt W (k - 1))) q ∙ last-part i A some (reckoned-parts g (calculation-counts n)) at) (written-terms i e A q at) rows
+        tally-found (Left Numbers.Zero 1) (fault-of wide n ++ []) A Form.Exact e (omega (arith, q, some)) (ap (λ (k : ℕ). formOf (termAt W (k - 1))) q ∙ last-part i A some (reckoned-parts g (calculation-counts n)) at) (written-terms i e A q at) rows
         (one-judged n (measured-first g w wide (calculation-terms n) [] h))
     counts-found (at-least a s) e q h rows at =
-        signed-found (Left Numbers.Zero 1) (fault-of g w wide Kind.Calculation a ++ []) (calculation-rows a) (a-term 9 0 (s .start) 0) Form.Open e q refl refl rows at (one-judged a (measured-first g w wide (calculation-terms a) (terms-of (joined-by s ∷ [])) h))
+        signed-found (Left Numbers.Zero 1) (fault-of wide a ++ []) (calculation-rows a) (a-term 9 0 (s .start) 0) Form.Open e q refl refl rows at (one-judged a (measured-first g w wide (calculation-terms a) (terms-of (joined-by s ∷ [])) h))
     counts-found (at-most s b) e q h rows at =
-        signed-found (Left Numbers.Zero 1) (fault-of g w wide Kind.Calculation b ++ []) (calculation-rows b) (a-term 10 0 (s .start) 0) Form.UpTo e q refl refl rows at (one-judged b (measured-first g w wide (calculation-terms b) [] h))
+        signed-found (Left Numbers.Zero 1) (fault-of wide b ++ []) (calculation-rows b) (a-term 10 0 (s .start) 0) Form.UpTo e q refl refl rows at (one-judged b (measured-first g w wide (calculation-terms b) [] h))
     counts-found (span a s b) e q h rows at =
         let A = calculation-rows a in
         let B = calculation-rows b in
         let r = a-term 8 0 (s .start) 0 in
-        let F = fault-of g w wide Kind.Calculation b in
+        let F = fault-of wide b in
         let z : A ++ (B ++ (r ∷ [])) ≡ (A ++ B) ++ (r ∷ []) = sym (append-assoc A B (r ∷ [])) in
-        signed-found Any (fault-of g w wide Kind.Calculation a ++ (F ++ [])) (A ++ B) r Form.Closed e (q ∙ ap (λ (l : List TermRow). i + length l) z) refl refl (subst (RowsAt ts f) z rows) (subst (Written i) z at)
-        (judged-both g w Kind.Calculation (Left Numbers.Zero 1) Any (fault-of g w wide Kind.Calculation a) (F ++ []) A B i Numbers.Zero 1 (calculation-judged g w wide Kind.Calculation a (measured-first g w wide (calculation-terms a) (terms-of (joined-by s ∷ whole-number b ∷ [])) h) i Numbers.Zero 1 (omega arith))
+        signed-found Any (fault-of wide a ++ (F ++ [])) (A ++ B) r Form.Closed e (q ∙ ap (λ (l : List TermRow). i + length l) z) refl refl (subst (RowsAt ts f) z rows) (subst (Written i) z at)
+        (judged-both g w Kind.Calculation (Left Numbers.Zero 1) Any (fault-of wide a) (F ++ []) A B i Numbers.Zero 1 (calculation-judged g w wide Kind.Calculation a (measured-first g w wide (calculation-terms a) (terms-of (joined-by s ∷ whole-number b ∷ [])) h) i Numbers.Zero 1 (omega arith))
         (λ s₁ t₁ u.
         let y = ran g w Kind.Calculation (i + length A) B s₁ t₁ in
         judged-as g w Kind.Calculation Any F (F ++ []) (i + length A) B y (sym (append-nil F))

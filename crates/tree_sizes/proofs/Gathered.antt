@@ -2,26 +2,29 @@
 -- Assumes nothing.
 use Prim.Native.Nat.{ℕ}
 use mathlib.Core.Path.{_≡_, refl, sym, ap, subst, _∙_}
-use mathlib.Core.Logic.{_⊎_, inl, inr, ⊎-elim, _↔_}
+use mathlib.Core.Logic.{_⊎_, inl, inr, ⊎-elim, _↔_, Iff·rfl, Iff·symm, Iff·trans}
 use mathlib.Core.List.{List, [], _∷_, _++_, append-assoc}
 use Rattle.tree.specs.Tree.{Rule}
 use Rattle.tree_meaning.specs.Pieces.{terms-of, Piece, use-of-rule, width, formula, binding, rule-pieces}
 use Rattle.tree_meaning.specs.Places.{place-if}
 use Rattle.tree_meaning.specs.Sizes.{wrong-width, number-faults, widest-in, calculation-faults, faults-in, size-faults}
-use Rattle.tree_sizes.proofs.Hits.{Hits, hits-two, hits-both}
+use Rattle.tree_sizes.proofs.Hits.{either, Hits, hits-two, hits-both}
 
+-- numbers that are too large
 abbrev pub numbers-of : Piece → List ℕ
 numbers-of (use-of-rule x) = []
 numbers-of (width n) = []
 numbers-of (formula f) = number-faults (terms-of f)
 numbers-of (binding x n placed) = []
 
+-- a width that is wrong
 abbrev pub widths-of : Piece → List ℕ
 widths-of (use-of-rule x) = []
 widths-of (width n) = place-if (wrong-width n) (n .start)
 widths-of (formula f) = []
 widths-of (binding x n placed) = []
 
+-- calculations that are too large
 abbrev pub sizes-of : (List ℕ → ℕ) → Piece → List ℕ
 sizes-of widest (use-of-rule x) = []
 sizes-of widest (width n) = []
@@ -66,48 +69,42 @@ module _ {X N W C : Type 0} where
     λ h. ⊎-elim (λ n. inr (inl n)) (λ r. ⊎-elim (λ u. inr (inr (inl u))) (λ s. ⊎-elim (λ x. inl x) (λ u. inr (inr (inr u))) s) r) h,
   )
 
-chained : {A B C : Type 0} → A ↔ B → B ↔ C → A ↔ C
-chained f g = (λ a. g .0 (f .0 a), λ c. f .1 (g .1 c))
-
-second-same : {X A B : Type 0} → A ↔ B → (X ⊎ A) ↔ (X ⊎ B)
-second-same f = (λ h. ⊎-elim (λ x. inl x) (λ a. inr (f .0 a)) h, λ h. ⊎-elim (λ x. inl x) (λ b. inr (f .1 b)) h)
-
-first-same : {X A B : Type 0} → A ↔ B → (A ⊎ X) ↔ (B ⊎ X)
-first-same f = (λ h. ⊎-elim (λ a. inl (f .0 a)) (λ x. inr x) h, λ h. ⊎-elim (λ b. inl (f .1 b)) (λ x. inr x) h)
-
-backwards : {A B : Type 0} → A ↔ B → B ↔ A
-backwards f = (f .1, f .0)
-
+-- the faults of pieces are those of the three parts
 pub three-parts : (p : ℕ) (widest : List ℕ → ℕ) (l : List Piece) → Hits p (faults-in widest l) ↔ Three p widest l
 unfolding faults-in gathered Hits
 three-parts p widest [] = (λ h. absurd h, λ h. ⊎-elim (λ (z : ⊥). absurd z) (λ r. ⊎-elim (λ (z : ⊥). absurd z) (λ (z : ⊥). absurd z) r) h)
 three-parts p widest (use-of-rule x ∷ l) = three-parts p widest l
 three-parts p widest (width n ∷ l) =
     let F = place-if (wrong-width n) (n .start) in
-    chained (hits-two p F (faults-in widest l)) (chained (second-same (three-parts p widest l)) (chained in-second (second-same (first-same (backwards (hits-two p F (gathered widths-of l)))))))
+    Iff·trans (hits-two p F (faults-in widest l)) (Iff·trans (either Iff·rfl (three-parts p widest l)) (Iff·trans in-second (either Iff·rfl (either (Iff·symm (hits-two p F (gathered widths-of l))) Iff·rfl))))
 three-parts p widest (formula f ∷ l) =
     let F = number-faults (terms-of f) in
     let G = calculation-faults widest f in
-    chained (hits-two p F (G ++ faults-in widest l))
-    (chained (second-same (chained (hits-two p G (faults-in widest l)) (chained (second-same (three-parts p widest l)) in-third)))
-    (chained in-first (chained (first-same (backwards (hits-two p F (gathered numbers-of l)))) (second-same (second-same (backwards (hits-two p G (gathered (sizes-of widest) l))))))))
+    Iff·trans (hits-two p F (G ++ faults-in widest l))
+    (Iff·trans (either Iff·rfl (Iff·trans (hits-two p G (faults-in widest l)) (Iff·trans (either Iff·rfl (three-parts p widest l)) in-third)))
+    (Iff·trans in-first (Iff·trans (either (Iff·symm (hits-two p F (gathered numbers-of l))) Iff·rfl) (either Iff·rfl (either Iff·rfl (Iff·symm (hits-two p G (gathered (sizes-of widest) l))))))))
 three-parts p widest (binding x n placed ∷ l) = three-parts p widest l
 
 -- ---- of rules
 
+-- the faults of each rule
 unfoldable pub of-rules : (Rule → List ℕ) → List Rule → List ℕ
 of-rules f [] = []
 of-rules f (r ∷ l) = f r ++ of-rules f l
 
+-- its numbers
 abbrev pub rule-numbers : Rule → List ℕ
 rule-numbers r = gathered numbers-of (rule-pieces r)
 
+-- its widths
 abbrev pub rule-widths : Rule → List ℕ
 rule-widths r = gathered widths-of (rule-pieces r)
 
+-- its calculations, with its own variables
 abbrev pub rule-sizes : Rule → List ℕ
 rule-sizes r = gathered (sizes-of (widest-in (rule-pieces r))) (rule-pieces r)
 
+-- the tree's faults are those of the three parts
 pub rules-parts : (p : ℕ) (l : List Rule) → Hits p (size-faults l) ↔ (Hits p (of-rules rule-numbers l) ⊎ (Hits p (of-rules rule-widths l) ⊎ Hits p (of-rules rule-sizes l)))
 unfolding size-faults of-rules Hits
 rules-parts p [] = (λ h. absurd h, λ h. ⊎-elim (λ (z : ⊥). absurd z) (λ r. ⊎-elim (λ (z : ⊥). absurd z) (λ (z : ⊥). absurd z) r) h)
@@ -117,8 +114,7 @@ rules-parts p (r ∷ l) =
     let m = rules-parts p l in
     let a = hits-two p (rule-numbers r) (of-rules rule-numbers l) in
     let b = hits-two p (rule-widths r) (of-rules rule-widths l) in
-    let c = hits-two p (rule-sizes r) (of-rules rule-sizes l) in
-    (
+    let c = hits-two p (rule-sizes r) (of-rules rule-sizes l) in (
       λ h. ⊎-elim
           (λ x. ⊎-elim (λ y. inl (a .1 (inl y))) (λ y. ⊎-elim (λ z. inr (inl (b .1 (inl z)))) (λ z. inr (inr (c .1 (inl z)))) y) (t .0 x))
           (λ x. ⊎-elim (λ y. inl (a .1 (inr y))) (λ y. ⊎-elim (λ z. inr (inl (b .1 (inr z)))) (λ z. inr (inr (c .1 (inr z)))) y) (m .0 x))

@@ -15,6 +15,7 @@ pub mod Widths
 pub mod Agreeing
 pub mod NodeLists
 pub mod Ready
+pub mod Nodes
 pub mod Walk
 pub mod Rules
 pub mod Sizes

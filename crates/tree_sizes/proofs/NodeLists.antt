@@ -1,18 +1,17 @@
 -- What refusal 8 finds, up to a place p, in the lists of a node, is what the tree says of its formulas. Asked of rules whose widths up to p are right: a formula that stands
 -- behind p has no fault up to p, and before p no width is cut.
 -- Assumes nothing.
-use Prim.Native.Nat.{ℕ, suc, _+_, _-_, _≤_, _<_, min}
+use Prim.Native.Nat.{ℕ, _+_, _≤_, _<_, min}
 use mathlib.Core.Path.{_≡_, refl, sym, ap, ap₂, subst, _∙_}
-use mathlib.Core.Logic.{_⊎_, inl, inr, ⊎-elim, _↔_}
+use mathlib.Core.Logic.{_↔_}
 use mathlib.Core.Bool.{Bool, true, false, _&&_ as both}
 use mathlib.Core.List.{List, [], _∷_, _++_}
 use native.Mathlib.Omega.{arith}
 use native.Mathlib.Decide.{decLe}
 use borrow.Author.Tests.{leb-true, le-leb}
-use lib.Dec.{leb, ltb, eqb}
-use lib.IntN.{ℤ, pos}
+use lib.Dec.{leb, eqb}
+use lib.IntN.{pos}
 use lib.ListN.{length, getD, length-append}
-use Rattle.basis.proofs.Booleans.{which}
 use Rattle.text_tokens.specs.Numbers.{capped, number-value}
 use Rattle.term_sizes.specs.declared.Sized.{Sized}
 use Rattle.table_layout.specs.Constructs.{constructAt}
@@ -35,7 +34,7 @@ use Rattle.tree_meaning.proofs.Passing.{UsesRight}
 use Rattle.tree_store.proofs.Rows.{TermRow, a-term, last-marked, calculation-rows, item-rows, set-rows, counts-rows, tests-rows}
 use Rattle.tree_store.proofs.Lengths.{some-calculation}
 use Rattle.tree_store.proofs.Standing.{Standing}
-use Rattle.tree_store.proofs.Uses.{Here, UsesAre, no-more, set-uses, counts-uses, tests-uses}
+use Rattle.tree_store.proofs.Uses.{Here, no-more, set-uses, counts-uses, tests-uses}
 use Rattle.tree_store.proofs.Binding.{Before}
 use Rattle.tree_grammar.proofs.Lists.{RowsAt}
 use Rattle.tree_grammar.proofs.Formulas.{AllHere, uses-here}
@@ -44,7 +43,7 @@ use Rattle.tree_sizes.proofs.Hits.{Hit, Hits}
 use Rattle.tree_sizes.proofs.Tells.{told, set-tells, counts-tells, tests-tells}
 use Rattle.tree_sizes.proofs.Reckoning.{Measured}
 use Rattle.tree_sizes.proofs.Founds.{Matches, set-found, condition-found, counts-found}
-use Rattle.tree_sizes.proofs.Rising.{Rising, rising-from, first-hit, Rises, set-rises, counts-rise, tests-rise}
+use Rattle.tree_sizes.proofs.Rising.{rising-from, first-hit, Rises, set-rises, counts-rise, tests-rise}
 use Rattle.tree_sizes.proofs.Agreeing.{Agree, same-faults}
 use Rattle.tree_sizes.proofs.Tables.{number-at, own-written, condition-written, no-list, set-list, wrong-list, counts-list, condition-list, no-condition}
 
@@ -94,6 +93,7 @@ pub record Ruled (xs ns ts rs ws : List ℕ) (n r : ℕ) (numbered : List ℕ �
 abbrev pub condition-at : List ℕ → List ℕ → List ℕ → ℕ → Found
 condition-at ns ts ws i = list-found ts (condition-from ns i) (condition-start ns i) (condition-size ws i)
 
+-- and in its own list
 abbrev pub own-at : List ℕ → List ℕ → List ℕ → ℕ → Found
 own-at ns ts ws i = list-found ts (own-from ns i) (own-start ns i) (own-size ws (constructAt ws i))
 
@@ -145,6 +145,7 @@ module _ (p : ℕ) {xs ns ts rs ws : List ℕ} {n r : ℕ} {numbered : List ℕ 
 
     -- ---- a case's condition
 
+    -- what is found in it is what the tree says
     pub condition-hit : {d : ℕ} (x : Condition d) (t : ℕ) (w : List Lexeme) → condition-from ns i ≡ t → condition-end ns i ≡ t + length (tests-rows x []) → RowsAt ts t (tests-rows x []) → Standing xs q (spell-tests x w)
         → UsesRight names (uses-in (terms-of (tests-parts x))) → Hit p (condition-at ns ts ws i) ↔ Hits p (calculation-faults widest (tests-parts x))
     condition-hit x t w begun upto rows s u =
@@ -168,6 +169,7 @@ module _ (p : ℕ) {xs ns ts rs ws : List ℕ} {n r : ℕ} {numbered : List ℕ 
 
     -- ---- counts in braces
 
+    -- what is found in them is what the tree says
     pub counts-hit : (x : Counts) (t : ℕ) (w : List Lexeme) → own-from ns i ≡ t → own-end ns i ≡ t + length (counts-rows x) → RowsAt ts t (counts-rows x) → Standing xs q (spell-counts x w) → UsesRight names (uses-in (terms-of (counts-parts x)))
         → kind-of ns i ≡ 3 → node-mark ns i ≡ 4 → 2 ≤ node-size ns i → i + node-size ns i ≤ n → Hit p (own-at ns ts ws i) ↔ Hits p (calculation-faults widest (counts-parts x))
     counts-hit x t w begun upto rows s u kind mark two inside =
@@ -191,6 +193,7 @@ module _ (p : ℕ) {xs ns ts rs ws : List ℕ} {n r : ℕ} {numbered : List ℕ 
 
     -- ---- a uint's set, behind its width
 
+    -- what is found in it is what the tree says; a wrong width leaves no construct, and no fault before it
     pub set-hit : {d : ℕ} (x : ValueSet d) (t : ℕ) (v : Number) (w : List Lexeme) → own-from ns i ≡ t → own-end ns i ≡ t + length (set-rows x []) → RowsAt ts t (set-rows x []) → Standing xs q (spell-set x w) → UsesRight names (uses-in (terms-of (set-parts x)))
         → kind-of ns i ≡ 8 → node-size ns i ≡ 1 → width-place ns i ≡ v .start → number-value xs (v .start) ≡ v .value → v .start ≤ q → (v .start ≤ p → (1 ≤ v .value) × (v .value ≤ 32)) → Hit p (own-at ns ts ws i) ↔ Hits p (calculation-faults widest (set-parts x))
     set-hit x t v w begun upto rows s u kind size place value before narrow = by (both (leb 1 (width-of xs ns i)) (leb (width-of xs ns i) 32)) refl
@@ -236,17 +239,18 @@ module _ (p : ℕ) {xs ns ts rs ws : List ℕ} {n r : ℕ} {numbered : List ℕ 
             (set-rises (cut widest) x w s) (set-rises widest x w s) (λ l. same-faults (cut widest) widest (set-parts x) (agreed q names settled l (terms-of (set-parts x)) u))
         by false e =
             let z = wrong-list (rule .words) (rule .few-nodes) (rule .few-terms) (rule .few-binders) i there (omega (arith, long, some-set x [])) kind size e in
-            let rises = set-rises widest x w s in
-            (
+            let rises = set-rises widest x w s in (
               λ h. absurd (subst (λ (k : Sized). Hit p (list-found ts (own-from ns i) (own-start ns i) k)) z h),
               λ h. absurd (wrong e (narrow (omega (arith, before, rising-from p q (rises .mid) (calculation-faults widest (set-parts x)) (rises .rises) h)))),
             )
 
   -- ---- nodes without lists
 
+  -- a node without a list of its own
   pub no-own-hit : (i : ℕ) → i < n → eqb (kind-of ns i) 8 ≡ false → kind-of ns i < 10 → (kind-of ns i ≡ 3 → node-mark ns i < 4) → Hit p (own-at ns ts ws i) → ⊥
   no-own-hit i l e k m h = subst (λ (z : Sized). Hit p (list-found ts (own-from ns i) (own-start ns i) z)) (no-list (rule .words) (rule .few-nodes) (rule .few-terms) (rule .few-binders) i l e k m) h
 
+  -- a node that is no case with a condition
   pub no-condition-hit : (i : ℕ) → i < n → condition-from ns i ≡ 0 → condition-end ns i ≡ 0 → Hit p (condition-at ns ts ws i) → ⊥
   no-condition-hit i l e f h =
       subst (λ (z : Sized). Hit p (list-found ts (condition-from ns i) (condition-start ns i) z)) (no-condition (rule .words) (rule .few-nodes) (rule .few-terms) (rule .few-binders) i l (omega (arith, e, f))) h

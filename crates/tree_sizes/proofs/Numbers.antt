@@ -1,8 +1,8 @@
 -- Numbers that are too large, and widths that are wrong: those that are stored are the tree's.
 -- Assumes nothing.
-use Prim.Native.Nat.{ℕ, suc, _+_, _≤_, _<_, min}
-use mathlib.Core.Path.{_≡_, refl, sym, ap, ap₂, subst, _∙_}
-use mathlib.Core.Logic.{_⊎_, inl, inr, ⊎-elim, _↔_}
+use Prim.Native.Nat.{ℕ, suc, _+_, _≤_, min}
+use mathlib.Core.Path.{_≡_, refl, sym, ap, ap₂, _∙_}
+use mathlib.Core.Logic.{_⊎_, inl, inr, ⊎-elim, _↔_, Iff·symm, Iff·trans}
 use mathlib.Core.Bool.{Bool, true, false, not, _&&_, _||_}
 use mathlib.Core.List.{List, [], _∷_, _++_}
 use native.Mathlib.Omega.{arith}
@@ -14,18 +14,18 @@ use Rattle.basis.proofs.Booleans.{which}
 use Rattle.text_tokens.specs.Numbers.{capped, number-value}
 use Rattle.text_store.specs.Words.{kind-of, width-place, term-tag, term-value, term-at}
 use Rattle.text_encoding.specs.Numbers.{width-of}
-use Rattle.text_admission.specs.Extents.{found-if, width-found, number-found}
+use Rattle.text_admission.specs.Extents.{width-found, number-found}
+use Rattle.tree.specs.Lexemes.{Number}
 use Rattle.tree.specs.Tree.{Mark, optional, any-number, one-or-more, counted, Part, Tree, literal, range, field, binder, rule-use, eod, group, switch, last-case, case-default, case-cases, once, repeated, last-member, and-members, last-branch, or-branches, Rule}
 use Rattle.tree_meaning.specs.Pieces.{Term, Component, terms-of, Piece, formula, mark-pieces, pieces, set-parts, counts-parts, tests-parts, rule-body}
 use Rattle.tree_meaning.specs.Places.{place-if}
 use Rattle.tree_meaning.specs.Sizes.{wrong-width, wrong-number, number-faults}
-use Rattle.tree_store.proofs.Holding.{compared}
 use Rattle.tree_store.proofs.Rows.{NodeRow, TermRow, set-rows, counts-rows, tests-rows, mark-rows, term-rows, rules-terms}
 use Rattle.tree_store.proofs.Storing.{TermIs}
 use Rattle.tree_store.proofs.Rowed.{NodesAt, no-nodes, node-then}
 use Rattle.tree_store.proofs.Steps.{InStep, no-step, a-formula, a-use, a-field, a-binder, another}
 use Rattle.tree_grammar.proofs.Lists.{RowsAt, no-rows, row-then}
-use Rattle.tree_sizes.proofs.Hits.{Hit, hit-if, Among, Hits, hits-two, hits-if, hits-both}
+use Rattle.tree_sizes.proofs.Hits.{either, dropped, Hit, hit-if, Among, among-none, among-next, Hits, hits-two, hits-if, hits-both}
 use Rattle.tree_sizes.proofs.Tells.{Tells, told, a-number-row, a-use-row, a-sign-row, skipped, set-tells, counts-tells, tests-tells}
 use Rattle.tree_sizes.proofs.Gathered.{numbers-of, widths-of, gathered, gathered-both, of-rules, rule-numbers}
 
@@ -44,8 +44,7 @@ module _ (p : ℕ) where
   unfolding RowsHit
   rows-hit-two [] B = (λ h. inr h, λ h. ⊎-elim (λ (z : ⊥). absurd z) (λ z. z) h)
   rows-hit-two (r ∷ A) B =
-      let t = rows-hit-two A B in
-      (
+      let t = rows-hit-two A B in (
         λ h. ⊎-elim (λ x. inl (inl x)) (λ x. ⊎-elim (λ y. inl (inr y)) (λ y. inr y) (t .0 x)) h,
         λ h. ⊎-elim (λ x. ⊎-elim (λ y. inl y) (λ y. inr (t .1 (inl y))) x) (λ x. inr (t .1 (inr x))) h,
       )
@@ -67,6 +66,7 @@ module _ (p : ℕ) where
   none-wrong : (r : TermRow) → (eqb (r .tag) 1 || eqb (r .tag) 33) ≡ false → (wrong-row r ≡ true) × (r .place ≤ p) → ⊥
   none-wrong r e h = let z : false ≡ true = sym (ap (λ (b : Bool). b && ltb 4294967295 (r .value)) e) ∙ h .0 in let u : _≡_ {A = ℕ} 0 1 = cc in omega arith
 
+  -- the rows of a formula have the faults of its terms
   pub told-hits : {A : List TermRow} {l : List Term} → Tells A l → RowsHit A ↔ Hits p (number-faults l)
   unfolding RowsHit Hits number-faults
   told-hits told = (λ h. h, λ h. h)
@@ -83,7 +83,7 @@ module _ (p : ℕ) where
   -- ---- of a tree
 
   two-rows : (A B : List TermRow) (l m : List Piece) → RowsHit A ↔ Hits p (gathered numbers-of l) → RowsHit B ↔ Hits p (gathered numbers-of m) → RowsHit (A ++ B) ↔ Hits p (gathered numbers-of (l ++ m))
-  two-rows A B l m a b = let t = rows-hit-two A B in let g = gathered-both p numbers-of l m a b in (λ h. g .0 (t .0 h), λ h. t .1 (g .1 h))
+  two-rows A B l m a b = Iff·trans (rows-hit-two A B) (gathered-both p numbers-of l m a b)
 
   turned : (A B : List TermRow) (l m : List Piece) → RowsHit A ↔ Hits p (gathered numbers-of l) → RowsHit B ↔ Hits p (gathered numbers-of m) → RowsHit (B ++ A) ↔ Hits p (gathered numbers-of (l ++ m))
   turned A B l m a b =
@@ -105,6 +105,7 @@ module _ (p : ℕ) where
   mark-numbers (one-or-more s) = (λ h. h, λ h. h)
   mark-numbers (counted opens n closes) = alone (counts-rows n) (counts-parts n) (told-hits (counts-tells n))
 
+  -- the rows of a tree
   pub tree-numbers : {q : Part} {d : ℕ} (top : Bool) (x : Tree q d) → RowsHit (term-rows x) ↔ Hits p (gathered numbers-of (pieces top x))
   unfolding RowsHit Hits gathered term-rows pieces
   tree-numbers top (literal l) = (λ h. h, λ h. h)
@@ -129,13 +130,12 @@ module _ (p : ℕ) where
   tree-numbers top (last-branch x) = tree-numbers top x
   tree-numbers top (or-branches x s more) = two-rows (term-rows x) (term-rows more) (pieces false x) (pieces false more) (tree-numbers false x) (tree-numbers false more)
 
+  -- the rows of all rules
   pub rules-numbers : (l : List Rule) → RowsHit (rules-terms l) ↔ Hits p (of-rules rule-numbers l)
   unfolding RowsHit Hits rules-terms of-rules
   rules-numbers [] = (λ h. h, λ h. h)
   rules-numbers (r ∷ l) =
-      let t = rows-hit-two (term-rows (rule-body r)) (rules-terms l) in
-      let g = hits-both p (rule-numbers r) (of-rules rule-numbers l) (tree-numbers true (rule-body r)) (rules-numbers l) in
-      (λ h. g .0 (t .0 h), λ h. t .1 (g .1 h))
+      Iff·trans (rows-hit-two (term-rows (rule-body r)) (rules-terms l)) (hits-both p (rule-numbers r) (of-rules rule-numbers l) (tree-numbers true (rule-body r)) (rules-numbers l))
 
   -- ---- those that are stored
 
@@ -145,16 +145,11 @@ module _ (p : ℕ) where
       let m = hit-if p ((eqb (term-tag ts k) 1 || eqb (term-tag ts k) 33) && ltb 4294967295 (term-value ts k)) (term-at ts k) in
       (λ x. let y = m .0 x in (sym e ∙ y .0, omega (arith, y .1, h .place-is)), λ x. m .1 (e ∙ x .0, omega (arith, x .1, h .place-is)))
 
+  -- of the terms that are these rows one is found exactly when one of the rows is such a number
   pub numbers-found : {ts : List ℕ} {k : ℕ} (A : List TermRow) → RowsAt ts k A → Among p (length A) k (number-found ts) ↔ RowsHit A
   unfolding RowsHit
-  numbers-found {ts} {k} [] no-rows = (λ a. absurd (omega (arith, a .from, a .upto)), λ h. absurd h)
-  numbers-found {ts} {k} (r ∷ A) (row-then h more) =
-      let t = row-found h in
-      let m = numbers-found A more in
-      (
-        λ a. compared (a .at) k (λ y. absurd (omega (arith, a .from))) (λ y. inl (t .0 (subst (λ (j : ℕ). Hit p (number-found ts j)) y (a .hit)))) (λ y. inr (m .0 (record { at = a .at; from = omega arith; upto = omega (arith, a .upto); hit = a .hit }))),
-        λ x. ⊎-elim (λ y. record { at = k; from = omega arith; upto = omega arith; hit = t .1 y }) (λ y. let a = m .1 y in record { at = a .at; from = omega (arith, a .from); upto = omega (arith, a .upto); hit = a .hit }) x,
-      )
+  numbers-found {ts} {k} [] no-rows = (λ x. among-none p k (number-found ts) x, λ x. absurd x)
+  numbers-found {ts} {k} (r ∷ A) (row-then h more) = Iff·trans (among-next p (length A) k (k + 1) (number-found ts) refl) (either (row-found h) (numbers-found A more))
 
   -- ---- widths
 
@@ -169,8 +164,8 @@ module _ (p : ℕ) where
     width-hit : (i q v : ℕ) → kind-of ns i ≡ 8 → width-place ns i ≡ q → number-value xs q ≡ v → Hit p (width-found xs ns i) ↔ ((not (leb 1 v && leb v max-width) ≡ true) × (q ≤ p))
     width-hit i q v k e f =
         let z : (eqb (kind-of ns i) 8 && not (leb 1 (width-of xs ns i) && leb (width-of xs ns i) max-width)) ≡ not (leb 1 v && leb v max-width) =
-            ap (λ (n : ℕ). eqb n 8 && not (leb 1 (width-of xs ns i) && leb (width-of xs ns i) max-width)) k
-            ∙ ap (λ (n : ℕ). not (leb 1 (min 33 (capped n)) && leb (min 33 (capped n)) max-width)) (ap (number-value xs) e ∙ f) ∙ width-same v in
+        ap (λ (n : ℕ). eqb n 8 && not (leb 1 (width-of xs ns i) && leb (width-of xs ns i) max-width)) k
+        ∙ ap (λ (n : ℕ). not (leb 1 (min 33 (capped n)) && leb (min 33 (capped n)) max-width)) (ap (number-value xs) e ∙ f) ∙ width-same v in
         let m = hit-if p (eqb (kind-of ns i) 8 && not (leb 1 (width-of xs ns i) && leb (width-of xs ns i) max-width)) (width-place ns i) in
         (λ x. let y = m .0 x in (sym z ∙ y .0, omega (arith, y .1, e)), λ x. m .1 (z ∙ x .0, omega (arith, x .1, e)))
 
@@ -180,31 +175,23 @@ module _ (p : ℕ) where
         let z : false ≡ true = sym (ap (λ (b : Bool). b && not (leb 1 (width-of xs ns i) && leb (width-of xs ns i) max-width)) e) ∙ y .0 in
         let u : _≡_ {A = ℕ} 0 1 = cc in omega arith
 
-    -- one of n nodes from a on, the first of them or a later one
-    first-or : (n a : ℕ) {F : Type 0} {G : Type 0} → Hit p (width-found xs ns a) ↔ F → Among p n (a + 1) (width-found xs ns) ↔ G → Among p (suc n) a (width-found xs ns) ↔ (F ⊎ G)
-    first-or n a t m = (
-      λ x. compared (x .at) a (λ y. absurd (omega (arith, x .from))) (λ y. inl (t .0 (subst (λ (j : ℕ). Hit p (width-found xs ns j)) y (x .hit)))) (λ y. inr (m .0 (record { at = x .at; from = omega arith; upto = omega (arith, x .upto); hit = x .hit }))),
-      λ x. ⊎-elim (λ y. record { at = a; from = omega arith; upto = omega arith; hit = t .1 y }) (λ y. let b = m .1 y in record { at = b .at; from = omega (arith, b .from); upto = omega (arith, b .upto); hit = b .hit }) x,
-    )
-
+    -- a node without a width
     later : (n a : ℕ) {G : Type 0} → (Hit p (width-found xs ns a) → ⊥) → Among p n (a + 1) (width-found xs ns) ↔ G → Among p (suc n) a (width-found xs ns) ↔ G
-    later n a t m = let o = first-or n a {F = ⊥} (λ x. t x, λ x. absurd x) m in (λ x. ⊎-elim (λ (y : ⊥). absurd y) (λ y. y) (o .0 x), λ x. o .1 (inr x))
+    later n a t m = Iff·trans (among-next p n a (a + 1) (width-found xs ns) refl) (dropped t m)
 
+    -- a uint
+    wide : (a m : ℕ) (n : Number) (l : List Piece) → kind-of ns a ≡ 8 → width-place ns a ≡ n .start → number-value xs (n .start) ≡ n .value → Among p m (a + 1) (width-found xs ns) ↔ Hits p (gathered widths-of l)
+        → Among p (suc m) a (width-found xs ns) ↔ Hits p (place-if (wrong-width n) (n .start) ++ gathered widths-of l)
+    wide a m n l k e f g =
+        Iff·trans (among-next p m a (a + 1) (width-found xs ns) refl)
+        (hits-both p (place-if (wrong-width n) (n .start)) (gathered widths-of l) (Iff·trans (width-hit a (n .start) (n .value) k e f) (Iff·symm (hits-if p (wrong-width n) (n .start)))) g)
+
+    -- the widths that are found in nodes are those of the pieces in step with them
     pub widths-found : {a : ℕ} {M : List NodeRow} {l : List Piece} → InStep xs M l → NodesAt ns a M → Among p (length M) a (width-found xs ns) ↔ Hits p (gathered widths-of l)
     unfolding Hits gathered
-    widths-found no-step no-nodes = (λ x. absurd (omega (arith, x .from, x .upto)), λ x. absurd x)
+    widths-found {a} no-step no-nodes = (λ x. among-none p a (width-found xs ns) x, λ x. absurd x)
     widths-found (a-formula s) h = widths-found s h
     widths-found {a} (a-use {M = M} e f g s) (node-then h more) = later (length M) a (no-width a (ap (λ (k : ℕ). eqb k 8) (h .kind-is ∙ e))) (widths-found s more)
-    widths-found {a} (a-field {M = M} {n = n} {l = l} e q f v s) (node-then h more) =
-        let m = hits-if p (wrong-width n) (n .start) in
-        let t = width-hit a (n .start) (n .value) (h .kind-is ∙ e) (h .first-is ∙ f) v in
-        let o = first-or (length M) a (λ x. m .1 (t .0 x), λ x. t .1 (m .0 x)) (widths-found s more) in
-        let g = hits-two p (place-if (wrong-width n) (n .start)) (gathered widths-of l) in
-        (λ x. g .1 (o .0 x), λ x. o .1 (g .0 x))
-    widths-found {a} (a-binder {M = M} {n = n} {l = l} e q f v u y s) (node-then h more) =
-        let m = hits-if p (wrong-width n) (n .start) in
-        let t = width-hit a (n .start) (n .value) (h .kind-is ∙ e) (h .first-is ∙ f) v in
-        let o = first-or (length M) a (λ x. m .1 (t .0 x), λ x. t .1 (m .0 x)) (widths-found s more) in
-        let g = hits-two p (place-if (wrong-width n) (n .start)) (gathered widths-of l) in
-        (λ x. g .1 (o .0 x), λ x. o .1 (g .0 x))
+    widths-found {a} (a-field {M = M} {n = n} {l = l} e q f v s) (node-then h more) = wide a (length M) n l (h .kind-is ∙ e) (h .first-is ∙ f) v (widths-found s more)
+    widths-found {a} (a-binder {M = M} {n = n} {l = l} e q f v u y s) (node-then h more) = wide a (length M) n l (h .kind-is ∙ e) (h .first-is ∙ f) v (widths-found s more)
     widths-found {a} (another {M = M} e q s) (node-then h more) = later (length M) a (no-width a (ap (λ (k : ℕ). eqb k 8) (h .kind-is) ∙ q)) (widths-found s more)

@@ -36,6 +36,7 @@ module _ (p : ℕ) (ws : List ℕ) (numbered widest : List ℕ → ℕ) where
   Ready names (formula f ∷ more) = UsesRight names (uses-in (terms-of f)) × Ready names more
   Ready names (binding x n placed ∷ more) = Bound ws numbered widest x n × Ready (x ∷ names) more
 
+  -- of the first pieces
   pub ready-one : (names : List Name) (l m : List Piece) → Ready names (l ++ m) → Ready names l
   unfolding Ready
   ready-one names [] m h = tt
@@ -44,6 +45,7 @@ module _ (p : ℕ) (ws : List ℕ) (numbered widest : List ℕ → ℕ) where
   ready-one names (formula f ∷ l) m h = (h .0, ready-one names l m (h .1))
   ready-one names (binding x n placed ∷ l) m h = (h .0, ready-one (x ∷ names) l m (h .1))
 
+  -- of those after them
   pub ready-two : (names : List Name) (l m : List Piece) → Ready names (l ++ m) → Ready (after-bound l names) m
   unfolding Ready after-bound
   ready-two names [] m h = h
@@ -52,6 +54,7 @@ module _ (p : ℕ) (ws : List ℕ) (numbered widest : List ℕ → ℕ) where
   ready-two names (formula f ∷ l) m h = ready-two names l m (h .1)
   ready-two names (binding x n placed ∷ l) m h = ready-two (x ∷ names) l m (h .1)
 
+  -- of those after a mark
   pub ready-marked : (names : List Name) (m : Mark) (l : List Piece) → Ready names (mark-pieces m ++ l) → Ready names l
   unfolding Ready
   ready-marked names (optional s) l h = h
@@ -61,6 +64,7 @@ module _ (p : ℕ) (ws : List ℕ) (numbered widest : List ℕ → ℕ) where
 
   -- ---- names that are settled
 
+  -- before any binder
   pub settled-none : (q : ℕ) → Settled p ws numbered widest q []
   unfolding is-among
   settled-none q y e = let z : _≡_ {A = ℕ} 0 1 = cc in absurd (omega arith)
@@ -85,6 +89,7 @@ module _ (p : ℕ) (ws : List ℕ) (numbered widest : List ℕ → ℕ) where
 
 -- ---- names that pieces bind
 
+-- by some pieces and then others
 pub after-append : (l m : List Piece) (names : List Name) → after-bound (l ++ m) names ≡ after-bound m (after-bound l names)
 unfolding after-bound
 after-append [] m names = refl
@@ -93,6 +98,7 @@ after-append (width n ∷ l) m names = after-append l m names
 after-append (formula f ∷ l) m names = after-append l m names
 after-append (binding x n placed ∷ l) m names = after-append l m (x ∷ names)
 
+-- a mark binds none
 pub after-mark : (m : Mark) (l : List Piece) (names : List Name) → after-bound (mark-pieces m ++ l) names ≡ after-bound l names
 unfolding after-bound
 after-mark (optional s) l names = refl

@@ -1,16 +1,14 @@
 -- A calculation's rows, worked out in sizes: they leave its size, or pass 2^62 exactly where it, or a part of it, does.
 -- Assumes nothing.
 use Prim.Native.Nat.{ℕ, suc, _+_, _*_, _^_, _≤_, _<_, max}
-use mathlib.Core.Path.{_≡_, refl, sym, ap, subst, _∙_}
-use mathlib.Core.Bool.{Bool, true, false, cond}
+use mathlib.Core.Path.{_≡_, refl, sym, ap, _∙_}
 use mathlib.Core.List.{List, [], _∷_, _++_}
 use native.Mathlib.Omega.{arith}
-use borrow.Author.Tests.{lt-ltb, le-ltb}
-use lib.Dec.{ltb}
+use borrow.Author.Tests.{lt-ltb}
 use lib.IntN.{ℤ, pos, _+ℤ_, _*ℤ_}
 use lib.ListN.{length, getD}
 use Rattle.text_tokens.specs.Numbers.{capped}
-use Rattle.term_words.specs.Numbers.{pick, bounded, pushed, kept, topOf, pairOf}
+use Rattle.term_words.specs.Numbers.{bounded, pushed, kept, pairOf}
 use Rattle.term_words.specs.Words.{termOf}
 use Rattle.term_words.specs.Steps.{variableOf, binary, unary, operateOf}
 use Rattle.term_words.specs.declared.Kind.{Kind}
@@ -21,7 +19,6 @@ use Rattle.term_words.specs.declared.Outcome.{Outcome}
 use Rattle.term_words.specs.declared.Pair.{Pair}
 use Rattle.term_words.specs.declared.Term.{Term as WordTerm}
 use Rattle.term_words.specs.declared.Top.{Top}
-use Rattle.term_evaluation.specs.declared.Ended.{Ended}
 use Rattle.term_trees.proofs.Firm.{count}
 use Rattle.term_trees.proofs.Chains.{top-of, pair-of}
 use Rattle.tree.specs.Tree.{Primary, number, variable, Operand, plain, opposite, Factors, no-factor, times, Product, product, Summands, no-summand, plus, minus, Calculation, sum}
@@ -30,7 +27,7 @@ use Rattle.tree_meaning.specs.Pieces.{Term, a-number, a-use, a-sign, primary-te
 use Rattle.tree_meaning.specs.Sizes.{primary-size, operand-size, times-size, product-size, sum-size, calculation-size, times-largest, product-largest, sum-largest, calculation-largest}
 use Rattle.tree_meaning.proofs.Bounds.{times-part}
 use Rattle.tree_store.proofs.Rows.{TermRow, a-term, primary-rows, operand-rows, factors-rows, product-rows, summands-rows, calculation-rows}
-use Rattle.tree_sizes.proofs.Runs.{Stop, stop-here, stop-left, stop-right, Came, came-map, Ran, row-term, ran, ran-none, ran-both, ran-part}
+use Rattle.tree_sizes.proofs.Runs.{Stop, stop-here, stop-left, stop-right, came-map, Ran, row-term, ran, ran-none, ran-both, ran-part}
 
 -- the stack after a number is put on it
 pub pushed-count : (s s′ : Numbers) (z : ℤ) → pushed s z ≡ Outcome.Stack s′ → count s′ ≡ suc (count s)
@@ -60,6 +57,7 @@ module _ (g : ℕ → ℕ) (w : List ℤ) (wide : List ℕ → ℕ) where
   Measured (a-use x ∷ more) = (g (x .start) < length w) × (getD w (g (x .start)) (pos 0) ≡ pos (wide (x .letters))) × Measured more
   Measured (a-sign s ∷ more) = Measured more
 
+  -- of the first terms
   pub measured-first : (l m : List Term) → Measured (l ++ m) → Measured l
   unfolding Measured
   measured-first [] m h = tt
@@ -67,6 +65,7 @@ module _ (g : ℕ → ℕ) (w : List ℤ) (wide : List ℕ → ℕ) where
   measured-first (a-use x ∷ l) m h = (h .0, h .1, measured-first l m (h .2))
   measured-first (a-sign s ∷ l) m h = measured-first l m h
 
+  -- of those after them
   pub measured-second : (l m : List Term) → Measured (l ++ m) → Measured m
   unfolding Measured
   measured-second [] m h = h
@@ -220,6 +219,7 @@ module _ (g : ℕ → ℕ) (w : List ℤ) (wide : List ℕ → ℕ) where
     summands-ran (minus c x more) h n i s s₁ t l room e =
         summand-ran more (summands-ran more (measured-second (product-terms x) (summand-terms more) h)) x (a-term 4 0 (c .start) o) Operation.Subtract (measured-first (product-terms x) (summand-terms more) h) refl refl (λ u. refl) n i s s₁ t l room e
 
+  -- the whole calculation
   pub calculation-ran : (k : Kind) (c : Calculation) → Measured (calculation-terms c) → (i : ℕ) (s : Numbers) (t : ℕ) → count s < 2
       → Ran (Put s t (calculation-size wide c) (calculation-largest wide c)) (Past i (calculation-rows c) (calculation-start c) (calculation-largest wide c)) (ran g w k i (calculation-rows c) s t)
   unfolding calculation-rows

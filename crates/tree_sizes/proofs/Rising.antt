@@ -1,22 +1,23 @@
 -- Faults of a formula stand in the order of its calculations: what is found first is the least.
 -- Assumes nothing.
-use Prim.Native.Nat.{ℕ, suc, _+_, _≤_, _<_}
-use mathlib.Core.Path.{_≡_, refl, sym, ap, subst, _∙_}
-use mathlib.Core.Logic.{_⊎_, inl, inr, ⊎-elim, _↔_}
+use Prim.Native.Nat.{ℕ, _≤_}
+use mathlib.Core.Path.{_≡_, sym, subst}
+use mathlib.Core.Logic.{_⊎_, inl, ⊎-elim, _↔_}
 use mathlib.Core.Bool.{Bool, true, false}
 use mathlib.Core.List.{List, [], _∷_, _++_, append-nil}
 use native.Mathlib.Omega.{arith}
 use Rattle.text_admission.specs.declared.Found.{Found}
 use Rattle.text_tokens.specs.declared.Kind.{Kind}
-use Rattle.tree.specs.Lexemes.{Sign, Lexeme, sign, place-of}
-use Rattle.tree.specs.Tree.{Primary, number, variable, Operand, plain, opposite, Product, product, Calculation, sum, Item, everything, only, between, from, up-to, SetPart, Choices, item, item-but-item, item-but-set, last-choice, or-choices, Counts, exactly, at-least, at-most, span, TestPart, Tests, compare, test-group, one-test, all-of, any-of, last-conjunct, and-conjuncts, last-disjunct, or-disjuncts}
-use Rattle.tree.specs.Spelling.{spell-primary, spell-operand, spell-factors, spell-product, spell-summands, spell-calculation, spell-item, spell-set, spell-counts, spell-tests}
-use Rattle.tree_meaning.specs.Pieces.{Component, whole-number, joined-by, item-parts, set-parts, counts-parts, tests-parts}
-use Rattle.tree_meaning.specs.Places.{place-if, first-byte}
+use Rattle.tree.specs.Lexemes.{Sign, Lexeme, sign}
+use Rattle.tree.specs.Tree.{number, variable, plain, opposite, product, Calculation, sum, Item, everything, only, between, from, up-to, SetPart, Choices, item, item-but-item, item-but-set, last-choice, or-choices, Counts, exactly, at-least, at-most, span, TestPart, Tests, compare, test-group, one-test, all-of, any-of, last-conjunct, and-conjuncts, last-disjunct, or-disjuncts}
+use Rattle.tree.specs.Spelling.{spell-primary, spell-operand, spell-product, spell-calculation, spell-item, spell-set, spell-counts, spell-tests}
+use Rattle.tree_meaning.specs.Pieces.{Component, joined-by, item-parts, set-parts, counts-parts, tests-parts}
+use Rattle.tree_meaning.specs.Places.{place-if}
 use Rattle.tree_meaning.specs.Sizes.{too-large, calculation-faults}
 use Rattle.tree_store.proofs.Standing.{Standing, stands, past, after-primary, after-factors, after-summands}
 use Rattle.tree_sizes.proofs.Hits.{Hit, Hits}
 use Rattle.tree_sizes.proofs.Founds.{Matches}
+use Rattle.tree_sizes.proofs.Lists.{fault-of}
 use Rattle.tree_sizes.proofs.SetLists.{faults-append}
 
 -- places from `low` up to `high` that do not descend
@@ -40,12 +41,12 @@ unfolding Rising Hits
 rising-from p low high [] r h = absurd h
 rising-from p low high (x ∷ l) r h = ⊎-elim (λ (z : x ≤ p). omega (arith, r .0)) (λ z. omega (arith, r .0, rising-from p x high l (r .1) z)) h
 
+-- the first of places that rise is found up to p exactly when one of them is
 pub first-hit : (p low high : ℕ) (a : Found) (l : List ℕ) → Matches a l → Rising low l high → Hit p a ↔ Hits p l
 unfolding Rising Hits
 first-hit p low high Found.Nothing l m r = (λ h. absurd h, λ h. subst (Hits p) m h)
 first-hit p low high (Found.At o) l m r =
-    let s : Rising low (o ∷ m .0) high = subst (λ (k : List ℕ). Rising low k high) (m .1) r in
-    (
+    let s : Rising low (o ∷ m .0) high = subst (λ (k : List ℕ). Rising low k high) (m .1) r in (
       λ h. subst (Hits p) (sym (m .1)) (inl h),
       λ h. ⊎-elim (λ (z : o ≤ p). z) (λ z. rising-from p o high (m .0) (s .1) z) (let z : (o ≤ p) ⊎ Hits p (m .0) = subst (Hits p) (m .1) h in z),
     )
@@ -63,10 +64,6 @@ unfolding Rising
 one-place true low p h = (h, omega arith)
 one-place false low p h = h
 
--- the fault of a calculation, where it has one
-abbrev fault : (List ℕ → ℕ) → Calculation → List ℕ
-fault wide c = place-if (too-large wide c) (first-byte (spell-calculation c []))
-
 module _ {xs : List ℕ} where
   token : {low : ℕ} {t : Lexeme} {w : List Lexeme} → Standing xs low (t ∷ w) → Rises xs low [] w
   unfolding Rising
@@ -76,7 +73,7 @@ module _ {xs : List ℕ} where
   then {low} {l = l} {k = k} p f = let q = f (p .mid) (p .left) in record { mid = q .mid; rises = rising-both low (p .mid) (q .mid) l k (p .rises) (q .rises); left = q .left }
 
   module _ (wide : List ℕ → ℕ) where
-    calculation-rises : {low : ℕ} (c : Calculation) (w : List Lexeme) → Standing xs low (spell-calculation c w) → Rises xs low (fault wide c) w
+    calculation-rises : {low : ℕ} (c : Calculation) (w : List Lexeme) → Standing xs low (spell-calculation c w) → Rises xs low (fault-of wide c) w
     unfolding spell-primary spell-operand spell-product spell-calculation
     calculation-rises {low} (sum (product (plain (number n)) f) more) w (stands a b c s) =
         record { mid = n .start; rises = one-place (too-large wide (sum (product (plain (number n)) f) more)) low (n .start) a; left = after-summands more (after-factors f s) }
@@ -96,10 +93,10 @@ module _ {xs : List ℕ} where
     signed : {low : ℕ} {t : Lexeme} {w v : List Lexeme} {l : List ℕ} → Standing xs low (t ∷ v) → ((m : ℕ) → Standing xs m v → Rises xs m l w) → Rises xs low l w
     signed h f = then (token h) f
 
-    last-rises : {low : ℕ} (c : Calculation) (w : List Lexeme) → Standing xs low (spell-calculation c w) → Rises xs low (fault wide c ++ []) w
-    last-rises c w h = rises-as (sym (append-nil (fault wide c))) (calculation-rises c w h)
+    last-rises : {low : ℕ} (c : Calculation) (w : List Lexeme) → Standing xs low (spell-calculation c w) → Rises xs low (fault-of wide c ++ []) w
+    last-rises c w h = rises-as (sym (append-nil (fault-of wide c))) (calculation-rises c w h)
 
-    two-rise : {low : ℕ} (a : Calculation) (t : Lexeme) (b : Calculation) (w : List Lexeme) → Standing xs low (spell-calculation a (t ∷ spell-calculation b w)) → Rises xs low (fault wide a ++ (fault wide b ++ [])) w
+    two-rise : {low : ℕ} (a : Calculation) (t : Lexeme) (b : Calculation) (w : List Lexeme) → Standing xs low (spell-calculation a (t ∷ spell-calculation b w)) → Rises xs low (fault-of wide a ++ (fault-of wide b ++ [])) w
     two-rise a t b w h = then (calculation-rises a (t ∷ spell-calculation b w) h) (λ m s. signed s (λ n u. last-rises b w u))
 
     item-rises : {low : ℕ} (x : Item) (w : List Lexeme) → Standing xs low (spell-item x w) → Rises xs low (calculation-faults wide (item-parts x)) w
@@ -115,6 +112,7 @@ module _ {xs : List ℕ} where
     unfolding calculation-faults
     behind s m h = h
 
+    -- the faults of a set
     pub set-rises : {k : SetPart} {d low : ℕ} (x : Choices k d) (w : List Lexeme) → Standing xs low (spell-set x w) → Rises xs low (calculation-faults wide (set-parts x)) w
     unfolding spell-set set-parts
     set-rises (item a) w h = item-rises a w h
@@ -126,6 +124,7 @@ module _ {xs : List ℕ} where
     set-rises (last-choice a) w h = set-rises a w h
     set-rises (or-choices a s b) w h = parted (set-parts a) (joined-by s ∷ set-parts b) (set-rises a (sign Kind.Bar s ∷ spell-set b w) h) (λ m u. behind s (set-parts b) (signed u (λ n v. set-rises b w v)))
 
+    -- of counts
     pub counts-rise : {low : ℕ} (x : Counts) (w : List Lexeme) → Standing xs low (spell-counts x w) → Rises xs low (calculation-faults wide (counts-parts x)) w
     unfolding spell-counts calculation-faults
     counts-rise (exactly n) w h = last-rises n w h
@@ -138,6 +137,7 @@ module _ {xs : List ℕ} where
         → Rises xs low (calculation-faults wide (f ++ (joined-by s ∷ m))) w
     tested t s f m p q = parted f (joined-by s ∷ m) p (λ n u. behind s m (signed u q))
 
+    -- of a condition
     pub tests-rise : {k : TestPart} {d low : ℕ} (x : Tests k d) (w : List Lexeme) → Standing xs low (spell-tests x w) → Rises xs low (calculation-faults wide (tests-parts x)) w
     unfolding spell-tests tests-parts calculation-faults
     tests-rise (compare a c s b) w h = two-rise a (sign _ s) b w h

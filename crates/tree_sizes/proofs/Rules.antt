@@ -2,7 +2,7 @@
 -- Assumes nothing.
 use Prim.Native.Nat.{ℕ, suc, _+_, _≤_, _<_}
 use mathlib.Core.Path.{_≡_, refl, sym, ap, subst, _∙_}
-use mathlib.Core.Logic.{_⊎_, inl, inr, ⊎-elim, _↔_}
+use mathlib.Core.Logic.{⊎-elim, _↔_}
 use mathlib.Core.Bool.{Bool, true, false, not, _&&_}
 use mathlib.Core.List.{List, [], _∷_, _++_}
 use native.Mathlib.Omega.{arith}
@@ -15,7 +15,6 @@ use Rattle.text_tokens.specs.declared.Kind.{Kind}
 use Rattle.text_store.specs.Words.{first-node, last-node}
 use Rattle.text_encoding.specs.Numbers.{binders-before, variable-of, condition-start}
 use Rattle.text_wellformed.specs.Context.{Words}
-use Rattle.text_admission.specs.Extents.{width-found}
 use Rattle.table_sizes.specs.Measures.{widest as table-widest}
 use Rattle.tree.specs.Lexemes.{Name, Number, Lexeme, sign}
 use Rattle.tree.specs.Tree.{Rule, rule, Rules, last-rule, and-rules}
@@ -29,7 +28,7 @@ use Rattle.tree_meaning.specs.Grammar.{variable-of as number-among}
 use Rattle.tree_meaning.proofs.Passing.{NamesRight, RulesNamed, all-variables}
 use Rattle.tree_meaning.proofs.Binding.{Own, all-own}
 use Rattle.tree_meaning.proofs.Numbers.{variable-under}
-use Rattle.tree_store.proofs.Rows.{NodeRow, node-rows, term-rows, rules-nodes, rules-terms}
+use Rattle.tree_store.proofs.Rows.{node-rows, term-rows, rules-nodes, rules-terms}
 use Rattle.tree_store.proofs.Lengths.{nodes-counted, terms-counted, some-node}
 use Rattle.tree_store.proofs.Standing.{Standing, past, after-tree}
 use Rattle.tree_store.proofs.Binding.{before-none}
@@ -41,13 +40,13 @@ use Rattle.tree_numbers.proofs.Owners.{owner}
 use Rattle.tree_numbers.proofs.Variables.{variable-number, binders-after}
 use Rattle.tree_grammar.proofs.Lists.{RowsAt, rows-left, rows-right}
 use Rattle.tree_grammar.proofs.Firsts.{whole-first}
-use Rattle.tree_sizes.proofs.Hits.{Hit, Among, Hits, hits-left, hits-right, hits-if, hits-both}
-use Rattle.tree_sizes.proofs.Gathered.{widths-of, sizes-of, gathered, of-rules, rule-widths, rule-sizes}
-use Rattle.tree_sizes.proofs.Numbers.{widths-found}
+use Rattle.tree_sizes.proofs.Hits.{Hits, hits-left, hits-right, hits-if, hits-both}
+use Rattle.tree_sizes.proofs.Gathered.{widths-of, gathered, of-rules, rule-widths, rule-sizes}
 use Rattle.tree_sizes.proofs.Widths.{variable-size}
 use Rattle.tree_sizes.proofs.NodeLists.{Ruled, cut}
-use Rattle.tree_sizes.proofs.Ready.{Bound, Ready, settled-none}
-use Rattle.tree_sizes.proofs.Walk.{NodesHit, nodes-two, bare, walk}
+use Rattle.tree_sizes.proofs.Ready.{Ready, settled-none}
+use Rattle.tree_sizes.proofs.Nodes.{NodesHit, nodes-two}
+use Rattle.tree_sizes.proofs.Walk.{bare, walk}
 
 -- ---- its pieces
 
@@ -94,7 +93,7 @@ module _ (p : ℕ) {all : Rules} {xs ns ts rs ws : List ℕ} {n r : ℕ} (known 
       let M = node-rows false (rule-body x) t in
       let e = bare p ruled (widest-in (rule-pieces x)) a M (omega (arith, inside, many, some-node false (rule-body x) t)) nodes (plain false (rule-body x) t) in
       let f = walk p ruled (widest-in (rule-pieces x)) true false (rule-body x) a t [] rest (whole-first M nodes) rows st before-none (omega arith)
-              (ready-from p ws numbered (rule-names all) (variables-of x) (rule-pieces x) sized [] (rule-pieces x) named (all-own (rule-names all) (variables-of x) (rule-pieces x) named) right) (settled-none p ws numbered (widest-in (rule-pieces x)) q) in
+      (ready-from p ws numbered (rule-names all) (variables-of x) (rule-pieces x) sized [] (rule-pieces x) named (all-own (rule-names all) (variables-of x) (rule-pieces x) named) right) (settled-none p ws numbered (widest-in (rule-pieces x)) q) in
       (λ z. f .same .0 (e .0 z), λ z. e .1 (f .same .1 z))
     where
       numbered : List ℕ → ℕ
@@ -157,6 +156,7 @@ module _ (p : ℕ) {all : Rules} {xs ns ts rs ws : List ℕ} {n r : ℕ} (known 
   unfolding NodesHit Hits
   none-hit i = (λ z. z, λ z. z)
 
+  -- what is found in the nodes of all rules is what the tree says of their calculations
   pub rules-hit : (t : Rules) (m : Totals) (earlier : List Name) (w : List Lexeme) {q : ℕ} → ((j : ℕ) (x : Rule) → At (rules-in t) j x → At (rules-in all) (m .rules + j) x) → NodesAt ns (m .all-constructs) (rules-nodes (m .all-terms) (rules-in t))
       → RowsAt ts (m .all-terms) (rules-terms (rules-in t)) → RulesIn rs m (rules-in t) → Standing xs q (spell-rules t w) → binders-before ns (m .all-constructs) ≡ m .variables → m .variables + all-variables (rules-in t) ≤ 64
       → m .all-constructs + length (rules-nodes (m .all-terms) (rules-in t)) ≤ n → RulesNamed (rule-names all) earlier (rules-in t) → (Hits p (of-rules rule-widths (rules-in t)) → ⊥)

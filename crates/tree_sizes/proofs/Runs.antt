@@ -7,7 +7,7 @@ use mathlib.Core.List.{List, [], _∷_, _++_, map}
 use native.Mathlib.Omega.{arith}
 use borrow.Author.Tests.{leb-true, leb-false}
 use lib.Dec.{leb}
-use lib.IntN.{ℤ, pos, natAbs}
+use lib.IntN.{ℤ, pos}
 use lib.ListN.{length}
 use Rattle.term_integers.proofs.Laws.{bounded-in, bounded-out}
 use Rattle.term_words.specs.Numbers.{bounded, pushed, kept, topOf}
@@ -25,8 +25,8 @@ use Rattle.term_evaluation.specs.declared.Ended.{Ended}
 use Rattle.term_trees.proofs.Firm.{count}
 use Rattle.text_store.specs.Words.{is-use, term-origin}
 use Rattle.text_shapes.specs.TermShapes.{rename-term}
-use Rattle.tree_store.proofs.Rows.{TermRow, a-term, marked, last-marked}
-use Rattle.tree_grammar.proofs.Lists.{RowsAt, no-rows, row-then}
+use Rattle.tree_store.proofs.Rows.{TermRow, marked, last-marked}
+use Rattle.tree_grammar.proofs.Lists.{RowsAt, row-then}
 
 -- ---- a row at which a list stops
 
@@ -35,14 +35,17 @@ pub data Stop : ℕ → List TermRow → ℕ → ℕ → Type 0 where
   stop-here : {i at o : ℕ} {r : TermRow} {A : List TermRow} → at ≡ i → r .origin ≡ o → Stop i (r ∷ A) at o
   stop-later : {i at o : ℕ} {r : TermRow} {A : List TermRow} → Stop (i + 1) A at o → Stop i (r ∷ A) at o
 
+-- with rows after them
 pub stop-left : {i at o : ℕ} {A : List TermRow} (B : List TermRow) → Stop i A at o → Stop i (A ++ B) at o
 stop-left B (stop-here e f) = stop-here e f
 stop-left B (stop-later s) = stop-later (stop-left B s)
 
+-- behind other rows
 pub stop-right : {i at o : ℕ} (A : List TermRow) {B : List TermRow} → Stop (i + length A) B at o → Stop i (A ++ B) at o
 stop-right {i} {at} {o} [] {B} s = subst (λ (k : ℕ). Stop k B at o) (let z : i + 0 ≡ i = omega arith in z) s
 stop-right {i} {at} {o} (r ∷ A) {B} s = stop-later (stop-right A (subst (λ (k : ℕ). Stop k B at o) (let z : i + suc (length A) ≡ i + 1 + length A = omega arith in z) s))
 
+-- a mark changes no place
 pub stop-marked : {i at o : ℕ} (A : List TermRow) → Stop i A at o → Stop i (last-marked A) at o
 unfolding last-marked
 stop-marked (r ∷ []) (stop-here e f) = stop-here e f
@@ -67,9 +70,11 @@ Came Q Z (Trial.Running s t) at = Q s t
 Came Q Z Trial.Malformed at = ⊥
 Came Q Z Trial.Overflow at = Z at
 
+-- the same of a list that has ended
 abbrev pub Ran : (Numbers → ℕ → Type 0) → (ℕ → Type 0) → Ended → Type 0
 Ran Q Z e = Came Q Z (e .trial) (e .at)
 
+-- with weaker claims
 pub came-map : (Q R : Numbers → ℕ → Type 0) (Z W : ℕ → Type 0) (x : Trial) (at : ℕ) → ((s : Numbers) (t : ℕ) → Q s t → R s t) → ((j : ℕ) → Z j → W j) → Came Q Z x at → Came R W x at
 came-map Q R Z W (Trial.Running s t) at f g h = f s t h
 came-map Q R Z W Trial.Malformed at f g h = h
@@ -86,6 +91,7 @@ module _ (g : ℕ → ℕ) where
     pub as-part : row-term r ≡ Term.Part part
     pub as-single : row-term (marked r) ≡ Term.Single part
 
+  -- all of these are
   pub data PartRows : List TermRow → Type 0 where
     no-parts : PartRows []
     part-then : {r : TermRow} {A : List TermRow} → PartRow r → PartRows A → PartRows (r ∷ A)
@@ -97,6 +103,7 @@ next-both Q R Z W i go on Trial.Malformed f h p = p
 next-both Q R Z W i go on Trial.Overflow f h p = f i p
 
 module _ (g : ℕ → ℕ) (w : List ℤ) (k : Kind) where
+  -- rows from number i on, with s and t waiting
   abbrev pub ran : ℕ → List TermRow → Numbers → ℕ → Ended
   ran i A s t = run k Mode.Sizes w (pos 0) i (map (row-term g) A) s t
 

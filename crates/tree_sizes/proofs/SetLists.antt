@@ -1,20 +1,17 @@
 -- The rows of a set, worked out in sizes.
 -- Assumes nothing.
-use Prim.Native.Nat.{ℕ, suc, _+_, _*_, _-_, _^_, _≤_, _<_}
+use Prim.Native.Nat.{ℕ, suc, _+_, _*_, _-_, _≤_, _<_}
 use mathlib.Core.Path.{_≡_, refl, sym, ap, subst, _∙_}
-use mathlib.Core.Bool.{Bool, true, false}
+use mathlib.Core.Bool.{true}
 use mathlib.Core.List.{List, [], _∷_, _++_, append-nil, append-assoc}
 use native.Mathlib.Omega.{arith}
 use lib.IntN.{ℤ, pos}
 use lib.ListN.{length}
-use lib.Signed.{leZ}
-use Rattle.term_words.specs.Numbers.{pick, equals, topOf, pairOf}
-use Rattle.term_words.specs.Tests.{noted, combined}
+use Rattle.term_words.specs.Numbers.{equals, topOf, pairOf}
 use Rattle.term_words.specs.Words.{termOf}
-use Rattle.term_words.specs.Steps.{stepOf, equalTo, within, from as on-from, upTo}
+use Rattle.term_words.specs.Steps.{equalTo, within, from as on-from, upTo}
 use Rattle.term_words.specs.declared.Joint.{Joint}
 use Rattle.term_words.specs.declared.Kind.{Kind}
-use Rattle.term_words.specs.declared.Mode.{Mode}
 use Rattle.term_words.specs.declared.Numbers.{Numbers}
 use Rattle.term_words.specs.declared.Trial.{Trial}
 use Rattle.tree.specs.Lexemes.{Sign}
@@ -25,7 +22,7 @@ use Rattle.tree_store.proofs.Rows.{TermRow, a-term, last-marked, calculation-ro
 use Rattle.tree_store.proofs.Lengths.{some-calculation}
 use Rattle.tree_store.proofs.Uses.{terms-append}
 use Rattle.tree_sizes.proofs.Tells.{calculation-counts}
-use Rattle.tree_sizes.proofs.Runs.{Came, came-map, Ran, row-term, ran, ran-none, ran-marked, stop-marked}
+use Rattle.tree_sizes.proofs.Runs.{Came, came-map, ran, ran-none, ran-marked, stop-marked}
 use Rattle.tree_sizes.proofs.Reckoning.{Measured, measured-first, measured-second}
 use Rattle.tree_sizes.proofs.Lists.{Deep, more-deep, noted-is, Tested, Faulty, Passed, Judged, judged-both, judged-as, judged-quiet, judged-sign, judged-join, after-test, reckoned-parts, Left, fault-of, calculation-judged, left-one, left-two, one-room}
 
@@ -34,7 +31,7 @@ pub faults-append : (wide : List ℕ → ℕ) (f m : List Component) → calcula
 unfolding calculation-faults
 faults-append wide [] m = refl
 faults-append wide (whole-number c ∷ f) m =
-    let l = fault-of (λ x. x) [] wide Kind.Set c in ap (λ (n : List ℕ). l ++ n) (faults-append wide f m) ∙ sym (append-assoc l (calculation-faults wide f) (calculation-faults wide m))
+    let l = fault-of wide c in ap (λ (n : List ℕ). l ++ n) (faults-append wide f m) ∙ sym (append-assoc l (calculation-faults wide f) (calculation-faults wide m))
 faults-append wide (joined-by s ∷ f) m = faults-append wide f m
 
 module _ (g : ℕ → ℕ) (w : List ℤ) (wide : List ℕ → ℕ) where
@@ -42,6 +39,7 @@ module _ (g : ℕ → ℕ) (w : List ℤ) (wide : List ℕ → ℕ) where
   pub parts-first : (f m : List Component) → Measured g w wide (terms-of (f ++ m)) → Measured g w wide (terms-of f)
   parts-first f m h = measured-first g w wide (terms-of f) (terms-of m) (subst (Measured g w wide) (terms-append f m) h)
 
+  -- of those after them
   pub parts-second : (f m : List Component) → Measured g w wide (terms-of (f ++ m)) → Measured g w wide (terms-of m)
   parts-second f m h = measured-second g w wide (terms-of f) (terms-of m) (subst (Measured g w wide) (terms-append f m) h)
 
@@ -59,10 +57,10 @@ module _ (g : ℕ → ℕ) (w : List ℤ) (wide : List ℕ → ℕ) where
   k = Kind.Set
 
   -- an item `a`
-  only-judged : (a : Calculation) → Measured g w wide (calculation-terms a) → (i t d : ℕ) → Deep d t → d < 62 → Judged (Tested (suc d)) (fault-of g w wide k a) i (last-marked (calculation-rows a)) (ran g w k i (last-marked (calculation-rows a)) Numbers.Zero t)
+  only-judged : (a : Calculation) → Measured g w wide (calculation-terms a) → (i t d : ℕ) → Deep d t → d < 62 → Judged (Tested (suc d)) (fault-of wide a) i (last-marked (calculation-rows a)) (ran g w k i (last-marked (calculation-rows a)) Numbers.Zero t)
   only-judged a h i t d deep l =
       let A = calculation-rows a in
-      let F = fault-of g w wide k a in
+      let F = fault-of wide a in
       let y = ran g w k i (last-marked A) Numbers.Zero t in
       came-map (λ s′ t′. (F ≡ []) × Tested (suc d) s′ t′) (λ s′ t′. (F ≡ []) × Tested (suc d) s′ t′) (Faulty i A F) (Faulty i (last-marked A) F) (y .trial) (y .at) (λ s′ t′ q. q)
       (λ j q. record { origin = q .origin; stop = stop-marked A (q .stop); rest = q .rest; first-is = q .first-is })
@@ -76,25 +74,25 @@ module _ (g : ℕ → ℕ) (w : List ℤ) (wide : List ℕ → ℕ) where
   unfolding Measured item-rows terms-of calculation-faults termOf
   item-judged (everything s) h i t d deep l = judged-sign g w k d (a-term 7 0 (s .start) 0) i Numbers.Zero t t true refl deep l
   item-judged (only a) h i t d deep l =
-      judged-as g w k (Tested (suc d)) (fault-of g w wide k a) (fault-of g w wide k a ++ []) i (last-marked (calculation-rows a)) (ran g w k i (last-marked (calculation-rows a)) Numbers.Zero t) (sym (append-nil (fault-of g w wide k a)))
+      judged-as g w k (Tested (suc d)) (fault-of wide a) (fault-of wide a ++ []) i (last-marked (calculation-rows a)) (ran g w k i (last-marked (calculation-rows a)) Numbers.Zero t) (sym (append-nil (fault-of wide a)))
       (only-judged a (measured-first g w wide (calculation-terms a) [] h) i t d deep l)
   item-judged (between a s b) h i t d deep l =
       let A = calculation-rows a in
       let B = calculation-rows b in
       let r = a-term 8 0 (s .start) 0 in
-      judged-both g w k (Left Numbers.Zero t) (Tested (suc d)) (fault-of g w wide k a) (fault-of g w wide k b ++ []) A (B ++ (r ∷ [])) i Numbers.Zero t (calculation-judged g w wide k a (measured-first g w wide (calculation-terms a) (terms-of (joined-by s ∷ whole-number b ∷ [])) h) i Numbers.Zero t (omega arith))
+      judged-both g w k (Left Numbers.Zero t) (Tested (suc d)) (fault-of wide a) (fault-of wide b ++ []) A (B ++ (r ∷ [])) i Numbers.Zero t (calculation-judged g w wide k a (measured-first g w wide (calculation-terms a) (terms-of (joined-by s ∷ whole-number b ∷ [])) h) i Numbers.Zero t (omega arith))
       (λ s₁ t₁ q.
-      judged-both g w k (Left s₁ t₁) (Tested (suc d)) (fault-of g w wide k b) [] B (r ∷ []) (i + length A) s₁ t₁ (calculation-judged g w wide k b (measured-first g w wide (calculation-terms b) [] (measured-second g w wide (calculation-terms a) (terms-of (joined-by s ∷ whole-number b ∷ [])) h)) (i + length A) s₁ t₁ (one-room q))
+      judged-both g w k (Left s₁ t₁) (Tested (suc d)) (fault-of wide b) [] B (r ∷ []) (i + length A) s₁ t₁ (calculation-judged g w wide k b (measured-first g w wide (calculation-terms b) [] (measured-second g w wide (calculation-terms a) (terms-of (joined-by s ∷ whole-number b ∷ [])) h)) (i + length A) s₁ t₁ (one-room q))
       (λ s₂ t₂ u. judged-sign g w k d r (i + length A + length B) s₂ t₂ t _ (λ j. within (pos 0) (pairOf (sym (left-two q u) j)) ((u .tests ∙ q .tests) j)) deep l))
   item-judged (from a s) h i t d deep l =
       let A = calculation-rows a in
       let r = a-term 9 0 (s .start) 0 in
-      judged-both g w k (Left Numbers.Zero t) (Tested (suc d)) (fault-of g w wide k a) [] A (r ∷ []) i Numbers.Zero t (calculation-judged g w wide k a (measured-first g w wide (calculation-terms a) (terms-of (joined-by s ∷ [])) h) i Numbers.Zero t (omega arith))
+      judged-both g w k (Left Numbers.Zero t) (Tested (suc d)) (fault-of wide a) [] A (r ∷ []) i Numbers.Zero t (calculation-judged g w wide k a (measured-first g w wide (calculation-terms a) (terms-of (joined-by s ∷ [])) h) i Numbers.Zero t (omega arith))
       (λ s₁ t₁ q. judged-sign g w k d r (i + length A) s₁ t₁ t _ (λ j. on-from (pos 0) (topOf (sym (left-one q) j)) (q .tests j)) deep l)
   item-judged (up-to s b) h i t d deep l =
       let A = calculation-rows b in
       let r = a-term 10 0 (s .start) 0 in
-      judged-both g w k (Left Numbers.Zero t) (Tested (suc d)) (fault-of g w wide k b) [] A (r ∷ []) i Numbers.Zero t (calculation-judged g w wide k b (measured-first g w wide (calculation-terms b) [] h) i Numbers.Zero t (omega arith))
+      judged-both g w k (Left Numbers.Zero t) (Tested (suc d)) (fault-of wide b) [] A (r ∷ []) i Numbers.Zero t (calculation-judged g w wide k b (measured-first g w wide (calculation-terms b) [] h) i Numbers.Zero t (omega arith))
       (λ s₁ t₁ q. judged-sign g w k d r (i + length A) s₁ t₁ t _ (λ j. upTo (pos 0) (topOf (sym (left-one q) j)) (q .tests j)) deep l)
 
   -- J joins the tests from depth suc d on to depth suc m
@@ -112,9 +110,11 @@ module _ (g : ℕ → ℕ) (w : List ℤ) (wide : List ℕ → ℕ) where
       judged-both g w k (Tested (suc d)) (Tested (suc m)) [] [] (a-term 12 0 s 0 ∷ []) J i Numbers.Zero t (judged-join g w k Joint.Except d (a-term 12 0 s 0) (λ x y. refl) i t h l)
       (after-test g w k (suc d) (Tested (suc m)) [] (i + 1) J (λ t′ q. j (i + 1) t′ q))
 
+  -- a set alone
   pub nothing-joins : (d : ℕ) → Joins d d []
   nothing-joins d i t h = ran-none g w k (Passed (Tested (suc d)) []) (Faulty i [] []) i Numbers.Zero t (refl, (refl, h))
 
+  -- a set, whose first alternative J joins to what stands before it
   pub set-judged : {p : SetPart} {n : ℕ} (x : Choices p n) → Measured g w wide (terms-of (set-parts x)) → (J : List TermRow) (i t d m : ℕ) → Deep d t → d ≤ suc m → m + 2 * (16 - n) ≤ 57 → Joins d m J
       → Judged (Tested (suc m)) (calculation-faults wide (set-parts x)) i (set-rows x J) (ran g w k i (set-rows x J) Numbers.Zero t)
   unfolding set-rows set-parts

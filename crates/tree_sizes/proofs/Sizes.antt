@@ -1,8 +1,8 @@
 -- Refusal 8 of a text is refusal 8 of its tree.
 -- Assumes nothing.
-use Prim.Native.Nat.{ℕ, suc, _+_, _≤_, _<_, min}
+use Prim.Native.Nat.{ℕ, suc, _+_, _≤_, min}
 use mathlib.Core.Path.{_≡_, refl, sym, ap, subst, _∙_}
-use mathlib.Core.Logic.{_⊎_, inl, inr, ⊎-elim, _↔_}
+use mathlib.Core.Logic.{_⊎_, inl, inr, ⊎-elim, _↔_, Iff·trans}
 use mathlib.Core.Bool.{true, false}
 use mathlib.Core.List.{List, [], _∷_, _++_}
 use mathlib.Core.Option.{Option, none, some}
@@ -13,7 +13,7 @@ use Rattle.text_store.specs.Store.{State, blank, node-words, term-words, rule-w
 use Rattle.text_encoding.specs.Lists.{sum}
 use Rattle.text_encoding.specs.Numbers.{binders-before, condition-start}
 use Rattle.text_wellformed.proofs.EncodedWords.{encoded-words}
-use Rattle.text_admission.specs.Extents.{lesser, least-found, width-found, number-found, node-found, refusal-8 as found-8}
+use Rattle.text_admission.specs.Extents.{lesser, least-found, width-found, number-found, node-found}
 use Rattle.text_admission.specs.Admitted.{words-of, fault-8}
 use Rattle.text_admission.specs.declared.Found.{Found}
 use Rattle.tree.specs.Lexemes.{Lexeme, sign, finish}
@@ -25,7 +25,6 @@ use Rattle.tree_meaning.specs.Counted.{Totals, no-rule, with-rule, refusal-5}
 use Rattle.tree_meaning.specs.Names.{refusal-6}
 use Rattle.tree_meaning.specs.Sizes.{size-faults, refusal-8}
 use Rattle.tree_meaning.proofs.Passing as Pass
-use Rattle.tree_store.proofs.Holding.{compared}
 use Rattle.tree_store.proofs.Rows.{NodeRow, node-rows, term-rows, rules-nodes, tree-nodes, tree-terms, tree-totals}
 use Rattle.tree_store.proofs.Lengths.{nodes-counted, terms-counted}
 use Rattle.tree_store.proofs.Limits.{Limited, limited, rows-many}
@@ -36,48 +35,30 @@ use Rattle.tree_store.proofs.Rowed.{NodesAt, nodes-left, nodes-right, Rowed, ro
 use Rattle.tree_numbers.proofs.Rules.{At}
 use Rattle.tree_numbers.proofs.Sums.{terms-together, binders-together}
 use Rattle.tree_grammar.proofs.Lists.{text-rows}
-use Rattle.tree_sizes.proofs.Hits.{Hit, hit-two, Among, least-hit, hit-least, Hits, hits-both, hits-dec, as-found, found-least}
+use Rattle.tree_sizes.proofs.Hits.{either, Hit, hit-two, Among, among-none, among-next, among-two, among-either, hit-least, Hits, hits-both, hits-dec, as-found, found-least}
 use Rattle.tree_sizes.proofs.Gathered.{of-rules, rule-numbers, rule-widths, rule-sizes, rules-parts}
 use Rattle.tree_sizes.proofs.Numbers.{numbers-found, rules-numbers, widths-found}
 use Rattle.tree_sizes.proofs.NodeLists.{condition-at, own-at}
-use Rattle.tree_sizes.proofs.Walk.{NodesHit}
+use Rattle.tree_sizes.proofs.Nodes.{NodesHit}
 use Rattle.tree_sizes.proofs.Rules.{Known, rules-hit}
 
 -- ---- numbers that are looked at, one after the other
 
 module _ (p : ℕ) where
-  among-two : (n m i : ℕ) (f : ℕ → Found) → Among p (n + m) i f ↔ (Among p n i f ⊎ Among p m (i + n) f)
-  among-two n m i f = (
-    λ x. compared (x .at) (i + n) (λ y. inl (record { at = x .at; from = x .from; upto = y; hit = x .hit })) (λ y. inr (record { at = x .at; from = omega arith; upto = omega (arith, x .upto); hit = x .hit }))
-        (λ y. inr (record { at = x .at; from = omega arith; upto = omega (arith, x .upto); hit = x .hit })),
-    λ x. ⊎-elim (λ y. record { at = y .at; from = y .from; upto = omega (arith, y .upto); hit = y .hit }) (λ y. record { at = y .at; from = omega (arith, y .from); upto = omega (arith, y .upto); hit = y .hit }) x,
-  )
-
-  among-either : (n i : ℕ) (f g : ℕ → Found) → Among p n i (λ j. lesser (f j) (g j)) ↔ (Among p n i f ⊎ Among p n i g)
-  among-either n i f g = (
-    λ x. ⊎-elim (λ y. inl (record { at = x .at; from = x .from; upto = x .upto; hit = y })) (λ y. inr (record { at = x .at; from = x .from; upto = x .upto; hit = y })) (hit-two p (f (x .at)) (g (x .at)) .0 (x .hit)),
-    λ x. ⊎-elim (λ y. record { at = y .at; from = y .from; upto = y .upto; hit = hit-two p (f (y .at)) (g (y .at)) .1 (inl (y .hit)) }) (λ y. record { at = y .at; from = y .from; upto = y .upto; hit = hit-two p (f (y .at)) (g (y .at)) .1 (inr (y .hit)) }) x,
-  )
-
   -- the lists of nodes
   lists-among : (ns ts ws : List ℕ) (i : ℕ) (M : List NodeRow) → Among p (length M) i (λ j. lesser (condition-at ns ts ws j) (own-at ns ts ws j)) ↔ NodesHit p ns ts ws i M
   unfolding NodesHit
-  lists-among ns ts ws i [] = (λ x. absurd (omega (arith, x .from, x .upto)), λ x. absurd x)
+  lists-among ns ts ws i [] = (λ x. among-none p i (λ j. lesser (condition-at ns ts ws j) (own-at ns ts ws j)) x, λ x. absurd x)
   lists-among ns ts ws i (r ∷ M) =
-      let t = hit-two p (condition-at ns ts ws i) (own-at ns ts ws i) in
-      let m = lists-among ns ts ws (suc i) M in
-      (
-        λ x. compared (x .at) i (λ y. absurd (omega (arith, x .from))) (λ y. inl (t .0 (subst (λ (j : ℕ). Hit p (lesser (condition-at ns ts ws j) (own-at ns ts ws j))) y (x .hit))))
-            (λ y. inr (m .0 (record { at = x .at; from = omega arith; upto = omega (arith, x .upto); hit = x .hit }))),
-        λ x. ⊎-elim (λ y. record { at = i; from = omega arith; upto = omega arith; hit = t .1 y }) (λ y. let b = m .1 y in record { at = b .at; from = omega (arith, b .from); upto = omega (arith, b .upto); hit = b .hit }) x,
-      )
+      Iff·trans (among-next p (length M) i (suc i) (λ j. lesser (condition-at ns ts ws j) (own-at ns ts ws j)) (let z : suc i ≡ i + 1 = omega arith in z))
+      (either (hit-two p (condition-at ns ts ws i) (own-at ns ts ws i)) (lists-among ns ts ws (suc i) M))
 
   -- ---- widths of all rules
 
   module _ (xs ns : List ℕ) where
     none-wide : (i : ℕ) → Among p 0 i (width-found xs ns) ↔ Hits p []
     unfolding Hits
-    none-wide i = (λ x. absurd (omega (arith, x .from, x .upto)), λ x. absurd x)
+    none-wide i = (λ x. among-none p i (width-found xs ns) x, λ x. absurd x)
 
     next-widths : (m : Totals) (x : Rule) (l : List Rule) → Among p (length (node-rows false (rule-body x) (m .all-terms))) (m .all-constructs) (width-found xs ns) ↔ Hits p (rule-widths x)
         → Among p (length (rules-nodes (with-rule m x .all-terms) l)) (with-rule m x .all-constructs) (width-found xs ns) ↔ Hits p (of-rules rule-widths l)
@@ -89,9 +70,8 @@ module _ (p : ℕ) where
         let e : m .all-constructs + length M ≡ with-rule m x .all-constructs = ap (λ (i : ℕ). m .all-constructs + i) (nodes-counted false (rule-body x) (m .all-terms)) in
         let d : L ≡ K = ap (λ (i : ℕ). rules-nodes (m .all-terms + i) l) (terms-counted true (rule-body x)) in
         let c : length (M ++ L) ≡ length M + length K = length-append M L ∙ ap (λ (o : List NodeRow). length M + length o) d in
-        let t = among-two (length M) (length K) (m .all-constructs) (width-found xs ns) in
-        let h = hits-both p (rule-widths x) (of-rules rule-widths l) f g in
-        (
+        let t = among-two p (length M) (length K) (m .all-constructs) (width-found xs ns) in
+        let h = hits-both p (rule-widths x) (of-rules rule-widths l) f g in (
           λ y. h .0 (⊎-elim (λ z. inl z) (λ z. inr (subst (λ (i : ℕ). Among p (length K) i (width-found xs ns)) e z)) (t .0 (subst (λ (i : ℕ). Among p i (m .all-constructs) (width-found xs ns)) c y))),
           λ y. subst (λ (i : ℕ). Among p i (m .all-constructs) (width-found xs ns)) (sym c) (t .1 (⊎-elim (λ z. inl z) (λ z. inr (subst (λ (i : ℕ). Among p (length K) i (width-found xs ns)) (sym e) z)) (h .1 y))),
         )
@@ -155,39 +135,31 @@ module _ {xs : List ℕ} {t : Rules} (spelled : SpelledBy xs t) (five : refusal-
   known = record { rowed = rows; words = encoded-words xs ns ts (rule-words st) (nodes-of st) (rules-of st) few-nodes few-rules few-binders few-terms; few-nodes = few-nodes; few-terms = few-terms; few-binders = few-binders }
 
   module _ (p : ℕ) where
+    as-many : {n m i : ℕ} {f : ℕ → Found} → n ≡ m → Among p n i f ↔ Among p m i f
+    as-many {i = i} {f = f} e = (λ h. subst (λ (k : ℕ). Among p k i f) e h, λ h. subst (λ (k : ℕ). Among p k i f) (sym e) h)
+
     -- numbers
     numbers-same : Hit p (least-found (terms-of st) 0 (number-found ts)) ↔ Hits p (of-rules rule-numbers (rules-in t))
     numbers-same =
-        let f = numbers-found p (tree-terms t) (text-rows t small) in
-        let g = rules-numbers p (rules-in t) in
-        (
-          λ h. g .0 (f .0 (subst (λ (k : ℕ). Among p k 0 (number-found ts)) many-terms (least-hit p (terms-of st) 0 (number-found ts) h))),
-          λ h. hit-least p (terms-of st) 0 (number-found ts) (subst (λ (k : ℕ). Among p k 0 (number-found ts)) (sym many-terms) (f .1 (g .1 h))),
-        )
+        Iff·trans (hit-least p (terms-of st) 0 (number-found ts))
+        (Iff·trans (as-many many-terms) (Iff·trans (numbers-found p (tree-terms t) (text-rows t small)) (rules-numbers p (rules-in t))))
 
     -- widths
     widths-same : Among p (nodes-of st) 0 (width-found xs ns) ↔ Hits p (of-rules rule-widths (rules-in t))
-    widths-same =
-        let f = rules-widths p xs ns t no-rule (finish (spelled .end) ∷ []) (rows .nodes-are) (spelled-stand spelled) in
-        (λ h. f .0 (subst (λ (k : ℕ). Among p k 0 (width-found xs ns)) many-nodes h), λ h. subst (λ (k : ℕ). Among p k 0 (width-found xs ns)) (sym many-nodes) (f .1 h))
+    widths-same = Iff·trans (as-many many-nodes) (rules-widths p xs ns t no-rule (finish (spelled .end) ∷ []) (rows .nodes-are) (spelled-stand spelled))
 
     -- calculations, where the widths up to p are right
     lists-same : (Hits p (of-rules rule-widths (rules-in t)) → ⊥) → Among p (nodes-of st) 0 (λ j. lesser (condition-at ns ts ws j) (own-at ns ts ws j)) ↔ Hits p (of-rules rule-sizes (rules-in t))
     unfolding sum
     lists-same right =
-        let f = lists-among p ns ts ws 0 (tree-nodes t) in
-        let g = rules-hit p known t no-rule [] (finish (spelled .end) ∷ []) (λ j x m. subst (λ (k : ℕ). At (rules-in t) k x) (let q : j ≡ 0 + j = omega arith in q) m) (rows .nodes-are) (text-rows t small) (rows .rules-are) (spelled-stand spelled) refl
-                (omega (arith, Pass.limited t five .variables-fit)) (omega (arith, many-nodes)) (Pass.named t six) right in
-        (
-          λ h. g .0 (f .0 (subst (λ (k : ℕ). Among p k 0 (λ j. lesser (condition-at ns ts ws j) (own-at ns ts ws j))) many-nodes h)),
-          λ h. subst (λ (k : ℕ). Among p k 0 (λ j. lesser (condition-at ns ts ws j) (own-at ns ts ws j))) (sym many-nodes) (f .1 (g .1 h)),
-        )
+        Iff·trans (as-many many-nodes)
+        (Iff·trans (lists-among p ns ts ws 0 (tree-nodes t))
+        (rules-hit p known t no-rule [] (finish (spelled .end) ∷ []) (λ j x m. subst (λ (k : ℕ). At (rules-in t) k x) (let q : j ≡ 0 + j = omega arith in q) m) (rows .nodes-are) (text-rows t small) (rows .rules-are) (spelled-stand spelled) refl
+        (omega (arith, Pass.limited t five .variables-fit)) (omega (arith, many-nodes)) (Pass.named t six) right))
 
     -- nodes: a width, or a list
     nodes-found : Hit p (least-found (nodes-of st) 0 (node-found xs ns ts ws)) ↔ (Among p (nodes-of st) 0 (width-found xs ns) ⊎ Among p (nodes-of st) 0 (λ j. lesser (condition-at ns ts ws j) (own-at ns ts ws j)))
-    nodes-found =
-        let e = among-either p (nodes-of st) 0 (width-found xs ns) (λ j. lesser (condition-at ns ts ws j) (own-at ns ts ws j)) in
-        (λ h. e .0 (least-hit p (nodes-of st) 0 (node-found xs ns ts ws) h), λ h. hit-least p (nodes-of st) 0 (node-found xs ns ts ws) (e .1 h))
+    nodes-found = Iff·trans (hit-least p (nodes-of st) 0 (node-found xs ns ts ws)) (among-either p (nodes-of st) 0 (width-found xs ns) (λ j. lesser (condition-at ns ts ws j) (own-at ns ts ws j)))
 
     same-hits : Hit p (fault-8 xs st) ↔ Hits p (size-faults (rules-in t))
     same-hits = by (hits-dec p (of-rules rule-widths (rules-in t)))

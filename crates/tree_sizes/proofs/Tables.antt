@@ -1,25 +1,23 @@
 -- The table's words of a text's nodes: the rows of their lists are the table's terms, and refusal 8 looks at those lists, whatever the numbers and widths are.
 -- Assumes nothing.
 use Prim.Native.Nat.{ℕ, suc, _+_, _*_, _/_, _%_, _≤_, _<_}
-use mathlib.Core.Path.{_≡_, refl, sym, ap, subst, _∙_}
+use mathlib.Core.Path.{_≡_, refl, sym, ap, _∙_}
 use mathlib.Core.Logic.{_⊎_, inl, inr}
 use mathlib.Core.Bool.{Bool, true, false, cond, _&&_ as both}
 use mathlib.Core.List.{List, [], _∷_, _++_}
 use native.Mathlib.Omega.{arith}
 use borrow.Author.Tests.{lt-ltb, le-ltb, le-leb, eqb-true, ne-eqb}
 use lib.Dec.{leb, ltb, eqb}
-use lib.IntN.{ℤ, pos}
+use lib.IntN.{ℤ}
 use lib.ListN.{length, getD}
-use Rattle.basis.specs.Limits.{max-terms}
 use Rattle.basis.proofs.Booleans.{picked, picked as chosen}
-use Rattle.text_tokens.specs.Numbers.{capped}
 use Rattle.term_words.specs.Words.{termOf, termAt}
 use Rattle.term_words.specs.declared.Kind.{Kind}
 use Rattle.term_words.specs.declared.Operation.{Operation}
 use Rattle.term_words.specs.declared.Term.{Term as WordTerm}
 use Rattle.term_sizes.specs.Sizes.{sizes, countSizes}
 use Rattle.term_sizes.specs.declared.Sized.{Sized}
-use Rattle.table_layout.specs.Places.{word, terms-at, construct-word}
+use Rattle.table_layout.specs.Places.{construct-word}
 use Rattle.table_layout.specs.Constructs.{pick, branches, listed, constructOf, constructAt}
 use Rattle.table_layout.specs.Attributes.{attributes-of}
 use Rattle.table_layout.specs.Held
@@ -29,7 +27,7 @@ use Rattle.table_sizes.specs.Measures.{widest, condition-size, list-size, own-s
 use Rattle.text_store.specs.Words.{kind-of, node-size, node-mark, is-binder, own-from, condition-from, is-use, term-tag, term-value, term-at}
 use Rattle.text_shapes.specs.TermShapes.{rename-term}
 use Rattle.text_encoding.specs.Numbers.{first-at, variable-of, binds-one, binders-before, width-of, condition-length, own-length, lists-length, condition-start, own-start}
-use Rattle.text_encoding.specs.Encoded.{term-words, start-word, end-word, operands, construct-words}
+use Rattle.text_encoding.specs.Encoded.{term-words, start-word, end-word, operands}
 use Rattle.text_wellformed.specs.Context.{Words}
 use Rattle.text_wellformed.proofs.Sums.{total-last, sum-below}
 use Rattle.text_wellformed.proofs.Coding.{construct-is}
@@ -38,9 +36,8 @@ use Rattle.text_wellformed.proofs.TermsListed.{table-term}
 use Rattle.tree_meaning.specs.Pieces.{Term}
 use Rattle.tree_store.proofs.Rows.{TermRow}
 use Rattle.tree_store.proofs.Storing.{TermIs}
-use Rattle.tree_grammar.proofs.Lists.{RowsAt, no-rows, row-then}
+use Rattle.tree_grammar.proofs.Lists.{RowsAt, row-then}
 use Rattle.tree_sizes.proofs.Tells.{SignTag, Tells, told, a-number-row, a-use-row, a-sign-row, skipped}
-use Rattle.tree_sizes.proofs.Runs.{row-term}
 use Rattle.tree_sizes.proofs.Reckoning.{Measured}
 use Rattle.tree_sizes.proofs.Founds.{Written}
 
@@ -162,6 +159,7 @@ module _ {xs ns ts rs ws : List ℕ} {n r : ℕ} (words : Words xs ns ts rs n r 
   list-end = omega (arith, total-last (lists-length ns) i, sum-below (lists-length ns) (i + 1) n (omega arith), few-terms)
 
   module _ (w : List ℤ) (wide : List ℕ → ℕ) (few : length w ≤ 64) {A : List TermRow} {l : List Term} (tells : Tells A l) (measured : Measured g w wide l) where
+    -- its own list is in the table
     pub own-written : own-length ns i ≡ length A → RowsAt ts (own-from ns i) A → Written g (Held.term-words ws) (own-start ns i) A
     own-written e rows =
         told-written g w wide (Held.term-words ws) ts few (own-from ns i) (own-start ns i) tells measured rows
@@ -169,6 +167,7 @@ module _ {xs ns ts rs ws : List ℕ} {n r : ℕ} (words : Words xs ns ts rs n r 
         let d : m < own-length ns i = omega (arith, k, e) in
         table-term ws (words .many) (own-start ns i + m) (omega (arith, list-end, d)) ∙ (λ t. termOf (words .own-term i m 0 h d (omega arith) t) (words .own-term i m 1 h d (omega arith) t) (words .own-term i m 2 h d (omega arith) t)))
 
+    -- and that of its condition
     pub condition-written : condition-length ns i ≡ length A → RowsAt ts (condition-from ns i) A → Written g (Held.term-words ws) (condition-start ns i) A
     condition-written e rows =
         told-written g w wide (Held.term-words ws) ts few (condition-from ns i) (condition-start ns i) tells measured rows
@@ -185,6 +184,7 @@ module _ {xs ns ts rs ws : List ℕ} {n r : ℕ} (words : Words xs ns ts rs n r 
       ap (λ (x : Bool). own-size ws (pick x (constructOf i (construct-word ws i 0) (construct-word ws i 1) (construct-word ws i 2) (construct-word ws i 3) (construct-word ws i 4) (construct-word ws i 5)) Construct.Missing)) (lt-ltb i 256 (omega (arith, few-nodes)))
       ∙ (λ z. own-size ws (constructOf i (p z) (q z) (s z) (t z) (u z) (v z))) ∙ ap (list-size ws) e
 
+  -- it has none
   pub no-list : eqb (kind-of ns i) 8 ≡ false → kind-of ns i < 10 → (kind-of ns i ≡ 3 → node-mark ns i < 4) → own-size ws (constructAt ws i) ≡ Sized.Passes
   no-list e k m =
       let p = construct-is words i h 0 (kind-of ns i) (omega arith) refl (omega arith) in
@@ -218,13 +218,16 @@ module _ {xs ns ts rs ws : List ℕ} {n r : ℕ} (words : Words xs ns ts rs n r 
           (construct-is words i h 3 (own-start ns i) (omega arith) (rw k start-is) (omega (arith, list-end))) (construct-is words i h 4 (own-start ns i + own-length ns i) (omega arith) (rw k end-is) (omega (arith, list-end)))
           (construct-is words i h 5 (cond (is-binder ns i) (binders-before ns i + 1) 0) (omega arith) (rw k refl) (omega (arith, binder-most))) o e
 
+      -- a uint's set is looked at
       pub set-list : 1 ≤ width-of xs ns i → width-of xs ns i ≤ 32 → own-size ws (constructAt ws i) ≡ sizes Kind.Set (widest ws) (own-start ns i) (Held.terms-of ws (own-start ns i) (own-start ns i + own-length ns i))
       set-list p q =
           uint-words (OwnList.Set (own-start ns i) (own-start ns i + own-length ns i)) (uint-own i (width-of xs ns i) (own-start ns i) (own-start ns i + own-length ns i) (cond (is-binder ns i) (binders-before ns i + 1) 0) p q (omega arith) list-end binder-most)
 
+      -- but where its width is wrong
       pub wrong-list : both (leb 1 (width-of xs ns i)) (leb (width-of xs ns i) 32) ≡ false → own-size ws (constructAt ws i) ≡ Sized.Passes
       wrong-list p = uint-words OwnList.None (wrong-own i (width-of xs ns i) (own-start ns i) (own-start ns i + own-length ns i) (cond (is-binder ns i) (binders-before ns i + 1) 0) p)
 
+    -- counts in braces are looked at
     pub counts-list : kind-of ns i ≡ 3 → node-mark ns i ≡ 4 → 2 ≤ node-size ns i → i + node-size ns i ≤ n → own-size ws (constructAt ws i) ≡ countSizes (widest ws) (Held.term-words ws) (own-start ns i) (own-start ns i + own-length ns i)
     counts-list k m two inside =
         own-by 3 (node-size ns i) 4 (own-start ns i) (own-start ns i + own-length ns i) 0 (construct-is words i h 0 3 (omega arith) k (omega arith)) (construct-is words i h 1 (node-size ns i) (omega arith) refl (omega arith))
@@ -241,6 +244,7 @@ module _ {xs ns ts rs ws : List ℕ} {n r : ℕ} (words : Words xs ns ts rs n r 
       let v = construct-is words i h 7 b (omega arith) (word-7 xs ns rs r i (kind-of ns i) (start-word (condition-start ns i) (condition-length ns i)) (end-word (condition-start ns i) (condition-length ns i)) ∙ q) (omega arith) in
       λ z. pick (ltb (u z) (v z)) (sizes Kind.Condition (widest ws) (u z) (Held.terms-of ws (u z) (v z))) Sized.Passes
 
+  -- a condition is looked at
   pub condition-list : 0 < condition-length ns i → condition-size ws i ≡ sizes Kind.Condition (widest ws) (condition-start ns i) (Held.terms-of ws (condition-start ns i) (condition-start ns i + condition-length ns i))
   condition-list some =
       let s = condition-start ns i in
@@ -248,6 +252,7 @@ module _ {xs ns ts rs ws : List ℕ} {n r : ℕ} (words : Words xs ns ts rs n r 
       condition-by s e (ap (λ (x : Bool). cond x s 0) (lt-ltb 0 (condition-length ns i) some)) (ap (λ (x : Bool). cond x e 0) (lt-ltb 0 (condition-length ns i) some)) (omega (arith, list-end)) (omega (arith, list-end))
       ∙ ap (λ (x : Bool). pick x (sizes Kind.Condition (widest ws) s (Held.terms-of ws s e)) Sized.Passes) (lt-ltb s e (omega arith))
 
+  -- there is none
   pub no-condition : condition-length ns i ≡ 0 → condition-size ws i ≡ Sized.Passes
   no-condition z =
       let p : ltb 0 (condition-length ns i) ≡ false = le-ltb 0 (condition-length ns i) (omega arith) in

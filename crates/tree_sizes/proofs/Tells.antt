@@ -1,16 +1,15 @@
 -- The rows of a formula tell its terms, in their order: its numbers, the uses of variables, and signs. What follows for the numbers that are too large.
 -- Assumes nothing.
 use Prim.Native.Nat.{ℕ, _/_}
-use mathlib.Core.Path.{_≡_, refl, sym, ap, subst, _∙_}
-use mathlib.Core.Logic.{_⊎_, inl, inr, ⊎-elim}
-use mathlib.Core.Bool.{Bool, true, false, _||_, _&&_}
-use mathlib.Core.List.{List, [], _∷_, _++_, append-nil, append-assoc}
-use lib.Dec.{eqb, ltb}
+use mathlib.Core.Path.{_≡_, refl, sym, ap, subst}
+use mathlib.Core.Logic.{_⊎_, inl, inr}
+use mathlib.Core.Bool.{false, _||_}
+use mathlib.Core.List.{List, [], _∷_, _++_, append-nil}
+use lib.Dec.{eqb}
 use Rattle.text_tokens.specs.Numbers.{capped}
 use Rattle.text_store.specs.Words.{is-use}
 use Rattle.text_store.specs.Store.{marked-tag}
 use Rattle.term_words.specs.Words.{termOf}
-use Rattle.term_words.specs.declared.Term.{Term as WordTerm}
 use Rattle.text_shapes.specs.TermShapes.{rename-term}
 use Rattle.text_wellformed.proofs.TermsKnown.{shown-term}
 use Rattle.tree.specs.Lexemes.{Sign, Name, Number}
@@ -18,7 +17,7 @@ use Rattle.tree.specs.Tree.{Primary, number, variable, Operand, plain, opposite
 use Rattle.tree_form.specs.Stored.{start-of-product, tag-of}
 use Rattle.tree_meaning.specs.Pieces.{Term, a-number, a-use, a-sign, primary-terms, operand-terms, factor-terms, product-terms, summand-terms, calculation-terms, Component, whole-number, joined-by, item-parts, set-parts, counts-parts, tests-parts, terms-of}
 use Rattle.tree_store.proofs.Uses.{terms-append}
-use Rattle.tree_store.proofs.Rows.{TermRow, a-term, marked, last-marked, primary-rows, operand-rows, factors-rows, product-rows, summands-rows, calculation-rows, item-rows, set-rows, counts-rows, tests-rows}
+use Rattle.tree_store.proofs.Rows.{TermRow, a-term, last-marked, primary-rows, operand-rows, factors-rows, product-rows, summands-rows, calculation-rows, item-rows, set-rows, counts-rows, tests-rows}
 
 -- a tag of a sign: neither a number's nor a use's, and the table's words of it say it again
 pub record SignTag (tag : ℕ) : Type 0 where
@@ -34,6 +33,7 @@ pub data Tells : List TermRow → List Term → Type 0 where
   a-sign-row : {r : TermRow} {A : List TermRow} {l : List Term} → SignTag (r .tag) → r .value ≡ 0 → Tells A l → Tells (r ∷ A) l
   skipped : {s : Sign} {A : List TermRow} {l : List Term} → Tells A l → Tells A (a-sign s ∷ l)
 
+-- rows and those after them
 pub told-both : {A B : List TermRow} {l m : List Term} → Tells A l → Tells B m → Tells (A ++ B) (l ++ m)
 told-both told b = b
 told-both (a-number-row t v p a) b = a-number-row t v p (told-both a b)
@@ -47,39 +47,6 @@ quiet {A} {B} {l} a b = subst (λ (m : List Term). Tells (A ++ B) m) (append-nil
 
 -- ---- calculations
 
-sign-3 : SignTag 3
-unfolding termOf
-sign-3 = record { no-use = refl; no-number = refl; shown = λ g. refl }
-
-sign-4 : SignTag 4
-unfolding termOf
-sign-4 = record { no-use = refl; no-number = refl; shown = λ g. refl }
-
-sign-5 : SignTag 5
-unfolding termOf
-sign-5 = record { no-use = refl; no-number = refl; shown = λ g. refl }
-
-sign-6 : SignTag 6
-unfolding termOf
-sign-6 = record { no-use = refl; no-number = refl; shown = λ g. refl }
-
--- the same as the last of an item
-single-3 : SignTag 35
-unfolding termOf
-single-3 = record { no-use = refl; no-number = refl; shown = λ g. refl }
-
-single-4 : SignTag 36
-unfolding termOf
-single-4 = record { no-use = refl; no-number = refl; shown = λ g. refl }
-
-single-5 : SignTag 37
-unfolding termOf
-single-5 = record { no-use = refl; no-number = refl; shown = λ g. refl }
-
-single-6 : SignTag 38
-unfolding termOf
-single-6 = record { no-use = refl; no-number = refl; shown = λ g. refl }
-
 -- the tags of `+ - *` and of a minus before an operand
 pub data Arithmetic (tag : ℕ) : Type 0 where
   adding : tag ≡ 3 → Arithmetic tag
@@ -88,16 +55,19 @@ pub data Arithmetic (tag : ℕ) : Type 0 where
   negating : tag ≡ 6 → Arithmetic tag
 
 arithmetic-sign : {tag : ℕ} → Arithmetic tag → SignTag tag
-arithmetic-sign (adding e) = subst SignTag (sym e) sign-3
-arithmetic-sign (subtracting e) = subst SignTag (sym e) sign-4
-arithmetic-sign (multiplying e) = subst SignTag (sym e) sign-5
-arithmetic-sign (negating e) = subst SignTag (sym e) sign-6
+unfolding termOf
+arithmetic-sign (adding e) = subst SignTag (sym e) (record { no-use = refl; no-number = refl; shown = λ g. refl })
+arithmetic-sign (subtracting e) = subst SignTag (sym e) (record { no-use = refl; no-number = refl; shown = λ g. refl })
+arithmetic-sign (multiplying e) = subst SignTag (sym e) (record { no-use = refl; no-number = refl; shown = λ g. refl })
+arithmetic-sign (negating e) = subst SignTag (sym e) (record { no-use = refl; no-number = refl; shown = λ g. refl })
 
+-- the same as the last of an item
 marked-sign : {tag : ℕ} → Arithmetic tag → SignTag (marked-tag tag)
-marked-sign (adding e) = subst SignTag (sym (ap marked-tag e)) single-3
-marked-sign (subtracting e) = subst SignTag (sym (ap marked-tag e)) single-4
-marked-sign (multiplying e) = subst SignTag (sym (ap marked-tag e)) single-5
-marked-sign (negating e) = subst SignTag (sym (ap marked-tag e)) single-6
+unfolding termOf
+marked-sign (adding e) = subst SignTag (sym (ap marked-tag e)) (record { no-use = refl; no-number = refl; shown = λ g. refl })
+marked-sign (subtracting e) = subst SignTag (sym (ap marked-tag e)) (record { no-use = refl; no-number = refl; shown = λ g. refl })
+marked-sign (multiplying e) = subst SignTag (sym (ap marked-tag e)) (record { no-use = refl; no-number = refl; shown = λ g. refl })
+marked-sign (negating e) = subst SignTag (sym (ap marked-tag e)) (record { no-use = refl; no-number = refl; shown = λ g. refl })
 
 -- rows of a calculation
 pub data Reckons : List TermRow → List Term → Type 0 where
@@ -163,6 +133,7 @@ summands-counts o no-summand = counted-none
 summands-counts o (plus s x more) = counted-skip (counted-both (product-counts o x) (counted-sign (adding refl) refl (summands-counts o more)))
 summands-counts o (minus s x more) = counted-skip (counted-both (product-counts o x) (counted-sign (subtracting refl) refl (summands-counts o more)))
 
+-- the rows of a calculation
 pub calculation-counts : (x : Calculation) → Reckons (calculation-rows x) (calculation-terms x)
 unfolding calculation-rows
 calculation-counts (sum x more) = counted-both (product-counts (start-of-product x) x) (summands-counts (start-of-product x) more)
@@ -236,6 +207,7 @@ item-tells (between a s b) = two-tells a b s (a-term 8 0 (s .start) 0) sign-rang
 item-tells (from a s) = first-tells a (joined-by s ∷ []) (skipped (a-sign-row sign-from refl told))
 item-tells (up-to s b) = skipped (first-tells b [] (a-sign-row sign-up-to refl told))
 
+-- of a set, joined by signs
 pub set-tells : {k : SetPart} {d : ℕ} (x : Choices k d) {J : List TermRow} → Tells J [] → Tells (set-rows x J) (terms-of (set-parts x))
 unfolding set-rows set-parts
 set-tells (item a) j = quiet (item-tells a) j
@@ -245,6 +217,7 @@ set-tells (item-but-set depth a s opens b closes) j =
 set-tells (last-choice a) j = set-tells a j
 set-tells (or-choices a s b) j = parted (set-parts a) (joined-by s ∷ set-parts b) (set-tells a j) (after-sign s (set-parts b) (set-tells b (a-sign-row sign-or refl told)))
 
+-- of counts
 pub counts-tells : (x : Counts) → Tells (counts-rows x) (terms-of (counts-parts x))
 unfolding counts-rows terms-of
 counts-tells (exactly n) = subst (Tells (calculation-rows n)) (sym (append-nil (calculation-terms n))) (calculation-tells n)
@@ -252,6 +225,7 @@ counts-tells (at-least a s) = first-tells a (joined-by s ∷ []) (skipped (a-sig
 counts-tells (at-most s b) = skipped (first-tells b [] (a-sign-row sign-up-to refl told))
 counts-tells (span a s b) = two-tells a b s (a-term 8 0 (s .start) 0) sign-range refl told
 
+-- of a condition, joined by signs
 pub tests-tells : {k : TestPart} {d : ℕ} (x : Tests k d) {J : List TermRow} → Tells J [] → Tells (tests-rows x J) (terms-of (tests-parts x))
 unfolding tests-rows tests-parts
 tests-tells (compare a c s b) j = two-tells a b s (a-term (tag-of c) 0 (s .start) 0) (comparison-tag c) refl j

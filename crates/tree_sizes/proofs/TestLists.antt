@@ -1,13 +1,13 @@
 -- The rows of a condition, worked out in sizes.
 -- Assumes nothing.
 use Prim.Native.Nat.{ℕ, suc, _+_, _*_, _-_, _≤_, _<_}
-use mathlib.Core.Path.{_≡_, refl, sym, ap, _∙_}
+use mathlib.Core.Path.{_≡_, refl, sym, _∙_}
 use mathlib.Core.Bool.{Bool}
 use mathlib.Core.List.{List, [], _∷_, _++_}
 use native.Mathlib.Omega.{arith}
 use lib.IntN.{ℤ, pos}
 use lib.ListN.{length}
-use Rattle.term_words.specs.Tests.{noted, combined}
+use Rattle.term_words.specs.Tests.{noted}
 use Rattle.term_words.specs.Words.{termOf}
 use Rattle.term_words.specs.Steps.{stepOf, compares}
 use Rattle.term_words.specs.declared.Comparison.{Comparison as Compared}
@@ -56,6 +56,7 @@ module _ (g : ℕ → ℕ) (w : List ℤ) (wide : List ℕ → ℕ) where
   unfolding termOf
   and-joins m s l i t h = judged-join g w k Joint.And m (a-term 13 0 s 0) (λ x y. refl) i t h l
 
+  -- a condition alone
   pub no-joins : (d : ℕ) → Joins d d []
   no-joins d i t h = ran-none g w k (Passed (Tested (suc d)) []) (Faulty i [] []) i Numbers.Zero t (refl, (refl, h))
 
@@ -76,15 +77,16 @@ module _ (g : ℕ → ℕ) (w : List ℤ) (wide : List ℕ → ℕ) where
       let A = calculation-rows a in
       let B = calculation-rows b in
       let r = a-term (tag-of c) 0 (s .start) 0 in
-      judged-both g w k (Left Numbers.Zero t) (Tested (suc m)) (fault-of g w wide k a) (fault-of g w wide k b ++ []) A (B ++ (r ∷ J)) i Numbers.Zero t (calculation-judged g w wide k a (measured-first g w wide (calculation-terms a) (terms-of (joined-by s ∷ whole-number b ∷ [])) h) i Numbers.Zero t (omega arith))
+      judged-both g w k (Left Numbers.Zero t) (Tested (suc m)) (fault-of wide a) (fault-of wide b ++ []) A (B ++ (r ∷ J)) i Numbers.Zero t (calculation-judged g w wide k a (measured-first g w wide (calculation-terms a) (terms-of (joined-by s ∷ whole-number b ∷ [])) h) i Numbers.Zero t (omega arith))
       (λ s₁ t₁ q.
-      judged-both g w k (Left s₁ t₁) (Tested (suc m)) (fault-of g w wide k b) [] B (r ∷ J) (i + length A) s₁ t₁ (calculation-judged g w wide k b (measured-first g w wide (calculation-terms b) [] (measured-second g w wide (calculation-terms a) (terms-of (joined-by s ∷ whole-number b ∷ [])) h)) (i + length A) s₁ t₁ (one-room q))
+      judged-both g w k (Left s₁ t₁) (Tested (suc m)) (fault-of wide b) [] B (r ∷ J) (i + length A) s₁ t₁ (calculation-judged g w wide k b (measured-first g w wide (calculation-terms b) [] (measured-second g w wide (calculation-terms a) (terms-of (joined-by s ∷ whole-number b ∷ [])) h)) (i + length A) s₁ t₁ (one-room q))
       (λ s₂ t₂ u.
       let n = notes g w c (s .start) (pos (q .size)) (pos (u .size)) t in
       judged-both g w k (Tested (suc d)) (Tested (suc m)) [] [] (r ∷ []) J (i + length A + length B) s₂ t₂
       (judged-sign g w k d r (i + length A + length B) s₂ t₂ t (n .test) ((λ z. stepOf k Mode.Sizes w (pos 0) (row-term g r) (sym (left-two q u) z) ((u .tests ∙ q .tests) z)) ∙ n .is) deep l)
       (after-test g w k (suc d) (Tested (suc m)) [] (i + length A + length B + 1) J (λ t′ v. j (i + length A + length B + 1) t′ v))))
 
+  -- a condition, whose first part J joins to what stands before it
   pub tests-judged : {p : TestPart} {n : ℕ} (x : Tests p n) → Measured g w wide (terms-of (tests-parts x)) → (J : List TermRow) (i t d m : ℕ) → Deep d t → d ≤ suc m → m + 2 * (16 - n) ≤ 57 → Joins d m J
       → Judged (Tested (suc m)) (calculation-faults wide (tests-parts x)) i (tests-rows x J) (ran g w k i (tests-rows x J) Numbers.Zero t)
   unfolding tests-rows tests-parts

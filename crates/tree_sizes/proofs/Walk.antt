@@ -2,13 +2,12 @@
 -- Assumes nothing.
 use Prim.Native.Nat.{ℕ, suc, _+_, _≤_, _<_}
 use mathlib.Core.Path.{_≡_, refl, sym, ap, subst, _∙_}
-use mathlib.Core.Logic.{_⊎_, inl, inr, ⊎-elim, _↔_}
+use mathlib.Core.Logic.{_⊎_, inl, ⊎-elim, _↔_, Iff·rfl, Iff·trans}
 use mathlib.Core.Bool.{Bool, true, false}
 use mathlib.Core.List.{List, [], _∷_, _++_}
 use native.Mathlib.Omega.{arith}
 use lib.Dec.{eqb}
 use lib.ListN.{length}
-use Rattle.text_store.specs.Words.{kind-of, node-mark, condition-from, condition-end}
 use Rattle.text_tokens.specs.declared.Kind.{Kind}
 use Rattle.tree.specs.Lexemes.{Name, Lexeme, sign, place-of}
 use Rattle.tree.specs.Tree.{Mark, optional, any-number, one-or-more, counted, Part, expression, concatenation, factor, atom, cases, Tree, literal, range, field, binder, rule-use, eod, group, switch, last-case, case-default, case-cases, once, repeated, last-member, and-members, last-branch, or-branches}
@@ -17,7 +16,7 @@ use Rattle.tree_form.specs.Stored.{start-of}
 use Rattle.tree_meaning.specs.Pieces.{counts-parts, set-parts, tests-parts, Piece, use-of-rule, formula, mark-pieces, pieces}
 use Rattle.tree_meaning.specs.Counted.{constructs}
 use Rattle.tree_meaning.specs.Sizes.{calculation-faults}
-use Rattle.tree_store.proofs.Rows.{NodeRow, on-first, in-case, set-rows, tests-rows, mark-rows, term-rows, mark-row, node-rows}
+use Rattle.tree_store.proofs.Rows.{NodeRow, on-first, tests-rows, mark-rows, term-rows, mark-row, node-rows}
 use Rattle.tree_store.proofs.Lengths.{length-first, nodes-counted, some-node}
 use Rattle.tree_store.proofs.Standing.{Standing, stands, past, shown, after-tests, after-mark as mark-passed, after-set, after-tree}
 use Rattle.tree_store.proofs.Spots.{Like}
@@ -25,78 +24,16 @@ use Rattle.tree_store.proofs.Binding.{after-bound, Quiet, mark-quiet, bound-row
 use Rattle.tree_store.proofs.Naming.{PlainFor, plain}
 use Rattle.tree_store.proofs.Rowed.{NodesAt, no-nodes, node-then, nodes-left, nodes-right}
 use Rattle.tree_grammar.proofs.Lists.{RowsAt, rows-left, rows-right}
-use Rattle.tree_grammar.proofs.Parts.{Whole}
-use Rattle.tree_grammar.proofs.Firsts.{Plain, FirstAt, first-none, first-then, whole-first, uncased, first-left, first-right, first-like, case-at}
-use Rattle.tree_sizes.proofs.Hits.{Hit, Hits, hits-both}
+use Rattle.tree_grammar.proofs.Firsts.{Plain, FirstAt, first-then, whole-first, uncased, first-left, first-right, first-like, case-at}
+use Rattle.tree_sizes.proofs.Hits.{either, dropped, Hit, Hits, hits-both}
 use Rattle.tree_sizes.proofs.Gathered.{sizes-of, gathered, gathered-both}
-use Rattle.tree_sizes.proofs.NodeLists.{Ruled, condition-at, own-at, Settled, condition-hit, counts-hit, set-hit, no-own-hit, no-condition-hit}
+use Rattle.tree_sizes.proofs.NodeLists.{Ruled, own-at, Settled, condition-hit, counts-hit, set-hit, no-own-hit, no-condition-hit}
+use Rattle.tree_sizes.proofs.Nodes.{NodesHit, FirstHit, nodes-two, first-two, cased, unconditioned}
 use Rattle.tree_sizes.proofs.Ready.{Ready, ready-one, ready-two, ready-marked, settled-on, settled-more, after-append, after-mark}
-
--- ---- what is found in nodes from i on
-
-module _ (p : ℕ) (ns ts ws : List ℕ) where
-  unfoldable pub NodesHit : ℕ → List NodeRow → Type 0
-  NodesHit i [] = ⊥
-  NodesHit i (r ∷ M) = (Hit p (condition-at ns ts ws i) ⊎ Hit p (own-at ns ts ws i)) ⊎ NodesHit (suc i) M
-
-  -- without the condition of the first
-  unfoldable pub FirstHit : ℕ → List NodeRow → Type 0
-  FirstHit i [] = ⊥
-  FirstHit i (r ∷ M) = Hit p (own-at ns ts ws i) ⊎ NodesHit (suc i) M
-
-  pub nodes-two : (i : ℕ) (M L : List NodeRow) → NodesHit i (M ++ L) ↔ (NodesHit i M ⊎ NodesHit (i + length M) L)
-  unfolding NodesHit
-  nodes-two i [] L =
-      let e : i ≡ i + 0 = omega arith in
-      (λ h. inr (subst (λ (k : ℕ). NodesHit k L) e h), λ h. ⊎-elim (λ (z : ⊥). absurd z) (λ z. subst (λ (k : ℕ). NodesHit k L) (sym e) z) h)
-  nodes-two i (r ∷ M) L =
-      let t = nodes-two (suc i) M L in
-      let e : suc i + length M ≡ i + suc (length M) = omega arith in
-      (
-        λ h. ⊎-elim (λ x. inl (inl x)) (λ x. ⊎-elim (λ y. inl (inr y)) (λ y. inr (subst (λ (k : ℕ). NodesHit k L) e y)) (t .0 x)) h,
-        λ h. ⊎-elim (λ x. ⊎-elim (λ y. inl y) (λ y. inr (t .1 (inl y))) x) (λ x. inr (t .1 (inr (subst (λ (k : ℕ). NodesHit k L) (sym e) x)))) h,
-      )
-
-  first-two : (i : ℕ) (M L : List NodeRow) → 1 ≤ length M → FirstHit i (M ++ L) ↔ (FirstHit i M ⊎ NodesHit (i + length M) L)
-  unfolding NodesHit FirstHit
-  first-two i [] L l = absurd (omega arith)
-  first-two i (r ∷ M) L l =
-      let t = nodes-two (suc i) M L in
-      let e : suc i + length M ≡ i + suc (length M) = omega arith in
-      (
-        λ h. ⊎-elim (λ x. inl (inl x)) (λ x. ⊎-elim (λ y. inl (inr y)) (λ y. inr (subst (λ (k : ℕ). NodesHit k L) e y)) (t .0 x)) h,
-        λ h. ⊎-elim (λ x. ⊎-elim (λ y. inl y) (λ y. inr (t .1 (inl y))) x) (λ x. inr (t .1 (inr (subst (λ (k : ℕ). NodesHit k L) (sym e) x)))) h,
-      )
-
-  cased : (i f g : ℕ) (M : List NodeRow) → 1 ≤ length M → NodesHit i (on-first f g M) ↔ (Hit p (condition-at ns ts ws i) ⊎ FirstHit i M)
-  unfolding NodesHit FirstHit
-  cased i f g [] l = absurd (omega arith)
-  cased i f g (r ∷ M) l = (
-    λ h. ⊎-elim (λ x. ⊎-elim (λ y. inl y) (λ y. inr (inl y)) x) (λ x. inr (inr x)) h,
-    λ h. ⊎-elim (λ x. inl (inl x)) (λ x. ⊎-elim (λ y. inl (inr y)) (λ y. inr y) x) h,
-  )
-
-  unconditioned : (i : ℕ) (M : List NodeRow) → (Hit p (condition-at ns ts ws i) → ⊥) → NodesHit i M ↔ FirstHit i M
-  unfolding NodesHit FirstHit
-  unconditioned i [] c = (λ h. h, λ h. h)
-  unconditioned i (r ∷ M) c = (λ h. ⊎-elim (λ x. ⊎-elim (λ y. absurd (c y)) (λ y. inl y) x) (λ x. inr x) h, λ h. ⊎-elim (λ x. inl (inr x)) (λ x. inr x) h)
-
-chained : {A B C : Type 0} → A ↔ B → B ↔ C → A ↔ C
-chained f g = (λ a. g .0 (f .0 a), λ c. f .1 (g .1 c))
-
-either : {A B C D : Type 0} → A ↔ B → C ↔ D → (A ⊎ C) ↔ (B ⊎ D)
-either f g = (λ h. ⊎-elim (λ z. inl (f .0 z)) (λ z. inr (g .0 z)) h, λ h. ⊎-elim (λ z. inl (f .1 z)) (λ z. inr (g .1 z)) h)
-
-same-as : {A : Type 0} → A ↔ A
-same-as = (λ z. z, λ z. z)
 
 -- what stands behind a token, from it on
 after-token : {xs : List ℕ} {q : ℕ} {l : Lexeme} {ls : List Lexeme} → Standing xs q (l ∷ ls) → (q ≤ place-of l) × Standing xs (place-of l) ls
 after-token (stands b c d more) = (b, more)
-
--- without the first
-dropped : {A B C : Type 0} → (A → ⊥) → B ↔ C → (A ⊎ B) ↔ C
-dropped n f = (λ h. ⊎-elim (λ z. absurd (n z)) (λ z. f .0 z) h, λ h. inr (f .1 h))
 
 -- ---- a rule's tree
 
@@ -142,6 +79,7 @@ module _ (p : ℕ) {xs ns ts rs ws : List ℕ} {n r : ℕ} {numbered : List ℕ 
 
   -- ---- nodes without a condition or a list
 
+  -- a tree's first node has no condition, but in a case
   pub bare : (i : ℕ) (M : List NodeRow) → i < n → NodesAt ns i M → PlainFor expression M → NodesHit p ns ts ws i M ↔ FirstHit p ns ts ws i M
   bare i [] l no-nodes c = absurd c
   bare i (x ∷ M) l (node-then h more) c = unconditioned p ns ts ws i (x ∷ M) (no-condition-hit p rule widest i l (h .case-from-is ∙ c .0) (h .case-end-is ∙ c .1))
@@ -186,7 +124,7 @@ module _ (p : ℕ) {xs ns ts rs ws : List ℕ} {n r : ℕ} {numbered : List ℕ 
   two : {A B : Type 0} (l m : List Piece) (names : List Name) {w : List Lexeme} (q : Part) (i : ℕ) (M : List NodeRow) → A ↔ Hits p (gathered (sizes-of widest) l) → B ↔ Hits p (gathered (sizes-of widest) m) → HitPart q i M ↔ (A ⊎ B)
       → (mid : ℕ) → Standing xs mid w → Settled p ws numbered widest mid (after-bound m (after-bound l names)) → Walked q i M (l ++ m) names w
   two l m names q i M f g e mid s c =
-      record { same = chained e (gathered-both p (sizes-of widest) l m f g); mid = mid; left = s; settled = subst (Settled p ws numbered widest mid) (sym (after-append l m names)) c }
+      record { same = Iff·trans e (gathered-both p (sizes-of widest) l m f g); mid = mid; left = s; settled = subst (Settled p ws numbered widest mid) (sym (after-append l m names)) c }
 
   -- nodes that begin at the number that constructs are counted to
   counted-to : {q : Part} {d : ℕ} (x : Tree q d) (t i : ℕ) (L : List NodeRow) → NodesHit p ns ts ws (i + length (node-rows false x t)) L ↔ NodesHit p ns ts ws (i + constructs false x) L
@@ -197,6 +135,7 @@ module _ (p : ℕ) {xs ns ts rs ws : List ℕ} {n r : ℕ} {numbered : List ℕ 
 
   -- ---- the walk
 
+  -- every part of a rule's tree
   pub walk : {q : Part} {d : ℕ} (top begun : Bool) (x : Tree q d) (i t : ℕ) (names : List Name) (w : List Lexeme) {m : ℕ} → AtPart q i (node-rows begun x t) → RowsAt ts t (term-rows x) → Standing xs m (spell x w) → Before xs ns a i names
       → i + constructs begun x ≤ end → Ready p ws numbered widest names (pieces top x) → Settled p ws numbered widest m names → Walked q i (node-rows begun x t) (pieces top x) names w
   unfolding node-rows term-rows spell constructs pieces Ready gathered after-bound NodesHit FirstHit
@@ -236,7 +175,7 @@ module _ (p : ℕ) {xs ns ts rs ws : List ℕ} {n r : ℕ} {numbered : List ℕ 
       let f = condition-hit p rule widest i names b (omega (arith, nodes-counted false x k, some-node false x k)) m settled c t (sign Kind.Colon colon ∷ spell x (sign Kind.Semicolon close ∷ w)) (at .0) (at .1) (rows-left (tests-rows c []) (term-rows x) rows) s (ok .0) in
       let r = walk false false x i k names (sign Kind.Semicolon close ∷ w) (uncased t k M (whole-first (on-first t k M) h)) (rows-right (tests-rows c []) (term-rows x) rows) (past (after-tests c s)) b e (ok .1) settled in
       record {
-        same = chained (cased p ns ts ws i t k M (some-node false x k)) (hits-both p (calculation-faults widest (tests-parts c)) (gathered (sizes-of widest) (pieces false x)) f (r .same));
+        same = Iff·trans (cased p ns ts ws i t k M (some-node false x k)) (hits-both p (calculation-faults widest (tests-parts c)) (gathered (sizes-of widest) (pieces false x)) f (r .same));
         mid = r .mid;
         left = past (r .left);
         settled = r .settled;
@@ -255,11 +194,11 @@ module _ (p : ℕ) {xs ns ts rs ws : List ℕ} {n r : ℕ} {numbered : List ℕ 
       let f = condition-hit p rule widest i names b (omega (arith, nodes-counted false x k, some-node false x k)) m settled c t (sign Kind.Colon colon ∷ spell x (sign Kind.Semicolon close ∷ rest)) (at .0) (at .1) (rows-left (tests-rows c []) (term-rows x) front) s (ok .0) in
       let r = walk false false x i k names (sign Kind.Semicolon close ∷ rest) first (rows-right (tests-rows c []) (term-rows x) front) (past (after-tests c s)) b (omega arith) (ready-one p ws numbered widest names (pieces false x) (pieces false y) (ok .1)) settled in
       let r′ = walk false false y (i + constructs false x) u (after-bound (pieces false x) names) (sign Kind.Semicolon close′ ∷ w) (whole-first L there) (rows-right (tests-rows c [] ++ term-rows x) (term-rows y) rows) (past (past (r .left)))
-          (past-tree false false x k (sign Kind.Semicolon close ∷ rest) first (past (after-tests c s)) b) (omega arith) (ready-two p ws numbered widest names (pieces false x) (pieces false y) (ok .1)) (r .settled) in
+      (past-tree false false x k (sign Kind.Semicolon close ∷ rest) first (past (after-tests c s)) b) (omega arith) (ready-two p ws numbered widest names (pieces false x) (pieces false y) (ok .1)) (r .settled) in
       two (formula (tests-parts c) ∷ pieces false x) (pieces false y) names cases i (M ++ L)
-      (chained (cased p ns ts ws i t k X (some-node false x k)) (hits-both p (calculation-faults widest (tests-parts c)) (gathered (sizes-of widest) (pieces false x)) f (r .same)))
-      (chained (bare (i + constructs false x) L (omega (arith, rule .inside, nodes-counted false y u, some-node false y u)) there (plain false y u)) (r′ .same))
-      (chained (nodes-two p ns ts ws i M L) (either same-as (moved (i + length M) (i + constructs false x) L (ap (λ (j : ℕ). i + j) (length-first t k X ∙ nodes-counted false x k)))))
+      (Iff·trans (cased p ns ts ws i t k X (some-node false x k)) (hits-both p (calculation-faults widest (tests-parts c)) (gathered (sizes-of widest) (pieces false x)) f (r .same)))
+      (Iff·trans (bare (i + constructs false x) L (omega (arith, rule .inside, nodes-counted false y u, some-node false y u)) there (plain false y u)) (r′ .same))
+      (Iff·trans (nodes-two p ns ts ws i M L) (either Iff·rfl (moved (i + length M) (i + constructs false x) L (ap (λ (j : ℕ). i + j) (length-first t k X ∙ nodes-counted false x k)))))
       (r′ .mid) (past (r′ .left)) (r′ .settled)
   walk top begun (case-cases c colon x close y) i t names w {m} h rows s b e ok settled =
       let k = t + length (tests-rows c []) in
@@ -275,11 +214,11 @@ module _ (p : ℕ) {xs ns ts rs ws : List ℕ} {n r : ℕ} {numbered : List ℕ 
       let f = condition-hit p rule widest i names b (omega (arith, nodes-counted false x k, some-node false x k)) m settled c t (sign Kind.Colon colon ∷ spell x (sign Kind.Semicolon close ∷ rest)) (at .0) (at .1) (rows-left (tests-rows c []) (term-rows x) front) s (ok .0) in
       let r = walk false false x i k names (sign Kind.Semicolon close ∷ rest) first (rows-right (tests-rows c []) (term-rows x) front) (past (after-tests c s)) b (omega arith) (ready-one p ws numbered widest names (pieces false x) (pieces false y) (ok .1)) settled in
       let r′ = walk false false y (i + constructs false x) u (after-bound (pieces false x) names) w there (rows-right (tests-rows c [] ++ term-rows x) (term-rows y) rows) (past (r .left))
-          (past-tree false false x k (sign Kind.Semicolon close ∷ rest) first (past (after-tests c s)) b) (omega arith) (ready-two p ws numbered widest names (pieces false x) (pieces false y) (ok .1)) (r .settled) in
+      (past-tree false false x k (sign Kind.Semicolon close ∷ rest) first (past (after-tests c s)) b) (omega arith) (ready-two p ws numbered widest names (pieces false x) (pieces false y) (ok .1)) (r .settled) in
       two (formula (tests-parts c) ∷ pieces false x) (pieces false y) names cases i (M ++ L)
-      (chained (cased p ns ts ws i t k X (some-node false x k)) (hits-both p (calculation-faults widest (tests-parts c)) (gathered (sizes-of widest) (pieces false x)) f (r .same)))
+      (Iff·trans (cased p ns ts ws i t k X (some-node false x k)) (hits-both p (calculation-faults widest (tests-parts c)) (gathered (sizes-of widest) (pieces false x)) f (r .same)))
       (r′ .same)
-      (chained (nodes-two p ns ts ws i M L) (either same-as (moved (i + length M) (i + constructs false x) L (ap (λ (j : ℕ). i + j) (length-first t k X ∙ nodes-counted false x k)))))
+      (Iff·trans (nodes-two p ns ts ws i M L) (either Iff·rfl (moved (i + length M) (i + constructs false x) L (ap (λ (j : ℕ). i + j) (length-first t k X ∙ nodes-counted false x k)))))
       (r′ .mid) (r′ .left) (r′ .settled)
   walk top begun (once x) i t names w h rows s b e ok settled =
       let r = walk top false x i t names w h rows s b e ok settled in record { same = r .same; mid = r .mid; left = r .left; settled = r .settled }
@@ -290,7 +229,7 @@ module _ (p : ℕ) {xs ns ts rs ws : List ℕ} {n r : ℕ} {numbered : List ℕ 
       let r = walk false false x (suc i) t names (spell-mark k w) (whole-first X more) (rows-left (term-rows x) (mark-rows k) rows) s (past-node h (mark-quiet k _ _ _) b) (omega arith) (ready-marked p ws numbered widest names k (pieces false x) ok) settled in
       let f = mark-hit k i (suc (constructs false x)) (start-of x) (t + length (term-rows x)) names w (pieces false x) h (rows-right (term-rows x) (mark-rows k) rows) (after-tree x s) b (omega arith) (omega (arith, some, count)) (omega (arith, rule .inside)) ok settled in
       record {
-        same = gathered-both p (sizes-of widest) (mark-pieces k) (pieces false x) f (chained (bare (suc i) X (omega (arith, rule .inside, some, count)) more (plain false x t)) (r .same));
+        same = gathered-both p (sizes-of widest) (mark-pieces k) (pieces false x) f (Iff·trans (bare (suc i) X (omega (arith, rule .inside, some, count)) more (plain false x t)) (r .same));
         mid = r .mid;
         left = mark-passed k (r .left);
         settled = subst (Settled p ws numbered widest (r .mid)) (sym (after-mark k (pieces false x) names)) (r .settled);
@@ -307,11 +246,11 @@ module _ (p : ℕ) {xs ns ts rs ws : List ℕ} {n r : ℕ} {numbered : List ℕ 
       let b′ = past-node h refl b in
       let r = walk top false x (suc i) t names (sign Kind.Ampersand g ∷ spell y w) first (rows-left (term-rows x) (term-rows y) rows) s b′ (omega arith) (ready-one p ws numbered widest names (pieces top x) (pieces top y) ok) settled in
       let r′ = walk top true y (suc i + constructs false x) u (after-bound (pieces top x) names) w (whole-first Y there) (rows-right (term-rows x) (term-rows y) rows) (past (r .left)) (past-tree false top x t (sign Kind.Ampersand g ∷ spell y w) first s b′) (omega arith)
-          (ready-two p ws numbered widest names (pieces top x) (pieces top y) ok) (r .settled) in
+      (ready-two p ws numbered widest names (pieces top x) (pieces top y) ok) (r .settled) in
       two (pieces top x) (pieces top y) names concatenation i _
-      (chained (bare (suc i) X (omega (arith, rule .inside, some-node false x t, nodes-counted false x t)) (nodes-left X Y more) (plain false x t)) (r .same))
-      (chained (bare (suc i + constructs false x) Y (omega (arith, rule .inside, some-node true y u, nodes-counted true y u)) there (plain true y u)) (r′ .same))
-      (dropped (quiet (omega (arith, rule .inside)) h refl (omega arith) (λ z. omega arith)) (chained (nodes-two p ns ts ws (suc i) X Y) (either same-as (counted-to x t (suc i) Y))))
+      (Iff·trans (bare (suc i) X (omega (arith, rule .inside, some-node false x t, nodes-counted false x t)) (nodes-left X Y more) (plain false x t)) (r .same))
+      (Iff·trans (bare (suc i + constructs false x) Y (omega (arith, rule .inside, some-node true y u, nodes-counted true y u)) there (plain true y u)) (r′ .same))
+      (dropped (quiet (omega (arith, rule .inside)) h refl (omega arith) (λ z. omega arith)) (Iff·trans (nodes-two p ns ts ws (suc i) X Y) (either Iff·rfl (counted-to x t (suc i) Y))))
       (r′ .mid) (r′ .left) (r′ .settled)
   walk top true (and-members x g y) i t names w {m} h rows s b e ok settled =
       let u = t + length (term-rows x) in
@@ -321,9 +260,9 @@ module _ (p : ℕ) {xs ns ts rs ws : List ℕ} {n r : ℕ} {numbered : List ℕ 
       let there = after x y true i t u h in
       let r = walk top false x i t names (sign Kind.Ampersand g ∷ spell y w) first (rows-left (term-rows x) (term-rows y) rows) s b (omega arith) (ready-one p ws numbered widest names (pieces top x) (pieces top y) ok) settled in
       let r′ = walk top true y (i + constructs false x) u (after-bound (pieces top x) names) w (whole-first Y there) (rows-right (term-rows x) (term-rows y) rows) (past (r .left)) (past-tree false top x t (sign Kind.Ampersand g ∷ spell y w) first s b) (omega arith)
-          (ready-two p ws numbered widest names (pieces top x) (pieces top y) ok) (r .settled) in
-      two (pieces top x) (pieces top y) names concatenation i (X ++ Y) (r .same) (chained (bare (i + constructs false x) Y (omega (arith, rule .inside, some-node true y u, nodes-counted true y u)) there (plain true y u)) (r′ .same))
-      (chained (first-two p ns ts ws i X Y (some-node false x t)) (either same-as (counted-to x t i Y))) (r′ .mid) (r′ .left) (r′ .settled)
+      (ready-two p ws numbered widest names (pieces top x) (pieces top y) ok) (r .settled) in
+      two (pieces top x) (pieces top y) names concatenation i (X ++ Y) (r .same) (Iff·trans (bare (i + constructs false x) Y (omega (arith, rule .inside, some-node true y u, nodes-counted true y u)) there (plain true y u)) (r′ .same))
+      (Iff·trans (first-two p ns ts ws i X Y (some-node false x t)) (either Iff·rfl (counted-to x t i Y))) (r′ .mid) (r′ .left) (r′ .settled)
   walk top begun (last-branch x) i t names w h rows s b e ok settled =
       let r = walk top false x i t names w h rows s b e ok settled in record { same = r .same; mid = r .mid; left = r .left; settled = r .settled }
   walk top false (or-branches x g y) i t names w {m} (first-then h more) rows s b e ok settled =
@@ -336,11 +275,11 @@ module _ (p : ℕ) {xs ns ts rs ws : List ℕ} {n r : ℕ} {numbered : List ℕ 
       let b′ = past-node h refl b in
       let r = walk false false x (suc i) t names (sign Kind.Bar g ∷ spell y w) first (rows-left (term-rows x) (term-rows y) rows) s b′ (omega arith) (ready-one p ws numbered widest names (pieces false x) (pieces false y) ok) settled in
       let r′ = walk false true y (suc i + constructs false x) u (after-bound (pieces false x) names) w (whole-first Y there) (rows-right (term-rows x) (term-rows y) rows) (past (r .left)) (past-tree false false x t (sign Kind.Bar g ∷ spell y w) first s b′) (omega arith)
-          (ready-two p ws numbered widest names (pieces false x) (pieces false y) ok) (r .settled) in
+      (ready-two p ws numbered widest names (pieces false x) (pieces false y) ok) (r .settled) in
       two (pieces false x) (pieces false y) names expression i _
-      (chained (bare (suc i) X (omega (arith, rule .inside, some-node false x t, nodes-counted false x t)) (nodes-left X Y more) (plain false x t)) (r .same))
-      (chained (bare (suc i + constructs false x) Y (omega (arith, rule .inside, some-node true y u, nodes-counted true y u)) there (plain true y u)) (r′ .same))
-      (dropped (quiet (omega (arith, rule .inside)) h refl (omega arith) (λ z. omega arith)) (chained (nodes-two p ns ts ws (suc i) X Y) (either same-as (counted-to x t (suc i) Y))))
+      (Iff·trans (bare (suc i) X (omega (arith, rule .inside, some-node false x t, nodes-counted false x t)) (nodes-left X Y more) (plain false x t)) (r .same))
+      (Iff·trans (bare (suc i + constructs false x) Y (omega (arith, rule .inside, some-node true y u, nodes-counted true y u)) there (plain true y u)) (r′ .same))
+      (dropped (quiet (omega (arith, rule .inside)) h refl (omega arith) (λ z. omega arith)) (Iff·trans (nodes-two p ns ts ws (suc i) X Y) (either Iff·rfl (counted-to x t (suc i) Y))))
       (r′ .mid) (r′ .left) (r′ .settled)
   walk top true (or-branches x g y) i t names w {m} h rows s b e ok settled =
       let u = t + length (term-rows x) in
@@ -350,6 +289,6 @@ module _ (p : ℕ) {xs ns ts rs ws : List ℕ} {n r : ℕ} {numbered : List ℕ 
       let there = after x y true i t u h in
       let r = walk false false x i t names (sign Kind.Bar g ∷ spell y w) first (rows-left (term-rows x) (term-rows y) rows) s b (omega arith) (ready-one p ws numbered widest names (pieces false x) (pieces false y) ok) settled in
       let r′ = walk false true y (i + constructs false x) u (after-bound (pieces false x) names) w (whole-first Y there) (rows-right (term-rows x) (term-rows y) rows) (past (r .left)) (past-tree false false x t (sign Kind.Bar g ∷ spell y w) first s b) (omega arith)
-          (ready-two p ws numbered widest names (pieces false x) (pieces false y) ok) (r .settled) in
-      two (pieces false x) (pieces false y) names expression i (X ++ Y) (r .same) (chained (bare (i + constructs false x) Y (omega (arith, rule .inside, some-node true y u, nodes-counted true y u)) there (plain true y u)) (r′ .same))
-      (chained (first-two p ns ts ws i X Y (some-node false x t)) (either same-as (counted-to x t i Y))) (r′ .mid) (r′ .left) (r′ .settled)
+      (ready-two p ws numbered widest names (pieces false x) (pieces false y) ok) (r .settled) in
+      two (pieces false x) (pieces false y) names expression i (X ++ Y) (r .same) (Iff·trans (bare (i + constructs false x) Y (omega (arith, rule .inside, some-node true y u, nodes-counted true y u)) there (plain true y u)) (r′ .same))
+      (Iff·trans (first-two p ns ts ws i X Y (some-node false x t)) (either Iff·rfl (counted-to x t i Y))) (r′ .mid) (r′ .left) (r′ .settled)

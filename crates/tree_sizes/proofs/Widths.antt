@@ -1,16 +1,15 @@
 -- The size of a variable in the table: the largest number of its width, cut at that of the largest width.
 -- Assumes nothing.
 use Prim.Native.Nat.{ℕ, zero, suc, _+_, _*_, _-_, _^_, _≤_, _<_, min}
-use mathlib.Core.Path.{_≡_, refl, sym, ap, ap₂, subst, _∙_}
+use mathlib.Core.Path.{_≡_, sym, ap, _∙_}
 use mathlib.Core.Logic.{⊎-elim}
 use mathlib.Core.Bool.{Bool, true, false, cond, not, _&&_, _||_}
 use mathlib.Core.List.{List, [], _∷_}
 use native.Mathlib.Omega.{arith}
 use native.Mathlib.Decide.{decLe}
 use native.Mathlib.Nat.{lt-of-not-le}
-use borrow.Author.Tests.{eqb-true}
 use lib.Dec.{eqb}
-use lib.IntN.{ℤ, pos}
+use lib.IntN.{pos}
 use lib.ListN.{length, getD}
 use lib.Pow.{pow-mono}
 use Rattle.basis.proofs.Booleans.{which}
@@ -80,6 +79,7 @@ module _ {xs ns ts rs ws : List ℕ} {n r : ℕ} (words : Words xs ns ts rs n r 
       ∙ ap (λ (k : ℕ). narrow (min 33 (capped k))) (ap (number-value xs) (h .first-is) ∙ f))
       ∙ cut-size v
 
+  -- a variable of a rule, by its name
   pub variable-size : {a : ℕ} {M : List NodeRow} {l : List Piece} (b : ℕ) (y : Name) → InStep xs M l → NodesAt ns a M → a + length M ≤ n → binders-before ns a ≡ b → b + length (bound-in l) ≤ 64 → is-among (bound-in l) y ≡ true
       → getD (widest ws) (number-among b (bound-in l) (y .letters)) (pos 0) ≡ pos (min 4294967295 (widest-in l (y .letters)))
   unfolding bound-in is-among widest-in number-among

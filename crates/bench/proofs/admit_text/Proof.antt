@@ -7,7 +7,7 @@ admit-requires : tie.Need-admit-requires
 admit-requires c κs = search needs
 
 returns : tie.Need-returns
-returns c = light _ _ _ _ (c .admit .ensures)
+returns c = light _ _ _ _ (c .admit .ensures .answers)
 
 pub admit-text-spec : {M : Type 1} → statement M
 admit-text-spec = tie.close (tie.spec admit-requires returns)

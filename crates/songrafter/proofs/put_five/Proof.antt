@@ -1,47 +1,26 @@
-use Rattle.songrafter.proofs.CallLaws.{five-stores}
+use Prim.Native.Nat.{ℕ}
+use mathlib.Core.Path.{ap, _∙_}
+use mathlib.Core.List.{List}
+use lib.ListN.{set}
 use borrow.Author.Needs.{needs}
 use Rattle.songrafter.proofs.put_five.Statement.{statement}
 use Rattle.songrafter.proofs.put_five.Tie as tie
 use Rattle.songrafter.proofs.put_five.Reads as reads
 use Rattle.songrafter.proofs.put_five.Lts as lts
 use Rattle.songrafter.proofs.put.Reads as put-reads
+use Rattle.songrafter.proofs.put_four.Reads as put-four-reads
 
--- src/lib.rt:32:5
+put-four-requires : tie.Need-put-four-requires
+put-four-requires c κs = search needs
+
 put-requires : tie.Need-put-requires
 put-requires c κs = search needs
 
--- src/lib.rt:33:5
-put-requires-2 : tie.Need-put-requires-2
-put-requires-2 c κs = search needs
-
--- src/lib.rt:34:5
-put-requires-3 : tie.Need-put-requires-3
-put-requires-3 c κs = search needs
-
--- src/lib.rt:35:5
-put-requires-4 : tie.Need-put-requires-4
-put-requires-4 c κs = search needs
-
--- src/lib.rt:36:5
-put-requires-5 : tie.Need-put-requires-5
-put-requires-5 c κs = search needs
-
--- src/lib.rt:29:1
 same-length : tie.Need-same-length
 same-length c = search needs
 
--- src/lib.rt:29:1
 returns : tie.Need-returns
-returns c = let a = c .before .before .before .before .before .before .before .before .before .before .before .before .before .before .before .before .before .before .before .before .before .args in five-stores (a .answer .now) _ _ _ _ _ (a .a) (a .b) (a .c) (a .d) (a .e) (c .before .before .before .before .before .before .before .before .before .before .before .before .before .before .before .before .before .before .put .ensures) (c .before .before .before .before .before .before .before .before .before .before .before .before .before .before .put2 .ensures) (c .before .before .before .before .before .before .before .before .before .before .put3 .ensures) (c .before .before .before .before .before .before .put4 .ensures) (c .before .before .put5 .ensures)
+returns c = c .before .before .put .ensures ∙ ap (λ (x : List ℕ). set x 4 (c .before .before .before .before .before .before .before .before .before .args .e)) (c .before .before .before .before .before .before .put-four .ensures)
 
 pub put-five-spec : {M : Type 1} → statement M
-put-five-spec =
-    tie.close
-    (tie.spec
-    put-requires
-    put-requires-2
-    put-requires-3
-    put-requires-4
-    put-requires-5
-    same-length
-    returns)
+put-five-spec = tie.close (tie.spec put-four-requires put-requires same-length returns)

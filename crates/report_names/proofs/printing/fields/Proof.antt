@@ -1,0 +1,34 @@
+use native.Mathlib.Omega.{arith}
+use borrow.Author.Needs.{needs}
+use Prim.Native.Nat.{_-_}
+use Rattle.report_names.proofs.printing.fields.Statement.{statement}
+use Rattle.report_names.proofs.printing.fields.Tie as tie
+
+abbrev Inv-loop : tie.InvT-loop
+Inv-loop grammar prefix table rules constructs i₀ i = Unit
+
+abbrev μ-loop : tie.MeasureT-loop
+μ-loop grammar prefix table rules constructs i₀ i = 256 - i
+
+loop-holds : tie.Need-loop-holds Inv-loop μ-loop
+loop-holds c = tt
+
+field-at-requires : tie.Need-field-at-requires Inv-loop μ-loop
+field-at-requires c κs = search needs
+
+add-i : tie.Need-add-i Inv-loop μ-loop
+add-i c = omega arith
+
+loop-less : tie.Need-loop-less Inv-loop μ-loop
+loop-less c = omega arith
+
+loop-again : tie.Need-loop-again Inv-loop μ-loop
+loop-again c = tt
+
+returns : tie.Need-returns Inv-loop μ-loop
+returns c = search needs
+
+pub fields-spec : {M : Type 1} → statement M
+fields-spec =
+    tie.close
+    (tie.spec Inv-loop μ-loop loop-holds field-at-requires add-i loop-less loop-again returns)

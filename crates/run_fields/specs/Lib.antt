@@ -1,0 +1,2 @@
+-- What a field of a reading is.
+pub mod Fields

@@ -1,0 +1,4 @@
+-- Laws of a run's fields.
+pub mod Widths
+pub mod Filling
+pub mod Told

@@ -1,0 +1,32 @@
+-- The fields of every run that was opened are told.
+-- Assumes nothing.
+use Prim.Native.Nat.{ℕ}
+use mathlib.Core.Path.{_≡_, sym, subst}
+use mathlib.Core.List.{List}
+use Rattle.table_layout.specs.Places.{table-of}
+use Rattle.table_layout.specs.Constructs.{constructAt}
+use Rattle.table_hypotheses.proofs.HeldLocal.{constructs-same}
+use Rattle.table_hypotheses.proofs.LongTables.{table-alike}
+use Rattle.run_steps.specs.Steps.{Whole, whole, steps-of}
+use Rattle.run_grants.specs.Runs.{whole-of, opened-run}
+use Rattle.run_matcher.specs.Opening.{Opened}
+use Rattle.run_matcher.specs.Conditions.{Grant, granted, OthersRefused, run-kept, reading-kept, start, here, Granted}
+use Rattle.run_matcher.proofs.Conditions.{condition-3}
+use Rattle.run_readings.specs.Told.{Filled, no-field, Told, FieldsTold}
+use Rattle.run_readings.proofs.Filling.{Filling, steps-filling, each-told}
+
+module _ (ws fs rs : List ℕ) (o : Opened ws fs rs) (gs : List Grant) (r : OthersRefused ws fs gs (start rs)) where
+  same : (i : ℕ) → constructAt (table-of ws) i ≡ constructAt ws i
+  same i = constructs-same (table-alike ws (o .0 .0)) i
+
+  run-filled : Filled ws fs (reading-kept (here ws fs rs gs)) (run-kept (here ws fs rs gs) .captures) (run-kept (here ws fs rs gs) .position)
+  run-filled =
+      subst (Filling (table-of ws) ws fs same (o .0 .0) (o .1)) (sym (condition-3 ws fs rs o .granting gs r .state))
+      (steps-filling (table-of ws) ws fs same (o .0 .0) (o .1) (granted gs) (whole-of rs opened-run) no-field)
+
+pub fields-told : FieldsTold
+fields-told ws fs rs o gs r =
+    record {
+      filled = run-filled ws fs rs o gs r;
+      not-refused = each-told ws fs (reading-kept (here ws fs rs gs)) (run-filled ws fs rs o gs r);
+    }

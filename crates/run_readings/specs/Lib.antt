@@ -1,0 +1,2 @@
+-- What is told of the fields of a run.
+pub mod Told
