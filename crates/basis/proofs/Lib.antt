@@ -1,4 +1,5 @@
 -- Laws of the definitions in `specs/`.
+pub mod Booleans
 pub mod Values
 pub mod Numbers
 pub mod Joins

@@ -64,7 +64,8 @@ append-value (b ∷ s) n =
     let d : 0 * 2 + digit b ≡ digit b = omega arith in
     append-value s (n * 2 + digit b) ∙ split-digit n (digit b) (2 ^ length s) (value s) ∙ ap₂ _+_ (ap (λ (x : ℕ). n * x) (sym (pow-succ' 2 (length s)))) (sym (e ∙ ap (λ (x : ℕ). x * 2 ^ length s + value s) d))
 
-digit-most : (b : Bool) → digit b ≤ 1
+-- a digit is 0 or 1
+pub digit-most : (b : Bool) → digit b ≤ 1
 digit-most true = omega arith
 digit-most false = omega arith
 

@@ -1,5 +1,4 @@
 // The bench program: reads kiosk.dogma, then frames from standard input, each a line of hexadecimal, and prints the answers (document 01).
-use text_admission::Admission;
 use basis::MAX_FRAME_BITS;
 use basis::MAX_FRAME_BYTES;
 use basis::TABLE_WORDS;
@@ -9,6 +8,7 @@ use libc::STDIN_FILENO;
 use libc::STDOUT_FILENO;
 use run_grants::Run;
 use run_matcher::Answer;
+use text_admission::Admission;
 ghost use mathlib.Core.Path.{_≡_};
 ghost use Prim.Native.Nat.{_+_, _*_, _≤_};
 ghost use lib.ListN.{length};

@@ -9,8 +9,8 @@ use lib.Dec.{ltb}
 use lib.ListN.{length, getD, set, drop, length-drop}
 use lib.Seq.{sets}
 use Rattle.basis.specs.Limits.{max-frame-bytes}
+use Rattle.basis.proofs.Booleans.{picked}
 use Rattle.text_header.proofs.Runs.{next}
-use Rattle.text_header.proofs.Tests.{picked}
 use Rattle.bench_hexadecimal.specs.Lines.{is-frame, line-of, byte-of, bytes-of, max-line}
 use Rattle.bench_hexadecimal.specs.declared.Line.{Line}
 

@@ -1,9 +1,10 @@
 // Admits texts from standard input, each after a line with its length in bytes, and prints what the bench program prints of a grammar, with
 // the window of a clash. Any input is taken: a line without a number counts as 0, and a length past the end as all that is there.
-use text_admission::Admission;
+use basis::TABLE_WORDS;
 use libc::STDIN_FILENO;
 use libc::STDOUT_FILENO;
 use table_conflicts::Clash;
+use text_admission::Admission;
 use text_header::Class;
 
 fn text(bytes: &[u8]) {
@@ -46,12 +47,12 @@ fn show(answer: Admission) {
     text(b"\n");
 }
 
-fn admit(text: &[u8], table: &mut [u32; 16384]) {
+fn admit(text: &[u8], table: &mut [u32; TABLE_WORDS]) {
     show(admission::admit(text, &mut table[..]));
 }
 
 // The text that is the bytes from `start` to `end`, where they are there.
-fn one(bytes: &[u8], start: usize, end: usize, table: &mut [u32; 16384]) {
+fn one(bytes: &[u8], start: usize, end: usize, table: &mut [u32; TABLE_WORDS]) {
     if end < start {
         return;
     }
@@ -88,7 +89,7 @@ fn line_after(bytes: &[u8], at: usize) -> usize {
     bytes.len()
 }
 
-fn all(bytes: &[u8], table: &mut [u32; 16384]) {
+fn all(bytes: &[u8], table: &mut [u32; TABLE_WORDS]) {
     let mut at = 0;
     for _ in 0..400000usize {
         if bytes.len() <= at {
@@ -103,7 +104,7 @@ fn all(bytes: &[u8], table: &mut [u32; 16384]) {
 
 fn main() {
     let mut buffer = [0u8; 400000];
-    let mut table = [0u32; 16384];
+    let mut table = [0u32; TABLE_WORDS];
     let n = io::read_full(STDIN_FILENO, &mut buffer);
     all(&buffer[..n], &mut table);
 }

@@ -2,12 +2,13 @@
 // word changed.
 use crate::printing::number;
 use crate::printing::text;
+use basis::TABLE_WORDS;
 
 // How many words can be one more, and leave the table laid out.
-fn changes(table: &mut [u32; 16384]) -> u64 {
+fn changes(table: &mut [u32; TABLE_WORDS]) -> u64 {
     let mut still: u64 = 0;
     let mut k = 0;
-    while k < 16384 {
+    while k < TABLE_WORDS {
         let w = table[k];
         if changed(table, k, w) {
             still = more(still);
@@ -26,7 +27,7 @@ fn more(n: u64) -> u64 {
 }
 
 // Whether the table is laid out with another word at k.
-fn changed(table: &mut [u32; 16384], k: usize, w: u32) -> bool {
+fn changed(table: &mut [u32; TABLE_WORDS], k: usize, w: u32) -> bool {
     if w < 4294967295 {
         case_tables::put(table, k, w + 1);
     } else {
@@ -35,7 +36,7 @@ fn changed(table: &mut [u32; 16384], k: usize, w: u32) -> bool {
     table_wellformed::laid(&table[..])
 }
 
-fn show(name: &[u8], table: &mut [u32; 16384]) {
+fn show(name: &[u8], table: &mut [u32; TABLE_WORDS]) {
     text(name);
     if table_wellformed::laid(&table[..]) {
         text(b" laid out, still with ");
@@ -48,17 +49,17 @@ fn show(name: &[u8], table: &mut [u32; 16384]) {
 }
 
 pub fn words_changed() {
-    let mut table = [0u32; 16384];
+    let mut table = [0u32; TABLE_WORDS];
     show(b"nothing:", &mut table);
     case_tables::g(&mut table);
     show(b"G:", &mut table);
-    let mut table5 = [0u32; 16384];
+    let mut table5 = [0u32; TABLE_WORDS];
     case_tables::k5(&mut table5);
     show(b"K5:", &mut table5);
-    let mut table6 = [0u32; 16384];
+    let mut table6 = [0u32; TABLE_WORDS];
     case_tables::k6(&mut table6);
     show(b"K6:", &mut table6);
-    let mut table10 = [0u32; 16384];
+    let mut table10 = [0u32; TABLE_WORDS];
     case_tables::k10(&mut table10);
     show(b"K10:", &mut table10);
 }

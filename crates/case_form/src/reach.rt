@@ -1,6 +1,8 @@
 // Rules that reach themselves and weights, over small tables laid out by hand.
 use crate::printing::number;
 use crate::printing::text;
+use basis::MAX_CONSTRUCTS;
+use basis::MAX_RULES;
 use table_reach::Recursion;
 
 fn header(table: &mut [u32; 2624], rules: u32, constructs: u32) {
@@ -9,13 +11,13 @@ fn header(table: &mut [u32; 2624], rules: u32, constructs: u32) {
 }
 
 fn rule(table: &mut [u32; 2624], r: usize, body: u32) {
-    if r < 64 {
+    if r < MAX_RULES {
         table[64 + 4 * r] = body;
     }
 }
 
 fn construct(table: &mut [u32; 2624], i: usize, kind: u32, size: u32, operand: u32) {
-    if i < 256 {
+    if i < MAX_CONSTRUCTS {
         table[576 + 8 * i] = kind;
         table[577 + 8 * i] = size;
         table[578 + 8 * i] = operand;

@@ -1,8 +1,10 @@
 // Runs of the bench sheet's tables over their frames, by grants of 2^64 - 1, of 1, and of 0 and 3 in turn; then saved runs, tables, frames
 // and readings of which each is refused or broken for another reason; then forged runs and tables, which end alike by one grant and by many.
+use crate::opening::LONG_FRAME;
 use crate::printing::number;
 use crate::printing::show_verdict;
 use crate::printing::text;
+use basis::TABLE_WORDS;
 use run_grants::Answer;
 use run_grants::Run;
 
@@ -55,7 +57,7 @@ fn show_run(run: Run, grants: u64, reading: &[u32; 512]) {
 }
 
 fn grant(
-    table: &[u32; 16384],
+    table: &[u32; TABLE_WORDS],
     frame: &[u8],
     reading: &mut [u32; 512],
     run: Run,
@@ -77,7 +79,7 @@ fn in_turn(grants: u64, even: u64, odd: u64) -> u64 {
 }
 
 // A run, by grants of `even` and `odd` in turn until it is decided.
-fn play(table: &[u32; 16384], frame: &[u8], from: Run, even: u64, odd: u64) {
+fn play(table: &[u32; TABLE_WORDS], frame: &[u8], from: Run, even: u64, odd: u64) {
     let mut reading = [0u32; 512];
     let mut run = from;
     let mut grants: u64 = 0;
@@ -92,7 +94,7 @@ fn play(table: &[u32; 16384], frame: &[u8], from: Run, even: u64, odd: u64) {
     show_run(run, grants, &reading);
 }
 
-fn three_ways(name: &[u8], table: &[u32; 16384], frame: &[u8], run: Run) {
+fn three_ways(name: &[u8], table: &[u32; TABLE_WORDS], frame: &[u8], run: Run) {
     text(name);
     text(b"\n");
     play(
@@ -106,27 +108,27 @@ fn three_ways(name: &[u8], table: &[u32; 16384], frame: &[u8], run: Run) {
     play(table, frame, run, 0, 3);
 }
 
-fn row(name: &[u8], table: &[u32; 16384], frame: &[u8]) {
+fn row(name: &[u8], table: &[u32; TABLE_WORDS], frame: &[u8]) {
     three_ways(name, table, frame, run_grants::opened());
 }
 
 fn sheet() {
-    let mut table = [0u32; 16384];
+    let mut table = [0u32; TABLE_WORDS];
     case_tables::g(&mut table);
     row(b"K1 024142", &table, &[2, 65, 66]);
     row(b"K2 0241", &table, &[2, 65]);
     row(b"K3 02414243", &table, &[2, 65, 66, 67]);
     row(b"K4", &table, b"");
-    let mut table6 = [0u32; 16384];
+    let mut table6 = [0u32; TABLE_WORDS];
     case_tables::k6(&mut table6);
     case_tables::k6_sets(&mut table6);
     row(b"K6 12", &table6, &[18]);
     row(b"K7 11", &table6, &[17]);
-    let mut table9 = [0u32; 16384];
+    let mut table9 = [0u32; TABLE_WORDS];
     case_tables::k9(&mut table9);
     row(b"K9 00", &table9, &[0]);
     row(b"K9 01", &table9, &[1]);
-    let mut table10 = [0u32; 16384];
+    let mut table10 = [0u32; TABLE_WORDS];
     case_tables::k10(&mut table10);
     row(b"K10 0141", &table10, &[1, 65]);
     row(b"K10 03", &table10, &[3]);
@@ -146,13 +148,13 @@ fn resumed(name: &[u8], table: &[u32], frame: &[u8], reading: &mut [u32], run: R
 }
 
 // Over a whole table, the frame 024142 and room for its bits.
-fn saved(name: &[u8], table: &[u32; 16384], run: Run) {
+fn saved(name: &[u8], table: &[u32; TABLE_WORDS], run: Run) {
     let mut reading = [0u32; 48];
     resumed(name, &table[..], &[2, 65, 66], &mut reading, run);
 }
 
 fn over_g(name: &[u8], run: Run) {
-    let mut table = [0u32; 16384];
+    let mut table = [0u32; TABLE_WORDS];
     case_tables::g(&mut table);
     saved(name, &table, run);
 }
@@ -169,7 +171,7 @@ fn short_table() {
     );
 }
 
-fn short_reading(table: &[u32; 16384]) {
+fn short_reading(table: &[u32; TABLE_WORDS]) {
     let mut reading = [0u32; 47];
     resumed(
         b"47 words of room for 24 bits",
@@ -180,8 +182,8 @@ fn short_reading(table: &[u32; 16384]) {
     );
 }
 
-fn long_frame(table: &[u32; 16384]) {
-    let frame = [0u8; 257];
+fn long_frame(table: &[u32; TABLE_WORDS]) {
+    let frame = [0u8; LONG_FRAME];
     let mut reading = [0u32; 4112];
     resumed(
         b"257 bytes of frame",
@@ -194,7 +196,7 @@ fn long_frame(table: &[u32; 16384]) {
 
 fn long_frame_short_table() {
     let table = [0u32; 16383];
-    let frame = [0u8; 257];
+    let frame = [0u8; LONG_FRAME];
     let mut reading = [0u32; 48];
     resumed(b"both", &table, &frame, &mut reading, run_grants::opened());
 }
@@ -202,7 +204,7 @@ fn long_frame_short_table() {
 // What is handed in, at its bounds.
 fn bounds() {
     over_g(b"opened", run_grants::opened());
-    let mut table = [0u32; 16384];
+    let mut table = [0u32; TABLE_WORDS];
     case_tables::g(&mut table);
     short_table();
     short_reading(&table);
@@ -265,7 +267,7 @@ fn broken() {
     run.constructs[0] = 2;
     run.values[0] = 4611686018427387905;
     over_g(b"a value past 2^62", run);
-    let mut table = [0u32; 16384];
+    let mut table = [0u32; TABLE_WORDS];
     case_tables::g(&mut table);
     case_tables::put(&mut table, 600, 10);
     saved(b"kind 10", &table, run_grants::opened());
@@ -280,14 +282,14 @@ fn before(i: u32) -> Run {
 
 // A table that counts fewer constructs than one of them has parts: members, a branch, a body, a case.
 fn members_past() {
-    let mut table = [0u32; 16384];
+    let mut table = [0u32; TABLE_WORDS];
     case_tables::g(&mut table);
     case_tables::put(&mut table, 2, 3);
     row(b"3 of 4 constructs, members", &table, &[2, 65, 66]);
 }
 
 fn branch_past() {
-    let mut table = [0u32; 16384];
+    let mut table = [0u32; TABLE_WORDS];
     case_tables::k5(&mut table);
     case_tables::put(&mut table, 2, 2);
     case_tables::put(&mut table, 7818, 2);
@@ -295,7 +297,7 @@ fn branch_past() {
 }
 
 fn body_past() {
-    let mut table = [0u32; 16384];
+    let mut table = [0u32; TABLE_WORDS];
     case_tables::k6(&mut table);
     case_tables::k6_sets(&mut table);
     case_tables::put(&mut table, 2, 2);
@@ -303,7 +305,7 @@ fn body_past() {
 }
 
 fn over_k10(name: &[u8], constructs: u32, terms: u32) {
-    let mut table = [0u32; 16384];
+    let mut table = [0u32; TABLE_WORDS];
     case_tables::k10(&mut table);
     case_tables::put(&mut table, 2, constructs);
     case_tables::put(&mut table, 4, terms);
@@ -319,7 +321,7 @@ fn case_past() {
 
 // Fewer terms and variables than a set, counts and a binder name.
 fn counted_g(name: &[u8], variables: u32, terms: u32) {
-    let mut table = [0u32; 16384];
+    let mut table = [0u32; TABLE_WORDS];
     case_tables::g(&mut table);
     case_tables::put(&mut table, 3, variables);
     case_tables::put(&mut table, 4, terms);
@@ -334,7 +336,7 @@ fn terms_past() {
 
 // A variable that is used and not counted.
 fn use_past() {
-    let mut table = [0u32; 16384];
+    let mut table = [0u32; TABLE_WORDS];
     case_tables::g(&mut table);
     case_tables::put(&mut table, 3, 0);
     three_ways(b"no variable, a use", &table, &[2, 65, 66], before(2));
@@ -342,7 +344,7 @@ fn use_past() {
 
 // A pass more than the frame's bits and one.
 fn passed(name: &[u8], passes: u32) {
-    let mut table = [0u32; 16384];
+    let mut table = [0u32; TABLE_WORDS];
     case_tables::k6(&mut table);
     case_tables::k6_sets(&mut table);
     let mut run = before(1);

@@ -2,8 +2,13 @@
 use crate::printing::number;
 use crate::printing::show_verdict;
 use crate::printing::text;
+use basis::MAX_FRAME_BYTES;
+use basis::TABLE_WORDS;
 use run_grants::Run;
 use run_matcher::Answer;
+
+// A frame of one byte too many.
+pub const LONG_FRAME: usize = MAX_FRAME_BYTES + 1;
 
 fn show_answer(answer: Answer) {
     match answer {
@@ -15,7 +20,7 @@ fn show_answer(answer: Answer) {
 }
 
 // Sets and weight are put in, where the words pass the judgement.
-fn complete(table: &mut [u32; 16384]) {
+fn complete(table: &mut [u32; TABLE_WORDS]) {
     let mut first = [0u64; 2056];
     if table_judge::formed(&table[..]) {
         table_fill::complete(&mut table[..], &mut first);
@@ -50,7 +55,7 @@ fn over(table: &[u32], words: usize, frame: &[u8], reading: &mut [u32], room: us
     play(&table[0..words], frame, &mut reading[0..room]);
 }
 
-fn row(name: &[u8], table: &[u32; 16384], words: usize, frame: &[u8], room: usize) {
+fn row(name: &[u8], table: &[u32; TABLE_WORDS], words: usize, frame: &[u8], room: usize) {
     let mut reading = [0u32; 512];
     text(name);
     text(b": ");
@@ -59,16 +64,34 @@ fn row(name: &[u8], table: &[u32; 16384], words: usize, frame: &[u8], room: usiz
 }
 
 fn sheet_g() {
-    let mut table = [0u32; 16384];
+    let mut table = [0u32; TABLE_WORDS];
     case_tables::g(&mut table);
-    row(b"K1 without its sets", &table, 16384, &[2, 65, 66], 512);
+    row(
+        b"K1 without its sets",
+        &table,
+        TABLE_WORDS,
+        &[2, 65, 66],
+        512,
+    );
     complete(&mut table);
-    row(b"K1 024142", &table, 16384, &[2, 65, 66], 512);
-    row(b"K2 0241", &table, 16384, &[2, 65], 512);
-    row(b"K3 02414243", &table, 16384, &[2, 65, 66, 67], 512);
-    row(b"K4", &table, 16384, b"", 0);
-    row(b"K1, reading of 48 words", &table, 16384, &[2, 65, 66], 48);
-    row(b"K1, reading of 47 words", &table, 16384, &[2, 65, 66], 47);
+    row(b"K1 024142", &table, TABLE_WORDS, &[2, 65, 66], 512);
+    row(b"K2 0241", &table, TABLE_WORDS, &[2, 65], 512);
+    row(b"K3 02414243", &table, TABLE_WORDS, &[2, 65, 66, 67], 512);
+    row(b"K4", &table, TABLE_WORDS, b"", 0);
+    row(
+        b"K1, reading of 48 words",
+        &table,
+        TABLE_WORDS,
+        &[2, 65, 66],
+        48,
+    );
+    row(
+        b"K1, reading of 47 words",
+        &table,
+        TABLE_WORDS,
+        &[2, 65, 66],
+        47,
+    );
     row(
         b"K1, table of 16,383 words",
         &table,
@@ -76,8 +99,8 @@ fn sheet_g() {
         &[2, 65, 66],
         512,
     );
-    let long = [65u8; 257];
-    row(b"frame of 257 bytes", &table, 16384, &long, 0);
+    let long = [65u8; LONG_FRAME];
+    row(b"frame of 257 bytes", &table, TABLE_WORDS, &long, 0);
     row(
         b"frame of 257 bytes, table of 16,383 words",
         &table,
@@ -88,28 +111,28 @@ fn sheet_g() {
 }
 
 fn sheet_5_6() {
-    let mut table = [0u32; 16384];
+    let mut table = [0u32; TABLE_WORDS];
     case_tables::k5(&mut table);
     complete(&mut table);
-    row(b"K5 AB", &table, 16384, b"AB", 512);
-    let mut table6 = [0u32; 16384];
+    row(b"K5 AB", &table, TABLE_WORDS, b"AB", 512);
+    let mut table6 = [0u32; TABLE_WORDS];
     case_tables::k6(&mut table6);
     complete(&mut table6);
-    row(b"K6 12", &table6, 16384, &[18], 512);
-    row(b"K7 11", &table6, 16384, &[17], 512);
+    row(b"K6 12", &table6, TABLE_WORDS, &[18], 512);
+    row(b"K7 11", &table6, TABLE_WORDS, &[17], 512);
 }
 
 fn sheet_9_10() {
-    let mut table = [0u32; 16384];
+    let mut table = [0u32; TABLE_WORDS];
     case_tables::k9(&mut table);
     complete(&mut table);
-    row(b"K9 00", &table, 16384, &[0], 512);
-    row(b"K9 01", &table, 16384, &[1], 512);
-    let mut table10 = [0u32; 16384];
+    row(b"K9 00", &table, TABLE_WORDS, &[0], 512);
+    row(b"K9 01", &table, TABLE_WORDS, &[1], 512);
+    let mut table10 = [0u32; TABLE_WORDS];
     case_tables::k10(&mut table10);
     complete(&mut table10);
-    row(b"K10 0141", &table10, 16384, &[1, 65], 512);
-    row(b"K10 03", &table10, 16384, &[3], 512);
+    row(b"K10 0141", &table10, TABLE_WORDS, &[1, 65], 512);
+    row(b"K10 03", &table10, TABLE_WORDS, &[3], 512);
 }
 
 pub fn openings() {

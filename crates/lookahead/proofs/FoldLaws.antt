@@ -2,7 +2,7 @@
 -- Assumes nothing.
 use Prim.Native.Nat.{ℕ, zero, suc, _+_, _-_, _*_, _/_, _%_, _^_, _≤_, _<_, min, max}
 use mathlib.Core.Path.{_≡_, refl, sym, ap, ap₂, _∙_, subst}
-use mathlib.Core.Bool.{Bool, true, false}
+use mathlib.Core.Bool.{Bool, true, false, _&&_}
 use native.Mathlib.Nat.{mul-le-mul-right, mod-eq-of-lt}
 use native.Mathlib.Decide.{decLt}
 use native.Mathlib.Omega.{arith}
@@ -17,23 +17,19 @@ use Rattle.lookahead.proofs.BitLaws.{bit-lt, bit-or, bit-and, bit-shr, 
 
 -- ---- masks: a test that antt computes at each bit
 
-abbrev both : Bool → Bool → Bool
-both true b = b
-both false b = false
-
 abbrev one-if : Bool → ℕ
 one-if true = 1
 one-if false = 0
 
 abbrev every : (ℕ → Bool) → ℕ → Bool
 every f zero = true
-every f (suc n) = both (f n) (every f n)
+every f (suc n) = f n && every f n
 
 every-at : (f : ℕ → Bool) (n : ℕ) → T (every f n) → (k : ℕ) → k < n → T (f k)
 every-at f zero t k h = absurd (omega arith)
 every-at f (suc n) t k h = go (f n) refl t (λ u. every-at f n u k)
   where
-    go : (b : Bool) → f n ≡ b → T (both b (every f n)) → (T (every f n) → k < n → T (f k)) → T (f k)
+    go : (b : Bool) → f n ≡ b → T (b && every f n) → (T (every f n) → k < n → T (f k)) → T (f k)
     go true e u ih = elim (decLt k n) [
       | yes l ↦ ih u l
       | no l ↦ let q : k ≡ n = omega arith in subst (λ (m : ℕ). T (f m)) (sym q) (subst T (sym e) tt)
@@ -153,20 +149,20 @@ folded w a b c d e r pa pb pc pd pe pr = record {
 
 -- the set bits from h up to 2 h, of the lower 32
 abbrev banded : ℕ → ℕ → Bool
-banded h mask = every (λ k. eqb (mask / 2 ^ k % 2) (one-if (both (leb h k) (ltb k (2 * h))))) 32
+banded h mask = every (λ k. eqb (mask / 2 ^ k % 2) (one-if (leb h k && ltb k (2 * h)))) 32
 
-band-at : (h mask : ℕ) → T (banded h mask) → (k : ℕ) → k < 32 → bit mask k ≡ one-if (both (leb h k) (ltb k (2 * h)))
+band-at : (h mask : ℕ) → T (banded h mask) → (k : ℕ) → k < 32 → bit mask k ≡ one-if (leb h k && ltb k (2 * h))
 unfolding bit
-band-at h mask t k l = eqb→eq _ _ (every-at (λ k. eqb (mask / 2 ^ k % 2) (one-if (both (leb h k) (ltb k (2 * h))))) 32 t k l)
+band-at h mask t k l = eqb→eq _ _ (every-at (λ k. eqb (mask / 2 ^ k % 2) (one-if (leb h k && ltb k (2 * h)))) 32 t k l)
 
 band-in : (h mask : ℕ) → T (banded h mask) → (k : ℕ) → k < 32 → h ≤ k → k < 2 * h → bit mask k ≡ 1
-band-in h mask t k l a b = band-at h mask t k l ∙ ap₂ (λ (x y : Bool). one-if (both x y)) (le-leb h k a) (lt-ltb k (2 * h) b)
+band-in h mask t k l a b = band-at h mask t k l ∙ ap₂ (λ (x y : Bool). one-if (x && y)) (le-leb h k a) (lt-ltb k (2 * h) b)
 
 band-below : (h mask : ℕ) → T (banded h mask) → (k : ℕ) → k < 32 → k < h → bit mask k ≡ 0
-band-below h mask t k l a = band-at h mask t k l ∙ ap (λ (x : Bool). one-if (both x (ltb k (2 * h)))) (lt-leb h k a)
+band-below h mask t k l a = band-at h mask t k l ∙ ap (λ (x : Bool). one-if (x && ltb k (2 * h))) (lt-leb h k a)
 
 band-above : (h mask : ℕ) → T (banded h mask) → (k : ℕ) → k < 32 → h ≤ k → 2 * h ≤ k → bit mask k ≡ 0
-band-above h mask t k l a b = band-at h mask t k l ∙ ap₂ (λ (x y : Bool). one-if (both x y)) (le-leb h k a) (le-ltb k (2 * h) b)
+band-above h mask t k l a b = band-at h mask t k l ∙ ap₂ (λ (x y : Bool). one-if (x && y)) (le-leb h k a) (le-ltb k (2 * h) b)
 
 either-lt : (w k : ℕ) → either w k < 2
 either-lt w k = omega (arith, bit-lt w (2 * k), bit-lt w (2 * k + 1))

@@ -3,9 +3,9 @@
 use Prim.Native.Nat.{ℕ, zero, suc, _+_, _*_, _-_, _^_, _≤_, _<_}
 use native.Mathlib.Omega.{arith}
 use borrow.Author.Tests.{leb-true, ltb-true}
-use mathlib.Core.Path.{_≡_, refl}
-use mathlib.Core.Bool.{Bool, true, false}
-use mathlib.Core.Logic.{_⊎_, inl, inr}
+use mathlib.Core.Path.{_≡_}
+use mathlib.Core.Bool.{Bool, true, false, cond, _&&_}
+use mathlib.Core.Logic.{inl, inr}
 use mathlib.Core.List.{List}
 use lib.Dec.{leb, ltb, eqb}
 use lib.IntN.{ℤ, pos}
@@ -14,26 +14,18 @@ use lib.Pow.{pow-mono}
 use Rattle.basis.specs.Limits.{max-constructs, max-variables, max-width}
 use Rattle.basis.specs.Bits.{value, frameBits}
 use Rattle.basis.proofs.Frames.{value-take-less}
+use Rattle.basis.proofs.Booleans.{both-true, which, picked-true}
 use Rattle.term_evaluation.specs.Meaning.{membership}
 use Rattle.term_evaluation.specs.declared.Counted.{Counted}
 use Rattle.term_evaluation.specs.declared.Tested.{Tested}
 use Rattle.table_layout.specs.Places.{rule-word, rule-count, construct-count}
-use Rattle.table_layout.specs.Constructs.{pick, both, constructAt}
+use Rattle.table_layout.specs.Constructs.{constructAt}
 use Rattle.table_layout.specs.Held.{terms-of, size-of, opening}
 use Rattle.table_layout.specs.declared.Construct.{Construct}
 use Rattle.run_actions.specs.Stored.{stored, prediction-at, follow-at}
-use Rattle.table_layout.proofs.Bounds.{both-first, both-second, Fine, fine}
+use Rattle.table_layout.proofs.Bounds.{Fine, fine}
 use Rattle.run_actions.specs.Acts.{in-table, whole-in-table, terms-in-table, binder-in-table, known-values, enter, open-rule, ahead-at, bits-of, walk, by-branch, branch-act, case-test, by-case, case-act, members-act, by-lookahead, choice-act, turn-act, counted, literal-holds, literal-act, range-act, by-set, bits-act, construct-act, actOf, part-count, Doable}
 use Rattle.run_actions.specs.declared.Act.{Act}
-
--- both tests passed
-pub both-true : (s t : Bool) → both s t ≡ true → (s ≡ true) × (t ≡ true)
-both-true s t e = (both-first s t e, both-second s t e)
-
--- a test, with what it says
-pub decide : (t : Bool) → (t ≡ true) ⊎ (t ≡ false)
-decide true = inl refl
-decide false = inr refl
 
 -- a walk gives what its end, a missing part and each visit give
 module _ {A : Type 0} (P : A → Type 0) (visit : ℕ → A → A) (done broken : A) (ws : List ℕ) (end : ℕ) (d : P done) (b : P broken) (v : (j : ℕ) (rest : A) → j < end → P rest → P (visit j rest)) where
@@ -44,7 +36,7 @@ module _ {A : Type 0} (P : A → Type 0) (visit : ℕ → A → A) (done broken 
   step-keeps : (most j : ℕ) → P (walk visit done broken most ws (j + size-of (constructAt ws j)) end) → P (walk visit done broken (suc most) ws j end)
   unfolding walk
   step-keeps most j h =
-      elim (decide (ltb j end))
+      elim (which (ltb j end))
       [ inl e ↦ rw (e, walk) (v j _ (ltb-true j end e) (either (eqb (size-of (constructAt ws j)) 0) (walk visit done broken most ws (j + size-of (constructAt ws j)) end) h)) | inr e ↦ rw (e, walk) d ]
 
   pub walk-keeps : (most j : ℕ) → P (walk visit done broken most ws j end)
@@ -64,9 +56,9 @@ module _ (ws : List ℕ) (end : ℕ) where
   unfolding walk
   count-few zero j = omega arith
   count-few (suc most) j =
-      elim (decide (ltb j end)) [
+      elim (which (ltb j end)) [
         | inl e ↦
-            elim (decide (eqb (size j) 0))
+            elim (which (eqb (size j) 0))
             [ inl z ↦ rw (e, z, walk) (omega arith) | inr z ↦ rw (e, z, walk) (let h : count-from most (j + size j) ≤ most = count-few most (j + size j) in let g : count-from most (j + size j) + 1 ≤ suc most = omega arith in g) ]
         | inr e ↦ rw (e, walk) (omega arith)
       ]
@@ -77,9 +69,9 @@ module _ (ws : List ℕ) (end : ℕ) where
   unfolding walk
   members-are fs p start zero j m l c few e = (l, omega arith, c, (let z : m ≡ part-count ws start end = omega arith in z))
   members-are fs p start (suc most) j m l c few e =
-      elim (decide (ltb j end)) [
+      elim (which (ltb j end)) [
         | inl t ↦
-            elim (decide (eqb (size j) 0)) [
+            elim (which (eqb (size j) 0)) [
               | inl z ↦ rw (t, z, walk) tt
               | inr z ↦
                   let x : m + (count-from most (j + size j) + 1) ≤ max-constructs = rw (t, z, walk) at few in
@@ -96,14 +88,9 @@ module _ (ws fs : List ℕ) (vs : List ℤ) (p : ℕ) where
   abbrev Good : Act → Type 0
   Good = Doable ws fs p
 
-  -- one of two by a test, with what the test says
-  picked : (t : Bool) (a b : Act) → (t ≡ true → Good a) → Good b → Good (pick t a b)
-  picked true a b h k = h refl
-  picked false a b h k = k
-
   enter-good : (i : ℕ) → Good (enter ws i)
   enter-good i =
-      picked (in-table ws i) (Act.Enter i) Act.Broken
+      picked-true Good (in-table ws i) (Act.Enter i) Act.Broken
       (λ e. let x = both-true (ltb i max-constructs) (ltb i (construct-count ws)) e in (ltb-true i max-constructs (x .0), ltb-true i (construct-count ws) (x .1))) tt
 
   -- parts that end within the table
@@ -147,23 +134,23 @@ module _ (ws fs : List ℕ) (vs : List ℤ) (p : ℕ) where
 
     turn-good : (n k : ℕ) (c : Counted) → Good (turn-act ws n i k c)
     turn-good n k Counted.None = tt
-    turn-good n k (Counted.From low) = picked (ltb k low) (Act.Again (i + 1)) (choice-act ws n i) (λ e. body-good) (choice-good n)
+    turn-good n k (Counted.From low) = picked-true Good (ltb k low) (Act.Again (i + 1)) (choice-act ws n i) (λ e. body-good) (choice-good n)
     turn-good n k (Counted.Within low more) =
-        picked (ltb k low) (Act.Again (i + 1)) (pick (leb (low + more) k) Act.Leave (choice-act ws n i)) (λ e. body-good)
-        (picked (leb (low + more) k) Act.Leave (choice-act ws n i) (λ e. tt) (choice-good n))
+        picked-true Good (ltb k low) (Act.Again (i + 1)) (cond (leb (low + more) k) Act.Leave (choice-act ws n i)) (λ e. body-good)
+        (picked-true Good (leb (low + more) k) Act.Leave (choice-act ws n i) (λ e. tt) (choice-good n))
     turn-good n k Counted.Malformed = tt
     turn-good n k Counted.Overflow = tt
 
   literal-good : (i n : ℕ) → 1 ≤ n → Good (literal-act ws fs p i n)
   literal-good i n some =
-      picked (leb (p + 8 * n) (bits-of fs)) (pick (literal-holds ws fs p i 0 n) (Act.Take (8 * n) 0 0) Act.Fail) Act.Fail
-      (λ e. picked (literal-holds ws fs p i 0 n) (Act.Take (8 * n) 0 0) Act.Fail (λ h. (leb-true (p + 8 * n) (bits-of fs) e, omega arith, omega arith, omega arith)) tt) tt
+      picked-true Good (leb (p + 8 * n) (bits-of fs)) (cond (literal-holds ws fs p i 0 n) (Act.Take (8 * n) 0 0) Act.Fail) Act.Fail
+      (λ e. picked-true Good (literal-holds ws fs p i 0 n) (Act.Take (8 * n) 0 0) Act.Fail (λ h. (leb-true (p + 8 * n) (bits-of fs) e, omega arith, omega arith, omega arith)) tt) tt
 
   range-good : (low high : ℕ) → Good (range-act fs p low high)
   range-good low high =
       let v = value (take 8 (drop p (frameBits fs))) in
-      picked (leb (p + 8) (bits-of fs)) (pick (both (leb low v) (leb v high)) (Act.Take 8 0 0) Act.Fail) Act.Fail
-      (λ e. picked (both (leb low v) (leb v high)) (Act.Take 8 0 0) Act.Fail (λ h. (leb-true (p + 8) (bits-of fs) e, omega arith, omega arith, omega arith)) tt) tt
+      picked-true Good (leb (p + 8) (bits-of fs)) (cond (leb low v && leb v high) (Act.Take 8 0 0) Act.Fail) Act.Fail
+      (λ e. picked-true Good (leb low v && leb v high) (Act.Take 8 0 0) Act.Fail (λ h. (leb-true (p + 8) (bits-of fs) e, omega arith, omega arith, omega arith)) tt) tt
 
   set-good : (t : Tested) (width binder n : ℕ) → p + width ≤ bits-of fs → binder ≤ max-variables → n < 4294967296 → 1 ≤ width → Good (by-set t width binder n)
   set-good Tested.Yes width binder n a b c d = (a, b, c, d)
@@ -175,11 +162,11 @@ module _ (ws fs : List ℕ) (vs : List ℤ) (p : ℕ) where
   uint-good width start end binder l m some =
       let v = value (take width (drop p (frameBits fs))) in
       let small : v < 4294967296 = (let a = value-take-less width (drop p (frameBits fs)) in let z : 2 ^ width ≤ 2 ^ 32 = pow-mono {j = 32} l in omega arith) in
-      picked (leb (p + width) (bits-of fs)) (by-set (membership vs (pos v) start (terms-of ws start end)) width binder v) Act.Fail
+      picked-true Good (leb (p + width) (bits-of fs)) (by-set (membership vs (pos v) start (terms-of ws start end)) width binder v) Act.Fail
       (λ e. set-good (membership vs (pos v) start (terms-of ws start end)) width binder v (leb-true (p + width) (bits-of fs) e) m small some) tt
 
   open-good : (rule : ℕ) → Good (open-rule ws rule)
-  open-good rule = picked (ltb rule (rule-count ws)) (enter ws (rule-word ws rule 0)) Act.Broken (λ e. enter-good (rule-word ws rule 0)) tt
+  open-good rule = picked-true Good (ltb rule (rule-count ws)) (enter ws (rule-word ws rule 0)) Act.Broken (λ e. enter-good (rule-word ws rule 0)) tt
 
   construct-good : (i k : ℕ) (c : Construct) → Fine i c → i + size-of c ≤ construct-count ws → Good (construct-act ws fs vs p i k c)
   construct-good i k Construct.Missing f l = tt
@@ -191,14 +178,14 @@ module _ (ws fs : List ℕ) (vs : List ℤ) (p : ℕ) where
   construct-good i k (Construct.Literal n) f l = literal-good i n (f .1)
   construct-good i k (Construct.Range low high) f l = range-good low high
   construct-good i k (Construct.Uint width start end binder) f l =
-      picked (both (terms-in-table ws end) (binder-in-table ws binder)) (bits-act ws fs vs p width start end binder) Act.Broken (λ e. uint-good width start end binder (f .2) (f .5) (f .1)) tt
-  construct-good i k Construct.Eod f l = picked (eqb p (bits-of fs)) Act.Leave Act.Fail (λ e. tt) tt
+      picked-true Good (terms-in-table ws end && binder-in-table ws binder) (bits-act ws fs vs p width start end binder) Act.Broken (λ e. uint-good width start end binder (f .2) (f .5) (f .1)) tt
+  construct-good i k Construct.Eod f l = picked-true Good (eqb p (bits-of fs)) Act.Leave Act.Fail (λ e. tt) tt
 
 pub doable : (ws fs : List ℕ) (vs : List ℤ) (p i k : ℕ) → Doable ws fs p (actOf ws fs vs p i k)
 unfolding actOf
 doable ws fs vs p i k =
     let us : List ℤ = known-values ws vs in
     let c : Construct = constructAt ws i in
-    picked ws fs us p (eqb i opening) (open-rule ws 0) (pick (whole-in-table ws i) (construct-act ws fs us p i k c) Act.Broken) (λ e. open-good ws fs us p 0)
-    (picked ws fs us p (whole-in-table ws i) (construct-act ws fs us p i k c) Act.Broken
+    picked-true (Good ws fs us p) (eqb i opening) (open-rule ws 0) (cond (whole-in-table ws i) (construct-act ws fs us p i k c) Act.Broken) (λ e. open-good ws fs us p 0)
+    (picked-true (Good ws fs us p) (whole-in-table ws i) (construct-act ws fs us p i k c) Act.Broken
     (λ e. construct-good ws fs us p i k c (fine ws i) (leb-true (i + size-of c) (construct-count ws) e)) tt)

@@ -5,7 +5,7 @@ use native.Mathlib.Omega.{arith}
 use native.Mathlib.Nat.{mod-eq-of-lt}
 use borrow.Author.Tests.{eq-eqb, ne-eqb}
 use mathlib.Core.Path.{_≡_, refl, sym, _∙_, ap, ap₂}
-use mathlib.Core.Bool.{Bool, true, false, _&&_, Bool·beq}
+use mathlib.Core.Bool.{Bool, true, false, _&&_, Bool·beq, and-assoc}
 use mathlib.Core.List.{List, [], _∷_, _++_}
 use lib.ListN.{length, take, drop, length-drop}
 use lib.Seq.{take-add, drop-drop, length-take-le}
@@ -24,10 +24,6 @@ pub ahead-small : (fs : List ℕ) (p : ℕ) → ahead-at fs p < 512
 ahead-small fs p = number-small (lookahead (drop p (frameBits fs))) (lookahead-length (drop p (frameBits fs)))
 
 -- strings of one length, part by part
-and-assoc : (x y z : Bool) → ((x && y) && z) ≡ (x && (y && z))
-and-assoc true y z = refl
-and-assoc false y z = refl
-
 same-append : (a b s t : Bits) → length a ≡ length b → same (a ++ s) (b ++ t) ≡ (same a b && same s t)
 unfolding same
 same-append [] [] s t e = refl

@@ -7,7 +7,7 @@
 -- Assumes nothing.
 use Prim.Native.Nat.{ℕ, zero, suc, _+_, _*_, _-_, _≤_, _<_}
 use mathlib.Core.Path.{_≡_}
-use mathlib.Core.Bool.{Bool, true, false}
+use mathlib.Core.Bool.{Bool, true, false, cond, _&&_}
 use mathlib.Core.List.{List}
 use lib.Dec.{leb, ltb, eqb}
 use lib.IntN.{ℤ, pos}
@@ -20,7 +20,7 @@ use Rattle.term_evaluation.specs.Counts.{counts}
 use Rattle.term_evaluation.specs.declared.Counted.{Counted}
 use Rattle.term_evaluation.specs.declared.Tested.{Tested}
 use Rattle.table_layout.specs.Places.{rule-word, construct-word, rule-count, construct-count, variable-count, term-count}
-use Rattle.table_layout.specs.Constructs.{pick, both, constructAt}
+use Rattle.table_layout.specs.Constructs.{constructAt}
 use Rattle.table_layout.specs.Held.{term-words, terms-of, size-of, literal-bytes, opening}
 use Rattle.table_layout.specs.declared.Construct.{Construct}
 use Rattle.table_layout.specs.declared.Passes.{Passes}
@@ -29,7 +29,7 @@ use Rattle.run_actions.specs.declared.Act.{Act}
 
 -- "An entry isn't in the table": a number past the limit or past the table's count
 abbrev pub in-table : List ℕ → ℕ → Bool
-in-table ws i = both (ltb i max-constructs) (ltb i (construct-count ws))
+in-table ws i = ltb i max-constructs && ltb i (construct-count ws)
 
 -- the whole of a construct is in the table, its parts too: where not, "a table entry missing"
 abbrev pub whole-in-table : List ℕ → ℕ → Bool
@@ -48,11 +48,11 @@ known-values ws vs = take (variable-count ws) vs
 
 -- a construct takes the entry's place
 abbrev pub enter : List ℕ → ℕ → Act
-enter ws i = pick (in-table ws i) (Act.Enter i) Act.Broken
+enter ws i = cond (in-table ws i) (Act.Enter i) Act.Broken
 
 -- a rule's use becomes its body, where there is such a rule
 abbrev pub open-rule : List ℕ → ℕ → Act
-open-rule ws rule = pick (ltb rule (rule-count ws)) (enter ws (rule-word ws rule 0)) Act.Broken
+open-rule ws rule = cond (ltb rule (rule-count ws)) (enter ws (rule-word ws rule 0)) Act.Broken
 
 -- what comes next at a position, by its number
 abbrev pub ahead-at : List ℕ → ℕ → ℕ
@@ -85,8 +85,8 @@ branch-act ws n j end = walk (λ i rest. by-branch (stored ws (prediction-at i) 
 -- the first true case; one without a condition is the default
 abbrev pub case-test : List ℕ → List ℤ → ℕ → Tested
 case-test ws vs j =
-    pick (ltb (construct-word ws j 6) (construct-word ws j 7))
-    (pick (terms-in-table ws (construct-word ws j 7)) (condition vs (construct-word ws j 6) (terms-of ws (construct-word ws j 6) (construct-word ws j 7))) Tested.Malformed)
+    cond (ltb (construct-word ws j 6) (construct-word ws j 7))
+    (cond (terms-in-table ws (construct-word ws j 7)) (condition vs (construct-word ws j 6) (terms-of ws (construct-word ws j 6) (construct-word ws j 7))) Tested.Malformed)
     Tested.Yes
 
 -- a true case is taken; "a calculation past 2^62" and terms against the layout are broken
@@ -119,8 +119,8 @@ choice-act ws n i = by-lookahead (stored ws (prediction-at (i + 1)) n) (stored w
 -- "with no count allowed, no match; else, below its least count, its body and itself again; at or past its greatest, nothing"
 abbrev pub turn-act : List ℕ → ℕ → ℕ → ℕ → Counted → Act
 turn-act ws n i k Counted.None = Act.Fail
-turn-act ws n i k (Counted.From low) = pick (ltb k low) (Act.Again (i + 1)) (choice-act ws n i)
-turn-act ws n i k (Counted.Within low more) = pick (ltb k low) (Act.Again (i + 1)) (pick (leb (low + more) k) Act.Leave (choice-act ws n i))
+turn-act ws n i k (Counted.From low) = cond (ltb k low) (Act.Again (i + 1)) (choice-act ws n i)
+turn-act ws n i k (Counted.Within low more) = cond (ltb k low) (Act.Again (i + 1)) (cond (leb (low + more) k) Act.Leave (choice-act ws n i))
 turn-act ws n i k Counted.Malformed = Act.Broken
 turn-act ws n i k Counted.Overflow = Act.Broken
 
@@ -129,7 +129,7 @@ abbrev pub counted : List ℕ → List ℤ → Passes → Counted
 counted ws vs Passes.Optional = Counted.Within 0 1
 counted ws vs Passes.Any = Counted.From 0
 counted ws vs Passes.Some = Counted.From 1
-counted ws vs (Passes.Counted start end) = pick (terms-in-table ws end) (counts vs (term-words ws) start end) Counted.Malformed
+counted ws vs (Passes.Counted start end) = cond (terms-in-table ws end) (counts vs (term-words ws) start end) Counted.Malformed
 
 -- ---- fields: "no match on a difference or too few bits"
 
@@ -140,13 +140,13 @@ literal-holds ws fs p i k n = same (take (8 * n) (drop (p + 8 * k) (frameBits fs
 -- a literal of n bytes: "no match on a difference or too few bits"
 abbrev pub literal-act : List ℕ → List ℕ → ℕ → ℕ → ℕ → Act
 literal-act ws fs p i n =
-    pick (leb (p + 8 * n) (bits-of fs)) (pick (literal-holds ws fs p i 0 n) (Act.Take (8 * n) 0 0) Act.Fail) Act.Fail
+    cond (leb (p + 8 * n) (bits-of fs)) (cond (literal-holds ws fs p i 0 n) (Act.Take (8 * n) 0 0) Act.Fail) Act.Fail
 
 -- "a range of one-character literals": the next 8 bits are a number from the one character to the other
 abbrev pub range-act : List ℕ → ℕ → ℕ → ℕ → Act
 range-act fs p low high =
-    pick (leb (p + 8) (bits-of fs))
-    (pick (both (leb low (value (take 8 (drop p (frameBits fs))))) (leb (value (take 8 (drop p (frameBits fs)))) high)) (Act.Take 8 0 0) Act.Fail)
+    cond (leb (p + 8) (bits-of fs))
+    (cond (leb low (value (take 8 (drop p (frameBits fs)))) && leb (value (take 8 (drop p (frameBits fs)))) high) (Act.Take 8 0 0) Act.Fail)
     Act.Fail
 
 -- a value that is in the set is taken; "a calculation past 2^62" and terms against the layout are broken
@@ -159,17 +159,17 @@ by-set Tested.Overflow width binder n = Act.Broken
 -- "`uint(width, set)`, …, most significant bit first": so many bits are there, and the number that they are is in the set
 abbrev pub bits-act : List ℕ → List ℕ → List ℤ → ℕ → ℕ → ℕ → ℕ → ℕ → Act
 bits-act ws fs vs p width start end binder =
-    pick (leb (p + width) (bits-of fs))
+    cond (leb (p + width) (bits-of fs))
     (by-set (membership vs (pos (value (take width (drop p (frameBits fs))))) start (terms-of ws start end)) width binder (value (take width (drop p (frameBits fs)))))
     Act.Fail
 
 -- of a uint whose set and variable are in the table
 abbrev pub uint-act : List ℕ → List ℕ → List ℤ → ℕ → ℕ → ℕ → ℕ → ℕ → Act
-uint-act ws fs vs p width start end binder = pick (both (terms-in-table ws end) (binder-in-table ws binder)) (bits-act ws fs vs p width start end binder) Act.Broken
+uint-act ws fs vs p width start end binder = cond (terms-in-table ws end && binder-in-table ws binder) (bits-act ws fs vs p width start end binder) Act.Broken
 
 -- "`eod`, which takes no bits and holds only at the frame's end"
 abbrev pub end-act : List ℕ → ℕ → Act
-end-act fs p = pick (eqb p (bits-of fs)) Act.Leave Act.Fail
+end-act fs p = cond (eqb p (bits-of fs)) Act.Leave Act.Fail
 
 -- ---- all kinds
 
@@ -188,7 +188,7 @@ construct-act ws fs vs p i k Construct.Eod = end-act fs p
 
 -- the opening use of the start rule has a number of its own
 unfoldable pub actOf : List ℕ → List ℕ → List ℤ → ℕ → ℕ → ℕ → Act
-actOf ws fs vs p i k = pick (eqb i opening) (open-rule ws 0) (pick (whole-in-table ws i) (construct-act ws fs (known-values ws vs) p i k (constructAt ws i)) Act.Broken)
+actOf ws fs vs p i k = cond (eqb i opening) (open-rule ws 0) (cond (whole-in-table ws i) (construct-act ws fs (known-values ws vs) p i k (constructAt ws i)) Act.Broken)
 
 -- how many parts stand from number `start` up to number `end`
 abbrev pub part-count : List ℕ → ℕ → ℕ → ℕ

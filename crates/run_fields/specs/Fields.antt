@@ -3,12 +3,13 @@
 -- Assumes nothing.
 use Prim.Native.Nat.{ℕ, _+_, _*_}
 use mathlib.Core.List.{List, [], _∷_}
+use mathlib.Core.Bool.{cond}
 use lib.Dec.{leb, ltb, eqb}
 use lib.ListN.{length, take, drop}
 use Rattle.basis.specs.Limits.{max-width, max-frame-bytes, table-words}
 use Rattle.basis.specs.Bits.{value, frameBits}
 use Rattle.table_layout.specs.Places.{word}
-use Rattle.table_layout.specs.Constructs.{pick, constructAt}
+use Rattle.table_layout.specs.Constructs.{constructAt}
 use Rattle.table_layout.specs.declared.Construct.{Construct}
 use Rattle.run_fields.specs.declared.Answer.{Answer}
 
@@ -28,21 +29,21 @@ field-width Construct.Eod = 0
 
 -- the number that the w bits from bit p on are, "most significant bit first"; 0 for more than 32 bits, which only a literal has
 abbrev pub field-value : List ℕ → (p w : ℕ) → ℕ
-field-value fs p w = pick (leb w max-width) (value (take w (drop p (frameBits fs)))) 0
+field-value fs p w = cond (leb w max-width) (value (take w (drop p (frameBits fs)))) 0
 
 -- a field of construct i with w bits from bit p on
 abbrev pub field-in : List ℕ → (i p w : ℕ) → Answer
-field-in fs i p w = pick (eqb w 0) Answer.NoField (pick (leb (p + w) (8 * length fs)) (Answer.Found i p w (field-value fs p w)) Answer.Outside)
+field-in fs i p w = cond (eqb w 0) Answer.NoField (cond (leb (p + w) (8 * length fs)) (Answer.Found i p w (field-value fs p w)) Answer.Outside)
 
 -- construct i of the table at bit p
 abbrev pub field-at : (ws fs : List ℕ) → (i p : ℕ) → Answer
-field-at ws fs i p = pick (ltb (length ws) table-words) Answer.NoField (field-in fs i p (field-width (constructAt ws i)))
+field-at ws fs i p = cond (ltb (length ws) table-words) Answer.NoField (field-in fs i p (field-width (constructAt ws i)))
 
 -- field k: the words 2k and 2k + 1 of the reading
 abbrev pub field-of : (ws fs rs : List ℕ) → (k : ℕ) → Answer
 field-of ws fs rs k =
-    pick (ltb max-frame-bytes (length fs)) Answer.LongFrame
-    (pick (leb (2 * k + 2) (length rs)) (field-at ws fs (word rs (2 * k)) (word rs (2 * k + 1))) Answer.NoWords)
+    cond (ltb max-frame-bytes (length fs)) Answer.LongFrame
+    (cond (leb (2 * k + 2) (length rs)) (field-at ws fs (word rs (2 * k)) (word rs (2 * k + 1))) Answer.NoWords)
 
 -- document 01's numbers, those that are closest where it has none for a reading: 21 for the frame, 22 for a reading that ends before the two
 -- words, 23 for a table without such a field, 24 for bits outside of the frame

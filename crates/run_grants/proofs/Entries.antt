@@ -6,19 +6,20 @@ use native.Mathlib.Decide.{decLt, ℕ-discrete}
 use borrow.Author.Tests.{leb-true, ltb-true, le-leb, lt-ltb, ne-eqb}
 use mathlib.Core.Path.{_≡_, refl, sym, ap, subst, _∙_}
 use mathlib.Core.Logic.{inl, inr}
-use mathlib.Core.Bool.{Bool, true, false}
+use mathlib.Core.Bool.{true, cond, _&&_}
 use mathlib.Core.List.{List}
 use lib.Dec.{leb, ltb, eqb}
 use lib.IntN.{ℤ}
 use lib.ListN.{length, getD, set, length-set}
 use lib.Seq.{getD-set-same, getD-set-other}
 use Rattle.basis.specs.Limits.{max-constructs, max-entries}
+use Rattle.basis.proofs.Booleans.{both-true, which, picked-true}
 use Rattle.table_layout.specs.Places.{construct-count}
-use Rattle.table_layout.specs.Constructs.{pick, both, constructAt}
+use Rattle.table_layout.specs.Constructs.{constructAt}
 use Rattle.table_layout.specs.Held.{size-of, opening}
 use Rattle.run_actions.specs.Acts.{in-table, bits-of, walk, actOf, part-count, Doable}
 use Rattle.run_actions.specs.declared.Act.{Act}
-use Rattle.run_actions.proofs.Doing.{both-true, decide, doable}
+use Rattle.run_actions.proofs.Doing.{doable}
 use Rattle.run_steps.specs.Steps.{Whole, whole, break, taken, put, placed, members-done, again-done, bind, effect, step-of, steps-of, Fits}
 use Rattle.run_steps.specs.declared.Head.{Head}
 use Rattle.run_steps.proofs.Running.{step-by, step-fits}
@@ -68,9 +69,9 @@ module _ (Q : ℕ → Type 0) where
     unfolding walk
     put-below zero j k xs e room h = λ q l. h q l (λ b. omega arith)
     put-below (suc most) j k xs e room h =
-        elim (decide (ltb j end)) [
+        elim (which (ltb j end)) [
           | inl t ↦
-              elim (decide (eqb (size j) 0)) [
+              elim (which (eqb (size j) 0)) [
                 | inl z ↦
                     let n : k ≡ base + (0 + 1) = rw (t, z, walk) at e in
                     rw (t, z, ne-eqb k 0 (λ y. omega arith), walk) (λ q l. around j k xs (ltb-true j end t) (omega arith) room h q l (λ b. omega arith))
@@ -91,7 +92,7 @@ module _ (Q : ℕ → Type 0) where
 
 -- "an entry isn't in the table or counts more passes than the frame's bits and one": neither
 abbrev pub Known : List ℕ → ℕ → Type 0
-Known ws i = pick (eqb i opening) true (in-table ws i) ≡ true
+Known ws i = cond (eqb i opening) true (in-table ws i) ≡ true
 
 abbrev pub Few : List ℕ → ℕ → Type 0
 Few fs k = k ≤ bits-of fs + 1
@@ -116,16 +117,12 @@ module _ (ws fs : List ℕ) where
   entries-each cs ps (suc n) e =
       let i : ℕ = getD cs n 0 in
       let k : ℕ = getD ps n 0 in
-      let x = both-true (both (leb k (bits-of fs + 1)) (pick (eqb i opening) true (in-table ws i))) (entries-fit ws (bits-of fs) cs ps n) e in
-      let y = both-true (leb k (bits-of fs + 1)) (pick (eqb i opening) true (in-table ws i)) (x .0) in
+      let x = both-true (leb k (bits-of fs + 1) && cond (eqb i opening) true (in-table ws i)) (entries-fit ws (bits-of fs) cs ps n) e in
+      let y = both-true (leb k (bits-of fs + 1)) (cond (eqb i opening) true (in-table ws i)) (x .0) in
       let z = entries-each cs ps n (x .1) in
       (last-below (Known ws) n cs (y .1) (z .0), last-below (Few fs) n ps (leb-true k (bits-of fs + 1) (y .0)) (z .1))
 
   module _ (cs ps : List ℕ) (vs : List ℤ) (rs : List ℕ) (h : Head) (f : Fits fs (whole cs ps vs rs h)) (g : Entries (whole cs ps vs rs h)) (some : 0 < h .count) where
-    picked : (t : Bool) (a b : Whole) → (t ≡ true → Entries a) → Entries b → Entries (pick t a b)
-    picked true a b x y = x refl
-    picked false a b x y = y
-
     -- those after the first entry
     after-first : Entries (whole cs ps vs rs (taken fs h (h .count - 1) (h .position) (h .captures)))
     after-first = ((λ q l. g .0 q (omega arith)), (λ q l. g .1 q (omega arith)))
@@ -139,7 +136,7 @@ module _ (ws fs : List ℕ) where
     members-entries : (start end n : ℕ) → Doable ws fs (h .position) (Act.Members start end n) → Entries (members-done ws fs cs ps vs rs h start end n)
     members-entries start end n d =
         let at : ℕ = h .count - 1 + n in
-        picked (leb (h .count + n) (max-entries + 1))
+        picked-true Entries (leb (h .count + n) (max-entries + 1))
         (whole (placed (λ j. j) ws start end at cs) (placed (λ j. 0) ws start end at ps) vs rs (taken fs h at (h .position) (h .captures)))
         (whole cs ps vs rs (break h))
         (λ e.
@@ -155,7 +152,7 @@ module _ (ws fs : List ℕ) where
     again-entries b z =
         let k : ℕ = getD ps (h .count - 1) 0 in
         let ps′ : List ℕ = set ps (h .count - 1) (k + 1) in
-        picked (both (ltb (h .count) max-entries) (ltb k (bits-of fs + 1)))
+        picked-true Entries (ltb (h .count) max-entries && ltb k (bits-of fs + 1))
         (whole (set cs (h .count) b) (set ps′ (h .count) 0) vs rs (taken fs h (h .count + 1) (h .position) (h .captures)))
         (whole cs ps vs rs (break h))
         (λ e.
@@ -178,7 +175,7 @@ module _ (ws fs : List ℕ) where
     effect-entries (Act.Take width binder n) d =
         let c : ℕ = h .captures in
         let i : ℕ = getD cs (h .count - 1) 0 in
-        picked (leb (2 * c + 2) (length rs))
+        picked-true Entries (leb (2 * c + 2) (length rs))
         (whole cs ps (bind binder n vs) (set (set rs (2 * c) i) (2 * c + 1) (h .position)) (taken fs h (h .count - 1) (h .position + width) (c + 1)))
         (whole cs ps vs rs (break h)) (λ e. after-first) g
 

@@ -4,25 +4,24 @@ use Prim.Native.Nat.{ℕ, zero, suc, _+_, _*_, _-_, _/_, _≤_, _<_}
 use native.Mathlib.Omega.{arith}
 use borrow.Author.Tests.{leb-true, leb-false, le-leb, lt-leb}
 use mathlib.Core.Path.{_≡_, refl, sym, ap, _∙_}
-use mathlib.Core.Bool.{Bool, true, false}
+use mathlib.Core.Bool.{Bool, true, false, _&&_}
 use mathlib.Core.List.{List}
 use lib.Dec.{leb}
 use lib.IntN.{ℤ}
 use lib.ListN.{length, getD}
 use Rattle.basis.specs.Limits.{table-words, max-entries}
-use Rattle.table_layout.specs.Constructs.{both}
+use Rattle.basis.proofs.Booleans.{both-true}
 use Rattle.run_actions.specs.Acts.{bits-of}
-use Rattle.run_actions.proofs.Doing.{both-true}
 use Rattle.run_steps.specs.Steps.{whole, Fits}
 use Rattle.run_steps.specs.declared.Head.{Head}
 use Rattle.run_grants.specs.Runs.{entry-fits, entries-fit, fitting}
 
 module _ (ws : List ℕ) (bits : ℕ) (cs ps : List ℕ) where
   -- the last of those left
-  pub entries-next : (n : ℕ) → 0 < n → entries-fit ws bits cs ps n ≡ both (entry-fits ws bits (getD cs (n - 1) 0) (getD ps (n - 1) 0)) (entries-fit ws bits cs ps (n - 1))
+  pub entries-next : (n : ℕ) → 0 < n → entries-fit ws bits cs ps n ≡ (entry-fits ws bits (getD cs (n - 1) 0) (getD ps (n - 1) 0) && entries-fit ws bits cs ps (n - 1))
   unfolding entries-fit
   entries-next zero l = absurd (omega arith)
-  entries-next (suc n) l = ap (λ (k : ℕ). both (entry-fits ws bits (getD cs k 0) (getD ps k 0)) (entries-fit ws bits cs ps k)) (let z : n ≡ suc n - 1 = omega arith in z)
+  entries-next (suc n) l = ap (λ (k : ℕ). entry-fits ws bits (getD cs k 0) (getD ps k 0) && entries-fit ws bits cs ps k) (let z : n ≡ suc n - 1 = omega arith in z)
 
   pub entries-none : (n : ℕ) → n ≡ 0 → entries-fit ws bits cs ps n ≡ true
   unfolding entries-fit
@@ -30,10 +29,10 @@ module _ (ws : List ℕ) (bits : ℕ) (cs ps : List ℕ) where
   entries-none (suc n) e = absurd (omega arith)
 
   pub entries-turn : (n : ℕ) → 0 < n → entry-fits ws bits (getD cs (n - 1) 0) (getD ps (n - 1) 0) ≡ true → entries-fit ws bits cs ps (n - 1) ≡ entries-fit ws bits cs ps n
-  entries-turn n l h = sym (entries-next n l ∙ ap (λ (t : Bool). both t (entries-fit ws bits cs ps (n - 1))) h)
+  entries-turn n l h = sym (entries-next n l ∙ ap (λ (t : Bool). t && entries-fit ws bits cs ps (n - 1)) h)
 
   pub entries-stop : (n : ℕ) → 0 < n → entry-fits ws bits (getD cs (n - 1) 0) (getD ps (n - 1) 0) ≡ false → entries-fit ws bits cs ps n ≡ false
-  entries-stop n l h = entries-next n l ∙ ap (λ (t : Bool). both t (entries-fit ws bits cs ps (n - 1))) h
+  entries-stop n l h = entries-next n l ∙ ap (λ (t : Bool). t && entries-fit ws bits cs ps (n - 1)) h
 
 -- two tests that hold together
 leb-same : (a b c d : ℕ) → (a ≤ b → c ≤ d) → (c ≤ d → a ≤ b) → leb a b ≡ leb c d
@@ -68,10 +67,10 @@ module _ (ws fs : List ℕ) (room : ℕ) (cs ps : List ℕ) (h : Head) where
   fitting-rest e =
       let all : Bool = entries-fit ws (bits-of fs) cs ps (h .count) in
       let last : Bool = leb (2 * (h .captures + (bits-of fs - h .position))) room in
-      let a = both-true (leb table-words (length ws)) (both (leb (h .position) (bits-of fs)) (both (leb (h .verdict) 4) (both (leb (h .count) max-entries) (both all last)))) e in
-      let b = both-true (leb (h .position) (bits-of fs)) (both (leb (h .verdict) 4) (both (leb (h .count) max-entries) (both all last))) (a .1) in
-      let v = both-true (leb (h .verdict) 4) (both (leb (h .count) max-entries) (both all last)) (b .1) in
-      let n = both-true (leb (h .count) max-entries) (both all last) (v .1) in
+      let a = both-true (leb table-words (length ws)) (leb (h .position) (bits-of fs) && (leb (h .verdict) 4 && (leb (h .count) max-entries && (all && last)))) e in
+      let b = both-true (leb (h .position) (bits-of fs)) (leb (h .verdict) 4 && (leb (h .count) max-entries && (all && last))) (a .1) in
+      let v = both-true (leb (h .verdict) 4) (leb (h .count) max-entries && (all && last)) (b .1) in
+      let n = both-true (leb (h .count) max-entries) (all && last) (v .1) in
       record {
         table = leb-true table-words (length ws) (a .0);
         position = leb-true (h .position) (bits-of fs) (b .0);
@@ -85,7 +84,7 @@ module _ (ws fs : List ℕ) (room : ℕ) (cs ps : List ℕ) (h : Head) where
   unfolding fitting
   rest-fitting r = simp (le-leb _ _ (r .table), le-leb _ _ (r .position), le-leb _ _ (r .verdict), le-leb _ _ (r .count), le-leb _ _ (r .roomy)) (both-last (entries-fit ws (bits-of fs) cs ps (h .count)))
     where
-      both-last : (t : Bool) → both t true ≡ t
+      both-last : (t : Bool) → (t && true) ≡ t
       both-last true = refl
       both-last false = refl
 

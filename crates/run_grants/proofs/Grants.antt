@@ -4,12 +4,11 @@ use Prim.Native.Nat.{ℕ, zero, suc, _+_, _*_, _-_, _≤_}
 use native.Mathlib.Omega.{arith}
 use borrow.Author.Tests.{le-leb}
 use mathlib.Core.Path.{_≡_, refl, sym, ap, ap₂, subst, _∙_}
-use mathlib.Core.Bool.{Bool, true, false}
+use mathlib.Core.Bool.{Bool, true, false, cond, _&&_}
 use mathlib.Core.List.{List}
 use lib.Dec.{leb}
 use lib.ListN.{length}
 use Rattle.basis.specs.Limits.{table-words, max-frame-bytes}
-use Rattle.table_layout.specs.Constructs.{pick, both}
 use Rattle.run_actions.specs.Acts.{bits-of}
 use Rattle.run_steps.specs.Steps.{Whole, whole, step-of, steps-of}
 use Rattle.run_steps.proofs.Running.{steps-stay, steps-none}
@@ -39,7 +38,7 @@ run-alike a b (whole cs ps vs rs h) = refl
 reading-alike : (a b : ℕ) (w : Whole) → reading-in (after-steps a w) ≡ reading-in (after-steps b w)
 reading-alike a b (whole cs ps vs rs h) = refl
 
-none-refused : (s t : Bool) → _≡_ {A = ℕ} (pick s (pick t 0 24) 21) 0 → (s ≡ true) × (t ≡ true)
+none-refused : (s t : Bool) → _≡_ {A = ℕ} (cond s (cond t 0 24) 21) 0 → (s ≡ true) × (t ≡ true)
 none-refused true true e = (refl, refl)
 none-refused true false e = absurd (omega arith)
 none-refused false t e = absurd (omega arith)
@@ -53,7 +52,7 @@ module _ (ws fs : List ℕ) where
   unfolding grant-of
   refusal-told rs run n = by (leb (length fs) max-frame-bytes) (fit rs run) (steps-of ws fs n (whole-of rs run))
     where
-      by : (s t : Bool) (w : Whole) → number-of (answer-in (pick s (pick t (after-steps (run .steps) w) (after run rs Answer.Unfit)) (after run rs Answer.LongFrame))) ≡ pick s (pick t 0 24) 21
+      by : (s t : Bool) (w : Whole) → number-of (answer-in (cond s (cond t (after-steps (run .steps) w) (after run rs Answer.Unfit)) (after run rs Answer.LongFrame))) ≡ cond s (cond t 0 24) 21
       by true true (whole cs ps vs zs h) = refl
       by true false w = refl
       by false t w = refl
@@ -63,7 +62,7 @@ module _ (ws fs : List ℕ) where
   unfolding grant-of
   refused rs run n h = by (leb (length fs) max-frame-bytes) (fit rs run) (after-steps (run .steps) (steps-of ws fs n (whole-of rs run))) h
     where
-      by : (s t : Bool) (x : After) → (_≡_ {A = ℕ} (pick s (pick t 0 24) 21) 0 → ⊥) → Unchanged run rs (pick s (pick t x (after run rs Answer.Unfit)) (after run rs Answer.LongFrame))
+      by : (s t : Bool) (x : After) → (_≡_ {A = ℕ} (cond s (cond t 0 24) 21) 0 → ⊥) → Unchanged run rs (cond s (cond t x (after run rs Answer.Unfit)) (after run rs Answer.LongFrame))
       by true true x k = absurd (k refl)
       by true false x k = (refl, refl, refl)
       by false t x k = (refl, refl, refl)
@@ -97,7 +96,7 @@ module _ (ws fs : List ℕ) where
   unfolding entries-fit
   opened-fits rs table frame room =
       let k : Rest ws fs (length rs) (head-of opened-run) = record { table = table; position = omega arith; verdict = omega arith; count = omega arith; roomy = omega arith } in
-      let all : fit rs opened-run ≡ true = rest-fitting ws fs (length rs) (opened-run .constructs) (opened-run .passes) (head-of opened-run) k ∙ ap (λ (t : Bool). both (both t true) true) (le-leb 0 (bits-of fs + 1) (omega arith)) in
+      let all : fit rs opened-run ≡ true = rest-fitting ws fs (length rs) (opened-run .constructs) (opened-run .passes) (head-of opened-run) k ∙ ap (λ (t : Bool). (t && true) && true) (le-leb 0 (bits-of fs + 1) (omega arith)) in
       simp (le-leb _ _ frame, all)
 
   -- a grant of one is a step

@@ -4,13 +4,12 @@
 use Prim.Native.Nat.{ℕ, zero, suc, _+_, _*_, _-_, _≤_}
 use native.Mathlib.Omega.{arith}
 use mathlib.Core.Path.{_≡_, refl, sym, _∙_}
-use mathlib.Core.Bool.{Bool, true, false}
+use mathlib.Core.Bool.{Bool, true, false, cond}
 use mathlib.Core.List.{List}
 use lib.Dec.{eqb}
 use lib.IntN.{ℤ}
 use lib.ListN.{length, set, length-set}
 use Rattle.basis.specs.Limits.{table-words}
-use Rattle.table_layout.specs.Constructs.{pick}
 use Rattle.run_actions.specs.Acts.{bits-of}
 use Rattle.run_steps.specs.Steps.{Whole, whole, verdict-after, step-of, steps-of, Fits}
 use Rattle.run_steps.proofs.Running.{steps-fit}
@@ -29,7 +28,7 @@ module _ (ws fs : List ℕ) (most : ℕ) where
   known : (count position : ℕ) → verdict-after fs count position ≤ 4
   known count position = by (eqb count 0) (eqb position (bits-of fs))
     where
-      by : (s t : Bool) → pick s (pick t 1 2) 0 ≤ 4
+      by : (s t : Bool) → cond s (cond t 1 2) 0 ≤ 4
       by true true = omega arith
       by true false = omega arith
       by false t = omega arith

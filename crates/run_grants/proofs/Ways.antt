@@ -1,13 +1,13 @@
 -- What holds after a step, from what holds after each thing that a step may do.
 -- Assumes nothing.
 use Prim.Native.Nat.{ℕ, _+_, _*_, _-_, _≤_}
-use mathlib.Core.Bool.{Bool, true, false}
+use mathlib.Core.Bool.{_&&_}
 use mathlib.Core.List.{List}
 use lib.Dec.{leb, ltb}
 use lib.IntN.{ℤ}
 use lib.ListN.{length, getD, set}
 use Rattle.basis.specs.Limits.{max-entries}
-use Rattle.table_layout.specs.Constructs.{pick, both}
+use Rattle.basis.proofs.Booleans.{picked-true}
 use Rattle.run_actions.specs.Acts.{actOf, bits-of, Doable}
 use Rattle.run_actions.specs.declared.Act.{Act}
 use Rattle.run_actions.proofs.Doing.{doable}
@@ -25,10 +25,6 @@ module _ (fs : List ℕ) (P : Whole → Type 0) (cs ps : List ℕ) (vs : List �
     pub took : (i width binder n : ℕ) → h .position + width ≤ bits-of fs → 1 ≤ width
         → P (whole cs ps (bind binder n vs) (set (set rs (2 * h .captures) i) (2 * h .captures + 1) (h .position)) (taken fs h (h .count - 1) (h .position + width) (h .captures + 1)))
 
-  picked : (t : Bool) (a b : Whole) → P a → P b → P (pick t a b)
-  picked true a b x y = x
-  picked false a b x y = y
-
   module _ (w : Ways) (ws : List ℕ) where
     effected : (i k : ℕ) (a : Act) → Doable ws fs (h .position) a → P (effect ws fs i k cs ps vs rs h a)
     effected i k Act.Broken d = w .broke
@@ -38,16 +34,16 @@ module _ (fs : List ℕ) (P : Whole → Type 0) (cs ps : List ℕ) (vs : List �
         let at : ℕ = h .count - 1 + n in
         let cs′ : List ℕ = placed (λ j. j) ws start end at cs in
         let ps′ : List ℕ = placed (λ j. 0) ws start end at ps in
-        picked (leb (h .count + n) (max-entries + 1)) (whole cs′ ps′ vs rs (taken fs h at (h .position) (h .captures))) (whole cs ps vs rs (break h)) (w .moved cs′ ps′ at) (w .broke)
+        picked-true P (leb (h .count + n) (max-entries + 1)) (whole cs′ ps′ vs rs (taken fs h at (h .position) (h .captures))) (whole cs ps vs rs (break h)) (λ e. w .moved cs′ ps′ at) (w .broke)
     effected i k (Act.Again b) d =
         let cs′ : List ℕ = set cs (h .count) b in
         let ps′ : List ℕ = set (set ps (h .count - 1) (k + 1)) (h .count) 0 in
-        picked (both (ltb (h .count) max-entries) (ltb k (bits-of fs + 1))) (whole cs′ ps′ vs rs (taken fs h (h .count + 1) (h .position) (h .captures))) (whole cs ps vs rs (break h)) (w .moved cs′ ps′ (h .count + 1)) (w .broke)
+        picked-true P (ltb (h .count) max-entries && ltb k (bits-of fs + 1)) (whole cs′ ps′ vs rs (taken fs h (h .count + 1) (h .position) (h .captures))) (whole cs ps vs rs (break h)) (λ e. w .moved cs′ ps′ (h .count + 1)) (w .broke)
     effected i k Act.Leave d = w .moved cs ps (h .count - 1)
     effected i k (Act.Take width binder n) d =
-        picked (leb (2 * h .captures + 2) (length rs))
+        picked-true P (leb (2 * h .captures + 2) (length rs))
         (whole cs ps (bind binder n vs) (set (set rs (2 * h .captures) i) (2 * h .captures + 1) (h .position)) (taken fs h (h .count - 1) (h .position + width) (h .captures + 1)))
-        (whole cs ps vs rs (break h)) (w .took i width binder n (d .0) (d .3)) (w .broke)
+        (whole cs ps vs rs (break h)) (λ e. w .took i width binder n (d .0) (d .3)) (w .broke)
 
     pub stepped : P (step-of ws fs (whole cs ps vs rs h))
     stepped =

@@ -1,14 +1,13 @@
 -- Runs by value and grants of steps over any words.
 -- Assumes nothing.
 use Prim.Native.Nat.{ℕ, zero, suc, _+_, _*_, _-_}
-use mathlib.Core.Bool.{Bool, true}
+use mathlib.Core.Bool.{Bool, true, cond, _&&_}
 use mathlib.Core.List.{List}
 use lib.Dec.{leb, eqb}
 use lib.IntN.{ℤ, pos}
 use lib.ListN.{length, getD, set, replicate}
 use Rattle.table_layout.specs.Held.{opening}
 use Rattle.basis.specs.Limits.{max-variables, max-frame-bytes, max-entries}
-use Rattle.table_layout.specs.Constructs.{pick, both}
 use Rattle.table_layout.specs.Places.{table-words}
 use Rattle.run_actions.specs.Acts.{bits-of, in-table}
 use Rattle.run_steps.specs.Steps.{Whole, whole, undecided, closed, broken, steps-of}
@@ -39,28 +38,28 @@ closed-run = record { position = 0; count = 0; captures = 0; steps = 0; verdict 
 
 -- "an entry isn't in the table or counts more passes than the frame's bits and one"; the opening use of the start rule is in every table
 abbrev pub entry-fits : List ℕ → ℕ → ℕ → ℕ → Bool
-entry-fits ws bits i k = both (leb k (bits + 1)) (pick (eqb i opening) true (in-table ws i))
+entry-fits ws bits i k = leb k (bits + 1) && cond (eqb i opening) true (in-table ws i)
 
 -- every pending entry
 unfoldable pub entries-fit : List ℕ → ℕ → List ℕ → List ℕ → ℕ → Bool
 entries-fit ws bits cs ps zero = true
-entries-fit ws bits cs ps (suc n) = both (entry-fits ws bits (getD cs n 0) (getD ps n 0)) (entries-fit ws bits cs ps n)
+entries-fit ws bits cs ps (suc n) = entry-fits ws bits (getD cs n 0) (getD ps n 0) && entries-fit ws bits cs ps n
 
 -- not 24, which is "given exactly when the table is shorter than 16,384 words, the position is past the frame, the verdict is none of
 -- undecided, match, no match, closed and broken, an entry isn't in the table or counts more passes than the frame's bits and one, the list
 -- is longer than 256, or room is under two words for each field recorded and bit unread"
 unfoldable pub fitting : List ℕ → List ℕ → ℕ → List ℕ → List ℕ → Head → Bool
 fitting ws fs room cs ps h =
-    both (leb table-words (length ws))
-    (both (leb (h .position) (bits-of fs))
-    (both (leb (h .verdict) broken)
-    (both (leb (h .count) max-entries)
-    (both (entries-fit ws (bits-of fs) cs ps (h .count))
-    (leb (2 * (h .captures + (bits-of fs - h .position))) room)))))
+    leb table-words (length ws)
+    && (leb (h .position) (bits-of fs)
+    && (leb (h .verdict) broken
+    && (leb (h .count) max-entries
+    && (entries-fit ws (bits-of fs) cs ps (h .count)
+    && leb (2 * (h .captures + (bits-of fs - h .position))) room))))
 
 -- "it tries 21, then 24": one of three
 abbrev pub tries : {A : Type 0} → List ℕ → List ℕ → List ℕ → Run → A → A → A → A
-tries ws fs rs run long unfit granted = pick (leb (length fs) max-frame-bytes) (pick (fitting ws fs (length rs) (run .constructs) (run .passes) (head-of run)) granted unfit) long
+tries ws fs rs run long unfit granted = cond (leb (length fs) max-frame-bytes) (cond (fitting ws fs (length rs) (run .constructs) (run .passes) (head-of run)) granted unfit) long
 
 -- the number with which a grant is refused; 0 where it is not
 abbrev pub refusal-of : List ℕ → List ℕ → List ℕ → Run → ℕ

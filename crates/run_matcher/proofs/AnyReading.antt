@@ -5,7 +5,7 @@ use native.Mathlib.Omega.{arith}
 use native.Mathlib.Decide.{decLt}
 use borrow.Author.Tests.{le-leb}
 use mathlib.Core.Path.{_≡_, refl, sym, ap, subst, _∙_}
-use mathlib.Core.Bool.{Bool, true, false}
+use mathlib.Core.Bool.{Bool, true, false, cond, _&&_}
 use mathlib.Core.List.{List, [], _∷_}
 use lib.Dec.{leb, ltb, eqb}
 use lib.IntN.{ℤ}
@@ -13,7 +13,6 @@ use lib.ListN.{length, getD}
 use Rattle.table_layout.specs.Held.{opening}
 use Rattle.basis.specs.Limits.{max-frame-bytes, max-entries}
 use Rattle.table_layout.specs.Places.{table-of}
-use Rattle.table_layout.specs.Constructs.{pick, both}
 use Rattle.run_actions.specs.Acts.{bits-of, actOf, Doable}
 use Rattle.run_actions.specs.declared.Act.{Act}
 use Rattle.run_actions.proofs.Doing.{doable}
@@ -43,7 +42,7 @@ over-over rs zs (whole cs ps vs ys h) = refl
 abbrev Alike : Whole → Whole → Type 0
 Alike a b = over [] a ≡ over [] b
 
-picked : (t : Bool) (a b a′ b′ : Whole) → Alike a a′ → Alike b b′ → Alike (pick t a b) (pick t a′ b′)
+picked : (t : Bool) (a b a′ b′ : Whole) → Alike a a′ → Alike b b′ → Alike (cond t a b) (cond t a′ b′)
 picked true a b a′ b′ x y = x
 picked false a b a′ b′ x y = y
 
@@ -58,7 +57,7 @@ module _ (ws fs cs ps : List ℕ) (vs : List ℤ) (h : Head) (rs rs′ : List �
   effect-alike r r′ i k Act.Fail d = refl
   effect-alike r r′ i k (Act.Enter b) d = refl
   effect-alike r r′ i k (Act.Members start end n) d = picked (leb (h .count + n) (max-entries + 1)) _ _ _ _ refl refl
-  effect-alike r r′ i k (Act.Again b) d = picked (both (ltb (h .count) max-entries) (ltb k (bits-of fs + 1))) _ _ _ _ refl refl
+  effect-alike r r′ i k (Act.Again b) d = picked (ltb (h .count) max-entries && ltb k (bits-of fs + 1)) _ _ _ _ refl refl
   effect-alike r r′ i k Act.Leave d = refl
   effect-alike r r′ i k (Act.Take width binder n) d =
       rw (le-leb (2 * h .captures + 2) (length rs) (omega (arith, d .0, d .3)), le-leb (2 * h .captures + 2) (length rs′) (omega (arith, d .0, d .3))) refl
@@ -93,12 +92,12 @@ module _ (ws fs : List ℕ) where
 abbrev room-for : List ℕ → Run → ℕ
 room-for fs run = 2 * (run .captures + (bits-of fs - run .position))
 
-none-refused : (s t : Bool) → _≡_ {A = ℕ} (pick s (pick t 0 24) 21) 0 → t ≡ true
+none-refused : (s t : Bool) → _≡_ {A = ℕ} (cond s (cond t 0 24) 21) 0 → t ≡ true
 none-refused true true e = refl
 none-refused true false e = absurd (omega arith)
 none-refused false t e = absurd (omega arith)
 
-refused-or-not : (t : Bool) → (_≡_ {A = ℕ} (pick t 0 24) 0 → ⊥) → _≡_ {A = ℕ} (pick t 0 24) 24
+refused-or-not : (t : Bool) → (_≡_ {A = ℕ} (cond t 0 24) 0 → ⊥) → _≡_ {A = ℕ} (cond t 0 24) 24
 refused-or-not true h = absurd (h refl)
 refused-or-not false h = refl
 
@@ -158,8 +157,8 @@ module _ (ws fs rs : List ℕ) (o : Opened ws fs rs) where
     refused-24 l =
         let q : leb (length fs) max-frame-bytes ≡ true = le-leb (length fs) max-frame-bytes (o .1) in
         let f : Bool = fitting t fs (length zs) (run .constructs) (run .passes) (head-of run) in
-        ap (λ (s : Bool). pick s (pick f 0 24) 21) q
-        ∙ refused-or-not f (λ z. (let r : room-for fs run ≤ length zs = room-there (ap (λ (s : Bool). pick s (pick f 0 24) 21) q ∙ z) in omega arith))
+        ap (λ (s : Bool). cond s (cond f 0 24) 21) q
+        ∙ refused-or-not f (λ z. (let r : room-for fs run ≤ length zs = room-there (ap (λ (s : Bool). cond s (cond f 0 24) 21) q ∙ z) in omega arith))
 
     -- where it has room, the steps are those of the run's own reading
     steps-same : (n : ℕ) → room-for fs run ≤ length zs → Alike (steps-of t fs n (whole-of zs run)) (at ws fs rs o (m + n))

@@ -5,7 +5,7 @@ use native.Mathlib.Omega.{arith}
 use borrow.Author.Tests.{le-leb, lt-ltb, eq-eqb}
 use mathlib.Core.Path.{_≡_, refl, sym, subst, _∙_}
 use mathlib.Core.Logic.{_↔_, inl, inr}
-use mathlib.Core.Bool.{Bool, true, false}
+use mathlib.Core.Bool.{Bool, true, false, cond}
 use mathlib.Core.List.{List, _++_}
 use lib.Dec.{eqb}
 use lib.ListN.{length, getD, replicate, drop, length-set, length-replicate}
@@ -17,7 +17,6 @@ use Rattle.theory.specs.Machine.{tree-steps, opened, granted}
 use Rattle.theory.specs.Scope.{localised}
 use Rattle.theory.specs.Theorems.{Derivable}
 use Rattle.table_layout.specs.Places.{table-words, table-of, construct-count, weight-of}
-use Rattle.table_layout.specs.Constructs.{pick}
 use Rattle.table_layout.specs.Held.{Context, Values, opening, held}
 use Rattle.table_scope.specs.Scope.{store, scope-of, fresh}
 use Rattle.table_weights.proofs.Heights.{weight-at}
@@ -44,12 +43,12 @@ use Rattle.run_matcher.specs.Opening.{Opened}
 -- ---- what fits passes 21 and 24
 
 -- no more constructs are counted than there may be
-in-table-true : (ws : List ℕ) (i : ℕ) → construct-count ws ≤ max-constructs → InTable ws i → pick (eqb i opening) true (in-table ws i) ≡ true
+in-table-true : (ws : List ℕ) (i : ℕ) → construct-count ws ≤ max-constructs → InTable ws i → cond (eqb i opening) true (in-table ws i) ≡ true
 in-table-true ws i few (inl e) = rw (eq-eqb i opening e) refl
 in-table-true ws i few (inr l) =
     rw (lt-ltb i (construct-count ws) l, lt-ltb i max-constructs (let z : i < max-constructs = omega arith in z)) (by (eqb i opening))
   where
-    by : (t : Bool) → pick t true true ≡ true
+    by : (t : Bool) → cond t true true ≡ true
     by true = refl
     by false = refl
 

@@ -3,8 +3,8 @@
 use Prim.Native.Nat.{ℕ, zero, suc, _+_, _≤_}
 use native.Mathlib.Omega.{arith}
 use borrow.Author.Tests.{ltb-false, leb-false}
-use mathlib.Core.Path.{_≡_, refl, sym, ap, ap₂, _∙_}
-use mathlib.Core.Logic.{_↔_, inl, inr}
+use mathlib.Core.Path.{_≡_, refl, ap, ap₂, _∙_}
+use mathlib.Core.Logic.{inl, inr}
 use mathlib.Core.Bool.{Bool, true, false}
 use mathlib.Core.List.{List, [], _∷_, List·Memᴰ·head, List·Memᴰ·tail}
 use mathlib.Core.Option.{none, some}
@@ -13,11 +13,11 @@ use Rattle.basis.specs.Bits.{Bits}
 use Rattle.basis.specs.Counts.{Counts, from, within, Allows}
 use Rattle.basis.specs.Lookahead.{lookahead}
 use Rattle.basis.proofs.Joins.{lookahead-length}
+use Rattle.basis.proofs.Booleans.{which, same-test}
 use Rattle.theory.specs.Grammar.{alternative, concatenation, repetition, switch, use-of, field, eod, Grammar, _∈_}
 use Rattle.theory.specs.Derivation.{Capture}
 use Rattle.theory.specs.Hypotheses.{Static, Hypotheses}
 use Rattle.theory.specs.Machine.{Tests, entry, state, fail, again, leave, by-lookahead, turn, choose, act, step, undecided, matched, unmatched, verdict, run, stepped, opened, granted}
-use Rattle.theory.proofs.Turns.{decide}
 use Rattle.table_layout.specs.Held.{Context, Values, HeldNode}
 use Rattle.run_refinement.specs.Runs.{HeldEntry, HeldState, HeldRun}
 use Rattle.run_matcher.specs.Windows.{Tells}
@@ -25,11 +25,6 @@ use Rattle.run_matcher.specs.Windows.{Tells}
 -- what the theory asks of lookups is this
 pub tells : {g : Grammar Context Values} {tests : Tests} → Hypotheses g tests → Tells g tests
 tells h = record { branch = h .predicts-exact; go = h .continues-exact; stop = h .exits-exact }
-
-same-test : {A : Type 0} (a b : Bool) → (a ≡ true) ↔ A → (b ≡ true) ↔ A → a ≡ b
-same-test true b p q = sym (q .1 (p .0 refl))
-same-test false true p q = p .1 (q .0 refl)
-same-test false false p q = refl
 
 same-choice : (f h : ℕ → Bool) (is : List ℕ) → ((b : ℕ) → b ∈ is → f b ≡ h b) → choose f is ≡ choose h is
 unfolding choose
@@ -45,9 +40,9 @@ unfolding turn by-lookahead
 fixed-turn Counts.none one k a b c d = refl
 fixed-turn (from low) one k a b c d = absurd (let z : low ≡ suc low = one low (suc low) (omega arith) (omega arith) in omega arith)
 fixed-turn (within low more) one k a b c d =
-    elim (decide (ltb k low)) [
+    elim (which (ltb k low)) [
       | inl t ↦ rw (t, turn)
-      | inr t ↦ elim (decide (leb (low + more) k)) [
+      | inr t ↦ elim (which (leb (low + more) k)) [
         | inl u ↦ rw (t, u, turn)
         | inr u ↦ absurd (let z : low ≡ low + more = one low (low + more) (omega arith, omega arith) (omega arith, omega arith) in omega (arith, ltb-false k low t, leb-false (low + more) k u))
       ]

@@ -1,11 +1,10 @@
 -- "Opening a run tries 23, 21, 22; a refused open gives a closed run".
 -- Assumes nothing.
 use Prim.Native.Nat.{ℕ, _*_, _≤_, _<_}
-use mathlib.Core.Bool.{Bool}
+use mathlib.Core.Bool.{Bool, cond}
 use mathlib.Core.List.{List}
 use lib.ListN.{length}
 use Rattle.basis.specs.Limits.{max-frame-bytes}
-use Rattle.table_layout.specs.Constructs.{pick}
 use Rattle.run_actions.specs.Acts.{bits-of}
 use Rattle.table_judge.specs.Sound.{SoundTable}
 use Rattle.run_grants.specs.Runs.{opened-run, closed-run}
@@ -21,7 +20,7 @@ number-of Answer.Opened = 0
 
 -- "tries 23, 21, 22": the first that is given
 abbrev pub first-refusal : Bool → Bool → Bool → Answer
-first-refusal unsound long small = pick unsound Answer.Unsound (pick long Answer.LongFrame (pick small Answer.SmallReading Answer.Opened))
+first-refusal unsound long small = cond unsound Answer.Unsound (cond long Answer.LongFrame (cond small Answer.SmallReading Answer.Opened))
 
 -- "a refused open gives a closed run (empty list, no steps, verdict closed, which no grant changes)"
 abbrev pub run-given : Answer → Run

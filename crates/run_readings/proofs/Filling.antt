@@ -5,7 +5,7 @@ use native.Mathlib.Omega.{arith}
 use native.Mathlib.Numerals.{add-one}
 use borrow.Author.Tests.{le-ltb, le-leb, ne-eqb, leb-true, ltb-true, ltb-false, eqb-true, eqb-false}
 use mathlib.Core.Path.{_≡_, refl, sym, _∙_, ap, subst}
-use mathlib.Core.Bool.{Bool, true, false}
+use mathlib.Core.Bool.{Bool, true, false, cond, _&&_}
 use mathlib.Core.Logic.{inl, inr}
 use mathlib.Core.List.{List}
 use lib.Dec.{leb, ltb, eqb}
@@ -13,15 +13,15 @@ use lib.IntN.{ℤ}
 use lib.ListN.{length, getD, set, length-set}
 use lib.Seq.{getD-set-same, getD-set-other}
 use Rattle.basis.specs.Limits.{max-entries, max-frame-bytes, table-words}
+use Rattle.basis.proofs.Booleans.{which, either-way}
 use Rattle.table_layout.specs.Places.{word}
-use Rattle.table_layout.specs.Constructs.{pick, both, constructAt}
+use Rattle.table_layout.specs.Constructs.{constructAt}
 use Rattle.run_actions.specs.Acts.{bits-of, actOf, Doable}
 use Rattle.run_actions.specs.declared.Act.{Act}
-use Rattle.run_actions.proofs.Doing.{decide, doable}
+use Rattle.run_actions.proofs.Doing.{doable}
 use Rattle.run_steps.specs.Steps.{Whole, whole, break, bind, taken, take-done, effect, step-of, steps-of}
 use Rattle.run_steps.specs.declared.Head.{Head}
 use Rattle.run_steps.proofs.Running.{step-by}
-use Rattle.run_refinement.proofs.Picks.{either-way}
 use Rattle.run_fields.specs.Fields.{field-width, field-value, field-at, field-of, number-of}
 use Rattle.run_fields.specs.declared.Answer.{Answer}
 use Rattle.run_readings.specs.Told.{Filled, no-field, one-more}
@@ -38,7 +38,7 @@ module _ (ts ws fs : List ℕ) (same : (i : ℕ) → constructAt ts i ≡ constr
   -- only its two words matter, and how long the reading is
   local : (rs rs′ : List ℕ) (k : ℕ) → length rs ≡ length rs′ → word rs (2 * k) ≡ word rs′ (2 * k) → word rs (2 * k + 1) ≡ word rs′ (2 * k + 1) → field-of ws fs rs k ≡ field-of ws fs rs′ k
   local rs rs′ k l a b =
-      λ t. pick (ltb max-frame-bytes (length fs)) Answer.LongFrame (pick (leb (2 * k + 2) (l t)) (field-at ws fs (a t) (b t)) Answer.NoWords)
+      λ t. cond (ltb max-frame-bytes (length fs)) Answer.LongFrame (cond (leb (2 * k + 2) (l t)) (field-at ws fs (a t) (b t)) Answer.NoWords)
 
   filled-local : (rs rs′ : List ℕ) {n p : ℕ} → length rs ≡ length rs′ → ((j : ℕ) → j < 2 * n → word rs j ≡ word rs′ j) → Filled ws fs rs n p → Filled ws fs rs′ n p
   filled-local rs rs′ l a no-field = no-field
@@ -69,7 +69,7 @@ module _ (ts ws fs : List ℕ) (same : (i : ℕ) → constructAt ts i ≡ constr
         kept = sym (length-set rs₁ (2 * c + 1) p ∙ length-set rs (2 * c) i)
 
         by : (t : Bool) → (t ≡ true → 2 * c + 2 ≤ length rs)
-            → Filling (pick t (whole cs ps (bind binder n vs) rs₂ (taken fs h (h .count - 1) (p + width) (c + 1))) (whole cs ps vs rs (break h)))
+            → Filling (cond t (whole cs ps (bind binder n vs) rs₂ (taken fs h (h .count - 1) (p + width) (c + 1))) (whole cs ps vs rs (break h)))
         by true room =
             let l : 2 * c + 2 ≤ length rs = room refl in
             let first : word rs₂ (2 * c) ≡ i = getD-set-other rs₁ (2 * c + 1) (2 * c) p 0 (omega arith) ∙ getD-set-same rs (2 * c) i 0 (omega arith) in
@@ -85,7 +85,7 @@ module _ (ts ws fs : List ℕ) (same : (i : ℕ) → constructAt ts i ≡ constr
     effect-filling i k Act.Fail d w = f
     effect-filling i k (Act.Enter b) d w = f
     effect-filling i k (Act.Members start end n) d w = either-way Filling (leb (h .count + n) (max-entries + 1)) f f
-    effect-filling i k (Act.Again b) d w = either-way Filling (both (ltb (h .count) max-entries) (ltb k (bits-of fs + 1))) f f
+    effect-filling i k (Act.Again b) d w = either-way Filling (ltb (h .count) max-entries && ltb k (bits-of fs + 1)) f f
     effect-filling i k Act.Leave d w = f
     effect-filling i k (Act.Take width binder n) d w = take-filling i width binder n w (d .0) (d .3)
 
@@ -105,10 +105,10 @@ module _ (ts ws fs : List ℕ) (same : (i : ℕ) → constructAt ts i ≡ constr
 pub each-told : (ws fs rs : List ℕ) {n p : ℕ} → Filled ws fs rs n p → (k : ℕ) → k < n → number-of (field-of ws fs rs k) ≡ 0
 each-told ws fs rs no-field k h = absurd (omega arith)
 each-told ws fs rs (one-more {n = n} {p = p} i w v f e some z) k h =
-    elim (decide (eqb k n)) [
+    elim (which (eqb k n)) [
       | inl t ↦ let s : k ≡ n = eqb-true k n t in ap (λ (m : ℕ). number-of (field-of ws fs rs m)) s ∙ ap number-of e
       | inr t ↦ each-told ws fs rs f k (let d = eqb-false k n t in below k n h d)
     ]
   where
     below : (a b : ℕ) → a < suc b → (a ≡ b → ⊥) → a < b
-    below a b l d = elim (decide (ltb a b)) [ inl t ↦ ltb-true a b t | inr t ↦ absurd (d (let m = ltb-false a b t in omega arith)) ]
+    below a b l d = elim (which (ltb a b)) [ inl t ↦ ltb-true a b t | inr t ↦ absurd (d (let m = ltb-false a b t in omega arith)) ]

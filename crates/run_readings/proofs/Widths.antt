@@ -2,24 +2,24 @@
 -- Assumes nothing.
 use Prim.Native.Nat.{ℕ, _+_, _*_, _-_}
 use mathlib.Core.Path.{_≡_, refl}
-use mathlib.Core.Bool.{Bool, true, false}
+use mathlib.Core.Bool.{Bool, true, false, cond, _&&_}
 use mathlib.Core.List.{List}
 use lib.Dec.{leb, ltb, eqb}
 use lib.IntN.{ℤ, pos}
 use lib.ListN.{take, drop}
 use Rattle.basis.specs.Bits.{value, frameBits}
+use Rattle.basis.proofs.Booleans.{either-way}
 use Rattle.term_evaluation.specs.Meaning.{membership}
 use Rattle.term_evaluation.specs.declared.Counted.{Counted}
 use Rattle.term_evaluation.specs.declared.Tested.{Tested}
 use Rattle.table_layout.specs.Places.{rule-word, rule-count}
-use Rattle.table_layout.specs.Constructs.{pick, both, constructAt}
+use Rattle.table_layout.specs.Constructs.{constructAt}
 use Rattle.table_layout.specs.Held.{terms-of, opening}
 use Rattle.table_layout.specs.declared.Construct.{Construct}
 use Rattle.run_actions.specs.Stored.{stored, prediction-at, follow-at}
 use Rattle.run_actions.specs.Acts.{in-table, whole-in-table, terms-in-table, binder-in-table, known-values, enter, open-rule, ahead-at, bits-of, by-branch, branch-act, case-test, by-case, case-act, members-act, by-lookahead, choice-act, turn-act, counted, literal-holds, by-set, construct-act, actOf}
 use Rattle.run_actions.specs.declared.Act.{Act}
 use Rattle.run_actions.proofs.Doing.{walk-keeps}
-use Rattle.run_refinement.proofs.Picks.{either-way}
 use Rattle.run_fields.specs.Fields.{field-width}
 
 -- an act that takes a field takes w bits
@@ -90,10 +90,10 @@ construct-wide ws fs vs p i k (Construct.Literal n) =
     either-way (Wide (8 * n)) (leb (p + 8 * n) (bits-of fs)) (either-way (Wide (8 * n)) (literal-holds ws fs p i 0 n) refl tt) tt
 construct-wide ws fs vs p i k (Construct.Range low high) =
     let v = value (take 8 (drop p (frameBits fs))) in
-    either-way (Wide 8) (leb (p + 8) (bits-of fs)) (either-way (Wide 8) (both (leb low v) (leb v high)) refl tt) tt
+    either-way (Wide 8) (leb (p + 8) (bits-of fs)) (either-way (Wide 8) (leb low v && leb v high) refl tt) tt
 construct-wide ws fs vs p i k (Construct.Uint width start end binder) =
     let v = value (take width (drop p (frameBits fs))) in
-    either-way (Wide width) (both (terms-in-table ws end) (binder-in-table ws binder))
+    either-way (Wide width) (terms-in-table ws end && binder-in-table ws binder)
     (either-way (Wide width) (leb (p + width) (bits-of fs)) (set-wide width binder v (membership vs (pos v) start (terms-of ws start end))) tt)
     tt
 construct-wide ws fs vs p i k Construct.Eod = either-way (Wide 0) (eqb p (bits-of fs)) tt tt

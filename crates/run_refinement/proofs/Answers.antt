@@ -4,18 +4,17 @@ use Prim.Native.Nat.{ℕ, _+_, _-_, _≤_}
 use native.Mathlib.Omega.{arith}
 use mathlib.Core.Path.{_≡_, refl, sym, _∙_, ap}
 use mathlib.Core.Logic.{inl, inr}
-use mathlib.Core.Bool.{Bool, true, false}
+use mathlib.Core.Bool.{Bool, true, false, cond}
 use mathlib.Core.List.{List, [], _∷_}
 use lib.Dec.{leb, ltb}
 use lib.IntN.{ℤ}
+use Rattle.basis.proofs.Booleans.{which}
 use Rattle.term_evaluation.specs.Meaning.{condition}
 use Rattle.term_evaluation.specs.Counts.{counts}
 use Rattle.term_evaluation.specs.declared.Counted.{Counted}
 use Rattle.term_evaluation.specs.declared.Tested.{Tested}
 use Rattle.theory.specs.Machine.{Turn, fail, again, leave, by-lookahead, turn, choose}
-use Rattle.theory.proofs.Turns.{decide}
 use Rattle.table_layout.specs.Places.{construct-word}
-use Rattle.table_layout.specs.Constructs.{pick}
 use Rattle.table_layout.specs.Held.{term-words, terms-of, parts, allowed, isYes, passes-allowed, first-case}
 use Rattle.table_layout.specs.declared.Passes.{Passes}
 use Rattle.run_actions.specs.Stored.{stored, prediction-at, follow-at}
@@ -25,15 +24,15 @@ use Rattle.run_refinement.proofs.Walks.{Definite, Visit, chosen-act, fo
 
 -- what the grammar's switch goes by: a case's condition holds, or it has none
 abbrev case-holds : List ℕ → List ℤ → ℕ → Bool
-case-holds ws vs b = pick (ltb (construct-word ws b 6) (construct-word ws b 7)) (isYes (condition vs (construct-word ws b 6) (terms-of ws (construct-word ws b 6) (construct-word ws b 7)))) true
+case-holds ws vs b = cond (ltb (construct-word ws b 6) (construct-word ws b 7)) (isYes (condition vs (construct-word ws b 6) (terms-of ws (construct-word ws b 6) (construct-word ws b 7)))) true
 
 first-choose : (ws : List ℕ) (vs : List ℤ) (bs : List ℕ) → first-case ws vs bs ≡ choose (case-holds ws vs) bs
 unfolding first-case choose
 first-choose ws vs [] = refl
 first-choose ws vs (b ∷ bs) =
-    elim (decide (ltb (construct-word ws b 6) (construct-word ws b 7))) [
+    elim (which (ltb (construct-word ws b 6) (construct-word ws b 7))) [
       | inl t ↦
-          elim (decide (isYes (condition vs (construct-word ws b 6) (terms-of ws (construct-word ws b 6) (construct-word ws b 7)))))
+          elim (which (isYes (condition vs (construct-word ws b 6) (terms-of ws (construct-word ws b 6) (construct-word ws b 7)))))
           [ inl y ↦ rw (t, y, first-case, choose) | inr y ↦ rw (t, y, first-case, choose) (first-choose ws vs bs) ]
       | inr t ↦ rw (t, first-case, choose)
     ]
@@ -53,7 +52,7 @@ case-visit : (ws : List ℕ) (vs : List ℤ) (j : ℕ) → Visit j (case-holds w
 case-visit ws vs j =
     by (ltb (construct-word ws j 6) (construct-word ws j 7)) (terms-in-table ws (construct-word ws j 7)) (condition vs (construct-word ws j 6) (terms-of ws (construct-word ws j 6) (construct-word ws j 7)))
   where
-    by : (s t : Bool) (x : Tested) → Visit j (pick s (isYes x) true) (λ rest. by-case (pick s (pick t x Tested.Malformed) Tested.Yes) j rest)
+    by : (s t : Bool) (x : Tested) → Visit j (cond s (isYes x) true) (λ rest. by-case (cond s (cond t x Tested.Malformed) Tested.Yes) j rest)
     by true true x = by-case-visit j x
     by true false x = Visit.breaks (λ rest. refl)
     by false t x = Visit.takes refl (λ rest. refl)
@@ -84,12 +83,12 @@ pub turn-turned : (ws : List ℕ) (n i k : ℕ) (c : Counted) → Definite (turn
 unfolding turn
 turn-turned ws n i k Counted.None s = refl
 turn-turned ws n i k (Counted.From low) s =
-    elim (decide (ltb k low)) [ inl t ↦ rw (t, turn) | inr t ↦ rw (t, turn) (turned-lookahead (i + 1) (stored ws (prediction-at (i + 1)) n) (stored ws (follow-at i) n)) ]
+    elim (which (ltb k low)) [ inl t ↦ rw (t, turn) | inr t ↦ rw (t, turn) (turned-lookahead (i + 1) (stored ws (prediction-at (i + 1)) n) (stored ws (follow-at i) n)) ]
 turn-turned ws n i k (Counted.Within low more) s =
-    elim (decide (ltb k low)) [
+    elim (which (ltb k low)) [
       | inl t ↦ rw (t, turn)
       | inr t ↦
-          elim (decide (leb (low + more) k))
+          elim (which (leb (low + more) k))
           [ inl u ↦ rw (t, u, turn) | inr u ↦ rw (t, u, turn) (turned-lookahead (i + 1) (stored ws (prediction-at (i + 1)) n) (stored ws (follow-at i) n)) ]
     ]
 turn-turned ws n i k Counted.Malformed s = absurd (s refl)
@@ -102,7 +101,7 @@ counted-allowed ws vs n i k Passes.Any s = refl
 counted-allowed ws vs n i k Passes.Some s = refl
 counted-allowed ws vs n i k (Passes.Counted start end) s = by (terms-in-table ws end) s
   where
-    by : (t : Bool) → Definite (turn-act ws n i k (pick t (counts vs (term-words ws) start end) Counted.Malformed)) → allowed (pick t (counts vs (term-words ws) start end) Counted.Malformed) ≡ allowed (counts vs (term-words ws) start end)
+    by : (t : Bool) → Definite (turn-act ws n i k (cond t (counts vs (term-words ws) start end) Counted.Malformed)) → allowed (cond t (counts vs (term-words ws) start end) Counted.Malformed) ≡ allowed (counts vs (term-words ws) start end)
     by true d = refl
     by false d = absurd (d refl)
 
@@ -115,6 +114,6 @@ pub tested-yes : (t : Bool) → isYes (tested t) ≡ t
 tested-yes true = refl
 tested-yes false = refl
 
-pub tested-set : (t : Bool) (w : ℕ) → pick t (Act.Take w 0 0) Act.Fail ≡ by-set (tested t) w 0 0
+pub tested-set : (t : Bool) (w : ℕ) → cond t (Act.Take w 0 0) Act.Fail ≡ by-set (tested t) w 0 0
 tested-set true w = refl
 tested-set false w = refl

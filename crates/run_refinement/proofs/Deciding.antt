@@ -5,7 +5,7 @@ use native.Mathlib.Omega.{arith}
 use borrow.Author.Tests.{leb-true, leb-false, le-leb, lt-leb, eq-eqb, ne-eqb}
 use mathlib.Core.Path.{_≡_, refl, sym, _∙_, ap, subst}
 use mathlib.Core.Logic.{inl, inr}
-use mathlib.Core.Bool.{Bool, true, false}
+use mathlib.Core.Bool.{Bool, true, false, cond, _&&_}
 use mathlib.Core.List.{List, [], _∷_, _++_}
 use mathlib.Core.Option.{Option, none, some}
 use lib.Dec.{ltb, leb, eqb}
@@ -14,14 +14,14 @@ use lib.ListN.{length, take, drop, length-drop}
 use Rattle.basis.specs.Bits.{Bits, value, frameBits, same}
 use Rattle.basis.specs.Counts.{Counts, within}
 use Rattle.basis.proofs.Frames.{frame-length}
+use Rattle.basis.proofs.Booleans.{which}
 use Rattle.term_evaluation.specs.Meaning.{membership}
 use Rattle.term_evaluation.specs.declared.Tested.{Tested}
 use Rattle.theory.specs.Grammar.{alternative, concatenation, repetition, switch, field, eod}
 use Rattle.theory.specs.Derivation.{Capture}
 use Rattle.theory.specs.Machine.{entry, state, Turn, fail, again, leave, turn, choose, entries, act}
-use Rattle.theory.proofs.Turns.{decide}
 use Rattle.table_layout.specs.Places.{rule-word, rule-count}
-use Rattle.table_layout.specs.Constructs.{pick, both, constructAt}
+use Rattle.table_layout.specs.Constructs.{constructAt}
 use Rattle.table_layout.specs.Held.{Context, first-context, Values, HeldNode, terms-of, parts, isYes, passes-allowed, passes-static, passes-fixed, first-case, literal-bytes, bound, literal-node, range-node, uint-node, use-node, in-set, node-of, held, opening}
 use Rattle.table_layout.specs.declared.Construct.{Construct}
 use Rattle.table_layout.specs.declared.Passes.{Passes}
@@ -113,7 +113,7 @@ module _ (ws fs : List ℕ) (vs : List ℤ) (p i k : ℕ) (others : List HeldEnt
       subst (Does node) (sym e) (does-turned node (turn (passes-allowed ws q vs) k (stored ws (prediction-at (i + 1)) n) (stored ws (follow-at i) n)) refl)
 
   -- what is done only where a test says that it is in the table
-  does-guarded : (node : HeldNode) (t : Bool) (a : Act) → (Definite a → Does node a) → Definite (pick t a Act.Broken) → Does node (pick t a Act.Broken)
+  does-guarded : (node : HeldNode) (t : Bool) (a : Act) → (Definite a → Does node a) → Definite (cond t a Act.Broken) → Does node (cond t a Act.Broken)
   does-guarded node true a f s = f s
   does-guarded node false a f s = absurd (s refl)
 
@@ -148,10 +148,10 @@ module _ (ws fs : List ℕ) (vs : List ℤ) (p i k : ℕ) (others : List HeldEnt
     rest-length = length-drop p (frameBits fs) ∙ ap (_- p) (frame-length fs)
 
     does-field : (w binder n : ℕ) (admits : Context → Values → Bits → Bool) (static : Bits → Bool) (binds : Context → Values → Bits → Values) (t : Tested)
-        → isYes t ≡ admits first-context vs (take w rest) → bound binder vs n ≡ binds first-context vs (take w rest) → Definite (pick (leb (p + w) (bits-of fs)) (by-set t w binder n) Act.Fail)
-        → Does (field (λ bits. w) admits static binds) (pick (leb (p + w) (bits-of fs)) (by-set t w binder n) Act.Fail)
+        → isYes t ≡ admits first-context vs (take w rest) → bound binder vs n ≡ binds first-context vs (take w rest) → Definite (cond (leb (p + w) (bits-of fs)) (by-set t w binder n) Act.Fail)
+        → Does (field (λ bits. w) admits static binds) (cond (leb (p + w) (bits-of fs)) (by-set t w binder n) Act.Fail)
     does-field w binder n admits static binds t y b s =
-        elim (decide (leb (p + w) (bits-of fs))) [
+        elim (which (leb (p + w) (bits-of fs))) [
           | inl e ↦
               let l : p + w ≤ bits-of fs = leb-true (p + w) (bits-of fs) e in
               let m : leb w (length rest) ≡ true = le-leb w (length rest) (omega (arith, rest-length)) in
@@ -168,17 +168,17 @@ module _ (ws fs : List ℕ) (vs : List ℤ) (p i k : ℕ) (others : List HeldEnt
         let t : Bool = literal-holds ws fs p i 0 n in
         let z : p + 8 * 0 ≡ p = omega arith in
         let e : isYes (tested t) ≡ same (take (8 * n) rest) (frameBits bytes) = tested-yes t ∙ ap (λ (q : ℕ). same (take (8 * n) (drop q (frameBits fs))) (frameBits bytes)) z in
-        let q : literal-act ws fs p i n ≡ pick (leb (p + 8 * n) (bits-of fs)) (by-set (tested t) (8 * n) 0 0) Act.Fail = ap (λ (a : Act). pick (leb (p + 8 * n) (bits-of fs)) a Act.Fail) (tested-set t (8 * n)) in
+        let q : literal-act ws fs p i n ≡ cond (leb (p + 8 * n) (bits-of fs)) (by-set (tested t) (8 * n) 0 0) Act.Fail = ap (λ (a : Act). cond (leb (p + 8 * n) (bits-of fs)) a Act.Fail) (tested-set t (8 * n)) in
         subst (λ (m : ℕ). Does (field (λ bits. 8 * m) (λ c v bits. same bits (frameBits bytes)) (λ bits. same bits (frameBits bytes)) (λ c v bits. v)) (literal-act ws fs p i n)) (sym (literal-long ws i 0 n))
         (rw q (does-field (8 * n) 0 0 (λ c v bits. same bits (frameBits bytes)) (λ bits. same bits (frameBits bytes)) (λ c v bits. v) (tested t) e refl (rw q at s)))
 
     does-range : (low high : ℕ) → Definite (range-act fs p low high) → Does (range-node low high) (range-act fs p low high)
     does-range low high s =
         let v : ℕ = value (take 8 rest) in
-        let t : Bool = both (leb low v) (leb v high) in
-        let q : range-act fs p low high ≡ pick (leb (p + 8) (bits-of fs)) (by-set (tested t) 8 0 0) Act.Fail = ap (λ (a : Act). pick (leb (p + 8) (bits-of fs)) a Act.Fail) (tested-set t 8) in
+        let t : Bool = leb low v && leb v high in
+        let q : range-act fs p low high ≡ cond (leb (p + 8) (bits-of fs)) (by-set (tested t) 8 0 0) Act.Fail = ap (λ (a : Act). cond (leb (p + 8) (bits-of fs)) a Act.Fail) (tested-set t 8) in
         rw q
-        (does-field 8 0 0 (λ c v bits. both (leb low (value bits)) (leb (value bits) high)) (λ bits. both (leb low (value bits)) (leb (value bits) high)) (λ c v bits. v) (tested t) (tested-yes t) refl
+        (does-field 8 0 0 (λ c v bits. leb low (value bits) && leb (value bits) high) (λ bits. leb low (value bits) && leb (value bits) high) (λ c v bits. v) (tested t) (tested-yes t) refl
         (rw q at s))
 
     does-end : (s : Bits) → rest ≡ s → Does eod (end-act fs p)
@@ -204,7 +204,7 @@ module _ (ws fs : List ℕ) (vs : List ℤ) (p i k : ℕ) (others : List HeldEnt
     does-construct (Construct.Range low high) s = does-range low high s
     does-construct (Construct.Uint width start end binder) s =
         let n : ℕ = value (take width rest) in
-        does-guarded (uint-node ws width start end binder) (both (terms-in-table ws end) (binder-in-table ws binder)) (bits-act ws fs vs p width start end binder)
+        does-guarded (uint-node ws width start end binder) (terms-in-table ws end && binder-in-table ws binder) (bits-act ws fs vs p width start end binder)
         (does-field width binder n (λ c v bits. in-set ws start end v (value bits)) _ (λ c v bits. bound binder v (value bits)) (membership vs (pos n) start (terms-of ws start end)) refl refl) s
     does-construct Construct.Eod s = does-end rest refl
 
@@ -213,7 +213,7 @@ module _ (ws fs : List ℕ) (vs : List ℤ) (p i k : ℕ) (others : List HeldEnt
     unfolding held actOf
     does s =
         let c : Construct = constructAt ws i in
-        elim (decide (eqb i opening)) [
+        elim (which (eqb i opening)) [
           | inl e ↦ rw e (does-open 0 (rw e at s))
           | inr e ↦ rw e (does-guarded (node-of ws i c) (whole-in-table ws i) (construct-act ws fs (known-values ws vs) p i k c) known (rw e at s))
         ]

@@ -5,7 +5,7 @@ use native.Mathlib.Omega.{arith}
 use native.Mathlib.Numerals.{add-one}
 use borrow.Author.Tests.{leb-true, ltb-true, eq-eqb, ne-eqb}
 use mathlib.Core.Path.{_≡_, refl, sym, _∙_, ap, ap₂}
-use mathlib.Core.Bool.{true}
+use mathlib.Core.Bool.{true, cond, _&&_}
 use mathlib.Core.List.{List, [], _∷_, _++_}
 use mathlib.Core.Option.{Option, none, some}
 use lib.Dec.{leb, ltb, eqb}
@@ -15,13 +15,12 @@ use lib.Seq.{drop-drop, getD-set-same}
 use Rattle.basis.specs.Limits.{max-entries}
 use Rattle.basis.specs.Bits.{Bits, frameBits}
 use Rattle.basis.proofs.Frames.{frame-length}
+use Rattle.basis.proofs.Booleans.{both-true}
 use Rattle.theory.specs.Derivation.{Capture}
 use Rattle.theory.specs.Machine.{entry, state, Verdict, unmatched, verdict, run, entries}
-use Rattle.table_layout.specs.Constructs.{pick, both}
 use Rattle.table_layout.specs.Held.{Context, first-context, Values, parts, bound}
 use Rattle.run_actions.specs.Acts.{bits-of, Doable}
 use Rattle.run_actions.specs.declared.Act.{Act}
-use Rattle.run_actions.proofs.Doing.{both-true}
 use Rattle.run_steps.specs.Steps.{Whole, whole, break, verdict-after, taken, placed, bind, members-done, again-done, take-done, effect, Fits}
 use Rattle.run_steps.specs.declared.Head.{Head}
 use Rattle.run_refinement.specs.Runs.{HeldEntry, HeldState, HeldRun, pending, recorded, verdict-as, state-held, run-of}
@@ -33,11 +32,11 @@ use Rattle.run_refinement.proofs.Deciding.{Membered, done}
 
 -- the verdict after a step
 verdict-rest : (fs : List ℕ) (p : ℕ) (vs : List ℤ) (rc : List Capture) (s : Bits) → drop p (frameBits fs) ≡ s → p ≤ bits-of fs
-    → verdict-as (pick (eqb p (bits-of fs)) 1 2) ≡ verdict {Context = Context} {Values = Values} (state [] s p vs rc)
+    → verdict-as (cond (eqb p (bits-of fs)) 1 2) ≡ verdict {Context = Context} {Values = Values} (state [] s p vs rc)
 unfolding verdict
 verdict-rest fs p vs rc s e l = by s (sym (ap length e) ∙ (length-drop p (frameBits fs) ∙ ap (_- p) (frame-length fs)))
   where
-    by : (s : Bits) → length s ≡ bits-of fs - p → verdict-as (pick (eqb p (bits-of fs)) 1 2) ≡ verdict {Context = Context} {Values = Values} (state [] s p vs rc)
+    by : (s : Bits) → length s ≡ bits-of fs - p → verdict-as (cond (eqb p (bits-of fs)) 1 2) ≡ verdict {Context = Context} {Values = Values} (state [] s p vs rc)
     by [] m = rw (eq-eqb p (bits-of fs) (omega arith))
     by (b ∷ s) m = rw (ne-eqb p (bits-of fs) (λ z. omega arith))
 
@@ -116,7 +115,7 @@ module _ (ws fs cs ps : List ℕ) (vs : List ℤ) (rs : List ℕ) (h : Head) (f 
   does-again b u =
       let ps′ : List ℕ = set ps (n - 1) (k + 1) in
       let there : Whole = whole (set cs n b) (set ps′ n 0) vs rs (taken fs h (n + 1) (h .position) (h .captures)) in
-      let t : both (ltb n max-entries) (ltb k (bits-of fs + 1)) ≡ true = first-kept (both (ltb n max-entries) (ltb k (bits-of fs + 1))) there (whole cs ps vs rs (break h)) refl u in
+      let t : (ltb n max-entries && ltb k (bits-of fs + 1)) ≡ true = first-kept (ltb n max-entries && ltb k (bits-of fs + 1)) there (whole cs ps vs rs (break h)) refl u in
       let l : n < max-entries = ltb-true n max-entries (both-true (ltb n max-entries) (ltb k (bits-of fs + 1)) t .0) in
       let ep : length ps′ ≡ length ps = length-set ps (n - 1) (k + 1) in
       let lc : n < length cs = omega (arith, f .3) in

@@ -10,26 +10,25 @@ use mathlib.Core.Bool.{Bool, true, false}
 use mathlib.Core.List.{List}
 use lib.Dec.{ltb}
 use lib.IntN.{ℤ}
+use Rattle.basis.proofs.Booleans.{which, both-first, both-second}
 use Rattle.term_words.specs.Words.{termsFrom}
 use Rattle.term_words.specs.declared.Kind.{Kind}
 use Rattle.term_evaluation.specs.Meaning.{run}
 use Rattle.term_evaluation.specs.Counts.{tallied}
 use Rattle.term_sizes.specs.Sizes.{sizes, countSizes}
 use Rattle.term_sizes.specs.declared.Sized.{Sized}
-use Rattle.theory.proofs.Turns.{decide}
 use Rattle.table_layout.specs.Places.{construct-word, construct-count, term-count}
 use Rattle.table_layout.specs.Constructs.{constructAt}
 use Rattle.table_layout.specs.Held.{Context, term-words, terms-of}
 use Rattle.table_layout.specs.declared.Construct.{Construct}
 use Rattle.table_layout.specs.declared.Passes.{Passes}
 use Rattle.table_wellformed.specs.Lists.{own-start, own-end, begins, after, after-condition, lists-begin, after-lists, lists-from}
-use Rattle.table_wellformed.proofs.Walks.{both-first, both-second}
 use Rattle.run_refinement.proofs.Reliable.{Reliable, counts-answer, set-answers}
 
 -- the next list begins no earlier, and where there is a list it begins at that list's end
 after-more : (p start end : ℕ) → begins p start end ≡ true → p ≤ after p start end
 after-more p start end b =
-    elim (decide (ltb start end)) [
+    elim (which (ltb start end)) [
       | inl t ↦
           let e : start ≡ p = eqb-true start p (rw t at b) in
           let l : start < end = ltb-true start end t in
@@ -55,7 +54,7 @@ module _ (ws : List ℕ) where
       let e : ℕ = own-end (constructAt ws i) in
       let B : Bool = begins p (construct-word ws i 6) (construct-word ws i 7) in
       let C : Bool = begins (after-condition ws i p) s e in
-      elim (decide (lists-begin ws i p)) [
+      elim (which (lists-begin ws i p)) [
         | inl t ↦
             let a : p ≤ after-condition ws i p = after-more p (construct-word ws i 6) (construct-word ws i 7) (both-first B C t) in
             let b : after-condition ws i p ≤ after-lists ws i p = after-more (after-condition ws i p) s e (both-second B C t) in
@@ -72,7 +71,7 @@ module _ (ws : List ℕ) where
       let e : ℕ = own-end (constructAt ws i) in
       let B : Bool = begins p (construct-word ws i 6) (construct-word ws i 7) in
       let C : Bool = begins (after-condition ws i p) s e in
-      elim (decide (lists-begin ws i p)) [
+      elim (which (lists-begin ws i p)) [
         | inl t ↦
             let on : lists-from n ws (i + 1) (after-lists ws i p) ≡ true = rw (t, lists-from) at h in
             let b : after-condition ws i p ≤ after-lists ws i p = after-more (after-condition ws i p) s e (both-second B C t) in

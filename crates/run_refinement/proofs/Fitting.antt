@@ -11,11 +11,11 @@ use lib.IntN.{ℤ}
 use lib.ListN.{length, getD, length-drop}
 use Rattle.basis.specs.Bits.{Bits, frameBits}
 use Rattle.basis.proofs.Frames.{frame-length}
+use Rattle.basis.proofs.Booleans.{which}
 use Rattle.theory.specs.Derivation.{captures}
 use Rattle.theory.specs.Machine.{entry, pending-of, rest-of, position-of, captures-of, Passes, state-of, opened, granted}
 use Rattle.theory.specs.Theorems.{Moment}
 use Rattle.theory.proofs.Theorems as Theory
-use Rattle.theory.proofs.Turns.{decide}
 use Rattle.table_structure.proofs.Facts.{lt-of-ne}
 use Rattle.table_layout.specs.Held.{Context, held}
 use Rattle.run_actions.specs.Stored.{tests-of}
@@ -37,7 +37,7 @@ entry-at : (ws cs ps : List ℕ) (m n j : ℕ) → There ws (pending cs ps n) �
 unfolding pending
 entry-at ws cs ps m zero j t p l = absurd (omega arith)
 entry-at ws cs ps m (suc n) j t p l =
-    elim (decide (eqb j n)) [
+    elim (which (eqb j n)) [
       | inl e ↦ (let z : j ≡ n = eqb-true j n e in rw z (t .0, p .0))
       | inr e ↦ (let z : j ≡ n → ⊥ = eqb-false j n e in entry-at ws cs ps m n j (t .1) (p .1) (let y : j + 1 ≤ n = lt-of-ne j n (omega arith) z in omega arith))
     ]

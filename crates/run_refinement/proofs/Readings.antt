@@ -4,21 +4,21 @@ use Prim.Native.Nat.{ℕ, zero, suc, _+_, _*_, _-_, _≤_}
 use native.Mathlib.Omega.{arith}
 use native.Mathlib.Numerals.{add-one}
 use mathlib.Core.Path.{_≡_, refl, sym, _∙_, ap, ap₂}
+use mathlib.Core.Bool.{_&&_}
 use mathlib.Core.List.{List, [], _∷_, _++_, append-assoc}
 use lib.Dec.{leb, ltb}
 use lib.IntN.{ℤ}
 use lib.ListN.{length, getD, set, take, drop, length-set, take-append-drop}
 use lib.Seq.{take-suc, take-take, take-set-le, drop-set-lt, drop-drop}
 use Rattle.basis.specs.Limits.{max-entries}
+use Rattle.basis.proofs.Booleans.{either-way}
 use Rattle.theory.specs.Derivation.{Capture}
-use Rattle.table_layout.specs.Constructs.{both}
 use Rattle.run_actions.specs.Acts.{bits-of, actOf}
 use Rattle.run_actions.specs.declared.Act.{Act}
 use Rattle.run_steps.specs.Steps.{Whole, whole, break, take-done, effect, step-of, steps-of, Fits}
 use Rattle.run_steps.specs.declared.Head.{Head}
 use Rattle.run_steps.proofs.Running.{step-by}
 use Rattle.run_refinement.specs.Runs.{recorded, words-of, head-of, reading-of}
-use Rattle.run_refinement.proofs.Picks.{either-way}
 use Rattle.run_steps.proofs.Running.{steps-fit}
 
 -- from one run to a later one: fields are added, those recorded stay, and past the new ones the words stay
@@ -76,7 +76,7 @@ module _ (ws fs cs ps : List ℕ) (vs : List ℤ) (rs : List ℕ) (h : Head) whe
   effect-records i k Act.Fail = stays _ _ _ _ refl
   effect-records i k (Act.Enter b) = stays _ _ _ _ refl
   effect-records i k (Act.Members start end n) = either-way (Recorded w) (leb (h .count + n) (max-entries + 1)) (stays _ _ _ _ refl) (stays _ _ _ _ refl)
-  effect-records i k (Act.Again b) = either-way (Recorded w) (both (ltb (h .count) max-entries) (ltb k (bits-of fs + 1))) (stays _ _ _ _ refl) (stays _ _ _ _ refl)
+  effect-records i k (Act.Again b) = either-way (Recorded w) (ltb (h .count) max-entries && ltb k (bits-of fs + 1)) (stays _ _ _ _ refl) (stays _ _ _ _ refl)
   effect-records i k Act.Leave = stays _ _ _ _ refl
   effect-records i k (Act.Take width binder n) = take-records i width binder n
 

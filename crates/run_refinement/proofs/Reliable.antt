@@ -4,12 +4,13 @@ use Prim.Native.Nat.{ℕ, _+_, _-_, _^_, _≤_, _<_, min}
 use native.Mathlib.Omega.{arith}
 use borrow.Author.Tests.{lt-ltb}
 use mathlib.Core.Path.{_≡_, sym, _∙_}
-use mathlib.Core.Bool.{Bool, true, false}
+use mathlib.Core.Bool.{Bool, true, false, _&&_}
 use mathlib.Core.List.{List}
 use lib.Dec.{eqb}
 use lib.IntN.{ℤ, pos}
 use lib.ListN.{length, getD, length-replicate, getD-replicate}
 use Rattle.basis.specs.Limits.{max-variables, max-width, max-entries}
+use Rattle.basis.proofs.Booleans.{both-first, both-second}
 use Rattle.term_words.specs.declared.Kind.{Kind}
 use Rattle.term_evaluation.specs.declared.Counted.{Counted}
 use Rattle.term_sizes.specs.Sizes.{sizes, countSizes}
@@ -19,7 +20,7 @@ use Rattle.term_sizes.proofs.Forms.{list-passes, counts-passes}
 use Rattle.theory.specs.Hypotheses.{Hypotheses}
 use Rattle.theory.specs.Weight.{Outweighs, HasRoom}
 use Rattle.table_layout.specs.Places.{construct-word, variable-word, construct-count, weight-of}
-use Rattle.table_layout.specs.Constructs.{both, constructAt}
+use Rattle.table_layout.specs.Constructs.{constructAt}
 use Rattle.table_layout.specs.Held.{Context, first-context, term-words, terms-of, opening, held}
 use Rattle.table_layout.specs.declared.Construct.{Construct}
 use Rattle.table_layout.specs.declared.Passes.{Passes}
@@ -27,7 +28,6 @@ use Rattle.table_wellformed.specs.Parts.{parts-laid}
 use Rattle.table_wellformed.specs.Lists.{formed, zero-values, list-formed, counts-formed}
 use Rattle.table_wellformed.specs.Rules.{named-back}
 use Rattle.table_wellformed.specs.Laid.{operands-zero, second-part, construct-end, passes-laid}
-use Rattle.table_wellformed.proofs.Walks.{both-first, both-second}
 use Rattle.table_structure.proofs.Facts.{Laid}
 use Rattle.run_actions.specs.Stored.{tests-of}
 
@@ -79,13 +79,13 @@ module _ {ws : List ℕ} {widest : List ℤ} {weight rooms : Context → ℕ →
   pub counts-answer : (i n start end : ℕ) → i < construct-count ws → constructAt ws i ≡ Construct.Repetition n (Passes.Counted start end) → countSizes widest (term-words ws) start end ≡ Sized.Passes
   counts-answer i n start end h e =
       let P : Bool = passes-laid ws i (Passes.Counted start end) in
-      let S : Bool = both (eqb (second-part ws i) (construct-end ws i)) (parts-laid ws false (i + 1) (construct-end ws i)) in
-      let k : both P S ≡ true = rw e at (r .laid .kind i h) in
+      let S : Bool = eqb (second-part ws i) (construct-end ws i) && parts-laid ws false (i + 1) (construct-end ws i) in
+      let k : (P && S) ≡ true = rw e at (r .laid .kind i h) in
       let f : counts-formed ws start end ≡ true = both-second (operands-zero ws i 5) (counts-formed ws start end) (both-first P S k) in
       counts-passes zero-values widest zero-inside (term-words ws) start end (formed-not _ f) (r .counts-within i n start end h e)
 
   pub set-answers : (i width start end binder : ℕ) → i < construct-count ws → constructAt ws i ≡ Construct.Uint width start end binder → sizes Kind.Set widest start (terms-of ws start end) ≡ Sized.Passes
   set-answers i width start end binder h e =
-      let k : both (named-back ws i binder) (list-formed Kind.Set ws start end) ≡ true = rw e at (r .laid .kind i h) in
+      let k : (named-back ws i binder && list-formed Kind.Set ws start end) ≡ true = rw e at (r .laid .kind i h) in
       let f : list-formed Kind.Set ws start end ≡ true = both-second (named-back ws i binder) (list-formed Kind.Set ws start end) k in
       list-passes zero-values widest zero-inside Kind.Set start (terms-of ws start end) (formed-not _ f) (r .sets-within i width start end binder h e)

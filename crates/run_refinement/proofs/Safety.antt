@@ -5,7 +5,7 @@ use native.Mathlib.Omega.{arith}
 use borrow.Author.Tests.{le-leb, lt-ltb, eq-eqb, ne-eqb, ltb-true}
 use mathlib.Core.Path.{_≡_, refl, _∙_, ap, subst}
 use mathlib.Core.Logic.{_⊎_, inl, inr}
-use mathlib.Core.Bool.{Bool, true, false}
+use mathlib.Core.Bool.{Bool, true, false, _&&_}
 use mathlib.Core.List.{List}
 use lib.Dec.{leb, ltb, eqb}
 use lib.IntN.{ℤ, pos}
@@ -14,15 +14,15 @@ use Rattle.basis.specs.Limits.{max-constructs, max-width}
 use Rattle.basis.specs.Bits.{value, frameBits}
 use Rattle.basis.specs.Counts.{Counts, from, within}
 use Rattle.basis.proofs.Frames.{value-take-less}
+use Rattle.basis.proofs.Booleans.{which, either-way}
 use Rattle.term_evaluation.specs.Meaning.{membership}
 use Rattle.term_evaluation.specs.Counts.{counts, shown}
 use Rattle.term_evaluation.specs.declared.Counted.{Counted}
 use Rattle.term_evaluation.specs.declared.Tested.{Tested}
 use Rattle.term_sizes.specs.Inside.{Inside}
 use Rattle.term_sizes.proofs.Theorems.{set-passes, condition-passes, counts-pass}
-use Rattle.theory.proofs.Turns.{decide}
 use Rattle.table_layout.specs.Places.{rule-word, construct-word, variable-word, rule-count, construct-count, variable-count, term-count}
-use Rattle.table_layout.specs.Constructs.{both, constructAt}
+use Rattle.table_layout.specs.Constructs.{constructAt}
 use Rattle.table_layout.specs.Held.{Context, size-of, term-words, terms-of, opening}
 use Rattle.table_layout.specs.declared.Construct.{Construct}
 use Rattle.table_layout.specs.declared.Passes.{Passes}
@@ -35,7 +35,6 @@ use Rattle.table_structure.proofs.NodeFacts.{present, use-names, body-exists}
 use Rattle.run_actions.specs.Stored.{stored, prediction-at, follow-at}
 use Rattle.run_actions.specs.Acts.{known-values, enter, open-rule, ahead-at, bits-of, walk, by-branch, branch-act, case-test, by-case, case-act, members-act, by-lookahead, choice-act, turn-act, counted, literal-holds, by-set, construct-act, actOf}
 use Rattle.run_actions.specs.declared.Act.{Act}
-use Rattle.run_refinement.proofs.Picks.{either-way}
 use Rattle.run_refinement.proofs.Walks.{Definite}
 use Rattle.run_refinement.proofs.Widths.{binder-width}
 use Rattle.run_refinement.proofs.Reliable.{Reliable, condition-answers, counts-answer, set-answers}
@@ -71,7 +70,7 @@ module _ {A : Type 0} (P : A → Type 0) (visit : ℕ → A → A) (done broken 
   unfolding walk
   walk-holds zero j = d
   walk-holds (suc most) j =
-      elim (decide (ltb j end)) [
+      elim (which (ltb j end)) [
         | inl e ↦
             let l : j < end = ltb-true j end e in
             rw (e, ne-eqb (size-at ws j) 0 (there j l), walk) (v j (walk visit done broken most ws (j + size-at ws j) end) l (walk-holds most (j + size-at ws j)))
@@ -134,7 +133,7 @@ module _ (ws : List ℕ) (widest : List ℤ) {weight rooms : Context → ℕ →
       -- a case's condition comes to an answer
       tested : (i : ℕ) → i < construct-count ws → (case-test ws us i ≡ Tested.No) ⊎ (case-test ws us i ≡ Tested.Yes)
       tested i h =
-          elim (decide (ltb (construct-word ws i 6) (construct-word ws i 7))) [
+          elim (which (ltb (construct-word ws i 6) (construct-word ws i 7))) [
             | inl t ↦
                 let l : construct-word ws i 6 < construct-word ws i 7 = ltb-true (construct-word ws i 6) (construct-word ws i 7) t in
                 rw (t, le-leb (construct-word ws i 7) (term-count ws) (condition-ends r i h l), condition-known (r .laid) vs i h) (condition-passes vs widest inside (construct-word ws i 6) (terms-of ws (construct-word ws i 6) (construct-word ws i 7)) (condition-answers r i h l))
@@ -186,7 +185,7 @@ module _ (ws : List ℕ) (widest : List ℤ) {weight rooms : Context → ℕ →
       either-way Good (leb (p + 8 * n) (bits-of fs)) (either-way Good (literal-holds ws fs p i 0 n) tt tt) tt
   construct-safe i k (Construct.Range low high) h e =
       let v = value (take 8 (drop p (frameBits fs))) in
-      either-way Good (leb (p + 8) (bits-of fs)) (either-way Good (both (leb low v) (leb v high)) tt tt) tt
+      either-way Good (leb (p + 8) (bits-of fs)) (either-way Good (leb low v && leb v high) tt tt) tt
   construct-safe i k (Construct.Uint width start end binder) h e =
       let v = value (take width (drop p (frameBits fs))) in
       let l : v < 2 ^ width = value-take-less width (drop p (frameBits fs)) in

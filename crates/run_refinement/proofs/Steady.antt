@@ -13,9 +13,9 @@ use lib.IntN.{ℤ, pos}
 use lib.ListN.{length, getD, set, length-set}
 use lib.Seq.{getD-set-same, getD-set-other}
 use Rattle.basis.specs.Bits.{Bits}
+use Rattle.basis.proofs.Booleans.{which}
 use Rattle.theory.specs.Derivation.{Capture}
 use Rattle.theory.specs.Machine.{entry, state, pending-of, undecided, verdict, verdict-of, state-of, entries, open-state, opened}
-use Rattle.theory.proofs.Turns.{decide}
 use Rattle.term_sizes.specs.Inside.{Below, Inside}
 use Rattle.table_layout.specs.Places.{construct-count}
 use Rattle.table_layout.specs.Held.{Context, first-context, Values, parts, bound, held}
@@ -52,7 +52,7 @@ bound-inside widest vs zero n h b = h
 bound-inside widest vs (suc x) n h b =
     record {
       same = length-set vs x (pos n) ∙ h .same;
-      each = λ k l. elim (decide (eqb k x)) [ inl t ↦ own k l (eqb-true k x t) | inr t ↦ rw (getD-set-other vs x k (pos n) (pos 0) (eqb-false k x t)) (h .each k l) ];
+      each = λ k l. elim (which (eqb k x)) [ inl t ↦ own k l (eqb-true k x t) | inr t ↦ rw (getD-set-other vs x k (pos n) (pos 0) (eqb-false k x t)) (h .each k l) ];
     }
   where
     here : x < length vs → Below (getD (set vs x (pos n)) x (pos 0)) (getD widest x (pos 0))

@@ -4,7 +4,7 @@ use Prim.Native.Nat.{ℕ, zero, suc, _-_, _≤_, _<_}
 use native.Mathlib.Omega.{arith}
 use borrow.Author.Tests.{eqb-false, eq-eqb, leb-true}
 use mathlib.Core.Path.{_≡_, refl, sym, _∙_, ap, subst}
-use mathlib.Core.Bool.{true, false}
+use mathlib.Core.Bool.{true, false, cond}
 use mathlib.Core.List.{List, _∷_}
 use mathlib.Core.Option.{Option, none, some}
 use lib.Dec.{leb, eqb}
@@ -13,7 +13,6 @@ use lib.ListN.{getD, drop}
 use Rattle.basis.specs.Bits.{frameBits}
 use Rattle.theory.specs.Derivation.{Capture}
 use Rattle.theory.specs.Machine.{entry, state, undecided, run, step, stepped}
-use Rattle.table_layout.specs.Constructs.{pick}
 use Rattle.table_layout.specs.Held.{first-context, held, opening}
 use Rattle.run_actions.specs.Stored.{tests-of}
 use Rattle.run_actions.specs.Acts.{bits-of, actOf}
@@ -69,10 +68,10 @@ module _ (ws fs cs ps : List ℕ) (vs : List ℤ) (rs : List ℕ) (h : Head) whe
   step-taken e u =
       let bad : Whole = whole cs ps vs rs (break h) in
       let did : Whole = effect ws fs i k cs ps vs rs h a in
-      let first : Whole = pick (leb i opening) did bad in
-      let here : Whole = pick (eqb (h .count) 0) bad first in
+      let first : Whole = cond (leb i opening) did bad in
+      let here : Whole = cond (eqb (h .count) 0) bad first in
       let v : eqb (h .verdict) 0 ≡ true = eq-eqb (h .verdict) 0 e in
-      let u₁ : Unbroken (pick (in-bound ws fs (h .steps)) here bad) = rw v at u in
+      let u₁ : Unbroken (cond (in-bound ws fs (h .steps)) here bad) = rw v at u in
       let b : in-bound ws fs (h .steps) ≡ true = first-kept (in-bound ws fs (h .steps)) here bad refl u₁ in
       let u₂ : Unbroken here = rw b at u₁ in
       let c : eqb (h .count) 0 ≡ false = second-kept (eqb (h .count) 0) bad first refl u₂ in

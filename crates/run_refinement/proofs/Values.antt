@@ -6,15 +6,14 @@ use native.Mathlib.Decide.{decLt}
 use borrow.Author.Tests.{lt-ltb, le-ltb}
 use mathlib.Core.Path.{_≡_, refl, ap, subst}
 use mathlib.Core.Logic.{_⊎_, inl, inr}
-use mathlib.Core.Bool.{Bool, true, false}
+use mathlib.Core.Bool.{Bool, true, false, cond, _&&_}
 use mathlib.Core.List.{List, [], _∷_}
 use lib.Dec.{leb, ltb, eqb}
 use lib.IntN.{ℤ, pos}
 use lib.ListN.{length, take, drop, length-take}
 use lib.Seq.{getD-take}
 use Rattle.basis.specs.Bits.{value, frameBits}
-use Rattle.theory.proofs.Turns.{decide}
-use Rattle.term_words.specs.Numbers.{pick as choose}
+use Rattle.basis.proofs.Booleans.{which}
 use Rattle.term_words.specs.Words.{termAt, terms}
 use Rattle.term_words.specs.Steps.{variableOf, operateOf, afterOf, operated, stepOf}
 use Rattle.term_words.specs.declared.Kind.{Kind}
@@ -31,7 +30,7 @@ use Rattle.term_evaluation.specs.declared.Ended.{Ended}
 use Rattle.term_evaluation.specs.declared.Form.{Form}
 use Rattle.term_evaluation.specs.declared.Tested.{Tested}
 use Rattle.table_layout.specs.Places.{rule-word, rule-count, construct-word, construct-count, variable-count}
-use Rattle.table_layout.specs.Constructs.{pick, both, constructAt}
+use Rattle.table_layout.specs.Constructs.{constructAt}
 use Rattle.table_layout.specs.Held.{term-words, terms-of, size-of}
 use Rattle.table_layout.specs.declared.Construct.{Construct}
 use Rattle.table_layout.specs.declared.Passes.{Passes}
@@ -167,7 +166,7 @@ module _ (n : ℕ) (env : List ℤ) where
       worked values = run Kind.Calculation Mode.Values values (pos 0) start (terms ws start last) Numbers.Zero 1
 
       by : (t : Bool) (x y : Ended) → Fewer Counted.Malformed (ofTrial f (x .trial)) (ofTrial f (y .trial))
-          → Fewer Counted.Malformed (choose t (tallyEnd f x) (record { counted = Counted.Malformed; at = start }) .counted) (choose t (tallyEnd f y) (record { counted = Counted.Malformed; at = start }) .counted)
+          → Fewer Counted.Malformed (cond t (tallyEnd f x) (record { counted = Counted.Malformed; at = start }) .counted) (cond t (tallyEnd f y) (record { counted = Counted.Malformed; at = start }) .counted)
       by true x y h = h
       by false x y h = inr refl
 
@@ -193,7 +192,7 @@ module _ (ws fs : List ℕ) (vs : List ℤ) (p i k : ℕ) where
   case-fewer : (j : ℕ) → Fewer Tested.Malformed (case-test ws us j) (case-test ws vs j)
   case-fewer j = by (ltb (construct-word ws j 6) (construct-word ws j 7)) (terms-in-table ws (construct-word ws j 7)) (condition-fewer n vs (construct-word ws j 6) (terms-of ws (construct-word ws j 6) (construct-word ws j 7)))
     where
-      by : (s t : Bool) {x y : Tested} → Fewer Tested.Malformed x y → Fewer Tested.Malformed (pick s (pick t x Tested.Malformed) Tested.Yes) (pick s (pick t y Tested.Malformed) Tested.Yes)
+      by : (s t : Bool) {x y : Tested} → Fewer Tested.Malformed x y → Fewer Tested.Malformed (cond s (cond t x Tested.Malformed) Tested.Yes) (cond s (cond t y Tested.Malformed) Tested.Yes)
       by true true h = h
       by true false h = inr refl
       by false t h = inr refl
@@ -204,9 +203,9 @@ module _ (ws fs : List ℕ) (vs : List ℤ) (p i k : ℕ) where
   cases-same end zero j s = refl
   cases-same end (suc most) j s =
       let size : ℕ = size-of (constructAt ws j) in
-      elim (decide (ltb j end)) [
+      elim (which (ltb j end)) [
         | inl e ↦
-            elim (decide (eqb size 0)) [
+            elim (which (eqb size 0)) [
               | inl z ↦ rw (e, z, walk) (by-case-same j Act.Broken Act.Broken (case-test ws us j) (case-test ws vs j) (case-fewer j) (λ d. refl) (rw (e, z, walk) at s))
               | inr z ↦ rw (e, z, walk) (by-case-same j _ _ (case-test ws us j) (case-test ws vs j) (case-fewer j) (cases-same end most (j + size)) (rw (e, z, walk) at s))
             ]
@@ -223,18 +222,18 @@ module _ (ws fs : List ℕ) (vs : List ℤ) (p i k : ℕ) where
   counted-fewer Passes.Some = inr refl
   counted-fewer (Passes.Counted start end) = by (terms-in-table ws end) (counts-fewer n vs (term-words ws) start end)
     where
-      by : (t : Bool) {x y : Counted} → Fewer Counted.Malformed x y → Fewer Counted.Malformed (pick t x Counted.Malformed) (pick t y Counted.Malformed)
+      by : (t : Bool) {x y : Counted} → Fewer Counted.Malformed x y → Fewer Counted.Malformed (cond t x Counted.Malformed) (cond t y Counted.Malformed)
       by true h = h
       by false h = inr refl
 
   uint-same : (width start end binder : ℕ) → Definite (uint-act ws fs us p width start end binder) → uint-act ws fs us p width start end binder ≡ uint-act ws fs vs p width start end binder
-  uint-same width start end binder = by (both (terms-in-table ws end) (binder-in-table ws binder)) (leb (p + width) (bits-of fs)) (membership-fewer n vs (pos v) start (terms-of ws start end))
+  uint-same width start end binder = by (terms-in-table ws end && binder-in-table ws binder) (leb (p + width) (bits-of fs)) (membership-fewer n vs (pos v) start (terms-of ws start end))
     where
       v : ℕ
       v = value (take width (drop p (frameBits fs)))
 
-      by : (a b : Bool) {x y : Tested} → Fewer Tested.Malformed x y → Definite (pick a (pick b (by-set x width binder v) Act.Fail) Act.Broken)
-          → pick a (pick b (by-set x width binder v) Act.Fail) Act.Broken ≡ pick a (pick b (by-set y width binder v) Act.Fail) Act.Broken
+      by : (a b : Bool) {x y : Tested} → Fewer Tested.Malformed x y → Definite (cond a (cond b (by-set x width binder v) Act.Fail) Act.Broken)
+          → cond a (cond b (by-set x width binder v) Act.Fail) Act.Broken ≡ cond a (cond b (by-set y width binder v) Act.Fail) Act.Broken
       by true true (inl e) s = absurd (s (ap (λ (t : Tested). by-set t width binder v) e))
       by true true (inr e) s = ap (λ (t : Tested). by-set t width binder v) e
       by true false h s = refl

@@ -4,20 +4,21 @@ use Prim.Native.Nat.{ℕ, zero, suc, _+_, _*_, _-_, _≤_}
 use native.Mathlib.Omega.{arith}
 use mathlib.Core.Path.{_≡_, refl, sym, subst}
 use mathlib.Core.Logic.{_↔_, _⊎_, inl, inr}
+use mathlib.Core.Bool.{_&&_}
 use mathlib.Core.List.{List}
 use lib.Dec.{leb, ltb, eqb}
 use lib.IntN.{ℤ}
 use lib.ListN.{length, getD}
 use Rattle.basis.specs.Limits.{max-entries}
+use Rattle.basis.proofs.Booleans.{either-way}
 use Rattle.theory.specs.Machine.{undecided, matched, unmatched}
-use Rattle.table_layout.specs.Constructs.{both}
 use Rattle.run_actions.specs.Acts.{bits-of, actOf}
 use Rattle.run_actions.specs.declared.Act.{Act}
 use Rattle.run_steps.specs.Steps.{Whole, whole, verdict-after, effect, step-of}
 use Rattle.run_steps.specs.declared.Head.{Head}
 use Rattle.run_steps.proofs.Running.{step-stays}
 use Rattle.run_refinement.specs.Runs.{verdict-as, head-of}
-use Rattle.run_refinement.proofs.Picks.{either-way, Unbroken}
+use Rattle.run_refinement.proofs.Picks.{Unbroken}
 use Rattle.run_refinement.proofs.Step.{step-taken}
 
 -- after an act the run is broken, undecided or decided
@@ -33,7 +34,7 @@ effect-few ws fs i k cs ps vs rs h Act.Broken = inl refl
 effect-few ws fs i k cs ps vs rs h Act.Fail = inr (omega arith)
 effect-few ws fs i k cs ps vs rs h (Act.Enter b) = inr (after-few fs (h .count) (h .position))
 effect-few ws fs i k cs ps vs rs h (Act.Members start end n) = either-way Few (leb (h .count + n) (max-entries + 1)) (inr (after-few fs (h .count - 1 + n) (h .position))) (inl refl)
-effect-few ws fs i k cs ps vs rs h (Act.Again b) = either-way Few (both (ltb (h .count) max-entries) (ltb k (bits-of fs + 1))) (inr (after-few fs (h .count + 1) (h .position))) (inl refl)
+effect-few ws fs i k cs ps vs rs h (Act.Again b) = either-way Few (ltb (h .count) max-entries && ltb k (bits-of fs + 1)) (inr (after-few fs (h .count + 1) (h .position))) (inl refl)
 effect-few ws fs i k cs ps vs rs h Act.Leave = inr (after-few fs (h .count - 1) (h .position))
 effect-few ws fs i k cs ps vs rs h (Act.Take width binder n) = either-way Few (leb (2 * h .captures + 2) (length rs)) (inr (after-few fs (h .count - 1) (h .position + width))) (inl refl)
 

@@ -10,8 +10,8 @@ use mathlib.Core.List.{List, [], _∷_}
 use mathlib.Core.Option.{Option, none, some}
 use lib.Dec.{ltb, eqb}
 use lib.ListN.{length}
+use Rattle.basis.proofs.Booleans.{which}
 use Rattle.theory.specs.Machine.{choose}
-use Rattle.theory.proofs.Turns.{decide}
 use Rattle.table_layout.specs.Held.{parts}
 use Rattle.table_wellformed.specs.Checks.{size-at}
 use Rattle.table_structure.proofs.Tiles.{parts-more, parts-none}
@@ -71,11 +71,11 @@ module _ (ws : List ℕ) (end : ℕ) (holds : ℕ → Bool) (visit : ℕ → Act
   found-chosen zero m j l k s = found-end zero m j (omega arith)
   found-chosen (suc n) zero j l k s = found-end (suc n) zero j (omega arith)
   found-chosen (suc n) (suc m) j l k s =
-      elim (decide (ltb j end)) [
+      elim (which (ltb j end)) [
         | inr t ↦ found-end (suc n) (suc m) j (ltb-false j end t)
         | inl t ↦
             let h : j < end = ltb-true j end t in
-            elim (decide (eqb (size-at ws j) 0)) [
+            elim (which (eqb (size-at ws j) 0)) [
               | inl z ↦
                   let e = found-missing n j h (eqb-true (size-at ws j) 0 z) in
                   e ∙ (visited j Act.Broken [] (each j) (λ b. s (e ∙ b)) (λ f b. absurd (b refl)) ∙ ap (λ (js : List ℕ). chosen-act (choose holds js)) (sym (parts-last m ws j end h (eqb-true (size-at ws j) 0 z))))
@@ -120,11 +120,11 @@ module _ (ws : List ℕ) (start end : ℕ) where
   pub row-of : (most j n : ℕ) → end ≤ j + most → Definite (members-from ws end start j n) → Rowed j n
   row-of zero j n l s = row-end j n (omega arith)
   row-of (suc most) j n l s =
-      elim (decide (ltb j end)) [
+      elim (which (ltb j end)) [
         | inr t ↦ row-end j n (ltb-false j end t)
         | inl t ↦
             let h : j < end = ltb-true j end t in
-            elim (decide (eqb (size-at ws j) 0)) [
+            elim (which (eqb (size-at ws j) 0)) [
               | inl z ↦ absurd (s (members-missing ws end start j n h (eqb-true (size-at ws j) 0 z)))
               | inr z ↦
                   let y : size-at ws j ≡ 0 → ⊥ = eqb-false (size-at ws j) 0 z in

@@ -4,21 +4,20 @@ use Prim.Native.Nat.{ℕ, suc, _-_, _≤_, _<_}
 use native.Mathlib.Omega.{arith}
 use borrow.Author.Tests.{leb-true, eqb-true, ne-eqb}
 use mathlib.Core.Path.{_≡_, refl, sym, _∙_, ap}
-use mathlib.Core.Bool.{Bool, true}
+use mathlib.Core.Bool.{Bool, true, cond, _&&_}
 use mathlib.Core.List.{List}
 use lib.Dec.{leb, ltb, eqb}
 use Rattle.basis.specs.Limits.{max-constructs, max-variables}
+use Rattle.basis.proofs.Booleans.{both-first, both-second, either-way}
 use Rattle.term_words.specs.declared.Kind.{Kind}
 use Rattle.table_layout.specs.Places.{construct-word, variable-word, construct-count, variable-count}
-use Rattle.table_layout.specs.Constructs.{pick, both, branches, listed, repetitionOf, innerOf, leafOf, constructOf, constructAt}
+use Rattle.table_layout.specs.Constructs.{branches, listed, repetitionOf, innerOf, leafOf, constructOf, constructAt}
 use Rattle.table_layout.specs.Attributes.{attributes-of}
 use Rattle.table_layout.specs.declared.Construct.{Construct}
 use Rattle.table_layout.specs.declared.Passes.{Passes}
 use Rattle.table_wellformed.specs.Lists.{list-formed}
 use Rattle.table_wellformed.specs.Rules.{named-back}
-use Rattle.table_wellformed.proofs.Walks.{both-first, both-second}
 use Rattle.table_structure.proofs.Facts.{Laid}
-use Rattle.run_refinement.proofs.Picks.{either-way}
 use Rattle.table_structure.proofs.Binding.{bound-in, variable-of}
 
 -- what binds has its width as its first operand
@@ -33,8 +32,8 @@ inner-width : (x kind size a b c : ℕ) → HasWidth x (innerOf kind size a b c)
 inner-width x kind size a b c =
     either-way (HasWidth x) (eqb kind 1) none (either-way (HasWidth x) (eqb kind 2) none (either-way (HasWidth x) (eqb kind 3) repeated none))
   where
-    counted : HasWidth x (pick (both (eqb a 4) (listed b c)) (Construct.Repetition size (Passes.Counted b c)) Construct.Missing)
-    counted = either-way (HasWidth x) (both (eqb a 4) (listed b c)) none none
+    counted : HasWidth x (cond (eqb a 4 && listed b c) (Construct.Repetition size (Passes.Counted b c)) Construct.Missing)
+    counted = either-way (HasWidth x) (eqb a 4 && listed b c) none none
 
     repeated : HasWidth x (repetitionOf size a b c)
     repeated = either-way (HasWidth x) (eqb a 1) none (either-way (HasWidth x) (eqb a 2) none (either-way (HasWidth x) (eqb a 3) none counted))
@@ -42,9 +41,9 @@ inner-width x kind size a b c =
 leaf-width : (kind a b c d : ℕ) → HasWidth a (leafOf kind a b c d)
 leaf-width kind a b c d =
     either-way (HasWidth a) (eqb kind 5) (either-way (HasWidth a) (ltb a 64) none none)
-    (either-way (HasWidth a) (eqb kind 6) (either-way (HasWidth a) (both (leb 1 a) (leb a 32)) none none)
-    (either-way (HasWidth a) (eqb kind 7) (either-way (HasWidth a) (both (ltb a 128) (ltb b 128)) none none)
-    (either-way (HasWidth a) (eqb kind 8) (either-way (HasWidth a) (both (both (leb 1 a) (leb a 32)) (both (listed b c) (leb d 64))) (λ h. refl) none)
+    (either-way (HasWidth a) (eqb kind 6) (either-way (HasWidth a) (leb 1 a && leb a 32) none none)
+    (either-way (HasWidth a) (eqb kind 7) (either-way (HasWidth a) (ltb a 128 && ltb b 128) none none)
+    (either-way (HasWidth a) (eqb kind 8) (either-way (HasWidth a) ((leb 1 a && leb a 32) && (listed b c && leb d 64)) (λ h. refl) none)
     (either-way (HasWidth a) (eqb kind 9) none none))))
 
 construct-width : (ws : List ℕ) (i : ℕ) → HasWidth (construct-word ws i 2) (constructAt ws i)
@@ -54,7 +53,7 @@ construct-width ws i =
     let kind : ℕ = construct-word ws i 0 in
     let size : ℕ = construct-word ws i 1 in
     either-way (HasWidth x) (ltb i max-constructs)
-    (either-way (HasWidth x) (both (leb 1 kind) (leb kind 4))
+    (either-way (HasWidth x) (leb 1 kind && leb kind 4)
     (either-way (HasWidth x) (branches i size) (inner-width x kind size x (construct-word ws i 3) (construct-word ws i 4)) none)
     (either-way (HasWidth x) (eqb size 1) (leaf-width kind x (construct-word ws i 3) (construct-word ws i 4) (construct-word ws i 5)) none))
     none
@@ -68,8 +67,8 @@ pub record Binder (ws : List ℕ) (x width : ℕ) : Type 0 where
 pub binder-width : {ws : List ℕ} → Laid ws → (i width start end x : ℕ) → i < construct-count ws → constructAt ws i ≡ Construct.Uint width start end (suc x) → Binder ws x width
 binder-width {ws} l i width start end x h e =
     let N : Bool = named-back ws i (suc x) in
-    let both-laid : both N (list-formed Kind.Set ws start end) ≡ true = rw e at (l .kind i h) in
-    let named : both (leb (suc x) (variable-count ws)) (eqb (variable-word ws (suc x - 1) 0) i) ≡ true = rw (ne-eqb (suc x) 0 (λ z. omega arith)) at (both-first N (list-formed Kind.Set ws start end) both-laid) in
+    let both-laid : (N && list-formed Kind.Set ws start end) ≡ true = rw e at (l .kind i h) in
+    let named : (leb (suc x) (variable-count ws) && eqb (variable-word ws (suc x - 1) 0) i) ≡ true = rw (ne-eqb (suc x) 0 (λ z. omega arith)) at (both-first N (list-formed Kind.Set ws start end) both-laid) in
     let few : suc x ≤ variable-count ws = leb-true (suc x) (variable-count ws) (both-first (leb (suc x) (variable-count ws)) (eqb (variable-word ws (suc x - 1) 0) i) named) in
     let z : suc x - 1 ≡ x = omega arith in
     let place : variable-word ws x 0 ≡ i = sym (ap (λ (y : ℕ). variable-word ws y 0) z) ∙ eqb-true (variable-word ws (suc x - 1) 0) i (both-second (leb (suc x) (variable-count ws)) (eqb (variable-word ws (suc x - 1) 0) i) named) in

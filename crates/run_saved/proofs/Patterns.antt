@@ -4,14 +4,13 @@ use Prim.Native.Nat.{ℕ, zero, suc, _+_, _-_, _^_, _≤_, _<_}
 use native.Mathlib.Omega.{arith}
 use borrow.Author.Tests.{lt-ltb, le-ltb, ltb-true, ltb-false}
 use mathlib.Core.Path.{_≡_, refl, sym, ap, _∙_}
-use mathlib.Core.Bool.{Bool, true, false, not}
+use mathlib.Core.Bool.{Bool, true, false, cond, not}
 use lib.Dec.{ltb}
 use lib.IntN.{ℤ, pos, negsuc, natAbs, _-ℤ_}
 use lib.Signed.{nonNeg, mag}
 use mir.Syntax.{w64}
 use mir.Val.{toZ, ofZ}
 use Rattle.term_integers.proofs.Laws.{back, differ}
-use Rattle.table_layout.specs.Constructs.{pick}
 use Rattle.run_saved.specs.Saved.{pattern, whole}
 
 -- -1 - n
@@ -52,7 +51,7 @@ whole-pattern (negsuc n) h = whole-high (2 ^ 64 - suc n) (omega arith) ∙ ap ne
 pub pattern-whole : (n : ℕ) → n < 2 ^ 64 → pattern (whole n) ≡ n
 pattern-whole n h = by (ltb n (2 ^ 63)) refl
   where
-    by : (t : Bool) → ltb n (2 ^ 63) ≡ t → pattern (pick t (pos n) (negsuc (2 ^ 64 - suc n))) ≡ n
+    by : (t : Bool) → ltb n (2 ^ 63) ≡ t → pattern (cond t (pos n) (negsuc (2 ^ 64 - suc n))) ≡ n
     by true e = refl
     by false e = omega arith
 
@@ -63,6 +62,6 @@ pattern-small (negsuc n) h = omega arith
 pub whole-small : (n : ℕ) → n < 2 ^ 64 → mag (whole n) < 2 ^ 63
 whole-small n h = by (ltb n (2 ^ 63)) refl
   where
-    by : (t : Bool) → ltb n (2 ^ 63) ≡ t → mag (pick t (pos n) (negsuc (2 ^ 64 - suc n))) < 2 ^ 63
+    by : (t : Bool) → ltb n (2 ^ 63) ≡ t → mag (cond t (pos n) (negsuc (2 ^ 64 - suc n))) < 2 ^ 63
     by true e = ltb-true n (2 ^ 63) e
     by false e = let z : 2 ^ 63 ≤ n = ltb-false n (2 ^ 63) e in omega arith

@@ -2,11 +2,11 @@
 -- Assumes nothing.
 use Prim.Native.Nat.{ℕ, zero, suc, _+_, _*_, _-_, _^_, _/_, _%_}
 use mathlib.Core.List.{List, [], _∷_, _++_}
+use mathlib.Core.Bool.{cond}
 use lib.Dec.{eqb, ltb}
 use lib.IntN.{ℤ, pos, negsuc}
 use lib.ListN.{length, drop}
 use Rattle.basis.specs.Limits.{max-variables, max-entries}
-use Rattle.table_layout.specs.Constructs.{pick}
 use Rattle.run_grants.specs.Runs.{closed-run}
 use Rattle.run_grants.specs.declared.Run.{Run}
 
@@ -45,7 +45,7 @@ pattern (negsuc n) = 2 ^ 64 - suc n
 
 -- and back
 abbrev pub whole : ℕ → ℤ
-whole n = pick (ltb n (2 ^ 63)) (pos n) (negsuc (2 ^ 64 - suc n))
+whole n = cond (ltb n (2 ^ 63)) (pos n) (negsuc (2 ^ 64 - suc n))
 
 -- a word is its own pattern
 abbrev pub plain : ℕ → ℕ
@@ -89,8 +89,8 @@ decoded bs =
 
 -- bytes of any length: a closed run, where they are no saved run
 abbrev pub restored : List ℕ → Run
-restored bs = pick (eqb (length bs) saved-bytes) (decoded bs) closed-run
+restored bs = cond (eqb (length bs) saved-bytes) (decoded bs) closed-run
 
 -- what a slice of any length then holds: where a saved run doesn't fill it, what it held
 abbrev pub stored : Run → List ℕ → List ℕ
-stored run out = pick (eqb (length out) saved-bytes) (encoded run) out
+stored run out = cond (eqb (length out) saved-bytes) (encoded run) out

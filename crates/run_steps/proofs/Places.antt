@@ -4,14 +4,14 @@ use Prim.Native.Nat.{ℕ, zero, suc, _+_, _-_, _^_, _≤_, _<_}
 use native.Mathlib.Omega.{arith}
 use borrow.Author.Tests.{eq-eqb, ne-eqb}
 use mathlib.Core.Path.{_≡_, refl, _∙_, ap}
-use mathlib.Core.Bool.{Bool}
+use mathlib.Core.Bool.{Bool, cond}
 use mathlib.Core.List.{List}
 use lib.IntN.{ℤ, pos}
 use lib.ListN.{set}
 use mir.Syntax.{w64}
 use mir.Val.{toZ, ofZ}
 use Rattle.term_integers.proofs.Laws.{back}
-use Rattle.table_layout.specs.Constructs.{pick, constructAt}
+use Rattle.table_layout.specs.Constructs.{constructAt}
 use Rattle.table_layout.specs.Held.{size-of}
 use Rattle.run_actions.specs.Acts.{walk}
 use Rattle.run_actions.proofs.Walks.{walk-end, walk-missing, walk-part, walk-first}
@@ -47,15 +47,15 @@ module _ (what : ℕ → ℕ) (ws : List ℕ) (end : ℕ) where
   unfolding placed
   placed-full j k xs l z =
       let x = walk-first {A = Put} (put what) same same ws end j l in
-      ap (λ (f : Put). f k xs) (x .1) ∙ ap (λ (t : Bool). pick t xs (x .0 (k - 1) (set xs (k - 1) (what j)))) (eq-eqb k 0 z)
+      ap (λ (f : Put). f k xs) (x .1) ∙ ap (λ (t : Bool). cond t xs (x .0 (k - 1) (set xs (k - 1) (what j)))) (eq-eqb k 0 z)
 
   pub placed-missing : (j k : ℕ) (xs : List ℕ) → j < end → (k ≡ 0 → ⊥) → size j ≡ 0 → placed what ws j end k xs ≡ set xs (k - 1) (what j)
   unfolding placed
   placed-missing j k xs l n z =
-      ap (λ (f : Put). f k xs) (walk-missing {A = Put} (put what) same same ws end j l z) ∙ ap (λ (t : Bool). pick t xs (set xs (k - 1) (what j))) (ne-eqb k 0 n)
+      ap (λ (f : Put). f k xs) (walk-missing {A = Put} (put what) same same ws end j l z) ∙ ap (λ (t : Bool). cond t xs (set xs (k - 1) (what j))) (ne-eqb k 0 n)
 
   pub placed-next : (j k : ℕ) (xs : List ℕ) → j < end → (k ≡ 0 → ⊥) → (size j ≡ 0 → ⊥) → placed what ws j end k xs ≡ placed what ws (j + size j) end (k - 1) (set xs (k - 1) (what j))
   unfolding placed
   placed-next j k xs l n z =
       ap (λ (f : Put). f k xs) (walk-part {A = Put} (put what) same same ws end j l z)
-      ∙ ap (λ (t : Bool). pick t xs (walk {A = Put} (put what) same same (end - (j + size j)) ws (j + size j) end (k - 1) (set xs (k - 1) (what j)))) (ne-eqb k 0 n)
+      ∙ ap (λ (t : Bool). cond t xs (walk {A = Put} (put what) same same (end - (j + size j)) ws (j + size j) end (k - 1) (set xs (k - 1) (what j)))) (ne-eqb k 0 n)

@@ -4,17 +4,16 @@ use Prim.Native.Nat.{ℕ, zero, suc, _+_, _*_, _-_, _≤_, _<_}
 use native.Mathlib.Omega.{arith}
 use borrow.Author.Tests.{leb-true, ltb-true, ne-eqb, eqb-false}
 use mathlib.Core.Path.{_≡_, refl, ap, _∙_}
-use mathlib.Core.Bool.{Bool, true, false}
+use mathlib.Core.Bool.{Bool, true, false, cond, _&&_}
 use mathlib.Core.List.{List}
 use lib.Dec.{leb, ltb, eqb}
 use lib.IntN.{ℤ}
 use lib.ListN.{length, getD, set, length-set}
 use Rattle.table_layout.specs.Held.{opening}
 use Rattle.basis.specs.Limits.{max-entries}
-use Rattle.table_layout.specs.Constructs.{pick, both}
+use Rattle.basis.proofs.Booleans.{both-true, picked-true}
 use Rattle.run_actions.specs.Acts.{bits-of, actOf, Doable}
 use Rattle.run_actions.specs.declared.Act.{Act}
-use Rattle.run_actions.proofs.Doing.{both-true}
 use Rattle.run_actions.proofs.Doing.{walk-keeps, doable}
 use Rattle.run_steps.specs.Steps.{Whole, whole, break, taken, put, placed, bind, members-done, again-done, take-done, effect, in-bound, first-step, step-of, steps-of, Fits}
 use Rattle.run_steps.specs.declared.Head.{Head}
@@ -26,7 +25,7 @@ Keeps f = (k : ℕ) (xs : List ℕ) → length (f k xs) ≡ length xs
 put-keeps : (what : ℕ → ℕ) (j : ℕ) (rest : ℕ → List ℕ → List ℕ) → Keeps rest → Keeps (put what j rest)
 put-keeps what j rest h k xs = put-by (eqb k 0)
   where
-    put-by : (t : Bool) → length (pick t xs (rest (k - 1) (set xs (k - 1) (what j)))) ≡ length xs
+    put-by : (t : Bool) → length (cond t xs (rest (k - 1) (set xs (k - 1) (what j)))) ≡ length xs
     put-by true = refl
     put-by false = h (k - 1) (set xs (k - 1) (what j)) ∙ length-set xs (k - 1) (what j)
 
@@ -42,7 +41,7 @@ positive (suc n) h = omega arith
 module _ (ws fs : List ℕ) where
   -- what holds after a step, from what holds of the run as it is, broken, and after what was decided for its first entry
   module _ (P : Whole → Type 0) where
-    by-test : (t : Bool) (a b : Whole) → (t ≡ true → P a) → (t ≡ false → P b) → P (pick t a b)
+    by-test : (t : Bool) (a b : Whole) → (t ≡ true → P a) → (t ≡ false → P b) → P (cond t a b)
     by-test true a b x y = x refl
     by-test false a b x y = y refl
 
@@ -55,8 +54,8 @@ module _ (ws fs : List ℕ) where
         let k : ℕ = getD ps (h .count - 1) 0 in
         let ended : Whole = whole cs ps vs rs (break h) in
         let first : Whole = first-step ws fs i k cs ps vs rs h in
-        let here : Whole = pick (eqb (h .count) 0) ended first in
-        by-test (eqb (h .verdict) 0) (pick (in-bound ws fs (h .steps)) here ended) (whole cs ps vs rs h)
+        let here : Whole = cond (eqb (h .count) 0) ended first in
+        by-test (eqb (h .verdict) 0) (cond (in-bound ws fs (h .steps)) here ended) (whole cs ps vs rs h)
         (λ e.
         by-test (in-bound ws fs (h .steps)) here ended
         (λ b.
@@ -67,15 +66,11 @@ module _ (ws fs : List ℕ) where
         (λ b. broke))
         (λ e. same)
 
-  picked : (t : Bool) (a b : Whole) → (t ≡ true → Fits fs a) → Fits fs b → Fits fs (pick t a b)
-  picked true a b x y = x refl
-  picked false a b x y = y
-
   module _ (cs ps : List ℕ) (vs : List ℤ) (rs : List ℕ) (h : Head) (f : Fits fs (whole cs ps vs rs h)) (some : 0 < h .count) where
     members-fit : (start end n : ℕ) → Fits fs (members-done ws fs cs ps vs rs h start end n)
     members-fit start end n =
         let at : ℕ = h .count - 1 + n in
-        picked (leb (h .count + n) (max-entries + 1))
+        picked-true (Fits fs) (leb (h .count + n) (max-entries + 1))
         (whole (placed (λ j. j) ws start end at cs) (placed (λ j. 0) ws start end at ps) vs rs (taken fs h at (h .position) (h .captures)))
         (whole cs ps vs rs (break h))
         (λ e.
@@ -85,7 +80,7 @@ module _ (ws fs : List ℕ) where
 
     again-fits : (k b : ℕ) → Fits fs (again-done fs cs ps vs rs h k b)
     again-fits k b =
-        picked (both (ltb (h .count) max-entries) (ltb k (bits-of fs + 1)))
+        picked-true (Fits fs) (ltb (h .count) max-entries && ltb k (bits-of fs + 1))
         (whole (set cs (h .count) b) (set (set ps (h .count - 1) (k + 1)) (h .count) 0) vs rs (taken fs h (h .count + 1) (h .position) (h .captures)))
         (whole cs ps vs rs (break h))
         (λ e.
@@ -95,7 +90,7 @@ module _ (ws fs : List ℕ) where
 
     take-fits : (i width binder n : ℕ) → h .position + width ≤ bits-of fs → Fits fs (take-done fs cs ps vs rs h i width binder n)
     take-fits i width binder n w =
-        picked (leb (2 * h .captures + 2) (length rs))
+        picked-true (Fits fs) (leb (2 * h .captures + 2) (length rs))
         (whole cs ps (bind binder n vs) (set (set rs (2 * h .captures) i) (2 * h .captures + 1) (h .position)) (taken fs h (h .count - 1) (h .position + width) (h .captures + 1)))
         (whole cs ps vs rs (break h))
         (λ e.

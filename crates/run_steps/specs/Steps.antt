@@ -2,7 +2,7 @@
 -- are pending, and what stands beyond may be anything.
 -- Assumes nothing.
 use Prim.Native.Nat.{ℕ, zero, suc, _+_, _*_, _-_, _≤_}
-use mathlib.Core.Bool.{Bool, false}
+use mathlib.Core.Bool.{Bool, false, cond, _&&_}
 use mathlib.Core.Path.{_≡_}
 use mathlib.Core.List.{List}
 use lib.Dec.{leb, ltb, eqb}
@@ -11,7 +11,6 @@ use lib.ListN.{length, getD, set}
 use Rattle.table_layout.specs.Held.{opening}
 use Rattle.basis.specs.Limits.{max-weight, max-entries}
 use Rattle.table_layout.specs.Places.{weight-of}
-use Rattle.table_layout.specs.Constructs.{pick, both}
 use Rattle.run_actions.specs.Acts.{walk, bits-of, actOf}
 use Rattle.run_actions.specs.declared.Act.{Act}
 use Rattle.run_steps.specs.declared.Head.{Head}
@@ -46,7 +45,7 @@ fail h = record { position = h .position; count = h .count; captures = h .captur
 
 -- "When the list is empty the run is decided: match at the end of the frame, else no match."
 abbrev pub verdict-after : List ℕ → ℕ → ℕ → ℕ
-verdict-after fs count position = pick (eqb count 0) (pick (eqb position (bits-of fs)) matched unmatched) undecided
+verdict-after fs count position = cond (eqb count 0) (cond (eqb position (bits-of fs)) matched unmatched) undecided
 
 -- a step taken, after which so many entries, this position and so many captures are there
 abbrev pub taken : List ℕ → Head → ℕ → ℕ → ℕ → Head
@@ -55,7 +54,7 @@ taken fs h count position captures =
 
 -- Members are put below each other, the first one last, ending below place `at`. One of them: `what` is put for it.
 abbrev pub put : (ℕ → ℕ) → ℕ → (ℕ → List ℕ → List ℕ) → ℕ → List ℕ → List ℕ
-put what j rest k xs = pick (eqb k 0) xs (rest (k - 1) (set xs (k - 1) (what j)))
+put what j rest k xs = cond (eqb k 0) xs (rest (k - 1) (set xs (k - 1) (what j)))
 
 -- the members from number `start` up to number `end`
 unfoldable pub placed : (ℕ → ℕ) → List ℕ → ℕ → ℕ → ℕ → List ℕ → List ℕ
@@ -72,21 +71,21 @@ bind (suc x) n vs = set vs x (pos n)
 -- the members of a concatenation in the place of the first entry
 abbrev pub members-done : List ℕ → List ℕ → List ℕ → List ℕ → List ℤ → List ℕ → Head → ℕ → ℕ → ℕ → Whole
 members-done ws fs cs ps vs rs h start end n =
-    pick (leb (h .count + n) (max-entries + 1))
+    cond (leb (h .count + n) (max-entries + 1))
     (whole (placed (λ j. j) ws start end (h .count - 1 + n) cs) (placed (λ j. 0) ws start end (h .count - 1 + n) ps) vs rs (taken fs h (h .count - 1 + n) (h .position) (h .captures)))
     (whole cs ps vs rs (break h))
 
 -- the first entry with one pass more than k, below its body; a list has room for "the frame's bits and one" passes, as 24 says
 abbrev pub again-done : List ℕ → List ℕ → List ℕ → List ℤ → List ℕ → Head → ℕ → ℕ → Whole
 again-done fs cs ps vs rs h k b =
-    pick (both (ltb (h .count) max-entries) (ltb k (bits-of fs + 1)))
+    cond (ltb (h .count) max-entries && ltb k (bits-of fs + 1))
     (whole (set cs (h .count) b) (set (set ps (h .count - 1) (k + 1)) (h .count) 0) vs rs (taken fs h (h .count + 1) (h .position) (h .captures)))
     (whole cs ps vs rs (break h))
 
 -- "where they hold, all but eod write two words in the reading: construct number, first bit"; i is the first entry's construct
 abbrev pub take-done : List ℕ → List ℕ → List ℕ → List ℤ → List ℕ → Head → ℕ → ℕ → ℕ → ℕ → Whole
 take-done fs cs ps vs rs h i width binder n =
-    pick (leb (2 * h .captures + 2) (length rs))
+    cond (leb (2 * h .captures + 2) (length rs))
     (whole cs ps (bind binder n vs) (set (set rs (2 * h .captures) i) (2 * h .captures + 1) (h .position)) (taken fs h (h .count - 1) (h .position + width) (h .captures + 1)))
     (whole cs ps vs rs (break h))
 
@@ -114,18 +113,18 @@ TakeDone fs vs rs h i width binder n vs′ rs′ h′ = (cs ps : List ℕ) → w
 
 -- "condition 3's bound": weight × (bits + 1), from the table's weight word, which past 65,535 is against the layout
 abbrev pub in-bound : List ℕ → List ℕ → ℕ → Bool
-in-bound ws fs n = pick (leb (weight-of ws) max-weight) (ltb n (weight-of ws * (bits-of fs + 1))) false
+in-bound ws fs n = cond (leb (weight-of ws) max-weight) (ltb n (weight-of ws * (bits-of fs + 1))) false
 
 -- "A step takes the first entry"; a number past the opening use's is "a table entry missing"
 abbrev pub first-step : List ℕ → List ℕ → ℕ → ℕ → List ℕ → List ℕ → List ℤ → List ℕ → Head → Whole
-first-step ws fs i k cs ps vs rs h = pick (leb i opening) (effect ws fs i k cs ps vs rs h (actOf ws fs vs (h .position) i k)) (whole cs ps vs rs (break h))
+first-step ws fs i k cs ps vs rs h = cond (leb i opening) (effect ws fs i k cs ps vs rs h (actOf ws fs vs (h .position) i k)) (whole cs ps vs rs (break h))
 
 -- a step of an undecided run; "A decided, closed or broken run takes no more steps."
 unfoldable pub step-of : List ℕ → List ℕ → Whole → Whole
 step-of ws fs (whole cs ps vs rs h) =
-    pick (eqb (h .verdict) undecided)
-    (pick (in-bound ws fs (h .steps))
-    (pick (eqb (h .count) 0) (whole cs ps vs rs (break h)) (first-step ws fs (getD cs (h .count - 1) 0) (getD ps (h .count - 1) 0) cs ps vs rs h))
+    cond (eqb (h .verdict) undecided)
+    (cond (in-bound ws fs (h .steps))
+    (cond (eqb (h .count) 0) (whole cs ps vs rs (break h)) (first-step ws fs (getD cs (h .count - 1) 0) (getD ps (h .count - 1) 0) cs ps vs rs h))
     (whole cs ps vs rs (break h)))
     (whole cs ps vs rs h)
 

@@ -3,7 +3,7 @@
 use Prim.Native.Nat.{ℕ, zero, suc, _+_, _*_, _≤_}
 use mathlib.Core.Path.{_≡_, refl, sym, ap, ap₂, subst, _∙_}
 use mathlib.Core.Logic.{_⊎_, _↔_, inl, inr}
-use mathlib.Core.Bool.{Bool, true, false, cond}
+use mathlib.Core.Bool.{Bool, true, false, cond, _&&_}
 use mathlib.Core.List.{List, [], _∷_, List·Memᴰ, List·Memᴰ·head, List·Memᴰ·not-nil, List·Memᴰ·eq-of-singleton}
 use mathlib.Core.Option.{Option, none, some}
 use native.Mathlib.Omega.{arith}
@@ -13,7 +13,7 @@ use lib.ListN.{length, getD}
 use Rattle.basis.specs.Bits.{Bits, bitsOf, append-digits, same}
 use Rattle.basis.specs.Lookahead.{lookahead, join}
 use Rattle.basis.proofs.Strings.{same-true}
-use Rattle.text_header.proofs.Tests.{which}
+use Rattle.basis.proofs.Booleans.{which, both-true, same-test}
 use Rattle.theory.specs.Grammar.{alternative, concatenation, repetition, switch, use-of, field, eod, Grammar}
 use Rattle.theory.specs.Derivation.{construct, members}
 use Rattle.theory.specs.Lookahead.{First, Follow, Continues, Conflict}
@@ -23,8 +23,6 @@ use Rattle.theory.specs.Weight.{weigh, sum}
 use Rattle.theory.proofs.Inversion.{First-of, FirstBy, first-by, Keeps, follow-least}
 use Rattle.theory.proofs.Sheet.Sets.{Exactly, only-one, decides, apart, apart-true}
 use Rattle.theory.proofs.Sheet.Ones.{one, two, continuing, continues-ones}
-use Rattle.table_layout.specs.Constructs.{pick, both}
-use Rattle.run_actions.proofs.Doing.{both-true}
 use Rattle.run_matcher.specs.Windows.{Tells}
 use Rattle.tree_meaning.specs.Grammar.{Context, first-context, Values, TreeNode, opening, tree-grammar}
 use Rattle.tree_meaning.proofs.Sheet as trees
@@ -40,7 +38,7 @@ use Rattle.sheet.proofs.Nodes.{Passing}
 -- all strings of n bits pass the test
 unfoldable every : ℕ → (Bits → Bool) → Bool
 every zero test = test []
-every (suc n) test = both (every n (λ s. test (true ∷ s))) (every n (λ s. test (false ∷ s)))
+every (suc n) test = every n (λ s. test (true ∷ s)) && every n (λ s. test (false ∷ s))
 
 every-one : (n : ℕ) (test : Bits → Bool) → every n test ≡ true → (bits : Bits) → length bits ≡ n → test bits ≡ true
 unfolding every
@@ -87,7 +85,7 @@ Within none x = Unit {0}
 Within (some ys) x = List·Memᴰ x ys
 
 abbrev Claimed : ℕ → Bits → Type 0
-Claimed i = Within (pick (eqb i opening) (some at-end) (getD (some at-end ∷ some (two ∷ []) ∷ []) i none))
+Claimed i = Within (cond (eqb i opening) (some at-end) (getD (some at-end ∷ some (two ∷ []) ∷ []) i none))
 
 two-claimed : (x y : Bits) → First g (members (3 ∷ [])) x → List·Memᴰ y at-end → List·Memᴰ (join x y) (two ∷ [])
 unfolding bitsOf
@@ -165,17 +163,12 @@ abbrev pub known : Tests → Tests
 known tests =
     record {
       predicts = tests .predicts;
-      continues = λ i x. pick (eqb i 1) (pick (leb (length x) 8) (one-of continuing x) (tests .continues i x)) (tests .continues i x);
-      exits = λ i x. pick (eqb i 1) (pick (leb (length x) 8) (one-of (two ∷ []) x) (tests .exits i x)) (tests .exits i x);
+      continues = λ i x. cond (eqb i 1) (cond (leb (length x) 8) (one-of continuing x) (tests .continues i x)) (tests .continues i x);
+      exits = λ i x. cond (eqb i 1) (cond (leb (length x) 8) (one-of (two ∷ []) x) (tests .exits i x)) (tests .exits i x);
     }
 
-same-test : {A : Type 0} (a b : Bool) → (a ≡ true) ↔ A → (b ≡ true) ↔ A → a ≡ b
-same-test true b p q = sym (q .1 (p .0 refl))
-same-test false true p q = p .1 (q .0 refl)
-same-test false false p q = refl
-
 replaced : (a : ℕ → Bits → Bool) (ys : List Bits) → ((x : Bits) → length x ≤ 8 → a 1 x ≡ one-of ys x)
-    → (i : ℕ) (x : Bits) → a i x ≡ pick (eqb i 1) (pick (leb (length x) 8) (one-of ys x) (a i x)) (a i x)
+    → (i : ℕ) (x : Bits) → a i x ≡ cond (eqb i 1) (cond (leb (length x) 8) (one-of ys x) (a i x)) (a i x)
 replaced a ys h i x =
     elim (which (eqb i 1)) [
       | inl e ↦ elim (which (leb (length x) 8)) [

@@ -10,10 +10,10 @@ use borrow.Author.Tests.{eqb-true, eqb-false, leb-true, leb-false}
 use Rattle.basis.specs.Bits.{Bits}
 use Rattle.basis.specs.Lookahead.{number}
 use Rattle.basis.proofs.Numbers.{number-pos}
+use Rattle.basis.proofs.Booleans.{which}
 use Rattle.lookahead.specs.Sets.{Has, Is, Union}
 use Rattle.lookahead.proofs.PassLaws.{is-map}
 use Rattle.theory.specs.Grammar.{_∈_}
-use Rattle.theory.proofs.Turns.{decide}
 use Rattle.table_first_follow.specs.Rules.{Family}
 use Rattle.table_conflicts.specs.Conflicts.{HasNumber}
 use Rattle.table_conflicts.specs.Windows.{Lowest, lower-of, Shared, FirstFrom}
@@ -43,8 +43,8 @@ module _ (P Q : Bits → Type 0) where
   lower-both : (a b : ℕ) → Lowest P a → Lowest Q b → (a ≡ 0 → ⊥) → (b ≡ 0 → ⊥) → Lowest (Union P Q) (min a b)
   lower-both a b l m f g =
       record {
-        none = λ z x u. absurd (elim (decide (leb a b)) [ inl t ↦ f (let h : a ≤ b = leb-true a b t in omega arith) | inr t ↦ g (let h : b < a = leb-false a b t in omega arith) ]);
-        some = λ h. elim (decide (leb a b)) [
+        none = λ z x u. absurd (elim (which (leb a b)) [ inl t ↦ f (let h : a ≤ b = leb-true a b t in omega arith) | inr t ↦ g (let h : b < a = leb-false a b t in omega arith) ]);
+        some = λ h. elim (which (leb a b)) [
           | inl t ↦ let k : a ≤ b = leb-true a b t in let s = l .some (omega arith) in (s .0, (let z : number (s .0) ≡ min a b = omega (arith, s .1) in z), inl (s .2))
           | inr t ↦ let k : b < a = leb-false a b t in let s = m .some (omega arith) in (s .0, (let z : number (s .0) ≡ min a b = omega (arith, s .1) in z), inr (s .2))
         ];
@@ -54,9 +54,9 @@ module _ (P Q : Bits → Type 0) where
   -- the lower of the two is the least of both
   pub lower-least : (a b : ℕ) → Lowest P a → Lowest Q b → Lowest (Union P Q) (lower-of a b)
   lower-least a b l m =
-      elim (decide (eqb a 0)) [
+      elim (which (eqb a 0)) [
         | inl t ↦ rw t (lower-right a b l m (eqb-true a 0 t))
-        | inr t ↦ elim (decide (eqb b 0)) [
+        | inr t ↦ elim (which (eqb b 0)) [
           | inl u ↦ rw (t, u) (lower-left a b l m (eqb-true b 0 u))
           | inr u ↦ rw (t, u) (lower-both a b l m (eqb-false a 0 t) (eqb-false b 0 u))
         ]

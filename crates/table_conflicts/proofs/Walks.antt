@@ -9,8 +9,8 @@ use native.Mathlib.Omega.{arith}
 use native.Mathlib.Decide.{ℕ-discrete}
 use lib.Dec.{ltb, eqb}
 use borrow.Author.Tests.{ltb-true}
+use Rattle.basis.proofs.Booleans.{which}
 use Rattle.theory.specs.Grammar.{_∈_}
-use Rattle.theory.proofs.Turns.{decide}
 use Rattle.table_layout.specs.Constructs.{constructAt}
 use Rattle.table_layout.specs.Held.{size-of, parts}
 use Rattle.table_first_follow.specs.Parts.{siblings}
@@ -31,7 +31,7 @@ module _ (ws : List ℕ) (end : ℕ) where
   unfolding parts
   from-parts zero j k m = absurd (List·Memᴰ·not-nil m)
   from-parts (suc n) j k m =
-      elim (decide (ltb j end)) [
+      elim (which (ltb j end)) [
         | inl t ↦
             elim (List·Memᴰ·cases-cons (rw (t, parts) at m)) [
               | inl e ↦ let h : j < end = ltb-true j end t in (omega arith, omega arith)

@@ -3,12 +3,12 @@
 use Prim.Native.Nat.{ℕ, _≤_, _<_, min}
 use mathlib.Core.Path.{_≡_}
 use mathlib.Core.Logic.{_≢_}
+use mathlib.Core.Bool.{cond}
 use mathlib.Core.List.{List}
 use lib.Dec.{eqb}
 use Rattle.basis.specs.Bits.{Bits}
 use Rattle.basis.specs.Lookahead.{number}
 use Rattle.theory.specs.Grammar.{_∈_}
-use Rattle.table_layout.specs.Constructs.{pick}
 use Rattle.table_first_follow.specs.Rules.{Family}
 use Rattle.table_conflicts.specs.Conflicts.{HasNumber}
 
@@ -20,7 +20,7 @@ pub record Lowest (P : Bits → Type 0) (n : ℕ) : Type 0 where
 
 -- the lower of two such numbers
 abbrev pub lower-of : ℕ → ℕ → ℕ
-lower-of a b = pick (eqb a 0) b (pick (eqb b 0) a (min a b))
+lower-of a b = cond (eqb a 0) b (cond (eqb b 0) a (min a b))
 
 -- two of these parts have the string
 pub record Shared (F : Family) (is : List ℕ) (x : Bits) : Type 0 where

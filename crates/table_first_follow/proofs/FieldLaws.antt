@@ -2,7 +2,7 @@
 -- Assumes nothing.
 use Prim.Native.Nat.{ℕ, zero, suc, _+_, _-_, _*_, _/_, _%_, _^_, _≤_, _<_, min, max}
 use mathlib.Core.Path.{_≡_, refl, sym, ap, _∙_, subst}
-use mathlib.Core.Bool.{Bool, true, false}
+use mathlib.Core.Bool.{Bool, true, cond, _&&_}
 use mathlib.Core.Logic.{inl, inr, _↔_}
 use mathlib.Core.List.{List, [], _∷_}
 use native.Mathlib.Omega.{arith}
@@ -23,10 +23,11 @@ use Rattle.basis.proofs.Strings.{same-refl, same-true}
 use Rattle.basis.proofs.Numbers.{number-value, number-ge, number-lt, number-injective, number-bitsOf}
 use Rattle.basis.proofs.Values.{length-bitsOf, value-bitsOf, value-less, bitsOf-value}
 use Rattle.basis.proofs.Joins.{lookahead-length, lookahead-short}
+use Rattle.basis.proofs.Booleans.{both-true, both-pass}
 use Rattle.lookahead.specs.Sets.{Has, Is, Union}
 use Rattle.lookahead.proofs.PassLaws.{is-map, no-pass}
 use Rattle.table_layout.specs.Places.{word, literals-at}
-use Rattle.table_layout.specs.Constructs.{pick, both, constructAt}
+use Rattle.table_layout.specs.Constructs.{constructAt}
 use Rattle.table_layout.specs.Held.{held, node-of, HeldNode, literal-bytes, in-static-set, term-words, terms-of, isYes}
 use Rattle.table_layout.specs.declared.Construct.{Construct}
 use Rattle.term_evaluation.specs.Meaning.{membership}
@@ -87,17 +88,9 @@ eight x h g = elim (decLt (length x) 8) [
 
 -- ---- ranges
 
-both-true : (a b : Bool) → a ≡ true → b ≡ true → both a b ≡ true
-both-true true b p q = q
-both-true false b p q = p
-
-both-parts : (a b : Bool) → both a b ≡ true → (a ≡ true) × (b ≡ true)
-both-parts true b e = (refl, e)
-both-parts false b e = let z : _≡_ {A = ℕ} 0 1 = cc in absurd (omega arith)
-
 module _ (low high : ℕ) (h : high < 128) where
   abbrev test : Bits → Bool
-  test bits = both (leb low (value bits)) (leb (value bits) high)
+  test bits = leb low (value bits) && leb (value bits) high
 
   pub range-strings : (x : Bits) → Numbered (256 + low) (257 + high) Any x ↔ Leading (λ bits. 8) test x
   range-strings x = (to, back)
@@ -106,7 +99,7 @@ module _ (low high : ℕ) (h : high < 128) where
       to q =
           let e : length x ≡ 8 = eight x (q .0) (omega (arith, q .1)) in
           let v : number x ≡ 256 + value x = number-eight x e in
-          (x, e, both-true (leb low (value x)) (leb (value x) high) (le-leb low (value x) (omega (arith, q .1))) (le-leb (value x) high (omega (arith, q .2))), sym (lookahead-short x (omega arith)))
+          (x, e, both-pass (le-leb low (value x) (omega (arith, q .1))) (le-leb (value x) high (omega (arith, q .2))), sym (lookahead-short x (omega arith)))
 
       back : Leading (λ bits. 8) test x → Numbered (256 + low) (257 + high) Any x
       back (bits, e, t, p) =
@@ -114,7 +107,7 @@ module _ (low high : ℕ) (h : high < 128) where
           let l : length x ≡ 8 = ap length b ∙ e in
           let v : number x ≡ 256 + value x = number-eight x l in
           let w : value x ≡ value bits = ap value b in
-          let u = both-parts (leb low (value bits)) (leb (value bits) high) t in
+          let u = both-true (leb low (value bits)) (leb (value bits) high) t in
           let u0 : low ≤ value bits = leb-true low (value bits) (u .0) in
           let u1 : value bits ≤ high = leb-true (value bits) high (u .1) in
           (omega arith, omega arith, omega arith, tt)
@@ -146,14 +139,10 @@ yes-same Tested.Yes = refl
 yes-same Tested.Malformed = refl
 yes-same Tested.Overflow = refl
 
-pick-same : (b : Bool) (x y : Bool) → x ≡ y → pick b true x ≡ Numbers.pick b true y
-pick-same true x y e = refl
-pick-same false x y e = e
-
 module _ (ws : List ℕ) (start end : ℕ) where
   static-admits : (n : ℕ) → in-static-set ws start end n ≡ admits start (terms-of ws start end) (pos n)
   unfolding admits holds
-  static-admits n = pick-same (hasVariable (terms-of ws start end)) _ _ (yes-same (membership [] (pos n) start (terms-of ws start end)))
+  static-admits n = ap (cond (hasVariable (terms-of ws start end)) true) (yes-same (membership [] (pos n) start (terms-of ws start end)))
 
   module _ (width : ℕ) where
     abbrev count : ℕ

@@ -2,7 +2,7 @@
 -- Assumes nothing.
 use Prim.Native.Nat.{ℕ, zero, suc, _-_, _≤_, _<_, min}
 use mathlib.Core.Path.{_≡_, sym, ap, _∙_, subst}
-use mathlib.Core.Bool.{Bool, true, false}
+use mathlib.Core.Bool.{Bool, true, false, _||_}
 use mathlib.Core.Logic.{_↔_}
 use mathlib.Core.List.{List, [], _∷_, List·Memᴰ·not-nil}
 use native.Mathlib.Decide.{decLt}
@@ -20,7 +20,7 @@ use Rattle.theory.specs.Derivation.{construct}
 use Rattle.theory.specs.Lookahead.{First, Predicted}
 use Rattle.theory.proofs.Inversion.{first-by}
 use Rattle.table_first_follow.specs.Rules.{Family, Members}
-use Rattle.table_first_follow.specs.Rounds.{strings, Step, within, first-of, follow-of, follow-low, FollowStep, either-of}
+use Rattle.table_first_follow.specs.Rounds.{strings, Step, within, first-of, follow-of, follow-low, FollowStep}
 use Rattle.table_first_follow.specs.Follows.{Given, Before, After, Handed, Predicting, JoinedSets}
 use Rattle.table_first_follow.specs.Sets.{sets-held, family-words, FirstSets, FollowSets, PredictionSets}
 use Rattle.table_first_follow.proofs.HeldLaws.{node-past}
@@ -102,7 +102,7 @@ module _ (ws : List ℕ) (joined : Bool) (set is : List ℕ) where
       }
 
   module _ (first : List ℕ) (l : length first ≡ family-words) (f : FirstSets ws first) (owed : Handed joined F (Has set) (follow-of ws) is) where
-    pub hand-more : (k m : ℕ) (tail next old mid new : List ℕ) (g h r : Bool) → 0 < k → m ≡ getD is (k - 1) 0 → r ≡ either-of g h → Handing k tail old mid g
+    pub hand-more : (k m : ℕ) (tail next old mid new : List ℕ) (g h r : Bool) → 0 < k → m ≡ getD is (k - 1) 0 → r ≡ (g || h) → Handing k tail old mid g
         → Given mid new m tail h → length new ≡ length mid → Is next (Before joined (strings first m) (Has tail)) → Handing (k - 1) next old new r
     hand-more k m tail next old mid new g h r p em er s v q n =
         let c : k - 1 < length is = omega (arith, s .most) in
@@ -114,7 +114,7 @@ module _ (ws : List ℕ) (joined : Bool) (set is : List ℕ) where
           tails = subst (λ (t : List ℕ). Is next (After joined F (Has set) t)) (sym d)
               (after-more joined F (Has set) (strings first m) m (drop k is) tail next (first-any ws first l f m) (s .tails) n);
           step = subst (λ (b : Bool). FollowStep ws (Done (k - 1)) old new b) (sym er)
-              (step-map (follow-low ws) (follow-of ws) (λ w. Done k w × ((x : Bits) → Has tail x → within w m x)) (Done (k - 1)) old new (either-of g h)
+              (step-map (follow-low ws) (follow-of ws) (λ w. Done k w × ((x : Bits) → Has tail x → within w m x)) (Done (k - 1)) old new (g || h)
               (λ w b. subst (Handed joined F (Has set) (within w)) (sym d) ((λ x a. b .1 x (s .tails .strings x .1 a)), b .0))
               (step-then (follow-low ws) (follow-of ws) (Done k) (λ w. (x : Bits) → Has tail x → within w m x) old mid new g h (s .step)
               (given-step (follow-low ws) (follow-of ws) mid new m tail h v (s .tails .proper) (λ x t. o x (s .tails .strings x .0 t)))));

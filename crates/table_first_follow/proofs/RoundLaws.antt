@@ -2,7 +2,7 @@
 -- Assumes nothing.
 use Prim.Native.Nat.{ℕ, _+_, _-_, _*_, _/_, _%_, _≤_, _<_, min}
 use mathlib.Core.Path.{_≡_, refl, sym, ap, _∙_, subst}
-use mathlib.Core.Bool.{Bool, true, false}
+use mathlib.Core.Bool.{Bool, true, false, _||_}
 use mathlib.Core.Logic.{inl, inr}
 use mathlib.Core.List.{List, [], List·Memᴰ·not-nil}
 use native.Mathlib.Decide.{ℕ-discrete, decLt}
@@ -18,7 +18,7 @@ use Rattle.lookahead.proofs.PassLaws.{is-map, no-pass}
 use Rattle.table_layout.specs.Held.{held, HeldNode, opening}
 use Rattle.theory.proofs.Inversion.{Keeps, follow-least}
 use Rattle.table_first_follow.specs.Rules.{Family, Seeded, Applied}
-use Rattle.table_first_follow.specs.Rounds.{strings, Between, Step, first-of, first-low, FirstClosed, FirstStep, follow-of, follow-low, within, FollowClosed, From, either-of}
+use Rattle.table_first_follow.specs.Rounds.{strings, Between, Step, first-of, first-low, FirstClosed, FirstStep, follow-of, follow-low, within, FollowClosed, From}
 use Rattle.theory.specs.Lookahead.{Follow}
 use Rattle.table_first_follow.specs.Follows.{Started, StartSets}
 use Rattle.table_first_follow.specs.Sets.{sets-held, family-words, FirstSets, FollowSets}
@@ -100,7 +100,7 @@ module _ (Low High : Family) where
   no-step words = record { keeps = λ b. b; grows = λ e. differ (sym e); kept = λ e. refl; closed = λ e. tt }
 
   pub step-then : (C D : List ℕ → Type 0) (old mid new : List ℕ) (g h : Bool) → Step Low High C old mid g → Step Low High D mid new h
-      → Step Low High (λ words. C words × D words) old new (either-of g h)
+      → Step Low High (λ words. C words × D words) old new (g || h)
   step-then C D old mid new true true s t =
       record { keeps = λ b. t .keeps (s .keeps b); grows = λ e. omega (arith, s .grows refl, t .grows refl); kept = λ e. differ e; closed = λ e. differ e }
   step-then C D old mid new true false s t =
@@ -166,11 +166,11 @@ module _ (Low High : Family) (Closed : ℕ → List ℕ → Type 0) where
   pub round-start : (words : List ℕ) → Step Low High (From Closed sets-held) words words false
   round-start words = step-map Low High (λ ws. Unit {0}) (From Closed sets-held) words words false (λ ws u. from-none Closed ws) (no-step Low High words)
 
-  pub round-turn : (old mid new : List ℕ) (i : ℕ) (g h r : Bool) → 0 < i → r ≡ either-of g h → Step Low High (From Closed i) old mid g
+  pub round-turn : (old mid new : List ℕ) (i : ℕ) (g h r : Bool) → 0 < i → r ≡ (g || h) → Step Low High (From Closed i) old mid g
       → Step Low High (Closed (i - 1)) mid new h → Step Low High (From Closed (i - 1)) old new r
   round-turn old mid new i g h r p e s t =
       subst (λ (b : Bool). Step Low High (From Closed (i - 1)) old new b) (sym e)
-      (step-map Low High (λ ws. From Closed i ws × Closed (i - 1) ws) (From Closed (i - 1)) old new (either-of g h)
+      (step-map Low High (λ ws. From Closed i ws × Closed (i - 1) ws) (From Closed (i - 1)) old new (g || h)
       (λ ws c. from-more Closed (i - 1) ws (subst (λ (n : ℕ). From Closed n ws) (omega arith) (c .0), c .1))
       (step-then Low High (From Closed i) (Closed (i - 1)) old mid new g h s t))
 

@@ -69,7 +69,3 @@ module _ (ws : List ℕ) where
 -- all from number i on
 abbrev pub From : (ℕ → List ℕ → Type 0) → ℕ → List ℕ → Type 0
 From Closed i words = (j : ℕ) → i ≤ j → j < sets-held → Closed j words
-
-abbrev pub either-of : Bool → Bool → Bool
-either-of true b = true
-either-of false b = b

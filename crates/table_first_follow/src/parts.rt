@@ -1,5 +1,6 @@
 // The parts of a construct: its first is the next number, and each is as far after the one before as that one is large.
 ghost use mathlib.Core.Path.{_≡_};
+ghost use mathlib.Core.Bool.{_||_};
 ghost use Prim.Native.Nat.{_≤_};
 ghost use lib.ListN.{length, take};
 ghost use Rattle.table_first_follow.specs.Sets.{family-words};
@@ -7,7 +8,7 @@ ghost use Rattle.basis.specs.Limits.{max-constructs};
 ghost use Rattle.lookahead.specs.Sets.{Has, Is};
 ghost use Rattle.table_layout.specs.Constructs.{constructAt};
 ghost use Rattle.table_layout.specs.Held.{size-of as sizeOf};
-ghost use Rattle.table_first_follow.specs.Rounds.{strings, either-of as eitherOf};
+ghost use Rattle.table_first_follow.specs.Rounds.{strings};
 ghost use Rattle.table_first_follow.specs.Parts.{siblings, Combined, Neutral, Gathered};
 use crate::SETS_HELD;
 use lookahead::Set;
@@ -90,7 +91,7 @@ pub fn places(table: &[u32], start: usize, end: usize, out: &mut [usize]) -> usi
 }
 
 pub fn either(a: bool, b: bool) -> bool
-    ensures { λ r. ⌜ r ≡ eitherOf a b ⌝ }
+    ensures { λ r. ⌜ r ≡ (a || b) ⌝ }
 {
     if a { true } else { b }
 }

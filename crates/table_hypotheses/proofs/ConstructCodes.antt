@@ -2,7 +2,7 @@
 -- Assumes nothing.
 use Prim.Native.Nat.{ℕ, zero, suc, _+_, _*_, _≤_, _<_}
 use mathlib.Core.Path.{_≡_, refl, sym, _∙_}
-use mathlib.Core.Bool.{true, false}
+use mathlib.Core.Bool.{true, false, _&&_}
 use mathlib.Core.List.{List, [], _∷_}
 use native.Mathlib.Omega.{arith}
 use native.Mathlib.Decide.{decLt}
@@ -10,14 +10,13 @@ use borrow.Author.Tests.{leb-true, eqb-true, eqb-false}
 use lib.Dec.{leb, ltb, eqb}
 use lib.ListN.{length, getD, List·getD-eq-default}
 use Rattle.basis.specs.Limits.{max-rules, max-constructs, max-variables, max-literal-bytes, max-width}
+use Rattle.basis.proofs.Booleans.{both-first, both-second, picked}
 use Rattle.table_layout.specs.Places.{word, constructs-at, rule-count, construct-word}
-use Rattle.table_layout.specs.Constructs.{both, branches, listed, repetitionOf, innerOf, leafOf, constructOf, constructAt}
+use Rattle.table_layout.specs.Constructs.{branches, listed, repetitionOf, innerOf, leafOf, constructOf, constructAt}
 use Rattle.table_layout.specs.declared.Construct.{Construct}
 use Rattle.table_layout.specs.declared.Passes.{Passes}
 use Rattle.table_wellformed.specs.Lists.{counts-formed}
 use Rattle.table_wellformed.specs.Laid.{operands-zero, kind-laid}
-use Rattle.table_wellformed.proofs.Walks.{both-first, both-second}
-use Rattle.table_layout.proofs.Bounds.{picked}
 use Rattle.table_structure.proofs.Facts.{each, lt-of-ne}
 
 -- the first six words of a construct that are not 0
@@ -68,7 +67,7 @@ module _ (i kind size a b c d : ℕ) where
       picked Says (eqb a 1) (λ e. (k, (refl, (eqb-true a 1 e, tt)))) (λ e.
       picked Says (eqb a 2) (λ e. (k, (refl, (eqb-true a 2 e, tt)))) (λ e.
       picked Says (eqb a 3) (λ e. (k, (refl, (eqb-true a 3 e, tt)))) (λ e.
-      picked Says (both (eqb a 4) (listed b c)) (λ e. (k, (refl, (eqb-true a 4 (both-first (eqb a 4) (listed b c) e), (refl, (refl, tt)))))) (λ e. tt))))
+      picked Says (eqb a 4 && listed b c) (λ e. (k, (refl, (eqb-true a 4 (both-first (eqb a 4) (listed b c) e), (refl, (refl, tt)))))) (λ e. tt))))
 
   inner-says : 1 ≤ kind → kind ≤ 4 → Says (innerOf kind size a b c)
   inner-says low high =
@@ -81,16 +80,16 @@ module _ (i kind size a b c d : ℕ) where
   leaf-says : size ≡ 1 → Says (leafOf kind a b c d)
   leaf-says s =
       picked Says (eqb kind 5) (λ e. picked Says (ltb a max-rules) (λ t. (eqb-true kind 5 e, (s, (refl, tt)))) (λ t. tt)) (λ e.
-      picked Says (eqb kind 6) (λ e. picked Says (both (leb 1 a) (leb a max-literal-bytes)) (λ t. (eqb-true kind 6 e, (s, (refl, tt)))) (λ t. tt)) (λ e.
-      picked Says (eqb kind 7) (λ e. picked Says (both (ltb a 128) (ltb b 128)) (λ t. (eqb-true kind 7 e, (s, (refl, (refl, tt))))) (λ t. tt)) (λ e.
+      picked Says (eqb kind 6) (λ e. picked Says (leb 1 a && leb a max-literal-bytes) (λ t. (eqb-true kind 6 e, (s, (refl, tt)))) (λ t. tt)) (λ e.
+      picked Says (eqb kind 7) (λ e. picked Says (ltb a 128 && ltb b 128) (λ t. (eqb-true kind 7 e, (s, (refl, (refl, tt))))) (λ t. tt)) (λ e.
       picked Says (eqb kind 8)
-      (λ e. picked Says (both (both (leb 1 a) (leb a max-width)) (both (listed b c) (leb d max-variables))) (λ t. (eqb-true kind 8 e, (s, (refl, (refl, (refl, (refl, tt))))))) (λ t. tt))
+      (λ e. picked Says ((leb 1 a && leb a max-width) && (listed b c && leb d max-variables)) (λ t. (eqb-true kind 8 e, (s, (refl, (refl, (refl, (refl, tt))))))) (λ t. tt))
       (λ e. picked Says (eqb kind 9) (λ e. (eqb-true kind 9 e, (s, tt))) (λ t. tt)))))
 
   says : Says (constructOf i kind size a b c d)
   unfolding constructOf
   says =
-      picked Says (both (leb 1 kind) (leb kind 4))
+      picked Says (leb 1 kind && leb kind 4)
       (λ e. picked Says (branches i size) (λ t. inner-says (leb-true 1 kind (both-first (leb 1 kind) (leb kind 4) e)) (leb-true kind 4 (both-second (leb 1 kind) (leb kind 4) e))) (λ t. tt))
       (λ e. picked Says (eqb size 1) (λ t. leaf-says (eqb-true size 1 t)) (λ t. tt))
 
@@ -126,7 +125,7 @@ module _ (ws : List ℕ) (i : ℕ) where
   zero-past (Construct.Repetition size Passes.Any) h k = zeros-from 3 (both-first (operands-zero ws i 3) _ h) k
   zero-past (Construct.Repetition size Passes.Some) h k = zeros-from 3 (both-first (operands-zero ws i 3) _ h) k
   zero-past (Construct.Repetition size (Passes.Counted start end)) h k =
-      zeros-from 5 (both-first (operands-zero ws i 5) (counts-formed ws start end) (both-first (both (operands-zero ws i 5) (counts-formed ws start end)) _ h)) k
+      zeros-from 5 (both-first (operands-zero ws i 5) (counts-formed ws start end) (both-first (operands-zero ws i 5 && counts-formed ws start end) _ h)) k
   zero-past (Construct.Switch size) h k = zeros-from 2 (both-first (operands-zero ws i 2) _ h) k
   zero-past (Construct.Use rule) h k = zeros-from 3 (both-second (ltb rule (rule-count ws)) (operands-zero ws i 3) h) k
   zero-past (Construct.Literal n) h k = zeros-from 3 h k

@@ -3,7 +3,7 @@
 use Prim.Native.Nat.{ℕ, zero, suc, _+_, _*_, _-_, _/_, _%_, _^_, _≤_, _<_}
 use mathlib.Core.Path.{_≡_, refl, sym, ap, _∙_}
 use mathlib.Core.Logic.{inl, inr}
-use mathlib.Core.Bool.{true, false}
+use mathlib.Core.Bool.{true, false, cond}
 use mathlib.Core.List.{List, [], _∷_}
 use mathlib.Core.Option.{some}
 use native.Mathlib.Omega.{arith}
@@ -15,14 +15,14 @@ use lib.Seq.{ext-getD, getD-take, getD-drop}
 use Rattle.basis.specs.Limits.{max-rules, max-constructs, max-variables, max-terms, max-literal-bytes}
 use Rattle.basis.specs.Bits.{value}
 use Rattle.basis.specs.Counts.{zero-or-more}
+use Rattle.basis.proofs.Booleans.{which}
 use Rattle.term_words.specs.Words.{termAt, terms}
 use Rattle.term_evaluation.specs.Meaning.{membership, condition}
 use Rattle.term_evaluation.specs.Counts.{counts, formOf}
 use Rattle.term_evaluation.specs.Variables.{hasVariable}
 use Rattle.theory.specs.Grammar.{alternative, concatenation, repetition, switch, use-of, field}
-use Rattle.theory.proofs.Turns.{decide}
 use Rattle.table_layout.specs.Places.{rule-word, variable-word, construct-word, terms-at, rules-at, variables-at, constructs-at, literals-at}
-use Rattle.table_layout.specs.Constructs.{pick, constructAt}
+use Rattle.table_layout.specs.Constructs.{constructAt}
 use Rattle.table_layout.specs.Held.{first-context, Values, term-words, size-of, parts, isYes, passes-allowed, passes-static, passes-fixed, first-case, literal-byte, literal-bytes, literal-node, bound, use-node, node-of, opening, held, allowed, isExact}
 use Rattle.table_layout.specs.declared.Construct.{Construct}
 use Rattle.table_layout.specs.declared.Passes.{Passes}
@@ -44,7 +44,7 @@ module _ {ws ws′ : List ℕ} (a : Alike ws ws′) where
   pub constructs-same : (i : ℕ) → constructAt ws i ≡ constructAt ws′ i
   unfolding constructAt
   constructs-same i =
-      elim (decide (ltb i max-constructs)) [
+      elim (which (ltb i max-constructs)) [
         | inl t ↦
             let h : i < max-constructs = ltb-true i max-constructs t in
             rw (t, construct-words i 0 h (omega arith), construct-words i 1 h (omega arith), construct-words i 2 h (omega arith), construct-words i 3 h (omega arith), construct-words i 4 h (omega arith), construct-words i 5 h (omega arith))
@@ -78,10 +78,10 @@ module _ {ws ws′ : List ℕ} (a : Alike ws ws′) where
   unfolding parts
   small-parts zero j end h = tt
   small-parts (suc n) j end h =
-      elim (decide (ltb j end)) [
+      elim (which (ltb j end)) [
         | inl t ↦
             let l : j < max-constructs = omega (arith, ltb-true j end t) in
-            elim (decide (eqb (size-of (constructAt ws j)) 0)) [
+            elim (which (eqb (size-of (constructAt ws j)) 0)) [
               | inl s ↦ rw (t, s, parts) (l, tt)
               | inr s ↦ rw (t, s, parts) (l, small-parts n (j + size-of (constructAt ws j)) end h)
             ]
@@ -108,7 +108,7 @@ module _ {ws ws′ : List ℕ} (a : Alike ws ws′) where
   static-same Passes.Any = refl
   static-same Passes.Some = refl
   static-same (Passes.Counted start end) =
-      ap (λ (w : List ℕ). pick (hasVariable (terms w start end)) zero-or-more (allowed (counts [] w start end))) terms-same
+      ap (λ (w : List ℕ). cond (hasVariable (terms w start end)) zero-or-more (allowed (counts [] w start end))) terms-same
 
   fixed-same : (p : Passes) → passes-fixed ws p ≡ passes-fixed ws′ p
   fixed-same Passes.Optional = refl
@@ -143,13 +143,13 @@ module _ {ws ws′ : List ℕ} (a : Alike ws ws′) where
   node-same i (Construct.Uint width start end binder) f =
       ap (λ (w : List ℕ).
       field (λ bits. width) (λ c v bits. isYes (membership v (pos (value bits)) start (terms w start end)))
-      (λ bits. pick (hasVariable (terms w start end)) true (isYes (membership [] (pos (value bits)) start (terms w start end))))
+      (λ bits. cond (hasVariable (terms w start end)) true (isYes (membership [] (pos (value bits)) start (terms w start end))))
       (λ c v bits. bound binder v (value bits))) terms-same
   node-same i Construct.Eod f = refl
 
   pub held-local : held ws ≡ held ws′
   unfolding held
   held-local =
-      let nodes : (i : ℕ) → pick (eqb i opening) (use-node ws 0) (node-of ws i (constructAt ws i)) ≡ pick (eqb i opening) (use-node ws′ 0) (node-of ws′ i (constructAt ws′ i)) =
-      λ i t. pick (eqb i opening) (use-same 0 (omega arith) t) ((node-same i (constructAt ws i) (fine ws i) ∙ ap (node-of ws′ i) (constructs-same i)) t) in
+      let nodes : (i : ℕ) → cond (eqb i opening) (use-node ws 0) (node-of ws i (constructAt ws i)) ≡ cond (eqb i opening) (use-node ws′ 0) (node-of ws′ i (constructAt ws′ i)) =
+      λ i t. cond (eqb i opening) (use-same 0 (omega arith) t) ((node-same i (constructAt ws i) (fine ws i) ∙ ap (node-of ws′ i) (constructs-same i)) t) in
       λ t. record { node = λ i. nodes i t; start = opening; context = first-context; values = replicate max-variables (pos 0) }

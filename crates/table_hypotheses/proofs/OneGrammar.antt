@@ -3,18 +3,17 @@
 use Prim.Native.Nat.{ℕ, _+_, _*_, _-_, _/_, _%_, _^_, _≤_, _<_}
 use native.Mathlib.Nat.{mul-le-mul-left}
 use mathlib.Core.Path.{_≡_, refl, sym, subst, ap, _∙_}
-use mathlib.Core.Bool.{Bool, true}
+use mathlib.Core.Bool.{Bool, true, _&&_}
 use mathlib.Core.List.{List}
 use native.Mathlib.Omega.{arith}
 use native.Mathlib.Decide.{decLt, ℕ-discrete}
 use borrow.Author.Tests.{eqb-true}
 use lib.Dec.{eqb}
 use lib.ListN.{getD}
+use Rattle.basis.proofs.Booleans.{both-first, both-second}
 use Rattle.table_layout.specs.Places.{word, table-words, rules-at, variables-at, constructs-at, terms-at, literals-at, sets-at, rule-count, construct-count, variable-count, term-count, rule-word, variable-word, construct-word}
-use Rattle.table_layout.specs.Constructs.{both}
 use Rattle.table_layout.specs.declared.Construct.{Construct}
 use Rattle.table_wellformed.specs.Checks.{all-zero}
-use Rattle.table_wellformed.proofs.Walks.{both-first, both-second}
 use Rattle.table_structure.proofs.Facts.{Laid, each, lt-of-ne}
 use Rattle.table_structure.proofs.RuleLaws.{rule-fact}
 use Rattle.table_structure.proofs.Binding.{variable-of, bound-in}
@@ -48,15 +47,15 @@ rest-of {ws} l =
     let T : Bool = all-zero ws (terms-at + 3 * term-count ws) literals-at in
     let Y : Bool = all-zero ws (literals-at + 8 * construct-count ws) sets-at in
     let S : Bool = all-zero ws (sets-at + 32 * construct-count ws) table-words in
-    let front : both R X ≡ true = both-first (both R X) (both (both C T) (both Y S)) (l .rest) in
-    let back : both (both C T) (both Y S) ≡ true = both-second (both R X) (both (both C T) (both Y S)) (l .rest) in
-    let middle : both C T ≡ true = both-first (both C T) (both Y S) back in
+    let front : (R && X) ≡ true = both-first (R && X) ((C && T) && (Y && S)) (l .rest) in
+    let back : ((C && T) && (Y && S)) ≡ true = both-second (R && X) ((C && T) && (Y && S)) (l .rest) in
+    let middle : (C && T) ≡ true = both-first (C && T) (Y && S) back in
     record {
       rules = both-first R X front;
       variables = both-second R X front;
       constructs = both-first C T middle;
       terms = both-second C T middle;
-      literals = both-first Y S (both-second (both C T) (both Y S) back);
+      literals = both-first Y S (both-second (C && T) (Y && S) back);
     }
 
 -- a variable's last two words

@@ -3,6 +3,7 @@
 -- Assumes nothing.
 use Prim.Native.Nat.{ℕ, zero, suc, _+_, _≤_, _<_}
 use mathlib.Core.Path.{_≡_, refl, sym, subst, ap, _∙_}
+use mathlib.Core.Bool.{cond, _||_}
 use mathlib.Core.List.{List, _∷_}
 use native.Mathlib.Omega.{arith}
 use lib.Dec.{ltb}
@@ -15,11 +16,10 @@ use Rattle.theory.specs.Grammar.{Grammar}
 use Rattle.theory.specs.Lookahead.{Follow, Predicted, Conflict, EmptyBody}
 use Rattle.theory.specs.Weight.{Weighs}
 use Rattle.table_layout.specs.Places.{construct-count, rule-count, weight-of}
-use Rattle.table_layout.specs.Constructs.{pick, constructAt}
+use Rattle.table_layout.specs.Constructs.{constructAt}
 use Rattle.table_layout.specs.Held.{Context, first-context, Values, held, opening}
 use Rattle.table_layout.specs.Attributes.{attributes-of}
 use Rattle.table_layout.specs.declared.OwnList.{OwnList}
-use Rattle.table_wellformed.specs.Checks.{either}
 use Rattle.table_structure.proofs.Facts.{Laid, facts}
 use Rattle.table_reach.specs.Reaching.{Uses, Reaches, Acyclic}
 use Rattle.table_sizes.specs.Measures.{largest, widest-from, widest, condition-size, list-size, own-size, exceeds, oversized}
@@ -74,7 +74,7 @@ module _ {ws ws′ : List ℕ} (a : Alike ws ws′) where
   condition-size-same i h =
       let from = construct-words a i 6 h (omega arith) in
       let upto = construct-words a i 7 h (omega arith) in
-      λ t. pick (ltb (from t) (upto t)) (sizes Kind.Condition (widest-local t) (from t) (terms (terms-same a t) (from t) (upto t))) Sized.Passes
+      λ t. cond (ltb (from t) (upto t)) (sizes Kind.Condition (widest-local t) (from t) (terms (terms-same a t) (from t) (upto t))) Sized.Passes
 
   list-size-same : (o : OwnList) → list-size ws o ≡ list-size ws′ o
   list-size-same OwnList.None = refl
@@ -84,7 +84,7 @@ module _ {ws ws′ : List ℕ} (a : Alike ws ws′) where
   pub oversized-local : (i : ℕ) → i < max-constructs → oversized ws i ≡ oversized ws′ i
   oversized-local i h =
       let own : own-size ws (constructAt ws i) ≡ own-size ws′ (constructAt ws′ i) = list-size-same (attributes-of (constructAt ws i) .own) ∙ ap (own-size ws′) (constructs-same a i) in
-      λ t. either (exceeds (condition-size-same i h t)) (exceeds (own t))
+      λ t. exceeds (condition-size-same i h t) || exceeds (own t)
 
   -- ---- what holds of the grammar
 

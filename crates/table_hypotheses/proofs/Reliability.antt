@@ -1,14 +1,15 @@
 -- A sound table is reliable: no run from an opening on it breaks (crate `run_refinement`).
 -- Assumes nothing.
 use Prim.Native.Nat.{ℕ, zero, suc, _+_, _≤_, _<_}
-use mathlib.Core.Path.{_≡_, refl, ap, _∙_}
-use mathlib.Core.Bool.{Bool, true, false}
+use mathlib.Core.Path.{_≡_, ap, _∙_}
+use mathlib.Core.Bool.{true}
 use mathlib.Core.List.{List}
 use native.Mathlib.Omega.{arith}
 use borrow.Author.Tests.{lt-ltb}
 use lib.IntN.{pos}
 use lib.ListN.{getD}
 use Rattle.basis.specs.Limits.{max-variables, max-entries}
+use Rattle.basis.proofs.Booleans.{either-first, either-second}
 use Rattle.term_words.specs.declared.Kind.{Kind}
 use Rattle.term_sizes.specs.Sizes.{sizes}
 use Rattle.term_sizes.specs.declared.Sized.{Sized}
@@ -18,7 +19,6 @@ use Rattle.table_layout.specs.Constructs.{constructAt}
 use Rattle.table_layout.specs.Held.{first-context, terms-of, held, opening}
 use Rattle.table_layout.specs.declared.Construct.{Construct}
 use Rattle.table_layout.specs.declared.Passes.{Passes}
-use Rattle.table_wellformed.specs.Checks.{either}
 use Rattle.table_reach.specs.Reaching.{Acyclic}
 use Rattle.table_weights.specs.Ruled.{Ruled}
 use Rattle.table_weights.proofs.Heights.{weight-at}
@@ -38,13 +38,6 @@ unfolding widest-from
 widest-each zero ws x k y h e = absurd (omega arith)
 widest-each (suc n) ws x zero y h e = ap (λ (z : ℕ). largest (variable-word ws z 1)) (let f : x ≡ y = omega arith in f)
 widest-each (suc n) ws x (suc k) y h e = widest-each n ws (x + 1) k y (omega arith) (omega arith)
-
-either-first : (a b : Bool) → a ≡ true → either a b ≡ true
-either-first a b e = rw e
-
-either-second : (a b : Bool) → b ≡ true → either a b ≡ true
-either-second true b e = refl
-either-second false b e = e
 
 module _ (ws : List ℕ) (within : (i : ℕ) → i < construct-count ws → oversized ws i ≡ true → ⊥) where
   condition-within : (i : ℕ) → i < construct-count ws → construct-word ws i 6 < construct-word ws i 7

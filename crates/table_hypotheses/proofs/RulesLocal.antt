@@ -3,22 +3,22 @@
 use Prim.Native.Nat.{ℕ, zero, suc, _+_, _*_, _-_, _≤_, _<_}
 use mathlib.Core.Path.{_≡_, refl, sym, ap, _∙_}
 use mathlib.Core.Logic.{inl, inr}
-use mathlib.Core.Bool.{Bool, true, false}
+use mathlib.Core.Bool.{Bool, true, false, cond, _&&_, _||_}
 use mathlib.Core.List.{List}
 use native.Mathlib.Omega.{arith}
 use borrow.Author.Tests.{ltb-true, eqb-true, le-leb}
 use lib.Dec.{leb, ltb, eqb}
 use lib.ListN.{length}
 use Rattle.basis.specs.Limits.{max-rules, max-constructs, max-variables, max-terms, max-weight}
+use Rattle.basis.proofs.Booleans.{which}
 use Rattle.term_words.specs.Words.{termAt}
 use Rattle.term_words.specs.declared.Operation.{Operation}
 use Rattle.term_words.specs.declared.Term.{Term}
-use Rattle.theory.proofs.Turns.{decide}
 use Rattle.table_layout.specs.Places.{word, table-words, rules-at, variables-at, constructs-at, terms-at, literals-at, sets-at, rule-count, construct-count, variable-count, weight-of, rule-word}
-use Rattle.table_layout.specs.Constructs.{pick, both, constructAt}
+use Rattle.table_layout.specs.Constructs.{constructAt}
 use Rattle.table_layout.specs.Held.{term-words}
 use Rattle.table_layout.specs.declared.Construct.{Construct}
-use Rattle.table_wellformed.specs.Checks.{either, limited, from-to, all-zero, size-at}
+use Rattle.table_wellformed.specs.Checks.{limited, from-to, all-zero, size-at}
 use Rattle.table_wellformed.specs.Parts.{unconditioned}
 use Rattle.table_wellformed.specs.Lists.{own-start, own-end, begins, after, lists-begin, after-lists, lists-from, lists-laid, has-low, term-laid}
 use Rattle.table_wellformed.specs.Rules.{body, rule-end, rule-laid, binder-of, variable-laid, member-laid, next-variable, binders-from, is-concatenation, binders-laid, visible, operation-named, term-named, list-named, construct-named, uses-laid}
@@ -51,7 +51,7 @@ module _ {ws ws′ : List ℕ} (a : Alike ws ws′) where
   lists-begin-same i p h =
       let from = construct-words a i 6 h (omega arith) in
       let upto = construct-words a i 7 h (omega arith) in
-      λ t. both (begins p (from t) (upto t)) (begins (after p (from t) (upto t)) (own-start (constructs-same a i t)) (own-end (constructs-same a i t)))
+      λ t. begins p (from t) (upto t) && begins (after p (from t) (upto t)) (own-start (constructs-same a i t)) (own-end (constructs-same a i t))
 
   after-lists-same : (i p : ℕ) → i < max-constructs → after-lists ws i p ≡ after-lists ws′ i p
   after-lists-same i p h =
@@ -72,36 +72,36 @@ module _ {ws ws′ : List ℕ} (a : Alike ws ws′) where
       let tag : word ws (terms-at + 3 * k) ≡ word ws′ (terms-at + 3 * k) = a .same (terms-at + 3 * k) (omega arith) (λ e. omega arith) in
       let low : word ws (terms-at + 3 * k + 1) ≡ word ws′ (terms-at + 3 * k + 1) = a .same (terms-at + 3 * k + 1) (omega arith) (λ e. omega arith) in
       let high : word ws (terms-at + 3 * k + 2) ≡ word ws′ (terms-at + 3 * k + 2) = a .same (terms-at + 3 * k + 2) (omega arith) (λ e. omega arith) in
-      λ t. both (either (has-low (tag t)) (eqb (low t) 0)) (eqb (high t) 0)
+      λ t. (has-low (tag t) || eqb (low t) 0) && eqb (high t) 0
 
   -- ---- binders
 
   variable-same : (x j : ℕ) → variable-laid ws x j ≡ variable-laid ws′ x j
   variable-same x j =
-      elim (decide (eqb (binder-of (constructAt ws j)) (x + 1))) [
+      elim (which (eqb (binder-of (constructAt ws j)) (x + 1))) [
         | inl s ↦
             let small = binder-small ws j x (eqb-true (binder-of (constructAt ws j)) (x + 1) s) in
             let place = variable-words a x 0 (small .1) (omega arith) in
             let width = variable-words a x 1 (small .1) (omega arith) in
             let zeros = zeros-same a (variables-at + 4 * x + 2) (variables-at + 4 * x + 4) (omega arith) (omega (arith, small .1)) in
-            λ t. both (both (eqb (binder-of (constructs-same a j t)) (x + 1)) (eqb (place t) j)) (both (eqb (width t) (construct-words a j 2 (small .0) (omega arith) t)) (zeros t))
+            λ t. (eqb (binder-of (constructs-same a j t)) (x + 1) && eqb (place t) j) && (eqb (width t) (construct-words a j 2 (small .0) (omega arith) t) && zeros t)
         | inr s ↦ rw (s, ap (λ (c : Construct). eqb (binder-of c) (x + 1)) (sym (constructs-same a j)) ∙ s) refl
       ]
 
   member-same : (j x : ℕ) → member-laid ws j x ≡ member-laid ws′ j x
-  member-same j x = λ t. pick (ltb 0 (binder-of (constructs-same a j t))) (variable-same x j t) true
+  member-same j x = λ t. cond (ltb 0 (binder-of (constructs-same a j t))) (variable-same x j t) true
 
   binders-from-same : (start end first last : ℕ) → binders-from ws start end first last ≡ binders-from ws′ start end first last
   binders-from-same start end first last =
       walk-same a (member-laid ws) (member-laid ws′) (next-variable ws) (next-variable ws′) (λ j x. eqb x last) end
-      (λ j x t. both (ltb 0 (size-same a j t)) (member-same j x t)) (λ j x t. pick (ltb 0 (binder-of (constructs-same a j t))) (x + 1) x) (end - start) start first
+      (λ j x t. ltb 0 (size-same a j t) && member-same j x t) (λ j x t. cond (ltb 0 (binder-of (constructs-same a j t))) (x + 1) x) (end - start) start first
 
   -- ---- uses
 
   visible-same : (first last i y : ℕ) → last ≤ max-variables → visible ws first last i y ≡ visible ws′ first last i y
   visible-same first last i y h =
-      elim (decide (ltb y last)) [
-        | inl s ↦ λ t. both (ltb y last) (both (leb first y) (ltb (variable-words a y 0 (omega (arith, ltb-true y last s)) (omega arith) t) i))
+      elim (which (ltb y last)) [
+        | inl s ↦ λ t. ltb y last && (leb first y && ltb (variable-words a y 0 (omega (arith, ltb-true y last s)) (omega arith) t) i)
         | inr s ↦ rw s
       ]
 
@@ -135,16 +135,16 @@ module _ {ws ws′ : List ℕ} (a : Alike ws ws′) where
   construct-named-same : (first last i : ℕ) → last ≤ max-variables → i < max-constructs → construct-named ws first last i ≡ construct-named ws′ first last i
   construct-named-same first last i h l =
       λ t.
-      both (list-named-same first last i (construct-words a i 6 l (omega arith) t) (construct-words a i 7 l (omega arith) t) h t)
-      (list-named-same first last i (own-start (constructs-same a i t)) (own-end (constructs-same a i t)) h t)
+      list-named-same first last i (construct-words a i 6 l (omega arith) t) (construct-words a i 7 l (omega arith) t) h t
+      && list-named-same first last i (own-start (constructs-same a i t)) (own-end (constructs-same a i t)) h t
 
   -- ---- rules
 
   module _ (l : Laid ws) where
     pub rule-end-same : (r k : ℕ) → k < 2 → rule-end ws r k ≡ rule-end ws′ r k
     rule-end-same r k h =
-        elim (decide (ltb (r + 1) (rule-count ws))) [
-          | inl s ↦ λ t. pick (ltb (r + 1) (header-same a 1 (omega arith) t)) (rule-words a (r + 1) k (omega (arith, ltb-true (r + 1) (rule-count ws) s, l .counts .rules)) (omega arith) t) (header-same a (2 + k) (omega arith) t)
+        elim (which (ltb (r + 1) (rule-count ws))) [
+          | inl s ↦ λ t. cond (ltb (r + 1) (header-same a 1 (omega arith) t)) (rule-words a (r + 1) k (omega (arith, ltb-true (r + 1) (rule-count ws) s, l .counts .rules)) (omega arith) t) (header-same a (2 + k) (omega arith) t)
           | inr s ↦ rw (s, sym (ap (ltb (r + 1)) (header-same a 1 (omega arith))) ∙ s) (header-same a (2 + k) (omega arith))
         ]
 
@@ -169,13 +169,13 @@ module _ {ws ws′ : List ℕ} (a : Alike ws ws′) where
           let size = at-body ℕ (size-at ws) (size-at ws′) (λ i b. size-same a i) in
           let no-case = at-body Bool (unconditioned ws) (unconditioned ws′) (unconditioned-same a) in
           λ t.
-          both (both (ltb (own 0 (omega arith) t) (rule-end-same r 0 (omega arith) t)) (eqb (own 0 (omega arith) t + size t) (rule-end-same r 0 (omega arith) t)))
-          (both (eqb (own 1 (omega arith) t + own 2 (omega arith) t) (rule-end-same r 1 (omega arith) t)) (both (eqb (own 3 (omega arith) t) 0) (no-case t)))
+          (ltb (own 0 (omega arith) t) (rule-end-same r 0 (omega arith) t) && eqb (own 0 (omega arith) t + size t) (rule-end-same r 0 (omega arith) t))
+          && (eqb (own 1 (omega arith) t + own 2 (omega arith) t) (rule-end-same r 1 (omega arith) t) && (eqb (own 3 (omega arith) t) 0 && no-case t))
 
       binders-same : binders-laid ws r ≡ binders-laid ws′ r
       binders-same =
           let top = at-body Bool (λ i. is-concatenation (constructAt ws i)) (λ i. is-concatenation (constructAt ws′ i)) (λ i b. ap is-concatenation (constructs-same a i)) in
-          λ t. binders-from-same (pick (top t) (own 0 (omega arith) t + 1) (own 0 (omega arith) t)) (rule-end-same r 0 (omega arith) t) (own 1 (omega arith) t) (rule-end-same r 1 (omega arith) t) t
+          λ t. binders-from-same (cond (top t) (own 0 (omega arith) t + 1) (own 0 (omega arith) t)) (rule-end-same r 0 (omega arith) t) (own 1 (omega arith) t) (rule-end-same r 1 (omega arith) t) t
 
       uses-same : uses-laid ws r ≡ uses-laid ws′ r
       uses-same =
@@ -200,24 +200,20 @@ module _ {ws ws′ : List ℕ} (a : Alike ws ws′) where
       λ start width k b end low high t. zeros-same a (start + width * count k b t) end (omega arith) high t in
       let rules = counted l 1 (omega arith) (rule-laid ws) (rule-laid ws′) (rule-same l) in
       let names =
-      counted l 1 (omega arith) (λ r. both (binders-laid ws r) (uses-laid ws r)) (λ r. both (binders-laid ws′ r) (uses-laid ws′ r))
-      (λ r b t. both (binders-same l r b t) (uses-same l r b t)) in
+      counted l 1 (omega arith) (λ r. binders-laid ws r && uses-laid ws r) (λ r. binders-laid ws′ r && uses-laid ws′ r)
+      (λ r b t. binders-same l r b t && uses-same l r b t) in
       let constructs = counted l 2 (omega arith) (construct-laid ws) (construct-laid ws′) (λ i b. construct-laid-same a i (omega (arith, l .counts .constructs))) in
       let terms = counted l 4 (omega arith) (term-laid ws) (term-laid ws′) (λ k b. term-same k (omega (arith, l .counts .terms))) in
       let lists : lists-laid ws ≡ lists-laid ws′ = lists-same (construct-count ws) 0 0 (omega (arith, l .counts .constructs)) ∙ ap (λ (n : ℕ). lists-from n ws′ 0 0) (count 2 (omega arith)) in
       let whole : laid ws ≡ laid ws′ =
       λ t.
-      both (long t)
-      (both
-      (both (both (eqb (count 0 (omega arith) t) 1399811687) (both (both (limited 1 (count 1 (omega arith) t) max-rules) (limited 1 (count 2 (omega arith) t) max-constructs)) (both (leb (count 3 (omega arith) t) max-variables) (leb (count 4 (omega arith) t) max-terms))))
-      (both (weight t) (zeros-same a 6 rules-at (omega arith) (omega arith) t)))
-      (both
-      (both
-      (both
-      (both (both (zeros rules-at 4 1 (omega arith) variables-at (omega arith) (omega arith) t) (zeros variables-at 4 3 (omega arith) constructs-at (omega arith) (omega arith) t))
-      (both (both (zeros constructs-at 8 2 (omega arith) terms-at (omega arith) (omega arith) t) (zeros terms-at 3 4 (omega arith) literals-at (omega arith) (omega arith) t))
-      (both (zeros literals-at 8 2 (omega arith) sets-at (omega arith) (omega arith) t) (past t))))
-      (both (both (eqb (rule-words a 0 0 (omega arith) (omega arith) t) 0) (eqb (rule-words a 0 1 (omega arith) (omega arith) t) 0)) (rules t)))
-      (both (constructs t) (both (lists t) (terms t))))
-      (names t))) in
+      long t
+      && (((eqb (count 0 (omega arith) t) 1399811687 && ((limited 1 (count 1 (omega arith) t) max-rules && limited 1 (count 2 (omega arith) t) max-constructs) && (leb (count 3 (omega arith) t) max-variables && leb (count 4 (omega arith) t) max-terms)))
+      && (weight t && zeros-same a 6 rules-at (omega arith) (omega arith) t))
+      && (((((zeros rules-at 4 1 (omega arith) variables-at (omega arith) (omega arith) t && zeros variables-at 4 3 (omega arith) constructs-at (omega arith) (omega arith) t)
+      && ((zeros constructs-at 8 2 (omega arith) terms-at (omega arith) (omega arith) t && zeros terms-at 3 4 (omega arith) literals-at (omega arith) (omega arith) t)
+      && (zeros literals-at 8 2 (omega arith) sets-at (omega arith) (omega arith) t && past t)))
+      && ((eqb (rule-words a 0 0 (omega arith) (omega arith) t) 0 && eqb (rule-words a 0 1 (omega arith) (omega arith) t) 0) && rules t))
+      && (constructs t && (lists t && terms t)))
+      && names t)) in
       sym whole ∙ h

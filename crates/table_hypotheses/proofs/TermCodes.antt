@@ -2,18 +2,17 @@
 -- Assumes nothing.
 use Prim.Native.Nat.{ℕ, _+_, _-_, _≤_, _<_}
 use mathlib.Core.Path.{_≡_, refl}
-use mathlib.Core.Bool.{true, false}
+use mathlib.Core.Bool.{true, false, _||_}
 use native.Mathlib.Omega.{arith}
 use borrow.Author.Tests.{ltb-false, eqb-true, le-leb, lt-leb}
 use lib.Dec.{ltb, eqb}
+use Rattle.basis.proofs.Booleans.{picked}
 use Rattle.term_words.specs.Words.{operationOf, signOf, termOf}
 use Rattle.term_words.specs.declared.Operation.{Operation}
 use Rattle.term_words.specs.declared.Comparison.{Comparison}
 use Rattle.term_words.specs.declared.Term.{Term}
-use Rattle.table_wellformed.specs.Checks.{either}
 use Rattle.table_wellformed.specs.Lists.{has-low}
 use Rattle.term_words.proofs.KnownTerms.{KnownOperation, KnownTerm}
-use Rattle.table_layout.proofs.Bounds.{picked}
 
 -- ---- the words of a term
 
@@ -95,7 +94,7 @@ module _ (own low : ℕ) (no-low : 2 < own → own < 7 → low ≡ 0) where
       picked OperationSays (eqb own 5) (λ t k. sign 5 (omega arith) (omega arith) t) (λ t.
       picked OperationSays (eqb own 6) (λ t k. sign 6 (omega arith) (omega arith) t) (λ t k. absurd k))))))
 
-module _ (tag low : ℕ) (laid : either (has-low tag) (eqb low 0) ≡ true) where
+module _ (tag low : ℕ) (laid : (has-low tag || eqb low 0) ≡ true) where
   abbrev Says : Term → Type 0
   Says x = KnownTerm x → (tag ≡ tag-of x) × (low ≡ low-of x)
 

@@ -3,7 +3,7 @@
 use Prim.Native.Nat.{ℕ, zero, suc, _+_, _*_, _/_, _≤_, _<_}
 use mathlib.Core.Path.{_≡_, refl, subst, ap, _∙_}
 use mathlib.Core.Logic.{_⊎_, inl, inr}
-use mathlib.Core.Bool.{Bool, true, false}
+use mathlib.Core.Bool.{Bool, true, false, _||_}
 use mathlib.Core.List.{List}
 use native.Mathlib.Omega.{arith}
 use native.Mathlib.Decide.{decLt}
@@ -12,17 +12,15 @@ use lib.Dec.{ltb, eqb}
 use lib.ListN.{length, getD, drop, length-take, length-drop}
 use lib.Seq.{getD-take, getD-drop}
 use Rattle.basis.specs.Limits.{max-terms}
+use Rattle.basis.proofs.Booleans.{which, both-first, both-second}
 use Rattle.term_words.specs.Words.{termOf, termAt}
-use Rattle.theory.proofs.Turns.{decide}
 use Rattle.table_layout.specs.Places.{word, terms-at, construct-count, term-count, construct-word}
 use Rattle.table_layout.specs.Constructs.{constructAt}
 use Rattle.table_layout.specs.Held.{term-words}
 use Rattle.table_layout.specs.declared.Construct.{Construct}
 use Rattle.table_layout.specs.declared.OwnList.{OwnList}
 use Rattle.table_layout.proofs.Views.{Operands, operands}
-use Rattle.table_wellformed.specs.Checks.{either}
 use Rattle.table_wellformed.specs.Lists.{list-end, own-start, own-end, begins, after, after-condition, lists-begin, after-lists, lists-from, has-low}
-use Rattle.table_wellformed.proofs.Walks.{both-first, both-second}
 use Rattle.table_weights.proofs.Heights.{weight-at}
 use Rattle.table_weights.proofs.Rooms.{rooms}
 use Rattle.table_sizes.specs.Measures.{widest}
@@ -37,7 +35,7 @@ use Rattle.term_words.proofs.KnownTerms.{KnownTerm}
 -- a place from p on is in the list that begins at p, or behind it
 in-list : (p start end j : ℕ) → begins p start end ≡ true → p ≤ j → ((start ≤ j) × (j < end)) ⊎ (after p start end ≤ j)
 in-list p start end j b low =
-    elim (decide (ltb start end)) [
+    elim (which (ltb start end)) [
       | inl t ↦
           let e : start ≡ p = eqb-true start p (rw t at b) in
           elim (decLt j end) [ yes h ↦ inl (omega arith, h) | no h ↦ inr (rw t (let z : end ≤ j = omega arith in z)) ]
@@ -63,7 +61,7 @@ module _ (ws : List ℕ) (P : ℕ → Type 0)
   listed (suc n) i p j e h low high =
       let B : Bool = begins p (construct-word ws i 6) (construct-word ws i 7) in
       let C : Bool = begins (after-condition ws i p) (own-start (constructAt ws i)) (own-end (constructAt ws i)) in
-      elim (decide (lists-begin ws i p)) [
+      elim (which (lists-begin ws i p)) [
         | inl t ↦
             first i p j (omega arith) (λ l. listed n (i + 1) (after-lists ws i p) j (omega arith) (rw (t, lists-from) at h) l high)
             (in-list p (construct-word ws i 6) (construct-word ws i 7) j (both-first B C t) low) (both-second B C t)
@@ -110,7 +108,7 @@ module _ {ws : List ℕ} (s : Sound ws) where
     few = omega (arith, laid-of-sound s .counts .terms)
 
     no-high : high ≡ 0
-    no-high = eqb-true high 0 (both-second (either (has-low tag) (eqb low 0)) (eqb high 0) (laid-of-sound s .term j h))
+    no-high = eqb-true high 0 (both-second (has-low tag || eqb low 0) (eqb high 0) (laid-of-sound s .term j h))
 
     decoded : termAt (term-words ws) j ≡ termOf tag low 0
     unfolding termAt
@@ -123,7 +121,7 @@ module _ {ws : List ℕ} (s : Sound ws) where
     said : (tag ≡ tag-of (termAt (term-words ws) j)) × (low ≡ low-of (termAt (term-words ws) j))
     said =
         rw decoded
-        (term-says tag low (both-first (either (has-low tag) (eqb low 0)) (eqb high 0) (laid-of-sound s .term j h)) (subst KnownTerm decoded (term-known j h)))
+        (term-says tag low (both-first (has-low tag || eqb low 0) (eqb high 0) (laid-of-sound s .term j h)) (subst KnownTerm decoded (term-known j h)))
 
     pub tag-said : word ws (terms-at + 3 * j) ≡ tag-of (termAt (term-words ws) j)
     tag-said = said .0

@@ -2,32 +2,19 @@
 -- Assumes nothing.
 use Prim.Native.Nat.{ℕ, _+_, _-_, _≤_, _<_}
 use mathlib.Core.Path.{_≡_, refl, sym, subst, _∙_}
-use mathlib.Core.Bool.{Bool, true, false}
+use mathlib.Core.Bool.{Bool, true, _&&_}
 use mathlib.Core.List.{List}
 use native.Mathlib.Omega.{arith}
 use borrow.Author.Tests.{ltb-true, leb-true, le-ltb}
 use lib.Dec.{leb, ltb, eqb}
 use Rattle.basis.specs.Limits.{max-rules, max-constructs, max-variables, max-terms, max-literal-bytes, max-width}
+use Rattle.basis.proofs.Booleans.{both-first, both-second, picked}
 use Rattle.table_layout.specs.Places.{construct-word}
-use Rattle.table_layout.specs.Constructs.{pick, both, branches, listed, innerOf, uintOf, leafOf, constructOf, constructAt}
+use Rattle.table_layout.specs.Constructs.{branches, listed, innerOf, uintOf, leafOf, constructOf, constructAt}
 use Rattle.table_layout.specs.Attributes.{attributes-of}
 use Rattle.table_layout.specs.Held.{size-of}
 use Rattle.table_layout.specs.declared.Construct.{Construct}
 use Rattle.table_layout.specs.declared.Attributes.{Attributes}
-
--- two tests that both hold
-pub both-first : (a b : Bool) → both a b ≡ true → a ≡ true
-both-first true b e = refl
-both-first false b e = e
-
-pub both-second : (a b : Bool) → both a b ≡ true → b ≡ true
-both-second true b e = e
-both-second false b e = let z : _≡_ {A = ℕ} 0 1 = cc in absurd (omega arith)
-
--- what holds of both choices, each where it is taken, holds of the choice
-pub picked : {A : Type 0} (P : A → Type 0) (b : Bool) {x y : A} → (b ≡ true → P x) → (b ≡ false → P y) → P (pick b x y)
-picked P true f g = f refl
-picked P false f g = g refl
 
 -- what the words of construct i are where they say something
 abbrev pub Fine : ℕ → Construct → Type 0
@@ -51,28 +38,28 @@ inner-fine i kind size a b c h =
     picked (Fine i) (eqb a 1) (λ e. h) (λ e.
     picked (Fine i) (eqb a 2) (λ e. h) (λ e.
     picked (Fine i) (eqb a 3) (λ e. h) (λ e.
-    picked (Fine i) (both (eqb a 4) (listed b c)) (λ e. h) (λ e. tt)))))
+    picked (Fine i) (eqb a 4 && listed b c) (λ e. h) (λ e. tt)))))
     (λ e. h)))
 
 uint-fine : (i a b c d : ℕ) → i < max-constructs → Fine i (uintOf a b c d)
 uint-fine i a b c d h =
-    let W : Bool = both (leb 1 a) (leb a max-width)
+    let W : Bool = leb 1 a && leb a max-width
     in let L : Bool = listed b c
-    in picked (Fine i) (both W (both L (leb d max-variables)))
+    in picked (Fine i) (W && (L && leb d max-variables))
     (λ e.
-    let w : W ≡ true = both-first W (both L (leb d max-variables)) e
-    in let l : L ≡ true = both-first L (leb d max-variables) (both-second W (both L (leb d max-variables)) e)
-    in (h, leb-true 1 a (both-first (leb 1 a) (leb a max-width) w), leb-true a max-width (both-second (leb 1 a) (leb a max-width) w), leb-true b c (both-first (leb b c) (leb c max-terms) l), leb-true c max-terms (both-second (leb b c) (leb c max-terms) l), leb-true d max-variables (both-second L (leb d max-variables) (both-second W (both L (leb d max-variables)) e))))
+    let w : W ≡ true = both-first W (L && leb d max-variables) e
+    in let l : L ≡ true = both-first L (leb d max-variables) (both-second W (L && leb d max-variables) e)
+    in (h, leb-true 1 a (both-first (leb 1 a) (leb a max-width) w), leb-true a max-width (both-second (leb 1 a) (leb a max-width) w), leb-true b c (both-first (leb b c) (leb c max-terms) l), leb-true c max-terms (both-second (leb b c) (leb c max-terms) l), leb-true d max-variables (both-second L (leb d max-variables) (both-second W (L && leb d max-variables) e))))
     (λ e. tt)
 
 leaf-fine : (i kind a b c d : ℕ) → i < max-constructs → Fine i (leafOf kind a b c d)
 leaf-fine i kind a b c d h =
     picked (Fine i) (eqb kind 5) (λ e. picked (Fine i) (ltb a max-rules) (λ e. (h, ltb-true a max-rules e)) (λ e. tt)) (λ e.
     picked (Fine i) (eqb kind 6)
-    (λ e. picked (Fine i) (both (leb 1 a) (leb a max-literal-bytes)) (λ e. (h, leb-true 1 a (both-first (leb 1 a) (leb a max-literal-bytes) e), leb-true a max-literal-bytes (both-second (leb 1 a) (leb a max-literal-bytes) e))) (λ e. tt))
+    (λ e. picked (Fine i) (leb 1 a && leb a max-literal-bytes) (λ e. (h, leb-true 1 a (both-first (leb 1 a) (leb a max-literal-bytes) e), leb-true a max-literal-bytes (both-second (leb 1 a) (leb a max-literal-bytes) e))) (λ e. tt))
     (λ e.
     picked (Fine i) (eqb kind 7)
-    (λ e. picked (Fine i) (both (ltb a 128) (ltb b 128)) (λ e. (h, ltb-true a 128 (both-first (ltb a 128) (ltb b 128) e), ltb-true b 128 (both-second (ltb a 128) (ltb b 128) e))) (λ e. tt))
+    (λ e. picked (Fine i) (ltb a 128 && ltb b 128) (λ e. (h, ltb-true a 128 (both-first (ltb a 128) (ltb b 128) e), ltb-true b 128 (both-second (ltb a 128) (ltb b 128) e))) (λ e. tt))
     (λ e.
     picked (Fine i) (eqb kind 8) (λ e. uint-fine i a b c d h) (λ e.
     picked (Fine i) (eqb kind 9) (λ e. h) (λ e. tt)))))
@@ -82,7 +69,7 @@ unfolding constructAt constructOf
 fine ws i =
     picked (Fine i) (ltb i max-constructs)
     (λ h.
-    picked (Fine i) (both (leb 1 kind) (leb kind 4))
+    picked (Fine i) (leb 1 kind && leb kind 4)
     (λ e.
     picked (Fine i) (branches i size)
     (λ e. inner-fine i kind size a b c (leb-true 2 size (both-first (leb 2 size) (leb (i + size) max-constructs) e), leb-true (i + size) max-constructs (both-second (leb 2 size) (leb (i + size) max-constructs) e)))

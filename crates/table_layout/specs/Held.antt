@@ -1,7 +1,7 @@
 -- The grammar that a list of words holds: any words at all. A construct that is missing is one that nothing derives.
 -- Assumes nothing.
 use Prim.Native.Nat.{ℕ, zero, suc, _+_, _*_, _-_, _/_, _%_, _^_}
-use mathlib.Core.Bool.{Bool, true, false}
+use mathlib.Core.Bool.{Bool, true, false, cond, _&&_}
 use mathlib.Core.List.{List, [], _∷_}
 use mathlib.Core.Option.{Option, none, some}
 use lib.Dec.{leb, ltb, eqb}
@@ -20,7 +20,7 @@ use Rattle.term_words.specs.declared.Term.{Term}
 use Rattle.term_evaluation.specs.declared.Tested.{Tested}
 use Rattle.theory.specs.Grammar.{Node, alternative, concatenation, repetition, switch, use-of, field, eod, Grammar}
 use Rattle.table_layout.specs.Places.{word, rule-word, construct-word, literals-at, terms-at}
-use Rattle.table_layout.specs.Constructs.{pick, both, constructAt}
+use Rattle.table_layout.specs.Constructs.{constructAt}
 use Rattle.table_layout.specs.Attributes.{attributes-of}
 use Rattle.table_layout.specs.declared.Construct.{Construct}
 use Rattle.table_layout.specs.declared.Passes.{Passes}
@@ -89,7 +89,7 @@ abbrev pub passes-static : List ℕ → Passes → Counts
 passes-static ws Passes.Optional = zero-or-one
 passes-static ws Passes.Any = zero-or-more
 passes-static ws Passes.Some = one-or-more
-passes-static ws (Passes.Counted start end) = pick (hasVariable (terms-of ws start end)) zero-or-more (allowed (counts [] (term-words ws) start end))
+passes-static ws (Passes.Counted start end) = cond (hasVariable (terms-of ws start end)) zero-or-more (allowed (counts [] (term-words ws) start end))
 
 -- only `{n}` has no `~`
 abbrev pub isExact : Form → Bool
@@ -132,7 +132,7 @@ literal-node bytes = field (λ bits. 8 * length bytes) (λ c v bits. same bits (
 -- "a range of one-character literals": 8 bits, a number from the one character to the other
 abbrev pub range-node : ℕ → ℕ → HeldNode
 range-node low high =
-    field (λ bits. 8) (λ c v bits. both (leb low (value bits)) (leb (value bits) high)) (λ bits. both (leb low (value bits)) (leb (value bits) high)) (λ c v bits. v)
+    field (λ bits. 8) (λ c v bits. leb low (value bits) && leb (value bits) high) (λ bits. leb low (value bits) && leb (value bits) high) (λ c v bits. v)
 
 -- the value is in the set of these terms
 abbrev pub in-set : List ℕ → ℕ → ℕ → Values → ℕ → Bool
@@ -140,7 +140,7 @@ in-set ws start end v n = isYes (membership v (pos n) start (terms-of ws start e
 
 -- "a set with a variable counting as `~`"
 abbrev pub in-static-set : List ℕ → ℕ → ℕ → ℕ → Bool
-in-static-set ws start end n = pick (hasVariable (terms-of ws start end)) true (in-set ws start end [] n)
+in-static-set ws start end n = cond (hasVariable (terms-of ws start end)) true (in-set ws start end [] n)
 
 -- a binder is 1 + its variable; 0 binds none
 abbrev pub bound : ℕ → Values → ℕ → Values
@@ -181,7 +181,7 @@ unfoldable pub held : List ℕ → Grammar Context Values
 unfolding node-of
 held ws =
     record {
-      node = λ i. pick (eqb i opening) (use-node ws 0) (node-of ws i (constructAt ws i));
+      node = λ i. cond (eqb i opening) (use-node ws 0) (node-of ws i (constructAt ws i));
       start = opening;
       context = first-context;
       values = replicate max-variables (pos 0);

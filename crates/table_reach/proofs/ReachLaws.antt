@@ -3,14 +3,14 @@
 use Prim.Native.Nat.{ℕ, _-_, _≤_, _<_, min}
 use native.Mathlib.Omega.{arith}
 use mathlib.Core.Path.{_≡_, refl, sym, _∙_}
-use mathlib.Core.Bool.{Bool, true, false}
+use mathlib.Core.Bool.{Bool, true, false, cond}
 use mathlib.Core.List.{List}
 use borrow.Author.Tests.{ltb-true, lt-ltb, eqb-true, eq-eqb}
 use lib.Dec.{ltb, eqb}
 use lib.ListN.{getD}
 use Rattle.basis.specs.Limits.{max-rules, max-constructs}
 use Rattle.table_layout.specs.Places.{rule-count}
-use Rattle.table_layout.specs.Constructs.{pick, constructAt}
+use Rattle.table_layout.specs.Constructs.{constructAt}
 use Rattle.table_layout.specs.declared.Construct.{Construct}
 use Rattle.table_layout.proofs.Views.{parted, use-by}
 use Rattle.lookahead.specs.Sets.{bit}
@@ -22,11 +22,11 @@ use Rattle.table_reach.proofs.Closures.{Chain, closure-binary, chain-cl
 use Rattle.table_reach.proofs.Constructs.{use-below}
 
 -- a test as a number
-pub chosen-binary : (b : Bool) (n : ℕ) → n ≤ 1 → pick b n 0 ≤ 1
+pub chosen-binary : (b : Bool) (n : ℕ) → n ≤ 1 → cond b n 0 ≤ 1
 chosen-binary true n h = h
 chosen-binary false n h = omega arith
 
-pub chosen : (b : Bool) (n : ℕ) → pick b n 0 ≡ 1 → (b ≡ true) × (n ≡ 1)
+pub chosen : (b : Bool) (n : ℕ) → cond b n 0 ≡ 1 → (b ≡ true) × (n ≡ 1)
 chosen true n e = (refl, e)
 chosen false n e = absurd (omega arith)
 

@@ -6,7 +6,7 @@ use native.Mathlib.Decide.{decLt}
 use native.Mathlib.Omega.{arith}
 use native.Mathlib.Numerals.{add-one}
 use mathlib.Core.Path.{_≡_, refl, sym, ap, _∙_}
-use mathlib.Core.Bool.{true, false}
+use mathlib.Core.Bool.{true, false, cond}
 use mathlib.Core.List.{List}
 use borrow.Author.Tests.{eq-eqb, ne-eqb, eqb-true, eqb-false}
 use lib.Bits.{bitOr}
@@ -14,24 +14,23 @@ use lib.Dec.{eqb}
 use lib.ListN.{length, getD, set, length-set}
 use lib.Seq.{getD-set-same, getD-set-other}
 use Rattle.basis.specs.Limits.{max-rules}
-use Rattle.table_layout.specs.Constructs.{pick}
 use Rattle.lookahead.specs.Sets.{bit}
 use Rattle.lookahead.proofs.BitLaws.{bit-lt, bit-or, bit-shl, bit-shl-low, bit-above, bit-first, shifted-one}
 use Rattle.table_reach.specs.Closure.{closure, Matrix, Mended}
 
 -- the one bit of a power of two
-power-bit : (p q : ℕ) → bit (1 * 2 ^ p) q ≡ pick (eqb p q) 1 0
+power-bit : (p q : ℕ) → bit (1 * 2 ^ p) q ≡ cond (eqb p q) 1 0
 power-bit p q = elim (decLt q p) [
   | yes h ↦ rw (ne-eqb p q (λ e. omega arith)) (bit-shl-low 1 p q h)
   | no h ↦ from (q - p) (omega arith)
 ]
   where
-    from : (d : ℕ) → q ≡ p + d → bit (1 * 2 ^ p) q ≡ pick (eqb p q) 1 0
+    from : (d : ℕ) → q ≡ p + d → bit (1 * 2 ^ p) q ≡ cond (eqb p q) 1 0
     from zero e = rw (eq-eqb p q (omega arith), e) (bit-shl 1 p 0 ∙ bit-first 1)
     from (suc d) e = rw (ne-eqb p q (λ f. omega arith), e) (bit-shl 1 p (suc d) ∙ bit-above 1 1 (suc d) (omega arith) (omega arith))
 
 -- a row with one more bit
-pub marked-bit : (row p q : ℕ) → p < 64 → bit (bitOr row (1 * 2 ^ p % 2 ^ 64)) q ≡ max (bit row q) (pick (eqb p q) 1 0)
+pub marked-bit : (row p q : ℕ) → p < 64 → bit (bitOr row (1 * 2 ^ p % 2 ^ 64)) q ≡ max (bit row q) (cond (eqb p q) 1 0)
 marked-bit row p q h = bit-or row (1 * 2 ^ p % 2 ^ 64) q ∙ ap (max (bit row q)) (ap (λ (w : ℕ). bit w q) (shifted-one p 64 h ∙ sym (one-mul (2 ^ p))) ∙ power-bit p q)
 
 -- a loop that writes element after element
@@ -97,5 +96,5 @@ pub matrix-last : (u : ℕ → ℕ → ℕ) (k : ℕ) (rows : List ℕ) → Matr
 matrix-last u k rows m h l = let e : k ≡ max-rules = omega arith in rw (← e) m
 
 -- no bit is marked past the rules
-pub unmarked : (row p q : ℕ) → max-rules ≤ p → q < max-rules → bit row q ≡ max (bit row q) (pick (eqb p q) 1 0)
+pub unmarked : (row p q : ℕ) → max-rules ≤ p → q < max-rules → bit row q ≡ max (bit row q) (cond (eqb p q) 1 0)
 unmarked row p q h l = rw (ne-eqb p q (λ e. omega arith)) (omega arith)

@@ -2,12 +2,13 @@
 -- Assumes nothing.
 use Prim.Native.Nat.{ℕ, zero, suc, _+_, _-_, _<_, _≤_, max, min}
 use mathlib.Core.Path.{_≡_}
+use mathlib.Core.Bool.{cond}
 use mathlib.Core.List.{List}
 use lib.Dec.{ltb, eqb}
 use lib.ListN.{length, getD}
 use Rattle.basis.specs.Limits.{max-rules, max-constructs}
 use Rattle.table_layout.specs.Places.{rule-count}
-use Rattle.table_layout.specs.Constructs.{pick, constructAt}
+use Rattle.table_layout.specs.Constructs.{constructAt}
 use Rattle.table_layout.specs.Attributes.{attributes-of}
 use Rattle.table_layout.specs.declared.Construct.{Construct}
 use Rattle.lookahead.specs.Sets.{bit}
@@ -25,7 +26,7 @@ used-rule c = attributes-of c .rule
 
 -- whether construct i is a use of rule q
 abbrev pub calls : List ℕ → ℕ → ℕ → ℕ
-calls ws q i = pick (eqb (used-rule (constructAt ws i)) q) 1 0
+calls ws q i = cond (eqb (used-rule (constructAt ws i)) q) 1 0
 
 -- whether one of the constructs from `first` up to `end` is a use of rule q
 abbrev pub uses-between : List ℕ → ℕ → ℕ → ℕ → ℕ
@@ -33,7 +34,7 @@ uses-between ws first end q = some-of (end - first) (calls ws q) first
 
 -- whether rule r uses rule q
 abbrev pub uses : List ℕ → ℕ → ℕ → ℕ
-uses ws r q = pick (ltb r (rule-count ws)) (uses-between ws (body-of ws r) (min max-constructs (rule-end ws r)) q) 0
+uses ws r q = cond (ltb r (rule-count ws)) (uses-between ws (body-of ws r) (min max-constructs (rule-end ws r)) q) 0
 
 -- Warshall's closure of a relation: whether r reaches q by way of numbers below k alone
 unfoldable pub closure : (ℕ → ℕ → ℕ) → ℕ → ℕ → ℕ → ℕ

@@ -2,10 +2,11 @@
 -- Assumes nothing.
 use Prim.Native.Nat.{ℕ, _+_, _<_, _≤_}
 use mathlib.Core.Path.{_≡_}
+use mathlib.Core.Bool.{cond}
 use mathlib.Core.List.{List}
 use lib.Dec.{ltb}
 use Rattle.table_layout.specs.Places.{rule-word, rule-count, construct-count}
-use Rattle.table_layout.specs.Constructs.{pick, constructAt}
+use Rattle.table_layout.specs.Constructs.{constructAt}
 use Rattle.table_layout.specs.declared.Construct.{Construct}
 use Rattle.table_reach.specs.declared.Recursion.{Recursion}
 
@@ -15,7 +16,7 @@ body-of ws r = rule-word ws r 0
 
 -- where the constructs of rule r end: at the next rule's body, or at the last construct
 abbrev pub rule-end : List ℕ → ℕ → ℕ
-rule-end ws r = pick (ltb (r + 1) (rule-count ws)) (body-of ws (r + 1)) (construct-count ws)
+rule-end ws r = cond (ltb (r + 1) (rule-count ws)) (body-of ws (r + 1)) (construct-count ws)
 
 -- some construct of rule r is a use of rule q
 pub record Uses (ws : List ℕ) (r q : ℕ) : Type 0 where

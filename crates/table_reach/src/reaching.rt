@@ -1,11 +1,11 @@
 // Which rules reach which: row r is a word whose bit q says whether rule r reaches rule q.
 use table_layout::RULES_AT;
 ghost use mathlib.Core.Path.{_≡_};
+ghost use mathlib.Core.Bool.{cond};
 ghost use Prim.Native.Nat.{ℕ, _<_, max, min};
 ghost use lib.Dec.{eqb};
 ghost use lib.ListN.{length};
 ghost use Rattle.basis.specs.Limits.{max-rules};
-ghost use Rattle.table_layout.specs.Constructs.{pick};
 ghost use Rattle.lookahead.specs.Sets.{bit};
 ghost use Rattle.table_reach.specs.Reaching.{rule-end};
 ghost use Rattle.table_reach.specs.Closure.{used-rule, uses-between, uses, closure, Matrix, Mended, Diagonal};
@@ -35,7 +35,7 @@ fn rule_used(construct: Construct) -> usize
 
 // The row with the use of a rule.
 fn with_use(row: u64, rule: usize) -> u64
-    ensures { λ r. ⌜ ((q : ℕ) → q < max-rules → bit r q ≡ max (bit row q) (pick (eqb rule q) 1 0)) ⌝ }
+    ensures { λ r. ⌜ ((q : ℕ) → q < max-rules → bit r q ≡ max (bit row q) (cond (eqb rule q) 1 0)) ⌝ }
 {
     if rule < MAX_RULES {
         return row | (1u64 << rule);

@@ -8,14 +8,13 @@ use mathlib.Core.List.{List, [], _∷_, _++_, List·Memᴰ·eq-of-singleton}
 use native.Mathlib.Omega.{arith}
 use borrow.Author.Tests.{eqb-true, eqb-false}
 use lib.Dec.{eqb}
+use Rattle.basis.proofs.Booleans.{which, picked}
 use Rattle.theory.specs.Grammar.{_∈_}
 use Rattle.theory.specs.Scope.{Chain}
-use Rattle.theory.proofs.Turns.{decide}
 use Rattle.table_layout.specs.Places.{rule-count, construct-count}
 use Rattle.table_layout.specs.Constructs.{constructAt}
 use Rattle.table_wellformed.specs.Checks.{size-at}
 use Rattle.table_wellformed.specs.Rules.{body, rule-end, binder-of, is-concatenation, members-at}
-use Rattle.table_layout.proofs.Bounds.{picked}
 use Rattle.table_structure.proofs.Tiles.{Tiles, none, more, within, tile-end}
 use Rattle.table_structure.proofs.Facts.{Laid, lt-of-ne}
 use Rattle.table_structure.proofs.RuleLaws.{rule-of, rule-within}
@@ -72,11 +71,11 @@ module _ {ws : List ℕ} (l : Laid ws) where
   -- nothing within a construct binds that is no concatenation and no binder
   hushed : (r i k : ℕ) → Stands ws r i → top-members ws i (constructAt ws i) ≡ i ∷ [] → bound-at ws i ≡ [] → i ≤ k → k < i + size-at ws i → Stands ws r k → bound-at ws k ≡ []
   hushed r i k s top own low high t =
-      elim (decide (eqb i k)) [
+      elim (which (eqb i k)) [
         | inl e ↦ let same : i ≡ k = eqb-true i k e in rw same at own
         | inr e ↦
             let less : i + 1 ≤ k = lt-of-ne i k low (eqb-false i k e)
-            in elim (decide (eqb (body ws r) i)) [
+            in elim (which (eqb (body ws r) i)) [
               | inl f ↦ let same : body ws r ≡ i = eqb-true (body ws r) i f in sole r k t (rw same top) (omega arith)
               | inr f ↦ inner r i k s (omega (arith, lt-of-ne (body ws r) i (s .begins) (eqb-false (body ws r) i f))) (omega arith) high
             ]

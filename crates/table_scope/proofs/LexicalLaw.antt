@@ -11,11 +11,11 @@ use lib.Dec.{ltb, eqb}
 use lib.IntN.{pos}
 use lib.ListN.{length, length-replicate}
 use Rattle.basis.specs.Bits.{Bits}
+use Rattle.basis.proofs.Booleans.{which, picked}
 use Rattle.theory.specs.Grammar.{alternative, concatenation, repetition, switch, use-of, field, eod}
 use Rattle.theory.specs.Scope.{Agree, Scoped, localised, Lexical}
 use Rattle.theory.specs.Derivation.{Tree, Derivation}
 use Rattle.theory.proofs.Theorems.{local}
-use Rattle.theory.proofs.Turns.{decide}
 use Rattle.table_layout.specs.Places.{rule-count, construct-count}
 use Rattle.table_layout.specs.Constructs.{constructAt}
 use Rattle.table_layout.specs.Held.{Context, Values, HeldNode, use-node, node-of, opening, held}
@@ -23,7 +23,6 @@ use Rattle.table_layout.specs.declared.Construct.{Construct}
 use Rattle.table_layout.proofs.Views.{Parted, parted, leaf-node}
 use Rattle.table_wellformed.specs.Rules.{binder-of}
 use Rattle.table_wellformed.specs.Laid.{laid}
-use Rattle.table_layout.proofs.Bounds.{picked}
 use Rattle.table_reach.specs.Reaching.{Acyclic}
 use Rattle.table_structure.proofs.Facts.{Laid, facts}
 use Rattle.table_structure.proofs.RuleLaws.{rule-of, rule-fact}
@@ -56,7 +55,7 @@ module _ {ws : List ℕ} (l : Laid ws) where
 
   scoped-construct : (i : ℕ) → Scoped store (scope-of ws) i (node-of ws i (constructAt ws i))
   scoped-construct i =
-      elim (decide (ltb i (construct-count ws))) [
+      elim (which (ltb i (construct-count ws))) [
         | inl t ↦
             let h : i < construct-count ws = ltb-true i (construct-count ws) t
             in scoped-by l (rule-of l i h .rule) i (stands l i h) (rule-holds l i h) (constructAt ws i) refl
@@ -89,7 +88,7 @@ module _ {ws : List ℕ} (l : Laid ws) where
   entered-construct : (i : ℕ) → Entered ws i (node-of ws i (constructAt ws i))
   unfolding node-of
   entered-construct i =
-      elim (decide (ltb i (construct-count ws))) [
+      elim (which (ltb i (construct-count ws))) [
         | inl t ↦ entered-by i (parted (constructAt ws i)) refl (ltb-true i (construct-count ws) t)
         | inr t ↦ rw (missing-past l i (ltb-false i (construct-count ws) t), node-of) tt
       ]

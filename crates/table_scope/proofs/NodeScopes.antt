@@ -11,9 +11,9 @@ use lib.Dec.{eqb, ltb}
 use lib.IntN.{pos}
 use lib.ListN.{length, getD, List·getD-eq-default}
 use Rattle.basis.specs.Bits.{value}
+use Rattle.basis.proofs.Booleans.{which}
 use Rattle.theory.specs.Grammar.{_∈_}
 use Rattle.theory.specs.Scope.{Agree, Scoped}
-use Rattle.theory.proofs.Turns.{decide}
 use Rattle.table_layout.specs.Places.{variable-word}
 use Rattle.table_layout.specs.Constructs.{constructAt}
 use Rattle.table_layout.specs.Held.{first-context, Values, size-of, parts, bound, first-case, node-of}
@@ -37,7 +37,7 @@ length-same v v′ e = cc
 
 own-same : (x : ℕ) (v v′ : Values) (n : ℕ) → length v ≡ length v′ → getD (bound (suc x) v n) x (pos 0) ≡ getD (bound (suc x) v′ n) x (pos 0)
 own-same x v v′ n e =
-    elim (decide (ltb x (length v))) [
+    elim (which (ltb x (length v))) [
       | inl t ↦ let h : x < length v = ltb-true x (length v) t in bound-own x v n h ∙ sym (bound-own x v′ n (omega arith))
       | inr t ↦
           let h : length v ≤ x = ltb-false x (length v) t
@@ -49,7 +49,7 @@ after-binder : (xs : List ℕ) (b : ℕ) (v v′ : Values) (n : ℕ) → length 
 after-binder xs zero v v′ n e a x m = elim (List·Memᴰ·append-cases xs m) [ inl k ↦ a x k | inr k ↦ absurd (List·Memᴰ·not-nil k) ]
 after-binder xs (suc y) v v′ n e a zero m = ap pos (bound-length (suc y) v n ∙ e ∙ sym (bound-length (suc y) v′ n))
 after-binder xs (suc y) v v′ n e a (suc x) m =
-    elim (decide (eqb x y)) [
+    elim (which (eqb x y)) [
       | inl t ↦ let same : x ≡ y = eqb-true x y t in rw same (own-same y v v′ n e)
       | inr t ↦
           let apart : x ≡ y → ⊥ = eqb-false x y t

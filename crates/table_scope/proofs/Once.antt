@@ -7,9 +7,9 @@ use mathlib.Core.List.{List, [], _∷_, List·Memᴰ·head, List·Memᴰ·tail, 
 use native.Mathlib.Omega.{arith}
 use borrow.Author.Tests.{ltb-true, ltb-false}
 use lib.Dec.{ltb}
+use Rattle.basis.proofs.Booleans.{which}
 use Rattle.theory.specs.Grammar.{_∈_}
 use Rattle.theory.specs.Scope.{MayBind}
-use Rattle.theory.proofs.Turns.{decide}
 use Rattle.table_layout.specs.Places.{construct-count, variable-word}
 use Rattle.table_layout.specs.Constructs.{constructAt}
 use Rattle.table_layout.specs.Held.{Context, held, opening}
@@ -115,7 +115,7 @@ module _ {ws : List ℕ} (l : Laid ws) where
 
   pub not-again : Acyclic ws → {c : Context} (i x : ℕ) → x ∈ seen-at ws i → Below ws c i x → ⊥
   not-again acyclic i x m d =
-      elim (decide (ltb i (construct-count ws))) [
+      elim (which (ltb i (construct-count ws))) [
         | inl t ↦
             let h : i < construct-count ws = ltb-true i (construct-count ws) t
             in let s = stands l i h

@@ -3,18 +3,15 @@
 use Prim.Native.Nat.{ℕ, zero, suc, _+_, _≤_, _<_}
 use mathlib.Core.Path.{_≡_, refl, ap, _∙_}
 use mathlib.Core.Logic.{inl, inr}
-use mathlib.Core.Bool.{Bool, true}
+use mathlib.Core.Bool.{Bool, true, _&&_}
 use mathlib.Core.List.{List, [], _∷_, _++_, append-nil, Memᴰ·append-left, Memᴰ·append-right, List·Memᴰ·append-cases, List·Memᴰ·not-nil}
 use native.Mathlib.Omega.{arith}
 use borrow.Author.Tests.{leb-true, ltb-true, le-leb, lt-leb, lt-ltb, eqb-true, eqb-false}
 use lib.Dec.{leb, ltb, eqb}
+use Rattle.basis.proofs.Booleans.{which, both-first, both-second, picked}
 use Rattle.theory.specs.Grammar.{_∈_}
-use Rattle.theory.proofs.Turns.{decide}
 use Rattle.table_layout.specs.Places.{rule-count, construct-count}
-use Rattle.table_layout.specs.Constructs.{both}
 use Rattle.table_wellformed.specs.Rules.{body, rule-end}
-use Rattle.table_wellformed.proofs.Walks.{both-first, both-second}
-use Rattle.table_layout.proofs.Bounds.{picked}
 use Rattle.table_structure.proofs.Facts.{Laid, lt-of-ne}
 use Rattle.table_structure.proofs.RuleLaws.{rule-within}
 use Rattle.table_structure.proofs.Owners.{one-rule}
@@ -54,7 +51,7 @@ module _ (ws : List ℕ) (start x : ℕ) where
   before-has zero k low high m = absurd (omega arith)
   before-has (suc i) k low high m =
       rw (before-step ws start i (omega arith)) (
-      elim (decide (eqb k i)) [
+      elim (which (eqb k i)) [
         | inl t ↦ let e : k ≡ i = eqb-true k i t in Memᴰ·append-right (bound-before ws start i) (rw e at m)
         | inr t ↦ Memᴰ·append-left (bound-at ws i) (before-has i k low (omega (arith, lt-of-ne k i (omega arith) (eqb-false k i t))) m)
       ])
@@ -66,7 +63,7 @@ module _ (ws : List ℕ) (start x : ℕ) where
   unfolding bound-before
   before-from zero m = absurd (List·Memᴰ·not-nil m)
   before-from (suc i) m =
-      elim (decide (leb start i)) [
+      elim (which (leb start i)) [
         | inl t ↦
             elim (List·Memᴰ·append-cases (bound-before ws start i) (rw (before-step ws start i (leb-true start i t)) at m)) [
               | inl n ↦ later i (before-from i n)
@@ -79,7 +76,7 @@ module _ (ws : List ℕ) (start x : ℕ) where
 
 module _ {ws : List ℕ} (l : Laid ws) where
   -- a construct of rule r passes rule r's test
-  inside : (r i : ℕ) → body ws r ≤ i → i < rule-end ws r 0 → both (leb (body ws r) i) (ltb i (rule-end ws r 0)) ≡ true
+  inside : (r i : ℕ) → body ws r ≤ i → i < rule-end ws r 0 → (leb (body ws r) i && ltb i (rule-end ws r 0)) ≡ true
   inside r i low high = rw (le-leb (body ws r) i low, lt-ltb i (rule-end ws r 0) high)
 
   start-in : (n r i : ℕ) → n ≤ rule-count ws → r < n → body ws r ≤ i → i < rule-end ws r 0 → rule-start n ws i ≡ body ws r
@@ -88,9 +85,9 @@ module _ {ws : List ℕ} (l : Laid ws) where
   start-in (suc q) r i most h low high =
       let L : Bool = leb (body ws q) i
       in let H : Bool = ltb i (rule-end ws q 0)
-      in picked (λ (s : ℕ). s ≡ body ws r) (both L H)
+      in picked (λ (s : ℕ). s ≡ body ws r) (L && H)
       (λ t. ap (body ws) (one-rule l q r i (omega arith) (omega arith) (leb-true (body ws q) i (both-first L H t)) (ltb-true i (rule-end ws q 0) (both-second L H t)) low high))
-      (λ t. start-in q r i (omega arith) (omega (arith, lt-of-ne r q (omega arith) (λ e. let p : both L H ≡ true = rw e at (inside r i low high) in let z : _≡_ {A = ℕ} 0 1 = cc in omega arith))) low high)
+      (λ t. start-in q r i (omega arith) (omega (arith, lt-of-ne r q (omega arith) (λ e. let p : (L && H) ≡ true = rw e at (inside r i low high) in let z : _≡_ {A = ℕ} 0 1 = cc in omega arith))) low high)
 
   start-none : (n i : ℕ) → n ≤ rule-count ws → construct-count ws ≤ i → rule-start n ws i ≡ i
   unfolding rule-start
@@ -98,7 +95,7 @@ module _ {ws : List ℕ} (l : Laid ws) where
   start-none (suc q) i most past =
       let L : Bool = leb (body ws q) i
       in let H : Bool = ltb i (rule-end ws q 0)
-      in picked (λ (s : ℕ). s ≡ i) (both L H)
+      in picked (λ (s : ℕ). s ≡ i) (L && H)
       (λ t. let high : i < rule-end ws q 0 = ltb-true i (rule-end ws q 0) (both-second L H t) in absurd (omega (arith, rule-within l q (omega arith))))
       (λ t. start-none q i (omega arith) past)
 

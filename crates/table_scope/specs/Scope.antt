@@ -2,14 +2,14 @@
 -- 01's local variables. Of a scope it takes `opens-rule` alone; the rest is what the law `lexical` says of well laid out words.
 -- Assumes nothing.
 use Prim.Native.Nat.{ℕ, zero, suc}
-use mathlib.Core.Bool.{true}
+use mathlib.Core.Bool.{true, cond, _&&_}
 use mathlib.Core.List.{List, [], _∷_, _++_}
 use lib.Dec.{leb, ltb}
 use lib.IntN.{ℤ, pos}
 use lib.ListN.{length, getD, replicate}
 use Rattle.theory.specs.Scope.{Store, one-level, Scope}
 use Rattle.table_layout.specs.Places.{rule-count}
-use Rattle.table_layout.specs.Constructs.{pick, both, constructAt}
+use Rattle.table_layout.specs.Constructs.{constructAt}
 use Rattle.table_layout.specs.Held.{Context, Values}
 use Rattle.table_wellformed.specs.Rules.{body, rule-end, binder-of}
 
@@ -39,12 +39,12 @@ bound-at ws i = bound-by (binder-of (constructAt ws i))
 -- what the constructs from `start` up to i bind
 unfoldable pub bound-before : List ℕ → ℕ → ℕ → List ℕ
 bound-before ws start zero = []
-bound-before ws start (suc i) = pick (leb start i) (bound-before ws start i ++ bound-at ws i) []
+bound-before ws start (suc i) = cond (leb start i) (bound-before ws start i ++ bound-at ws i) []
 
 -- the body of the rule, of the first n, that construct i stands in; i itself where it stands in none
 unfoldable pub rule-start : ℕ → List ℕ → ℕ → ℕ
 rule-start zero ws i = i
-rule-start (suc r) ws i = pick (both (leb (body ws r) i) (ltb i (rule-end ws r 0))) (body ws r) (rule-start r ws i)
+rule-start (suc r) ws i = cond (leb (body ws r) i && ltb i (rule-end ws r 0)) (body ws r) (rule-start r ws i)
 
 -- "uses stand in later members": a construct sees what the constructs before it in its rule bind
 abbrev pub seen-at : List ℕ → ℕ → List ℕ

@@ -2,7 +2,7 @@
 -- multiplied)".
 -- Assumes nothing.
 use Prim.Native.Nat.{ℕ, zero, suc, _+_, _-_, _^_, _≤_, _<_, min}
-use mathlib.Core.Bool.{Bool, true, false}
+use mathlib.Core.Bool.{Bool, true, false, cond, _||_}
 use mathlib.Core.List.{List, [], _∷_}
 use lib.Dec.{ltb}
 use lib.IntN.{ℤ, pos}
@@ -11,12 +11,11 @@ use Rattle.term_words.specs.declared.Kind.{Kind}
 use Rattle.term_sizes.specs.Sizes.{sizes, countSizes}
 use Rattle.term_sizes.specs.declared.Sized.{Sized}
 use Rattle.table_layout.specs.Places.{variable-word, construct-word}
-use Rattle.table_layout.specs.Constructs.{pick, constructAt}
+use Rattle.table_layout.specs.Constructs.{constructAt}
 use Rattle.table_layout.specs.Attributes.{attributes-of}
 use Rattle.table_layout.specs.Held.{term-words, terms-of}
 use Rattle.table_layout.specs.declared.Construct.{Construct}
 use Rattle.table_layout.specs.declared.OwnList.{OwnList}
-use Rattle.table_wellformed.specs.Checks.{either}
 
 -- "variables at their widest": the largest number of a width within the limit
 abbrev pub largest : ℕ → ℤ
@@ -34,7 +33,7 @@ widest ws = widest-from max-variables ws 0
 -- the sizes in a construct's condition, where it has one
 abbrev pub condition-size : List ℕ → ℕ → Sized
 condition-size ws i =
-    pick (ltb (construct-word ws i 6) (construct-word ws i 7))
+    cond (ltb (construct-word ws i 6) (construct-word ws i 7))
     (sizes Kind.Condition (widest ws) (construct-word ws i 6) (terms-of ws (construct-word ws i 6) (construct-word ws i 7)))
     Sized.Passes
 
@@ -56,7 +55,7 @@ exceeds (Sized.Exceeds at) = true
 
 -- construct i has a calculation whose size may pass 2^62
 abbrev pub oversized : List ℕ → ℕ → Bool
-oversized ws i = either (exceeds (condition-size ws i)) (exceeds (own-size ws (constructAt ws i)))
+oversized ws i = exceeds (condition-size ws i) || exceeds (own-size ws (constructAt ws i))
 
 -- the least of n numbers with the property; n where none has it
 pub record LeastOf (P : ℕ → Type 0) (n r : ℕ) : Type 0 where

@@ -4,14 +4,14 @@
 -- Assumes nothing.
 use Prim.Native.Nat.{ℕ, zero, suc, _≤_, _<_}
 use mathlib.Core.Path.{_≡_, refl, ap, _∙_}
-use mathlib.Core.Bool.{Bool, true, false}
+use mathlib.Core.Bool.{Bool, true, false, cond}
 use mathlib.Core.List.{List, [], _∷_, List·Memᴰ·head, List·Memᴰ·tail}
 use mathlib.Core.Option.{Option, some}
 use lib.Dec.{ltb}
 use lib.IntN.{ℤ, pos}
 use lib.ListN.{length, getD, length-set}
 use lib.Seq.{getD-set-same, getD-set-other}
-use Rattle.term_words.specs.Numbers.{pick as choose, bounded, kept}
+use Rattle.term_words.specs.Numbers.{bounded, kept}
 use Rattle.term_words.specs.Steps.{variableOf}
 use Rattle.term_evaluation.specs.Meaning.{condition}
 use Rattle.term_words.specs.declared.Outcome.{Outcome}
@@ -35,8 +35,8 @@ pub record Agreeing (P : ℕ → Type 0) (v v′ : Values) : Type 0 where
 pub agree-same : {P : ℕ → Type 0} {v v′ : Values} → Agreeing P v v′ → Same P v v′
 unfolding variableOf
 agree-same {P} {v} {v′} a y p s =
-    ap (λ (n : ℕ). choose (ltb y n) (kept s (bounded (getD v y (pos 0)))) Outcome.Malformed) (a .lengths)
-    ∙ ap (λ (z : ℤ). choose (ltb y (length v′)) (kept s (bounded z)) Outcome.Malformed) (a .values y p)
+    ap (λ (n : ℕ). cond (ltb y n) (kept s (bounded (getD v y (pos 0)))) Outcome.Malformed) (a .lengths)
+    ∙ ap (λ (z : ℤ). cond (ltb y (length v′)) (kept s (bounded z)) Outcome.Malformed) (a .values y p)
 
 module _ {ws : List ℕ} (l : Laid ws) (r i : ℕ) (h : r < rule-count ws) (low : body ws r ≤ i) (high : i < rule-end ws r 0) where
   own-list : (c : Construct) → constructAt ws i ≡ c → Reads (Visible ws r i) (term-words ws) (own-start c) (own-end c)

@@ -3,17 +3,17 @@
 use Prim.Native.Nat.{ℕ, zero, suc, _+_, _*_, _-_, _≤_, _<_}
 use mathlib.Core.Path.{_≡_, refl, sym, subst, ap, _∙_}
 use mathlib.Core.Logic.{inl, inr}
-use mathlib.Core.Bool.{Bool, true, false}
+use mathlib.Core.Bool.{Bool, true, false, cond, _&&_}
 use mathlib.Core.List.{List, [], _∷_, List·Memᴰ·head, List·Memᴰ·tail}
 use native.Mathlib.Omega.{arith}
 use borrow.Author.Tests.{ltb-true, ltb-false, leb-true, eqb-true, eqb-false, ne-eqb}
 use lib.Dec.{ltb, leb, eqb}
+use Rattle.basis.proofs.Booleans.{which, both-first, both-second}
 use Rattle.term_words.specs.Words.{termAt}
 use Rattle.term_words.specs.declared.Operation.{Operation}
 use Rattle.term_words.specs.declared.Term.{Term}
-use Rattle.theory.proofs.Turns.{decide}
 use Rattle.table_layout.specs.Places.{variables-at, rule-count, construct-count, variable-count, rule-word, variable-word, construct-word}
-use Rattle.table_layout.specs.Constructs.{pick, both, constructAt}
+use Rattle.table_layout.specs.Constructs.{constructAt}
 use Rattle.table_layout.specs.Held.{size-of, term-words, parts}
 use Rattle.table_layout.specs.declared.Construct.{Construct}
 use Rattle.table_layout.proofs.Views.{Parted, missing, branches, members, body as one-part, cases, opens, leaf, parted, Operands, counts, characters, set, plain, operands}
@@ -23,7 +23,7 @@ use Rattle.term_words.specs.declared.Kind.{Kind}
 use Rattle.table_wellformed.specs.Lists.{own-start, own-end, list-formed}
 use Rattle.table_wellformed.specs.Laid.{kind-laid}
 use Rattle.table_wellformed.specs.Rules.{body, rule-end, binder-of, named-back, variable-laid, binds, member-laid, next-variable, is-concatenation, members-at, visible, operation-named, term-named, list-named, construct-named}
-use Rattle.table_wellformed.proofs.Walks.{both-first, both-second, one-step, at-once}
+use Rattle.table_wellformed.proofs.Walks.{one-step, at-once}
 use Rattle.table_structure.proofs.Facts.{Laid, each, lt-of-ne}
 use Rattle.table_structure.proofs.Tiles.{Tiles, none, more}
 use Rattle.table_structure.proofs.PartLaws.{Tiled, tiled}
@@ -46,13 +46,13 @@ here ws j js x v =
     in let P : Bool = eqb (variable-word ws x 0) j
     in let W : Bool = eqb (variable-word ws x 1) (construct-word ws j 2)
     in let Z : Bool = all-zero ws (variables-at + 4 * x + 2) (variables-at + 4 * x + 4)
-    in let front : both B P ≡ true = both-first (both B P) (both W Z) v
+    in let front : (B && P) ≡ true = both-first (B && P) (W && Z) v
     in let place : variable-word ws x 0 ≡ j = eqb-true (variable-word ws x 0) j (both-second B P front)
     in record {
       listed = List·Memᴰ·head place;
       binder = ap (λ (k : ℕ). binder-of (constructAt ws k)) place ∙ eqb-true (binder-of (constructAt ws j)) (x + 1) (both-first B P front);
-      width = eqb-true (variable-word ws x 1) (construct-word ws j 2) (both-first W Z (both-second (both B P) (both W Z) v)) ∙ sym (ap (λ (k : ℕ). construct-word ws k 2) place);
-      unused = both-second W Z (both-second (both B P) (both W Z) v);
+      width = eqb-true (variable-word ws x 1) (construct-word ws j 2) (both-first W Z (both-second (B && P) (W && Z) v)) ∙ sym (ap (λ (k : ℕ). construct-word ws k 2) place);
+      unused = both-second W Z (both-second (B && P) (W && Z) v);
     }
 
 module _ (ws : List ℕ) (end last : ℕ) where
@@ -72,13 +72,13 @@ module _ (ws : List ℕ) (end last : ℕ) where
   turn : (n j x y : ℕ) (js : List ℕ) → Walked (suc n) j x → j < end → x ≤ y → y < last
       → ((x′ : ℕ) → Walked n (j + size-at ws j) x′ → x′ ≤ y → Bound ws js y) → Bound ws (j ∷ js) y
   turn n j x y js w h low high on =
-      elim (decide (both (ltb 0 (size-at ws j)) (member-laid ws j x))) [
+      elim (which (ltb 0 (size-at ws j) && member-laid ws j x)) [
         | inl t ↦
             let m : member-laid ws j x ≡ true = both-second (ltb 0 (size-at ws j)) (member-laid ws j x) t
             in let rest : Walked n (j + size-at ws j) (next-variable ws j x) = sym (one-step ws (member-laid ws) (next-variable ws) (λ k z. eqb z last) end n j x true h t) ∙ w
-            in elim (decide (binds ws j)) [
+            in elim (which (binds ws j)) [
               | inl b ↦
-                  elim (decide (eqb x y)) [
+                  elim (which (eqb x y)) [
                     | inl s ↦ let e : x ≡ y = eqb-true x y s in rw e at (here ws j js x (binding j x m b .0))
                     | inr s ↦ later (on (x + 1) (rw (binding j x m b .1) at rest) (lt-of-ne x y low (eqb-false x y s)))
                   ]
@@ -98,7 +98,7 @@ module _ (ws : List ℕ) (end last : ℕ) where
 -- ---- the constructs of a rule that may bind
 
 abbrev pub top-members : List ℕ → ℕ → Construct → List ℕ
-top-members ws i c = pick (is-concatenation c) (parts (size-of c) ws (i + 1) (i + size-of c)) (i ∷ [])
+top-members ws i c = cond (is-concatenation c) (parts (size-of c) ws (i + 1) (i + size-of c)) (i ∷ [])
 
 -- of rule r
 abbrev pub members-of : List ℕ → ℕ → List ℕ
@@ -112,7 +112,7 @@ alone : (ws : List ℕ) (i end : ℕ) → i < end → i + size-at ws i ≡ end �
 alone ws i end h e = more h (omega arith) refl refl (none e)
 
 top-tiles : (ws : List ℕ) (i end : ℕ) {c : Construct} → Parted c → Tiled ws i c → size-at ws i ≡ size-of c → i < end → i + size-at ws i ≡ end
-    → Tiles ws (λ k. true) end (pick (is-concatenation c) (i + 1) i) (top-members ws i c)
+    → Tiles ws (λ k. true) end (cond (is-concatenation c) (i + 1) i) (top-members ws i c)
 top-tiles ws i end missing t s h e = alone ws i end h e
 top-tiles ws i end (branches size) t s h e = alone ws i end h e
 top-tiles ws i end (members size) t s h e = let f : i + size ≡ end = omega arith in subst (λ (z : ℕ). Tiles ws (λ k. true) z (i + 1) (parts size ws (i + 1) (i + size))) f (loosely t)
@@ -134,8 +134,8 @@ seen ws r i y h =
     let L : Bool = ltb y (rule-end ws r 1)
     in let F : Bool = leb (rule-word ws r 1) y
     in let E : Bool = ltb (variable-word ws y 0) i
-    in let rest : both F E ≡ true = both-second L (both F E) h
-    in record { first = leb-true (rule-word ws r 1) y (both-first F E rest); last = ltb-true y (rule-end ws r 1) (both-first L (both F E) h); earlier = ltb-true (variable-word ws y 0) i (both-second F E rest) }
+    in let rest : (F && E) ≡ true = both-second L (F && E) h
+    in record { first = leb-true (rule-word ws r 1) y (both-first F E rest); last = ltb-true y (rule-end ws r 1) (both-first L (F && E) h); earlier = ltb-true (variable-word ws y 0) i (both-second F E rest) }
 
 operation-seen : (ws : List ℕ) (r i : ℕ) (o : Operation) → operation-named ws (rule-word ws r 1) (rule-end ws r 1) i o ≡ true → OperationReads (Visible ws r i) o
 operation-seen ws r i (Operation.Number n) h = tt
@@ -206,7 +206,7 @@ back ws k (set width start end binder) h b =
     let N : Bool = leb binder (variable-count ws)
     in let P : Bool = eqb (variable-word ws (binder - 1) 0) k
     in let some : eqb binder 0 ≡ false = ne-eqb binder 0 (λ e. omega arith)
-    in let named : both N P ≡ true = rw some at (both-first (named-back ws k binder) (list-formed Kind.Set ws start end) h)
+    in let named : (N && P) ≡ true = rw some at (both-first (named-back ws k binder) (list-formed Kind.Set ws start end) h)
     in (leb-true binder (variable-count ws) (both-first N P named), eqb-true (variable-word ws (binder - 1) 0) k (both-second N P named))
 back ws k (plain p) h b = absurd (omega (arith, p .binder))
 
@@ -222,11 +222,11 @@ module _ {ws : List ℕ} (l : Laid ws) where
   search-from : (n r x : ℕ) → r + n ≡ rule-count ws → r < rule-count ws → rule-word ws r 1 ≤ x → x < variable-count ws → VariableOf ws x
   search-from zero r x e h low high = absurd (omega arith)
   search-from (suc n) r x e h low high =
-      elim (decide (ltb x (rule-end ws r 1))) [
+      elim (which (ltb x (rule-end ws r 1))) [
         | inl t ↦ record { rule = r; exists = h; begins = low; ends = ltb-true x (rule-end ws r 1) t }
         | inr t ↦
             let past : rule-end ws r 1 ≤ x = ltb-false x (rule-end ws r 1) t
-            in elim (decide (ltb (r + 1) (rule-count ws))) [
+            in elim (which (ltb (r + 1) (rule-count ws))) [
               | inl s ↦ let more : r + 1 < rule-count ws = ltb-true (r + 1) (rule-count ws) s in search-from n (r + 1) x (omega arith) more (omega (arith, next-begins ws r 1 more)) high
               | inr s ↦
                   let last : rule-count ws ≤ r + 1 = ltb-false (r + 1) (rule-count ws) s

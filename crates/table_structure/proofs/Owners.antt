@@ -7,8 +7,8 @@ use mathlib.Core.List.{List}
 use native.Mathlib.Omega.{arith}
 use borrow.Author.Tests.{eqb-true, eqb-false, ltb-true, ltb-false}
 use lib.Dec.{ltb, eqb}
+use Rattle.basis.proofs.Booleans.{which}
 use Rattle.theory.specs.Grammar.{_∈_}
-use Rattle.theory.proofs.Turns.{decide}
 use Rattle.table_layout.specs.Places.{rule-count, construct-count}
 use Rattle.table_layout.specs.Constructs.{constructAt}
 use Rattle.table_wellformed.specs.Checks.{size-at}
@@ -42,7 +42,7 @@ module _ {ws : List ℕ} (l : Laid ws) where
   descend : (n o i : ℕ) → i ≤ o + n → o ≤ i → i < construct-count ws → i < o + size-at ws o → (i ≡ o → Owner ws i) → Owner ws i
   descend zero o i room low h high found = found (omega arith)
   descend (suc n) o i room low h high found =
-      elim (decide (eqb o i)) [
+      elim (which (eqb o i)) [
         | inl t ↦ found (sym (eqb-true o i t))
         | inr t ↦
             let deeper : o + 1 ≤ i = lt-of-ne o i low (eqb-false o i t)
@@ -61,7 +61,7 @@ module _ {ws : List ℕ} (l : Laid ws) where
   pub nested : (n o i : ℕ) → i ≤ o + n → o ≤ i → i < construct-count ws → i < o + size-at ws o → i + size-at ws i ≤ o + size-at ws o
   nested zero o i room low h high = let e : i ≡ o = omega arith in let f : size-at ws i ≡ size-at ws o = ap (size-at ws) e in omega arith
   nested (suc n) o i room low h high =
-      elim (decide (eqb o i)) [
+      elim (which (eqb o i)) [
         | inl t ↦ let e : o ≡ i = eqb-true o i t in let f : size-at ws o ≡ size-at ws i = ap (size-at ws) e in omega arith
         | inr t ↦
             let deeper : o + 1 ≤ i = lt-of-ne o i low (eqb-false o i t)
@@ -88,10 +88,10 @@ module _ {ws : List ℕ} (l : Laid ws) where
   -- "exactly one"
   pub one-owner : (o q i : ℕ) → o < construct-count ws → q < construct-count ws → PartOf ws o i → PartOf ws q i → o ≡ q
   one-owner o q i h k m n =
-      elim (decide (ltb o q)) [
+      elim (which (ltb o q)) [
         | inl t ↦ absurd (owned-later o q i h k (ltb-true o q t) m n)
         | inr t ↦
-            elim (decide (ltb q o)) [
+            elim (which (ltb q o)) [
               | inl s ↦ absurd (owned-later q o i k h (ltb-true q o s) n m)
               | inr s ↦ let a : q ≤ o = ltb-false o q t in let b : o ≤ q = ltb-false q o s in omega arith
             ]
@@ -111,10 +111,10 @@ module _ {ws : List ℕ} (l : Laid ws) where
   -- a construct has one rule
   pub one-rule : (r s i : ℕ) → r < rule-count ws → s < rule-count ws → body ws r ≤ i → i < rule-end ws r 0 → body ws s ≤ i → i < rule-end ws s 0 → r ≡ s
   one-rule r s i h k a b c d =
-      elim (decide (ltb r s)) [
+      elim (which (ltb r s)) [
         | inl t ↦ absurd (omega (arith, earlier-rule r s k (ltb-true r s t)))
         | inr t ↦
-            elim (decide (ltb s r)) [
+            elim (which (ltb s r)) [
               | inl u ↦ absurd (omega (arith, earlier-rule s r h (ltb-true s r u)))
               | inr u ↦ let x : s ≤ r = ltb-false r s t in let y : r ≤ s = ltb-false s r u in omega arith
             ]

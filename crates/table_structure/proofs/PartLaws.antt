@@ -2,13 +2,14 @@
 -- Assumes nothing.
 use Prim.Native.Nat.{ℕ, zero, suc, _+_, _-_, _≤_, _<_}
 use mathlib.Core.Path.{_≡_, refl, ap, _∙_}
-use mathlib.Core.Bool.{Bool, true, false}
+use mathlib.Core.Bool.{Bool, true, false, _&&_}
 use mathlib.Core.List.{List, [], _∷_}
 use native.Mathlib.Omega.{arith}
 use borrow.Author.Tests.{eqb-true}
 use lib.Dec.{ltb, eqb}
+use Rattle.basis.proofs.Booleans.{both-first, both-second}
 use Rattle.table_layout.specs.Places.{construct-count}
-use Rattle.table_layout.specs.Constructs.{both, constructAt}
+use Rattle.table_layout.specs.Constructs.{constructAt}
 use Rattle.table_layout.specs.Attributes.{attributes-of}
 use Rattle.table_layout.specs.Held.{size-of, parts}
 use Rattle.table_layout.specs.declared.Construct.{Construct}
@@ -17,7 +18,6 @@ use Rattle.table_layout.proofs.Views.{Parted, missing, branches, members, body,
 use Rattle.table_wellformed.specs.Checks.{size-at}
 use Rattle.table_wellformed.specs.Parts.{part-laid, parts-laid}
 use Rattle.table_wellformed.specs.Laid.{operands-zero, second-part, construct-end, passes-laid, kind-laid}
-use Rattle.table_wellformed.proofs.Walks.{both-first, both-second}
 use Rattle.table_layout.proofs.Bounds.{fine}
 use Rattle.table_structure.proofs.Tiles.{Tiles, none, tiles, parts-more, parts-none}
 use Rattle.table_structure.proofs.Facts.{Laid}
@@ -60,7 +60,7 @@ module _ (ws : List ℕ) (i : ℕ) where
   parts-one (suc m) e positive s =
       parts-more m ws (i + 1) (i + suc m) (omega arith) (omega arith) ∙ ap (λ (js : List ℕ). (i + 1) ∷ js) (parts-none m ws (i + 1 + size-at ws (i + 1)) (i + suc m) (omega arith))
 
-  single : (size : ℕ) → size-at ws i ≡ size → 2 ≤ size → both (eqb (second-part ws i) (construct-end ws i)) (parts-laid ws false (i + 1) (construct-end ws i)) ≡ true
+  single : (size : ℕ) → size-at ws i ≡ size → 2 ≤ size → (eqb (second-part ws i) (construct-end ws i) && parts-laid ws false (i + 1) (construct-end ws i)) ≡ true
       → Tiles ws (λ j. part-laid ws false (i + 1) j (i + size)) (i + size) (i + 1) ((i + 1) ∷ [])
   single size e positive h =
       let S : Bool = eqb (second-part ws i) (construct-end ws i)
@@ -70,9 +70,9 @@ module _ (ws : List ℕ) (i : ℕ) where
   -- by what construct i is
   tiled-by : {c : Construct} → Parted c → constructAt ws i ≡ c → kind-laid ws i c ≡ true → Tiled ws i c
   tiled-by missing e h = let z : _≡_ {A = ℕ} 0 1 = cc in absurd (omega arith)
-  tiled-by (branches size) e h = walked false size (ap size-of e) (both-second (ltb (second-part ws i) (construct-end ws i)) (parts-laid ws false (i + 1) (construct-end ws i)) (both-second (operands-zero ws i 2) (both (ltb (second-part ws i) (construct-end ws i)) (parts-laid ws false (i + 1) (construct-end ws i))) h))
-  tiled-by (members size) e h = walked false size (ap size-of e) (both-second (ltb (second-part ws i) (construct-end ws i)) (parts-laid ws false (i + 1) (construct-end ws i)) (both-second (operands-zero ws i 2) (both (ltb (second-part ws i) (construct-end ws i)) (parts-laid ws false (i + 1) (construct-end ws i))) h))
-  tiled-by (body size passes) e h = single size (ap size-of e) ((rw e at (fine ws i)) .0) (both-second (passes-laid ws i passes) (both (eqb (second-part ws i) (construct-end ws i)) (parts-laid ws false (i + 1) (construct-end ws i))) h)
+  tiled-by (branches size) e h = walked false size (ap size-of e) (both-second (ltb (second-part ws i) (construct-end ws i)) (parts-laid ws false (i + 1) (construct-end ws i)) (both-second (operands-zero ws i 2) (ltb (second-part ws i) (construct-end ws i) && parts-laid ws false (i + 1) (construct-end ws i)) h))
+  tiled-by (members size) e h = walked false size (ap size-of e) (both-second (ltb (second-part ws i) (construct-end ws i)) (parts-laid ws false (i + 1) (construct-end ws i)) (both-second (operands-zero ws i 2) (ltb (second-part ws i) (construct-end ws i) && parts-laid ws false (i + 1) (construct-end ws i)) h))
+  tiled-by (body size passes) e h = single size (ap size-of e) ((rw e at (fine ws i)) .0) (both-second (passes-laid ws i passes) (eqb (second-part ws i) (construct-end ws i) && parts-laid ws false (i + 1) (construct-end ws i)) h)
   tiled-by (cases size) e h = walked true size (ap size-of e) (both-second (operands-zero ws i 2) (parts-laid ws true (i + 1) (construct-end ws i)) h)
   tiled-by (opens rule) e h = none refl
   tiled-by (leaf f) e h = rw (f .below, f .size) (none refl)

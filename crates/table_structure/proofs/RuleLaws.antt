@@ -3,18 +3,16 @@
 use Prim.Native.Nat.{ℕ, zero, suc, _+_, _-_, _≤_, _<_}
 use mathlib.Core.Path.{_≡_}
 use mathlib.Core.Logic.{inl, inr}
-use mathlib.Core.Bool.{Bool, true}
+use mathlib.Core.Bool.{Bool, true, _&&_}
 use mathlib.Core.List.{List}
 use native.Mathlib.Omega.{arith}
 use borrow.Author.Tests.{lt-ltb, le-ltb, ltb-true, ltb-false, eqb-true}
 use lib.Dec.{ltb, eqb}
-use Rattle.theory.proofs.Turns.{decide}
+use Rattle.basis.proofs.Booleans.{which, both-first, both-second}
 use Rattle.table_layout.specs.Places.{word, rule-count, construct-count, rule-word}
-use Rattle.table_layout.specs.Constructs.{both}
 use Rattle.table_wellformed.specs.Checks.{size-at}
 use Rattle.table_wellformed.specs.Parts.{unconditioned}
 use Rattle.table_wellformed.specs.Rules.{body, rule-end, rule-laid}
-use Rattle.table_wellformed.proofs.Walks.{both-first, both-second}
 use Rattle.table_structure.proofs.Facts.{RuleLaid, Laid}
 
 rule-facts : (ws : List ℕ) (r : ℕ) → rule-laid ws r ≡ true → RuleLaid ws r
@@ -24,14 +22,14 @@ rule-facts ws r h =
     in let X : Bool = eqb (rule-word ws r 1 + rule-word ws r 2) (rule-end ws r 1)
     in let Z : Bool = eqb (rule-word ws r 3) 0
     in let U : Bool = unconditioned ws (body ws r)
-    in let constructs : both B E ≡ true = both-first (both B E) (both X (both Z U)) h
-    in let others : both X (both Z U) ≡ true = both-second (both B E) (both X (both Z U)) h
+    in let constructs : (B && E) ≡ true = both-first (B && E) (X && (Z && U)) h
+    in let others : (X && (Z && U)) ≡ true = both-second (B && E) (X && (Z && U)) h
     in record {
       some-construct = ltb-true (body ws r) (rule-end ws r 0) (both-first B E constructs);
       ends = eqb-true (body ws r + size-at ws (body ws r)) (rule-end ws r 0) (both-second B E constructs);
-      variables = eqb-true (rule-word ws r 1 + rule-word ws r 2) (rule-end ws r 1) (both-first X (both Z U) others);
-      unused = eqb-true (rule-word ws r 3) 0 (both-first Z U (both-second X (both Z U) others));
-      no-case = both-second Z U (both-second X (both Z U) others);
+      variables = eqb-true (rule-word ws r 1 + rule-word ws r 2) (rule-end ws r 1) (both-first X (Z && U) others);
+      unused = eqb-true (rule-word ws r 3) 0 (both-first Z U (both-second X (Z && U) others));
+      no-case = both-second Z U (both-second X (Z && U) others);
     }
 
 -- where rule r ends: where the next begins, or after the last construct
@@ -55,11 +53,11 @@ module _ {ws : List ℕ} (l : Laid ws) where
   search-from : (n r i : ℕ) → r + n ≡ rule-count ws → r < rule-count ws → body ws r ≤ i → i < construct-count ws → RuleOf ws i
   search-from zero r i e h low high = absurd (omega arith)
   search-from (suc n) r i e h low high =
-      elim (decide (ltb i (rule-end ws r 0))) [
+      elim (which (ltb i (rule-end ws r 0))) [
         | inl t ↦ record { rule = r; exists = h; begins = low; ends = ltb-true i (rule-end ws r 0) t }
         | inr t ↦
             let past : rule-end ws r 0 ≤ i = ltb-false i (rule-end ws r 0) t
-            in elim (decide (ltb (r + 1) (rule-count ws))) [
+            in elim (which (ltb (r + 1) (rule-count ws))) [
               | inl s ↦ let more : r + 1 < rule-count ws = ltb-true (r + 1) (rule-count ws) s in search-from n (r + 1) i (omega arith) more (omega (arith, next-begins ws r 0 more)) high
               | inr s ↦ let last : rule-count ws ≤ r + 1 = ltb-false (r + 1) (rule-count ws) s in let ends : rule-end ws r 0 ≡ construct-count ws = last-ends ws r 0 last in absurd (omega arith)
             ]

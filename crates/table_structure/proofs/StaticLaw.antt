@@ -4,7 +4,7 @@
 use Prim.Native.Nat.{ℕ, zero, suc, _+_, _-_, _≤_}
 use mathlib.Core.Path.{_≡_, refl, ap, _∙_}
 use mathlib.Core.Logic.{inl, inr}
-use mathlib.Core.Bool.{Bool, true, false}
+use mathlib.Core.Bool.{Bool, true, false, cond}
 use mathlib.Core.List.{List, [], _∷_, _++_, List·Memᴰ·head, List·Memᴰ·tail}
 use mathlib.Core.Option.{Option, some}
 use native.Mathlib.Omega.{arith}
@@ -13,7 +13,7 @@ use lib.IntN.{ℤ, pos, negsuc}
 use lib.ListN.{length, take}
 use Rattle.basis.specs.Bits.{Bits, value}
 use Rattle.basis.specs.Counts.{Allows, exactly}
-use Rattle.term_words.specs.Numbers.{pick as choose}
+use Rattle.basis.proofs.Booleans.{which, picked}
 use Rattle.term_words.specs.Words.{termAt, terms}
 use Rattle.term_evaluation.specs.Meaning.{run, condition}
 use Rattle.term_evaluation.specs.declared.Tally.{Tally}
@@ -27,13 +27,12 @@ use Rattle.term_words.specs.declared.Numbers.{Numbers}
 use Rattle.term_words.specs.declared.Trial.{Trial}
 use Rattle.theory.specs.Grammar.{alternative, concatenation, repetition, switch, use-of, field, eod, _∈_}
 use Rattle.theory.specs.Hypotheses.{Static}
-use Rattle.theory.proofs.Turns.{decide}
 use Rattle.table_layout.specs.Places.{construct-word}
 use Rattle.table_layout.specs.Constructs.{constructAt}
 use Rattle.table_layout.specs.Held.{Context, Values, HeldNode, term-words, terms-of, parts, allowed, isYes, passes-allowed, passes-static, isExact, passes-fixed, first-case, literal-bytes, in-set, in-static-set, node-of, opening, held}
 use Rattle.table_layout.specs.declared.Construct.{Construct}
 use Rattle.table_layout.specs.declared.Passes.{Passes}
-use Rattle.table_layout.proofs.Bounds.{picked, Fine, fine}
+use Rattle.table_layout.proofs.Bounds.{Fine, fine}
 use Rattle.term_evaluation.proofs.Reading.{membership-constant, counts-constant}
 
 -- what is asked of a node
@@ -53,7 +52,7 @@ StaticOf eod = Unit {0}
 -- "a set with a variable counting as `~`"
 set-static : (ws : List ℕ) (start end : ℕ) (v : Values) (n : ℕ) → in-set ws start end v n ≡ true → in-static-set ws start end n ≡ true
 set-static ws start end v n e =
-    elim (decide (hasVariable (terms-of ws start end))) [
+    elim (which (hasVariable (terms-of ws start end))) [
       | inl t ↦ rw t
       | inr t ↦ rw t (ap isYes (membership-constant [] v (pos n) start (terms (term-words ws) start end) t) ∙ e)
     ]
@@ -64,7 +63,7 @@ passes-covered ws Passes.Optional v k a = a
 passes-covered ws Passes.Any v k a = a
 passes-covered ws Passes.Some v k a = a
 passes-covered ws (Passes.Counted start end) v k a =
-    elim (decide (hasVariable (terms-of ws start end))) [
+    elim (which (hasVariable (terms-of ws start end))) [
       | inl t ↦ rw t (omega arith)
       | inr t ↦ rw (t, counts-constant [] v (term-words ws) start end t) a
     ]
@@ -96,7 +95,7 @@ is-exact Form.Closed e = let z : _≡_ {A = ℕ} 0 1 = cc in absurd (omega arith
 abbrev Once : Counted → Type 0
 Once c = (j k : ℕ) → Allows (allowed c) j → Allows (allowed c) k → j ≡ k
 
-chosen-once : (b : Bool) (c : Tally) (start : ℕ) → Once (c .counted) → Once (choose b c (record { counted = Counted.Malformed; at = start }) .counted)
+chosen-once : (b : Bool) (c : Tally) (start : ℕ) → Once (c .counted) → Once (cond b c (record { counted = Counted.Malformed; at = start }) .counted)
 chosen-once true c start h = h
 chosen-once false c start h = λ j k x y. absurd x
 
@@ -124,9 +123,9 @@ pub case-listed : (ws : List ℕ) (v : Values) (bs : List ℕ) (b : ℕ) → fir
 unfolding first-case
 case-listed ws v [] b e = let z : _≡_ {A = ℕ} 0 1 = cc in absurd (omega arith)
 case-listed ws v (x ∷ bs) b e =
-    elim (decide (ltb (construct-word ws x 6) (construct-word ws x 7))) [
+    elim (which (ltb (construct-word ws x 6) (construct-word ws x 7))) [
       | inl t ↦
-          elim (decide (isYes (condition v (construct-word ws x 6) (terms-of ws (construct-word ws x 6) (construct-word ws x 7))))) [
+          elim (which (isYes (condition v (construct-word ws x 6) (terms-of ws (construct-word ws x 6) (construct-word ws x 7))))) [
             | inl s ↦ List·Memᴰ·head (some-same x b (rw (t, s, first-case) at e))
             | inr s ↦ List·Memᴰ·tail (case-listed ws v bs b (rw (t, s, first-case) at e))
           ]

@@ -3,17 +3,16 @@
 use Prim.Native.Nat.{ℕ, zero, suc, _+_, _-_, _≤_, _<_}
 use mathlib.Core.Path.{_≡_, refl, sym, ap, _∙_}
 use mathlib.Core.Logic.{inl, inr}
-use mathlib.Core.Bool.{Bool, true, false}
+use mathlib.Core.Bool.{Bool, true, false, _&&_}
 use mathlib.Core.List.{List, [], _∷_, List·Memᴰ·head, List·Memᴰ·tail, List·Memᴰ·not-nil}
 use native.Mathlib.Omega.{arith}
 use borrow.Author.Tests.{lt-ltb, le-ltb, ltb-true, ltb-false, ne-eqb, eqb-true}
 use lib.Dec.{ltb, eqb}
+use Rattle.basis.proofs.Booleans.{which, both-first, both-second}
 use Rattle.theory.specs.Grammar.{_∈_}
-use Rattle.theory.proofs.Turns.{decide}
-use Rattle.table_layout.specs.Constructs.{both}
 use Rattle.table_layout.specs.Held.{parts}
 use Rattle.table_wellformed.specs.Checks.{size-at, walk}
-use Rattle.table_wellformed.proofs.Walks.{both-first, both-second, one-step, at-once}
+use Rattle.table_wellformed.proofs.Walks.{one-step, at-once}
 
 -- these constructs, from j up to `end`, each with a size and passing a test
 pub data Tiles (ws : List ℕ) (check : ℕ → Bool) (end : ℕ) : ℕ → List ℕ → Type 0 where
@@ -39,7 +38,7 @@ module _ (ws : List ℕ) (check : ℕ → Bool) (end : ℕ) where
   inside : (n m j : ℕ) → Walked (suc n) j → j < end → (0 < size-at ws j → Walked n (j + size-at ws j) → Tiles ws check end (j + size-at ws j) (parts m ws (j + size-at ws j) end))
       → Tiles ws check end j (parts (suc m) ws j end)
   inside n m j e h on =
-      elim (decide (both (ltb 0 (size-at ws j)) (check j))) [
+      elim (which (ltb 0 (size-at ws j) && check j)) [
         | inl t ↦
             let positive : 0 < size-at ws j = ltb-true 0 (size-at ws j) (both-first (ltb 0 (size-at ws j)) (check j) t)
             in rw (parts-more m ws j end h positive)
@@ -55,7 +54,7 @@ module _ (ws : List ℕ) (check : ℕ → Bool) (end : ℕ) where
   tiles zero m j enough room e = outside zero m j e (omega arith)
   tiles (suc n) zero j enough room e = outside (suc n) zero j e (omega arith)
   tiles (suc n) (suc m) j enough room e =
-      elim (decide (ltb j end)) [
+      elim (which (ltb j end)) [
         | inl t ↦ inside n m j e (ltb-true j end t) (λ positive w. tiles n m (j + size-at ws j) (omega arith) (omega arith) w)
         | inr t ↦ outside (suc n) (suc m) j e (ltb-false j end t)
       ]
@@ -115,7 +114,7 @@ module _ {ws : List ℕ} {check : ℕ → Bool} {end : ℕ} where
   pub covered : {j : ℕ} {js : List ℕ} → Tiles ws check end j js → (k : ℕ) → j ≤ k → k < end → Holds ws js k
   covered (none e) k low high = absurd (omega arith)
   covered (more {j} h positive c next rest) k low high =
-      elim (decide (ltb k (j + size-at ws j))) [
+      elim (which (ltb k (j + size-at ws j))) [
         | inl t ↦ record { tile = j; listed = List·Memᴰ·head refl; begins = low; ends = ltb-true k (j + size-at ws j) t }
         | inr t ↦ let past : j + size-at ws j ≤ k = ltb-false k (j + size-at ws j) t in deeper (covered rest k (omega arith) high)
       ]

@@ -5,13 +5,13 @@ use Prim.Native.Nat.{ℕ, zero, suc, _+_, _≤_, _<_}
 use native.Mathlib.Decide.{decLt}
 use native.Mathlib.Omega.{arith}
 use mathlib.Core.Path.{_≡_, refl, sym, ap, _∙_}
+use mathlib.Core.Bool.{cond}
 use mathlib.Core.List.{List}
 use borrow.Author.Tests.{ne-eqb}
 use lib.Dec.{eqb}
 use Rattle.basis.specs.Limits.{max-constructs}
 use Rattle.theory.specs.Weight.{weigh, Weighs}
 use Rattle.table_layout.specs.Places.{rule-count, construct-count}
-use Rattle.table_layout.specs.Constructs.{pick}
 use Rattle.table_layout.specs.Held.{Context, first-context, size-of, held, opening}
 use Rattle.table_reach.specs.Reaching.{body-of, Acyclic}
 use Rattle.table_layout.proofs.Bounds.{missing-past}
@@ -60,7 +60,7 @@ module _ (ws : List ℕ) (ruled : Ruled ws) (acyclic : Acyclic ws) where
 
   -- the opening use stands above the start rule's body
   depth : ℕ → ℕ
-  depth i = pick (eqb i opening) (1 + height ws (body-of ws 0)) (height ws i)
+  depth i = cond (eqb i opening) (1 + height ws (body-of ws 0)) (height ws i)
 
   depth-of : (i : ℕ) → (i ≡ opening → ⊥) → depth i ≡ height ws i
   unfolding depth

@@ -6,6 +6,7 @@ use native.Mathlib.Decide.{decLt}
 use native.Mathlib.Omega.{arith}
 use native.Mathlib.Numerals.{add-one}
 use mathlib.Core.Path.{_≡_, refl, ap}
+use mathlib.Core.Bool.{cond}
 use mathlib.Core.List.{List, [], _∷_}
 use borrow.Author.Tests.{lt-ltb, le-ltb, ne-eqb}
 use lib.Dec.{eqb}
@@ -13,7 +14,7 @@ use lib.ListN.{length}
 use Rattle.basis.specs.Limits.{max-constructs, max-entries}
 use Rattle.theory.specs.Weight.{largest, members-room, room, HasRoom}
 use Rattle.table_layout.specs.Places.{rule-count, construct-count}
-use Rattle.table_layout.specs.Constructs.{pick, constructAt}
+use Rattle.table_layout.specs.Constructs.{constructAt}
 use Rattle.table_layout.specs.Held.{Context, first-context, size-of, parts, node-of, use-node, held, opening}
 use Rattle.table_layout.specs.declared.Construct.{Construct}
 use Rattle.table_layout.proofs.Views.{Parted, parted, leaf-node}
@@ -27,7 +28,7 @@ use Rattle.table_weights.proofs.Heights.{rule-size, height, child-lower
 
 -- room for construct i; the opening use has that of the start rule's body
 unfoldable pub rooms : List ℕ → Context → ℕ → ℕ
-rooms ws c i = max 1 (pick (eqb i opening) (height ws (body-of ws 0)) (height ws i))
+rooms ws c i = max 1 (cond (eqb i opening) (height ws (body-of ws 0)) (height ws i))
 
 rooms-of : (ws : List ℕ) (c : Context) (i : ℕ) → (i ≡ opening → ⊥) → rooms ws c i ≡ max 1 (height ws i)
 unfolding rooms

@@ -2,16 +2,15 @@
 -- Assumes nothing.
 use Prim.Native.Nat.{ℕ, _≤_}
 use mathlib.Core.Path.{_≡_}
-use mathlib.Core.Bool.{Bool, true}
+use mathlib.Core.Bool.{Bool, true, _&&_}
 use mathlib.Core.List.{List}
 use borrow.Author.Tests.{leb-true}
 use lib.Dec.{leb, eqb}
 use Rattle.basis.specs.Limits.{max-rules, max-constructs, max-variables, max-terms, max-weight}
+use Rattle.basis.proofs.Booleans.{both-first, both-second}
 use Rattle.table_layout.specs.Places.{rules-at, mark-of, rule-count, construct-count, variable-count, term-count, weight-of}
-use Rattle.table_layout.specs.Constructs.{both}
 use Rattle.table_wellformed.specs.Checks.{limited, all-zero}
 use Rattle.table_wellformed.specs.Laid.{counts-limited, headed}
-use Rattle.table_wellformed.proofs.Walks.{both-first, both-second}
 
 pub record Limits (ws : List ℕ) : Type 0 where
   pub some-rule : 1 ≤ rule-count ws
@@ -39,11 +38,11 @@ limits ws h =
     in let W : Bool = limited 1 (weight-of ws) max-weight
     in let marked : Bool = eqb (mark-of ws) 1399811687
     in let rest : Bool = all-zero ws 6 rules-at
-    in let front : both marked (counts-limited ws) ≡ true = both-first (both marked (counts-limited ws)) (both W rest) h
-    in let weighed : W ≡ true = both-first W rest (both-second (both marked (counts-limited ws)) (both W rest) h)
+    in let front : (marked && counts-limited ws) ≡ true = both-first (marked && counts-limited ws) (W && rest) h
+    in let weighed : W ≡ true = both-first W rest (both-second (marked && counts-limited ws) (W && rest) h)
     in let counted : counts-limited ws ≡ true = both-second marked (counts-limited ws) front
-    in let upper : both R C ≡ true = both-first (both R C) (both X T) counted
-    in let lower : both X T ≡ true = both-second (both R C) (both X T) counted
+    in let upper : (R && C) ≡ true = both-first (R && C) (X && T) counted
+    in let lower : (X && T) ≡ true = both-second (R && C) (X && T) counted
     in record {
       some-rule = limited-low 1 (rule-count ws) max-rules (both-first R C upper);
       rules = limited-high 1 (rule-count ws) max-rules (both-first R C upper);

@@ -1,21 +1,16 @@
 -- Tests of many words at once.
 -- Assumes nothing.
 use Prim.Native.Nat.{ℕ, zero, suc, _+_, _-_}
-use mathlib.Core.Bool.{Bool, true, false}
+use mathlib.Core.Bool.{Bool, true, false, _&&_}
 use mathlib.Core.List.{List}
 use lib.Dec.{leb, ltb, eqb}
 use Rattle.table_layout.specs.Places.{word}
-use Rattle.table_layout.specs.Constructs.{both, constructAt}
+use Rattle.table_layout.specs.Constructs.{constructAt}
 use Rattle.table_layout.specs.Held.{size-of}
-
--- one of two tests holds
-abbrev pub either : Bool → Bool → Bool
-either true b = true
-either false b = b
 
 -- at least `low` and at most `high`
 abbrev pub limited : ℕ → ℕ → ℕ → Bool
-limited low n high = both (leb low n) (leb n high)
+limited low n high = leb low n && leb n high
 
 -- n numbers from i on pass a test
 unfoldable pub every : ℕ → ℕ → (ℕ → Bool) → Bool
@@ -40,6 +35,6 @@ unfoldable pub walk : ℕ → List ℕ → (ℕ → ℕ → Bool) → (ℕ → �
 walk zero ws check next finish end j x = finish j x
 walk (suc n) ws check next finish end j x =
     elim (ltb j end) [
-      | true ↦ elim (both (ltb 0 (size-at ws j)) (check j x)) [ true ↦ walk n ws check next finish end (j + size-at ws j) (next j x) | false ↦ false ]
+      | true ↦ elim (ltb 0 (size-at ws j) && check j x) [ true ↦ walk n ws check next finish end (j + size-at ws j) (next j x) | false ↦ false ]
       | false ↦ finish j x
     ]

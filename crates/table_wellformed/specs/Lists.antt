@@ -1,7 +1,7 @@
 -- The lists of terms: each stands where the one before it ends, and is well formed for its kind.
 -- Assumes nothing.
 use Prim.Native.Nat.{ℕ, zero, suc, _+_, _*_, _-_}
-use mathlib.Core.Bool.{Bool, true, false}
+use mathlib.Core.Bool.{Bool, true, false, cond, _&&_, _||_}
 use mathlib.Core.List.{List}
 use lib.Dec.{ltb, eqb}
 use lib.IntN.{ℤ, pos}
@@ -12,12 +12,12 @@ use Rattle.term_words.specs.declared.Kind.{Kind}
 use Rattle.term_sizes.specs.Sizes.{sizes, countSizes}
 use Rattle.term_sizes.specs.declared.Sized.{Sized}
 use Rattle.table_layout.specs.Places.{word, terms-at, construct-count, term-count, construct-word}
-use Rattle.table_layout.specs.Constructs.{pick, both, constructAt}
+use Rattle.table_layout.specs.Constructs.{constructAt}
 use Rattle.table_layout.specs.Attributes.{attributes-of}
 use Rattle.table_layout.specs.Held.{term-words}
 use Rattle.table_layout.specs.declared.Construct.{Construct}
 use Rattle.table_layout.specs.declared.OwnList.{OwnList}
-use Rattle.table_wellformed.specs.Checks.{either, limited}
+use Rattle.table_wellformed.specs.Checks.{limited}
 
 -- ---- a construct's own list: the counts of `{…}`, the set of a uint; 0, 0 where it has none
 
@@ -45,11 +45,11 @@ own-end c = list-end (attributes-of c .own)
 
 -- a list from `start` up to `end`, where there is one, begins at p
 abbrev pub begins : ℕ → ℕ → ℕ → Bool
-begins p start end = pick (ltb start end) (eqb start p) true
+begins p start end = cond (ltb start end) (eqb start p) true
 
 -- where the next list is to begin
 abbrev pub after : ℕ → ℕ → ℕ → ℕ
-after p start end = pick (ltb start end) end p
+after p start end = cond (ltb start end) end p
 
 -- where the own list of construct i is to begin, if its condition is to begin at p
 abbrev pub after-condition : List ℕ → ℕ → ℕ → ℕ
@@ -58,7 +58,7 @@ after-condition ws i p = after p (construct-word ws i 6) (construct-word ws i 7)
 -- the lists of construct i: its condition's, then its own
 abbrev pub lists-begin : List ℕ → ℕ → ℕ → Bool
 lists-begin ws i p =
-    both (begins p (construct-word ws i 6) (construct-word ws i 7)) (begins (after-condition ws i p) (own-start (constructAt ws i)) (own-end (constructAt ws i)))
+    begins p (construct-word ws i 6) (construct-word ws i 7) && begins (after-condition ws i p) (own-start (constructAt ws i)) (own-end (constructAt ws i))
 
 -- and where the lists of the next construct are
 abbrev pub after-lists : List ℕ → ℕ → ℕ → ℕ
@@ -95,14 +95,14 @@ counts-formed ws start end = formed (countSizes zero-values (term-words ws) star
 -- the condition of construct i, where it has one
 abbrev pub condition-formed : List ℕ → ℕ → Bool
 condition-formed ws i =
-    pick (ltb (construct-word ws i 6) (construct-word ws i 7)) (list-formed Kind.Condition ws (construct-word ws i 6) (construct-word ws i 7)) true
+    cond (ltb (construct-word ws i 6) (construct-word ws i 7)) (list-formed Kind.Condition ws (construct-word ws i 6) (construct-word ws i 7)) true
 
 -- ---- a term's three words: a number and a variable's use have a low word, nothing has a high one ("to 4,294,967,295")
 
 -- the tags of a number and of a variable's use, also where they are an item `a` of a set
 abbrev pub has-low : ℕ → Bool
-has-low tag = either (limited 1 tag 2) (limited 33 tag 34)
+has-low tag = limited 1 tag 2 || limited 33 tag 34
 
 -- what a term's tag gives no meaning to is 0
 abbrev pub term-laid : List ℕ → ℕ → Bool
-term-laid ws t = both (either (has-low (word ws (terms-at + 3 * t))) (eqb (word ws (terms-at + 3 * t + 1)) 0)) (eqb (word ws (terms-at + 3 * t + 2)) 0)
+term-laid ws t = (has-low (word ws (terms-at + 3 * t)) || eqb (word ws (terms-at + 3 * t + 1)) 0) && eqb (word ws (terms-at + 3 * t + 2)) 0

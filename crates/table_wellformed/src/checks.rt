@@ -6,15 +6,15 @@ use table_layout::VARIABLES_AT;
 use table_layout::construct_at;
 use table_layout::word;
 ghost use mathlib.Core.Path.{_≡_};
+ghost use mathlib.Core.Bool.{cond, _&&_, _||_};
 ghost use Prim.Native.Nat.{_+_, _*_, _-_, _<_, _≤_};
 ghost use Rattle.basis.specs.Limits.{max-constructs};
 ghost use Rattle.table_layout.specs.Places.{rule-word, variable-word, construct-word};
-ghost use Rattle.table_layout.specs.Constructs.{both as bothOf, pick};
 ghost use Rattle.table_layout.specs.Held.{size-of};
-ghost use Rattle.table_wellformed.specs.Checks.{either as eitherOf, limited as limitedOf, all-zero, size-at};
+ghost use Rattle.table_wellformed.specs.Checks.{limited as limitedOf, all-zero, size-at};
 
 pub fn both(a: bool, b: bool) -> bool
-    ensures { λ r. ⌜ r ≡ bothOf a b ⌝ }
+    ensures { λ r. ⌜ r ≡ (a && b) ⌝ }
 {
     if a {
         return b;
@@ -23,7 +23,7 @@ pub fn both(a: bool, b: bool) -> bool
 }
 
 pub fn either(a: bool, b: bool) -> bool
-    ensures { λ r. ⌜ r ≡ eitherOf a b ⌝ }
+    ensures { λ r. ⌜ r ≡ (a || b) ⌝ }
 {
     if a {
         return true;
@@ -32,7 +32,7 @@ pub fn either(a: bool, b: bool) -> bool
 }
 
 pub fn choose(test: bool, a: usize, b: usize) -> usize
-    ensures { λ r. ⌜ r ≡ pick test a b ⌝ }
+    ensures { λ r. ⌜ r ≡ cond test a b ⌝ }
 {
     if test {
         return a;

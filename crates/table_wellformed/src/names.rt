@@ -20,11 +20,11 @@ use term_words::Operation;
 use term_words::Term;
 use term_words::decode::term_at;
 ghost use mathlib.Core.Path.{_≡_};
+ghost use mathlib.Core.Bool.{_&&_};
 ghost use Prim.Native.Nat.{_+_, _≤_, _<_};
 ghost use lib.ListN.{length};
 ghost use lib.Dec.{ltb};
 ghost use Rattle.basis.specs.Limits.{table-words};
-ghost use Rattle.table_layout.specs.Constructs.{both as bothOf};
 ghost use Rattle.table_wellformed.specs.Checks.{size-at};
 ghost use Rattle.table_wellformed.specs.Rules.{next-variable, binder-of, named-back, variable-laid, member-laid, binders-from, has-members, is-concatenation, members-at, binders-laid, visible as visibleOf, operation-named, term-named, list-named, construct-named, uses-laid, names-laid};
 
@@ -67,7 +67,7 @@ fn variable(table: &[u32], x: usize, j: usize) -> bool
 
 fn member(table: &[u32], x: usize, j: usize) -> bool
     requires { ⌜ (x ≤ 8589934592) × (j ≤ 4294967296) ⌝ }
-    ensures { λ r. ⌜ r ≡ bothOf (ltb 0 (size-at (now (table .entry)) j)) (member-laid (now (table .entry)) j x) ⌝ }
+    ensures { λ r. ⌜ r ≡ (ltb 0 (size-at (now (table .entry)) j) && member-laid (now (table .entry)) j x) ⌝ }
 {
     let present = 0 < size_at(table, j);
     if 0 < binder(construct_at(table, j)) {

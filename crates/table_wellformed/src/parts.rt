@@ -5,10 +5,10 @@ use crate::checks::either;
 use crate::checks::size_at;
 use table_layout::word;
 ghost use mathlib.Core.Path.{_≡_};
+ghost use mathlib.Core.Bool.{_&&_};
 ghost use Prim.Native.Nat.{_+_, _-_, _<_, _≤_, _*_};
 ghost use lib.Dec.{ltb};
 ghost use Rattle.basis.specs.Limits.{max-constructs};
-ghost use Rattle.table_layout.specs.Constructs.{both as bothOf};
 ghost use Rattle.table_wellformed.specs.Checks.{size-at};
 ghost use Rattle.table_wellformed.specs.Parts.{conditioned as conditionedOf, unconditioned as unconditionedOf, default-at, part-laid, parts-laid};
 
@@ -43,7 +43,7 @@ fn default_case(table: &[u32], first: usize, j: usize, end: usize) -> bool
 
 fn part(table: &[u32], switch: bool, first: usize, j: usize, end: usize) -> bool
     requires { ⌜ j ≤ 2 * max-constructs ⌝ }
-    ensures { λ r. ⌜ r ≡ bothOf (ltb 0 (size-at (now (table .entry)) j)) (part-laid (now (table .entry)) switch first j end) ⌝ }
+    ensures { λ r. ⌜ r ≡ (ltb 0 (size-at (now (table .entry)) j) && part-laid (now (table .entry)) switch first j end) ⌝ }
 {
     let present = 0 < size_at(table, j);
     if switch {

@@ -2,14 +2,13 @@
 -- Assumes nothing.
 use Prim.Native.Nat.{ℕ, zero, suc, _+_, _-_, _≤_, _<_}
 use mathlib.Core.Path.{_≡_, refl, ap, subst, _∙_}
-use mathlib.Core.Bool.{Bool, true, false}
+use mathlib.Core.Bool.{Bool, true, false, cond}
 use mathlib.Core.List.{List, [], _∷_}
 use native.Mathlib.Omega.{arith}
 use native.Mathlib.Decide.{decLe}
 use native.Mathlib.Nat.{lt-of-not-le}
 use lib.Dec.{ltb}
 use lib.IntN.{ℤ, pos}
-use Rattle.term_words.specs.Numbers.{pick}
 use Rattle.term_words.specs.Words.{termAt, termsFrom, terms}
 use Rattle.term_words.specs.Steps.{variableOf, operateOf, afterOf, operated, stepOf}
 use Rattle.term_words.specs.declared.Kind.{Kind}
@@ -156,7 +155,7 @@ module _ (P : ℕ → Type 0) (env env′ : List ℤ) (same : Same P env env′)
     unfolding counts tallied
     counts-same start end reads =
         let f : Form = formOf (termAt ws (end - 1)) in
-        ap (λ (e : Ended). pick (ltb start end) (tallyEnd f e) (record { counted = Counted.Malformed; at = start }) .counted)
+        ap (λ (e : Ended). cond (ltb start end) (tallyEnd f e) (record { counted = Counted.Malformed; at = start }) .counted)
         (run-same Kind.Calculation Mode.Values (pos 0) (terms ws start (calculationsEnd f (end - 1) end)) start (read-within P ws start (calculationsEnd f (end - 1) end) end (calculations-within f end) reads) Numbers.Zero 1)
 
 -- ---- a list without a variable
@@ -186,7 +185,7 @@ unused Term.And e = tt
 unused (Term.Compare k) e = tt
 unused Term.Bad e = tt
 
-neither : (a b : Bool) → pick a true b ≡ false → (a ≡ false) × (b ≡ false)
+neither : (a b : Bool) → cond a true b ≡ false → (a ≡ false) × (b ≡ false)
 neither true b e = let z : _≡_ {A = ℕ} 0 1 = cc in absurd (omega arith)
 neither false b e = (refl, e)
 

@@ -2,12 +2,11 @@
 -- Assumes nothing.
 use Prim.Native.Nat.{ℕ, zero, suc, _+_, _-_, _/_, _≤_, _<_}
 use mathlib.Core.Path.{_≡_, refl, ap, _∙_}
-use mathlib.Core.Bool.{Bool, true, false}
+use mathlib.Core.Bool.{Bool, true, false, cond}
 use mathlib.Core.List.{List}
 use native.Mathlib.Omega.{arith}
 use borrow.Author.Tests.{le-ltb}
 use lib.ListN.{length}
-use Rattle.term_words.specs.Numbers.{pick}
 use Rattle.term_words.specs.Words.{termAt, termsFrom, terms}
 use Rattle.term_evaluation.specs.Variables.{usesVariable, hasVariable}
 use Rattle.term_words.specs.declared.Term.{Term}
@@ -21,14 +20,14 @@ none-past : (ws : List ℕ) (n i : ℕ) → length ws / 3 ≤ i → hasVariable 
 unfolding hasVariable termsFrom
 none-past ws zero i h = refl
 none-past ws (suc n) i h =
-    ap (λ (x : Term). pick (usesVariable x) true (hasVariable (termsFrom ws (i + 1) n))) (past-words ws i h) ∙ none-past ws n (i + 1) (omega arith)
+    ap (λ (x : Term). cond (usesVariable x) true (hasVariable (termsFrom ws (i + 1) n))) (past-words ws i h) ∙ none-past ws n (i + 1) (omega arith)
 
 pub variable-past : (ws : List ℕ) (i end : ℕ) → length ws / 3 ≤ i → hasVariable (terms ws i end) ≡ false
 variable-past ws i end h = none-past ws (end - i) i h
 
-pub variable-next : (ws : List ℕ) (i end : ℕ) → i < end → (t : Bool) → usesVariable (termAt ws i) ≡ t → hasVariable (terms ws i end) ≡ pick t true (hasVariable (terms ws (i + 1) end))
+pub variable-next : (ws : List ℕ) (i end : ℕ) → i < end → (t : Bool) → usesVariable (termAt ws i) ≡ t → hasVariable (terms ws i end) ≡ cond t true (hasVariable (terms ws (i + 1) end))
 unfolding hasVariable
-variable-next ws i end h t e = ap hasVariable (terms-next ws i end h) ∙ ap (λ (b : Bool). pick b true (hasVariable (terms ws (i + 1) end))) e
+variable-next ws i end h t e = ap hasVariable (terms-next ws i end h) ∙ ap (λ (b : Bool). cond b true (hasVariable (terms ws (i + 1) end))) e
 
 pub variable-end : (ws : List ℕ) (i end : ℕ) → end ≤ i → hasVariable (terms ws i end) ≡ false
 unfolding hasVariable

@@ -3,10 +3,10 @@
 -- Assumes nothing.
 use Prim.Native.Nat.{ℕ, _-_}
 use mathlib.Core.List.{List}
+use mathlib.Core.Bool.{cond}
 use lib.Dec.{ltb}
 use lib.IntN.{ℤ, pos}
 use Rattle.basis.specs.Counts.{Counts, exactly, atLeast, span}
-use Rattle.term_words.specs.Numbers.{pick}
 use Rattle.term_words.specs.Words.{termAt, terms}
 use Rattle.term_evaluation.specs.Meaning.{run}
 use Rattle.term_evaluation.specs.declared.Counted.{Counted}
@@ -86,7 +86,7 @@ talliedBy f m env ws start end =
 -- what the terms from number `start` up to number `end` say, at the values or the sizes of the variables
 unfoldable pub tallied : Mode → List ℤ → List ℕ → ℕ → ℕ → Tally
 tallied m env ws start end =
-    pick (ltb start end) (talliedBy (formOf (termAt ws (end - 1))) m env ws start end)
+    cond (ltb start end) (talliedBy (formOf (termAt ws (end - 1))) m env ws start end)
     (record { counted = Counted.Malformed; at = start })
 
 -- the counts that they allow

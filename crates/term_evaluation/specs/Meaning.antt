@@ -2,9 +2,9 @@
 -- Assumes nothing.
 use Prim.Native.Nat.{ℕ, _+_}
 use mathlib.Core.List.{List, [], _∷_}
+use mathlib.Core.Bool.{cond}
 use lib.Dec.{eqb}
 use lib.IntN.{ℤ, pos}
-use Rattle.term_words.specs.Numbers.{pick}
 use Rattle.term_words.specs.Steps.{stepOf}
 use Rattle.term_evaluation.specs.declared.Calculated.{Calculated}
 use Rattle.term_evaluation.specs.declared.Ended.{Ended}
@@ -44,7 +44,7 @@ numberOf Trial.Overflow = Calculated.Overflow
 
 -- a set or a condition leaves one test, the number 2 where it fails and 3 where it holds (`Tests`), and no number
 abbrev pub lastOf : Numbers → ℕ → Tested
-lastOf Numbers.Zero t = pick (eqb t 2) Tested.No (pick (eqb t 3) Tested.Yes Tested.Malformed)
+lastOf Numbers.Zero t = cond (eqb t 2) Tested.No (cond (eqb t 3) Tested.Yes Tested.Malformed)
 lastOf (Numbers.One a) t = Tested.Malformed
 lastOf (Numbers.Two a b) t = Tested.Malformed
 lastOf (Numbers.Three a b c) t = Tested.Malformed

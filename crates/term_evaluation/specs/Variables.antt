@@ -1,8 +1,7 @@
 -- Which lists of terms have a variable: "a set with a variable counting as `~`", "counts with a variable allowing all".
 -- Assumes nothing.
-use mathlib.Core.Bool.{Bool, true, false}
+use mathlib.Core.Bool.{Bool, true, false, cond}
 use mathlib.Core.List.{List, [], _∷_}
-use Rattle.term_words.specs.Numbers.{pick}
 use Rattle.term_words.specs.declared.Operation.{Operation}
 use Rattle.term_words.specs.declared.Term.{Term}
 
@@ -33,4 +32,4 @@ usesVariable Term.Bad = false
 -- one variable anywhere is enough
 unfoldable pub hasVariable : List Term → Bool
 hasVariable [] = false
-hasVariable (x ∷ xs) = pick (usesVariable x) true (hasVariable xs)
+hasVariable (x ∷ xs) = cond (usesVariable x) true (hasVariable xs)

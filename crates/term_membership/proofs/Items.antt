@@ -2,14 +2,13 @@
 -- Assumes nothing.
 use Prim.Native.Nat.{ℕ, _+_, _^_, _≤_, _<_}
 use mathlib.Core.Path.{_≡_, refl, sym, ap, ap₂, _∙_}
-use mathlib.Core.Bool.{Bool, true, false, not}
+use mathlib.Core.Bool.{Bool, true, false, cond, not}
 use native.Mathlib.Omega.{arith}
 use borrow.Author.Tests.{lt-ltb, le-ltb, leb-true, leb-false}
 use lib.Dec.{leb, ltb, leb·zero}
 use lib.IntN.{ℤ, pos, negsuc, natAbs}
 use lib.Signed.{mag, nonNeg, leZ}
 use Rattle.term_integers.proofs.Laws.{differ}
-use Rattle.term_words.specs.Numbers.{pick}
 use Rattle.term_membership.specs.Effects.{clip, itemOf}
 use Rattle.term_membership.specs.declared.Effect.{Effect}
 
@@ -39,7 +38,7 @@ past-fits (negsuc k) n h e = omega arith
 -- the natural numbers of an item
 abbrev pub inside : ℕ → Effect → Bool
 inside v Effect.None = false
-inside v (Effect.Within a b) = pick (leb a v) (ltb v b) false
+inside v (Effect.Within a b) = cond (leb a v) (ltb v b) false
 inside v (Effect.From a) = leb a v
 inside v Effect.Or = false
 inside v Effect.Except = false
@@ -48,7 +47,7 @@ pub clip-at-most : (a : ℤ) (v : ℕ) → leZ a (pos v) ≡ leb (clip a) v
 clip-at-most (pos n) v = refl
 clip-at-most (negsuc n) v = sym (leb·zero v)
 
-pick-false : (b : Bool) → pick b false false ≡ false
+pick-false : (b : Bool) → cond b false false ≡ false
 pick-false true = refl
 pick-false false = refl
 
@@ -60,6 +59,6 @@ at-most-below v n = go (leb v n) refl
     go true e = let h : v ≤ n = leb-true v n e in e ∙ sym (lt-ltb v (n + 1) (omega arith))
     go false e = let h : n < v = leb-false v n e in e ∙ sym (le-ltb v (n + 1) (omega arith))
 
-pub item-test : (a b : ℤ) (v : ℕ) → pick (leZ a (pos v)) (leZ (pos v) b) false ≡ inside v (itemOf a b)
-item-test a (pos n) v = ap₂ (λ (t u : Bool). pick t u false) (clip-at-most a v) (at-most-below v n)
-item-test a (negsuc n) v = pick-false (leZ a (pos v)) ∙ sym (ap (λ (b : Bool). pick (leb 0 v) b false) (le-ltb v 0 (omega arith)) ∙ pick-false (leb 0 v))
+pub item-test : (a b : ℤ) (v : ℕ) → cond (leZ a (pos v)) (leZ (pos v) b) false ≡ inside v (itemOf a b)
+item-test a (pos n) v = ap₂ (λ (t u : Bool). cond t u false) (clip-at-most a v) (at-most-below v n)
+item-test a (negsuc n) v = pick-false (leZ a (pos v)) ∙ sym (ap (λ (b : Bool). cond (leb 0 v) b false) (le-ltb v 0 (omega arith)) ∙ pick-false (leb 0 v))

@@ -2,7 +2,7 @@
 -- Assumes nothing.
 use Prim.Native.Nat.{ℕ, zero, suc, _+_, _*_, _/_, _%_, _^_, _≤_, _<_}
 use mathlib.Core.Path.{_≡_, refl, sym, ap, _∙_}
-use mathlib.Core.Bool.{Bool, true, false}
+use mathlib.Core.Bool.{Bool, true, false, cond}
 use mathlib.Core.List.{List, [], _∷_}
 use native.Mathlib.Omega.{arith}
 use borrow.Author.Tests.{lt-ltb, ltb-false, eqb-true}
@@ -12,7 +12,7 @@ use lib.ListN.{length, getD, replicate, length-replicate, getD-replicate}
 use lib.Signed.{leZ}
 use Rattle.basis.specs.Bits.{digit}
 use Rattle.term_integers.specs.Wholes.{equals}
-use Rattle.term_words.specs.Numbers.{pick, topOf, pairOf}
+use Rattle.term_words.specs.Numbers.{topOf, pairOf}
 use Rattle.term_words.specs.Tests.{joins}
 use Rattle.term_words.specs.Tests as Tests
 use Rattle.term_words.specs.Steps.{operateOf, afterOf, equalTo, within, from, upTo, operated, stepOf}
@@ -51,9 +51,9 @@ trial-positive s (suc t) h = refl
 -- a test is noted alike
 note-same : (s : Numbers) (t : ℕ) (b : Bool) → 0 < t → Tests.noted s t b ≡ trialOf s (noted t b)
 unfolding Tests.noted noted
-note-same s t b h = go (ltb t (2 ^ 62)) ∙ ap (λ (x : Bool). trialOf s (pick x (pick (ltb t (2 ^ 62)) (t * 2 + digit b) 0) 0)) (sym (lt-ltb 0 t h))
+note-same s t b h = go (ltb t (2 ^ 62)) ∙ ap (λ (x : Bool). trialOf s (cond x (cond (ltb t (2 ^ 62)) (t * 2 + digit b) 0) 0)) (sym (lt-ltb 0 t h))
   where
-    go : (x : Bool) → pick x (Trial.Running s (t * 2 + digit b)) Trial.Malformed ≡ trialOf s (pick x (t * 2 + digit b) 0)
+    go : (x : Bool) → cond x (Trial.Running s (t * 2 + digit b)) Trial.Malformed ≡ trialOf s (cond x (t * 2 + digit b) 0)
     go true = sym (trial-positive s (t * 2 + digit b) (omega arith))
     go false = refl
 
@@ -61,7 +61,7 @@ join-same : (j : Joint) (s : Numbers) (t : ℕ) → Tests.combined j s t ≡ tri
 unfolding Tests.combined joined
 join-same j s t = go (ltb t 4) refl
   where
-    go : (x : Bool) → ltb t 4 ≡ x → pick x Trial.Malformed (Tests.noted s (t / 4) (joins j (eqb (t / 2 % 2) 1) (eqb (t % 2) 1))) ≡ trialOf s (pick x 0 (noted (t / 4) (joins j (eqb (t / 2 % 2) 1) (eqb (t % 2) 1))))
+    go : (x : Bool) → ltb t 4 ≡ x → cond x Trial.Malformed (Tests.noted s (t / 4) (joins j (eqb (t / 2 % 2) 1) (eqb (t % 2) 1))) ≡ trialOf s (cond x 0 (noted (t / 4) (joins j (eqb (t / 2 % 2) 1) (eqb (t % 2) 1))))
     go true e = refl
     go false e = let h : 4 ≤ t = ltb-false t 4 e in note-same s (t / 4) (joins j (eqb (t / 2 % 2) 1) (eqb (t % 2) 1)) (omega arith)
 
@@ -87,7 +87,7 @@ module _ (go : Numbers → ℕ → Bool) (v t : ℕ) (h : 0 < t) where
   part-same Outcome.Overflow = refl
 
   -- an item of two ends
-  item-same : (s : Numbers) (a b : ℤ) (p : Bool) → p ≡ pick (leZ a (pos v)) (leZ (pos v) b) false → Tests.noted s t p ≡ trialOf s (applied (itemOf a b) t v)
+  item-same : (s : Numbers) (a b : ℤ) (p : Bool) → p ≡ cond (leZ a (pos v)) (leZ (pos v) b) false → Tests.noted s t p ≡ trialOf s (applied (itemOf a b) t v)
   item-same s a b p e = note-same s t p h ∙ ap (λ (x : Bool). trialOf s (noted t x)) (e ∙ item-test a b v) ∙ ap (trialOf s) (sym (applied-item a b t v))
 
   equal-same : (q : Top) → gone go (equalTo (pos v) q t) ≡ after (equalTurn q)
@@ -100,11 +100,11 @@ module _ (go : Numbers → ℕ → Bool) (v t : ℕ) (h : 0 < t) where
   from-same Top.Short = refl
 
   upTo-same : (q : Top) → gone go (upTo (pos v) q t) ≡ after (upToTurn q)
-  upTo-same (Top.Of s b) = ap (gone go) (item-same s (pos 0) b (leZ (pos v) b) (ap (λ (x : Bool). pick x (leZ (pos v) b) false) (sym (leb·zero v))))
+  upTo-same (Top.Of s b) = ap (gone go) (item-same s (pos 0) b (leZ (pos v) b) (ap (λ (x : Bool). cond x (leZ (pos v) b) false) (sym (leb·zero v))))
   upTo-same Top.Short = refl
 
   range-same : (q : Pair) → gone go (within (pos v) q t) ≡ after (pairTurn q)
-  range-same (Pair.Of s a b) = ap (gone go) (item-same s a b (pick (leZ a (pos v)) (leZ (pos v) b) false) refl)
+  range-same (Pair.Of s a b) = ap (gone go) (item-same s a b (cond (leZ a (pos v)) (leZ (pos v) b) false) refl)
   range-same Pair.Short = refl
 
   single-same : (o : Outcome) → gone go (operated (pos v) o t) ≡ after (singleTurn o)
@@ -155,7 +155,7 @@ held-zero env v (x ∷ xs) s = onward-off (λ s′ e. held env v xs s′ (applie
 last-same : (s : Numbers) (t : ℕ) → isYes (lastOf s t) ≡ ends s t
 last-same Numbers.Zero t = go (eqb t 2) (eqb t 3) refl refl
   where
-    go : (x y : Bool) → eqb t 2 ≡ x → eqb t 3 ≡ y → isYes (pick x Tested.No (pick y Tested.Yes Tested.Malformed)) ≡ y
+    go : (x y : Bool) → eqb t 2 ≡ x → eqb t 3 ≡ y → isYes (cond x Tested.No (cond y Tested.Yes Tested.Malformed)) ≡ y
     go true true p q = let a : t ≡ 2 = eqb-true t 2 p in let b : t ≡ 3 = eqb-true t 3 q in absurd (omega arith)
     go true false p q = refl
     go false true p q = refl

@@ -2,7 +2,7 @@
 -- Assumes nothing.
 use Prim.Native.Nat.{ℕ, zero, suc, _+_, _-_, _≤_, _<_}
 use mathlib.Core.Path.{_≡_, refl, sym, ap, ap₂, _∙_}
-use mathlib.Core.Bool.{Bool, true, false}
+use mathlib.Core.Bool.{Bool, true, false, cond}
 use mathlib.Core.Logic.{_⊎_, inl, inr, ⊎-elim}
 use mathlib.Core.List.{List, [], _∷_}
 use native.Mathlib.Omega.{arith}
@@ -11,7 +11,6 @@ use borrow.Author.Tests.{le-leb, lt-leb, leb-true, leb-false}
 use lib.Dec.{leb, ltb}
 use lib.IntN.{ℤ, pos}
 use Rattle.term_integers.proofs.Laws.{differ}
-use Rattle.term_words.specs.Numbers.{pick}
 use Rattle.term_words.specs.declared.Numbers.{Numbers}
 use Rattle.term_words.specs.declared.Term.{Term}
 use Rattle.term_membership.specs.Members.{holds}
@@ -47,7 +46,7 @@ effect-steady (Effect.Within a b) t v = elim (ℕ-discrete a (suc v)) [
   | yes p ↦ inr (inl p)
   | no p ↦ elim (ℕ-discrete b (suc v)) [
     | yes q ↦ inr (inr q)
-    | no q ↦ inl (ap₂ (λ (x y : Bool). noted t (pick x y false)) (from-steady a v p) (below-steady v b q))
+    | no q ↦ inl (ap₂ (λ (x y : Bool). noted t (cond x y false)) (from-steady a v p) (below-steady v b q))
   ]
 ]
 effect-steady (Effect.From a) t v = elim (ℕ-discrete a (suc v)) [

@@ -2,7 +2,7 @@
 -- Assumes nothing.
 use Prim.Native.Nat.{ℕ, _+_, _*_, _-_, _/_, _^_, _≤_, _<_}
 use mathlib.Core.Path.{_≡_, refl, sym, ap, subst, _∙_}
-use mathlib.Core.Bool.{Bool, true, false}
+use mathlib.Core.Bool.{Bool, true, false, cond}
 use mathlib.Core.Logic.{inl, inr, ⊎-elim}
 use mathlib.Core.List.{List, []}
 use native.Mathlib.Omega.{arith}
@@ -13,7 +13,6 @@ use lib.Dec.{ltb}
 use lib.IntN.{ℤ, pos}
 use lib.ListN.{getD, replicate, length-replicate, getD-replicate, List·getD-eq-default}
 use lib.Pow.{pow-pos}
-use Rattle.term_words.specs.Numbers.{pick}
 use Rattle.term_words.specs.declared.Numbers.{Numbers}
 use Rattle.term_words.specs.declared.Term.{Term}
 use Rattle.term_evaluation.specs.Variables.{hasVariable}
@@ -103,7 +102,7 @@ module _ (w i : ℕ) (xs : List Term) where
       let z : strings w ≤ 256 = few w in
       let m : getD (replicate {A = ℕ} 256 1) k 0 ≡ 1 = getD-replicate {A = ℕ} 256 k 1 0 (omega arith) in
       record {
-        found = λ q. (k * block w, record { least = omega arith; most = omega arith; member = ap (λ (b : Bool). pick b true (holds [] i xs (pos (k * block w)))) e });
+        found = λ q. (k * block w, record { least = omega arith; most = omega arith; member = ap (λ (b : Bool). cond b true (holds [] i xs (pos (k * block w)))) e });
         all = λ v l. ap (ltb 0) m;
       }
 
@@ -115,5 +114,5 @@ module _ (w i : ℕ) (xs : List Term) where
     all = λ v l. t k h .all v (record { least = l .least; most = l .most; member = sym (same (pos v)) ∙ l .member });
   }
     where
-      same : (v : ℤ) → pick (hasVariable xs) true (holds [] i xs v) ≡ holds [] i xs v
-      same v = ap (λ (b : Bool). pick b true (holds [] i xs v)) e
+      same : (v : ℤ) → cond (hasVariable xs) true (holds [] i xs v) ≡ holds [] i xs v
+      same v = ap (λ (b : Bool). cond b true (holds [] i xs v)) e

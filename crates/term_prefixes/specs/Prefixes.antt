@@ -3,21 +3,20 @@
 -- Assumes nothing.
 use Prim.Native.Nat.{ℕ, _+_, _*_, _-_, _^_, _≤_, _<_}
 use mathlib.Core.Path.{_≡_}
-use mathlib.Core.Bool.{Bool, true}
+use mathlib.Core.Bool.{Bool, true, cond}
 use mathlib.Core.List.{List, []}
 use lib.Dec.{ltb}
 use lib.IntN.{ℤ, pos}
 use lib.ListN.{getD}
 use Rattle.basis.specs.Bits.{bitsOf}
 use Rattle.basis.specs.Lookahead.{lookahead, number}
-use Rattle.term_words.specs.Numbers.{pick}
 use Rattle.term_evaluation.specs.Variables.{hasVariable}
 use Rattle.term_words.specs.declared.Term.{Term}
 use Rattle.term_membership.specs.Members.{holds}
 
 -- the values that a set admits whatever the variables are; the list's first term has number i
 unfoldable pub admits : ℕ → List Term → ℤ → Bool
-admits i xs v = pick (hasVariable xs) true (holds [] i xs v)
+admits i xs v = cond (hasVariable xs) true (holds [] i xs v)
 
 -- v is between two natural numbers and in the set that f tests
 pub record Within (f : ℤ → Bool) (lo hi v : ℕ) : Type 0 where

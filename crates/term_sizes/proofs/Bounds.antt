@@ -12,7 +12,7 @@ use lib.ListN.{length, getD}
 use lib.IntN.{ℤ, pos, negsuc, natAbs, negℤ, _+ℤ_, _-ℤ_, _*ℤ_}
 use Rattle.term_sizes.specs.Inside.{Below, Inside}
 use Rattle.term_integers.proofs.Laws.{natAbs-neg, abs-product, bounded-in, bounded-out}
-use Rattle.term_words.specs.Numbers.{pick, bounded, differenceOf, oppositeOf, pushed, kept, topOf, pairOf}
+use Rattle.term_words.specs.Numbers.{bounded, differenceOf, oppositeOf, pushed, kept, topOf, pairOf}
 use Rattle.term_words.specs.Steps.{variableOf, binary, unary, operateOf}
 use Rattle.term_words.specs.declared.Mode.{Mode}
 use Rattle.term_words.specs.declared.Numbers.{Numbers}
@@ -114,7 +114,7 @@ module _ (env widest : List ℤ) (inside : Inside env widest) where
   unfolding variableOf
   variable-kept k {s} {s′} r = rw (inside .same) (go (ltb k (length widest)) refl)
     where
-      go : (t : Bool) → ltb k (length widest) ≡ t → Kept (pick (ltb k (length widest)) (kept s (bounded (getD env k (pos 0)))) Outcome.Malformed) (pick (ltb k (length widest)) (kept s′ (bounded (getD widest k (pos 0)))) Outcome.Malformed)
+      go : (t : Bool) → ltb k (length widest) ≡ t → Kept (cond (ltb k (length widest)) (kept s (bounded (getD env k (pos 0)))) Outcome.Malformed) (cond (ltb k (length widest)) (kept s′ (bounded (getD widest k (pos 0)))) Outcome.Malformed)
       go true e = rw e (kept-kept (getD env k (pos 0)) (getD widest k (pos 0)) r (inside .each k (ltb-true k (length widest) e)))
       go false e = rw e refl
 

@@ -2,12 +2,13 @@
 -- Assumes nothing.
 use Prim.Native.Nat.{ℕ, zero, suc, _+_, _*_, _/_, _^_, _≤_, _<_}
 use mathlib.Core.Path.{_≡_}
-use mathlib.Core.Bool.{Bool, true, false}
+use mathlib.Core.Bool.{Bool}
 use native.Mathlib.Omega.{arith}
 use native.Mathlib.Nat.{pow-succ', lt-of-not-le}
 use native.Mathlib.Decide.{decLe}
 use lib.Pow.{pow-mono, pow-pos}
 use Rattle.basis.specs.Bits.{digit}
+use Rattle.basis.proofs.Values.{digit-most}
 
 pub record SameDepth (t t′ : ℕ) : Type 0 where
   pub depth : ℕ
@@ -15,10 +16,6 @@ pub record SameDepth (t t′ : ℕ) : Type 0 where
   pub most : t < 2 ^ suc depth
   pub least′ : 2 ^ depth ≤ t′
   pub most′ : t′ < 2 ^ suc depth
-
-digit-most : (b : Bool) → digit b ≤ 1
-digit-most true = omega arith
-digit-most false = omega arith
 
 pub depth-none : SameDepth 1 1
 depth-none = record { depth = 0; least = omega arith; most = omega arith; least′ = omega arith; most′ = omega arith }

@@ -3,7 +3,7 @@
 -- Assumes nothing.
 use Prim.Native.Nat.{ℕ, _-_, _≤_, _<_}
 use mathlib.Core.Path.{_≡_, refl, sym, ap, _∙_}
-use mathlib.Core.Bool.{Bool, true, false}
+use mathlib.Core.Bool.{Bool, true, false, cond}
 use mathlib.Core.Logic.{inl, inr}
 use mathlib.Core.List.{List}
 use native.Mathlib.Omega.{arith}
@@ -11,7 +11,6 @@ use borrow.Author.Tests.{eqb-true}
 use lib.Dec.{eqb, ltb}
 use lib.IntN.{ℤ, pos}
 use Rattle.basis.specs.Counts.{Counts, exactly, atLeast, span}
-use Rattle.term_words.specs.Numbers.{pick}
 use Rattle.term_words.specs.Words.{termAt, terms}
 use Rattle.term_evaluation.specs.Meaning.{run, aloneOf, numberOf, lastOf, verdictOf}
 use Rattle.term_evaluation.specs.Counts.{shown, formOf, calculationsEnd, ofOne, ofTwo, ofNumbers, ofTrial, talliedBy, tallied}
@@ -64,7 +63,7 @@ test-formed t t′ at at′ d e = go (eqb t 2) (eqb t 3) refl refl
     one-test : {A : Type 0} → 2 ≤ t → t < 4 → A
     one-test p q = answered (two-or-three t′ (depth-past 1 t′ t (depth-swap d) p) (depth-below 2 t′ t (depth-swap d) q))
 
-    go : (x y : Bool) → eqb t 2 ≡ x → eqb t 3 ≡ y → ofTested (pick x Tested.No (pick y Tested.Yes Tested.Malformed)) at ≡ Sized.Malformed
+    go : (x y : Bool) → eqb t 2 ≡ x → eqb t 3 ≡ y → ofTested (cond x Tested.No (cond y Tested.Yes Tested.Malformed)) at ≡ Sized.Malformed
     go true y p q = let k : t ≡ 2 = eqb-true t 2 p in one-test (omega arith) (omega arith)
     go false true p q = let k : t ≡ 3 = eqb-true t 3 q in one-test (omega arith) (omega arith)
     go false false p q = refl
@@ -146,7 +145,7 @@ module _ (small large : List ℤ) (inside : Inside small large) where
       form : Form
       form = formOf (termAt ws (end - 1))
 
-      go : (t : Bool) → ofTally (pick t (talliedBy form Mode.Sizes large ws start end) none-at) ≡ Sized.Malformed → ofTally (pick t (talliedBy form Mode.Sizes small ws start end) none-at) ≡ Sized.Malformed
+      go : (t : Bool) → ofTally (cond t (talliedBy form Mode.Sizes large ws start end) none-at) ≡ Sized.Malformed → ofTally (cond t (talliedBy form Mode.Sizes small ws start end) none-at) ≡ Sized.Malformed
       go true h =
           let xs : List Term = terms ws start (calculationsEnd form (end - 1) end) in
           let x = run Kind.Calculation Mode.Sizes small (pos 0) start xs Numbers.Zero 1 in

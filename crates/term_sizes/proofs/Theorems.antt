@@ -3,7 +3,7 @@
 -- Assumes nothing.
 use Prim.Native.Nat.{ℕ, _-_, _≤_, _<_}
 use mathlib.Core.Path.{_≡_, refl, ap, _∙_}
-use mathlib.Core.Bool.{Bool, true, false}
+use mathlib.Core.Bool.{Bool, true, false, cond}
 use mathlib.Core.Logic.{_⊎_, inl, inr}
 use mathlib.Core.List.{List}
 use native.Mathlib.Omega.{arith}
@@ -13,7 +13,6 @@ use borrow.Author.Tests.{eqb-true}
 use lib.Dec.{eqb, ltb}
 use lib.IntN.{ℤ, pos}
 use Rattle.basis.specs.Counts.{Counts, exactly, atLeast, span}
-use Rattle.term_words.specs.Numbers.{pick}
 use Rattle.term_words.specs.Words.{termAt, terms}
 use Rattle.term_evaluation.specs.Meaning.{run, aloneOf, numberOf, lastOf, verdictOf, calculation, membership, condition}
 use Rattle.term_evaluation.specs.Counts.{shown, formOf, calculationsEnd, ofOne, ofTwo, ofNumbers, ofTrial, talliedBy, tallied, counts}
@@ -74,7 +73,7 @@ two-or-three t p q = go (decLe t 2)
 ends-in-test : (t at : ℕ) → ofTested (lastOf Numbers.Zero t) at ≡ Sized.Passes → (2 ≤ t) × (t < 4)
 ends-in-test t at e = go (eqb t 2) (eqb t 3) refl refl e
   where
-    go : (x y : Bool) → eqb t 2 ≡ x → eqb t 3 ≡ y → ofTested (pick x Tested.No (pick y Tested.Yes Tested.Malformed)) at ≡ Sized.Passes → (2 ≤ t) × (t < 4)
+    go : (x y : Bool) → eqb t 2 ≡ x → eqb t 3 ≡ y → ofTested (cond x Tested.No (cond y Tested.Yes Tested.Malformed)) at ≡ Sized.Passes → (2 ≤ t) × (t < 4)
     go true y p q h = let k : t ≡ 2 = eqb-true t 2 p in (omega arith, omega arith)
     go false true p q h = let k : t ≡ 3 = eqb-true t 3 q in (omega arith, omega arith)
     go false false p q h = malformed-not h
@@ -159,6 +158,6 @@ module _ (env widest : List ℤ) (inside : Inside env widest) where
       none-at : Tally
       none-at = record { counted = Counted.Malformed; at = start }
 
-      go : (t : Bool) → ofTally (pick t (talliedBy (formOf (termAt ws (end - 1))) Mode.Sizes widest ws start end) none-at) ≡ Sized.Passes → (n : Counts) × (pick t (talliedBy (formOf (termAt ws (end - 1))) Mode.Values env ws start end) none-at .counted ≡ shown n)
+      go : (t : Bool) → ofTally (cond t (talliedBy (formOf (termAt ws (end - 1))) Mode.Sizes widest ws start end) none-at) ≡ Sized.Passes → (n : Counts) × (cond t (talliedBy (formOf (termAt ws (end - 1))) Mode.Values env ws start end) none-at .counted ≡ shown n)
       go true h = counts-by (formOf (termAt ws (end - 1))) ws start end h
       go false h = malformed-not h

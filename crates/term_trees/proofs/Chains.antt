@@ -1,8 +1,8 @@
 -- Lists of terms worked out one after the other, and what holds where they come to an end.
 -- Assumes nothing.
-use Prim.Native.Nat.{ℕ, _+_, _*_, _/_, _%_, _^_, _≤_}
+use Prim.Native.Nat.{ℕ, _+_, _*_, _/_, _%_, _^_}
 use mathlib.Core.Path.{_≡_, refl, sym, ap, subst, _∙_}
-use mathlib.Core.Bool.{Bool, true, false}
+use mathlib.Core.Bool.{Bool, true, false, cond}
 use mathlib.Core.List.{List, [], _∷_, _++_}
 use native.Mathlib.Omega.{arith}
 use borrow.Author.Tests.{leb-true, leb-false}
@@ -10,8 +10,9 @@ use lib.Dec.{leb, ltb, eqb}
 use lib.IntN.{ℤ, pos, natAbs}
 use lib.ListN.{length, getD}
 use Rattle.basis.specs.Bits.{digit}
+use Rattle.basis.proofs.Values.{digit-most}
 use Rattle.term_integers.proofs.Laws.{bounded-in, bounded-out}
-use Rattle.term_words.specs.Numbers.{pick, bounded, pushed, kept, topOf, pairOf}
+use Rattle.term_words.specs.Numbers.{bounded, pushed, kept, topOf, pairOf}
 use Rattle.term_words.specs.Tests.{noted, joins, combined}
 use Rattle.term_words.specs.Steps.{variableOf, stepOf}
 use Rattle.term_words.specs.declared.Joint.{Joint}
@@ -101,7 +102,7 @@ pub variable-as : (env : List ℤ) (k : ℕ) (s : Numbers) → KeptAs s (getD en
 unfolding variableOf
 variable-as env k s = go (ltb k (length env))
   where
-    go : (b : Bool) → KeptAs s (getD env k (pos 0)) (pick b (kept s (bounded (getD env k (pos 0)))) Outcome.Malformed)
+    go : (b : Bool) → KeptAs s (getD env k (pos 0)) (cond b (kept s (bounded (getD env k (pos 0)))) Outcome.Malformed)
     go true = kept-as s (getD env k (pos 0))
     go false = tt
 
@@ -134,17 +135,13 @@ pub noted-good : (s : Numbers) (t : ℕ) (b : Bool) → Good (Noted s t b) (note
 unfolding noted
 noted-good s t b = go (ltb t (2 ^ 62))
   where
-    go : (x : Bool) → Good (Noted s t b) (pick x (Trial.Running s (t * 2 + digit b)) Trial.Malformed)
+    go : (x : Bool) → Good (Noted s t b) (cond x (Trial.Running s (t * 2 + digit b)) Trial.Malformed)
     go true = (refl, refl)
     go false = tt
 
 digit-back : (b : Bool) → eqb (digit b) 1 ≡ b
 digit-back true = refl
 digit-back false = refl
-
-digit-most : (b : Bool) → digit b ≤ 1
-digit-most true = omega arith
-digit-most false = omega arith
 
 pub combined-good : (j : Joint) (s : Numbers) (t : ℕ) (x y : Bool) → Good (Noted s t (joins j x y)) (combined j s ((t * 2 + digit x) * 2 + digit y))
 unfolding combined
@@ -165,6 +162,6 @@ combined-good j s t x y = go (ltb T 4)
     test : joins j (eqb (T / 2 % 2) 1) (eqb (T % 2) 1) ≡ joins j x y
     test = ap (λ (n : ℕ). joins j (eqb n 1) (eqb (T % 2) 1)) left ∙ ap (λ (n : ℕ). joins j (eqb (digit x) 1) (eqb n 1)) right ∙ ap (λ (b : Bool). joins j b (eqb (digit y) 1)) (digit-back x) ∙ ap (joins j x) (digit-back y)
 
-    go : (b : Bool) → Good (Noted s t (joins j x y)) (pick b Trial.Malformed (noted s (T / 4) (joins j (eqb (T / 2 % 2) 1) (eqb (T % 2) 1))))
+    go : (b : Bool) → Good (Noted s t (joins j x y)) (cond b Trial.Malformed (noted s (T / 4) (joins j (eqb (T / 2 % 2) 1) (eqb (T % 2) 1))))
     go true = tt
     go false = rw (test, rest) (noted-good s t (joins j x y))

@@ -12,6 +12,7 @@ use lib.IntN.{ℤ, pos, natAbs, _+ℤ_, _*ℤ_}
 use lib.ListN.{length, getD}
 use lib.Pow.{pow-pos, pow-mono}
 use Rattle.basis.specs.Bits.{digit}
+use Rattle.basis.proofs.Values.{digit-most}
 use Rattle.term_integers.proofs.Laws.{bounded-in, bounded-out}
 use Rattle.term_words.specs.Numbers.{bounded, differenceOf, oppositeOf, pushed, kept, topOf, pairOf}
 use Rattle.term_words.specs.Tests.{noted, joins, combined}
@@ -106,10 +107,6 @@ part-is Kind.Condition m env v o s t = refl
 
 abbrev pub Depth : ℕ → ℕ → Type 0
 Depth d t = (2 ^ d ≤ t) × (t < 2 ^ suc d)
-
-digit-most : (b : Bool) → digit b ≤ 1
-digit-most true = omega arith
-digit-most false = omega arith
 
 -- what a test leaves: so many numbers, and one test more than d
 abbrev pub Leaves : ℕ → ℕ → Numbers → ℕ → Type 0

@@ -2,12 +2,12 @@
 -- Assumes nothing.
 use Prim.Native.Nat.{ℕ, _+_, _*_}
 use mathlib.Core.Path.{_≡_, refl, sym, ap, subst, _∙_}
-use mathlib.Core.Bool.{Bool, true, false}
+use mathlib.Core.Bool.{Bool, true, false, cond}
 use mathlib.Core.List.{List, [], _∷_, _++_}
 use lib.IntN.{ℤ, pos, negℤ, _+ℤ_, _-ℤ_, _*ℤ_}
 use lib.Signed.{leZ}
 use Rattle.basis.specs.Bits.{digit}
-use Rattle.term_words.specs.Numbers.{pick, equals, pushed, topOf, pairOf}
+use Rattle.term_words.specs.Numbers.{equals, pushed, topOf, pairOf}
 use Rattle.term_words.specs.Tests.{joins, combined}
 use Rattle.term_words.specs.Steps.{binary, unary, operateOf, afterOf, testTop, testPair, compares, operated, stepOf}
 use Rattle.term_words.specs.declared.Joint.{Joint}
@@ -126,7 +126,7 @@ module _ (env : List ℤ) (v : ℤ) where
       (λ s′ t′ q. single-noted v s t t′ (value env a) (operateOf Mode.Values env (lastSign a) s′) (q .0) (q .1))
   set-ends (between a b) s t =
       good-last Kind.Set Mode.Values env v (Two s t (value env a) (value env b)) (Noted s t (has env (between a b) v)) (calculationTerms a ++ calculationTerms b) Term.Range s t (two-ends Kind.Set env v a b s t)
-      (λ s′ t′ q. pair-noted Kind.Set env v (λ (x y : ℤ). pick (leZ x v) (leZ v y) false) s s′ t t′ (value env a) (value env b) (q .0) (q .1))
+      (λ s′ t′ q. pair-noted Kind.Set env v (λ (x y : ℤ). cond (leZ x v) (leZ v y) false) s s′ t t′ (value env a) (value env b) (q .0) (q .1))
   set-ends (from a) s t =
       good-last Kind.Set Mode.Values env v (Put s t (value env a)) (Noted s t (leZ (value env a) v)) (calculationTerms a) Term.From s t (calculation-ends Kind.Set env v a s t)
       (λ s′ t′ q. top-noted Kind.Set env v (λ (x : ℤ). leZ x v) s s′ t t′ (value env a) (q .0) (q .1))

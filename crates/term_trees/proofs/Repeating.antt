@@ -2,13 +2,13 @@
 -- Assumes nothing.
 use Prim.Native.Nat.{ℕ, zero, suc, _+_, _-_, _<_}
 use mathlib.Core.Path.{_≡_, refl, sym, ap, _∙_}
-use mathlib.Core.Bool.{Bool}
+use mathlib.Core.Bool.{Bool, cond}
 use mathlib.Core.List.{List, [], _∷_, _++_}
 use native.Mathlib.Omega.{arith}
 use borrow.Author.Tests.{lt-ltb}
 use lib.IntN.{ℤ, pos}
 use Rattle.basis.specs.Counts.{Counts, none, from, within}
-use Rattle.term_words.specs.Numbers.{pick, pairOf}
+use Rattle.term_words.specs.Numbers.{pairOf}
 use Rattle.term_words.specs.Words.{termAt, termsFrom, terms}
 use Rattle.term_words.specs.declared.Kind.{Kind}
 use Rattle.term_words.specs.declared.Mode.{Mode}
@@ -105,7 +105,7 @@ module _ (m : Mode) (env : List ℤ) (ws : List ℕ) (start end : ℕ) where
   tallied-at : (x : Term) (L : List Term) → start < end → termAt ws (end - 1) ≡ x → terms ws start (calculationsEnd (formOf x) (end - 1) end) ≡ L → tallied m env ws start end .counted ≡ ofTrial (formOf x) (ended L)
   unfolding tallied
   tallied-at x L h e k =
-      ap (λ (b : Bool). pick b (talliedBy (formOf (termAt ws (end - 1))) m env ws start end) (record { counted = Counted.Malformed; at = start }) .counted) (lt-ltb start end h)
+      ap (λ (b : Bool). cond b (talliedBy (formOf (termAt ws (end - 1))) m env ws start end) (record { counted = Counted.Malformed; at = start }) .counted) (lt-ltb start end h)
       ∙ ap (λ (y : Term). talliedBy (formOf y) m env ws start end .counted) e
       ∙ ap (λ (M : List Term). ofTrial (formOf x) (run Kind.Calculation m env (pos 0) start M Numbers.Zero 1 .trial)) k
       ∙ ap (ofTrial (formOf x)) (run-ends Kind.Calculation m env (pos 0) L start Numbers.Zero 1)

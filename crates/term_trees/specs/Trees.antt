@@ -1,13 +1,13 @@
 -- Calculations, sets and conditions as document 01 writes them, and what they mean.
 -- Assumes nothing.
 use Prim.Native.Nat.{ℕ}
-use mathlib.Core.Bool.{Bool, true, false}
+use mathlib.Core.Bool.{Bool, true, false, cond}
 use mathlib.Core.List.{List}
 use lib.IntN.{ℤ, pos, negℤ, _+ℤ_, _-ℤ_, _*ℤ_}
 use lib.ListN.{getD}
 use lib.Signed.{leZ}
 use Rattle.basis.specs.Counts.{Counts, exactly, atLeast, span}
-use Rattle.term_words.specs.Numbers.{pick, equals}
+use Rattle.term_words.specs.Numbers.{equals}
 use Rattle.term_words.specs.Steps.{compares}
 use Rattle.term_words.specs.declared.Comparison.{Comparison}
 
@@ -43,11 +43,11 @@ pub data ValueSet : Type 0 where
 unfoldable pub has : List ℤ → ValueSet → ℤ → Bool
 has env everything v = true
 has env (only a) v = equals (value env a) v
-has env (between a b) v = pick (leZ (value env a) v) (leZ v (value env b)) false
+has env (between a b) v = cond (leZ (value env a) v) (leZ v (value env b)) false
 has env (from a) v = leZ (value env a) v
 has env (upTo b) v = leZ v (value env b)
-has env (either x y) v = pick (has env x v) true (has env y v)
-has env (without x y) v = pick (has env y v) false (has env x v)
+has env (either x y) v = cond (has env x v) true (has env y v)
+has env (without x y) v = cond (has env y v) false (has env x v)
 
 -- "comparisons (`= != < <= > >=`) joined all by `&` or all by `|`"
 pub data Condition : Type 0 where
@@ -58,8 +58,8 @@ pub data Condition : Type 0 where
 -- whether a condition holds, at the values of the variables
 unfoldable pub true-at : List ℤ → Condition → Bool
 true-at env (compare k a b) = compares k (value env a) (value env b)
-true-at env (both x y) = pick (true-at env x) (true-at env y) false
-true-at env (any x y) = pick (true-at env x) true (true-at env y)
+true-at env (both x y) = cond (true-at env x) (true-at env y) false
+true-at env (any x y) = cond (true-at env x) true (true-at env y)
 
 -- the counts of a repetition: `{n}`, `{a~}`, `{~b}` or `{a~b}`
 pub data Repeats : Type 0 where

@@ -1,5 +1,6 @@
 -- The stack on which a calculation is worked out.
 -- Assumes nothing.
+pub use mathlib.Core.Bool.{cond as pick}
 use lib.IntN.{ℤ, negℤ, _+ℤ_, _-ℤ_}
 use Rattle.term_integers.specs.declared.Checked.{Checked}
 use Rattle.term_words.specs.declared.Mode.{Mode}
@@ -9,7 +10,6 @@ use Rattle.term_words.specs.declared.Numbers.the-variants.{Zero, One, Tw
 use Rattle.term_words.specs.declared.Outcome.{Outcome}
 use Rattle.term_words.specs.declared.Top.{Top}
 use Rattle.term_words.specs.declared.Pair.{Pair}
-pub use Rattle.term_integers.specs.Wholes.{pick}
 unfoldable pub use Rattle.term_integers.specs.Wholes.{bounded, equals}
 
 -- `a - b`; "sizes added": a size has no sign

@@ -1,13 +1,13 @@
 -- What one term does to the numbers and tests that wait.
 -- Assumes nothing.
 use Prim.Native.Nat.{ℕ}
-use mathlib.Core.Bool.{Bool, true, false, not}
+use mathlib.Core.Bool.{Bool, true, false, cond, not}
 use mathlib.Core.List.{List}
 use lib.Dec.{ltb}
 use lib.ListN.{length, getD}
 use lib.IntN.{ℤ, pos, _+ℤ_, _*ℤ_}
 use lib.Signed.{leZ}
-use Rattle.term_words.specs.Numbers.{pick, bounded, equals, differenceOf, oppositeOf, kept, topOf, pairOf}
+use Rattle.term_words.specs.Numbers.{bounded, equals, differenceOf, oppositeOf, kept, topOf, pairOf}
 use Rattle.term_words.specs.Tests.{noted, combined}
 use Rattle.term_words.specs.declared.Comparison.{Comparison}
 use Rattle.term_words.specs.declared.Joint.{Joint}
@@ -25,7 +25,7 @@ use Rattle.term_words.specs.declared.Trial.{Trial}
 
 -- a variable's use: its value, which is in bounds too
 unfoldable pub variableOf : List ℤ → ℕ → Numbers → Outcome
-variableOf env k s = pick (ltb k (length env)) (kept s (bounded (getD env k (pos 0)))) Outcome.Malformed
+variableOf env k s = cond (ltb k (length env)) (kept s (bounded (getD env k (pos 0)))) Outcome.Malformed
 
 -- a sign of two numbers
 abbrev pub binary : (ℤ → ℤ → ℤ) → Pair → Outcome
@@ -71,7 +71,7 @@ equalTo v = testTop (λ a. equals a v)
 
 -- `a~b`
 abbrev pub within : ℤ → Pair → ℕ → Trial
-within v = testPair (λ a b. pick (leZ a v) (leZ v b) false)
+within v = testPair (λ a b. cond (leZ a v) (leZ v b) false)
 
 -- `a~`
 abbrev pub from : ℤ → Top → ℕ → Trial

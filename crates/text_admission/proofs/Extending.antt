@@ -10,12 +10,12 @@ use borrow.Author.Tests.{eq-eqb, eqb-true, ltb-false, not-false}
 use lib.Dec.{leb, ltb, eqb}
 use lib.ListN.{length}
 use Rattle.basis.specs.Limits.{max-text-bytes, max-width}
+use Rattle.basis.proofs.Booleans.{both-rest, either-pass, both-first}
 use Rattle.term_sizes.specs.declared.Sized.{Sized}
 use Rattle.table_layout.specs.Constructs.{constructAt}
 use Rattle.table_sizes.specs.Measures.{condition-size, own-size, exceeds, oversized}
 use Rattle.text_store.proofs.Numbers.{at-term, at-origin}
-use Rattle.text_wellformed.proofs.Tests.{and-rest, or-here}
-use Rattle.text_header.proofs.Tests.{both-first, within-low, within-high}
+use Rattle.text_header.proofs.Tests.{within-low, within-high}
 use Rattle.text_shapes.specs.NodeShapes.{tree, Holds, literal-tree, range-tree, use-tree, eod-tree, uint-tree, marked-tree, counted-tree, chain-tree, switch-tree}
 use Rattle.text_store.specs.Words.{term-word, kind-of, width-place, own-from, condition-from, term-tag, term-value, term-at, term-origin}
 use Rattle.text_encoding.specs.Numbers.{width-of, condition-start, own-start}
@@ -54,7 +54,7 @@ list-none ts f start Sized.Passes e = refl
 list-none ts f start Sized.Malformed e = refl
 list-none ts f start (Sized.Exceeds at) e = found-never (origin-after ts f at start) e
 
-either-off : (a b : Bool) → a ≡ false → b ≡ false → Rattle.table_wellformed.specs.Checks.either a b ≡ true → ⊥
+either-off : (a b : Bool) → a ≡ false → b ≡ false → (a || b) ≡ true → ⊥
 either-off true b p q e = never p
 either-off false b p q e = never (sym e ∙ q)
 
@@ -66,8 +66,8 @@ module _ (xs ns ts ws : List ℕ) (n t : ℕ) (e : refusal-8 xs ns ts ws n t ≡
   numbers-right k h z =
       let f : number-found ts k ≡ Found.Nothing = least-none t 0 (number-found ts) (parts .0) k (omega arith) (omega arith) in
       let g : ((eqb (term-tag ts k) 1 || eqb (term-tag ts k) 33) && ltb 4294967295 (term-value ts k)) ≡ false = if-none _ (term-at ts k) f in
-      let y : (eqb (term-tag ts k) 1 || eqb (term-tag ts k) 33) ≡ true = or-here _ _ (⊎-elim (λ q. inl (eq-eqb (term-tag ts k) 1 q)) (λ q. inr (eq-eqb (term-tag ts k) 33 q)) z) in
-      let w : ltb 4294967295 (term-value ts k) ≡ false = and-rest _ _ y g in
+      let y : (eqb (term-tag ts k) 1 || eqb (term-tag ts k) 33) ≡ true = either-pass _ _ (⊎-elim (λ q. inl (eq-eqb (term-tag ts k) 1 q)) (λ q. inr (eq-eqb (term-tag ts k) 33 q)) z) in
+      let w : ltb 4294967295 (term-value ts k) ≡ false = both-rest _ _ y g in
       omega (arith, ltb-false 4294967295 (term-value ts k) w)
 
   node-none : (i : ℕ) → i < n → node-found xs ns ts ws i ≡ Found.Nothing
@@ -77,7 +77,7 @@ module _ (xs ns ts ws : List ℕ) (n t : ℕ) (e : refusal-8 xs ns ts ws n t ≡
   widths-right i h z =
       let f : width-found xs ns i ≡ Found.Nothing = lesser-none (width-found xs ns i) _ (node-none i h) .0 in
       let g : (eqb (kind-of ns i) 8 && not (leb 1 (width-of xs ns i) && leb (width-of xs ns i) max-width)) ≡ false = if-none _ (width-place ns i) f in
-      let w : (leb 1 (width-of xs ns i) && leb (width-of xs ns i) max-width) ≡ true = not-false _ (and-rest _ _ (eq-eqb (kind-of ns i) 8 z) g) in
+      let w : (leb 1 (width-of xs ns i) && leb (width-of xs ns i) max-width) ≡ true = not-false _ (both-rest _ _ (eq-eqb (kind-of ns i) 8 z) g) in
       (within-low 1 (width-of xs ns i) max-width w, within-high 1 (width-of xs ns i) max-width w)
 
   pub sizes-right : (i : ℕ) → i < n → oversized ws i ≡ true → ⊥

@@ -10,14 +10,14 @@ use borrow.Author.Tests.{eq-eqb, eqb-true, le-leb, leb-true}
 use lib.Dec.{leb, eqb}
 use lib.ListN.{length, take, drop, length-map, length-drop, take-append-drop}
 use lib.Seq.{drop-drop, drop-append-seam, length-take-le}
+use Rattle.basis.proofs.Booleans.{both-first, both-second, which, both-pass}
 use Rattle.text_header.specs.Bytes.{is-blank, lower-case}
 use Rattle.text_header.specs.Spans.{span-end, starts, is-word}
 use Rattle.text_header.specs.Header.{dogma-v1, utf-8, blanks-end, is-first-line}
 use Rattle.text_header.specs.Split.{every, FirstLine}
 use Rattle.text_header.specs.declared.Class.{Class}
 use Rattle.text_header.proofs.Runs.{starts-on, starts-off, starts-length, span-within}
-use Rattle.text_header.proofs.Tests.{both-first, both-second, which}
-use Rattle.text_header.proofs.HeaderLaws.{both-true, never, run-every, run-over}
+use Rattle.text_header.proofs.HeaderLaws.{never, run-every, run-over}
 
 -- ---- words
 
@@ -91,8 +91,8 @@ joined-parts blanks (w ∷ ws) s e f =
     in let g : drop (span-end Class.Blank 8 (blanks ++ (w ∷ ws))) (dogma-v1 ++ (blanks ++ (w ∷ ws))) ≡ w ∷ ws = ap (λ (k : ℕ). drop k (dogma-v1 ++ (blanks ++ (w ∷ ws)))) p ∙ d
     in let n : length utf-8 ≡ length (w ∷ ws) = ap length (sym f) ∙ length-map (w ∷ ws) lower-case
     in let t : starts true utf-8 (w ∷ ws) ≡ true = subst (λ (l : List ℕ). starts true l (w ∷ ws) ≡ true) f (unfolded (w ∷ ws))
-    in let x : is-word true utf-8 (w ∷ ws) ≡ true = both-true (eq-eqb (length utf-8) (length (w ∷ ws)) n) t
-    in both-true (le-leb 9 (span-end Class.Blank 8 (blanks ++ (w ∷ ws))) (omega arith)) (subst (λ (l : List ℕ). is-word true utf-8 l ≡ true) (sym g) x)
+    in let x : is-word true utf-8 (w ∷ ws) ≡ true = both-pass (eq-eqb (length utf-8) (length (w ∷ ws)) n) t
+    in both-pass (le-leb 9 (span-end Class.Blank 8 (blanks ++ (w ∷ ws))) (omega arith)) (subst (λ (l : List ℕ). is-word true utf-8 l ≡ true) (sym g) x)
 
 pub joined-first : (line : List ℕ) → FirstLine line → is-first-line line ≡ true
 joined-first line x =

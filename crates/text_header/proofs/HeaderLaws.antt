@@ -10,21 +10,13 @@ use borrow.Author.Tests.{eq-eqb, eqb-true, le-leb, leb-true, lt-ltb, ltb-true}
 use lib.Dec.{leb, ltb, eqb}
 use lib.ListN.{length, getD, take, drop, length-append, length-drop}
 use lib.Seq.{split-at, take-length, length-take-le}
+use Rattle.basis.proofs.Booleans.{both-first, both-second, which, both-pass, not-false}
 use Rattle.text_header.specs.Bytes.{is-blank, in-class}
 use Rattle.text_header.specs.Spans.{span-end}
 use Rattle.text_header.specs.Header.{is-header-line}
 use Rattle.text_header.specs.Split.{every, HeaderLine}
 use Rattle.text_header.specs.declared.Class.{Class}
 use Rattle.text_header.proofs.Runs.{span-on, span-off, span-grows}
-use Rattle.text_header.proofs.Tests.{both-first, both-second, which}
-
--- both tests hold
-pub both-true : {a b : Bool} → a ≡ true → b ≡ true → (a && b) ≡ true
-both-true e f = rw (e, f)
-
-not-false : (b : Bool) → not b ≡ false → b ≡ true
-not-false true e = refl
-not-false false e = sym e
 
 pub never : {A : Type 0} → false ≡ true → A
 never e = let z : _≡_ {A = ℕ} 0 1 = cc in absurd (omega arith)
@@ -35,13 +27,13 @@ every-append : (class : Class) (xs ys : List ℕ) → every class xs ≡ true �
 unfolding every
 every-append class [] ys e f = f
 every-append class (x ∷ xs) ys e f =
-    both-true (both-first (in-class class x) (every class xs) e) (every-append class xs ys (both-second (in-class class x) (every class xs) e) f)
+    both-pass (both-first (in-class class x) (every class xs) e) (every-append class xs ys (both-second (in-class class x) (every class xs) e) f)
 
 every-front : (class : Class) (xs ys : List ℕ) → every class (xs ++ ys) ≡ true → every class xs ≡ true
 unfolding every
 every-front class [] ys e = refl
 every-front class (x ∷ xs) ys e =
-    both-true (both-first (in-class class x) (every class (xs ++ ys)) e) (every-front class xs ys (both-second (in-class class x) (every class (xs ++ ys)) e))
+    both-pass (both-first (in-class class x) (every class (xs ++ ys)) e) (every-front class xs ys (both-second (in-class class x) (every class (xs ++ ys)) e))
 
 every-back : (class : Class) (xs ys : List ℕ) → every class (xs ++ ys) ≡ true → every class ys ≡ true
 unfolding every
@@ -65,7 +57,7 @@ blanks-other [] e = (refl, refl)
 blanks-other (b ∷ bs) e =
     let o = blank-other b (both-first (is-blank b) (every Class.Blank bs) e)
     in let r = blanks-other bs (both-second (is-blank b) (every Class.Blank bs) e)
-    in (both-true (o .0) (r .0), both-true (o .1) (r .1))
+    in (both-pass (o .0) (r .0), both-pass (o .1) (r .1))
 
 -- ---- a run and what stops it
 
@@ -77,7 +69,7 @@ run-every class i (b ∷ bs) =
     (λ (e : in-class class b ≡ true).
     let g : i + 1 ≤ span-end class (i + 1) bs = span-grows class (i + 1) bs
     in let n : span-end class i (b ∷ bs) - i ≡ suc (span-end class (i + 1) bs - (i + 1)) = omega (arith, span-on class i b bs e)
-    in rw n (both-true e (run-every class (i + 1) bs)))
+    in rw n (both-pass e (run-every class (i + 1) bs)))
     (λ (e : in-class class b ≡ false). let n : span-end class i (b ∷ bs) - i ≡ 0 = omega (arith, span-off class i b bs e) in rw n)
     (which (in-class class b))
 
@@ -141,7 +133,7 @@ module _ (a b : ℕ) (rest : List ℕ) where
           value = drop (suc (equals - 2)) rest;
           parts = ap₂ (λ (x : ℕ) (l : List ℕ). x ∷ b ∷ l) e cut;
           some-blanks = omega arith;
-          blank = both-true f refl;
+          blank = both-pass f refl;
           some-name = omega (arith, length-take-le (equals - 2) rest (omega arith));
           name-bytes = every-front Class.Header (take (equals - 2) rest) (61 ∷ drop (suc (equals - 2)) rest) w;
           without-equals = run-every (Class.Except 61) 2 rest;
@@ -179,10 +171,10 @@ joined-parts (b ∷ more) name value s e n h w v k =
     in let l : length tail ≡ length more + length (name ++ (61 ∷ value)) = length-append more (name ++ (61 ∷ value))
     in let r : length (name ++ (61 ∷ value)) ≡ length name + suc (length value) = length-append name (61 ∷ value)
     in let u : every Class.Header tail ≡ true = every-append Class.Header more (name ++ (61 ∷ value)) (blanks-other more m .0) (every-append Class.Header name (61 ∷ value) h k)
-    in let t : every Class.Header (45 ∷ b ∷ tail) ≡ true = both-true (blank-other b f .0) u
+    in let t : every Class.Header (45 ∷ b ∷ tail) ≡ true = both-pass (blank-other b f .0) u
     in let z : span-end Class.Header 0 (45 ∷ b ∷ tail) ≡ length (45 ∷ b ∷ tail) = run-all Class.Header 0 (45 ∷ b ∷ tail) t ∙ omega arith
-    in both-true f
-    (both-true (both-true (le-leb 3 (span-end (Class.Except 61) 2 tail) (omega arith)) (lt-ltb (span-end (Class.Except 61) 2 tail + 1) (length (45 ∷ b ∷ tail)) (omega arith)))
+    in both-pass f
+    (both-pass (both-pass (le-leb 3 (span-end (Class.Except 61) 2 tail) (omega arith)) (lt-ltb (span-end (Class.Except 61) 2 tail + 1) (length (45 ∷ b ∷ tail)) (omega arith)))
     (eq-eqb (span-end Class.Header 0 (45 ∷ b ∷ tail)) (length (45 ∷ b ∷ tail)) z))
 
 pub joined : (line : List ℕ) → HeaderLine line → is-header-line line ≡ true

@@ -10,12 +10,12 @@ use borrow.Author.Tests.{eq-eqb, ne-eqb}
 use lib.Dec.{eqb}
 use lib.ListN.{length, getD, take, drop, length-drop}
 use lib.Seq.{drop-drop, length-take-le}
+use Rattle.basis.proofs.Booleans.{which}
 use Rattle.text_header.specs.Spans.{span-end}
 use Rattle.text_header.specs.Header.{in-front, content, lines, is-first-line, is-header-line, header-lines-of, first-of, header-of}
 use Rattle.text_header.specs.declared.Class.{Class}
 use Rattle.text_header.specs.declared.Heading.{Heading}
 use Rattle.text_header.proofs.Runs.{span-on, span-off, span-grows}
-use Rattle.text_header.proofs.Tests.{which}
 
 pub content-none : (line : List ℕ) → length line ≡ 0 → content line ≡ line
 unfolding content

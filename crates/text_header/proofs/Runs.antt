@@ -11,10 +11,11 @@ use borrow.Author.Tests.{eq-eqb, eqb-true}
 use lib.Dec.{eqb}
 use lib.ListN.{length, getD, drop, drop-of-length-le, length-drop}
 use lib.Seq.{drop-cons}
+use Rattle.basis.proofs.Booleans.{both-first, both-second, which}
 use Rattle.text_header.specs.Bytes.{in-class, lower-case}
 use Rattle.text_header.specs.Spans.{span-end, starts, is-word}
 use Rattle.text_header.specs.declared.Class.{Class}
-use Rattle.text_header.proofs.Tests.{both-first, both-second, choice, which}
+use Rattle.text_header.proofs.Tests.{choice}
 
 -- the bytes from place i on: the byte there, and those after it
 pub next : (xs : List ℕ) (i : ℕ) → i < length xs → drop i xs ≡ getD xs i 0 ∷ drop (i + 1) xs

@@ -8,8 +8,8 @@ use mathlib.Core.List.{List, [], _∷_, _++_, append-assoc}
 use native.Mathlib.Omega.{arith}
 use borrow.Author.Tests.{eqb-true, leb-true}
 use lib.Dec.{leb, eqb}
+use Rattle.basis.proofs.Booleans.{both-first, both-second, which}
 use Rattle.text_header.specs.Bytes.{is-printable, digit-of, in-radix}
-use Rattle.text_header.proofs.Tests.{both-first, both-second, which}
 use Rattle.text_literals.specs.Literals.{is-quote, between, part-after, stops, counted, reached, literal-reach, is-closed}
 use Rattle.text_literals.specs.Pieces.{Piece, plain, escape, hexadecimal, hex-value, all-hex, written, Right, spelled, All-right}
 use Rattle.text_literals.specs.declared.Part.{Part}

@@ -9,8 +9,8 @@ use native.Mathlib.Omega.{arith}
 use borrow.Author.Tests.{eq-eqb, eqb-true, le-leb}
 use lib.Dec.{leb, eqb}
 use lib.ListN.{length, length-append}
+use Rattle.basis.proofs.Booleans.{both-first, both-second, which}
 use Rattle.text_header.specs.Bytes.{digit-of, in-radix}
-use Rattle.text_header.proofs.Tests.{both-first, both-second, which}
 use Rattle.text_literals.specs.Literals.{is-quote, between, part-after, stops, counted, reached, literal-reach, with-character, characters}
 use Rattle.text_literals.specs.Pieces.{Piece, plain, escape, hexadecimal, hex-value, all-hex, written, value, Right, spelled, All-right}
 use Rattle.text_literals.specs.declared.Part.{Part}

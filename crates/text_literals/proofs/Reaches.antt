@@ -8,8 +8,8 @@ use mathlib.Core.List.{List, [], _∷_}
 use native.Mathlib.Omega.{arith}
 use lib.Dec.{eqb}
 use lib.ListN.{length, getD, drop, drop-of-length-le}
+use Rattle.basis.proofs.Booleans.{which}
 use Rattle.text_header.proofs.Runs.{next}
-use Rattle.text_header.proofs.Tests.{which}
 use Rattle.text_literals.specs.Literals.{between, part-after, stops, counted, reached, literal-reach, with-character, characters}
 use Rattle.text_literals.specs.declared.Part.{Part}
 use Rattle.text_literals.specs.declared.Part.the-variants.{Start, Escape, Bracket, Digits, Character, Closed, Wrong}

@@ -10,8 +10,9 @@ use borrow.Author.Tests.{leb-true, eqb-true}
 use lib.Dec.{leb, eqb}
 use lib.ListN.{length, getD, drop}
 use Rattle.basis.specs.Limits.{max-literal-bytes}
+use Rattle.basis.proofs.Booleans.{both-first, both-second, which, picked}
 use Rattle.text_header.specs.Bytes.{is-printable, digit-of, in-radix}
-use Rattle.text_header.proofs.Tests.{both-first, both-second, within-high, which, picked}
+use Rattle.text_header.proofs.Tests.{within-high}
 use Rattle.text_literals.specs.Literals.{is-quote, between, escaped, widened, part-after, stops, counted, literal-reach, literal-at, is-closed, is-right, with-character, characters, characters-at}
 use Rattle.text_literals.specs.declared.Part.{Part}
 use Rattle.text_literals.specs.declared.Part.the-variants.{Start, Escape, Bracket, Digits, Character, Closed, Wrong}

@@ -3,7 +3,7 @@
 use Prim.Native.Nat.{ℕ, _+_, _*_, _≤_, _<_}
 use mathlib.Core.Path.{_≡_, refl, ap}
 use mathlib.Core.Logic.{⊎-elim}
-use mathlib.Core.Bool.{true, false}
+use mathlib.Core.Bool.{true, false, cond}
 use mathlib.Core.List.{List, []}
 use mathlib.Core.Option.{some}
 use native.Mathlib.Omega.{arith}
@@ -12,10 +12,10 @@ use lib.Dec.{eqb, ltb}
 use lib.IntN.{pos}
 use lib.ListN.{length, replicate}
 use Rattle.basis.specs.Limits.{max-constructs, max-variables}
-use Rattle.text_header.proofs.Tests.{which}
+use Rattle.basis.proofs.Booleans.{which}
 use Rattle.theory.specs.Grammar.{alternative, use-of}
 use Rattle.table_layout.specs.Places.{construct-word, constructs-at}
-use Rattle.table_layout.specs.Constructs.{pick, constructOf, constructAt}
+use Rattle.table_layout.specs.Constructs.{constructOf, constructAt}
 use Rattle.table_layout.specs.Held.{first-context, use-node, node-of, opening, held}
 use Rattle.table_layout.specs.declared.Construct.{Construct}
 use Rattle.text_shapes.specs.Stored.{Stored}
@@ -45,7 +45,7 @@ module _ {xs ns ts rs : List ℕ} {n t b r : ℕ} (text : Readable xs ns ts rs n
       (λ (e : ltb i max-constructs ≡ false). rw e refl)
       (which (ltb i max-constructs))
 
-  node-is : (i : ℕ) → node-of ws i (constructAt ws i) ≡ pick (ltb i n) (meant-node xs ns ts rs r i) (alternative [])
+  node-is : (i : ℕ) → node-of ws i (constructAt ws i) ≡ cond (ltb i n) (meant-node xs ns ts rs r i) (alternative [])
   unfolding node-of
   node-is i =
       ⊎-elim (λ (e : ltb i n ≡ true). rw e (node-says text stored places i (ltb-true i n e))) (λ (e : ltb i n ≡ false). rw e (ap (node-of ws i) (past i (ltb-false i n e)))) (which (ltb i n))
@@ -55,4 +55,4 @@ module _ {xs ns ts rs : List ℕ} {n t b r : ℕ} (text : Readable xs ns ts rs n
 
   pub holds-text : held (encoded xs ns ts rs n r) ≡ grammar-of xs ns ts rs n r
   unfolding held grammar-of
-  holds-text = λ t. record { node = λ i. pick (eqb i opening) (opening-is t) (node-is i t); start = opening; context = first-context; values = replicate max-variables (pos 0) }
+  holds-text = λ t. record { node = λ i. cond (eqb i opening) (opening-is t) (node-is i t); start = opening; context = first-context; values = replicate max-variables (pos 0) }

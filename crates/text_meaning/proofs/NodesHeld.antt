@@ -3,7 +3,7 @@
 use Prim.Native.Nat.{ℕ, zero, suc, _+_, _*_, _-_, _/_, _%_, _^_, _≤_, _<_}
 use mathlib.Core.Path.{_≡_, refl, sym, ap, subst, _∙_}
 use mathlib.Core.Logic.{inl, inr, ⊎-elim}
-use mathlib.Core.Bool.{Bool, true, false, not, cond}
+use mathlib.Core.Bool.{Bool, true, false, cond, not}
 use mathlib.Core.List.{List, [], _∷_, List·Memᴰ·head, List·Memᴰ·tail}
 use mathlib.Core.Option.{Option, some}
 use native.Mathlib.Omega.{arith}
@@ -14,9 +14,9 @@ use lib.IntN.{pos}
 use lib.ListN.{length, getD, drop, set}
 use lib.Seq.{drop-cons, drop-length}
 use Rattle.basis.specs.Limits.{max-literal-bytes}
-use Rattle.text_header.proofs.Tests.{which}
 use Rattle.basis.specs.Bits.{value}
 use Rattle.basis.specs.Counts.{Counts}
+use Rattle.basis.proofs.Booleans.{which}
 use Rattle.text_literals.specs.Literals.{characters-at}
 use Rattle.term_words.specs.Words.{termAt, terms}
 use Rattle.term_words.specs.declared.Mode.{Mode}
@@ -26,7 +26,7 @@ use Rattle.term_evaluation.specs.Counts.{formOf, counts}
 use Rattle.term_evaluation.specs.Variables.{hasVariable}
 use Rattle.theory.specs.Grammar.{_∈_, alternative, concatenation, repetition, switch, use-of, field}
 use Rattle.table_layout.specs.Places.{word, construct-word, literals-at}
-use Rattle.table_layout.specs.Constructs.{pick, constructAt}
+use Rattle.table_layout.specs.Constructs.{constructAt}
 use Rattle.table_layout.specs.Held.{Values, HeldNode, term-words, size-of, parts, allowed, isYes, isExact, passes-allowed, passes-static, passes-fixed, first-case, literal-byte, literal-bytes, literal-node, bound, node-of}
 use Rattle.table_layout.specs.declared.Construct.{Construct}
 use Rattle.text_wellformed.proofs.NoFaults.{use-below}
@@ -59,7 +59,7 @@ powers (suc (suc (suc zero))) h = refl
 powers (suc (suc (suc (suc q)))) h = absurd (omega arith)
 
 -- a binder sets its variable
-binder-bound : (binds : Bool) (k : ℕ) (v : Values) (n : ℕ) → bound (cond binds (k + 1) 0) v n ≡ pick binds (set v k (pos n)) v
+binder-bound : (binds : Bool) (k : ℕ) (v : Values) (n : ℕ) → bound (cond binds (k + 1) 0) v n ≡ cond binds (set v k (pos n)) v
 binder-bound true k v n = rw add-one refl
 binder-bound false k v n = refl
 
@@ -83,7 +83,7 @@ module _ (ws : List ℕ) (i s e : ℕ) (list : List Term) where
   counted-same l is =
       let at : (v : Values) → counts v (term-words ws) s e ≡ Meaning.counted Mode.Values v list .counted = λ v. counts-as (term-words ws) s e l Mode.Values v list is in
       let end : termAt (term-words ws) (e - 1) ≡ last-of list = last-at (term-words ws) s e l ∙ ap last-of is in
-      λ t. repetition (λ c v. allowed (at v t)) (pick (hasVariable (is t)) (Counts.from 0) (allowed (at [] t))) (isExact (formOf (end t))) (i + 1)
+      λ t. repetition (λ c v. allowed (at v t)) (cond (hasVariable (is t)) (Counts.from 0) (allowed (at [] t))) (isExact (formOf (end t))) (i + 1)
 
   -- a uint
   uint-same : (width k : ℕ) (binds : Bool) → terms (term-words ws) s e ≡ list
@@ -92,7 +92,7 @@ module _ (ws : List ℕ) (i s e : ℕ) (list : List Term) where
   uint-same width k binds is =
       let at : (v : Values) (n : ℕ) → membership v (pos n) s (terms (term-words ws) s e) ≡ membership v (pos n) 0 list =
       λ v n. same-membership v (pos n) s 0 (terms (term-words ws) s e) ∙ ap (membership v (pos n) 0) is in
-      λ t. field (λ bits. width) (λ c v bits. isYes (at v (value bits) t)) (λ bits. pick (hasVariable (is t)) true (isYes (at [] (value bits) t))) (λ c v bits. binder-bound binds k v (value bits) t)
+      λ t. field (λ bits. width) (λ c v bits. isYes (at v (value bits) t)) (λ bits. cond (hasVariable (is t)) true (isYes (at [] (value bits) t))) (λ c v bits. binder-bound binds k v (value bits) t)
 
 -- the bytes from byte k on are the characters from there on
 bytes-same : (ws : List ℕ) (i : ℕ) (list : List ℕ) → ((k : ℕ) → k < length list → literal-byte ws i k ≡ getD list k 0) → (n k : ℕ) → k + n ≡ length list → literal-bytes ws i k n ≡ drop k list

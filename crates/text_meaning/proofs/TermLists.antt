@@ -2,13 +2,12 @@
 -- Assumes nothing.
 use Prim.Native.Nat.{ℕ, zero, suc, _+_, _-_, _≤_, _<_}
 use mathlib.Core.Path.{_≡_, refl, sym, ap, _∙_}
-use mathlib.Core.Bool.{Bool}
+use mathlib.Core.Bool.{Bool, cond}
 use mathlib.Core.List.{List, _∷_}
 use native.Mathlib.Omega.{arith}
 use borrow.Author.Tests.{lt-ltb}
 use lib.IntN.{ℤ, pos}
 use lib.ListN.{length, getD, take}
-use Rattle.term_words.specs.Numbers.{pick}
 use Rattle.term_words.specs.Words.{termAt, termsFrom, terms}
 use Rattle.term_words.specs.declared.Kind.{Kind}
 use Rattle.term_words.specs.declared.Mode.{Mode}
@@ -75,7 +74,7 @@ module _ (ws : List ℕ) where
     unfolding tallied
     counts-listed m env =
         let f : Form = formOf (termAt ws (e - 1)) in
-        ap (λ (b : Bool). pick b (talliedBy f m env ws s e) (record { counted = Counted.Malformed; at = s }) .counted) (lt-ltb s e some)
+        ap (λ (b : Bool). cond b (talliedBy f m env ws s e) (record { counted = Counted.Malformed; at = s }) .counted) (lt-ltb s e some)
         ∙ ap (λ (l : List Term). ofTrial f (run Kind.Calculation m env (pos 0) s l Numbers.Zero 1 .trial)) (calculations-at f)
         ∙ ap (ofTrial f) (same-run Kind.Calculation m env (pos 0) s 0 (calculations f (terms ws s e)))
         ∙ ap (λ (x : Term). ofTrial (formOf x) (run Kind.Calculation m env (pos 0) 0 (calculations (formOf x) (terms ws s e)) Numbers.Zero 1 .trial)) last-at

@@ -3,7 +3,7 @@
 use Prim.Native.Nat.{ℕ, _+_, _-_, _<_}
 use mathlib.Core.Path.{_≡_, refl, sym, ap, _∙_}
 use mathlib.Core.Logic.{⊎-elim}
-use mathlib.Core.Bool.{Bool, true, false}
+use mathlib.Core.Bool.{Bool, true, false, cond}
 use mathlib.Core.List.{List, [], _∷_, _++_}
 use mathlib.Core.Option.{none}
 use native.Mathlib.Omega.{arith}
@@ -11,8 +11,8 @@ use lib.IntN.{ℤ, pos}
 use lib.ListN.{length, length-append}
 use lib.Seq.{getD-append-add}
 use Rattle.basis.specs.Limits.{max-variables}
-use Rattle.text_header.proofs.Tests.{which}
 use Rattle.basis.specs.Counts.{Counts, zero-or-more}
+use Rattle.basis.proofs.Booleans.{which}
 use Rattle.term_words.specs.Words.{terms}
 use Rattle.term_words.specs.declared.Kind.{Kind}
 use Rattle.term_words.specs.declared.Mode.{Mode}
@@ -30,7 +30,6 @@ use Rattle.term_trees.specs.Postfix.{setTerms, conditionTerms, repeatTerms, las
 use Rattle.term_trees.specs.Rooms.{SetRoom, ConditionRoom}
 use Rattle.term_trees.proofs.Theorems.{answer, set-means, condition-means, set-formed, condition-formed}
 use Rattle.term_trees.proofs.Repeating.{counts-mean}
-use Rattle.table_layout.specs.Constructs.{pick}
 use Rattle.table_layout.specs.Held
 use Rattle.table_layout.specs.Held.{Values, isYes, isExact}
 use Rattle.text_shapes.specs.TermShapes.{RepeatsRoom}
@@ -64,7 +63,7 @@ module _ (list : List Term) (tree small : ValueSet) (is : list ≡ setTerms tree
       passes Kind.Set list v f (λ w l z. set-formed w 0 small (rw l room) (sym (ap (sizes Kind.Set w 0) cut) ∙ z)) in
       ap isYes (ap (membership v (pos n) 0) is ∙ set-means v (f .widest) (f .inside) tree (pos n) 0 (sym (ap (sizes Kind.Set (f .widest) 0) is) ∙ p)) ∙ answered (has v tree (pos n))
 
-  pub set-first : (v : Values) → ListFits Kind.Set list v → (n : ℕ) → in-static-set list n ≡ pick (hasVariable list) true (has v tree (pos n))
+  pub set-first : (v : Values) → ListFits Kind.Set list v → (n : ℕ) → in-static-set list n ≡ cond (hasVariable list) true (has v tree (pos n))
   set-first v f n =
       ⊎-elim (λ (e : hasVariable list ≡ true). rw e refl) (λ (e : hasVariable list ≡ false). rw e (ap isYes (membership-constant [] v (pos n) 0 list e) ∙ set-has v f n)) (which (hasVariable list))
 
@@ -115,7 +114,7 @@ module _ (ws : List ℕ) (s e : ℕ) (some-terms : s < e) (list : List Term) (th
       ap Held.allowed (sym (counts-as ws s e some-terms Mode.Values v list there) ∙ counts-mean v (f .widest) (f .inside) ws s e (counts-pass v f) tree (there ∙ is))
       ∙ allowed-shown (repeats v tree)
 
-  pub counts-first : (v : Values) → CountsFit list v → static-counts list ≡ pick (hasVariable list) zero-or-more (repeats v tree)
+  pub counts-first : (v : Values) → CountsFit list v → static-counts list ≡ cond (hasVariable list) zero-or-more (repeats v tree)
   unfolding counts
   counts-first v f =
       ⊎-elim (λ (z : hasVariable list ≡ true). rw z refl)

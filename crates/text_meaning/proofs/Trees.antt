@@ -2,7 +2,7 @@
 -- Assumes nothing.
 use Prim.Native.Nat.{ℕ, _+_, _-_, _≤_, _<_}
 use mathlib.Core.Path.{_≡_, refl, sym, ap, _∙_}
-use mathlib.Core.Bool.{Bool, true, false}
+use mathlib.Core.Bool.{Bool, true, false, cond}
 use mathlib.Core.List.{List, [], _∷_, map, List·Memᴰ·head, List·Memᴰ·tail}
 use mathlib.Core.Option.{Option, none, some}
 use native.Mathlib.Omega.{arith}
@@ -17,7 +17,6 @@ use Rattle.term_trees.specs.Trees.{ValueSet, Condition, Repeats}
 use Rattle.term_trees.specs.Postfix.{setTerms, conditionTerms, repeatTerms}
 use Rattle.theory.specs.Grammar.{_∈_, repetition, switch}
 use Rattle.theory.specs.Machine.{choose}
-use Rattle.table_layout.specs.Constructs.{pick}
 use Rattle.table_layout.specs.Held.{Values, HeldNode, term-words, isExact, opening}
 use Rattle.text_shapes.specs.TermShapes.{read-terms, rename-term, renamed-set, renamed-condition, renamed-repeats, SetShape, CountsShape}
 use Rattle.text_shapes.specs.NodeShapes.{Conditioned}
@@ -45,13 +44,13 @@ chosen-same p q (c ∷ cs) same = λ t. elim (same c (List·Memᴰ·head refl) t
 
 module _ (xs ns ts rs : List ℕ) (r : ℕ) where
   -- the default is taken where it stands
-  by-tests : (v : Values) (cs : List ℕ) → first-true xs ns ts rs r v cs ≡ choose (λ c. pick (is-default ns c) true (is-true xs ns ts rs r v c)) cs
+  by-tests : (v : Values) (cs : List ℕ) → first-true xs ns ts rs r v cs ≡ choose (λ c. cond (is-default ns c) true (is-true xs ns ts rs r v c)) cs
   unfolding first-true choose
   by-tests v [] = refl
-  by-tests v (c ∷ cs) = go (is-default ns c) (is-true xs ns ts rs r v c) (first-true xs ns ts rs r v cs) (choose (λ c. pick (is-default ns c) true (is-true xs ns ts rs r v c)) cs) (by-tests v cs)
+  by-tests v (c ∷ cs) = go (is-default ns c) (is-true xs ns ts rs r v c) (first-true xs ns ts rs r v cs) (choose (λ c. cond (is-default ns c) true (is-true xs ns ts rs r v c)) cs) (by-tests v cs)
     where
       go : (d e : Bool) (x y : Option ℕ) → x ≡ y
-          → _≡_ {A = Option ℕ} (elim d [ true ↦ some c | false ↦ elim e [ true ↦ some c | false ↦ x ] ]) (elim (pick d true e) [ true ↦ some c | false ↦ y ])
+          → _≡_ {A = Option ℕ} (elim d [ true ↦ some c | false ↦ elim e [ true ↦ some c | false ↦ x ] ]) (elim (cond d true e) [ true ↦ some c | false ↦ y ])
       go true e x y z = refl
       go false true x y z = refl
       go false false x y z = z
@@ -144,11 +143,11 @@ module _ {xs ns ts rs : List ℕ} {n t b r : ℕ} (text : Readable xs ns ts rs n
     guarded (without u) = eq-eqb (condition-from ns i) (condition-end ns i) (u .from-is ∙ sym (u .end-is))
     guarded (with-one d l) = (given d, condition-is d l)
 
-    case-met : (a : ConditionAt ns ts t i) (v : Values) → (is-default ns i ≡ false → ListFits Kind.Condition (condition-list xs ns ts rs r i) v) → pick (is-default ns i) true (is-true xs ns ts rs r v i) ≡ met v (guard-of a)
+    case-met : (a : ConditionAt ns ts t i) (v : Values) → (is-default ns i ≡ false → ListFits Kind.Condition (condition-list xs ns ts rs r i) v) → cond (is-default ns i) true (is-true xs ns ts rs r v i) ≡ met v (guard-of a)
     unfolding guard-of
-    case-met (without u) v f = ap (λ (x : Bool). pick x true (is-true xs ns ts rs r v i)) (eq-eqb (condition-from ns i) (condition-end ns i) (u .from-is ∙ sym (u .end-is)))
+    case-met (without u) v f = ap (λ (x : Bool). cond x true (is-true xs ns ts rs r v i)) (eq-eqb (condition-from ns i) (condition-end ns i) (u .from-is ∙ sym (u .end-is)))
     case-met (with-one d l) v f =
-        ap (λ (x : Bool). pick x true (is-true xs ns ts rs r v i)) (given d)
+        ap (λ (x : Bool). cond x true (is-true xs ns ts rs r v i)) (given d)
         ∙ condition-has (condition-list xs ns ts rs r i) (renamed-condition own (d .shape .tree)) (renamed-condition cut (d .shape .tree)) (condition-is d l) (condition-cut d l) (d .shape .room cut (λ p. omega arith)) v (f (given d))
 
   -- ---- a switch
@@ -162,7 +161,7 @@ module _ {xs ns ts rs : List ℕ} {n t b r : ℕ} (text : Readable xs ns ts rs n
   guarded-by c l (yes h) = guarded c h (nodes text .conditions c h)
   guarded-by c l (no m) = absurd (m l)
 
-  met-by : (c : ℕ) → c < n → (d : Dec (c < n)) (v : Values) → (is-default ns c ≡ false → ListFits Kind.Condition (condition-list xs ns ts rs r c) v) → pick (is-default ns c) true (is-true xs ns ts rs r v c) ≡ met v (guard-by c d)
+  met-by : (c : ℕ) → c < n → (d : Dec (c < n)) (v : Values) → (is-default ns c ≡ false → ListFits Kind.Condition (condition-list xs ns ts rs r c) v) → cond (is-default ns c) true (is-true xs ns ts rs r v c) ≡ met v (guard-by c d)
   unfolding guard-by
   met-by c l (yes h) v f = case-met c h (nodes text .conditions c h) v f
   met-by c l (no m) v f = absurd (m l)
@@ -182,7 +181,7 @@ module _ {xs ns ts rs : List ℕ} {n t b r : ℕ} (text : Readable xs ns ts rs n
         guards = λ c m. guarded-by c (below c m) (decLt c n);
         takes = λ c v f.
             by-tests xs ns ts rs r v (parts-of ns i)
-            ∙ chosen-same (λ c. pick (is-default ns c) true (is-true xs ns ts rs r v c)) (λ c. met v (guard-by c (decLt c n))) (parts-of ns i) (λ c m. met-by c (below c m) (decLt c n) v (f c m));
+            ∙ chosen-same (λ c. cond (is-default ns c) true (is-true xs ns ts rs r v c)) (λ c. met v (guard-by c (decLt c n))) (parts-of ns i) (λ c m. met-by c (below c m) (decLt c n) v (f c m));
       }
 
   pub meanings : Meanings xs ns ts rs n r

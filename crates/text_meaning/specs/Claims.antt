@@ -2,7 +2,7 @@
 -- Assumes nothing.
 use Prim.Native.Nat.{ℕ, _+_, _<_}
 use mathlib.Core.Path.{_≡_}
-use mathlib.Core.Bool.{Bool, true, false}
+use mathlib.Core.Bool.{Bool, true, false, cond}
 use mathlib.Core.List.{List, [], _∷_}
 use mathlib.Core.Option.{Option, none, some}
 use lib.IntN.{ℤ, pos}
@@ -21,7 +21,6 @@ use Rattle.term_trees.specs.Trees.{ValueSet, has, Condition, true-at, Repeats, 
 use Rattle.term_trees.specs.Postfix.{setTerms, conditionTerms, repeatTerms}
 use Rattle.theory.specs.Grammar.{_∈_, repetition, switch, field}
 use Rattle.theory.specs.Machine.{choose}
-use Rattle.table_layout.specs.Constructs.{pick}
 use Rattle.table_layout.specs.Held.{Context, Values, HeldNode}
 use Rattle.text_store.specs.Words.{kind-of, node-mark, is-binder}
 use Rattle.text_encoding.specs.Numbers.{binders-before, width-of}
@@ -47,12 +46,12 @@ CountsFit list v = Fits (λ w. ofTally (counted Mode.Sizes w list)) v
 pub record UintMeans (node : HeldNode) (width : ℕ) (list : List Term) (binds : Bool) (variable : ℕ) : Type 0 where
   pub admits : Context → Values → Bits → Bool
   pub static : Bits → Bool
-  pub node-is : node ≡ field (λ bits. width) admits static (λ c v bits. pick binds (set v variable (pos (value bits))) v)
+  pub node-is : node ≡ field (λ bits. width) admits static (λ c v bits. cond binds (set v variable (pos (value bits))) v)
   pub tree : ValueSet
   pub list-is : list ≡ setTerms tree
   pub admitted : (c : Context) (v : Values) (bits : Bits) → ListFits Kind.Set list v → admits c v bits ≡ has v tree (pos (value bits))
   -- "a set with a variable counting as `~`"
-  pub at-first : (v : Values) (bits : Bits) → ListFits Kind.Set list v → static bits ≡ pick (hasVariable list) true (has v tree (pos (value bits)))
+  pub at-first : (v : Values) (bits : Bits) → ListFits Kind.Set list v → static bits ≡ cond (hasVariable list) true (has v tree (pos (value bits)))
 
 -- written `{n}`
 abbrev pub is-exact : Repeats → Bool
@@ -71,7 +70,7 @@ pub record CountsMean (node : HeldNode) (list : List Term) (body : ℕ) : Type 0
   pub list-is : list ≡ repeatTerms tree
   pub allowed : (c : Context) (v : Values) → CountsFit list v → counts c v ≡ repeats v tree
   -- "counts with a variable allowing all"
-  pub at-first : (v : Values) → CountsFit list v → static ≡ pick (hasVariable list) zero-or-more (repeats v tree)
+  pub at-first : (v : Values) → CountsFit list v → static ≡ cond (hasVariable list) zero-or-more (repeats v tree)
   pub fixed-is : fixed ≡ is-exact tree
 
 -- the default is always taken

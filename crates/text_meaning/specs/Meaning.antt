@@ -2,7 +2,7 @@
 -- `Store`: ten words to a node, nodes in preorder) and without a table.
 -- Assumes nothing.
 use Prim.Native.Nat.{ℕ, zero, suc, _+_, _-_}
-use mathlib.Core.Bool.{Bool, true, false}
+use mathlib.Core.Bool.{Bool, true, false, cond}
 use mathlib.Core.List.{List, [], _∷_, map}
 use mathlib.Core.Option.{Option, none, some}
 use lib.Dec.{eqb, ltb}
@@ -22,7 +22,6 @@ use Rattle.term_evaluation.specs.Variables.{hasVariable}
 use Rattle.term_evaluation.specs.declared.Form.{Form}
 use Rattle.term_evaluation.specs.declared.Tally.{Tally}
 use Rattle.theory.specs.Grammar.{alternative, concatenation, repetition, switch, use-of, field, eod, Grammar}
-use Rattle.table_layout.specs.Constructs.{pick}
 use Rattle.table_layout.specs.Held.{Context, first-context, Values, HeldNode, allowed, isYes, isExact, literal-node, range-node, opening}
 use Rattle.text_shapes.specs.TermShapes.{read-terms, rename-term}
 use Rattle.text_store.specs.Words.{kind-of, node-size, place-of, node-mark, last-place, own-from, own-end, condition-from, condition-end, is-binder, first-node}
@@ -62,15 +61,15 @@ counts-in list v = allowed (counted Mode.Values v list .counted)
 
 -- "counts with a variable allowing all"
 abbrev pub static-counts : List Term → Counts
-static-counts list = pick (hasVariable list) zero-or-more (counts-in list [])
+static-counts list = cond (hasVariable list) zero-or-more (counts-in list [])
 
 -- "A repetition is `?`, `*`, `+`", or has counts; `how` says which
 abbrev pub passes : ℕ → Counts → Counts
-passes how counts = pick (eqb how 1) zero-or-one (pick (eqb how 2) zero-or-more (pick (eqb how 3) one-or-more counts))
+passes how counts = cond (eqb how 1) zero-or-one (cond (eqb how 2) zero-or-more (cond (eqb how 3) one-or-more counts))
 
 -- it is written `{n}`
 abbrev pub is-fixed : ℕ → List Term → Bool
-is-fixed how list = pick (eqb how 4) (isExact (formOf (last-of list))) false
+is-fixed how list = cond (eqb how 4) (isExact (formOf (last-of list))) false
 
 -- ---- sets: "alternatives of `~`, `a`, `a~b`, `a~`, `~b`, each with at most one `!`"
 
@@ -80,12 +79,12 @@ in-set list v n = isYes (membership v (pos n) 0 list)
 
 -- "a set with a variable counting as `~`"
 abbrev pub in-static-set : List Term → ℕ → Bool
-in-static-set list n = pick (hasVariable list) true (in-set list [] n)
+in-static-set list n = cond (hasVariable list) true (in-set list [] n)
 
 -- "Values below 0 or above the width drop out silently": so many bits have no others. It may also bind the value.
 abbrev pub uint-node : (width : ℕ) → List Term → (binds : Bool) → (variable : ℕ) → HeldNode
 uint-node width list binds variable =
-    field (λ bits. width) (λ c v bits. in-set list v (value bits)) (λ bits. in-static-set list (value bits)) (λ c v bits. pick binds (set v variable (pos (value bits))) v)
+    field (λ bits. width) (λ c v bits. in-set list v (value bits)) (λ bits. in-static-set list (value bits)) (λ c v bits. cond binds (set v variable (pos (value bits))) v)
 
 -- ---- rules: "a rule's name" stands for its body
 
@@ -126,15 +125,15 @@ module _ (xs ns ts rs : List ℕ) (r : ℕ) where
   unfoldable pub meant-node : ℕ → HeldNode
   unfolding parts-from first-true
   meant-node i =
-      pick (eqb (kind-of ns i) 1) (alternative (parts-of ns i))
-      (pick (eqb (kind-of ns i) 2) (concatenation (parts-of ns i))
-      (pick (eqb (kind-of ns i) 3) (repetition (λ c v. passes (node-mark ns i) (counts-in (own-list i) v)) (passes (node-mark ns i) (static-counts (own-list i))) (is-fixed (node-mark ns i) (own-list i)) (i + 1))
-      (pick (eqb (kind-of ns i) 4) (switch (λ c v. first-true v (parts-of ns i)) (parts-of ns i))
-      (pick (eqb (kind-of ns i) 5) (opened rs (rule-of xs rs r (place-of ns i)))
-      (pick (eqb (kind-of ns i) 6) (literal-node (characters-at xs (place-of ns i)))
-      (pick (eqb (kind-of ns i) 7) (range-node (getD (characters-at xs (place-of ns i)) 0 0) (getD (characters-at xs (last-place ns i)) 0 0))
-      (pick (eqb (kind-of ns i) 8) (uint-node (width-of xs ns i) (own-list i) (is-binder ns i) (binders-before ns i))
-      (pick (eqb (kind-of ns i) 9) eod
+      cond (eqb (kind-of ns i) 1) (alternative (parts-of ns i))
+      (cond (eqb (kind-of ns i) 2) (concatenation (parts-of ns i))
+      (cond (eqb (kind-of ns i) 3) (repetition (λ c v. passes (node-mark ns i) (counts-in (own-list i) v)) (passes (node-mark ns i) (static-counts (own-list i))) (is-fixed (node-mark ns i) (own-list i)) (i + 1))
+      (cond (eqb (kind-of ns i) 4) (switch (λ c v. first-true v (parts-of ns i)) (parts-of ns i))
+      (cond (eqb (kind-of ns i) 5) (opened rs (rule-of xs rs r (place-of ns i)))
+      (cond (eqb (kind-of ns i) 6) (literal-node (characters-at xs (place-of ns i)))
+      (cond (eqb (kind-of ns i) 7) (range-node (getD (characters-at xs (place-of ns i)) 0 0) (getD (characters-at xs (last-place ns i)) 0 0))
+      (cond (eqb (kind-of ns i) 8) (uint-node (width-of xs ns i) (own-list i) (is-binder ns i) (binders-before ns i))
+      (cond (eqb (kind-of ns i) 9) eod
       (alternative [])))))))))
 
 -- "The first is the start rule": its opening use is number 256. Of n nodes no number from n on is one: nothing derives it.
@@ -142,7 +141,7 @@ unfoldable pub grammar-of : (xs ns ts rs : List ℕ) → (n r : ℕ) → Grammar
 unfolding meant-node
 grammar-of xs ns ts rs n r =
     record {
-      node = λ i. pick (eqb i opening) (opened rs 0) (pick (ltb i n) (meant-node xs ns ts rs r i) (alternative []));
+      node = λ i. cond (eqb i opening) (opened rs 0) (cond (ltb i n) (meant-node xs ns ts rs r i) (alternative []));
       start = opening;
       context = first-context;
       values = replicate max-variables (pos 0);

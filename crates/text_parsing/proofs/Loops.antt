@@ -8,7 +8,7 @@ use mathlib.Core.List.{List, _++_}
 use native.Mathlib.Omega.{arith}
 use borrow.Author.Tests.{eqb-true}
 use lib.Dec.{eqb}
-use Rattle.text_header.proofs.Tests.{which}
+use Rattle.basis.proofs.Booleans.{which}
 use Rattle.text_parsing.specs.Terminals.{name-like, live}
 use Rattle.text_store.specs.Store.{add, put-term}
 use Rattle.text_parsing.specs.Symbols.{Symbol}

@@ -9,7 +9,7 @@ use native.Mathlib.Omega.{arith}
 use borrow.Author.Tests.{eqb-true}
 use lib.Dec.{eqb}
 use lib.ListN.{length}
-use Rattle.text_header.proofs.Tests.{which}
+use Rattle.basis.proofs.Booleans.{which}
 use Rattle.text_parsing.specs.Terminals.{terminal, terminal-of, terminals-from, terminals-after, live}
 use Rattle.text_store.specs.Store.{State}
 use Rattle.text_parsing.specs.Symbols.{Symbol}

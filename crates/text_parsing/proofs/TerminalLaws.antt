@@ -9,7 +9,7 @@ use native.Mathlib.Omega.{arith}
 use borrow.Author.Tests.{eqb-true, leb-true, leb-false, ltb-true}
 use lib.Dec.{eqb, leb, ltb}
 use lib.ListN.{length, drop, drop-of-length-le}
-use Rattle.text_header.proofs.Tests.{which}
+use Rattle.basis.proofs.Booleans.{which, either-way}
 use Rattle.text_tokens.specs.Names.{reserved-of, name-of}
 use Rattle.text_tokens.specs.Tokens.{gap-end, token, token-from, token-of}
 use Rattle.text_tokens.specs.declared.Kind.{Kind}
@@ -50,23 +50,18 @@ kind-live Kind.AtLeast = inr refl
 kind-live Kind.Fault = inr refl
 kind-live Kind.End = inl refl
 
--- what a choice is, where both are
-chosen : (P : ℕ → Type 0) (b : Bool) {x y : ℕ} → P x → P y → P (cond b x y)
-chosen P true p q = p
-chosen P false p q = q
-
 abbrev Live : ℕ → Type 0
 Live n = live n ≡ true
 
 name-live : (xs : List ℕ) (start end : ℕ) → Live (name-code xs start end)
 unfolding name-code
 name-live xs start end =
-    chosen Live (eqb (reserved-of (name-of xs start end)) 12) (chosen Live (opens-at xs end) refl refl)
-    (chosen Live (eqb (reserved-of (name-of xs start end)) 9) (chosen Live (opens-at xs end) refl refl) (chosen Live (eqb (reserved-of (name-of xs start end)) 10) refl refl))
+    either-way Live (eqb (reserved-of (name-of xs start end)) 12) (either-way Live (opens-at xs end) refl refl)
+    (either-way Live (eqb (reserved-of (name-of xs start end)) 9) (either-way Live (opens-at xs end) refl refl) (either-way Live (eqb (reserved-of (name-of xs start end)) 10) refl refl))
 
 literal-live : (xs : List ℕ) (start : ℕ) → Live (literal-code xs start)
 unfolding literal-code
-literal-live xs start = chosen Live (eqb (length (characters-at xs start)) 1) refl refl
+literal-live xs start = either-way Live (eqb (length (characters-at xs start)) 1) refl refl
 
 -- the terminal of a token
 pub record Seen (xs : List ℕ) (code start end : ℕ) (s : Terminal) : Type 0 where

@@ -9,7 +9,8 @@ use borrow.Author.Tests.{ltb-true}
 use lib.Dec.{ltb, eqb}
 use lib.ListN.{length}
 use Rattle.basis.specs.Limits.{max-nesting}
-use Rattle.text_header.proofs.Tests.{both-first, choice, picked}
+use Rattle.basis.proofs.Booleans.{both-first, picked}
+use Rattle.text_header.proofs.Tests.{choice}
 use Rattle.text_parsing.specs.Terminals.{is, is-name, begins, terminal-of, terminals, terminals-from}
 use Rattle.text_store.specs.Store.{State, nodes-of, terms-of, insert}
 use Rattle.text_parsing.specs.Symbols.{Symbol, want, sign, paren, primary, operand, factors, summands, calculation, item, item-tail, bound, exception, excluded, alternative, alternatives, value-set, counts, counts-tail, test, comparison, condition, joined, chain, atom, factor, concatenation, expression, marked, counts-end, members, branches, character-tail, last-character, width, field-set, bound-name, field-end, colon, case-end, cases, switch-end, rules, rule-end}

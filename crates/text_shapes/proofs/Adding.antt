@@ -9,7 +9,7 @@ use borrow.Author.Tests.{leb-false, le-leb}
 use lib.Dec.{leb}
 use lib.ListN.{length, getD, length-append}
 use Rattle.basis.specs.Limits.{max-terms}
-use Rattle.text_header.proofs.Tests.{picked}
+use Rattle.basis.proofs.Booleans.{picked}
 use Rattle.text_store.specs.Words.{term-start, is-use, terms-room}
 use Rattle.term_words.specs.Words.{termOf}
 use Rattle.term_words.specs.declared.Term.{Term}

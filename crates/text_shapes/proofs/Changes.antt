@@ -8,8 +8,9 @@ use mathlib.Core.Bool.{Bool, true, false, _&&_}
 use mathlib.Core.List.{List, [], _∷_}
 use native.Mathlib.Omega.{arith}
 use borrow.Author.Tests.{le-leb, ne-eqb}
+use Rattle.basis.proofs.Booleans.{both-first, both-second}
 use Rattle.text_header.specs.Bytes.{within}
-use Rattle.text_header.proofs.Tests.{both-first, both-second, within-low, within-high}
+use Rattle.text_header.proofs.Tests.{within-low, within-high}
 use Rattle.text_parsing.specs.Symbols.{Symbol, want, sign, paren, primary, operand, factors, summands, calculation, item, item-tail, bound, exception, excluded, alternative, alternatives, value-set, counts, counts-tail, test, comparison, condition, joined, chain, atom, factor, concatenation, expression, marked, counts-end, members, branches, character-tail, last-character, width, field-set, bound-name, field-end, colon, case-end, cases, switch-end, rules, rule-end}
 use Rattle.text_store.specs.Store.{State, nodes-of, terms-of, add, single, insert, condition-on, bind, close-rule}
 use Rattle.text_parsing.specs.Form.{chained}

@@ -8,7 +8,7 @@ use lib.Dec.{leb}
 use lib.ListN.{length}
 use Rattle.text_store.specs.Words.{nodes-room, terms-room, rules-room}
 use Rattle.basis.specs.Limits.{max-rules, max-constructs, max-variables, max-terms}
-use Rattle.text_header.proofs.Tests.{picked}
+use Rattle.basis.proofs.Booleans.{picked}
 use Rattle.text_parsing.specs.Symbols.{Symbol}
 use Rattle.text_store.specs.Store.{State, state, nodes-of, terms-of, counted, add, single, insert, condition-on, bind, close-rule, node-words, term-words, rule-words, binders-of, rules-of}
 use Rattle.text_productions.specs.Phrases.{Production, Phrases, nothing, then}

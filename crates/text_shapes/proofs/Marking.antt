@@ -3,16 +3,15 @@
 use Prim.Native.Nat.{ℕ, _+_, _-_, _≤_, _<_}
 use mathlib.Core.Path.{_≡_, refl, sym, ap, subst, _∙_}
 use mathlib.Core.Logic.{⊎-elim}
-use mathlib.Core.Bool.{Bool, true, false, cond}
+use mathlib.Core.Bool.{Bool, false, cond}
 use mathlib.Core.List.{List, [], _∷_, _++_}
 use native.Mathlib.Omega.{arith}
 use borrow.Author.Tests.{lt-ltb, le-ltb, ne-eqb, ltb-true, eqb-true, eqb-false}
 use lib.Dec.{ltb, eqb}
 use lib.ListN.{length, length-append}
 use Rattle.basis.specs.Limits.{max-terms}
-use Rattle.text_header.proofs.Tests.{which}
+use Rattle.basis.proofs.Booleans.{which, either-way}
 use Rattle.text_store.specs.Words.{term-start, term-tag, term-value, term-at, is-use, terms-room}
-use Rattle.term_words.specs.Numbers.{pick}
 use Rattle.term_words.specs.Words.{operationOf, signOf, termOf}
 use Rattle.term_words.specs.declared.Operation.{Operation}
 use Rattle.term_words.specs.declared.Term.{Term}
@@ -37,22 +36,18 @@ NoPart Term.And = Unit {0}
 NoPart (Term.Compare k) = Unit {0}
 NoPart Term.Bad = Unit {0}
 
-one-of : (P : Term → Type 0) (t : Bool) {x y : Term} → P x → P y → P (pick t x y)
-one-of P true p q = p
-one-of P false p q = q
-
 sign-no-part : (w : ℕ) → NoPart (signOf w)
 sign-no-part w =
-    one-of NoPart (eqb w 7) tt (one-of NoPart (eqb w 8) tt (one-of NoPart (eqb w 9) tt (one-of NoPart (eqb w 10) tt (one-of NoPart (eqb w 11) tt
-    (one-of NoPart (eqb w 12) tt (one-of NoPart (eqb w 13) tt (one-of NoPart (eqb w 14) tt (one-of NoPart (eqb w 15) tt (one-of NoPart (eqb w 16) tt
-    (one-of NoPart (eqb w 17) tt (one-of NoPart (eqb w 18) tt (one-of NoPart (eqb w 19) tt tt))))))))))))
+    either-way NoPart (eqb w 7) tt (either-way NoPart (eqb w 8) tt (either-way NoPart (eqb w 9) tt (either-way NoPart (eqb w 10) tt (either-way NoPart (eqb w 11) tt
+    (either-way NoPart (eqb w 12) tt (either-way NoPart (eqb w 13) tt (either-way NoPart (eqb w 14) tt (either-way NoPart (eqb w 15) tt (either-way NoPart (eqb w 16) tt
+    (either-way NoPart (eqb w 17) tt (either-way NoPart (eqb w 18) tt (either-way NoPart (eqb w 19) tt tt))))))))))))
 
 part-tag : (w low : ℕ) (o : Operation) → termOf w low 0 ≡ Term.Part o → w < 7
 unfolding termOf
 part-tag w low o e =
     ⊎-elim (λ z. ltb-true w 7 z)
     (λ (z : ltb w 7 ≡ false).
-    let n : NoPart (termOf w low 0) = rw (z, termOf) (one-of NoPart (ltb w 32) (sign-no-part w) tt)
+    let n : NoPart (termOf w low 0) = rw (z, termOf) (either-way NoPart (ltb w 32) (sign-no-part w) tt)
     in absurd (subst NoPart e n))
     (which (ltb w 7))
 

@@ -9,7 +9,8 @@ use native.Mathlib.Omega.{arith}
 use lib.Dec.{ltb, eqb}
 use lib.ListN.{length}
 use Rattle.basis.specs.Limits.{max-nesting}
-use Rattle.text_header.proofs.Tests.{choice, picked}
+use Rattle.basis.proofs.Booleans.{picked}
+use Rattle.text_header.proofs.Tests.{choice}
 use Rattle.text_tokens.specs.Tokens.{token-of}
 use Rattle.text_tokens.proofs.Bounds as bounds
 use Rattle.text_parsing.specs.Terminals.{code-of, is, is-name, begins, terminal-of, terminals, terminals-from}

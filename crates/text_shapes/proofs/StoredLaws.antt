@@ -10,7 +10,7 @@ use borrow.Author.Tests.{ltb-true, ltb-false, leb-true, eqb-true, eqb-false, ne-
 use lib.Dec.{eqb, ltb, leb}
 use lib.ListN.{length, length-replicate}
 use Rattle.basis.specs.Limits.{max-constructs, max-terms}
-use Rattle.text_header.proofs.Tests.{which, picked, both-first, both-second}
+use Rattle.basis.proofs.Booleans.{which, picked, both-first, both-second}
 use Rattle.text_store.specs.Words.{node-start, term-start, node-word, term-word, term-tag, is-use, nodes-room, terms-room}
 use Rattle.text_store.proofs.Numbers.{at-kind, at-mark, at-own-from, at-own-end, at-tag, at-value, at-term}
 use Rattle.text_parsing.specs.Symbols.{Symbol, rules}

@@ -14,7 +14,7 @@ use lib.ListN.{length, getD, set, replicate, List·getD-eq-default}
 use lib.Seq.{sets}
 use borrow.Author.Tests.{ltb-true, ltb-false}
 use Rattle.basis.specs.Limits.{max-constructs, max-terms}
-use Rattle.text_header.proofs.Tests.{which, picked}
+use Rattle.basis.proofs.Booleans.{which, picked}
 use Rattle.text_store.specs.Store.{State, state, blank, nodes-of, counted, marked-tag, put-term, add, put-single, single, room, put-node, insert, leaf, put-condition, condition-on, bind, put-rule, close-rule, node-words, term-words, rule-words}
 use Rattle.text_store.specs.Words.{place-of, second-place, term-at, term-origin, named-at, nodes-room, terms-room, rules-kept, rules-room}
 use Rattle.text_store.proofs.Rooms.{length-room, room-below, room-above, room-beyond}

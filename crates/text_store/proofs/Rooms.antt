@@ -12,7 +12,7 @@ use lib.ListN.{length, getD, set, take, drop, length-set, length-append, length-
 use lib.Seq.{getD-set-same, getD-set-other, getD-take, getD-drop, getD-append-add, ext-getD}
 use Rattle.text_store.specs.Words.{nodes-room}
 use Rattle.basis.specs.Limits.{max-constructs}
-use Rattle.text_header.proofs.Tests.{which}
+use Rattle.basis.proofs.Booleans.{which}
 use Rattle.text_store.specs.Store.{over, room}
 
 -- ---- words written over others

@@ -11,7 +11,7 @@ use lib.Dec.{ltb, leb}
 use lib.ListN.{length, getD, set, length-set, getD-replicate, List·getD-eq-default}
 use lib.Seq.{getD-set-same, getD-set-other, sets, length-sets}
 use Rattle.basis.specs.Limits.{max-constructs, max-terms}
-use Rattle.text_header.proofs.Tests.{picked}
+use Rattle.basis.proofs.Booleans.{picked}
 use Rattle.text_store.specs.Store.{blank, node-words, term-words, marked-tag, put-term, put-single, put-words, room, put-node, put-condition, put-rule}
 use Rattle.text_store.proofs.Rooms.{length-room, room-below, room-above}
 use Rattle.text_store.specs.Words.{node-start, term-start, rule-start, node-word, term-word, rule-word, condition-from, condition-end, term-tag, nodes-room, terms-room, rules-kept, rules-room}

@@ -9,7 +9,7 @@ use native.Mathlib.Omega.{arith}
 use borrow.Author.Tests.{ne-eqb, lt-ltb, le-ltb}
 use lib.Dec.{eqb}
 use Rattle.basis.specs.Limits.{max-nesting, max-constructs}
-use Rattle.text_header.proofs.Tests.{which}
+use Rattle.basis.proofs.Booleans.{which}
 use Rattle.text_parsing.specs.Terminals.{live}
 use Rattle.text_store.specs.Store.{State, counted, put-node, put-condition}
 use Rattle.text_parsing.specs.Symbols.{Symbol, want, condition, atom, factor, concatenation, expression, marked, members, branches, colon, case-end, cases, switch-end}

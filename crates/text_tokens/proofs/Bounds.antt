@@ -10,11 +10,12 @@ use borrow.Author.Tests.{lt-ltb, ltb-true, ltb-false, leb-true, eqb-true, eqb-fa
 use lib.Dec.{leb, ltb, eqb}
 use lib.ListN.{length, getD, drop, length-drop, List·getD-eq-default}
 use Rattle.basis.specs.Limits.{max-name-bytes, max-literal-bytes}
+use Rattle.basis.proofs.Booleans.{both-first, both-second, which, picked}
 use Rattle.text_header.specs.Bytes.{is-letter, is-digit, lower-case, in-radix}
 use Rattle.text_header.specs.Spans.{span-end}
 use Rattle.text_header.specs.declared.Class.{Class}
 use Rattle.text_header.proofs.Runs.{span-turn, span-grows, span-within}
-use Rattle.text_header.proofs.Tests.{both-first, both-second, within-low, within-high, which, picked}
+use Rattle.text_header.proofs.Tests.{within-low, within-high}
 use Rattle.text_literals.specs.Literals.{is-quote, literal-at, is-right, characters-at}
 use Rattle.text_literals.specs.declared.Part.{Part}
 use Rattle.text_literals.proofs.Reaches.{reach-grows, reach-fits}

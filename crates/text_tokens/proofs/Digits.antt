@@ -10,9 +10,9 @@ use native.Mathlib.Nat.{div-lt-iff-lt-mul, le-div-iff-mul-le, mul-le-mul-right}
 use borrow.Author.Tests.{leb-true, leb-false}
 use lib.Dec.{leb}
 use lib.ListN.{length, getD, drop, drop-of-length-le}
+use Rattle.basis.proofs.Booleans.{which}
 use Rattle.text_header.specs.Bytes.{digit-of, in-radix}
 use Rattle.text_header.proofs.Runs.{next}
-use Rattle.text_header.proofs.Tests.{which}
 use Rattle.text_tokens.specs.Numbers.{digits-value, capped}
 
 -- one digit more leaves a number within the cap exactly where the number is within the quotient

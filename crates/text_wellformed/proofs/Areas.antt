@@ -10,7 +10,7 @@ use borrow.Author.Tests.{ltb-true, ltb-false}
 use lib.Dec.{ltb}
 use lib.ListN.{length, getD, length-append, length-map, List·getD-append, List·getD-map}
 use lib.Seq.{getD-append-add}
-use Rattle.text_header.proofs.Tests.{which}
+use Rattle.basis.proofs.Booleans.{which}
 use Rattle.table_layout.specs.Places.{word}
 use Rattle.text_store.proofs.StoreLaws.{sets-below, sets-above, sets-at}
 use Rattle.text_encoding.specs.Lists.{flat, sum, narrow, written}

@@ -9,10 +9,10 @@ use native.Mathlib.Omega.{arith}
 use borrow.Author.Tests.{lt-ltb, eq-eqb, eqb-true, ne-eqb}
 use lib.Dec.{eqb, ltb}
 use Rattle.basis.specs.Limits.{max-variables}
-use Rattle.text_header.proofs.Tests.{which}
+use Rattle.basis.proofs.Booleans.{which}
 use Rattle.table_layout.specs.Places.{word, construct-word, variables-at}
 use Rattle.table_layout.specs.Held.{size-of}
-use Rattle.table_layout.specs.Constructs.{both, constructAt}
+use Rattle.table_layout.specs.Constructs.{constructAt}
 use Rattle.table_wellformed.specs.Checks.{all-zero, size-at, walk}
 use Rattle.table_wellformed.specs.Rules
 use Rattle.table_wellformed.specs.Rules.{is-concatenation, variable-laid, member-laid, next-variable, binders-laid}
@@ -106,7 +106,7 @@ module _ {xs ns ts rs : List ℕ} {n t b r : ℕ} {ws : List ℕ} (W : Words xs 
         in let z : size-at ws i ≡ m - i = ap size-of (K i q) ∙ size-meant rs r t
         in let y : i + size-at ws i ≡ m = omega arith
         in let x : next-variable ws i (binders-before ns i) ≡ binders-before ns m = member-next i q ∙ sym (tree-binders N R k below inside t s l (omega arith) out)
-        in let v : both (ltb 0 (size-at ws i)) (member-laid ws i (binders-before ns i)) ≡ true = rw (lt-ltb 0 (size-at ws i) (omega arith)) (member-passes i q)
+        in let v : (ltb 0 (size-at ws i) && member-laid ws i (binders-before ns i)) ≡ true = rw (lt-ltb 0 (size-at ws i) (omega arith)) (member-passes i q)
         in one-step ws (member-laid ws) (next-variable ws) (λ j x. eqb x (binders-before ns e)) e fuel i (binders-before ns i) true (omega arith) v ∙ rw (y, x) refl
 
     forest-walked : (fuel : ℕ) {many i e f g β : ℕ} → Holds xs ns ts (forest many) i e f g β → first-node rs k ≤ i → e ≤ last-node rs k → e ≤ i + fuel → ((j : ℕ) → i ≤ j → top ns rs k j ≡ false) → walked fuel e i (binders-before ns i) ≡ true

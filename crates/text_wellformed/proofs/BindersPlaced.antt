@@ -8,7 +8,7 @@ use mathlib.Core.List.{List}
 use native.Mathlib.Omega.{arith}
 use borrow.Author.Tests.{lt-ltb, eqb-true, ne-eqb}
 use lib.Dec.{eqb}
-use Rattle.text_header.proofs.Tests.{which, both-first, both-second}
+use Rattle.basis.proofs.Booleans.{which, both-first, both-second, neither-second}
 use Rattle.text_wellformed.proofs.LeastLaws.{no-place}
 use Rattle.text_shapes.specs.NodeShapes.{NameAt, tree, Holds, literal-tree, range-tree, use-tree, eod-tree, uint-tree, marked-tree, counted-tree, chain-tree, switch-tree}
 use Rattle.text_names.specs.Counting.{nowhere}
@@ -18,7 +18,6 @@ use Rattle.text_names.specs.Counting.{place-if}
 use Rattle.text_encoding.specs.Numbers.{binders-before}
 use Rattle.text_wellformed.specs.Context.{Readable, Nodes}
 use Rattle.text_wellformed.proofs.Counting.{any-all}
-use Rattle.text_wellformed.proofs.Tests.{or-second}
 use Rattle.text_wellformed.proofs.Names.{name-placed}
 use Rattle.text_wellformed.proofs.NoFaults.{no-node-fault, binders-next}
 use Rattle.text_wellformed.proofs.NodesMeant.{tree-size}
@@ -75,8 +74,8 @@ module _ {xs ns ts rs : List ℕ} {n t b r : ℕ} (N : Nodes xs ns ts n t) (R : 
       second-place (eqb (kind-of ns i) 5) (is-binder ns i) u (place-if f (bound-at ns i)) (ne-eqb (kind-of ns i) 5 (λ z. omega arith)) e (omega (arith, no-node-fault R k i below (omega arith) h))
       in let z : f ≡ false = no-place f (bound-at ns i) y p
       in let x : is-misplaced ns (first-node rs k) i ≡ false =
-      or-second (bound-between xs ns (first-node rs k) i (bound-at ns i)) (is-misplaced ns (first-node rs k) i) (or-second (is-reserved xs (bound-at ns i)) (bound-between xs ns (first-node rs k) i (bound-at ns i) || is-misplaced ns (first-node rs k) i) z)
-      in any-all (i - first-node rs k) (first-node rs k) (held ns (first-node rs k) i) (or-second (not (eqb (how-bound ns i) 1)) (held-between ns (first-node rs k) i) x) j l (omega arith)
+      neither-second (bound-between xs ns (first-node rs k) i (bound-at ns i)) (is-misplaced ns (first-node rs k) i) (neither-second (is-reserved xs (bound-at ns i)) (bound-between xs ns (first-node rs k) i (bound-at ns i) || is-misplaced ns (first-node rs k) i) z)
+      in any-all (i - first-node rs k) (first-node rs k) (held ns (first-node rs k) i) (neither-second (not (eqb (how-bound ns i) 1)) (held-between ns (first-node rs k) i) x) j l (omega arith)
 
   -- a tree other than the top concatenation has no binder but its root
   pub inner-free : {j m f g β : ℕ} → Holds xs ns ts tree j m f g β → first-node rs k ≤ j → m ≤ last-node rs k → top ns rs k j ≡ false → (i : ℕ) → j + 1 ≤ i → i < m → is-binder ns i ≡ false

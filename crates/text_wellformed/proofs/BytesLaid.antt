@@ -3,17 +3,17 @@
 use Prim.Native.Nat.{ℕ, zero, suc, _+_, _*_, _/_, _%_, _^_, _≤_, _<_}
 use mathlib.Core.Path.{_≡_, refl, ap, _∙_}
 use mathlib.Core.Logic.{⊎-elim}
-use mathlib.Core.Bool.{Bool, true, false}
+use mathlib.Core.Bool.{Bool, true, false, cond}
 use mathlib.Core.List.{List, [], _∷_}
 use native.Mathlib.Omega.{arith}
 use borrow.Author.Tests.{lt-ltb, eqb-true, ltb-false}
 use lib.Dec.{ltb, eqb}
 use lib.ListN.{length, getD, getD-replicate, List·getD-eq-default}
 use Rattle.basis.specs.Limits.{max-literal-bytes}
-use Rattle.text_header.proofs.Tests.{which}
+use Rattle.basis.proofs.Booleans.{which}
 use Rattle.text_literals.specs.Literals.{characters-at}
 use Rattle.table_layout.specs.Places.{word, literals-at}
-use Rattle.table_layout.specs.Constructs.{pick, constructAt}
+use Rattle.table_layout.specs.Constructs.{constructAt}
 use Rattle.table_wellformed.specs.Laid.{literal-length, literal-byte, byte-laid}
 use Rattle.text_store.specs.Words.{kind-of, place-of}
 use Rattle.text_encoding.specs.Lists.{flat, narrow}
@@ -42,7 +42,7 @@ module _ (bytes : List ℕ) (small : (k : ℕ) → getD bytes k 0 < 128) where
       in let z : k + 0 ≡ k = omega arith
       in rw w (below-four (λ (p : ℕ). packed bytes k / 256 ^ p % 256 ≡ getD bytes (k + p) 0) (rw z (omega arith)) (omega arith) (omega arith) (omega arith) q h)
 
-  byte-tested : (b k : ℕ) → b ≡ getD bytes k 0 → ltb b (pick (ltb k (length bytes)) 128 1) ≡ true
+  byte-tested : (b k : ℕ) → b ≡ getD bytes k 0 → ltb b (cond (ltb k (length bytes)) 128 1) ≡ true
   byte-tested b k e =
       ⊎-elim (λ (t : ltb k (length bytes) ≡ true). rw t (lt-ltb b 128 (omega (arith, small k))))
       (λ (t : ltb k (length bytes) ≡ false). let z : getD bytes k 0 ≡ 0 = List·getD-eq-default bytes 0 (ltb-false k (length bytes) t) in rw t (lt-ltb b 1 (omega arith)))
@@ -64,7 +64,7 @@ length-six : (xs ns rs : List ℕ) (r i : ℕ) → kind-of ns i ≡ 6 → litera
 unfolding meant
 length-six xs ns rs r i e = rw e refl
 
-no-byte : (t : Bool) → ltb 0 (pick t 128 1) ≡ true
+no-byte : (t : Bool) → ltb 0 (cond t 128 1) ≡ true
 no-byte true = refl
 no-byte false = refl
 

@@ -9,7 +9,7 @@ use borrow.Author.Tests.{lt-ltb, le-leb}
 use lib.Dec.{leb, ltb, eqb}
 use lib.ListN.{getD}
 use Rattle.basis.specs.Limits.{max-terms}
-use Rattle.text_header.proofs.Tests.{picked}
+use Rattle.basis.proofs.Booleans.{picked}
 use Rattle.table_layout.specs.Places.{construct-word}
 use Rattle.table_wellformed.specs.Parts.{conditioned, unconditioned}
 use Rattle.text_shapes.specs.NodeShapes.{Unconditioned, Conditioned}

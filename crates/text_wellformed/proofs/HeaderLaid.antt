@@ -9,11 +9,12 @@ use borrow.Author.Tests.{le-leb, eq-eqb}
 use lib.Dec.{leb}
 use lib.ListN.{length}
 use Rattle.basis.specs.Limits.{max-rules, max-constructs, max-variables, max-terms, max-weight}
+use Rattle.basis.proofs.Booleans.{both-pass}
 use Rattle.table_layout.specs.Places.{table-words, mark-of, rule-count, construct-count, variable-count, term-count, weight-of, rules-at, variables-at, constructs-at, terms-at, literals-at, sets-at}
 use Rattle.table_wellformed.specs.Laid.{headed, rest-zero}
 use Rattle.text_encoding.specs.Numbers.{binders-before, condition-start}
 use Rattle.text_wellformed.specs.Context.{Words}
-use Rattle.text_wellformed.proofs.Passing.{both-pass, limited-pass, zeros-pass}
+use Rattle.text_wellformed.proofs.Passing.{limited-pass, zeros-pass}
 
 module _ {xs ns ts rs : List ℕ} {n r : ℕ} {ws : List ℕ} (w : Words xs ns ts rs n r ws) where
   pub long-enough : leb table-words (length ws) ≡ true

@@ -3,22 +3,21 @@
 use Prim.Native.Nat.{ℕ, _+_, _*_, _≤_, _<_}
 use mathlib.Core.Path.{_≡_, refl, ap, subst, _∙_}
 use mathlib.Core.Logic.{_⊎_, inl, inr, ⊎-elim}
-use mathlib.Core.Bool.{Bool, true, cond}
+use mathlib.Core.Bool.{true, cond}
 use mathlib.Core.List.{List}
 use native.Mathlib.Omega.{arith}
 use borrow.Author.Tests.{lt-ltb, eq-eqb}
 use lib.Dec.{ltb, eqb}
 use lib.ListN.{length, getD}
 use Rattle.basis.specs.Limits.{max-constructs}
-use Rattle.text_header.proofs.Tests.{picked}
-use Rattle.term_words.specs.declared.Kind.{Kind}
+use Rattle.basis.proofs.Booleans.{picked, both-pass}
 use Rattle.text_literals.specs.Literals.{characters-at}
 use Rattle.table_layout.specs.Places.{word, construct-word, constructs-at}
-use Rattle.table_layout.specs.Constructs.{both, constructAt}
+use Rattle.table_layout.specs.Constructs.{constructAt}
 use Rattle.table_layout.specs.declared.Construct.{Construct}
 use Rattle.table_layout.specs.declared.Passes.{Passes}
 use Rattle.table_wellformed.specs.Checks.{size-at}
-use Rattle.table_wellformed.specs.Lists.{list-formed, counts-formed}
+use Rattle.table_wellformed.specs.Lists.{counts-formed}
 use Rattle.table_wellformed.specs.Rules.{named-back}
 use Rattle.table_wellformed.specs.Laid.{operands-zero, second-part, construct-end, chain-laid, passes-laid, repetition-laid, switch-laid, kind-laid}
 use Rattle.table_wellformed.proofs.Every.{every-turn, every-end}
@@ -56,9 +55,6 @@ module _ (ws : List ℕ) (i : ℕ) where
   zero-2 w = zero-more 2 (omega arith) (w .word-2) (zero-3 w)
 
 -- ---- each kind of node
-
-two-hold : (p q : Bool) → p ≡ true → q ≡ true → both p q ≡ true
-two-hold p q a c = rw (a, c)
 
 module _ {xs ns ts rs ws : List ℕ} {n t b r : ℕ} (known-text : Readable xs ns ts rs n t b r) (words : Words xs ns ts rs n r ws) (quiet : Quiet ns n) where
   -- the second of several parts begins before the end
@@ -163,7 +159,7 @@ module _ {xs ns ts rs ws : List ℕ} {n t b r : ℕ} (known-text : Readable xs n
         let back : named-back ws i (cond (is-binder ns i) (binders-before ns i + 1) 0) ≡ true =
         picked (λ (m : ℕ). named-back ws i m ≡ true) (is-binder ns i) (λ z. named i inside z) (λ z. refl) in
         laid-as (Construct.Uint (width-of xs ns i) (own-start ns i) (own-start ns i + own-length ns i) (cond (is-binder ns i) (binders-before ns i + 1) 0)) (rw k)
-        (two-hold (named-back ws i (cond (is-binder ns i) (binders-before ns i + 1) 0)) (list-formed Kind.Set ws (own-start ns i) (own-start ns i + own-length ns i)) back (formed .set i inside k))
+        (both-pass back (formed .set i inside k))
 
   -- ---- any node
 

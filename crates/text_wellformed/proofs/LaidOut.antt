@@ -8,6 +8,7 @@ use mathlib.Core.List.{List}
 use native.Mathlib.Omega.{arith}
 use lib.ListN.{length, getD}
 use Rattle.basis.specs.Limits.{max-variables, max-terms, max-literal-bytes}
+use Rattle.basis.proofs.Booleans.{both-pass}
 use Rattle.text_literals.specs.Literals.{characters-at}
 use Rattle.text_literals.proofs.Sizes.{character-small}
 use Rattle.table_layout.specs.Places.{construct-count}
@@ -23,7 +24,6 @@ use Rattle.text_encoding.specs.Encoded.{encoded}
 use Rattle.text_wellformed.specs.Context.{Readable, Words, Quiet}
 use Rattle.text_wellformed.specs.Meant.{Known, Formed, NamedBack, BytesLaid}
 use Rattle.text_wellformed.proofs.EncodedWords.{encoded-words}
-use Rattle.text_wellformed.proofs.Passing.{both-pass}
 use Rattle.text_wellformed.proofs.HeaderLaid.{long-enough, rest-laid, header-laid}
 use Rattle.text_wellformed.proofs.ListsLaid.{lists-stand}
 use Rattle.text_wellformed.proofs.TermsLaid.{terms-stand}

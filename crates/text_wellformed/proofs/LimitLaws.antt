@@ -10,8 +10,7 @@ use borrow.Author.Tests.{leb-true, leb-false, ltb-false, le-leb}
 use lib.Dec.{leb, ltb}
 use lib.ListN.{length, length-replicate}
 use Rattle.basis.specs.Limits.{max-text-bytes, max-rules, max-constructs, max-variables, max-terms}
-use Rattle.text_header.proofs.Tests.{which, picked}
-use Rattle.text_wellformed.proofs.Tests.{or-first, or-second}
+use Rattle.basis.proofs.Booleans.{which, picked, neither-first, neither-second}
 use Rattle.text_parsing.specs.Terminals.{terminals-from}
 use Rattle.text_parsing.specs.Symbols.{rules}
 use Rattle.text_store.specs.Store.{State, state, nodes-of, terms-of, binders-of, rules-of, rule-words, counted, close-rule, blank}
@@ -67,13 +66,13 @@ record Within (rs : List ℕ) (k : ℕ) : Type 0 where
 
 within : (rs : List ℕ) (k : ℕ) → passed-in rs k ≡ false → Within rs k
 within rs k e =
-    let f = or-second (leb max-rules k) _ e in
-    let g = or-second (ltb max-constructs (last-node rs k)) _ f in
+    let f = neither-second (leb max-rules k) _ e in
+    let g = neither-second (ltb max-constructs (last-node rs k)) _ f in
     record {
-      rules = leb-false max-rules k (or-first (leb max-rules k) _ e);
-      nodes = ltb-false max-constructs (last-node rs k) (or-first (ltb max-constructs (last-node rs k)) _ f);
-      terms = ltb-false max-terms (terms-at-end rs k) (or-first (ltb max-terms (terms-at-end rs k)) _ g);
-      binders = ltb-false max-variables (binders-at-end rs k) (or-second (ltb max-terms (terms-at-end rs k)) _ g);
+      rules = leb-false max-rules k (neither-first (leb max-rules k) _ e);
+      nodes = ltb-false max-constructs (last-node rs k) (neither-first (ltb max-constructs (last-node rs k)) _ f);
+      terms = ltb-false max-terms (terms-at-end rs k) (neither-first (ltb max-terms (terms-at-end rs k)) _ g);
+      binders = ltb-false max-variables (binders-at-end rs k) (neither-second (ltb max-terms (terms-at-end rs k)) _ g);
     }
 
 pub limits : (xs ns ts rs : List ℕ) (n t b r : ℕ) → run (terminals-from xs 0) blank (rules false ∷ []) ≡ right (state ns ts rs n t b r) → length xs ≤ max-text-bytes → refusal-5 rs r ≡ nowhere → (n ≤ max-constructs) × (t ≤ max-terms) × (b ≤ max-variables) × (r ≤ max-rules)

@@ -12,7 +12,7 @@ use lib.Dec.{eqb, ltb}
 use lib.ListN.{getD}
 use lib.Seq.{getD-append-add}
 use Rattle.basis.specs.Limits.{max-terms}
-use Rattle.text_header.proofs.Tests.{which, picked}
+use Rattle.basis.proofs.Booleans.{which, picked, both-pass}
 use Rattle.table_layout.specs.Places.{term-count, construct-word}
 use Rattle.table_layout.specs.Constructs.{constructAt}
 use Rattle.table_layout.specs.Attributes.{counts-list}
@@ -27,7 +27,6 @@ use Rattle.text_encoding.specs.Encoded.{start-word, end-word, operands, constru
 use Rattle.text_wellformed.specs.Context.{Words, Quiet}
 use Rattle.text_wellformed.specs.Meant.{passes-meant, meant, Known}
 use Rattle.text_wellformed.proofs.Areas.{sum-next, sum-part}
-use Rattle.text_wellformed.proofs.Passing.{both-pass}
 
 -- ---- a list of c terms from p on, with the words `start` and `end`
 

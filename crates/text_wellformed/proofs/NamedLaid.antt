@@ -2,12 +2,11 @@
 -- Assumes nothing.
 use Prim.Native.Nat.{ℕ, _<_, _≤_}
 use mathlib.Core.Path.{_≡_}
-use mathlib.Core.Bool.{true}
+use mathlib.Core.Bool.{true, _&&_}
 use mathlib.Core.List.{List}
 use native.Mathlib.Omega.{arith}
 use Rattle.basis.specs.Limits.{max-variables, max-terms}
 use Rattle.table_layout.specs.Places.{rule-count}
-use Rattle.table_layout.specs.Constructs.{both}
 use Rattle.table_wellformed.specs.Rules.{binders-laid, uses-laid, names-laid}
 use Rattle.text_names.specs.Counting.{nowhere}
 use Rattle.text_store.specs.Words.{term-tag, term-at, is-use}
@@ -25,5 +24,5 @@ module _ {xs ns ts rs : List ℕ} {n t b r : ℕ} {ws : List ℕ} (W : Words xs 
 
   pub names-laid-in : condition-start ns n ≤ max-terms → ((k : ℕ) → k < t → is-use (term-tag ts k) ≡ true → term-at ts k < nowhere) → names-laid ws ≡ true
   names-laid-in few-terms placed =
-      from-to-all 0 (rule-count ws) (λ k. both (binders-laid ws k) (uses-laid ws k))
+      from-to-all 0 (rule-count ws) (λ k. binders-laid ws k && uses-laid ws k)
       (λ k l m. let h : k < r = omega (arith, W .rules-are) in rw (binders-laid-in W K N R few-binders k h) (uses-laid-in W K N R few-binders few-terms placed k h))

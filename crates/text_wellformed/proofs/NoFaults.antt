@@ -6,7 +6,7 @@ use mathlib.Core.Bool.{Bool, true, false, not, cond, _&&_}
 use mathlib.Core.List.{List}
 use native.Mathlib.Omega.{arith}
 use borrow.Author.Tests.{not-false}
-use Rattle.text_header.proofs.Tests.{both-first}
+use Rattle.basis.proofs.Booleans.{both-first, neither-second, neither-first, both-rest}
 use Rattle.text_wellformed.proofs.Sums.{sum-below, total-last}
 use Rattle.text_wellformed.proofs.LeastLaws.{no-place}
 use Rattle.text_wellformed.proofs.Standing.{name-inside}
@@ -17,7 +17,6 @@ use Rattle.text_names.specs.Names.{is-reserved, binds, bound-between, variable-
 use Rattle.text_encoding.specs.Numbers.{first-at, binds-one, binders-before, binder-of, variable-of, rule-of}
 use Rattle.text_wellformed.specs.Context.{Readable}
 use Rattle.text_wellformed.proofs.Counting.{least-all, Found, found}
-use Rattle.text_wellformed.proofs.Tests.{or-second, or-first, and-rest}
 use Rattle.text_wellformed.proofs.RulesAt.{Owner, first-at-owner, owner}
 
 -- ---- binders before a node
@@ -50,8 +49,8 @@ use-bound xs ns ts a i f g none q l m used placed =
     in let u : Bool = is-use (term-tag ts q)
     in let v : Bool = variable-fault xs ns a i p
     in let k : (u && v) ≡ false = no-place (u && v) p (least-all (g - f) f (λ k. place-if (is-use (term-tag ts k) && variable-fault xs ns a i (term-at ts k)) (term-at ts k)) none q l (omega arith)) placed
-    in let w : v ≡ false = and-rest u v used k
-    in let y : bound-between xs ns a i p ≡ true = not-false (bound-between xs ns a i p) (or-second (is-reserved xs p) (not (bound-between xs ns a i p)) w)
+    in let w : v ≡ false = both-rest u v used k
+    in let y : bound-between xs ns a i p ≡ true = not-false (bound-between xs ns a i p) (neither-second (is-reserved xs p) (not (bound-between xs ns a i p)) w)
     in let z : Found (i - a) a (binds xs ns p) (binder-of xs ns a i p) = found (i - a) a (binds xs ns p) y
     in record {
       from = z .from;
@@ -93,7 +92,7 @@ module _ {xs ns ts rs : List ℕ} {n t b r : ℕ} (R : Readable xs ns ts rs n t 
       in let f : Bool = use-fault xs ns rs r (first-node rs (o .rule)) (last-node rs (o .rule)) p
       in let q : nowhere ≤ name-place xs ns rs r (first-node rs (o .rule)) (last-node rs (o .rule)) i = omega (arith, no-node-fault (o .rule) i (o .below) (o .from) (o .to))
       in let w : f ≡ false = no-place f p (subst (λ (m : ℕ). nowhere ≤ m) (rw k) q) (omega (arith, name-inside at, R .short))
-      in let v : rule-named xs rs r p ≡ true = not-false (rule-named xs rs r p) (or-first (not (rule-named xs rs r p)) _ (or-second (is-reserved xs p) _ w))
+      in let v : rule-named xs rs r p ≡ true = not-false (rule-named xs rs r p) (neither-first (not (rule-named xs rs r p)) _ (neither-second (is-reserved xs p) _ w))
       in let z : r - 0 ≡ r = omega arith
       in let y : Found r 0 (λ j. same-name xs (named-at rs j) p) (rule-of xs rs r p) = found r 0 (λ j. same-name xs (named-at rs j) p) (rw z at v)
       in omega (arith, y .below)

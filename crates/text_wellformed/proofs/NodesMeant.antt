@@ -8,7 +8,7 @@ use mathlib.Core.List.{List}
 use native.Mathlib.Omega.{arith}
 use borrow.Author.Tests.{eqb-true, eqb-false}
 use lib.Dec.{eqb}
-use Rattle.text_header.proofs.Tests.{which, picked}
+use Rattle.basis.proofs.Booleans.{which, picked}
 use Rattle.table_layout.specs.Attributes.{counts-list}
 use Rattle.table_layout.specs.Held.{size-of}
 use Rattle.table_layout.specs.declared.Construct.{Construct}

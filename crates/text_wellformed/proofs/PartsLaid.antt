@@ -3,17 +3,16 @@
 use Prim.Native.Nat.{ℕ, zero, suc, _+_, _-_, _≤_, _<_}
 use mathlib.Core.Path.{_≡_, refl, sym, ap, _∙_}
 use mathlib.Core.Logic.{⊎-elim}
-use mathlib.Core.Bool.{Bool, true, false}
+use mathlib.Core.Bool.{Bool, true, false, _&&_}
 use mathlib.Core.List.{List}
 use native.Mathlib.Omega.{arith}
 use borrow.Author.Tests.{lt-ltb, eq-eqb}
 use lib.Dec.{ltb, eqb}
-use Rattle.table_layout.specs.Constructs.{both}
+use Rattle.basis.proofs.Booleans.{either-second}
 use Rattle.table_layout.specs.Held.{size-of}
 use Rattle.table_wellformed.specs.Checks.{size-at, walk}
 use Rattle.table_wellformed.specs.Parts.{part-laid, parts-laid, unconditioned, conditioned}
 use Rattle.table_wellformed.proofs.Walks.{one-step, at-once}
-use Rattle.text_wellformed.proofs.Tests.{either-second}
 use Rattle.text_shapes.specs.NodeShapes.{Unconditioned, Conditioned, tree, forest, cases, further, Holds, literal-tree, range-tree, use-tree, eod-tree, uint-tree, marked-tree, counted-tree, chain-tree, switch-tree, no-trees, more-trees, a-case, no-further, a-default, more-cases}
 use Rattle.text_store.specs.Words.{kind-of, node-size}
 use Rattle.text_wellformed.specs.Context.{Readable, Words, TreeAt, Quiet}
@@ -86,7 +85,7 @@ module _ {xs ns ts rs ws : List ℕ} {n t b r : ℕ} (known-text : Readable xs n
       let a : ltb first j ≡ true = lt-ltb first j l in
       let c : eqb (j + size-at ws j) end ≡ true = eq-eqb (j + size-at ws j) end (omega (arith, tree-below x)) in
       let d : unconditioned ws j ≡ true = is-unconditioned known-text words quiet j (omega (arith, tree-below x)) u in
-      either-second (conditioned ws j) (both (both (ltb first j) (eqb (j + size-at ws j) end)) (unconditioned ws j)) (rw (a, c, d))
+      either-second (conditioned ws j) ((ltb first j && eqb (j + size-at ws j) end) && unconditioned ws j) (rw (a, c, d))
 
   further-walks : {j e f g β : ℕ} (first : ℕ) → e ≤ n → first < j → Holds xs ns ts further j e f g β → Walks true first e j
   further-walks first h l (no-further {i = i} b) fuel k = walks-end true first i fuel k

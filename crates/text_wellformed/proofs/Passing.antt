@@ -2,17 +2,14 @@
 -- Assumes nothing.
 use Prim.Native.Nat.{ℕ, _-_, _≤_, _<_}
 use mathlib.Core.Path.{_≡_}
-use mathlib.Core.Bool.{Bool, true}
+use mathlib.Core.Bool.{true}
 use mathlib.Core.List.{List}
 use borrow.Author.Tests.{le-leb, eq-eqb}
 use lib.Dec.{eqb}
+use Rattle.basis.proofs.Booleans.{both-pass}
 use Rattle.table_layout.specs.Places.{word}
-use Rattle.table_layout.specs.Constructs.{both}
 use Rattle.table_wellformed.specs.Checks.{limited, all-zero}
 use Rattle.text_wellformed.proofs.Tests.{from-to-all}
-
-pub both-pass : {a b : Bool} → a ≡ true → b ≡ true → both a b ≡ true
-both-pass e f = rw (e, f)
 
 pub limited-pass : (low n high : ℕ) → low ≤ n → n ≤ high → limited low n high ≡ true
 limited-pass low n high l m = both-pass (le-leb low n l) (le-leb n high m)

@@ -10,7 +10,7 @@ use borrow.Author.Tests.{le-leb, eq-eqb, ne-eqb, ltb-true, ltb-false}
 use lib.Dec.{ltb}
 use lib.ListN.{getD}
 use Rattle.basis.specs.Limits.{max-variables}
-use Rattle.text_header.proofs.Tests.{which}
+use Rattle.basis.proofs.Booleans.{which}
 use Rattle.table_layout.specs.Places.{rule-word, variable-word}
 use Rattle.table_wellformed.specs.Rules.{body, rule-end}
 use Rattle.text_shapes.proofs.Moving.{extent}

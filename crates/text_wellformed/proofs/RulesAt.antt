@@ -7,7 +7,7 @@ use mathlib.Core.List.{List}
 use native.Mathlib.Omega.{arith}
 use borrow.Author.Tests.{le-leb, lt-leb, ltb-true, ltb-false}
 use lib.Dec.{ltb}
-use Rattle.text_header.proofs.Tests.{which}
+use Rattle.basis.proofs.Booleans.{which}
 use Rattle.text_shapes.specs.NodeShapes.{NameAt, Unconditioned, tree, Holds, Rules, no-rules, a-rule}
 use Rattle.text_shapes.proofs.Moving.{extent}
 use Rattle.text_store.specs.Words.{named-at, first-node, last-node}

@@ -2,14 +2,13 @@
 -- Assumes nothing.
 use Prim.Native.Nat.{ℕ, _+_, _-_, _≤_, _<_}
 use mathlib.Core.Path.{_≡_, ap, _∙_}
-use mathlib.Core.Bool.{Bool, true}
+use mathlib.Core.Bool.{Bool, true, _&&_}
 use mathlib.Core.List.{List}
 use native.Mathlib.Omega.{arith}
 use borrow.Author.Tests.{lt-ltb, eq-eqb}
 use lib.Dec.{ltb, eqb}
 use Rattle.basis.specs.Limits.{max-variables}
 use Rattle.table_layout.specs.Places.{rule-count, rule-word}
-use Rattle.table_layout.specs.Constructs.{both}
 use Rattle.table_wellformed.specs.Checks.{from-to, size-at}
 use Rattle.table_wellformed.specs.Parts.{unconditioned}
 use Rattle.table_wellformed.specs.Rules.{body, rule-end, rule-laid, rules-laid}
@@ -62,7 +61,7 @@ module _ {xs ns ts rs ws : List ℕ} {n t b r : ℕ} (known-text : Readable xs n
         let f : unconditioned ws (body ws k) ≡ true = ap (unconditioned ws) first-is ∙ is-unconditioned known-text words quiet first (omega (arith, at .within)) (at .free) in
         holds a c d e f
       where
-        holds : {p q u v w : Bool} → p ≡ true → q ≡ true → u ≡ true → v ≡ true → w ≡ true → both (both p q) (both u (both v w)) ≡ true
+        holds : {p q u v w : Bool} → p ≡ true → q ≡ true → u ≡ true → v ≡ true → w ≡ true → ((p && q) && (u && (v && w))) ≡ true
         holds a b c d e = rw (a, b, c, d, e)
 
   -- ---- all of them

@@ -10,7 +10,7 @@ use borrow.Author.Tests.{eqb-true}
 use lib.Dec.{eqb}
 use lib.ListN.{length}
 use Rattle.basis.specs.Limits.{max-literal-bytes}
-use Rattle.text_header.proofs.Tests.{picked}
+use Rattle.basis.proofs.Booleans.{picked}
 use Rattle.text_literals.specs.Literals.{characters-at}
 use Rattle.text_tokens.specs.Names.{reserved-of, name-of}
 use Rattle.text_tokens.specs.Tokens.{token-of}

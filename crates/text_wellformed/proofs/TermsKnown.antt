@@ -11,7 +11,7 @@ use native.Mathlib.Nat.{lt-of-not-le}
 use borrow.Author.Tests.{eqb-true, eqb-false, ltb-false, le-ltb, ne-eqb}
 use lib.Dec.{eqb, ltb}
 use lib.ListN.{getD}
-use Rattle.text_header.proofs.Tests.{which}
+use Rattle.basis.proofs.Booleans.{which, picked, either-cases, neither-first, neither-second}
 use Rattle.text_store.specs.Words.{is-use}
 use Rattle.term_words.specs.Words.{operationOf, signOf, termOf}
 use Rattle.term_words.specs.declared.Comparison.{Comparison}
@@ -21,9 +21,7 @@ use Rattle.term_trees.specs.Trees.{Calculation, literal, use-of, plus, minus, t
 use Rattle.term_trees.specs.Postfix.{lastSign, before, calculationTerms, setTerms, conditionTerms, repeatTerms}
 use Rattle.term_words.proofs.KnownTerms.{KnownOperation, KnownTerm, AllKnown}
 use Rattle.text_shapes.specs.TermShapes.{rename-operation, rename-term}
-use Rattle.table_layout.proofs.Bounds.{picked}
 use Rattle.text_encoding.specs.Lists.{narrow}
-use Rattle.text_wellformed.proofs.Tests.{or-cases, or-first, or-second}
 
 -- ---- terms of trees
 
@@ -152,7 +150,7 @@ module _ (g : ℕ → ℕ) where
   unfolding termOf
   use-back tag place v e n h =
       let w : v % 4294967296 ≡ g place = omega arith
-      in ⊎-elim (λ d. let z : tag ≡ 2 = eqb-true tag 2 d in rw z (ap (λ (k : ℕ). Term.Part (Operation.Variable k)) w)) (λ d. let z : tag ≡ 34 = eqb-true tag 34 d in rw z (ap (λ (k : ℕ). Term.Single (Operation.Variable k)) w)) (or-cases (eqb tag 2) (eqb tag 34) e)
+      in ⊎-elim (λ d. let z : tag ≡ 2 = eqb-true tag 2 d in rw z (ap (λ (k : ℕ). Term.Part (Operation.Variable k)) w)) (λ d. let z : tag ≡ 34 = eqb-true tag 34 d in rw z (ap (λ (k : ℕ). Term.Single (Operation.Variable k)) w)) (either-cases (eqb tag 2) (eqb tag 34) e)
 
   number-term : (tag value : ℕ) → (tag ≡ 1) ⊎ (tag ≡ 33) → value < 4294967296 → termOf (narrow tag) (narrow value) (narrow (value / 4294967296)) ≡ rename-term g (termOf tag value 0)
   unfolding termOf
@@ -162,7 +160,7 @@ module _ (g : ℕ → ℕ) where
   other-back : (tag value : ℕ) → is-use tag ≡ false → tag < 64 → eqb tag 1 ≡ false → eqb tag 33 ≡ false → termOf (narrow tag) (narrow value) (narrow (value / 4294967296)) ≡ rename-term g (termOf tag value 0)
   other-back tag value e h a b =
       let q : narrow tag ≡ tag = omega arith
-      in rw q (term-other tag value 0 (narrow value) (narrow (value / 4294967296)) a (or-first (eqb tag 2) (eqb tag 34) e) b (or-second (eqb tag 2) (eqb tag 34) e))
+      in rw q (term-other tag value 0 (narrow value) (narrow (value / 4294967296)) a (neither-first (eqb tag 2) (eqb tag 34) e) b (neither-second (eqb tag 2) (eqb tag 34) e))
 
   pub term-back : (used : Bool) (tag value place v : ℕ) → is-use tag ≡ used → KnownTerm (termOf tag (cond used place value) 0) → ((tag ≡ 1) ⊎ (tag ≡ 33) → value < 4294967296) → (used ≡ true → (v ≡ g place) × (v < 4294967296))
       → shown-term (shown-words used tag value v) ≡ rename-term g (termOf tag (cond used place value) 0)

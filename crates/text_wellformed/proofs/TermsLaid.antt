@@ -3,19 +3,18 @@
 use Prim.Native.Nat.{ℕ, _+_, _*_, _-_, _/_, _≤_, _<_}
 use mathlib.Core.Path.{_≡_, refl, sym, ap, _∙_}
 use mathlib.Core.Logic.{_⊎_, inl, inr}
-use mathlib.Core.Bool.{true, false, false≢true}
+use mathlib.Core.Bool.{true, false, _&&_, _||_, false≢true}
 use mathlib.Core.List.{List, [], _∷_}
 use native.Mathlib.Omega.{arith}
 use native.Mathlib.Nat.{zero-add}
 use borrow.Author.Tests.{eqb-true, eqb-false, ltb-true, ltb-false}
 use lib.Dec.{eqb, ltb}
 use lib.ListN.{getD}
-use Rattle.text_header.proofs.Tests.{which, picked}
+use Rattle.basis.proofs.Booleans.{which, picked, either-second, both-pass}
 use Rattle.table_layout.specs.Places.{word, term-count, terms-at}
-use Rattle.table_layout.specs.Constructs.{both}
-use Rattle.table_wellformed.specs.Checks.{either, from-to}
+use Rattle.table_wellformed.specs.Checks.{from-to}
 use Rattle.table_wellformed.specs.Lists.{has-low, term-laid}
-use Rattle.text_wellformed.proofs.Tests.{from-to-all, either-second}
+use Rattle.text_wellformed.proofs.Tests.{from-to-all}
 use Rattle.text_shapes.specs.NodeShapes.{tree, Holds, literal-tree, range-tree, use-tree, eod-tree, uint-tree, marked-tree, counted-tree, chain-tree, switch-tree}
 use Rattle.text_store.specs.Words.{kind-of, node-mark, own-from, condition-from, term-tag, term-value, term-at, is-use}
 use Rattle.text_encoding.specs.Lists.{narrow}
@@ -23,7 +22,6 @@ use Rattle.text_encoding.specs.Numbers.{first-at, variable-of, condition-length
 use Rattle.text_encoding.specs.Encoded.{term-words}
 use Rattle.text_wellformed.specs.Context.{Words, Nodes, ConditionAt, without, with-one, Quiet, QuietAt}
 use Rattle.text_wellformed.proofs.Areas.{find}
-use Rattle.text_wellformed.proofs.Passing.{both-pass}
 
 -- numbers are words of 32 bits, and a sign has no value
 abbrev pub Numbers : List ℕ → ℕ → Type 0
@@ -36,7 +34,7 @@ Signs ts t = (k : ℕ) → k < t → (term-tag ts k ≡ 1 → ⊥) → (term-tag
 
 -- three numbers, as words, are a term's
 abbrev Passes : List ℕ → Type 0
-Passes l = both (either (has-low (narrow (getD l 0 0))) (eqb (narrow (getD l 1 0)) 0)) (eqb (narrow (getD l 2 0)) 0) ≡ true
+Passes l = ((has-low (narrow (getD l 0 0)) || eqb (narrow (getD l 1 0)) 0) && eqb (narrow (getD l 2 0)) 0) ≡ true
 
 low-passes : (tag low high : ℕ) → has-low (narrow tag) ≡ true → high ≡ 0 → Passes (tag ∷ low ∷ high ∷ [])
 low-passes tag low high e f = rw (e, f)

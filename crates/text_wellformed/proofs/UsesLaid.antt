@@ -8,6 +8,7 @@ use native.Mathlib.Omega.{arith}
 use borrow.Author.Tests.{lt-ltb, le-leb, eqb-true, ltb-false}
 use lib.Dec.{eqb, ltb}
 use Rattle.basis.specs.Limits.{max-variables, max-terms}
+use Rattle.basis.proofs.Booleans.{picked}
 use Rattle.term_words.specs.Words.{operationOf, termOf, termAt}
 use Rattle.term_words.specs.declared.Operation.{Operation}
 use Rattle.term_words.specs.declared.Term.{Term}
@@ -15,7 +16,6 @@ use Rattle.table_layout.specs.Held
 use Rattle.table_layout.specs.Places.{construct-word}
 use Rattle.table_wellformed.specs.Lists
 use Rattle.table_wellformed.specs.Rules.{visible, operation-named, term-named, list-named, construct-named, uses-laid}
-use Rattle.table_layout.proofs.Bounds.{picked}
 use Rattle.term_words.proofs.KnownTerms.{AllKnown}
 use Rattle.text_shapes.specs.TermShapes.{SetShape, ConditionShape, CountsShape, read-terms, rename-operation, rename-term}
 use Rattle.text_names.specs.Counting.{nowhere}

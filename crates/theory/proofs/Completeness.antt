@@ -17,6 +17,7 @@ use Rattle.basis.specs.Bits.{Bits}
 use Rattle.basis.specs.Counts.{Counts, Allows}
 use Rattle.basis.specs.Lookahead.{lookahead}
 use Rattle.basis.proofs.Joins.{lookahead-length}
+use Rattle.basis.proofs.Booleans.{which}
 use Rattle.theory.specs.Grammar.{Node, alternative, repetition, Grammar, _∈_}
 use Rattle.theory.specs.Derivation.{Tree, covered, Capture, captures, Shape, construct, members, passes, Derives}
 use Rattle.theory.specs.Lookahead.{Follow, Predicted, Continues, Conflict}
@@ -25,7 +26,7 @@ use Rattle.theory.specs.Hypotheses.{Hypotheses}
 use Rattle.theory.proofs.FieldWidths.{derived-width}
 use Rattle.theory.proofs.FirstTheorem.{first}
 use Rattle.theory.proofs.FollowTheorem.{After, next-follows, after-member, after-members, after-pass, derived-predicted}
-use Rattle.theory.proofs.Turns.{decide, turn-again, turn-leave}
+use Rattle.theory.proofs.Turns.{turn-again, turn-leave}
 use Rattle.theory.proofs.Steps as Steps
 use Rattle.theory.proofs.Steps.{Path, resize, arrive, then, after, after-both, after-none}
 
@@ -37,7 +38,7 @@ pub chooses : (holds : ℕ → Bool) {is : List ℕ} {b : ℕ} → b ∈ is → 
 unfolding choose
 chooses holds {is = a ∷ is} {b} (List·Memᴰ·head e) t only = let z : holds a ≡ true = ap holds (sym e) ∙ t in rw (z, choose) (ap some (sym e))
 chooses holds {is = a ∷ is} {b} (List·Memᴰ·tail m) t only =
-    elim (decide (holds a))
+    elim (which (holds a))
     [ inl z ↦ rw (z, choose) (ap some (only a (List·Memᴰ·head refl) z)) | inr z ↦ rw (z, choose) (chooses holds m t (λ a′ m′. only a′ (List·Memᴰ·tail m′))) ]
 
 module _ {Context Values : Type 0} (g : Grammar Context Values) (tests : Tests) (h : Hypotheses g tests) where
@@ -92,7 +93,7 @@ module _ {Context Values : Type 0} (g : Grammar Context Values) (tests : Tests) 
       let l = lookahead-length s in
       turn-leave (counts c v) j _ _ a
       (inl (
-        elim (decide (tests .continues i x))
+        elim (which (tests .continues i x))
             [ inl t ↦ absurd (h .no-conflict i x (Conflict.of-passes q (h .continues-exact q x l .0 t) f)) | inr t ↦ t ],
         h .exits-exact q x l .1 f,
       ))

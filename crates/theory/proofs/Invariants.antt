@@ -14,13 +14,13 @@ use lib.Dec.{leb}
 use Rattle.basis.specs.Bits.{Bits}
 use Rattle.basis.specs.Counts.{Counts}
 use Rattle.basis.specs.Lookahead.{lookahead}
+use Rattle.basis.proofs.Booleans.{which}
 use Rattle.theory.specs.Grammar.{Node, alternative, concatenation, repetition, switch, use-of, field, eod, Grammar, _∈_}
 use Rattle.theory.specs.Derivation.{Capture}
 use Rattle.theory.specs.Machine.{Tests, Entry, entry, State, state, pending-of, rest-of, position-of, captures-of, turn, choose, entries, act, step, undecided, matched, unmatched, Run, run, state-of, open-state, opened, stepped, granted}
 use Rattle.theory.specs.Weight.{members-room, room, HasRoom}
 use Rattle.theory.specs.Hypotheses.{Hypotheses}
-use Rattle.theory.proofs.Turns.{decide}
-use Rattle.theory.proofs.Progress.{chosen-in, in-largest, given, which}
+use Rattle.theory.proofs.Progress.{chosen-in, in-largest, given, which-turn}
 
 never : {A B : Type 0} {b : B} → none ≡ some b → A
 never e = let z : _≡_ {A = ℕ} 0 1 = cc in absurd (omega arith)
@@ -58,7 +58,7 @@ module _ {Context Values : Type 0} (g : Grammar Context Values) (tests : Tests) 
         [ inl z ↦ never (rw (z, act) at e) | inr z ↦ is-effect (rw (z .1, act) at e) (Effect.replaces (Replaced.by-branch (chosen-in _ is (z .0) (z .1))) refl) ]
     effect v τ (concatenation is) q e = is-effect e (Effect.replaces (Replaced.by-members refl) refl)
     effect v τ (repetition counts static fixed b) q e =
-        elim (which (turn (counts c v) k (tests .continues i (lookahead s)) (tests .exits i (lookahead s)))) [
+        elim (which-turn (turn (counts c v) k (tests .continues i (lookahead s)) (tests .exits i (lookahead s)))) [
           | inl z ↦ never (rw (z, act) at e)
           | inr o ↦
               elim o
@@ -72,9 +72,9 @@ module _ {Context Values : Type 0} (g : Grammar Context Values) (tests : Tests) 
     effect v τ (use-of enters opens closes b) q e =
         elim (given (enters c)) [ inl z ↦ never (rw (z, act) at e) | inr z ↦ is-effect (rw (z .1, act) at e) (Effect.replaces (Replaced.by-body (z .1)) refl) ]
     effect v τ (field w admits static binds) q e =
-        elim (decide (leb (w s) (length s))) [
+        elim (which (leb (w s) (length s))) [
           | inl z ↦
-              elim (decide (admits c v (take (w s) s))) [
+              elim (which (admits c v (take (w s) s))) [
                 | inl y ↦
                     is-effect (rw (z, y, act) at e)
                     (Effect.takes (w s) (h .width-positive q s) refl (leb-true (w s) (length s) z) refl (length-append cs (record { construct = i; first-bit = p } ∷ [])))

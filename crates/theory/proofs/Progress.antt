@@ -16,6 +16,7 @@ use lib.Dec.{leb}
 use Rattle.basis.specs.Bits.{Bits}
 use Rattle.basis.specs.Counts.{Counts, Allows}
 use Rattle.basis.specs.Lookahead.{lookahead}
+use Rattle.basis.proofs.Booleans.{which}
 use Rattle.theory.specs.Grammar.{Node, alternative, concatenation, repetition, switch, use-of, field, eod, Grammar, _∈_}
 use Rattle.theory.specs.Derivation.{Tree, node, covered, Capture, captures, Shape, construct, members, passes, Derives}
 use Rattle.theory.specs.Lookahead.{First, EmptyBody}
@@ -25,7 +26,7 @@ use Rattle.theory.specs.Hypotheses.{Hypotheses}
 use Rattle.theory.proofs.FieldWidths.{taken-width}
 use Rattle.theory.proofs.FirstTheorem.{covers, first}
 use Rattle.theory.proofs.Weights.{weigh-positive}
-use Rattle.theory.proofs.Turns.{decide, Reached, reached-zero, reached-again, allowed-leave}
+use Rattle.theory.proofs.Turns.{Reached, reached-zero, reached-again, allowed-leave}
 use Rattle.theory.proofs.Steps as Steps
 use Rattle.theory.proofs.Steps.{Stuck, Path, resize, arrive, then, after, after-both, after-none}
 
@@ -51,17 +52,17 @@ given none = inl refl
 given (some a) = inr (a, refl)
 
 -- a turn, with what it is
-pub which : (t : Turn) → (t ≡ fail) ⊎ ((t ≡ again) ⊎ (t ≡ leave))
-which fail = inl refl
-which again = inr (inl refl)
-which leave = inr (inr refl)
+pub which-turn : (t : Turn) → (t ≡ fail) ⊎ ((t ≡ again) ⊎ (t ≡ leave))
+which-turn fail = inl refl
+which-turn again = inr (inl refl)
+which-turn leave = inr (inr refl)
 
 -- a chosen branch is one of the branches
 pub chosen-in : (holds : ℕ → Bool) (is : List ℕ) (b : ℕ) → choose holds is ≡ some b → b ∈ is
 unfolding choose
 chosen-in holds [] b e = let z : _≡_ {A = ℕ} 0 1 = cc in absurd (omega arith)
 chosen-in holds (a ∷ is) b e =
-    elim (decide (holds a)) [ inl t ↦ List·Memᴰ·head {x = a} (let z : some a ≡ some b = rw (t, choose) at e in cc) | inr t ↦ List·Memᴰ·tail (chosen-in holds is b (rw (t, choose) at e)) ]
+    elim (which (holds a)) [ inl t ↦ List·Memᴰ·head {x = a} (let z : some a ≡ some b = rw (t, choose) at e in cc) | inr t ↦ List·Memᴰ·tail (chosen-in holds is b (rw (t, choose) at e)) ]
 
 pub in-largest : (f : ℕ → ℕ) {is : List ℕ} {b : ℕ} → b ∈ is → f b ≤ largest f is
 unfolding largest
@@ -208,7 +209,7 @@ module _ {Context Values : Type 0} (g : Grammar Context Values) (tests : Tests) 
     round : (j : ℕ) (s : Bits) (p : ℕ) (v : Values) (cs : List Capture) → j ≤ p → Reached (counts c v) j → Passes others (suc p) → Rest (suc j) s → Repeats j s p v cs
     unfolding tree-steps covered captures
     round j s p v cs l a k rest =
-        elim (which (turn (counts c v) j (tests .continues i (lookahead s)) (tests .exits i (lookahead s)))) [
+        elim (which-turn (turn (counts c v) j (tests .continues i (lookahead s)) (tests .exits i (lookahead s)))) [
           | inl e ↦ Repeats.stopped (at-once (omega arith, k) (Steps.fails-repetition g tests q e) (omega arith))
           | inr o ↦
               elim o [
@@ -287,9 +288,9 @@ module _ {Context Values : Type 0} (g : Grammar Context Values) (tests : Tests) 
             (each (e .0) b (omega arith) others s p (opens c v) cs k))
       ]
   outcome each c i (field w admits static binds) q l others s p v cs k =
-      elim (decide (leb (w s) (length s))) [
+      elim (which (leb (w s) (length s))) [
         | inl t ↦
-            elim (decide (admits c v (take (w s) s)))
+            elim (which (admits c v (take (w s) s)))
             [ inl u ↦ leaf-of c q others s p v cs k t u | inr u ↦ Outcome.failed (at-once (omega arith, k) (Steps.fails-field g tests q t u) (omega arith)) ]
         | inr t ↦ Outcome.failed (at-once (omega arith, k) (Steps.fails-short g tests q t) (omega arith))
       ]

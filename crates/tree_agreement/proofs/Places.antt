@@ -12,10 +12,9 @@ use borrow.Author.Tests.{ltb-true, ltb-false, eqb-true}
 use lib.Dec.{eqb, ltb}
 use lib.ListN.{length}
 use Rattle.basis.specs.Bits.{Bits}
+use Rattle.basis.proofs.Booleans.{picked, which}
 use Rattle.theory.specs.Grammar.{alternative, concatenation, repetition, switch, use-of, field, eod, _∈_}
 use Rattle.theory.specs.Lookahead.{Conflict, of-branches, of-passes, EmptyBody, empty-body}
-use Rattle.table_layout.proofs.Bounds.{picked}
-use Rattle.text_header.proofs.Tests.{which}
 use Rattle.text_store.specs.Store.{blank, node-words, term-words, rule-words, nodes-of, rules-of}
 use Rattle.text_store.specs.Words.{kind-of, place-of, mark-place, named-at}
 use Rattle.text_meaning.specs.Meaning.{meant-node, grammar-of}

@@ -8,7 +8,7 @@ use mathlib.Core.List.{List, [], _∷_}
 use native.Mathlib.Omega.{arith}
 use borrow.Author.Tests.{eqb-true, ltb-true}
 use lib.Dec.{eqb, leb, ltb}
-use Rattle.text_header.proofs.Tests.{both-first, both-second, which}
+use Rattle.basis.proofs.Booleans.{both-first, both-second, which}
 use Rattle.text_tokens.specs.declared.Kind.{Kind}
 use Rattle.text_parsing.specs.Terminals.{begins, name-like}
 use Rattle.text_store.specs.Store.{State, nodes-of, terms-of, add, single, insert, leaf}

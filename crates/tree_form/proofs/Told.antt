@@ -8,6 +8,7 @@ use native.Mathlib.Omega.{arith}
 use borrow.Author.Tests.{ltb-true, lt-ltb, eqb-false}
 use lib.Dec.{eqb}
 use lib.ListN.{length}
+use Rattle.basis.proofs.Booleans.{picked}
 use Rattle.text_tokens.specs.declared.Kind.{Kind}
 use Rattle.text_store.specs.Store.{State, nodes-of, terms-of}
 use Rattle.text_parsing.specs.Symbols.{Symbol}
@@ -24,7 +25,6 @@ use mathlib.Core.Bool.{Bool-set}
 use native.Mathlib.Nat.{ℕ-set}
 use native.Mathlib.Bridge.{le-prop}
 use Rattle.text_header.specs.Spans.{starts}
-use Rattle.text_header.proofs.Tests.{picked}
 use Rattle.text_tokens.specs.Names.{word-number, is-same}
 use Rattle.tree_form.proofs.Skips.{Reads, Not, onward, test-on, cond-on, past-mark, past-members, past-branches, past-character, begin-factor, begin-concatenation, begin-expression, begin-field-set, begin-cases}
 use Rattle.tree_form.proofs.Traced.{AfterAtom, AfterFactor, AfterMembers, AfterBranches, cases-not, set-not-var, reads-close, reads-value-set, reads-field-set, reads-mark, reads-tests}

@@ -7,6 +7,7 @@ use mathlib.Core.List.{List, _∷_}
 use native.Mathlib.Omega.{arith}
 use borrow.Author.Tests.{ltb-true, lt-ltb}
 use lib.Dec.{eqb}
+use Rattle.basis.proofs.Booleans.{picked}
 use Rattle.text_tokens.specs.declared.Kind.{Kind}
 use Rattle.text_parsing.specs.Terminals.{begin-like}
 use Rattle.text_store.specs.Store.{State, terms-of}
@@ -21,7 +22,6 @@ use Rattle.tree_form.proofs.Parts.{chosen, all-from, any-from}
 use Rattle.tree_form.proofs.Leading.{consumed}
 use Rattle.tree_form.proofs.Reading.{tree, after, parse, reading}
 use native.Mathlib.Bridge.{le-prop}
-use Rattle.text_header.proofs.Tests.{picked}
 use Rattle.text_tokens.specs.Names.{reserved-of}
 use Rattle.tree_form.proofs.Skips.{Reads, head-code, Not, onward, cond-on, past-sign, past-factors, past-summands, past-item, past-upper, past-exception, past-choices, past-counts, past-joined, past-chain, begin-operand, begin-calculation, begin-item, begin-upper, begin-excluded, begin-choice, begin-set, begin-counts, begin-test, begin-condition}
 

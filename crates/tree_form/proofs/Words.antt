@@ -9,9 +9,9 @@ use native.Mathlib.Omega.{arith}
 use borrow.Author.Tests.{eqb-true, leb-true}
 use lib.Dec.{eqb, leb}
 use lib.ListN.{length}
+use Rattle.basis.proofs.Booleans.{both-second, which, picked}
 use Rattle.text_header.specs.Spans.{starts}
 use Rattle.text_header.proofs.Runs.{word-equal, word-self}
-use Rattle.text_header.proofs.Tests.{both-second, which, picked}
 use Rattle.text_tokens.specs.Names.{word-number, reserved-of, is-same}
 use Rattle.text_tokens.specs.declared.Kind.{Kind}
 use Rattle.text_parsing.specs.Terminals.{name-like}

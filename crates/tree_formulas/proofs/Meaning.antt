@@ -10,8 +10,8 @@ use lib.IntN.{ℤ, pos, negsuc, negℤ, _+ℤ_, _-ℤ_, _*ℤ_}
 use lib.ListN.{getD}
 use lib.Signed.{leZ, ltZ}
 use borrow.Author.Tests.{leb-true, leb-false, lt-ltb, le-ltb}
-use Rattle.text_header.proofs.Tests.{which}
 use Rattle.basis.specs.Counts.{exactly as just, atLeast, span as from-to}
+use Rattle.basis.proofs.Booleans.{which}
 use Rattle.text_tokens.specs.Numbers.{capped}
 use Rattle.term_words.specs.Numbers.{pick, equals}
 use Rattle.term_words.specs.Steps.{compares}

@@ -11,7 +11,7 @@ use lib.IntN.{ℤ, pos}
 use lib.ListN.{length, take, length-append}
 use lib.Seq.{getD-append-add}
 use Rattle.basis.specs.Counts.{Counts as Passes, zero-or-more}
-use Rattle.text_header.proofs.Tests.{which}
+use Rattle.basis.proofs.Booleans.{which}
 use Rattle.term_words.specs.declared.Kind.{Kind}
 use Rattle.term_words.specs.declared.Mode.{Mode}
 use Rattle.term_words.specs.declared.Numbers.{Numbers}

@@ -11,7 +11,8 @@ use lib.IntN.{pos}
 use lib.ListN.{length, getD, set}
 use Rattle.basis.specs.Bits.{Bits, value}
 use Rattle.theory.specs.Grammar.{alternative, concatenation, repetition, switch, field, eod}
-use Rattle.table_layout.specs.Constructs.{pick, both}
+use mathlib.Core.Bool.{_&&_ as both}
+use Rattle.table_layout.specs.Constructs.{pick}
 use Rattle.table_layout.specs.Held.{range-node as held-range}
 use Rattle.text_literals.specs.Literals.{characters-at}
 use Rattle.text_store.specs.Words.{kind-of, place-of, node-mark, last-place, is-binder, first-node}

@@ -6,7 +6,7 @@ use mathlib.Core.Logic.{⊎-elim}
 use mathlib.Core.Bool.{Bool, true, false, _||_}
 use mathlib.Core.List.{List, [], _∷_}
 use native.Mathlib.Omega.{arith}
-use Rattle.text_header.proofs.Tests.{which}
+use Rattle.basis.proofs.Booleans.{which}
 use Rattle.text_tokens.specs.Names.{is-same}
 use Rattle.tree.specs.Lexemes.{Name}
 use Rattle.tree_meaning.specs.Pieces.{terms-of, uses-in, Piece, use-of-rule, width, formula, binding, bound-in}

@@ -11,9 +11,9 @@ use native.Mathlib.Omega.{arith}
 use borrow.Author.Tests.{ltb-true, ltb-false}
 use lib.Dec.{eqb, ltb}
 use lib.ListN.{length, getD, length-append, length-set}
+use Rattle.basis.proofs.Booleans.{which}
 use Rattle.theory.specs.Grammar.{alternative}
 use Rattle.table_layout.specs.Constructs.{pick}
-use Rattle.text_header.proofs.Tests.{which}
 use Rattle.text_store.specs.Store.{blank, node-words, term-words, rule-words, nodes-of, rules-of}
 use Rattle.text_store.specs.Words.{first-node}
 use Rattle.text_encoding.specs.Lists.{sum}

@@ -13,8 +13,8 @@ use lib.Dec.{eqb}
 use lib.IntN.{ℤ, pos, natAbs}
 use lib.ListN.{length, getD, set, length-set}
 use lib.Seq.{getD-set-same, getD-set-other}
+use Rattle.basis.proofs.Booleans.{which}
 use Rattle.text_header.proofs.Runs.{word-equal, word-self}
-use Rattle.text_header.proofs.Tests.{which}
 use Rattle.text_tokens.specs.Names.{is-same}
 use Rattle.term_evaluation.specs.Meaning.{condition}
 use Rattle.term_sizes.specs.Inside.{Below, Inside}

@@ -13,7 +13,7 @@ use lib.ListN.{length, getD, set, replicate}
 use lib.Seq.{getD-set-other}
 use Rattle.basis.specs.Bits.{Bits, value as number-of}
 use Rattle.basis.proofs.Values.{value-less}
-use Rattle.text_header.proofs.Tests.{which}
+use Rattle.basis.proofs.Booleans.{which}
 use Rattle.text_header.proofs.Runs.{word-self}
 use Rattle.text_tokens.specs.Names.{is-same}
 use Rattle.tree.specs.Lexemes.{Name}

@@ -9,7 +9,7 @@ use mathlib.Core.Option.{none}
 use native.Mathlib.Omega.{arith}
 use lib.IntN.{pos, natAbs}
 use lib.ListN.{length, getD}
-use Rattle.text_header.proofs.Tests.{picked}
+use Rattle.basis.proofs.Booleans.{picked}
 use Rattle.text_header.proofs.Runs.{word-equal}
 use Rattle.text_tokens.specs.Names.{is-same}
 use Rattle.tree.specs.Lexemes.{Name}

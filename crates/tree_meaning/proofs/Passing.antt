@@ -9,7 +9,7 @@ use native.Mathlib.Omega.{arith}
 use borrow.Author.Tests.{leb-true, ltb-false}
 use lib.Dec.{leb, ltb}
 use lib.ListN.{length}
-use Rattle.text_header.proofs.Tests.{both-first, both-second}
+use Rattle.basis.proofs.Booleans.{both-first, both-second}
 use Rattle.tree.specs.Lexemes.{Name}
 use Rattle.tree.specs.Tree.{Rule, Rules}
 use Rattle.tree.specs.Spelling.{spell-calculation}

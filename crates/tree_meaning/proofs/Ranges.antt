@@ -8,8 +8,8 @@ use mathlib.Core.Option.{Option, some, Option·none-ne-some, Option·some-inject
 use native.Mathlib.Nat.{zero-add}
 use native.Mathlib.Omega.{arith}
 use lib.ListN.{length, getD}
+use Rattle.basis.proofs.Booleans.{picked}
 use Rattle.theory.specs.Grammar.{alternative, concatenation as sequence, repetition, switch as choice-by, use-of, field as bits-of, eod as frame-end}
-use Rattle.text_header.proofs.Tests.{picked}
 use Rattle.tree.specs.Tree.{expression, concatenation, cases, Part, Tree, literal, range, field, binder, rule-use, eod, group, switch, last-case, case-default, case-cases, once, repeated, last-member, and-members, last-branch, or-branches, Rule, Rules}
 use Rattle.tree_meaning.specs.Values.{is-true}
 use Rattle.tree_meaning.specs.Pieces.{rules-of, rule-body, variables-of}

@@ -8,8 +8,8 @@ use mathlib.Core.List.{List, [], _∷_, List·Memᴰ, List·Memᴰ·head, List·
 use native.Mathlib.Omega.{arith}
 use borrow.Author.Tests.{leb-true, ltb-true}
 use lib.Dec.{leb, ltb}
+use Rattle.basis.proofs.Booleans.{both-first, both-second}
 use Rattle.text_header.proofs.Runs.{word-equal, word-self}
-use Rattle.text_header.proofs.Tests.{both-first, both-second}
 use Rattle.text_tokens.specs.Names.{is-same}
 use Rattle.tree.specs.Tree.{Rule, Rules}
 use Rattle.tree_meaning.specs.Pieces.{rules-of, rule-name, rule-pieces}

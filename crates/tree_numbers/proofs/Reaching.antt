@@ -9,8 +9,8 @@ use mathlib.Core.Option.{none}
 use native.Mathlib.Omega.{arith}
 use borrow.Author.Tests.{eqb-false}
 use lib.ListN.{length}
+use Rattle.basis.proofs.Booleans.{which}
 use Rattle.text_header.proofs.Runs.{word-equal}
-use Rattle.text_header.proofs.Tests.{which}
 use Rattle.text_store.specs.Words.{kind-of, place-of, named-at, first-node, last-node}
 use Rattle.text_encoding.specs.Lists.{first-of}
 use Rattle.text_encoding.specs.Numbers.{rule-of}

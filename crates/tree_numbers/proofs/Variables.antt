@@ -8,7 +8,7 @@ use mathlib.Core.List.{List}
 use native.Mathlib.Omega.{arith}
 use lib.Dec.{eqb}
 use lib.ListN.{length}
-use Rattle.text_header.proofs.Tests.{which}
+use Rattle.basis.proofs.Booleans.{which}
 use Rattle.text_tokens.specs.Names.{is-same}
 use Rattle.text_store.specs.Words.{is-binder, bound-at}
 use Rattle.text_names.specs.Counting.{any-of}

@@ -2,12 +2,12 @@
 -- Assumes nothing.
 use Prim.Native.Nat.{ℕ, _<_}
 use mathlib.Core.Path.{_≡_, refl, subst}
-use mathlib.Core.Bool.{Bool, true, false}
+use mathlib.Core.Bool.{Bool, true, false, _&&_ as both}
 use mathlib.Core.List.{List}
 use borrow.Author.Tests.{lt-ltb, eqb-true}
 use lib.Dec.{leb, ltb, eqb}
 use Rattle.table_layout.specs.Places.{construct-word}
-use Rattle.table_layout.specs.Constructs.{pick, both, branches, listed, constructOf, constructAt}
+use Rattle.table_layout.specs.Constructs.{pick, branches, listed, constructOf, constructAt}
 use Rattle.table_layout.specs.declared.Construct.{Construct}
 
 -- what holds of both choices holds of the choice

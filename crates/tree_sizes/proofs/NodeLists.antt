@@ -4,7 +4,7 @@
 use Prim.Native.Nat.{ℕ, _+_, _≤_, _<_, min}
 use mathlib.Core.Path.{_≡_, refl, sym, ap, ap₂, subst, _∙_}
 use mathlib.Core.Logic.{_↔_}
-use mathlib.Core.Bool.{Bool, true, false}
+use mathlib.Core.Bool.{Bool, true, false, _&&_ as both}
 use mathlib.Core.List.{List, [], _∷_, _++_}
 use native.Mathlib.Omega.{arith}
 use native.Mathlib.Decide.{decLe}
@@ -14,7 +14,7 @@ use lib.IntN.{pos}
 use lib.ListN.{length, getD, length-append}
 use Rattle.text_tokens.specs.Numbers.{capped, number-value}
 use Rattle.term_sizes.specs.declared.Sized.{Sized}
-use Rattle.table_layout.specs.Constructs.{both, constructAt}
+use Rattle.table_layout.specs.Constructs.{constructAt}
 use Rattle.table_layout.specs.Held
 use Rattle.table_sizes.specs.Measures.{widest as table-widest, condition-size, own-size}
 use Rattle.table_sizes.proofs.WidestLaws.{widest-length}

@@ -10,7 +10,7 @@ use borrow.Author.Tests.{ltb-true, ltb-false, lt-ltb, le-ltb, leb-true, leb-fals
 use lib.Dec.{leb, ltb, eqb}
 use lib.ListN.{length}
 use Rattle.basis.specs.Limits.{max-width}
-use Rattle.text_header.proofs.Tests.{which}
+use Rattle.basis.proofs.Booleans.{which}
 use Rattle.text_tokens.specs.Numbers.{capped, number-value}
 use Rattle.text_store.specs.Words.{kind-of, width-place, term-tag, term-value, term-at}
 use Rattle.text_encoding.specs.Numbers.{width-of}

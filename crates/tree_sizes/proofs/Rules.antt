@@ -10,7 +10,7 @@ use borrow.Author.Tests.{leb-true}
 use lib.Dec.{leb}
 use lib.IntN.{pos}
 use lib.ListN.{length, getD, length-append}
-use Rattle.text_header.proofs.Tests.{which, both-first, both-second}
+use Rattle.basis.proofs.Booleans.{which, both-first, both-second}
 use Rattle.text_tokens.specs.declared.Kind.{Kind}
 use Rattle.text_store.specs.Words.{first-node, last-node}
 use Rattle.text_encoding.specs.Numbers.{binders-before, variable-of, condition-start}

@@ -3,13 +3,14 @@
 use Prim.Native.Nat.{ℕ, suc, _+_, _*_, _/_, _%_, _≤_, _<_}
 use mathlib.Core.Path.{_≡_, refl, sym, ap, _∙_}
 use mathlib.Core.Logic.{_⊎_, inl, inr}
-use mathlib.Core.Bool.{Bool, true, false, cond}
+use mathlib.Core.Bool.{Bool, true, false, cond, _&&_ as both}
 use mathlib.Core.List.{List, [], _∷_, _++_}
 use native.Mathlib.Omega.{arith}
 use borrow.Author.Tests.{lt-ltb, le-ltb, le-leb, eqb-true, ne-eqb}
 use lib.Dec.{leb, ltb, eqb}
 use lib.IntN.{ℤ}
 use lib.ListN.{length, getD}
+use Rattle.basis.proofs.Booleans.{picked, picked as chosen}
 use Rattle.term_words.specs.Words.{termOf, termAt}
 use Rattle.term_words.specs.declared.Kind.{Kind}
 use Rattle.term_words.specs.declared.Operation.{Operation}
@@ -17,14 +18,12 @@ use Rattle.term_words.specs.declared.Term.{Term as WordTerm}
 use Rattle.term_sizes.specs.Sizes.{sizes, countSizes}
 use Rattle.term_sizes.specs.declared.Sized.{Sized}
 use Rattle.table_layout.specs.Places.{construct-word}
-use Rattle.table_layout.specs.Constructs.{pick, both, branches, listed, constructOf, constructAt}
+use Rattle.table_layout.specs.Constructs.{pick, branches, listed, constructOf, constructAt}
 use Rattle.table_layout.specs.Attributes.{attributes-of}
 use Rattle.table_layout.specs.Held
 use Rattle.table_layout.specs.declared.Construct.{Construct}
 use Rattle.table_layout.specs.declared.OwnList.{OwnList}
-use Rattle.table_layout.proofs.Bounds.{picked}
 use Rattle.table_sizes.specs.Measures.{widest, condition-size, list-size, own-size}
-use Rattle.text_header.proofs.Tests.{picked as chosen}
 use Rattle.text_store.specs.Words.{kind-of, node-size, node-mark, is-binder, own-from, condition-from, is-use, term-tag, term-value, term-at}
 use Rattle.text_shapes.specs.TermShapes.{rename-term}
 use Rattle.text_encoding.specs.Numbers.{first-at, variable-of, binds-one, binders-before, width-of, condition-length, own-length, lists-length, condition-start, own-start}

@@ -12,7 +12,7 @@ use lib.Dec.{eqb}
 use lib.IntN.{pos}
 use lib.ListN.{length, getD}
 use lib.Pow.{pow-mono}
-use Rattle.text_header.proofs.Tests.{which}
+use Rattle.basis.proofs.Booleans.{which}
 use Rattle.text_tokens.specs.Names.{is-same}
 use Rattle.text_tokens.specs.Numbers.{capped, number-value}
 use Rattle.table_layout.specs.Places.{variable-word, word, variables-at}

@@ -7,7 +7,7 @@ use mathlib.Core.List.{List, [], _∷_, _++_}
 use native.Mathlib.Omega.{arith}
 use lib.Dec.{eqb}
 use lib.ListN.{length, length-append}
-use Rattle.text_header.proofs.Tests.{picked}
+use Rattle.basis.proofs.Booleans.{picked}
 use Rattle.text_tokens.specs.Names.{is-same}
 use Rattle.text_names.specs.Counting.{any-of}
 use Rattle.text_names.specs.Names.{same-name, binds, bound-between}

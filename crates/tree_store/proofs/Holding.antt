@@ -10,7 +10,7 @@ use borrow.Author.Tests.{ltb-true, ltb-false, eqb-true, eqb-false, leb-true, leb
 use lib.Dec.{eqb, ltb, leb}
 use lib.ListN.{length, getD, length-append, length-replicate, List·getD-append}
 use lib.Seq.{getD-append-add, getD-append-seam}
-use Rattle.text_header.proofs.Tests.{which}
+use Rattle.basis.proofs.Booleans.{which}
 use Rattle.text_store.specs.Store.{State, state, blank, marked-tag, node-words, term-words, rule-words, nodes-of, terms-of, binders-of, rules-of, counted, put-term, put-node, put-condition, put-rule, add, single, insert, condition-on, bind, close-rule}
 use Rattle.text_store.specs.Words.{node-start, term-start, rule-start, node-word, term-word, rule-word}
 use Rattle.text_store.proofs.StoreLaws.{length-put-node, node-before, node-at, node-after, length-put-condition, condition-before, condition-after, from-put, end-put, length-put-term, length-put-single, term-before, term-put, marked-at, single-marks, marked-other, marked-here, length-put-rule, rule-before, rule-at}

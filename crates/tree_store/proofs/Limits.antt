@@ -10,7 +10,7 @@ use native.Mathlib.Omega.{arith}
 use borrow.Author.Tests.{ltb-true, ltb-false, lt-ltb, le-ltb, le-leb, lt-leb}
 use lib.Dec.{ltb, leb}
 use lib.ListN.{length, getD}
-use Rattle.text_header.proofs.Tests.{which}
+use Rattle.basis.proofs.Booleans.{which}
 use Rattle.text_store.specs.Store.{blank, rule-words, rules-of}
 use Rattle.text_names.specs.Counting.{nowhere, place-if, least-of}
 use Rattle.text_names.specs.Limits.{limit-place, refusal-5}

@@ -9,7 +9,7 @@ use native.Mathlib.Omega.{arith}
 use borrow.Author.Tests.{ltb-true, ltb-false, lt-ltb, le-ltb, eqb-true, eq-eqb, ne-eqb}
 use lib.Dec.{ltb, eqb}
 use lib.ListN.{length, length-append}
-use Rattle.text_header.proofs.Tests.{which}
+use Rattle.basis.proofs.Booleans.{which}
 use Rattle.text_names.specs.Names.{holds, held, held-between}
 use Rattle.text_store.specs.Words.{kind-of, node-size, second-place, how-bound}
 use Rattle.tree.specs.Tree.{Mark, optional, any-number, one-or-more, counted, Part, expression, concatenation, factor, atom, cases, Tree, literal, range, field, binder, rule-use, eod, group, switch, last-case, case-default, case-cases, once, repeated, last-member, and-members, last-branch, or-branches}

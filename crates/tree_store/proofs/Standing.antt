@@ -9,10 +9,10 @@ use native.Mathlib.Omega.{arith}
 use borrow.Author.Tests.{ltb-true}
 use lib.Dec.{leb, ltb, eqb}
 use lib.ListN.{length, getD, drop}
+use Rattle.basis.proofs.Booleans.{which, picked}
 use Rattle.text_header.specs.Bytes.{is-letter, is-digit}
 use Rattle.text_header.specs.Spans.{span-end}
 use Rattle.text_header.specs.declared.Class.{Class}
-use Rattle.text_header.proofs.Tests.{which, picked}
 use Rattle.text_literals.specs.Literals.{is-quote, literal-at, is-right, characters-at}
 use Rattle.text_tokens.specs.Numbers.{number-value}
 use Rattle.text_tokens.specs.Names.{name-of}

@@ -9,7 +9,7 @@ use native.Mathlib.Omega.{arith}
 use borrow.Author.Tests.{ltb-true, eqb-true, eqb-false, ne-eqb}
 use lib.Dec.{ltb, eqb}
 use lib.ListN.{length}
-use Rattle.text_header.proofs.Tests.{which}
+use Rattle.basis.proofs.Booleans.{which}
 use Rattle.text_names.specs.Names.{name-at}
 use Rattle.text_store.specs.Store.{marked-tag}
 use Rattle.text_store.specs.Words.{is-use}

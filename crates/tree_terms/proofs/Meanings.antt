@@ -11,7 +11,7 @@ use lib.Dec.{leb, ltb}
 use lib.IntN.{ℤ, pos, negsuc, negℤ, _+ℤ_, _-ℤ_, _*ℤ_}
 use lib.Signed.{leZ, ltZ}
 use Rattle.basis.specs.Counts.{exactly as just, atLeast, span as from-to}
-use Rattle.text_header.proofs.Tests.{which}
+use Rattle.basis.proofs.Booleans.{which}
 use Rattle.term_words.specs.Numbers.{pick, equals}
 use Rattle.term_words.specs.Steps.{compares}
 use Rattle.term_trees.specs.Trees.{Calculation as TermCalculation, value, ValueSet as TermSet, has, without, Condition as TermCondition, compare as compared, true-at, repeats, times as multiplied, plus as added, minus as less-by}

@@ -13,6 +13,7 @@ use lib.ListN.{length}
 use Rattle.basis.specs.Bits.{Bits}
 use Rattle.basis.specs.Counts.{Allows, from, exactly}
 use Rattle.basis.specs.Lookahead.{lookahead}
+use Rattle.basis.proofs.Booleans.{which}
 use Rattle.theory.specs.Grammar.{alternative, concatenation, field, _∈_}
 use Rattle.theory.specs.Derivation.{construct}
 use Rattle.theory.specs.Lookahead.{Continues, Exits}
@@ -21,7 +22,6 @@ use Rattle.theory.specs.Scope.{Agree, Chain}
 use Rattle.theory.specs.Hypotheses.{Hypotheses}
 use Rattle.theory.specs.Weight.{weigh}
 use Rattle.theory.proofs.Sheet.Samples.{store, Variables, SheetNode, SheetGrammar, uint, uint-var, repeated, starred, switch-on, one-of, Case, equals, first-true, bodies, nothing, opening-use, Sample, grammar-of, scope-of, weight-in, Meets}
-use Rattle.theory.proofs.Turns.{decide}
 use Rattle.theory.proofs.Inversion.{First-of, FirstBy, first-by, BindsBy, binds-by}
 use Rattle.theory.proofs.NodeLaws.{Law, hypotheses}
 use Rattle.theory.proofs.Weights.{has-room}
@@ -34,7 +34,7 @@ first-true-listed : (k b : ℕ) (cases : List Case) → first-true k cases ≡ s
 unfolding first-true bodies
 first-true-listed k b [] e = let z : _≡_ {A = ℕ} 0 1 = cc in absurd (omega arith)
 first-true-listed k b (equals n body ∷ cases) e =
-    elim (decide (eqb k n)) [
+    elim (which (eqb k n)) [
       | inl t ↦ let q : some body ≡ some b = rw (t, first-true) at e in let r : b ≡ body = cc in List·Memᴰ·head r
       | inr t ↦ List·Memᴰ·tail (first-true-listed k b cases (rw (t, first-true) at e))
     ]

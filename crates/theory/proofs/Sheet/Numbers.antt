@@ -8,9 +8,9 @@ use mathlib.Core.Logic.{inl, inr}
 use mathlib.Core.List.{List, [], _∷_, map}
 use lib.Dec.{eqb, ltb}
 use lib.ListN.{length, getD, List·getD-eq-default, List·getD-map}
+use Rattle.basis.proofs.Booleans.{which}
 use Rattle.theory.specs.Weight.{largest, weigh, Weighs}
 use Rattle.theory.proofs.Sheet.Samples.{SheetNode, opening-number, numbered, nothing, opening-use, Sample, grammar-of, weight-in}
-use Rattle.theory.proofs.Turns.{decide}
 
 -- P of each element of a list, with its number
 abbrev pub Listed : {A : Type 0} → (ℕ → A → Type 0) → List A → Type 0
@@ -46,11 +46,11 @@ module _ {A : Type 0} (opening neither : A) (l : List A) where
   pub each : (P : ℕ → A → Type 0) → P opening-number opening → ((i : ℕ) → Neither l i → P i neither) → Listed P l → (i : ℕ) → P i (numbered opening neither l i)
   unfolding numbered
   each P o n p i =
-      elim (decide (eqb i opening-number)) [
+      elim (which (eqb i opening-number)) [
         | inl t ↦ rw (eqb-true i opening-number t) o
         | inr t ↦
             let h = eqb-false i opening-number t in
-            elim (decide (ltb i (length l))) [
+            elim (which (ltb i (length l))) [
               | inl u ↦ subst (P i) (sym (numbered-construct i h)) (listed-at P l i neither (ltb-true i (length l) u) p)
               | inr u ↦ let k : Neither l i = (ltb-false i (length l) u, h) in subst (P i) (sym (numbered-neither i k)) (n i k)
             ]
@@ -60,7 +60,7 @@ pub numbered-map : {A B : Type 0} (f : A → B) (opening neither : A) (l : List 
     → numbered (f opening) (f neither) (map f l) i ≡ f (numbered opening neither l i)
 unfolding numbered
 numbered-map f opening neither l i =
-    elim (decide (eqb i opening-number)) [ inl t ↦ rw (t, numbered) | inr t ↦ rw (t, numbered) (List·getD-map f l i neither) ]
+    elim (which (eqb i opening-number)) [ inl t ↦ rw (t, numbered) | inr t ↦ rw (t, numbered) (List·getD-map f l i neither) ]
 
 -- weights that are as their parts' make them
 pub weighs : (s : Sample) → weigh (λ c. weight-in s) tt opening-use ≡ s .weight → map (weigh (λ c. weight-in s) tt) (s .constructs) ≡ s .weights

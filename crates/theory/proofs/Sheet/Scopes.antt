@@ -12,15 +12,15 @@ use lib.Dec.{eqb}
 use lib.ListN.{length}
 use Rattle.basis.specs.Bits.{Bits, value}
 use Rattle.basis.specs.Counts.{Counts}
+use Rattle.basis.proofs.Booleans.{which}
 use Rattle.theory.specs.Grammar.{alternative, concatenation, repetition, switch, use-of, field, eod, _∈_}
 use Rattle.theory.specs.Hypotheses.{Hypotheses}
 use Rattle.theory.specs.Scope.{Scope, Agree, Chain, Scoped, MayBind, Lexical}
 use Rattle.theory.proofs.Sheet.Samples.{store, Variables, SheetNode, SheetGrammar, bind, uint-var, nothing, opening-use, Sample, grammar-of, scope-of, fresh}
-use Rattle.theory.proofs.Turns.{decide}
 use Rattle.theory.proofs.Sheet.Numbers.{Listed, each, numbered-neither}
 
 bind-same : (v v′ : Variables) (x n y : ℕ) → v y ≡ v′ y → bind v x n y ≡ bind v′ x n y
-bind-same v v′ x n y e = elim (decide (eqb y x)) [ inl t ↦ rw (t, bind) | inr t ↦ rw (t, bind) e ]
+bind-same v v′ x n y e = elim (which (eqb y x)) [ inl t ↦ rw (t, bind) | inr t ↦ rw (t, bind) e ]
 
 bind-new : (v v′ : Variables) (x n y : ℕ) → y ≡ x → bind v x n y ≡ bind v′ x n y
 bind-new v v′ x n y e = rw (eq-eqb y x e, bind)

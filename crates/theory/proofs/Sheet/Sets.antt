@@ -18,7 +18,7 @@ use Rattle.theory.specs.Derivation.{construct, passes}
 use Rattle.theory.specs.Lookahead.{First, Follow, Predicted, Continues}
 use Rattle.theory.proofs.Sheet.Samples.{SheetNode, SheetGrammar, uint, only, one-of}
 use Rattle.basis.specs.Bits.{same}
-use Rattle.theory.proofs.Turns.{decide}
+use Rattle.basis.proofs.Booleans.{which}
 use Rattle.theory.proofs.Completeness.{not-both}
 use Rattle.theory.proofs.Inversion.{First-of, FirstBy, first-by}
 
@@ -46,13 +46,13 @@ one-of-true : (ys : List Bits) (x : Bits) → one-of ys x ≡ true → List·Mem
 unfolding one-of
 one-of-true [] x e = absurd (false≢true e)
 one-of-true (y ∷ ys) x e =
-    elim (decide (same x y)) [ inl t ↦ List·Memᴰ·head (same-true x y t) | inr t ↦ List·Memᴰ·tail (one-of-true ys x (rw (t, one-of) at e)) ]
+    elim (which (same x y)) [ inl t ↦ List·Memᴰ·head (same-true x y t) | inr t ↦ List·Memᴰ·tail (one-of-true ys x (rw (t, one-of) at e)) ]
 
 one-of-listed : (ys : List Bits) (x : Bits) → List·Memᴰ x ys → one-of ys x ≡ true
 unfolding one-of
 one-of-listed [] x m = absurd (List·Memᴰ·not-nil m)
 one-of-listed (y ∷ ys) x m =
-    elim (decide (same x y)) [
+    elim (which (same x y)) [
       | inl t ↦ rw (t, one-of)
       | inr t ↦
           elim (List·Memᴰ·cases-cons m) [
@@ -71,7 +71,7 @@ pub apart-true : (ys zs : List Bits) → apart ys zs ≡ true → (x : Bits) →
 unfolding apart
 apart-true [] zs e x m n = List·Memᴰ·not-nil m
 apart-true (y ∷ ys) zs e x m n =
-    elim (decide (one-of zs y)) [
+    elim (which (one-of zs y)) [
       | inl t ↦ false≢true (rw (t, apart) at e)
       | inr t ↦
           elim (List·Memᴰ·cases-cons m) [

@@ -1,10 +1,10 @@
 -- `table_reach::reaching::row_between` meets its contract. The invariant: what the row has, or is found in the rest, is what is found in all. Assumes nothing.
 use Prim.Native.Nat.{ℕ, _-_, _≤_, _<_, max}
 use mathlib.Core.Path.{_≡_, ap, _∙_}
+use mathlib.Core.Bool.{cond}
 use native.Mathlib.Omega.{arith}
 use lib.Dec.{eqb}
 use Rattle.basis.specs.Limits.{max-rules}
-use Rattle.table_layout.specs.Constructs.{pick}
 use Rattle.lookahead.specs.Sets.{bit}
 use Rattle.lookahead.proofs.BitLaws.{bit-none}
 use Rattle.table_reach.specs.Closure.{used-rule, calls, uses-between}
@@ -38,7 +38,7 @@ loop-less : tie.Need-loop-less Inv-loop μ-loop
 loop-less c = search needs
 
 loop-again : tie.Need-loop-again Inv-loop μ-loop
-loop-again c = let l = c .before .before .before .before .loop in ((λ q h. turn _ _ _ _ _ _ (c .before .before .before .loop-test .taken) (l .inv .0 q h) (c .with-use .ensures q h ∙ ap (λ (x : ℕ). max (bit (l .row) q) (pick (eqb x q) 1 0)) (c .before .rule-used .ensures ∙ ap used-rule (c .before .before .construct-at .ensures)))), search needs)
+loop-again c = let l = c .before .before .before .before .loop in ((λ q h. turn _ _ _ _ _ _ (c .before .before .before .loop-test .taken) (l .inv .0 q h) (c .with-use .ensures q h ∙ ap (λ (x : ℕ). max (bit (l .row) q) (cond (eqb x q) 1 0)) (c .before .rule-used .ensures ∙ ap used-rule (c .before .before .construct-at .ensures)))), search needs)
 
 returns : tie.Need-returns Inv-loop μ-loop
 returns c = λ q h. let e = c .before .loop .inv .0 q h in let f = some-none (calls (c .before .before .before .args .table .now) q) (c .before .loop .i) (c .before .before .before .args .end) (c .loop-test .left) in omega arith

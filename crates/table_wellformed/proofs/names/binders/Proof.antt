@@ -4,8 +4,9 @@ use native.Mathlib.Omega.{arith}
 use borrow.Author.Needs.{needs}
 use borrow.Author.Tests.{ltb-true}
 use lib.Dec.{eqb}
+use Rattle.basis.proofs.Booleans.{both-first}
 use Rattle.table_wellformed.specs.Checks.{size-at}
-use Rattle.table_wellformed.proofs.Walks.{Walking, both-first, walk-start, walk-turn, walk-stop, walk-end}
+use Rattle.table_wellformed.proofs.Walks.{Walking, walk-start, walk-turn, walk-stop, walk-end}
 use Rattle.table_wellformed.specs.Rules.{member-laid, next-variable, binders-from}
 use Rattle.table_wellformed.proofs.names.binders.Statement.{statement}
 use Rattle.table_wellformed.proofs.names.binders.Tie as tie

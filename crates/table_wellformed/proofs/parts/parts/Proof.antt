@@ -1,3 +1,4 @@
+use Rattle.basis.proofs.Booleans.{both-first}
 use Rattle.table_wellformed.specs.Checks.{size-at}
 use Prim.Native.Nat.{_-_, _<_}
 use mathlib.Core.Path.{sym, _∙_}
@@ -6,7 +7,7 @@ use borrow.Author.Needs.{needs}
 use borrow.Author.Tests.{ltb-true}
 use lib.Dec.{eqb}
 use Rattle.table_wellformed.specs.Parts.{part-laid, parts-laid}
-use Rattle.table_wellformed.proofs.Walks.{Walking, both-first, walk-start, walk-turn, walk-stop, walk-end}
+use Rattle.table_wellformed.proofs.Walks.{Walking, walk-start, walk-turn, walk-stop, walk-end}
 use Rattle.table_wellformed.proofs.parts.parts.Statement.{statement}
 use Rattle.table_wellformed.proofs.parts.parts.Tie as tie
 
