@@ -1,4 +1,4 @@
--- "Right exactly when spelled": what is said of the form of rules (refusal 4), of tokens and of trees alone.
+-- Right exactly when spelled: what is said of the form of rules (refusal 4), of tokens and of trees alone.
 -- Assumes nothing.
 use Prim.Native.Nat.{ℕ}
 use mathlib.Core.Path.{_≡_}
@@ -41,8 +41,8 @@ pub record FirstFault (ls : List Lexeme) (p : ℕ) : Type 0 where
   pub begun : Begins before
   pub unfit : Begins (before ++ there ∷ []) → ⊥
 
--- "the rules part is of the right form exactly when its tokens spell a tree of depth at most 16, and then exactly one tree; what the reader stores is that
--- tree's encoding"; "refused at p exactly when the tokens before p begin some tree's spelling, and with the token at p no spelling begins"
+-- The rules part is of the right form exactly when its tokens spell a tree of depth at most 16, and then exactly one tree; what the reader stores is that
+-- tree's encoding. It is refused at p exactly when the tokens before p begin some tree's spelling, and with the token at p no spelling begins.
 pub record Formed (xs : List ℕ) (st : State) : Type 0 where
   pub spelled-right : (t : Rules) (end : ℕ) → lexemes xs ≡ spelled t end → answer xs st ≡ right (stored t st)
   pub right-spelled : (f : State) → answer xs st ≡ right f → SpellsStored (lexemes xs) st f
