@@ -3,6 +3,7 @@
 // random text that the comparison has at that seed; `timing FOLDER` tells how long the vectors take.
 mod boundaries;
 mod compare;
+mod examples;
 mod readings;
 mod reports;
 mod timing;
@@ -19,7 +20,10 @@ fn main() {
     match arguments.iter().map(String::as_str).collect::<Vec<_>>()[..] {
         ["readings"] => println!("reference: {} examples of the readings, {} limits", readings::check(), boundaries::check()),
         ["vectors", folder] => println!("reference: {} texts as the vectors say", vectors::check(Path::new(folder))),
-        ["reports", folder] => println!("reference: {} reports of explain hold its numbers, places and windows", reports::check(Path::new(folder))),
+        ["reports", folder] => {
+            let (reports, examples) = reports::check(Path::new(folder));
+            println!("reference: {reports} reports of explain hold its numbers, places and windows; {examples} examples of clashes are right");
+        }
         ["timing", folder] => timing::report(Path::new(folder)),
         ["compare", seed, texts] => compare::report(number(seed), number(texts) as usize),
         ["text", seed] => {

@@ -1,22 +1,35 @@
-// Checks the stored reports of `explain`: number, line and column, weight, and the least window in binary.
+// Checks the stored reports of `explain`: number, line and column, weight, the least window in binary, and the example of a clash.
+use crate::examples;
 use crate::vectors::grammars;
 use reference::grammar::{admit, Refusal};
 use std::fs;
 use std::path::Path;
 
-// How many reports were checked.
-pub fn check(folder: &Path) -> usize {
+// How many reports were checked, and how many of them have an example.
+pub fn check(folder: &Path) -> (usize, usize) {
     let texts = grammars(folder);
     let differences: Vec<String> = texts.iter().filter_map(|path| difference(path)).collect();
     differences.iter().for_each(|difference| println!("{difference}"));
     assert!(differences.is_empty(), "{} differences from the reports", differences.len());
     assert!(!texts.is_empty(), "no reports");
-    texts.len()
+    (texts.len(), texts.iter().filter(|path| has_example(path)).count())
+}
+
+fn report_of(path: &Path) -> String {
+    String::from_utf8(fs::read(path.with_extension("out")).expect("its report")).expect("ASCII")
+}
+
+fn has_example(path: &Path) -> bool {
+    let text = fs::read(path).expect("a text");
+    match admit(&text) {
+        Err(Refusal { place, between: Some(between), .. }) => examples::check(&text, &report_of(path), place, between),
+        _ => false,
+    }
 }
 
 fn difference(path: &Path) -> Option<String> {
     let text = fs::read(path).expect("a text");
-    let report = String::from_utf8(fs::read(path.with_extension("out")).expect("its report")).expect("ASCII");
+    let report = report_of(path);
     let missing = wanted(&text).into_iter().find(|part| !report.contains(part.as_str()));
     missing.map(|part| format!("{}: its report lacks `{part}`", path.display()))
 }

@@ -3,7 +3,6 @@
 use Prim.Native.Nat.{ℕ, _*_}
 use mathlib.Core.Bool.{Bool, cond, _||_}
 use lib.Dec.{leb, eqb}
-use Rattle.report_wording.specs.declared.quoting.Part.{Part}
 
 -- a literal, a range or a uint
 abbrev pub is-field : ℕ → Bool
@@ -12,7 +11,3 @@ is-field kind = eqb kind 6 || (eqb kind 7 || eqb kind 8)
 -- weight times one more than the bits of 256 bytes; no weight is over 65,535
 unfoldable pub bound-of : ℕ → ℕ
 bound-of weight = cond (leb weight 65535) (weight * 2049) 0
-
--- an alternative that is a branch stands in parentheses, so all of it is quoted
-unfoldable pub part-of : ℕ → Part
-part-of kind = cond (eqb kind 1) Part.Whole Part.Branch

@@ -1,6 +1,6 @@
 // An admitted grammar: its numbers, and its fields in order.
-use crate::sets;
-use report_chains::starts::start_of;
+use report_listing::sets;
+use report_measures::starts::start_of;
 use report_places::Located;
 use report_places::Query;
 use report_places::locate;

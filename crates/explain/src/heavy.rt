@@ -1,20 +1,28 @@
 // Refusal 11: the weight, and the heaviest rules.
-use crate::chains::place_of;
-use crate::sets;
-use report_chains::structure::body_of;
-use report_chains::weights::next_heaviest;
-use report_chains::weights::weights;
-use report_chains::words::number_at;
+use report_listing::places::owner;
+use report_listing::places::place_of;
+use report_listing::sets;
+use report_measures::structure::body_of;
+use report_measures::weights::next_heaviest;
+use report_measures::weights::weights;
+use report_measures::words::number_at;
 use report_wording::lines;
+use report_wording::quoting::token;
 use report_wording::writing::number;
 use report_wording::writing::say;
+
+fn named(grammar: &[u8], at: usize) {
+    say(b":  the rule ");
+    token(grammar, at);
+    say(b", ");
+    lines::place(grammar, at);
+    say(b"\n");
+}
 
 fn one(grammar: &[u8], table: &[u32], weights: &[usize], rule: usize) {
     let body = body_of(table, rule);
     number(b"    weight ", number_at(weights, body));
-    say(b":  the rule whose expression begins at ");
-    lines::place(grammar, place_of(grammar, body));
-    say(b"\n");
+    named(grammar, owner(grammar, place_of(grammar, body)));
 }
 
 fn heaviest(grammar: &[u8], table: &[u32], weights: &[usize]) {

@@ -1,17 +1,12 @@
 // Says what is wrong with each grammar file that it is given (kiosk.dogma, where it is given none), and what to change.
 use text_admission::Admission;
 
-mod chains;
-mod clashes;
-mod empty;
 mod fields;
 mod heavy;
 mod limits;
 mod names;
 mod recursion;
 mod refusals;
-mod rewriting;
-mod sets;
 mod warnings;
 
 use report_wording::writing::number;
@@ -34,7 +29,7 @@ fn admitted(grammar: &[u8], weight: usize) {
 }
 
 fn warned(grammar: &[u8]) {
-    let words = sets::encoded(grammar).words;
+    let words = report_listing::sets::encoded(grammar).words;
     warnings::told(grammar, &words);
 }
 
@@ -44,7 +39,7 @@ fn refused(grammar: &[u8], n: usize, place: usize) {
 }
 
 fn conflict(grammar: &[u8], place: usize, construct: usize, clash: Clash) {
-    clashes::conflict(grammar, place, construct, clash);
+    report_clashes::clashes::conflict(grammar, place, construct, clash);
     status(b"refused ", 10, b" at ", place);
 }
 

@@ -1,12 +1,14 @@
 // Refusal 6: a name that is unknown, double, reserved, misplaced or of the wrong kind.
+use report_listing::places::fault_from;
+use report_listing::places::part_at;
 use report_places::Fault;
 use report_places::Located;
 use report_places::Query;
 use report_places::locate;
 use report_wording::lines;
+use report_wording::lines::saturating_next;
 use report_wording::nearest::nearest;
 use report_wording::quoting::Part;
-use report_wording::quoting::quote;
 use report_wording::quoting::token;
 use report_wording::writing::say;
 use text_header::Class;
@@ -23,18 +25,9 @@ fn is_reserved(grammar: &[u8], start: usize, end: usize) -> bool {
     false
 }
 
-// A rule, with its line and column.
-pub fn rule_at(grammar: &[u8], at: usize) {
-    say(b"    ");
-    lines::place(grammar, at);
-    say(b":  ");
-    quote(grammar, at, Part::Whole);
-    say(b"\n");
-}
-
 fn double(grammar: &[u8], at: usize) {
     report_advice::names::double();
-    rule_at(grammar, at);
+    part_at(grammar, at, Part::Whole);
     report_advice::names::change_double();
 }
 
@@ -58,7 +51,7 @@ fn later(grammar: &[u8], at: usize) {
 
 fn rule(grammar: &[u8], at: usize) {
     report_advice::names::rule();
-    rule_at(grammar, at);
+    part_at(grammar, at, Part::Whole);
     report_advice::names::change_unbound();
 }
 
@@ -124,8 +117,76 @@ fn fault_at(grammar: &[u8], at: usize, end: usize) {
     }
 }
 
+// The number of a fault, for a few words on it.
+fn number_of(fault: Fault) -> usize {
+    match fault {
+        Fault::Double(_) => 1,
+        Fault::NoRule => 2,
+        Fault::Variable(_) => 3,
+        Fault::Twice(_) => 4,
+        Fault::Misplaced => 5,
+        Fault::Later(_) => 6,
+        Fault::Rule(_) => 7,
+        Fault::Elsewhere(_) => 8,
+        Fault::NoVariable => 9,
+    }
+}
+
+fn code_at(grammar: &[u8], at: usize, end: usize) -> usize {
+    if is_reserved(grammar, at, end) {
+        return 0;
+    }
+    match locate(grammar, Query::Name(at)) {
+        Located::Name(fault) => number_of(fault),
+        _ => 0,
+    }
+}
+
+fn line(grammar: &[u8], at: usize) {
+    say(b"    ");
+    lines::place(grammar, at);
+    say(b":  ");
+    token(grammar, at);
+    say(b"  ");
+    report_advice::names::brief(code_at(grammar, at, span(Class::Name, grammar, at)));
+}
+
+fn next(grammar: &[u8], at: usize) -> usize {
+    fault_from(grammar, saturating_next(at))
+}
+
+fn left(grammar: &[u8], at: usize) {
+    if at < grammar.len() {
+        say(b"    and more\n");
+    }
+}
+
+// At most twenty from a place on.
+fn each(grammar: &[u8], first: usize) {
+    let mut at = first;
+    let mut n: usize = 0;
+    while n < 20 {
+        if grammar.len() <= at {
+            return;
+        }
+        line(grammar, at);
+        at = next(grammar, at);
+        n += 1;
+    }
+    left(grammar, at);
+}
+
+// The names at fault after the first, a line each.
+fn further(grammar: &[u8], at: usize) {
+    if at < grammar.len() {
+        say(b"Further names at fault (some may be right once others are):\n");
+        each(grammar, at);
+    }
+}
+
 pub fn fault(grammar: &[u8], at: usize) {
     say(b"The name ");
     token(grammar, at);
     fault_at(grammar, at, span(Class::Name, grammar, at));
+    further(grammar, next(grammar, at));
 }

@@ -1,8 +1,8 @@
 // Refusal 7: the uses that lead from a rule back to itself.
-use crate::chains::place_of;
-use crate::sets;
-use report_chains::cycles::cycle;
-use report_chains::words::number_at;
+use report_listing::places::place_of;
+use report_listing::sets;
+use report_measures::cycles::cycle;
+use report_measures::words::number_at;
 use report_wording::lines;
 use report_wording::quoting::token;
 use report_wording::writing::say;

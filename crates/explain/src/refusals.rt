@@ -1,9 +1,9 @@
 // Refusals 1 to 9 and 11: what each means, and what to change.
-use crate::empty;
 use crate::heavy;
 use crate::limits;
 use crate::names;
 use crate::recursion;
+use report_clashes::empty;
 use report_wording::lines;
 use report_wording::writing::number;
 

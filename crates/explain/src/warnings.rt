@@ -1,10 +1,15 @@
-// Warnings for an admitted grammar: fields that admit nothing, rules that nothing uses, a grammar that no frame matches.
-use crate::chains::place_of;
-use crate::sets;
-use report_chains::lengths::width_of;
-use report_chains::structure::body_of;
-use report_chains::structure::is_used;
-use report_chains::words::set_at;
+// Warnings for an admitted grammar: fields that admit nothing, cases that are never chosen, rules that nothing uses, a grammar that no frame
+// matches.
+use report_listing::places::in_rule;
+use report_listing::places::owner;
+use report_listing::places::place_of;
+use report_listing::sets;
+use report_measures::cases::always_before;
+use report_measures::cases::never_holds;
+use report_measures::lengths::width_of;
+use report_measures::structure::body_of;
+use report_measures::structure::is_used;
+use report_measures::words::set_at;
 use report_wording::lines;
 use report_wording::quoting::Part;
 use report_wording::quoting::quote;
@@ -14,6 +19,7 @@ use table_layout::word;
 fn warned(grammar: &[u8], at: usize, part: Part, sentence: &[u8]) {
     say(b"Warning: ");
     lines::place(grammar, at);
+    in_rule(grammar, at);
     say(b":  ");
     quote(grammar, at, part);
     say(b"\n    ");
@@ -42,15 +48,56 @@ fn fields(grammar: &[u8], table: &[u32], first: &[u64]) {
     }
 }
 
+fn never(grammar: &[u8], i: usize) {
+    warned(
+        grammar,
+        place_of(grammar, i),
+        Part::Whole,
+        b"is a case that is never chosen: its condition never holds.\n",
+    );
+}
+
+fn covered(grammar: &[u8], i: usize) {
+    warned(
+        grammar,
+        place_of(grammar, i),
+        Part::Whole,
+        b"is a case that is never chosen: one before it always is.\n",
+    );
+}
+
+fn case(grammar: &[u8], table: &[u32], i: usize) {
+    if never_holds(table, i) {
+        never(grammar, i);
+        return;
+    }
+    if always_before(table, i) {
+        covered(grammar, i);
+    }
+}
+
+fn cases(grammar: &[u8], table: &[u32]) {
+    let mut i: usize = 0;
+    while i < 256 {
+        case(grammar, table, i);
+        i += 1;
+    }
+}
+
+// The rule of construct i, whole.
+fn unused(grammar: &[u8], i: usize) {
+    let at = owner(grammar, place_of(grammar, i));
+    say(b"Warning: ");
+    lines::place(grammar, at);
+    say(b":  ");
+    quote(grammar, at, Part::Whole);
+    say(b"\n    is a rule that nothing uses.\n");
+}
+
 fn rule(grammar: &[u8], table: &[u32], k: usize) {
     if k < word(table, 1) {
         if !is_used(table, k) {
-            warned(
-                grammar,
-                place_of(grammar, body_of(table, k)),
-                Part::Whole,
-                b"is the expression of a rule that nothing uses.\n",
-            );
+            unused(grammar, body_of(table, k));
         }
     }
 }
@@ -75,5 +122,6 @@ pub fn told(grammar: &[u8], table: &[u32]) {
     sets::first(table, &mut first);
     whole(&first);
     fields(grammar, table, &first);
+    cases(grammar, table);
     rules(grammar, table);
 }

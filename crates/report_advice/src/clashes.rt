@@ -7,6 +7,49 @@ pub fn ends() {
     say(b"and {0~..}.\n");
 }
 
+// The branches with what they begin with in front, printed after it.
+pub fn in_front(count: usize) {
+    if count == 2 {
+        say(b"What to change: put what both begin with in front of the two, once.\n");
+        say(b"The frames stay the same. In place of the two branches write\n    ");
+        return;
+    }
+    say(b"What to change: put what they all begin with in front of them, once.\n");
+    say(b"The frames stay the same. In place of these branches write\n    ");
+}
+
+// One branch is what both begin with.
+pub fn optional() {
+    say(b"What to change: put what both begin with in front of the two, once, and let\n");
+    say(b"the rest be left out. The frames stay the same. In place of the two branches\n");
+    say(b"write\n    ");
+}
+
+// The same, but what comes after begins as the rest does.
+pub fn rest_follows() {
+    say(b"What to change: one branch is what both begin with. To put it in front and\n");
+    say(b"let the rest be left out, as \"A\" & \"B\"? for \"AB\" | \"A\", does not help here:\n");
+    say(b"what comes after the alternative can begin as the rest does, so that would\n");
+    say(b"clash too. One of these:\n");
+    say(b"  - Bring what comes after into the branches, and put in front what they then\n");
+    say(
+        b"    all begin with: \"AB\" & (\"C\" | \"BC\") for (\"A\" | \"AB\") & \"BC\". The frames\n",
+    );
+    say(b"    stay the same.\n");
+    say(b"  - Else the frames may have to change: the branches must differ in the next 8\n");
+    say(b"    bits.\n");
+}
+
+// Only the first two were written anew.
+pub fn mends(count: usize) {
+    if count == 3 {
+        say(b"That is for the first two; the further branch still clashes with it.\n");
+    }
+    if 3 < count {
+        say(b"That is for the first two; the further branches still clash with it.\n");
+    }
+}
+
 fn switch() {
     say(b"  - Where a field in front says which of the two comes, bind that field where\n");
     say(b"    it stands, in the same rule and outside of parentheses, and write the\n");

@@ -60,7 +60,7 @@ pub fn later() {
 pub fn change_later() {
     say(b"What to change: use it in a member that comes after the field that\n");
     say(b"binds it. The field's own set cannot use it. To put the field elsewhere\n");
-    say(b"changes the frames.\n");
+    say(b"may change the frames.\n");
 }
 
 pub fn rule() {
@@ -74,6 +74,22 @@ pub fn elsewhere() {
 pub fn change_elsewhere() {
     say(b"What to change: a variable can be used only in the rule that binds\n");
     say(b"it. Bring the field that binds it and what uses it into one rule.\n");
+}
+
+// What is wrong with a further name, in a few words: faults by their numbers.
+pub fn brief(fault: usize) {
+    match fault {
+        0 => say(b"is a reserved word\n"),
+        1 => say(b"is the name of a rule above\n"),
+        2 => say(b"belongs to no rule\n"),
+        3 => say(b"is a variable of this rule, and a rule must stand here\n"),
+        4 => say(b"is bound for the second time in this rule\n"),
+        5 => say(b"cannot be bound here\n"),
+        6 => say(b"is used before it is bound\n"),
+        7 => say(b"is a rule, and a variable or a number must stand here\n"),
+        8 => say(b"is a variable of another rule only\n"),
+        _ => say(b"is no variable of this rule\n"),
+    }
 }
 
 pub fn no_variable() {

@@ -1,4 +1,5 @@
 -- What `locate` promises.
 pub mod Faults
+pub mod Further
 pub mod Located
 pub mod Tables

@@ -9,11 +9,12 @@ use lib.ListN.{length, drop}
 use Rattle.basis.specs.Limits.{max-text-bytes}
 use Rattle.text_header.specs.Header.{header-of}
 use Rattle.text_header.specs.declared.Heading.{Heading}
-use Rattle.text_store.specs.Store.{node-words, rule-words, nodes-of, rules-of}
+use Rattle.text_store.specs.Store.{node-words, term-words, rule-words, nodes-of, rules-of}
 use Rattle.text_parsing.specs.Form.{Outcome, right, refused}
-use Rattle.text_store.specs.Words.{kind-of, place-of, last-node, terms-at-end, binders-at-end}
+use Rattle.text_store.specs.Words.{kind-of, place-of, named-at, last-node, terms-at-end, binders-at-end}
 use Rattle.text_admission.specs.Admitted.{form}
 use Rattle.report_places.specs.Faults.{from-base, rule-number, first-rule, name-fault}
+use Rattle.report_places.specs.Further.{next-fault}
 use Rattle.report_places.specs.declared.Located.{Located}
 use Rattle.report_places.specs.declared.Query.{Query}
 
@@ -22,15 +23,17 @@ abbrev pub totals-of : List ℕ → ℕ → Located
 totals-of rs k = Located.Rule (k + 1) (last-node rs k) (terms-at-end rs k) (binders-at-end rs k)
 
 -- of the text xs of the rules, which begin at `base`, with n nodes and r rules
-abbrev pub answered : (xs ns rs : List ℕ) → (base n r : ℕ) → Query → Located
-answered xs ns rs base n r (Query.Construct i) = Located.Construct (base + place-of ns i) (kind-of ns i) n
-answered xs ns rs base n r (Query.Rule at) = totals-of rs (rule-number rs r (at - base))
-answered xs ns rs base n r (Query.Definition at) = Located.Definition (from-base base (first-rule xs rs r (at - base)))
-answered xs ns rs base n r (Query.Name at) = Located.Name (name-fault xs ns rs base n r (at - base))
+abbrev pub answered : (xs ns ts rs : List ℕ) → (base n r : ℕ) → Query → Located
+answered xs ns ts rs base n r (Query.Construct i) = Located.Construct (base + place-of ns i) (kind-of ns i) n
+answered xs ns ts rs base n r (Query.Rule at) = totals-of rs (rule-number rs r (at - base))
+answered xs ns ts rs base n r (Query.Owner at) = Located.Place (from-base base (named-at rs (rule-number rs r (at - base))))
+answered xs ns ts rs base n r (Query.Definition at) = Located.Place (from-base base (first-rule xs rs r (at - base)))
+answered xs ns ts rs base n r (Query.Name at) = Located.Name (name-fault xs ns rs base n r (at - base))
+answered xs ns ts rs base n r (Query.Fault at) = Located.Place (from-base base (next-fault (at - base) xs ns ts rs r))
 
 -- by the form of the rules
 abbrev pub located-in : (xs : List ℕ) → (base : ℕ) → Query → Outcome → Located
-located-in xs base q (right st) = answered xs (node-words st) (rule-words st) base (nodes-of st) (rules-of st) q
+located-in xs base q (right st) = answered xs (node-words st) (term-words st) (rule-words st) base (nodes-of st) (rules-of st) q
 located-in xs base q (refused p) = Located.Nothing
 
 -- after a header

@@ -4,10 +4,12 @@ use faults::first_rule;
 use faults::from;
 use faults::name_fault;
 use faults::rule_number;
+use further::next_fault;
 use text_header::Heading;
 use text_store::BINDERS_AT_END;
 use text_store::KIND;
 use text_store::LAST_NODE;
+use text_store::NAMED_AT;
 use text_store::NODES_ROOM;
 use text_store::PLACE;
 use text_store::RULES_ROOM;
@@ -19,20 +21,25 @@ ghost use mathlib.Core.Path.{_≡_};
 ghost use Prim.Native.Nat.{ℕ, _+_, _-_, _≤_};
 ghost use lib.ListN.{length, drop};
 ghost use Rattle.basis.specs.Limits.{max-text-bytes, max-rules};
-ghost use Rattle.text_store.specs.Words.{node-word, place-of, kind-of, nodes-room, rules-room};
+ghost use Rattle.text_store.specs.Words.{node-word, place-of, kind-of, named-at, nodes-room, terms-room, rules-room};
 ghost use Rattle.text_admission.specs.Admitted.{form};
 ghost use Rattle.report_places.specs.Faults.{from-base, rule-number, first-rule, name-fault};
+ghost use Rattle.report_places.specs.Further.{next-fault};
 ghost use Rattle.report_places.specs.Located.{totals-of, answered, located-in, located};
 
 mod faults;
+mod further;
 pub mod tables;
 
-// A construct by its number; the rule that a place lies in; the rule that has the name at a place; what is wrong with the name at a place.
+// A construct by its number; how much there is up to the rule that a place lies in; the name of that rule; the rule that has the name at a place; what
+// is wrong with the name at a place; the first name at fault from a place on.
 pub enum Query {
     Construct(usize),
     Rule(usize),
+    Owner(usize),
     Definition(usize),
     Name(usize),
+    Fault(usize),
 }
 
 // What is wrong with a name that is not reserved. Numbers are places.
@@ -53,8 +60,8 @@ pub enum Fault {
 }
 
 // A construct's first byte in the whole text, its kind (6 literal, 7 range, 8 uint, 9 eod; the others as in `text_parsing`), and how many
-// constructs the text has. How many rules, constructs, terms and variables there are up to a rule's end. A rule's place. Nothing, where
-// the header or the form of the rules is wrong.
+// constructs the text has. How many rules, constructs, terms and variables there are up to a rule's end. A name's place, far past the text where there is
+// no such name. Nothing, where the header or the form of the rules is wrong.
 pub enum Located {
     Construct {
         place: usize,
@@ -67,7 +74,7 @@ pub enum Located {
         terms: usize,
         variables: usize,
     },
-    Definition(usize),
+    Place(usize),
     Name(Fault),
     Nothing,
 }
@@ -108,11 +115,19 @@ fn rule(rules: &[usize], count: usize, p: usize) -> Located
     totals(rules, rule_number(rules, count, p))
 }
 
+fn owner(rules: &[usize], base: usize, count: usize, p: usize) -> Located
+    requires { ⌜ length (now rules) ≡ rules-room ⌝ }
+    ensures { λ r. ⌜ r ≡ Located.Place (from-base base (named-at (now (rules .entry)) (rule-number (now (rules .entry)) count p))) ⌝ }
+{
+    let k = rule_number(rules, count, p);
+    Located::Place(from(base, rule_word(rules, k, NAMED_AT)))
+}
+
 fn definition(text: &[u8], rules: &[usize], base: usize, count: usize, p: usize) -> Located
     requires { ⌜ length (now rules) ≡ rules-room ⌝ }
-    ensures { λ r. ⌜ r ≡ Located.Definition (from-base base (first-rule (now (text .entry)) (now (rules .entry)) count p)) ⌝ }
+    ensures { λ r. ⌜ r ≡ Located.Place (from-base base (first-rule (now (text .entry)) (now (rules .entry)) count p)) ⌝ }
 {
-    Located::Definition(from(base, first_rule(text, rules, count, p)))
+    Located::Place(from(base, first_rule(text, rules, count, p)))
 }
 
 fn name(
@@ -130,6 +145,21 @@ fn name(
     Located::Name(name_fault(text, nodes, rules, base, constructs, count, p))
 }
 
+fn at_fault(
+    text: &[u8],
+    nodes: &[usize],
+    terms: &[usize],
+    rules: &[usize],
+    base: usize,
+    count: usize,
+    p: usize,
+) -> Located
+    requires { ⌜ (length (now nodes) ≡ nodes-room) × (length (now terms) ≡ terms-room) × (length (now rules) ≡ rules-room) ⌝ }
+    ensures { λ r. ⌜ r ≡ Located.Place (from-base base (next-fault p (now (text .entry)) (now (nodes .entry)) (now (terms .entry)) (now (rules .entry)) count)) ⌝ }
+{
+    Located::Place(from(base, next_fault(text, nodes, terms, rules, p, count)))
+}
+
 fn inside(base: usize, at: usize) -> usize
     ensures { λ r. ⌜ r ≡ at - base ⌝ }
 {
@@ -142,18 +172,20 @@ fn inside(base: usize, at: usize) -> usize
 fn answer(
     text: &[u8],
     nodes: &[usize],
+    terms: &[usize],
     rules: &[usize],
     base: usize,
     constructs: usize,
     count: usize,
     query: Query,
 ) -> Located
-    requires { ⌜ (length (now nodes) ≡ nodes-room) × (length (now rules) ≡ rules-room) × (base ≤ max-text-bytes) × ((k : ℕ) → node-word (now nodes) k 2 ≤ max-text-bytes) ⌝ }
-    ensures { λ r. ⌜ r ≡ answered (now (text .entry)) (now (nodes .entry)) (now (rules .entry)) base constructs count query ⌝ }
+    requires { ⌜ (length (now nodes) ≡ nodes-room) × (length (now terms) ≡ terms-room) × (length (now rules) ≡ rules-room) × (base ≤ max-text-bytes) × ((k : ℕ) → node-word (now nodes) k 2 ≤ max-text-bytes) ⌝ }
+    ensures { λ r. ⌜ r ≡ answered (now (text .entry)) (now (nodes .entry)) (now (terms .entry)) (now (rules .entry)) base constructs count query ⌝ }
 {
     match query {
         Query::Construct(i) => construct(nodes, base, i, constructs),
         Query::Rule(at) => rule(rules, count, inside(base, at)),
+        Query::Owner(at) => owner(rules, base, count, inside(base, at)),
         Query::Definition(at) => definition(text, rules, base, count, inside(base, at)),
         Query::Name(at) => name(
             text,
@@ -164,6 +196,7 @@ fn answer(
             count,
             inside(base, at),
         ),
+        Query::Fault(at) => at_fault(text, nodes, terms, rules, base, count, inside(base, at)),
     }
 }
 
@@ -179,7 +212,7 @@ fn locate_rules(text: &[u8], base: usize, query: Query) -> Located
     if c.code == 0 {
         return Located::Nothing;
     }
-    answer(text, &nodes, &rules, base, c.nodes, c.rules, query)
+    answer(text, &nodes, &terms, &rules, base, c.nodes, c.rules, query)
 }
 
 // The rules begin at `base`.

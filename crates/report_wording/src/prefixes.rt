@@ -1,4 +1,4 @@
-// Two branches that begin with literals, written anew with what both begin with in front of them.
+// Branches that begin with literals, written anew with what all of them begin with in front.
 use crate::quoting::Part;
 use crate::quoting::end_of;
 use crate::writing::Style;
@@ -39,7 +39,7 @@ fn same(grammar: &[u8], a: usize, b: usize) -> bool {
 }
 
 // How many characters two literals begin with alike, up to 32.
-fn shared(grammar: &[u8], first: usize, second: usize) -> usize {
+pub fn shared(grammar: &[u8], first: usize, second: usize) -> usize {
     let mut n: usize = 0;
     while n < 32 {
         if !same(grammar, plus(first, plus(1, n)), plus(second, plus(1, n))) {
@@ -93,18 +93,18 @@ fn short(grammar: &[u8], at: usize) -> bool {
     false
 }
 
-fn fit(grammar: &[u8], first: usize, second: usize, n: usize) -> bool {
-    if n == 0 {
-        return false;
-    }
-    if longer(grammar, first, n) {
-        if longer(grammar, second, n) {
-            if short(grammar, first) {
-                return short(grammar, second);
-            }
+// The literal goes on with a character that stands for itself: an escape may be the same character as the other's.
+fn goes_on(grammar: &[u8], at: usize, n: usize) -> bool {
+    if longer(grammar, at, n) {
+        if plain(byte_at(grammar, plus(at, plus(1, n)))) {
+            return short(grammar, at);
         }
     }
     false
+}
+
+fn next_byte(grammar: &[u8], at: usize, n: usize) -> u8 {
+    byte_at(grammar, plus(at, plus(1, n)))
 }
 
 // The branch is its literal.
@@ -113,7 +113,7 @@ fn alone(grammar: &[u8], at: usize) -> bool {
 }
 
 // One branch is all that the two share, and the other goes on.
-fn is_prefix(grammar: &[u8], whole: usize, other: usize, n: usize) -> bool {
+pub fn is_prefix(grammar: &[u8], whole: usize, other: usize, n: usize) -> bool {
     if n == 0 {
         return false;
     }
@@ -128,17 +128,16 @@ fn is_prefix(grammar: &[u8], whole: usize, other: usize, n: usize) -> bool {
     false
 }
 
-fn optional(grammar: &[u8], other: usize, n: usize) {
-    say(b"What to change: put what both begin with in front of the two, once, and let\n");
-    say(b"the rest be left out. The frames stay the same. In place of the two branches\n");
-    say(b"write\n    \"");
-    bytes(
-        Style::Line,
-        grammar,
-        plus(other, 1),
-        plus(other, plus(1, n)),
-    );
+// What is in front, as a literal.
+fn front(grammar: &[u8], at: usize, n: usize) {
+    say(b"\"");
+    bytes(Style::Line, grammar, plus(at, 1), plus(at, plus(1, n)));
     say(b"\" & ");
+}
+
+// One branch is the first n characters of the other: the rest may be left out.
+pub fn optional(grammar: &[u8], other: usize, n: usize) {
+    front(grammar, other, n);
     if alone(grammar, other) {
         rest(grammar, other, n);
         say(b"?\n");
@@ -149,38 +148,106 @@ fn optional(grammar: &[u8], other: usize, n: usize) {
     say(b")?\n");
 }
 
-fn written(grammar: &[u8], first: usize, second: usize, n: usize) {
-    say(b"What to change: put what both begin with in front of the two, once.\n");
-    say(b"The frames stay the same. In place of the two branches write\n");
-    say(b"    \"");
-    bytes(
-        Style::Line,
-        grammar,
-        plus(first, 1),
-        plus(first, plus(1, n)),
-    );
-    say(b"\" & (");
-    rest(grammar, first, n);
-    say(b" | ");
-    rest(grammar, second, n);
-    say(b")\n");
+fn place(places: &[usize], k: usize) -> usize {
+    if k < places.len() {
+        return places[k];
+    }
+    0
 }
 
-// Whether the two could be written so: both literals go on after what they share, and differ there; or one of the two does, and the other is a
-// whole branch.
-pub fn taken_out(grammar: &[u8], first: usize, second: usize) -> bool {
-    let n = shared(grammar, first, second);
-    if is_prefix(grammar, first, second, n) {
-        optional(grammar, second, n);
-        return true;
+fn least(a: usize, b: usize) -> usize {
+    if a < b {
+        return a;
     }
-    if is_prefix(grammar, second, first, n) {
-        optional(grammar, first, n);
-        return true;
+    b
+}
+
+// How many characters the first `count` branches begin with alike.
+fn all_share(grammar: &[u8], places: &[usize], count: usize) -> usize {
+    let mut n: usize = 32;
+    let mut k: usize = 1;
+    while k < count {
+        n = least(n, shared(grammar, place(places, 0), place(places, k)));
+        k += 1;
     }
-    if fit(grammar, first, second, n) {
-        written(grammar, first, second, n);
-        return true;
+    n
+}
+
+// Whether each goes on after n characters.
+fn all_go_on(grammar: &[u8], places: &[usize], count: usize, n: usize) -> bool {
+    let mut k: usize = 0;
+    while k < count {
+        if !goes_on(grammar, place(places, k), n) {
+            return false;
+        }
+        k += 1;
+    }
+    true
+}
+
+// Whether none of the later ones goes on as branch k does.
+fn apart(grammar: &[u8], places: &[usize], count: usize, n: usize, k: usize) -> bool {
+    let b = next_byte(grammar, place(places, k), n);
+    let mut j = plus(k, 1);
+    while j < count {
+        if next_byte(grammar, place(places, j), n) == b {
+            return false;
+        }
+        j += 1;
+    }
+    true
+}
+
+fn all_apart(grammar: &[u8], places: &[usize], count: usize, n: usize) -> bool {
+    let mut k: usize = 0;
+    while k < count {
+        if !apart(grammar, places, count, n, k) {
+            return false;
+        }
+        k += 1;
+    }
+    true
+}
+
+fn between(k: usize) {
+    if 0 < k {
+        say(b" | ");
+    }
+}
+
+fn one_rest(grammar: &[u8], places: &[usize], n: usize, k: usize) {
+    between(k);
+    rest(grammar, place(places, k), n);
+}
+
+fn rests(grammar: &[u8], places: &[usize], count: usize, n: usize) {
+    let mut k: usize = 0;
+    while k < count {
+        one_rest(grammar, places, n, k);
+        k += 1;
+    }
+}
+
+// Whether the branches could be written so, the first n characters of all in front: all go on after them, each with another character. Six
+// are as many as a reader takes in.
+pub fn fit(grammar: &[u8], places: &[usize], count: usize) -> bool {
+    let n = all_share(grammar, places, count);
+    if n == 0 {
+        return false;
+    }
+    if 6 < count {
+        return false;
+    }
+    if all_go_on(grammar, places, count, n) {
+        return all_apart(grammar, places, count, n);
     }
     false
+}
+
+pub fn written(grammar: &[u8], places: &[usize], count: usize) {
+    let n = all_share(grammar, places, count);
+    front(grammar, place(places, 0), n);
+    say(b"(");
+    rests(grammar, places, count, n);
+    say(b")\n");
 }

@@ -100,7 +100,7 @@ pub data Tests : TestPart → ℕ → Type 0 where
 abbrev pub Condition : ℕ → Type 0
 Condition d = Tests tests d
 
--- ---- expressions: "loosest first: alternative `|`, concatenation `&`, repetition"
+-- ---- "Expressions, loosest first (document 001): alternative `|`, concatenation `&`, repetition."
 
 -- "A repetition is `?`, `*`, `+`, `{n}`, …, one to an item"
 pub data Mark : Type 0 where

@@ -1,4 +1,4 @@
--- "Right exactly when spelled": what is said of the form of rules (refusal 4), of tokens and of trees alone.
+-- Right exactly when spelled: what is said of the form of rules (refusal 4), of tokens and of trees alone.
 -- Assumes nothing.
 use Prim.Native.Nat.{ℕ}
 use mathlib.Core.Path.{_≡_}

@@ -1,5 +1,5 @@
 -- Refusal 5: "a number of the Limits line passed", at "the rule in which it first is". "Limits: 64 rules, 256 constructs, 64 variables, 1,024 numbers,
--- variable uses and signs …".
+-- variable uses and signs (…) in sets, counts and conditions (parentheses free)."
 -- Assumes nothing.
 use Prim.Native.Nat.{ℕ, suc, _+_}
 use mathlib.Core.Bool.{Bool, true, false, _||_}
@@ -38,7 +38,7 @@ constructs true (or-branches x s more) = constructs false x + constructs true mo
 abbrev pub rule-constructs : Rule → ℕ
 rule-constructs r = constructs false (rule-body r)
 
--- "numbers, variable uses and signs in sets, counts and conditions"; a width is none
+-- "numbers, variable uses and signs (…) in sets, counts and conditions"; a width is none
 unfoldable pub terms : List Piece → ℕ
 terms [] = 0
 terms (use-of-rule x ∷ more) = terms more

@@ -26,15 +26,15 @@ is-among (y ∷ more) x = is-same (y .letters) (x .letters) || is-among more x
 abbrev pub rule-fault : (earlier : List Name) → Name → Bool
 rule-fault earlier x = is-reserved x || is-among earlier x
 
--- a rule's use: "unknown", or "of the wrong kind": "In its rule a variable hides a rule of the same name"
+-- a rule's use: "unknown", "reserved", or "of the wrong kind": "In its rule a variable hides a rule of the same name"
 abbrev pub use-fault : (rules variables : List Name) → Name → Bool
 use-fault rules variables x = is-reserved x || (not (is-among rules x) || is-among variables x)
 
--- a variable's name in its binder, after the binders of these names in its rule: "double", "reserved", "misplaced"
+-- a variable's name in its binder, after the binders of these names in its rule: "double, reserved, misplaced"
 abbrev pub binder-fault : (before : List Name) → (placed : Bool) → Name → Bool
 binder-fault before placed x = is-reserved x || (is-among before x || not placed)
 
--- a variable's use: "uses stand in later members" than a binder; one that is misplaced is at fault itself
+-- a variable's use: "unknown", "reserved"; "uses stand in later members" than a binder; one that is misplaced is at fault itself
 abbrev pub variable-fault : (before : List Name) → Name → Bool
 variable-fault before x = is-reserved x || not (is-among before x)
 

@@ -2,7 +2,8 @@ use mathlib.Core.Path.{sym}
 use Rattle.text_parsing.specs.Cursors.{state-at}
 use Rattle.text_store.specs.Store.{blank}
 use Rattle.text_admission.proofs.Facts.{basics}
-use Rattle.text_admission.proofs.Stages.{formed}
+use Rattle.text_admission.proofs.Stages.{formed, not-formed}
+use Rattle.report_places.proofs.TableLaws.{wrong-form}
 use borrow.Author.Needs.{needs}
 use Rattle.report_places.proofs.tables.encode_rules.Statement.{statement}
 use Rattle.report_places.proofs.tables.encode_rules.Tie as tie
@@ -11,7 +12,7 @@ read-requires : tie.Need-read-requires
 read-requires c κs = search needs
 
 returns : tie.Need-returns
-returns c = search needs
+returns c = let s = c .before .before .before .before .before .before .before .before in let r = c .before .before .read in (wrong-form (s .args .text .now) (r .result .start) (not-formed (s .args .text .now) blank (s .pre .0) (r .result) (r .last .1 .0) (r .last .1 .1 .0) (r .last .1 .1 .1 .0) (r .ensures) (c .if1 .taken)), s .pre .1)
 
 slice-aggregate-encode-checked : tie.Need-slice-aggregate-encode-checked
 slice-aggregate-encode-checked c = sym (basics (c .before .before .before .before .before .before .before .before .before .args .text .now) (state-at (c .before .before .before .read .result) (c .before .before .before .read .last .1 .0) (c .before .before .before .read .last .1 .1 .0) (c .before .before .before .read .last .1 .1 .1 .0)) (formed (c .before .before .before .before .before .before .before .before .before .args .text .now) blank (c .before .before .before .before .before .before .before .before .before .pre .0) (c .before .before .before .read .result) (c .before .before .before .read .last .1 .0) (c .before .before .before .read .last .1 .1 .0) (c .before .before .before .read .last .1 .1 .1 .0) (c .before .before .before .read .ensures) (c .before .if1 .left)) .node-length)

@@ -1,0 +1,46 @@
+use native.Mathlib.Omega.{arith}
+use borrow.Author.Needs.{needs}
+use Prim.Native.Nat.{_-_}
+use Rattle.report_clashes.proofs.changes.branch_from.Statement.{statement}
+use Rattle.report_clashes.proofs.changes.branch_from.Tie as tie
+
+abbrev Inv-loop : tie.InvT-loop
+Inv-loop table prediction construct window from i₀ i = Unit
+
+abbrev μ-loop : tie.MeasureT-loop
+μ-loop table prediction construct window from i₀ i = 256 - i
+
+loop-holds : tie.Need-loop-holds Inv-loop μ-loop
+loop-holds c = tt
+
+is-branch-requires : tie.Need-is-branch-requires Inv-loop μ-loop
+is-branch-requires c κs = search needs
+
+returns : tie.Need-returns Inv-loop μ-loop
+returns c = search needs
+
+add-i : tie.Need-add-i Inv-loop μ-loop
+add-i c = omega arith
+
+loop-less : tie.Need-loop-less Inv-loop μ-loop
+loop-less c = omega arith
+
+loop-again : tie.Need-loop-again Inv-loop μ-loop
+loop-again c = tt
+
+returns-2 : tie.Need-returns-2 Inv-loop μ-loop
+returns-2 c = search needs
+
+pub branch-from-spec : {M : Type 1} → statement M
+branch-from-spec =
+    tie.close
+    (tie.spec
+    Inv-loop
+    μ-loop
+    loop-holds
+    is-branch-requires
+    returns
+    add-i
+    loop-less
+    loop-again
+    returns-2)

@@ -1,0 +1,42 @@
+use native.Mathlib.Omega.{arith}
+use borrow.Author.Needs.{needs}
+use Prim.Native.Nat.{_-_}
+use Rattle.report_clashes.proofs.empty.each_other.Statement.{statement}
+use Rattle.report_clashes.proofs.empty.each_other.Tie as tie
+
+abbrev Inv-loop : tie.InvT-loop
+Inv-loop grammar table first at i₀ i = Unit
+
+abbrev μ-loop : tie.MeasureT-loop
+μ-loop grammar table first at i₀ i = 256 - i
+
+loop-holds : tie.Need-loop-holds Inv-loop μ-loop
+loop-holds c = tt
+
+another-requires : tie.Need-another-requires Inv-loop μ-loop
+another-requires c κs = search needs
+
+add-i : tie.Need-add-i Inv-loop μ-loop
+add-i c = omega arith
+
+loop-less : tie.Need-loop-less Inv-loop μ-loop
+loop-less c = omega arith
+
+loop-again : tie.Need-loop-again Inv-loop μ-loop
+loop-again c = tt
+
+returns : tie.Need-returns Inv-loop μ-loop
+returns c = search needs
+
+pub each-other-spec : {M : Type 1} → statement M
+each-other-spec =
+    tie.close
+    (tie.spec
+    Inv-loop
+    μ-loop
+    loop-holds
+    another-requires
+    add-i
+    loop-less
+    loop-again
+    returns)

@@ -1,0 +1,2 @@
+-- How much of the text is quoted.
+pub mod Quoted

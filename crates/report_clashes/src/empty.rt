@@ -1,0 +1,109 @@
+// Refusal 9: how what is repeated can take no bits.
+use crate::sides::next;
+use report_chains::machine;
+use report_listing::chains;
+use report_listing::places::part_at;
+use report_listing::places::place_of;
+use report_listing::sets;
+use report_wording::quoting::Part;
+use report_wording::quoting::end_of;
+use report_wording::writing::say;
+use text_parsing::terminals::look;
+
+// The place of a repetition's sign.
+fn mark_of(grammar: &[u8], construct: usize) -> usize {
+    let end = end_of(grammar, place_of(grammar, construct), Part::Field);
+    let terminal = look(grammar, end);
+    terminal.start
+}
+
+// A repetition, and how its body takes nothing.
+fn body(grammar: &[u8], table: &[u32], first: &[u64], construct: usize) {
+    let mut steps = [0usize; 256];
+    part_at(grammar, place_of(grammar, construct), Part::Member);
+    let count = machine::takes_nothing(table, first, first, &mut steps, next(construct));
+    chains::listed(grammar, table, &steps, count);
+}
+
+// Whether a count with a variable is on the way.
+fn is_free(table: &[u32], first: &[u64], construct: usize) -> bool {
+    let mut steps = [0usize; 256];
+    let count = machine::takes_nothing(table, first, first, &mut steps, next(construct));
+    chains::free(table, &steps, count)
+}
+
+fn is_here(grammar: &[u8], table: &[u32], first: &[u64], i: usize, at: usize) -> bool {
+    if sets::empty_body(table, first, i) {
+        return mark_of(grammar, i) == at;
+    }
+    false
+}
+
+// The repetition whose sign stands at a place; 256 where there is none.
+fn this(grammar: &[u8], table: &[u32], first: &[u64], at: usize) -> usize {
+    let mut i: usize = 0;
+    while i < 256 {
+        if is_here(grammar, table, first, i, at) {
+            return i;
+        }
+        i += 1;
+    }
+    256
+}
+
+fn is_other(grammar: &[u8], table: &[u32], first: &[u64], i: usize, at: usize) -> bool {
+    if sets::empty_body(table, first, i) {
+        return mark_of(grammar, i) != at;
+    }
+    false
+}
+
+fn has_others(grammar: &[u8], table: &[u32], first: &[u64], at: usize) -> bool {
+    let mut i: usize = 0;
+    while i < 256 {
+        if is_other(grammar, table, first, i, at) {
+            return true;
+        }
+        i += 1;
+    }
+    false
+}
+
+fn another(grammar: &[u8], table: &[u32], first: &[u64], i: usize, at: usize) {
+    if is_other(grammar, table, first, i, at) {
+        body(grammar, table, first, i);
+    }
+}
+
+fn each_other(grammar: &[u8], table: &[u32], first: &[u64], at: usize) {
+    let mut i: usize = 0;
+    while i < 256 {
+        another(grammar, table, first, i, at);
+        i += 1;
+    }
+}
+
+fn others(grammar: &[u8], table: &[u32], first: &[u64], at: usize) {
+    if has_others(grammar, table, first, at) {
+        say(b"The same is wrong here:\n");
+        each_other(grammar, table, first, at);
+    }
+}
+
+fn told(grammar: &[u8], table: &[u32], at: usize) {
+    let mut first = [0u64; 2056];
+    let mut follow = [0u64; 2056];
+    let mut prediction = [0u64; 2056];
+    sets::all(table, &mut first, &mut follow, &mut prediction);
+    let construct = this(grammar, table, &first, at);
+    let free = is_free(table, &first, construct);
+    report_advice::rest::empty_body(free);
+    body(grammar, table, &first, construct);
+    report_advice::rest::change_empty_body(free);
+    others(grammar, table, &first, at);
+}
+
+pub fn explained(grammar: &[u8], at: usize) {
+    let words = sets::encoded(grammar).words;
+    told(grammar, &words, at);
+}

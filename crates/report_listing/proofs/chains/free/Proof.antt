@@ -1,0 +1,46 @@
+use native.Mathlib.Omega.{arith}
+use borrow.Author.Needs.{needs}
+use Prim.Native.Nat.{_-_}
+use Rattle.report_listing.proofs.chains.free.Statement.{statement}
+use Rattle.report_listing.proofs.chains.free.Tie as tie
+
+abbrev Inv-loop : tie.InvT-loop
+Inv-loop table steps count k₀ k = Unit
+
+abbrev μ-loop : tie.MeasureT-loop
+μ-loop table steps count k₀ k = count - k
+
+loop-holds : tie.Need-loop-holds Inv-loop μ-loop
+loop-holds c = tt
+
+free-at-requires : tie.Need-free-at-requires Inv-loop μ-loop
+free-at-requires c κs = search needs
+
+returns : tie.Need-returns Inv-loop μ-loop
+returns c = search needs
+
+add-k : tie.Need-add-k Inv-loop μ-loop
+add-k c = omega arith
+
+loop-less : tie.Need-loop-less Inv-loop μ-loop
+loop-less c = omega arith
+
+loop-again : tie.Need-loop-again Inv-loop μ-loop
+loop-again c = tt
+
+returns-2 : tie.Need-returns-2 Inv-loop μ-loop
+returns-2 c = search needs
+
+pub free-spec : {M : Type 1} → statement M
+free-spec =
+    tie.close
+    (tie.spec
+    Inv-loop
+    μ-loop
+    loop-holds
+    free-at-requires
+    returns
+    add-k
+    loop-less
+    loop-again
+    returns-2)
