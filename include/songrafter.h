@@ -44,7 +44,7 @@ extern "C" {
 #define SONGRAFTER_STACK_ADMIT 204800u /* songrafter_admit */
 #define SONGRAFTER_STACK_OPEN 65536u   /* songrafter_open */
 #define SONGRAFTER_STACK_GRANT 24576u  /* songrafter_grant */
-#define SONGRAFTER_STACK_ACCESS 8192u  /* songrafter_field, and songrafter_verdict and the others that read a saved run */
+#define SONGRAFTER_STACK_ACCESS 8192u  /* songrafter_field, songrafter_verdict and the others that read a saved run */
 
 /* Numbers of refusal. 0 is no refusal. docs/GRAMMAR.md has an example and a mend for each; songrafter_refusal_text
  * has a sentence. */
@@ -162,8 +162,8 @@ static inline const char *songrafter_refusal_text(size_t number) {
     case SONGRAFTER_WEIGHT: return "the grammar is too heavy: its weight is over 65,535";
     case SONGRAFTER_FRAME_LONG: return "the frame is over 256 bytes";
     case SONGRAFTER_READING_SMALL: return "the reading has too few words";
-    case SONGRAFTER_TABLE_UNSOUND: return "the table is not a grammar's";
-    case SONGRAFTER_RUN_UNFIT: return "the saved run does not fit the table, the frame and the reading";
+    case SONGRAFTER_TABLE_UNSOUND: return "the table is not sound, or has no such field";
+    case SONGRAFTER_RUN_UNFIT: return "the saved run or the field does not fit the table, the frame and the reading";
     default: return "not a number of refusal";
     }
 }
