@@ -84,9 +84,12 @@ module _ (xs : List ℕ) (short : length xs ≤ max-text-bytes) (st : State) (p 
   -- 9
   pub marked : (q : ℕ) → LeastMark st ws q → EmptyBodies (its-tree xs short st p) q
   marked q m =
-      let e = word-sets xs short st p .empty-body-iff (m .construct) .0 (m .empty) in
-      (m .construct, e, m .mark ∙ mark-is xs short st p (m .construct) e,
-      λ j f. omega (arith, m .least j (empty-there xs short st p j f) (word-sets xs short st p .empty-body-iff j .1 f), mark-is xs short st p j f))
+      let e = word-sets xs short st p .empty-body-iff (m .construct) .0 (m .empty) in (
+        m .construct,
+        e,
+        m .mark ∙ mark-is xs short st p (m .construct) e,
+        λ j f. omega (arith, m .least j (empty-there xs short st p j f) (word-sets xs short st p .empty-body-iff j .1 f), mark-is xs short st p j f),
+      )
 
   pub no-empty-body : Passed9 ws → (q : ℕ) → EmptyBodies (its-tree xs short st p) q → ⊥
   no-empty-body j q x = j .no-empty-body (x .0) (word-sets xs short st p .empty-body-iff (x .0) .1 (x .1))
