@@ -28,7 +28,7 @@ use Rattle.theory.proofs.FirstTheorem.{first}
 use Rattle.theory.proofs.FollowTheorem.{After, next-follows, after-member, after-members, after-pass, derived-predicted}
 use Rattle.theory.proofs.Turns.{turn-again, turn-leave}
 use Rattle.theory.proofs.Steps as Steps
-use Rattle.theory.proofs.Steps.{Path, resize, arrive, then, after, after-both, after-none}
+use Rattle.theory.proofs.Steps.{one-step, Path, resize, arrive, then, after, after-both, after-none}
 
 pub not-both : {b : Bool} → b ≡ true → b ≡ false → ⊥
 not-both p q = let z : _≡_ {A = ℕ} 0 1 = cc in omega arith
@@ -115,6 +115,8 @@ module _ {Context Values : Type 0} (g : Grammar Context Values) (tests : Tests) 
   follows-derivation (Derives.of-switch {c = c} {v = v} e d) (Todo.one q f) others p cs =
       resize g tests (omega arith)
       (Path.next tt (Steps.step-switch g tests q e) (follows-derivation d (Todo.one refl (Follow.of-case q (h .static .chosen-listed q c v e) f)) others p cs))
+  follows-derivation {v = v} {s = s} (Derives.of-no-case e o) (Todo.one q f) others p cs =
+      arrive g tests (after-none others p s v cs) (one-step g tests tt (Steps.step-no-case g tests q e o))
   follows-derivation (Derives.of-use {i} {t = t} {v = v} {v′ = v′} {r = r} e d z) (Todo.one q f) others p cs =
       resize g tests (omega arith)
       (arrive g tests (ap (λ (x : Values). after others t p r x cs) (sym (z ∙ h .values-stay q v v′)))

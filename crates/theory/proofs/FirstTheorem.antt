@@ -24,6 +24,7 @@ module _ {Context Values : Type 0} (g : Grammar Context Values) where
   covers (Derives.of-concatenation d) = covers d
   covers (Derives.of-repetition k a d) = covers d
   covers (Derives.of-switch e d) = covers d
+  covers (Derives.of-no-case e o) = refl
   covers (Derives.of-use e d q) = covers d
   covers (Derives.of-field bits l e a q) = e
   covers Derives.of-eod = refl
@@ -38,6 +39,7 @@ module _ {Context Values : Type 0} (g : Grammar Context Values) where
   first h (Derives.of-concatenation d) q = First.of-concatenation (first h d tt)
   first h (Derives.of-repetition {c = c} {v = v} k a d) q = First.of-repetition k (h .counts-static q c v k a) (first h d tt)
   first h (Derives.of-switch {c = c} {v = v} e d) q = First.of-switch (h .chosen-listed q c v e) (first h d refl)
+  first h (Derives.of-no-case e o) q = First.of-no-case o
   first h (Derives.of-use e d z) q = First.of-use (first h d refl)
   first h (Derives.of-field {c = c} {v = v} bits l e a z) q = First.of-field bits l (h .bits-static q c v bits a) refl
   first h Derives.of-eod q = First.of-eod

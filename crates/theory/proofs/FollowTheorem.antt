@@ -57,6 +57,7 @@ module _ {Context Values : Type 0} (g : Grammar Context Values) where
 
     pub follow : {what : Shape Context Values} {t : Tree} {c : Context} {v v′ : Values} {s r : Bits} → Derives g what t c v s v′ r → Known g what → After what (lookahead r)
         → {j : ℕ} {r′ : Bits} → Leaves t s j r′ → Follow g j (lookahead r′)
+    unfolding covered
     follow (Derives.of-alternative m d) q (After.of-construct f) (Leaves.below l) = follow d refl (After.of-construct (Follow.of-branch q m f)) l
     follow (Derives.of-alternative m d) q (After.of-construct f) (Leaves.at-node {r = r′} e) = left-follows r′ d e f
     follow (Derives.of-concatenation d) q (After.of-construct f) (Leaves.below l) = follow d tt (After.of-members [] q f) l
@@ -65,6 +66,7 @@ module _ {Context Values : Type 0} (g : Grammar Context Values) where
     follow (Derives.of-repetition k a d) q (After.of-construct f) (Leaves.at-node {r = r′} e) = left-follows r′ d e f
     follow (Derives.of-switch {c = c} {v = v} e d) q (After.of-construct f) (Leaves.below l) = follow d refl (After.of-construct (Follow.of-case q (h .chosen-listed q c v e) f)) l
     follow (Derives.of-switch {c = c} {v = v} e d) q (After.of-construct f) (Leaves.at-node {r = r′} e′) = left-follows r′ d e′ f
+    follow (Derives.of-no-case {i = i} e o) q (After.of-construct f) (Leaves.at-node e′) = subst (λ (x : Bits). Follow g i (lookahead x)) e′ f
     follow (Derives.of-use e d z) q (After.of-construct f) (Leaves.below l) = follow d refl (After.of-construct (Follow.of-rule q f)) l
     follow (Derives.of-use e d z) q (After.of-construct f) (Leaves.at-node {r = r′} e′) = left-follows r′ d e′ f
     follow (Derives.of-field {r = r} bits l e a z) q (After.of-construct f) (Leaves.at-leaf {r = r′} e′) =

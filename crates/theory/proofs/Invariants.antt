@@ -31,7 +31,7 @@ module _ {Context Values : Type 0} (g : Grammar Context Values) (tests : Tests) 
     by-branch : {is : List ℕ} {b : ℕ} → b ∈ is → Replaced i c k (alternative is) (entry b c 0 ∷ [])
     by-members : {is : List ℕ} {es : List (Entry Context)} → es ≡ entries c is → Replaced i c k (concatenation is) es
     by-pass : {counts : Context → Values → Counts} {static : Counts} {fixed : Bool} {b : ℕ} → Replaced i c k (repetition counts static fixed b) (entry b c 0 ∷ entry i c (suc k) ∷ [])
-    by-case : {chosen : Context → Values → Option ℕ} {is : List ℕ} {b : ℕ} → b ∈ is → Replaced i c k (switch chosen is) (entry b c 0 ∷ [])
+    by-case : {chosen : Context → Values → Option ℕ} {optional : Bool} {is : List ℕ} {b : ℕ} → b ∈ is → Replaced i c k (switch chosen optional is) (entry b c 0 ∷ [])
     by-body : {enters : Context → Option Context} {opens : Context → Values → Values} {closes : Values → Values → Values} {b : ℕ} {c′ : Context}
         → enters c ≡ some c′ → Replaced i c k (use-of enters opens closes b) (entry b c′ 0 ∷ [])
     by-none : {x : Node Context Values} → Replaced i c k x []
@@ -64,9 +64,9 @@ module _ {Context Values : Type 0} (g : Grammar Context Values) (tests : Tests) 
               elim o
               [ inl z ↦ is-effect (rw (z, act) at e) (Effect.replaces Replaced.by-pass refl) | inr z ↦ is-effect (rw (z, act) at e) (Effect.replaces Replaced.by-none refl) ]
         ]
-    effect v τ (switch chosen is) q e =
+    effect v τ (switch chosen optional is) q e =
         elim (given (chosen c v)) [
-          | inl z ↦ never (rw (z, act) at e)
+          | inl z ↦ elim (which optional) [ inl o ↦ is-effect (rw (z, o, act) at e) (Effect.replaces Replaced.by-none refl) | inr o ↦ never (rw (z, o, act) at e) ]
           | inr z ↦ is-effect (rw (z .1, act) at e) (Effect.replaces (Replaced.by-case (h .static .chosen-listed q c v (z .1))) refl)
         ]
     effect v τ (use-of enters opens closes b) q e =

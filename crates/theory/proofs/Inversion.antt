@@ -2,6 +2,7 @@
 -- Assumes nothing.
 use Prim.Native.Nat.{ℕ, zero, suc}
 use mathlib.Core.Path.{_≡_, refl, sym, subst}
+use mathlib.Core.Logic.{_⊎_, inl, inr}
 use mathlib.Core.Bool.{true}
 use mathlib.Core.List.{List, [], _∷_, _++_}
 use lib.ListN.{length}
@@ -21,7 +22,7 @@ module _ {Context Values : Type 0} (g : Grammar Context Values) where
   FirstBy (construct i (alternative is)) x = (b : ℕ) × (b ∈ is) × First-of b x
   FirstBy (construct i (concatenation is)) x = First g (members is) x
   FirstBy (construct i (repetition counts static fixed b)) x = (k : ℕ) × Allows static k × First g (passes b k) x
-  FirstBy (construct i (switch chosen is)) x = (b : ℕ) × (b ∈ is) × First-of b x
+  FirstBy (construct i (switch chosen optional is)) x = ((b : ℕ) × (b ∈ is) × First-of b x) ⊎ ((optional ≡ true) × (x ≡ []))
   FirstBy (construct i (use-of enters opens closes b)) x = First-of b x
   FirstBy (construct i (field w admits static binds)) x = (bits : Bits) × (length bits ≡ w bits) × (static bits ≡ true) × (x ≡ lookahead bits)
   FirstBy (construct i eod) x = x ≡ []
@@ -34,7 +35,8 @@ module _ {Context Values : Type 0} (g : Grammar Context Values) where
   first-by (First.of-field bits l s e) = (bits, l, s, e)
   first-by First.of-eod = refl
   first-by (First.of-alternative {b = b} m f) = (b, m, f)
-  first-by (First.of-switch {b = b} m f) = (b, m, f)
+  first-by (First.of-switch {b = b} m f) = inl (b, m, f)
+  first-by (First.of-no-case o) = inr (o, refl)
   first-by (First.of-use f) = f
   first-by (First.of-concatenation f) = f
   first-by First.no-members = refl
@@ -48,7 +50,7 @@ module _ {Context Values : Type 0} (g : Grammar Context Values) where
   BindsBy (construct i (alternative is)) c v v′ = Unit {0}
   BindsBy (construct i (concatenation is)) c v v′ = Unit {0}
   BindsBy (construct i (repetition counts static fixed b)) c v v′ = Unit {0}
-  BindsBy (construct i (switch chosen is)) c v v′ = Unit {0}
+  BindsBy (construct i (switch chosen optional is)) c v v′ = Unit {0}
   BindsBy (construct i (use-of enters opens closes b)) c v v′ = Unit {0}
   BindsBy (construct i (field w admits static binds)) c v v′ = (bits : Bits) × (v′ ≡ binds c v bits)
   BindsBy (construct i eod) c v v′ = v′ ≡ v
@@ -60,6 +62,7 @@ module _ {Context Values : Type 0} (g : Grammar Context Values) where
   binds-by (Derives.of-concatenation d) = tt
   binds-by (Derives.of-repetition k a d) = tt
   binds-by (Derives.of-switch e d) = tt
+  binds-by (Derives.of-no-case e o) = tt
   binds-by (Derives.of-use e d q) = tt
   binds-by (Derives.of-field bits l e a q) = (bits, q)
   binds-by Derives.of-eod = refl
@@ -78,7 +81,7 @@ module _ {Context Values : Type 0} (g : Grammar Context Values) where
     Keeps i (alternative is) = (b : ℕ) → b ∈ is → (x : Bits) → holds i x → holds b x
     Keeps i (concatenation is) = MembersKeep i is
     Keeps i (repetition counts static fixed b) = (k : ℕ) (x y : Bits) → First g (passes b k) x → holds i y → holds b (join x y)
-    Keeps i (switch chosen is) = (b : ℕ) → b ∈ is → (x : Bits) → holds i x → holds b x
+    Keeps i (switch chosen optional is) = (b : ℕ) → b ∈ is → (x : Bits) → holds i x → holds b x
     Keeps i (use-of enters opens closes b) = (x : Bits) → holds i x → holds b x
     Keeps i (field w admits static binds) = Unit {0}
     Keeps i eod = Unit {0}

@@ -54,6 +54,7 @@ module _ {Context Values Cell A R : Type 0} (store : Store Context Values Cell A
     unchanged (Derives.of-concatenation d) q k f = unchanged d tt k (λ m z y. f (MayBind.in-member q z y))
     unchanged (Derives.of-repetition n a d) q k f = unchanged d tt k (λ y. f (MayBind.in-body q y))
     unchanged (Derives.of-switch {c = c} {v = v} e d) q k f = unchanged d refl k (λ y. f (MayBind.in-case q (h .chosen-listed q c v e) y))
+    unchanged (Derives.of-no-case e o) q k f = refl
     unchanged (Derives.of-use {i} {b} {enters} {opens} {closes} {c = c} {c′ = c′} {v = v} {v′ = v′} e d z) q k f =
         ap (λ (u : Values). store .read u k) (z ∙ stays i b enters opens closes q v v′)
         ∙ (unchanged d refl k (λ y. f (MayBind.in-rule q e y)) ∙ opens-unchanged b enters opens closes (scope .opens-rule i) q (law q) c c′ v k e f)
@@ -68,7 +69,7 @@ module _ {Context Values Cell A R : Type 0} (store : Store Context Values Cell A
   NotUse (alternative is) = Unit {0}
   NotUse (concatenation is) = Unit {0}
   NotUse (repetition counts static fixed b) = Unit {0}
-  NotUse (switch chosen is) = Unit {0}
+  NotUse (switch chosen optional is) = Unit {0}
   NotUse (use-of enters opens closes b) = ⊥
   NotUse (field w admits static binds) = Unit {0}
   NotUse eod = Unit {0}
@@ -125,6 +126,8 @@ module _ {Context Values Cell A R : Type 0} (store : Store Context Values Cell A
         let e′ = s .1 c v b e in
         let x = transfer d (Ready.one (alike b) (at-same store (sym e′) a)) p in
         (x .0, Derives.of-switch (sym (s .2 c v _ a) ∙ e) (x .1), at-none-more store (s .0) (at-same store e′ (at-front store (scope .binds b) (x .2))), x .3)
+    transfer {v′ = v′} (Derives.of-no-case {c = c} {v = v} e o) (Ready.one (Alike.same u s) a) p =
+        (v′, Derives.of-no-case (sym (s .2 c v v′ a) ∙ e) o, at-none-more store (s .0) a, p)
     transfer (Derives.of-use e d z) (Ready.one (Alike.same u s) a) p = absurd u
     transfer {v′ = v′} (Derives.of-use {i} {b} {t = t} {c} {c′} {v} {v′ = w} {s = s} {r = r} e d z) (Ready.one (Alike.uses {closes′ = closes′} n o k k′) a) p =
         let f = o c c′ v v′ e a p in
@@ -190,7 +193,7 @@ module _ {Context Values Cell A R : Type 0} (store : Store Context Values Cell A
     local-alike i (alternative is) q = Alike.same tt (subst (Scoped store scope i) q (x .scoped i))
     local-alike i (concatenation is) q = Alike.same tt (subst (Scoped store scope i) q (x .scoped i))
     local-alike i (repetition counts static fixed b) q = Alike.same tt (subst (Scoped store scope i) q (x .scoped i))
-    local-alike i (switch chosen is) q = Alike.same tt (subst (Scoped store scope i) q (x .scoped i))
+    local-alike i (switch chosen optional is) q = Alike.same tt (subst (Scoped store scope i) q (x .scoped i))
     local-alike i (use-of enters opens closes b) q = use-alike i enters opens closes b q (scope .opens-rule i) refl (subst (Scoped store scope i) q (x .scoped i))
     local-alike i (field w admits static binds) q = Alike.same tt (subst (Scoped store scope i) q (x .scoped i))
     local-alike i eod q = Alike.same tt (subst (Scoped store scope i) q (x .scoped i))

@@ -35,7 +35,7 @@ module _ {Context Values : Type 0} (g : Grammar Context Values) (tests : Tests) 
   Law i (alternative is) = Branches is
   Law i (concatenation is) = Unit {0}
   Law i (repetition counts static fixed b) = Repeats i counts static fixed b
-  Law i (switch chosen is) = (b : ℕ) (c : Context) (v : Values) → chosen c v ≡ some b → b ∈ is
+  Law i (switch chosen optional is) = (b : ℕ) (c : Context) (v : Values) → chosen c v ≡ some b → b ∈ is
   Law i (use-of enters opens closes b) = (v v′ : Values) → closes v v′ ≡ v′
   Law i (field w admits static binds) =
       ((s : Bits) → 1 ≤ w s) × ((s r : Bits) → w s ≤ length s → w (take (w s) s ++ r) ≡ w s) × ((c : Context) (v : Values) (bits : Bits) → admits c v bits ≡ true → static bits ≡ true)

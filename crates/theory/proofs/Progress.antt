@@ -28,7 +28,7 @@ use Rattle.theory.proofs.FirstTheorem.{covers, first}
 use Rattle.theory.proofs.Weights.{weigh-positive}
 use Rattle.theory.proofs.Turns.{Reached, reached-zero, reached-again, allowed-leave}
 use Rattle.theory.proofs.Steps as Steps
-use Rattle.theory.proofs.Steps.{Stuck, Path, resize, arrive, then, after, after-both, after-none}
+use Rattle.theory.proofs.Steps.{Stuck, Path, resize, arrive, then, one-step, after, after-both, after-none}
 
 -- Arithmetic of the bound: steps within a weight, one more step with the construct above, one part after another.
 step-under : (w W x a : ℕ) → w ≤ W → a ≤ w * (x + 1) → 1 + a ≤ (1 + W) * (x + 1)
@@ -259,7 +259,7 @@ module _ {Context Values : Type 0} (g : Grammar Context Values) (tests : Tests) 
 
   outcome : {n : ℕ} → Each n → (c : Context) (i : ℕ) (x : Node Context Values) → g .node i ≡ x → weigh weight c x ≤ suc n
       → (others : List (Entry Context)) (s : Bits) (p : ℕ) (v : Values) (cs : List Capture) → Passes others (suc p) → Outcome (construct i x) (entry i c 0 ∷ []) (weigh weight c x) others c s p v cs
-  unfolding weigh
+  unfolding weigh covered captures tree-steps
   outcome each c i (alternative is) q l others s p v cs k =
       elim (given (choose (λ b. tests .predicts b (lookahead s)) is)) [
         | inl e ↦ Outcome.failed (at-once (omega arith, k) (Steps.fails-alternative g tests q e) (some-bound _ _))
@@ -271,9 +271,14 @@ module _ {Context Values : Type 0} (g : Grammar Context Values) (tests : Tests) 
   outcome each c i (concatenation is) q l others s p v cs k = members-of k q (several each c is (omega arith) others s p v cs k)
   outcome each c i (repetition counts static fixed b) q l others s p v cs k =
       whole q c (each c b (omega arith)) others (repeats q c (each c b (omega arith)) others (length s) 0 s p v cs (omega arith) (omega arith) (reached-zero (counts c v)) k)
-  outcome each c i (switch chosen is) q l others s p v cs k =
+  outcome each c i (switch chosen optional is) q l others s p v cs k =
       elim (given (chosen c v)) [
-        | inl e ↦ Outcome.failed (at-once (omega arith, k) (Steps.fails-switch g tests q e) (some-bound _ _))
+        | inl e ↦
+            elim (which optional) [
+              | inl o ↦
+                  Outcome.derived (Derives.of-no-case e o) (arrive g tests (after-none others p s v cs) (one-step g tests (omega arith, k) (Steps.step-no-case g tests q e o))) (omega arith)
+              | inr o ↦ Outcome.failed (at-once (omega arith, k) (Steps.fails-switch g tests q e o) (some-bound _ _))
+            ]
         | inr e ↦
             let z : weight c (e .0) ≤ largest (weight c) is = in-largest (weight c) (h .static .chosen-listed q c v (e .1)) in
             into k (Steps.step-switch g tests q (e .1)) z (λ t v′ r d. Derives.of-switch (e .1) d) (each c (e .0) (omega arith) others s p v cs k)

@@ -70,10 +70,16 @@ module _ {Context Values : Type 0} (g : Grammar Context Values) (tests : Tests) 
     unfolding act
     step-leave q e = acts q (rw (e, act))
 
-    pub step-switch : {chosen : Context → Values → Option ℕ} {is : List ℕ} {b : ℕ} → g .node i ≡ switch chosen is → chosen c v ≡ some b
+    pub step-switch : {chosen : Context → Values → Option ℕ} {optional : Bool} {is : List ℕ} {b : ℕ} → g .node i ≡ switch chosen optional is → chosen c v ≡ some b
         → Goes (state (entry i c k ∷ others) s p v cs) (state (entry b c 0 ∷ others) s p v cs)
     unfolding act
     step-switch q e = acts q (rw (e, act))
+
+    -- a switch with no true case and no default
+    pub step-no-case : {chosen : Context → Values → Option ℕ} {optional : Bool} {is : List ℕ} → g .node i ≡ switch chosen optional is → chosen c v ≡ none → optional ≡ true
+        → Goes (state (entry i c k ∷ others) s p v cs) (state others s p v cs)
+    unfolding act
+    step-no-case q e o = acts q (rw (e, o, act))
 
     pub step-use : {enters : Context → Option Context} {opens : Context → Values → Values} {closes : Values → Values → Values} {b : ℕ} {c′ : Context}
         → g .node i ≡ use-of enters opens closes b → enters c ≡ some c′ → Goes (state (entry i c k ∷ others) s p v cs) (state (entry b c′ 0 ∷ others) s p (opens c v) cs)
@@ -96,9 +102,10 @@ module _ {Context Values : Type 0} (g : Grammar Context Values) (tests : Tests) 
     unfolding act
     fails-repetition q e = halts q (rw (e, act))
 
-    pub fails-switch : {chosen : Context → Values → Option ℕ} {is : List ℕ} → g .node i ≡ switch chosen is → chosen c v ≡ none → Stuck (state (entry i c k ∷ others) s p v cs)
+    pub fails-switch : {chosen : Context → Values → Option ℕ} {optional : Bool} {is : List ℕ} → g .node i ≡ switch chosen optional is → chosen c v ≡ none → optional ≡ false
+        → Stuck (state (entry i c k ∷ others) s p v cs)
     unfolding act
-    fails-switch q e = halts q (rw (e, act))
+    fails-switch q e o = halts q (rw (e, o, act))
 
     pub fails-use : {enters : Context → Option Context} {opens : Context → Values → Values} {closes : Values → Values → Values} {b : ℕ}
         → g .node i ≡ use-of enters opens closes b → enters c ≡ none → Stuck (state (entry i c k ∷ others) s p v cs)

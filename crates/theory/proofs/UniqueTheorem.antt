@@ -6,7 +6,7 @@ use native.Mathlib.Decide.{ℕ-discrete}
 use mathlib.Core.Path.{_≡_, refl, sym, _∙_, ap, ap₂, subst, subst₂}
 use mathlib.Core.Bool.{Bool, true, false}
 use mathlib.Core.List.{List, [], _++_}
-use mathlib.Core.Option.{Option, some}
+use mathlib.Core.Option.{Option, none, some}
 use lib.ListN.{length, take, drop}
 use lib.Seq.{take-at, drop-at}
 use Rattle.basis.specs.Bits.{Bits}
@@ -68,6 +68,9 @@ module _ {Context Values : Type 0} (g : Grammar Context Values) (h : Static g) (
   same-some : {A : Type 0} {o : Option A} {a b : A} → o ≡ some a → o ≡ some b → a ≡ b
   same-some p q = cc
 
+  none-or-some : {A B : Type 0} {o : Option A} {a : A} → o ≡ none → o ≡ some a → B
+  none-or-some p q = let z : _≡_ {A = ℕ} 0 1 = cc in absurd (omega arith)
+
   as-many : {i b : ℕ} {counts : Context → Values → Counts} {static : Counts} (fixed : Bool) (c : Context) (v : Values) {k k′ : ℕ}
       → g .node i ≡ repetition counts static fixed b → Allows (counts c v) k → Allows (counts c v) k′ → fixed ≡ true → k ≡ k′
   as-many true c v {k} {k′} q a a′ e = h .fixed-once q c v k k′ a a′
@@ -90,6 +93,9 @@ module _ {Context Values : Type 0} (g : Grammar Context Values) (h : Static g) (
   unique (Derives.of-switch {i} {c = c} {v = v} e d) (Twins.one q f f′) (Derives.of-switch e′ d′) =
       let m = h .chosen-listed q c v e in
       under i (unique d (Twins.one refl (Follow.of-case q m f) (Follow.of-case q m f′)) (of-construct (same-some e e′) d′))
+  unique (Derives.of-switch e d) (Twins.one q f f′) (Derives.of-no-case e′ o) = none-or-some e′ e
+  unique (Derives.of-no-case e o) (Twins.one q f f′) (Derives.of-switch e′ d′) = none-or-some e e′
+  unique (Derives.of-no-case e o) (Twins.one q f f′) (Derives.of-no-case e′ o′) = (refl, refl, refl)
   unique (Derives.of-use {i} {closes = closes} {v = v} e d z) (Twins.one q f f′) (Derives.of-use e′ d′ z′) =
       let x = unique d (Twins.one refl (Follow.of-rule q f) (Follow.of-rule q f′)) (in-context (same-some e e′) d′) in
       (ap (node i) (x .0), z ∙ (ap (closes v) (x .1) ∙ sym z′), x .2)

@@ -13,6 +13,7 @@ module _ {Context Values : Type 0} (g : Grammar Context Values) where
   replays (Derives.of-concatenation d) q = rw (q, node-after) (replays d tt)
   replays (Derives.of-repetition k a d) q = rw (q, node-after) (replays d tt)
   replays (Derives.of-switch e d) q = rw (q, node-after) (replays d refl)
+  replays (Derives.of-no-case e o) q = rw (q, node-after) refl
   replays (Derives.of-use {closes = closes} {v = v} e d z) q = rw (q, node-after, e) (z ∙ ap (closes v) (replays d refl))
   replays (Derives.of-field bits l e a z) q = rw (q, leaf-after) z
   replays Derives.of-eod q = refl

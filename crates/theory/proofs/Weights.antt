@@ -26,7 +26,7 @@ module _ {Context Values : Type 0} (weight : Context → ℕ → ℕ) (c : Conte
   weigh-positive (alternative is) = omega arith
   weigh-positive (concatenation is) = omega arith
   weigh-positive (repetition counts static fixed b) = omega arith
-  weigh-positive (switch chosen is) = omega arith
+  weigh-positive (switch chosen optional is) = omega arith
   weigh-positive (use-of enters opens closes b) = elim (enters c) as (λ o. 1 ≤ elim o [ none ↦ 1 | some c′ ↦ 1 + weight c′ b ]) [ none ↦ omega arith | some c′ ↦ omega arith ]
   weigh-positive (field w admits static binds) = omega arith
   weigh-positive eod = omega arith
@@ -36,7 +36,7 @@ module _ {Context Values : Type 0} (weight : Context → ℕ → ℕ) (c : Conte
   room-fits p (alternative is) = omega arith
   room-fits p (concatenation is) = omega (arith, members-fit (weight c) p is)
   room-fits p (repetition counts static fixed b) = omega arith
-  room-fits p (switch chosen is) = omega arith
+  room-fits p (switch chosen optional is) = omega arith
   room-fits p (use-of enters opens closes b) =
       elim (enters c) as (λ o. elim o [ none ↦ 0 | some c′ ↦ weight c′ b ] ≤ elim o [ none ↦ 1 | some c′ ↦ 1 + weight c′ b ])
       [ none ↦ omega arith | some c′ ↦ omega arith ]

@@ -18,7 +18,7 @@ pub data Tree : Type 0 where
   leaf : (construct : ℕ) (bits : Bits) → Tree
   -- an eod
   end : (construct : ℕ) → Tree
-  -- a construct over its branch, its case, its rule's body, its members or its passes
+  -- a construct over its branch, its case, its rule's body, its members or its passes; a switch with no true case over nothing
   node : (construct : ℕ) (below : Tree) → Tree
   -- the members of a concatenation and the passes of a repetition, in order: none, or one and the rest
   nil : Tree
@@ -55,7 +55,7 @@ unfoldable pub leaf-after : {Context Values : Type 0} → Node Context Values �
 leaf-after (alternative is) c v bits = v
 leaf-after (concatenation is) c v bits = v
 leaf-after (repetition counts static fixed b) c v bits = v
-leaf-after (switch chosen is) c v bits = v
+leaf-after (switch chosen optional is) c v bits = v
 leaf-after (use-of enters opens closes b) c v bits = v
 leaf-after (field w admits static binds) c v bits = binds c v bits
 leaf-after eod c v bits = v
@@ -64,7 +64,7 @@ unfoldable pub node-after : {Context Values : Type 0} → Node Context Values �
 node-after (alternative is) below c v = below c v
 node-after (concatenation is) below c v = below c v
 node-after (repetition counts static fixed b) below c v = below c v
-node-after (switch chosen is) below c v = below c v
+node-after (switch chosen optional is) below c v = below c v
 node-after (use-of enters opens closes b) below c v = elim (enters c) [ none ↦ v | some c′ ↦ closes v (below c′ (opens c v)) ]
 node-after (field w admits static binds) below c v = below c v
 node-after eod below c v = below c v
@@ -95,10 +95,13 @@ pub data Derives {Context Values : Type 0} (g : Grammar Context Values) : Shape 
   of-repetition : {i b : ℕ} {counts : Context → Values → Counts} {static : Counts} {fixed : Bool} {t : Tree} {c : Context} {v v′ : Values} {s r : Bits} (k : ℕ)
       → Allows (counts c v) k → Derives g (passes b k) t c v s v′ r
       → Derives g (construct i (repetition counts static fixed b)) (node i t) c v s v′ r
-  -- "A switch takes its first true case, else the default; with neither, it matches nothing"
-  of-switch : {i b : ℕ} {chosen : Context → Values → Option ℕ} {is : List ℕ} {t : Tree} {c : Context} {v v′ : Values} {s r : Bits}
+  -- "A switch takes its first true case, else the default"
+  of-switch : {i b : ℕ} {chosen : Context → Values → Option ℕ} {optional : Bool} {is : List ℕ} {t : Tree} {c : Context} {v v′ : Values} {s r : Bits}
       → chosen c v ≡ some b → Derives g (construct b (g .node b)) t c v s v′ r
-      → Derives g (construct i (switch chosen is)) (node i t) c v s v′ r
+      → Derives g (construct i (switch chosen optional is)) (node i t) c v s v′ r
+  -- "a switch of bits with no true case and no default takes no bits and goes on" (Req 02)
+  of-no-case : {i : ℕ} {chosen : Context → Values → Option ℕ} {optional : Bool} {is : List ℕ} {c : Context} {v : Values} {s : Bits}
+      → chosen c v ≡ none → optional ≡ true → Derives g (construct i (switch chosen optional is)) (node i nil) c v s v s
   of-use : {i b : ℕ} {enters : Context → Option Context} {opens : Context → Values → Values} {closes : Values → Values → Values} {t : Tree} {c c′ : Context} {v v′ v″ : Values} {s r : Bits}
       → enters c ≡ some c′ → Derives g (construct b (g .node b)) t c′ (opens c v) s v′ r → v″ ≡ closes v v′
       → Derives g (construct i (use-of enters opens closes b)) (node i t) c v s v″ r

@@ -25,8 +25,9 @@ pub data Node (Context Values : Type 0) : Type 0 where
   -- `counts`: the numbers of passes that it allows here; `static`: the same where no variable stands in them, else all ("counts with
   -- a variable allowing all"); `fixed`: it is written `{n}`
   repetition : (counts : Context → Values → Counts) (static : Counts) (fixed : Bool) (body : ℕ) → Node Context Values
-  -- `chosen`: "its first true case, else the default"; `cases`: all of them, the default too
-  switch : (chosen : Context → Values → Option ℕ) (cases : List ℕ) → Node Context Values
+  -- `chosen`: "its first true case, else the default"; `optional`: it has no default, so that with no true case it "takes no bits and
+  -- goes on" (Req 02); `cases`: all of them, the default too
+  switch : (chosen : Context → Values → Option ℕ) (optional : Bool) (cases : List ℕ) → Node Context Values
   -- `enters`: the context inside, or none where the rule may not be opened here; `opens`: the values inside, arguments bound;
   -- `closes`: the values after it, of those before and those at the body's end (the machine has no step for it: `values-stay`)
   use-of : (enters : Context → Option Context) (opens : Context → Values → Values) (closes : Values → Values → Values) (body : ℕ) → Node Context Values

@@ -30,8 +30,8 @@ pub record Static {Context Values : Type 0} (g : Grammar Context Values) : Type 
   pub fixed-once : {i b : ℕ} {counts : Context → Values → Counts} {static : Counts}
       → g .node i ≡ repetition counts static true b → (c : Context) (v : Values) (j k : ℕ) → Allows (counts c v) j → Allows (counts c v) k → j ≡ k
   -- the case taken is one of the cases
-  pub chosen-listed : {i b : ℕ} {chosen : Context → Values → Option ℕ} {is : List ℕ}
-      → g .node i ≡ switch chosen is → (c : Context) (v : Values) → chosen c v ≡ some b → b ∈ is
+  pub chosen-listed : {i b : ℕ} {chosen : Context → Values → Option ℕ} {optional : Bool} {is : List ℕ}
+      → g .node i ≡ switch chosen optional is → (c : Context) (v : Values) → chosen c v ≡ some b → b ∈ is
 
 -- of a grammar without refusals, and of lookups that are exact
 pub record Hypotheses {Context Values : Type 0} (g : Grammar Context Values) (tests : Tests) : Type 0 where

@@ -23,7 +23,9 @@ pub data First {Context Values : Type 0} (g : Grammar Context Values) : Shape Co
   of-eod : {i : ℕ} → First g (construct i eod) []
   -- "of alternatives and switches, the union"
   of-alternative : {i b : ℕ} {is : List ℕ} {x : Bits} → b ∈ is → First g (construct b (g .node b)) x → First g (construct i (alternative is)) x
-  of-switch : {i b : ℕ} {chosen : Context → Values → Option ℕ} {is : List ℕ} {x : Bits} → b ∈ is → First g (construct b (g .node b)) x → First g (construct i (switch chosen is)) x
+  of-switch : {i b : ℕ} {chosen : Context → Values → Option ℕ} {optional : Bool} {is : List ℕ} {x : Bits} → b ∈ is → First g (construct b (g .node b)) x → First g (construct i (switch chosen optional is)) x
+  -- "a switch without a default also has the empty first window" (Req 02)
+  of-no-case : {i : ℕ} {chosen : Context → Values → Option ℕ} {optional : Bool} {is : List ℕ} → optional ≡ true → First g (construct i (switch chosen optional is)) []
   -- "of a rule use, its rule's"
   of-use : {i b : ℕ} {enters : Context → Option Context} {opens : Context → Values → Values} {closes : Values → Values → Values} {x : Bits}
       → First g (construct b (g .node b)) x → First g (construct i (use-of enters opens closes b)) x
@@ -49,7 +51,7 @@ pub data Follow {Context Values : Type 0} (g : Grammar Context Values) : ℕ →
       → g .node i ≡ concatenation (before ++ m ∷ after) → First g (members after) x → Follow g i y → z ≡ join x y → Follow g m z
   -- "of a branch or a case, its owner's"
   of-branch : {i b : ℕ} {is : List ℕ} {x : Bits} → g .node i ≡ alternative is → b ∈ is → Follow g i x → Follow g b x
-  of-case : {i b : ℕ} {chosen : Context → Values → Option ℕ} {is : List ℕ} {x : Bits} → g .node i ≡ switch chosen is → b ∈ is → Follow g i x → Follow g b x
+  of-case : {i b : ℕ} {chosen : Context → Values → Option ℕ} {optional : Bool} {is : List ℕ} {x : Bits} → g .node i ≡ switch chosen optional is → b ∈ is → Follow g i x → Follow g b x
   -- "of a repeated body, zero or more further passes, joined with the repetition's follow"
   of-body : {i b : ℕ} {counts : Context → Values → Counts} {static : Counts} {fixed : Bool} {x y z : Bits} (k : ℕ)
       → g .node i ≡ repetition counts static fixed b → First g (passes b k) x → Follow g i y → z ≡ join x y → Follow g b z

@@ -87,7 +87,9 @@ module _ {Context Values : Type 0} (g : Grammar Context Values) (tests : Tests) 
         | again ↦ some (state (entry b c 0 ∷ entry i c (suc k) ∷ others) s p v cs)
         | leave ↦ some (state others s p v cs)
       ]
-  act (switch chosen is) i c k others s p v cs = elim (chosen c v) [ none ↦ none | some b ↦ some (state (entry b c 0 ∷ others) s p v cs) ]
+  -- "its first true case, else the default"; with no true case and no default it "takes no bits and goes on" (Req 02)
+  act (switch chosen optional is) i c k others s p v cs =
+      elim (chosen c v) [ none ↦ elim optional [ true ↦ some (state others s p v cs) | false ↦ none ] | some b ↦ some (state (entry b c 0 ∷ others) s p v cs) ]
   act (use-of enters opens closes b) i c k others s p v cs =
       elim (enters c) [ none ↦ none | some c′ ↦ some (state (entry b c′ 0 ∷ others) s p (opens c v) cs) ]
   -- "compare, no match on a difference or too few bits; where they hold, all but eod write two words in the reading"

@@ -62,7 +62,7 @@ module _ {Context Values Cell A R : Type 0} (store : Store Context Values Cell A
   Scoped i (concatenation is) = (scope .binds i ≡ []) × Chain scope (scope .sees i) is
   Scoped i (repetition counts static fixed b) =
       (scope .binds i ≡ []) × (scope .sees b ≡ scope .sees i) × ((c : Context) (v v′ : Values) → Agree store c (scope .sees i) v v′ → counts c v ≡ counts c v′)
-  Scoped i (switch chosen is) =
+  Scoped i (switch chosen optional is) =
       (scope .binds i ≡ []) × ((c : Context) (v : Values) (b : ℕ) → chosen c v ≡ some b → scope .sees b ≡ scope .sees i)
       × ((c : Context) (v v′ : Values) → Agree store c (scope .sees i) v v′ → chosen c v ≡ chosen c v′)
   Scoped i (use-of enters opens closes b) = UseScoped (scope .opens-rule i) i enters opens b
@@ -82,7 +82,7 @@ module _ {Context Values Cell A R : Type 0} (store : Store Context Values Cell A
     in-member : {c : Context} {i m : ℕ} {k : Cell} {is : List ℕ} → g .node i ≡ concatenation is → m ∈ is → MayBind g c m k → MayBind g c i k
     in-body : {c : Context} {i b : ℕ} {k : Cell} {counts : Context → Values → Counts} {static : Counts} {fixed : Bool}
         → g .node i ≡ repetition counts static fixed b → MayBind g c b k → MayBind g c i k
-    in-case : {c : Context} {i b : ℕ} {k : Cell} {chosen : Context → Values → Option ℕ} {is : List ℕ} → g .node i ≡ switch chosen is → b ∈ is → MayBind g c b k → MayBind g c i k
+    in-case : {c : Context} {i b : ℕ} {k : Cell} {chosen : Context → Values → Option ℕ} {optional : Bool} {is : List ℕ} → g .node i ≡ switch chosen optional is → b ∈ is → MayBind g c b k → MayBind g c i k
     in-rule : {c c′ : Context} {i b : ℕ} {k : Cell} {enters : Context → Option Context} {opens : Context → Values → Values} {closes : Values → Values → Values}
         → g .node i ≡ use-of enters opens closes b → enters c ≡ some c′ → MayBind g c′ b k → MayBind g c i k
 
@@ -98,7 +98,7 @@ module _ {Context Values Cell A R : Type 0} (store : Store Context Values Cell A
   local-node i (alternative is) = alternative is
   local-node i (concatenation is) = concatenation is
   local-node i (repetition counts static fixed b) = repetition counts static fixed b
-  local-node i (switch chosen is) = switch chosen is
+  local-node i (switch chosen optional is) = switch chosen optional is
   local-node i (use-of enters opens closes b) = local-use (scope .opens-rule i) i enters opens closes b
   local-node i (field w admits static binds) = field w admits static binds
   local-node i eod = eod

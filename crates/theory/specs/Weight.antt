@@ -24,7 +24,7 @@ unfolding sum largest
 weigh weight c (alternative is) = 1 + largest (weight c) is
 weigh weight c (concatenation is) = 1 + sum (weight c) is
 weigh weight c (repetition counts static fixed b) = 2 * weight c b + 1
-weigh weight c (switch chosen is) = 1 + largest (weight c) is
+weigh weight c (switch chosen optional is) = 1 + largest (weight c) is
 weigh weight c (use-of enters opens closes b) = elim (enters c) [ none ↦ 1 | some c′ ↦ 1 + weight c′ b ]
 weigh weight c (field w admits static binds) = 1
 weigh weight c eod = 1
@@ -50,7 +50,7 @@ unfolding largest members-room
 room rooms c (alternative is) = largest (rooms c) is
 room rooms c (concatenation is) = members-room (rooms c) is
 room rooms c (repetition counts static fixed b) = rooms c b + 1
-room rooms c (switch chosen is) = largest (rooms c) is
+room rooms c (switch chosen optional is) = largest (rooms c) is
 room rooms c (use-of enters opens closes b) = elim (enters c) [ none ↦ 0 | some c′ ↦ rooms c′ b ]
 room rooms c (field w admits static binds) = 0
 room rooms c eod = 0

@@ -114,7 +114,7 @@ module _ (s : Sample) where
       → x ∈ scope-of s .sees i → Right s i (switch-on x cases)
   switch-right i x cases z q m = (
     λ b c v e. first-true-listed (v x) b cases e,
-    switch-names (scope-of s) i (λ c v. first-true (v x) cases) (bodies cases) z q (λ c v b e. first-true-listed (v x) b cases e)
+    switch-names (scope-of s) i (λ c v. first-true (v x) cases) true (bodies cases) z q (λ c v b e. first-true-listed (v x) b cases e)
         (λ c v v′ a. ap (λ (k : ℕ). first-true k cases) (a x m)),
   )
 

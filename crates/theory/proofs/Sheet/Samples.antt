@@ -108,7 +108,7 @@ bodies (equals n body ∷ cases) = body ∷ bodies cases
 
 -- a switch by the variable numbered x
 abbrev pub switch-on : ℕ → List Case → SheetNode
-switch-on x cases = switch (λ c v. first-true (v x) cases) (bodies cases)
+switch-on x cases = switch (λ c v. first-true (v x) cases) true (bodies cases)
 
 -- what no derivation meets: the node of a number that is no construct's
 abbrev pub nothing : SheetNode
@@ -338,7 +338,7 @@ lines =
     ∷ line one-less (0x01 ∷ []) (answer matched 4 (1 ∷ []) (at 1 0 ∷ []))
     -- K10
     ∷ line tagged (0x01 ∷ 0x41 ∷ []) (answer matched 5 (1 ∷ []) (at 1 0 ∷ at 3 8 ∷ []))
-    ∷ line tagged (0x03 ∷ []) (answer unmatched 4 (3 ∷ []) (at 1 0 ∷ []))
+    ∷ line tagged (0x03 ∷ []) (answer matched 4 (3 ∷ []) (at 1 0 ∷ []))
     -- two letters; none; a byte that is neither
     ∷ line lettered (0x01 ∷ 0xff ∷ 0x41 ∷ 0x42 ∷ []) (answer matched 13 (1 ∷ []) (at 1 0 ∷ at 3 8 ∷ at 6 16 ∷ at 7 24 ∷ []))
     ∷ line lettered (0x01 ∷ 0x41 ∷ []) (answer matched 7 (1 ∷ []) (at 1 0 ∷ at 3 8 ∷ []))

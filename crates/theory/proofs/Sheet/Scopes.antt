@@ -38,7 +38,7 @@ module _ (scope : Scope) where
   PartsSee i (alternative is) = (b : ℕ) → b ∈ is → SeenIn i b
   PartsSee i (concatenation is) = (b : ℕ) → b ∈ is → SeenIn i b
   PartsSee i (repetition counts static fixed b) = SeenIn i b
-  PartsSee i (switch chosen is) = (b : ℕ) → b ∈ is → SeenIn i b
+  PartsSee i (switch chosen optional is) = (b : ℕ) → b ∈ is → SeenIn i b
   PartsSee i (use-of enters opens closes b) = SeenIn i b × (scope .sees b ≡ [])
   PartsSee i (field w admits static binds) = Unit {0}
   PartsSee i eod = Unit {0}
@@ -105,10 +105,10 @@ module _ (scope : Scope) where
   pub alternative-names : (i : ℕ) (is : List ℕ) → scope .binds i ≡ [] → ((b : ℕ) → b ∈ is → scope .sees b ≡ scope .sees i) → Names i (alternative is)
   alternative-names i is e q = ((e, q), same-terminal i is q, nothing-bound i e)
 
-  pub switch-names : (i : ℕ) (chosen : Unit {0} → Variables → Option ℕ) (is : List ℕ) → scope .binds i ≡ [] → ((b : ℕ) → b ∈ is → scope .sees b ≡ scope .sees i)
+  pub switch-names : (i : ℕ) (chosen : Unit {0} → Variables → Option ℕ) (optional : Bool) (is : List ℕ) → scope .binds i ≡ [] → ((b : ℕ) → b ∈ is → scope .sees b ≡ scope .sees i)
       → ((c : Unit {0}) (v : Variables) (b : ℕ) → chosen c v ≡ some b → b ∈ is) → ((c : Unit {0}) (v v′ : Variables) → Agree store c (scope .sees i) v v′ → chosen c v ≡ chosen c v′)
-      → Names i (switch chosen is)
-  switch-names i chosen is e q listed a = ((e, λ c v b z. q b (listed c v b z), a), same-terminal i is q, nothing-bound i e)
+      → Names i (switch chosen optional is)
+  switch-names i chosen optional is e q listed a = ((e, λ c v b z. q b (listed c v b z), a), same-terminal i is q, nothing-bound i e)
 
   -- a rule's top concatenation, which sees nothing
   pub top-names : (i : ℕ) (is : List ℕ) → scope .binds i ≡ [] → scope .sees i ≡ [] → Chain scope (scope .sees i) is → Names i (concatenation is)
