@@ -106,7 +106,7 @@ module _ (ws fs : List ℕ) (vs : List ℤ) (p : ℕ) where
         visit i rest false m h = h
 
     case-good : (j : ℕ) → Good (case-act ws vs j end)
-    case-good j = walk-keeps Good (λ i rest. by-case (case-test ws vs i) i rest) Act.Fail Act.Broken ws end tt tt (λ i rest m h. visit i rest (case-test ws vs i) m h) (end - j) j
+    case-good j = walk-keeps Good (λ i rest. by-case (case-test ws vs i) i rest) Act.Leave Act.Broken ws end tt tt (λ i rest m h. visit i rest (case-test ws vs i) m h) (end - j) j
       where
         visit : (i : ℕ) (rest : Act) (t : Tested) → i < end → Good rest → Good (by-case t i rest)
         visit i rest Tested.Yes m h = part-good i m

@@ -37,18 +37,18 @@ module _ (ws : List ℕ) (end : ℕ) where
     abbrev visit-case : ℕ → Act → Act
     visit-case i rest = by-case (case-test ws vs i) i rest
 
-    pub case-end : (j : ℕ) → end ≤ j → case-act ws vs j end ≡ Act.Fail
-    case-end j l = walk-end visit-case Act.Fail Act.Broken ws end (end - j) j l
+    pub case-end : (j : ℕ) → end ≤ j → case-act ws vs j end ≡ Act.Leave
+    case-end j l = walk-end visit-case Act.Leave Act.Broken ws end (end - j) j l
 
     -- a case that is taken, or cannot be worked out, whatever stands after it
     pub case-hit : (j : ℕ) (a : Act) → j < end → ((rest : Act) → by-case (case-test ws vs j) j rest ≡ a) → case-act ws vs j end ≡ a
-    case-hit j a l h = let x = walk-first visit-case Act.Fail Act.Broken ws end j l in x .1 ∙ h (x .0)
+    case-hit j a l h = let x = walk-first visit-case Act.Leave Act.Broken ws end j l in x .1 ∙ h (x .0)
 
     pub case-missing : (j : ℕ) → j < end → case-test ws vs j ≡ Tested.No → size j ≡ 0 → case-act ws vs j end ≡ Act.Broken
-    case-missing j l e z = walk-missing visit-case Act.Fail Act.Broken ws end j l z ∙ ap (λ (t : Tested). by-case t j Act.Broken) e
+    case-missing j l e z = walk-missing visit-case Act.Leave Act.Broken ws end j l z ∙ ap (λ (t : Tested). by-case t j Act.Broken) e
 
     pub case-next : (j : ℕ) → j < end → case-test ws vs j ≡ Tested.No → (size j ≡ 0 → ⊥) → case-act ws vs j end ≡ case-act ws vs (j + size j) end
-    case-next j l e z = walk-part visit-case Act.Fail Act.Broken ws end j l z ∙ ap (λ (t : Tested). by-case t j (case-act ws vs (j + size j) end)) e
+    case-next j l e z = walk-part visit-case Act.Leave Act.Broken ws end j l z ∙ ap (λ (t : Tested). by-case t j (case-act ws vs (j + size j) end)) e
 
   module _ (start : ℕ) where
     -- the members from j on, where n stand before it

@@ -96,9 +96,9 @@ by-case Tested.No j rest = rest
 by-case Tested.Malformed j rest = Act.Broken
 by-case Tested.Overflow j rest = Act.Broken
 
--- "a switch its case"; with no true case and no default "it matches nothing and the run is no match (H)"
+-- "a switch its case"; with no true case and no default it "takes no bits and goes on" (Req 02)
 abbrev pub case-act : List ℕ → List ℤ → ℕ → ℕ → Act
-case-act ws vs j end = walk (λ i rest. by-case (case-test ws vs i) i rest) Act.Fail Act.Broken (end - j) ws j end
+case-act ws vs j end = walk (λ i rest. by-case (case-test ws vs i) i rest) Act.Leave Act.Broken (end - j) ws j end
 
 -- the members, counted
 abbrev pub members-act : List ℕ → ℕ → ℕ → Act

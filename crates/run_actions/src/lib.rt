@@ -114,7 +114,7 @@ fn case_holds(table: &[u32], values: &[i64], j: usize) -> Tested
     Tested::Yes
 }
 
-// The first case to be taken.
+// The first case to be taken; with none, and no default, the run goes on.
 fn case(table: &[u32], values: &[i64], start: usize, end: usize) -> Act
     requires { ⌜ (table-words ≤ length (now table)) × (end ≤ max-constructs) ⌝ }
     ensures { λ r. ⌜ r ≡ case-act (now (table .entry)) (now (values .entry)) start end ⌝ }
@@ -139,7 +139,7 @@ fn case(table: &[u32], values: &[i64], start: usize, end: usize) -> Act
         }
         j += step;
     }
-    Act::Fail
+    Act::Leave
 }
 
 // The members of a concatenation, counted.

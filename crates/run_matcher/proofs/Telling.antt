@@ -74,7 +74,7 @@ module _ (g : Grammar Context Values) (static : Static g) (a b : Tests) (x : Tel
         | again ↦ some (state (entry body c 0 ∷ entry i c (suc k) ∷ others) s p v cs)
         | leave ↦ some (state others s p v cs)
       ]
-  same-act (switch chosen is) i q c k others s p v cs = refl
+  same-act (switch chosen optional is) i q c k others s p v cs = refl
   same-act (use-of enters opens closes body) i q c k others s p v cs = refl
   same-act (field w admits all binds) i q c k others s p v cs = refl
   same-act eod i q c k others [] p v cs = refl

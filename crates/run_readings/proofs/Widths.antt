@@ -44,7 +44,7 @@ module _ (w : ℕ) (ws fs : List ℕ) (vs : List ℤ) (p : ℕ) where
       visit i rest false h = h
 
   case-wide : (j end : ℕ) → Wide w (case-act ws vs j end)
-  case-wide j end = walk-keeps (Wide w) (λ i rest. by-case (case-test ws vs i) i rest) Act.Fail Act.Broken ws end tt tt (λ i rest m h. visit i rest (case-test ws vs i) h) (end - j) j
+  case-wide j end = walk-keeps (Wide w) (λ i rest. by-case (case-test ws vs i) i rest) Act.Leave Act.Broken ws end tt tt (λ i rest m h. visit i rest (case-test ws vs i) h) (end - j) j
     where
       visit : (i : ℕ) (rest : Act) (t : Tested) → Wide w rest → Wide w (by-case t i rest)
       visit i rest Tested.Yes h = tt

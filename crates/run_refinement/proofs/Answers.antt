@@ -6,6 +6,7 @@ use mathlib.Core.Path.{_≡_, refl, sym, _∙_, ap}
 use mathlib.Core.Logic.{inl, inr}
 use mathlib.Core.Bool.{Bool, true, false, cond}
 use mathlib.Core.List.{List, [], _∷_}
+use mathlib.Core.Option.{none, some}
 use lib.Dec.{leb, ltb}
 use lib.IntN.{ℤ}
 use Rattle.basis.proofs.Booleans.{which}
@@ -15,7 +16,7 @@ use Rattle.term_evaluation.specs.declared.Counted.{Counted}
 use Rattle.term_evaluation.specs.declared.Tested.{Tested}
 use Rattle.theory.specs.Machine.{Turn, fail, again, leave, by-lookahead, turn, choose}
 use Rattle.table_layout.specs.Places.{construct-word}
-use Rattle.table_layout.specs.Held.{term-words, terms-of, parts, allowed, isYes, passes-allowed, first-case}
+use Rattle.table_layout.specs.Held.{term-words, terms-of, parts, allowed, isYes, passes-allowed, first-case, no-default}
 use Rattle.table_layout.specs.declared.Passes.{Passes}
 use Rattle.run_actions.specs.Stored.{stored, prediction-at, follow-at}
 use Rattle.run_actions.specs.Acts.{terms-in-table, by-branch, branch-act, case-test, by-case, case-act, by-lookahead as act-by-lookahead, turn-act, counted, by-set}
@@ -37,6 +38,21 @@ first-choose ws vs (b ∷ bs) =
       | inr t ↦ rw (t, first-case, choose)
     ]
 
+-- where no case is taken, there is no default
+pub no-case-taken : (ws : List ℕ) (vs : List ℤ) (bs : List ℕ) → first-case ws vs bs ≡ none → no-default ws bs ≡ true
+unfolding first-case no-default
+no-case-taken ws vs [] e = refl
+no-case-taken ws vs (b ∷ bs) e =
+    elim (which (ltb (construct-word ws b 6) (construct-word ws b 7))) [
+      | inl t ↦
+          elim (which (isYes (condition vs (construct-word ws b 6) (terms-of ws (construct-word ws b 6) (construct-word ws b 7)))))
+          [ inl y ↦ taken (rw (t, y, first-case) at e) | inr y ↦ rw (t, no-default) (no-case-taken ws vs bs (rw (t, y, first-case) at e)) ]
+      | inr t ↦ taken (rw (t, first-case) at e)
+    ]
+  where
+    taken : {A : Type 0} → some b ≡ none → A
+    taken z = let o : _≡_ {A = ℕ} 0 1 = cc in absurd (omega arith)
+
 by-branch-visit : (j : ℕ) (t : Bool) → Visit j t (λ rest. by-branch t j rest)
 by-branch-visit j true = Visit.takes refl (λ rest. refl)
 by-branch-visit j false = Visit.passes refl (λ rest. refl)
@@ -57,14 +73,14 @@ case-visit ws vs j =
     by true false x = Visit.breaks (λ rest. refl)
     by false t x = Visit.takes refl (λ rest. refl)
 
-pub branch-chosen : (ws : List ℕ) (n m j end : ℕ) → end ≤ j + m → Definite (branch-act ws n j end) → branch-act ws n j end ≡ chosen-act (choose (λ b. stored ws (prediction-at b) n) (parts m ws j end))
+pub branch-chosen : (ws : List ℕ) (n m j end : ℕ) → end ≤ j + m → Definite (branch-act ws n j end) → branch-act ws n j end ≡ chosen-act Act.Fail (choose (λ b. stored ws (prediction-at b) n) (parts m ws j end))
 branch-chosen ws n m j end l s =
-    found-chosen ws end (λ b. stored ws (prediction-at b) n) (λ i rest. by-branch (stored ws (prediction-at i) n) i rest) (λ i. by-branch-visit i (stored ws (prediction-at i) n)) (end - j) m j (omega arith) l s
+    found-chosen ws end Act.Fail (λ b. stored ws (prediction-at b) n) (λ i rest. by-branch (stored ws (prediction-at i) n) i rest) (λ i. by-branch-visit i (stored ws (prediction-at i) n)) (end - j) m j (omega arith) l s
 
-pub case-chosen : (ws : List ℕ) (vs : List ℤ) (m j end : ℕ) → end ≤ j + m → Definite (case-act ws vs j end) → case-act ws vs j end ≡ chosen-act (first-case ws vs (parts m ws j end))
+pub case-chosen : (ws : List ℕ) (vs : List ℤ) (m j end : ℕ) → end ≤ j + m → Definite (case-act ws vs j end) → case-act ws vs j end ≡ chosen-act Act.Leave (first-case ws vs (parts m ws j end))
 case-chosen ws vs m j end l s =
-    found-chosen ws end (case-holds ws vs) (λ i rest. by-case (case-test ws vs i) i rest) (case-visit ws vs) (end - j) m j (omega arith) l s
-    ∙ ap chosen-act (sym (first-choose ws vs (parts m ws j end)))
+    found-chosen ws end Act.Leave (case-holds ws vs) (λ i rest. by-case (case-test ws vs i) i rest) (case-visit ws vs) (end - j) m j (omega arith) l s
+    ∙ ap (chosen-act Act.Leave) (sym (first-choose ws vs (parts m ws j end)))
 
 -- a repetition's turn
 abbrev pub turned : ℕ → Turn → Act

@@ -22,14 +22,14 @@ use Rattle.theory.specs.Derivation.{Capture}
 use Rattle.theory.specs.Machine.{entry, state, Turn, fail, again, leave, turn, choose, entries, act}
 use Rattle.table_layout.specs.Places.{rule-word, rule-count}
 use Rattle.table_layout.specs.Constructs.{constructAt}
-use Rattle.table_layout.specs.Held.{Context, first-context, Values, HeldNode, terms-of, parts, isYes, passes-allowed, passes-static, passes-fixed, first-case, literal-bytes, bound, literal-node, range-node, uint-node, use-node, in-set, node-of, held, opening}
+use Rattle.table_layout.specs.Held.{Context, first-context, Values, HeldNode, terms-of, parts, isYes, passes-allowed, passes-static, passes-fixed, first-case, no-default, literal-bytes, bound, literal-node, range-node, uint-node, use-node, in-set, node-of, held, opening}
 use Rattle.table_layout.specs.declared.Construct.{Construct}
 use Rattle.table_layout.specs.declared.Passes.{Passes}
 use Rattle.run_actions.specs.Stored.{stored, prediction-at, follow-at, tests-of}
 use Rattle.run_actions.specs.Acts.{in-table, whole-in-table, terms-in-table, binder-in-table, known-values, enter, open-rule, ahead-at, bits-of, branch-act, case-act, members-act, turn-act, counted, literal-holds, literal-act, range-act, by-set, bits-act, end-act, construct-act, actOf}
 use Rattle.run_actions.specs.declared.Act.{Act}
 use Rattle.run_refinement.specs.Runs.{HeldEntry, HeldState}
-use Rattle.run_refinement.proofs.Answers.{branch-chosen, case-chosen, turned, turn-turned, counted-allowed, tested, tested-yes, tested-set}
+use Rattle.run_refinement.proofs.Answers.{branch-chosen, case-chosen, no-case-taken, turned, turn-turned, counted-allowed, tested, tested-yes, tested-set}
 use Rattle.table_structure.proofs.StaticLaw.{literal-long}
 use Rattle.run_refinement.proofs.Walks.{Definite, chosen-act, Row, row-parts, row-of}
 use Rattle.run_refinement.proofs.Values.{act-same}
@@ -66,7 +66,7 @@ module _ (ws fs : List ℕ) (vs : List ℤ) (p i k : ℕ) (others : List HeldEnt
     pub agrees : acted node ≡ done a
     pub members : Membered ws a
 
-  does-chosen : (node : HeldNode) (o : Option ℕ) → acted node ≡ elim o [ none ↦ none | some b ↦ some (state (entry b first-context 0 ∷ others) rest p vs rc) ] → Does node (chosen-act o)
+  does-chosen : (node : HeldNode) (o : Option ℕ) → acted node ≡ elim o [ none ↦ none | some b ↦ some (state (entry b first-context 0 ∷ others) rest p vs rc) ] → Does node (chosen-act Act.Fail o)
   does-chosen node none e = record { agrees = e; members = tt }
   does-chosen node (some b) e = record { agrees = e; members = tt }
 
@@ -77,13 +77,19 @@ module _ (ws fs : List ℕ) (vs : List ℤ) (p i k : ℕ) (others : List HeldEnt
       subst (Does (alternative is)) (sym (branch-chosen ws (ahead-at fs p) size (i + 1) (i + size) (omega arith) s))
       (does-chosen (alternative is) (choose (λ b. stored ws (prediction-at b) (ahead-at fs p)) is) refl)
 
+  does-case : (node : HeldNode) (optional : Bool) (o : Option ℕ) → (o ≡ none → optional ≡ true)
+      → acted node ≡ elim o [ none ↦ elim optional [ true ↦ some (state others rest p vs rc) | false ↦ none ] | some b ↦ some (state (entry b first-context 0 ∷ others) rest p vs rc) ]
+      → Does node (chosen-act Act.Leave o)
+  does-case node optional none n e = record { agrees = e ∙ ap (λ (t : Bool). elim t [ true ↦ some (state others rest p vs rc) | false ↦ none ]) (n refl); members = tt }
+  does-case node optional (some b) n e = record { agrees = e; members = tt }
+
   does-switch : (size : ℕ) → Definite (case-act ws vs (i + 1) (i + size))
-      → Does (switch (λ c v. first-case ws v (parts size ws (i + 1) (i + size))) (parts size ws (i + 1) (i + size))) (case-act ws vs (i + 1) (i + size))
+      → Does (switch (λ c v. first-case ws v (parts size ws (i + 1) (i + size))) (no-default ws (parts size ws (i + 1) (i + size))) (parts size ws (i + 1) (i + size))) (case-act ws vs (i + 1) (i + size))
   unfolding act
   does-switch size s =
       let is : List ℕ = parts size ws (i + 1) (i + size) in
-      subst (Does (switch (λ c v. first-case ws v is) is)) (sym (case-chosen ws vs size (i + 1) (i + size) (omega arith) s))
-      (does-chosen (switch (λ c v. first-case ws v is) is) (first-case ws vs is) refl)
+      subst (Does (switch (λ c v. first-case ws v is) (no-default ws is) is)) (sym (case-chosen ws vs size (i + 1) (i + size) (omega arith) s))
+      (does-case (switch (λ c v. first-case ws v is) (no-default ws is) is) (no-default ws is) (first-case ws vs is) (no-case-taken ws vs is) refl)
 
   does-concatenation : (size : ℕ) → Definite (members-act ws (i + 1) (i + size)) → Does (concatenation (parts size ws (i + 1) (i + size))) (members-act ws (i + 1) (i + size))
   unfolding act

@@ -128,7 +128,7 @@ module _ (ws : List ℕ) (widest : List ℤ) {weight rooms : Context → ℕ →
       visit i rest false m h = h
 
   case-safe : (j end : ℕ) → end ≤ construct-count ws → Good (case-act ws us j end)
-  case-safe j end l = walk-holds Good (λ i rest. by-case (case-test ws us i) i rest) Act.Fail Act.Broken ws end tt (there end l) (λ i rest m h. visit i rest (tested i (omega arith)) m h) (end - j) j
+  case-safe j end l = walk-holds Good (λ i rest. by-case (case-test ws us i) i rest) Act.Leave Act.Broken ws end tt (there end l) (λ i rest m h. visit i rest (tested i (omega arith)) m h) (end - j) j
     where
       -- a case's condition comes to an answer
       tested : (i : ℕ) → i < construct-count ws → (case-test ws us i ≡ Tested.No) ⊎ (case-test ws us i ≡ Tested.Yes)

@@ -197,8 +197,8 @@ module _ (ws fs : List ℕ) (vs : List ℤ) (p i k : ℕ) where
       by true false h = inr refl
       by false t h = inr refl
 
-  cases-same : (end most j : ℕ) → Definite (walk (λ b rest. by-case (case-test ws us b) b rest) Act.Fail Act.Broken most ws j end)
-      → walk (λ b rest. by-case (case-test ws us b) b rest) Act.Fail Act.Broken most ws j end ≡ walk (λ b rest. by-case (case-test ws vs b) b rest) Act.Fail Act.Broken most ws j end
+  cases-same : (end most j : ℕ) → Definite (walk (λ b rest. by-case (case-test ws us b) b rest) Act.Leave Act.Broken most ws j end)
+      → walk (λ b rest. by-case (case-test ws us b) b rest) Act.Leave Act.Broken most ws j end ≡ walk (λ b rest. by-case (case-test ws vs b) b rest) Act.Leave Act.Broken most ws j end
   unfolding walk
   cases-same end zero j s = refl
   cases-same end (suc most) j s =

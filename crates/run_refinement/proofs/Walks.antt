@@ -37,16 +37,16 @@ pub data Visit (j : ℕ) (holds : Bool) (visit : Act → Act) : Type 0 where
   passes : holds ≡ false → ((rest : Act) → visit rest ≡ rest) → Visit j holds visit
   breaks : ((rest : Act) → visit rest ≡ Act.Broken) → Visit j holds visit
 
--- what is done with the part chosen
-abbrev pub chosen-act : Option ℕ → Act
-chosen-act none = Act.Fail
-chosen-act (some b) = Act.Enter b
+-- what is done with the part chosen, and otherwise
+abbrev pub chosen-act : Act → Option ℕ → Act
+chosen-act otherwise none = otherwise
+chosen-act otherwise (some b) = Act.Enter b
 
-module _ (ws : List ℕ) (end : ℕ) (holds : ℕ → Bool) (visit : ℕ → Act → Act) (each : (j : ℕ) → Visit j (holds j) (visit j)) where
+module _ (ws : List ℕ) (end : ℕ) (otherwise : Act) (holds : ℕ → Bool) (visit : ℕ → Act → Act) (each : (j : ℕ) → Visit j (holds j) (visit j)) where
   abbrev found : ℕ → ℕ → Act
-  found most j = walk visit Act.Fail Act.Broken most ws j end
+  found most j = walk visit otherwise Act.Broken most ws j end
 
-  found-end : (n m j : ℕ) → end ≤ j → found n j ≡ chosen-act (choose holds (parts m ws j end))
+  found-end : (n m j : ℕ) → end ≤ j → found n j ≡ chosen-act otherwise (choose holds (parts m ws j end))
   unfolding walk choose
   found-end zero m j l = rw (parts-none m ws j end l)
   found-end (suc n) m j l = rw (parts-none m ws j end l, le-ltb j end l, walk)
@@ -60,14 +60,14 @@ module _ (ws : List ℕ) (end : ℕ) (holds : ℕ → Bool) (visit : ℕ → Act
   found-next n j l z = rw (lt-ltb j end l, ne-eqb (size-at ws j) 0 z, walk)
 
   -- at a part, whatever comes after it in the list
-  visited : (j : ℕ) (rest : Act) (js : List ℕ) → Visit j (holds j) (visit j) → Definite (visit j rest) → (holds j ≡ false → Definite rest → rest ≡ chosen-act (choose holds js))
-      → visit j rest ≡ chosen-act (choose holds (j ∷ js))
+  visited : (j : ℕ) (rest : Act) (js : List ℕ) → Visit j (holds j) (visit j) → Definite (visit j rest) → (holds j ≡ false → Definite rest → rest ≡ chosen-act otherwise (choose holds js))
+      → visit j rest ≡ chosen-act otherwise (choose holds (j ∷ js))
   unfolding choose
   visited j rest js (Visit.takes t e) s on = e rest ∙ rw (t, choose)
   visited j rest js (Visit.passes t e) s on = e rest ∙ (on t (λ b. s (e rest ∙ b)) ∙ rw (t, choose))
   visited j rest js (Visit.breaks e) s on = absurd (s (e rest))
 
-  pub found-chosen : (n m j : ℕ) → end ≤ j + n → end ≤ j + m → Definite (found n j) → found n j ≡ chosen-act (choose holds (parts m ws j end))
+  pub found-chosen : (n m j : ℕ) → end ≤ j + n → end ≤ j + m → Definite (found n j) → found n j ≡ chosen-act otherwise (choose holds (parts m ws j end))
   found-chosen zero m j l k s = found-end zero m j (omega arith)
   found-chosen (suc n) zero j l k s = found-end (suc n) zero j (omega arith)
   found-chosen (suc n) (suc m) j l k s =
@@ -78,14 +78,14 @@ module _ (ws : List ℕ) (end : ℕ) (holds : ℕ → Bool) (visit : ℕ → Act
             elim (which (eqb (size-at ws j) 0)) [
               | inl z ↦
                   let e = found-missing n j h (eqb-true (size-at ws j) 0 z) in
-                  e ∙ (visited j Act.Broken [] (each j) (λ b. s (e ∙ b)) (λ f b. absurd (b refl)) ∙ ap (λ (js : List ℕ). chosen-act (choose holds js)) (sym (parts-last m ws j end h (eqb-true (size-at ws j) 0 z))))
+                  e ∙ (visited j Act.Broken [] (each j) (λ b. s (e ∙ b)) (λ f b. absurd (b refl)) ∙ ap (λ (js : List ℕ). chosen-act otherwise (choose holds js)) (sym (parts-last m ws j end h (eqb-true (size-at ws j) 0 z))))
               | inr z ↦
                   let y : size-at ws j ≡ 0 → ⊥ = eqb-false (size-at ws j) 0 z in
                   let q : 1 ≤ size-at ws j = positive (size-at ws j) y in
                   let e = found-next n j h y in
                   e
                   ∙ (visited j (found n (j + size-at ws j)) (parts m ws (j + size-at ws j) end) (each j) (λ b. s (e ∙ b)) (λ f b. found-chosen n m (j + size-at ws j) (omega arith) (omega arith) b)
-                  ∙ ap (λ (js : List ℕ). chosen-act (choose holds js)) (sym (parts-more m ws j end h q)))
+                  ∙ ap (λ (js : List ℕ). chosen-act otherwise (choose holds js)) (sym (parts-more m ws j end h q)))
             ]
       ]
 

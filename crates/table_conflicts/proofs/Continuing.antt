@@ -33,7 +33,7 @@ abbrev Names : HeldNode → ℕ → Type 0
 Names (alternative is) b = b ∈ is
 Names (concatenation is) b = b ∈ is
 Names (repetition counts static fixed b′) b = b ≡ b′
-Names (switch chosen is) b = b ∈ is
+Names (switch chosen optional is) b = b ∈ is
 Names (use-of enters opens closes b′) b = b ≡ b′
 Names (field w admits static binds) b = ⊥
 Names eod b = ⊥

@@ -43,7 +43,7 @@ module _ (ws : List ℕ) where
   ConflictBy i (concatenation is) x = ⊥
   ConflictBy i (repetition counts static true b) x = ⊥
   ConflictBy i (repetition counts static false b) x = Continues (held ws) i b x × Follow (held ws) i x
-  ConflictBy i (switch chosen is) x = ⊥
+  ConflictBy i (switch chosen optional is) x = ⊥
   ConflictBy i (use-of enters opens closes b) x = ⊥
   ConflictBy i (field w admits static binds) x = ⊥
   ConflictBy i eod x = ⊥
@@ -58,7 +58,7 @@ module _ (ws : List ℕ) where
   of-node i x (concatenation is) e z = absurd z
   of-node i x (repetition counts static true b) e z = absurd z
   of-node i x (repetition counts static false b) e (c, q) = Conflict.of-passes e c q
-  of-node i x (switch chosen is) e z = absurd z
+  of-node i x (switch chosen optional is) e z = absurd z
   of-node i x (use-of enters opens closes b) e z = absurd z
   of-node i x (field w admits static binds) e z = absurd z
   of-node i x eod e z = absurd z
@@ -173,7 +173,7 @@ module _ (ws : List ℕ) (first : List ℕ) (fs : FirstSets ws first) (i : ℕ) 
   EmptyBy (alternative is) = ⊥
   EmptyBy (concatenation is) = ⊥
   EmptyBy (repetition counts static fixed b) = First (held ws) (construct b (held ws .node b)) []
-  EmptyBy (switch chosen is) = ⊥
+  EmptyBy (switch chosen optional is) = ⊥
   EmptyBy (use-of enters opens closes b) = ⊥
   EmptyBy (field w admits static binds) = ⊥
   EmptyBy eod = ⊥

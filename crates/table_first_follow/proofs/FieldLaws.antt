@@ -2,7 +2,7 @@
 -- Assumes nothing.
 use Prim.Native.Nat.{ℕ, zero, suc, _+_, _-_, _*_, _/_, _%_, _^_, _≤_, _<_, min, max}
 use mathlib.Core.Path.{_≡_, refl, sym, ap, _∙_, subst}
-use mathlib.Core.Bool.{Bool, true, cond, _&&_}
+use mathlib.Core.Bool.{Bool, true, false, false≢true, cond, _&&_}
 use mathlib.Core.Logic.{inl, inr, _↔_}
 use mathlib.Core.List.{List, [], _∷_}
 use native.Mathlib.Omega.{arith}
@@ -28,7 +28,7 @@ use Rattle.lookahead.specs.Sets.{Has, Is, Union}
 use Rattle.lookahead.proofs.PassLaws.{is-map, no-pass}
 use Rattle.table_layout.specs.Places.{word, literals-at}
 use Rattle.table_layout.specs.Constructs.{constructAt}
-use Rattle.table_layout.specs.Held.{held, node-of, HeldNode, literal-bytes, in-static-set, term-words, terms-of, isYes}
+use Rattle.table_layout.specs.Held.{held, node-of, HeldNode, parts, no-default, literal-bytes, in-static-set, term-words, terms-of, isYes}
 use Rattle.table_layout.specs.declared.Construct.{Construct}
 use Rattle.term_evaluation.specs.Meaning.{membership}
 use Rattle.term_evaluation.specs.Variables.{hasVariable}
@@ -39,8 +39,10 @@ use Rattle.term_membership.specs.Members as Members
 use Rattle.term_words.specs.Numbers as Numbers
 use Rattle.table_first_follow.specs.Rules.{Seeded, Leading}
 use Rattle.table_first_follow.specs.Fields.{Numbered, Any, Led}
+use Rattle.table_first_follow.specs.Parts.{siblings, Neutral}
 use Rattle.table_layout.proofs.Bounds.{missing-past}
 use Rattle.table_first_follow.proofs.HeldLaws.{node-inside, node-opening}
+use Rattle.table_first_follow.proofs.PartLaws.{parts-siblings}
 
 -- ---- strings gathered by their numbers
 
@@ -222,6 +224,17 @@ module _ (ws : List ℕ) (i : ℕ) (h : i < sets-held) (r : Construct) (e : r �
       seed-placed (Construct.Uint width start end binder) p
       (is-map out (Numbered (2 ^ min 8 width) (2 ^ min 8 width + 2 ^ min 8 width) (Led width (term-words ws) start end)) (Seeded (node-of ws i (Construct.Uint width start end binder)))
       (uint-strings ws start end width) s)
+
+  -- a switch without a default has the empty string
+  empty-string : (optional : Bool) (x : Bits) → Neutral optional x ↔ ((optional ≡ true) × (x ≡ []))
+  empty-string true x = ((λ e. (refl, e)), (λ e. e .1))
+  empty-string false x = ((λ z. absurd z), (λ e. absurd (false≢true (e .0))))
+
+  pub seed-switch : (size : ℕ) (b : Bool) → r ≡ Construct.Switch size → b ≡ no-default ws (siblings ws (i + 1) (i + size)) → Is out (Neutral b) → Right
+  unfolding node-of
+  seed-switch size b p q s =
+      let e : b ≡ no-default ws (parts size ws (i + 1) (i + size)) = q ∙ ap (no-default ws) (sym (parts-siblings ws i size)) in
+      seed-placed (Construct.Switch size) p (is-map out (Neutral b) (Seeded (node-of ws i (Construct.Switch size))) (λ x. subst (λ (t : Bool). Neutral b x ↔ ((t ≡ true) × (x ≡ []))) e (empty-string b x)) s)
 
   pub seed-eod : r ≡ Construct.Eod → Is out (λ (x : Bits). (length x ≤ 8) × (number x ≡ 1)) → Right
   unfolding node-of

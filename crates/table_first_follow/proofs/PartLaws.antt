@@ -8,6 +8,7 @@ use mathlib.Core.List.{List, [], _∷_, _++_, append-assoc, append-nil, List·Me
 use native.Mathlib.Omega.{arith}
 use native.Mathlib.Decide.{decLt, ℕ-discrete}
 use borrow.Author.Tests.{le-ltb, lt-ltb, ne-eqb, eq-eqb}
+use lib.Dec.{ltb}
 use lib.ListN.{length, take, set, length-set}
 use lib.Seq.{take-suc-set}
 use native.Mathlib.Numerals.{add-one}
@@ -17,7 +18,8 @@ use Rattle.lookahead.specs.Sets.{Has, Is, Proper, Union}
 use Rattle.lookahead.proofs.LanguageLaws.{Strings, Short, joined-short, joined-map, joined-assoc, joined-unit-left, joined-unit-right}
 use Rattle.lookahead.proofs.PassLaws.{is-map}
 use Rattle.table_layout.specs.Constructs.{constructAt}
-use Rattle.table_layout.specs.Held.{parts, size-of}
+use Rattle.table_layout.specs.Places.{construct-word}
+use Rattle.table_layout.specs.Held.{parts, size-of, no-default}
 use Rattle.theory.specs.Grammar.{_∈_}
 use Rattle.table_first_follow.specs.Rules.{Family, Some, Members}
 use Rattle.table_first_follow.specs.Rounds.{strings}
@@ -65,9 +67,29 @@ module _ (ws : List ℕ) (end : ℕ) where
         parts-fuel (end - j) (suc (end - j)) j (omega arith) (omega arith) ∙ parts-next (end - j) j h e
         ∙ ap (λ (is : List ℕ). j ∷ is) (parts-fuel (end - j) (end - (j + size-of (constructAt ws j))) (j + size-of (constructAt ws j)) (omega arith) (omega arith))
 
+    -- whatever stands after it
+    pub siblings-first : (more : List ℕ) × (siblings ws j end ≡ j ∷ more)
+    siblings-first = elim (ℕ-discrete (size-of (constructAt ws j)) 0) [ yes e ↦ ([], siblings-last e) | no e ↦ (siblings ws (j + size-of (constructAt ws j)) end, siblings-next e) ]
+
 -- the parts of a construct of `size`
 pub parts-siblings : (ws : List ℕ) (i size : ℕ) → parts size ws (i + 1) (i + size) ≡ siblings ws (i + 1) (i + size)
 parts-siblings ws i size = parts-fuel ws (i + size) size (i + size - (i + 1)) (i + 1) (omega arith) (omega arith)
+
+-- ---- no default
+
+module _ (ws : List ℕ) (j : ℕ) (all more : List ℕ) (e : all ≡ j ∷ more) where
+  -- a case with a condition says nothing, one without is the default
+  pub default-later : ltb (construct-word ws j 6) (construct-word ws j 7) ≡ true → no-default ws all ≡ no-default ws more
+  unfolding no-default
+  default-later t = ap (no-default ws) e ∙ ap (λ (b : Bool). elim b [ true ↦ no-default ws more | false ↦ false ]) t
+
+  pub default-here : ltb (construct-word ws j 6) (construct-word ws j 7) ≡ false → no-default ws all ≡ false
+  unfolding no-default
+  default-here t = ap (no-default ws) e ∙ ap (λ (b : Bool). elim b [ true ↦ no-default ws more | false ↦ false ]) t
+
+pub no-case-left : (ws all : List ℕ) → all ≡ [] → no-default ws all ≡ true
+unfolding no-default
+no-case-left ws all e = ap (no-default ws) e
 
 -- ---- what is gathered
 

@@ -20,7 +20,7 @@ module _ {Context Values : Type 0} (g : Grammar Context Values) where
   seeded-first (alternative is) x s = absurd s
   seeded-first (concatenation is) x s = absurd s
   seeded-first (repetition counts static fixed b) x s = absurd s
-  seeded-first (switch chosen is) x s = absurd s
+  seeded-first {i} (switch chosen optional is) x s = rw (s .1) (First.of-no-case {i = i} (s .0))
   seeded-first (use-of enters opens closes b) x s = absurd s
   seeded-first (field w admits static binds) x s = First.of-field (s .0) (s .1) (s .2) (s .3)
   seeded-first {i} eod x s = rw s (First.of-eod {i = i})
@@ -38,7 +38,7 @@ module _ {Context Values : Type 0} (g : Grammar Context Values) where
     applied-first (alternative is) x a = First.of-alternative (a .1) (sound (a .0) x (a .2))
     applied-first (concatenation is) x a = First.of-concatenation (members-first is x a)
     applied-first (repetition counts static fixed b) x a = First.of-repetition (a .0) (a .1) (passes-first b (a .0) x (a .2))
-    applied-first (switch chosen is) x a = First.of-switch (a .1) (sound (a .0) x (a .2))
+    applied-first (switch chosen optional is) x a = First.of-switch (a .1) (sound (a .0) x (a .2))
     applied-first (use-of enters opens closes b) x a = First.of-use (sound b x a)
     applied-first (field w admits static binds) x a = absurd a
     applied-first eod x a = absurd a
@@ -61,6 +61,7 @@ module _ {Context Values : Type 0} (g : Grammar Context Values) where
       first-holds First.of-eod = inr refl
       first-holds (First.of-alternative {b = b} {x = x} m f) = inl (b, m, meet b x (first-holds f))
       first-holds (First.of-switch {b = b} {x = x} m f) = inl (b, m, meet b x (first-holds f))
+      first-holds (First.of-no-case o) = inr (o, refl)
       first-holds (First.of-use {b = b} {x = x} f) = inl (meet b x (first-holds f))
       first-holds (First.of-concatenation f) = inl (first-holds f)
       first-holds First.no-members = refl

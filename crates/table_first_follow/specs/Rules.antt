@@ -29,12 +29,12 @@ abbrev pub Leading : (Bits → ℕ) → (Bits → Bool) → Bits → Type 0
 Leading w static x = (bits : Bits) × (length bits ≡ w bits) × (static bits ≡ true) × (x ≡ lookahead bits)
 
 module _ {Context Values : Type 0} where
-  -- the strings of a node that has no parts
+  -- the strings that a node has without its parts: a field's, eod's, and "a switch without a default also has the empty first window" (Req 02)
   abbrev pub Seeded : Node Context Values → Bits → Type 0
   Seeded (alternative is) x = ⊥
   Seeded (concatenation is) x = ⊥
   Seeded (repetition counts static fixed b) x = ⊥
-  Seeded (switch chosen is) x = ⊥
+  Seeded (switch chosen optional is) x = (optional ≡ true) × (x ≡ [])
   Seeded (use-of enters opens closes b) x = ⊥
   Seeded (field w admits static binds) x = Leading w static x
   Seeded eod x = x ≡ []
@@ -44,7 +44,7 @@ module _ {Context Values : Type 0} where
   Applied F (alternative is) x = Some F is x
   Applied F (concatenation is) x = Members F is x
   Applied F (repetition counts static fixed b) x = Repeated (F b) static x
-  Applied F (switch chosen is) x = Some F is x
+  Applied F (switch chosen optional is) x = Some F is x
   Applied F (use-of enters opens closes b) x = F b x
   Applied F (field w admits static binds) x = ⊥
   Applied F eod x = ⊥

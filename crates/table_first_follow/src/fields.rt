@@ -1,4 +1,4 @@
-// The FIRST sets of constructs without parts: they are worked out once, before the rounds.
+// What constructs have in FIRST without their parts: it is worked out once, before the rounds.
 ghost use mathlib.Core.Path.{_≡_};
 ghost use Prim.Native.Nat.{_+_, _^_, _≤_, _<_, min};
 ghost use Rattle.table_first_follow.specs.Sets.{sets-held};
@@ -7,6 +7,7 @@ ghost use Rattle.lookahead.specs.Sets.{Is};
 ghost use Rattle.table_layout.specs.Held.{held, term-words as termWords};
 ghost use Rattle.table_first_follow.specs.Rules.{Seeded};
 ghost use Rattle.table_first_follow.specs.Fields.{Numbered, Any, Led};
+use crate::parts;
 use crate::rules::term_words;
 use lookahead::Set;
 use table_layout::Construct;
@@ -68,7 +69,7 @@ fn uint(table: &[u32], width: usize, start: usize, end: usize) -> Set
     )
 }
 
-// The strings of construct i, if it is a field or eod.
+// The strings of construct i, if it is a field or eod; the empty one, if it is a switch without a default.
 pub fn seed(table: &[u32], i: usize) -> Set
     requires { ⌜ i < sets-held ⌝ }
     ensures { λ r. ⌜ Is (r .words) (Seeded (held (now (table .entry)) .node i)) ⌝ }
@@ -78,7 +79,7 @@ pub fn seed(table: &[u32], i: usize) -> Set
         Construct::Alternative { size: _ } => lookahead::empty(),
         Construct::Concatenation { size: _ } => lookahead::empty(),
         Construct::Repetition { size: _, passes: _ } => lookahead::empty(),
-        Construct::Switch { size: _ } => lookahead::empty(),
+        Construct::Switch { size } => parts::neutral(parts::no_default(table, i + 1, i + size)),
         Construct::Use { rule: _ } => lookahead::empty(),
         Construct::Literal { length: _ } => {
             lookahead::single(256 + table_layout::word(table, LITERALS_AT + 8 * i) % 256)

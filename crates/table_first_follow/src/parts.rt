@@ -1,17 +1,20 @@
 // The parts of a construct: its first is the next number, and each is as far after the one before as that one is large.
 ghost use mathlib.Core.Path.{_≡_};
 ghost use mathlib.Core.Bool.{_||_};
-ghost use Prim.Native.Nat.{_≤_};
+ghost use Prim.Native.Nat.{_≤_, _<_};
+ghost use lib.Dec.{ltb};
 ghost use lib.ListN.{length, take};
 ghost use Rattle.table_first_follow.specs.Sets.{family-words};
 ghost use Rattle.basis.specs.Limits.{max-constructs};
 ghost use Rattle.lookahead.specs.Sets.{Has, Is};
 ghost use Rattle.table_layout.specs.Constructs.{constructAt};
-ghost use Rattle.table_layout.specs.Held.{size-of as sizeOf};
+ghost use Rattle.table_layout.specs.Places.{construct-word};
+ghost use Rattle.table_layout.specs.Held.{size-of as sizeOf, no-default};
 ghost use Rattle.table_first_follow.specs.Rounds.{strings};
 ghost use Rattle.table_first_follow.specs.Parts.{siblings, Combined, Neutral, Gathered};
 use crate::SETS_HELD;
 use lookahead::Set;
+use table_layout::CONSTRUCTS_AT;
 use table_layout::Construct;
 use table_layout::construct_at;
 
@@ -35,7 +38,7 @@ pub fn set_of(family: &[u64], i: usize) -> Set
     lookahead::empty()
 }
 
-fn neutral(joined: bool) -> Set
+pub fn neutral(joined: bool) -> Set
     ensures { λ r. ⌜ Is (r .words) (Neutral joined) ⌝ }
 {
     if joined {
@@ -69,6 +72,36 @@ pub fn gather(table: &[u32], family: &[u64], start: usize, end: usize, joined: b
         at += size;
     }
     out
+}
+
+// Whether construct i has a condition.
+fn conditioned(table: &[u32], i: usize) -> bool
+    requires { ⌜ i < max-constructs ⌝ }
+    ensures { λ r. ⌜ r ≡ ltb (construct-word (now (table .entry)) i 6) (construct-word (now (table .entry)) i 7) ⌝ }
+{
+    let start = table_layout::word(table, CONSTRUCTS_AT + 8 * i + 6);
+    let end = table_layout::word(table, CONSTRUCTS_AT + 8 * i + 7);
+    start < end
+}
+
+// Whether each case from `start` up to `end` has a condition, so that there is no default.
+pub fn no_default(table: &[u32], start: usize, end: usize) -> bool
+    requires { ⌜ end ≤ max-constructs ⌝ }
+    ensures { λ r. ⌜ r ≡ no-default (now (table .entry)) (siblings (now (table .entry)) start end) ⌝ }
+{
+    let mut at = start;
+    while at < end {
+        if conditioned(table, at) {
+            let size = size_at(table, at);
+            if size == 0 {
+                return true;
+            }
+            at += size;
+        } else {
+            return false;
+        }
+    }
+    true
 }
 
 // The numbers of the parts from `start` up to `end`; how many there are.

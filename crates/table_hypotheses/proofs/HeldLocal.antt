@@ -23,7 +23,7 @@ use Rattle.term_evaluation.specs.Variables.{hasVariable}
 use Rattle.theory.specs.Grammar.{alternative, concatenation, repetition, switch, use-of, field}
 use Rattle.table_layout.specs.Places.{rule-word, variable-word, construct-word, terms-at, rules-at, variables-at, constructs-at, literals-at}
 use Rattle.table_layout.specs.Constructs.{constructAt}
-use Rattle.table_layout.specs.Held.{first-context, Values, term-words, size-of, parts, isYes, passes-allowed, passes-static, passes-fixed, first-case, literal-byte, literal-bytes, literal-node, bound, use-node, node-of, opening, held, allowed, isExact}
+use Rattle.table_layout.specs.Held.{first-context, Values, term-words, size-of, parts, isYes, passes-allowed, passes-static, passes-fixed, first-case, no-default, literal-byte, literal-bytes, literal-node, bound, use-node, node-of, opening, held, allowed, isExact}
 use Rattle.table_layout.specs.declared.Construct.{Construct}
 use Rattle.table_layout.specs.declared.Passes.{Passes}
 use Rattle.table_layout.proofs.Bounds.{Fine, fine}
@@ -97,6 +97,13 @@ module _ {ws ws′ : List ℕ} (a : Alike ws ws′) where
       λ t. elim (ltb (from t) (upto t))
       [ true ↦ elim (isYes (condition v (from t) (terms (terms-same t) (from t) (upto t)))) [ true ↦ some b | false ↦ case-same v bs s t ] | false ↦ some b ]
 
+  default-same : (bs : List ℕ) → Small bs → no-default ws bs ≡ no-default ws′ bs
+  unfolding no-default
+  default-same [] s = refl
+  default-same (b ∷ bs) (h, s) =
+      let from = construct-words b 6 h (omega arith) in
+      let upto = construct-words b 7 h (omega arith) in λ t. elim (ltb (from t) (upto t)) [ true ↦ default-same bs s t | false ↦ false ]
+
   pub allowed-same : (p : Passes) (v : Values) → passes-allowed ws p v ≡ passes-allowed ws′ p v
   allowed-same Passes.Optional v = refl
   allowed-same Passes.Any v = refl
@@ -136,7 +143,9 @@ module _ {ws ws′ : List ℕ} (a : Alike ws ws′) where
   node-same i (Construct.Switch size) f =
       let first : (v : Values) → first-case ws v (parts size ws (i + 1) (i + size)) ≡ first-case ws′ v (parts size ws′ (i + 1) (i + size)) =
       λ v. case-same v (parts size ws (i + 1) (i + size)) (small-parts size (i + 1) (i + size) (f .1)) ∙ ap (first-case ws′ v) (parts-same size (i + 1) (i + size)) in
-      λ t. switch (λ c v. first v t) (parts-same size (i + 1) (i + size) t)
+      let optional : no-default ws (parts size ws (i + 1) (i + size)) ≡ no-default ws′ (parts size ws′ (i + 1) (i + size)) =
+      default-same (parts size ws (i + 1) (i + size)) (small-parts size (i + 1) (i + size) (f .1)) ∙ ap (no-default ws′) (parts-same size (i + 1) (i + size)) in
+      λ t. switch (λ c v. first v t) (optional t) (parts-same size (i + 1) (i + size) t)
   node-same i (Construct.Use rule) f = use-same rule (f .1)
   node-same i (Construct.Literal n) f = ap literal-node (literals-same i 0 n (f .0) (omega (arith, f .2)))
   node-same i (Construct.Range low high) f = refl

@@ -36,7 +36,7 @@ abbrev Repeated : List ℕ → ℕ → HeldNode → Type 0
 Repeated ws i (alternative is) = Unit {0}
 Repeated ws i (concatenation is) = Unit {0}
 Repeated ws i (repetition counts static fixed b) = Repeating ws i b
-Repeated ws i (switch chosen is) = Unit {0}
+Repeated ws i (switch chosen optional is) = Unit {0}
 Repeated ws i (use-of enters opens closes b) = Unit {0}
 Repeated ws i (field w admits static binds) = Unit {0}
 Repeated ws i eod = Unit {0}

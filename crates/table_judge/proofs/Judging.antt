@@ -35,7 +35,7 @@ abbrev Idle : HeldNode → Type 0
 Idle (alternative is) = is ≡ []
 Idle (concatenation is) = Unit {0}
 Idle (repetition counts static fixed b) = ⊥
-Idle (switch chosen is) = Unit {0}
+Idle (switch chosen optional is) = Unit {0}
 Idle (use-of enters opens closes b) = Unit {0}
 Idle (field w admits static binds) = Unit {0}
 Idle eod = Unit {0}

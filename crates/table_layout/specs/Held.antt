@@ -114,6 +114,11 @@ first-case ws v (b ∷ bs) =
       | false ↦ some b
     ]
 
+-- no default: each of these cases has a condition
+unfoldable pub no-default : List ℕ → List ℕ → Bool
+no-default ws [] = true
+no-default ws (b ∷ bs) = elim (ltb (construct-word ws b 6) (construct-word ws b 7)) [ true ↦ no-default ws bs | false ↦ false ]
+
 -- ---- fields
 
 -- byte k of the literal of construct i
@@ -160,12 +165,13 @@ use-node ws r = use-of (λ c. some c) (λ c v. v) (λ v v′. v′) (rule-word w
 
 -- construct i as a node: its parts are the constructs that fill it, of a repetition the one after it
 unfoldable pub node-of : List ℕ → ℕ → Construct → HeldNode
-unfolding parts first-case literal-bytes
+unfolding parts first-case no-default literal-bytes
 node-of ws i Construct.Missing = alternative []
 node-of ws i (Construct.Alternative size) = alternative (parts size ws (i + 1) (i + size))
 node-of ws i (Construct.Concatenation size) = concatenation (parts size ws (i + 1) (i + size))
 node-of ws i (Construct.Repetition size passes) = repetition (λ c v. passes-allowed ws passes v) (passes-static ws passes) (passes-fixed ws passes) (i + 1)
-node-of ws i (Construct.Switch size) = switch (λ c v. first-case ws v (parts size ws (i + 1) (i + size))) (parts size ws (i + 1) (i + size))
+node-of ws i (Construct.Switch size) =
+    switch (λ c v. first-case ws v (parts size ws (i + 1) (i + size))) (no-default ws (parts size ws (i + 1) (i + size))) (parts size ws (i + 1) (i + size))
 node-of ws i (Construct.Use rule) = use-node ws rule
 node-of ws i (Construct.Literal length) = literal-node (literal-bytes ws i 0 length)
 node-of ws i (Construct.Range low high) = range-node low high

@@ -40,7 +40,7 @@ abbrev Entered : List ℕ → ℕ → HeldNode → Type 0
 Entered ws i (alternative is) = Unit {0}
 Entered ws i (concatenation is) = Unit {0}
 Entered ws i (repetition counts static fixed b) = Unit {0}
-Entered ws i (switch chosen is) = Unit {0}
+Entered ws i (switch chosen optional is) = Unit {0}
 Entered ws i (use-of enters opens closes b) = (c c′ : Context) (v v′ : Values) → Agree store c (seen-at ws i) v v′ → Agree store c′ (seen-at ws b) (opens c v) (fresh i c v′)
 Entered ws i (field w admits static binds) = Unit {0}
 Entered ws i eod = Unit {0}

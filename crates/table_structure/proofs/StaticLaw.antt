@@ -42,7 +42,7 @@ StaticOf (concatenation is) = Unit {0}
 StaticOf (repetition counts static fixed b) =
     ((c : Context) (v : Values) (k : ℕ) → Allows (counts c v) k → Allows static k)
     × (fixed ≡ true → (c : Context) (v : Values) (j k : ℕ) → Allows (counts c v) j → Allows (counts c v) k → j ≡ k)
-StaticOf (switch chosen is) = (c : Context) (v : Values) (b : ℕ) → chosen c v ≡ some b → b ∈ is
+StaticOf (switch chosen optional is) = (c : Context) (v : Values) (b : ℕ) → chosen c v ≡ some b → b ∈ is
 StaticOf (use-of enters opens closes b) = (v v′ : Values) → closes v v′ ≡ v′
 StaticOf (field w admits static binds) =
     ((c : Context) (v : Values) (bits : Bits) → admits c v bits ≡ true → static bits ≡ true) × ((s r : Bits) → w s ≤ length s → w (take (w s) s ++ r) ≡ w s)

@@ -25,7 +25,7 @@ abbrev pub Each : (ℕ → Type 0) → HeldNode → Type 0
 Each P (alternative is) = All P is
 Each P (concatenation is) = All P is
 Each P (repetition counts static fixed b) = P b
-Each P (switch chosen is) = All P is
+Each P (switch chosen optional is) = All P is
 Each P (use-of enters opens closes b) = P b
 Each P (field w admits static binds) = Unit {0}
 Each P eod = Unit {0}

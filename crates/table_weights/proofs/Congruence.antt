@@ -40,7 +40,7 @@ module _ (m : ℕ) (f g : Context → ℕ → ℕ) where
   weigh-same (alternative is) a = one-more m (largest (f tt) is) (largest (g tt) is) (largest-same m (f tt) (g tt) is a)
   weigh-same (concatenation is) a = one-more m (sum (f tt) is) (sum (g tt) is) (sum-same m (f tt) (g tt) is a)
   weigh-same (repetition counts static fixed b) a = omega arith
-  weigh-same (switch chosen is) a = one-more m (largest (f tt) is) (largest (g tt) is) (largest-same m (f tt) (g tt) is a)
+  weigh-same (switch chosen optional is) a = one-more m (largest (f tt) is) (largest (g tt) is) (largest-same m (f tt) (g tt) is a)
   weigh-same (use-of enters opens closes b) a =
       elim (enters tt) as (λ o. min m (elim o [ none ↦ 1 | some c′ ↦ 1 + f c′ b ]) ≡ min m (elim o [ none ↦ 1 | some c′ ↦ 1 + g c′ b ]))
       [ none ↦ refl | some c′ ↦ one-more m (f first-context b) (g first-context b) a ]
@@ -55,7 +55,7 @@ pub each-map : (P Q : ℕ → Type 0) → ((k : ℕ) → P k → Q k) → (n : H
 each-map P Q f (alternative is) a = all-map P Q f is a
 each-map P Q f (concatenation is) a = all-map P Q f is a
 each-map P Q f (repetition counts static fixed b) a = f b a
-each-map P Q f (switch chosen is) a = all-map P Q f is a
+each-map P Q f (switch chosen optional is) a = all-map P Q f is a
 each-map P Q f (use-of enters opens closes b) a = f b a
 each-map P Q f (field w admits static binds) a = tt
 each-map P Q f eod a = tt

@@ -1,10 +1,11 @@
 -- `table_first_follow::fields::seed` meets its contract. A law for each kind of construct. Assumes nothing.
-use Prim.Native.Nat.{_<_}
+use Prim.Native.Nat.{_+_, _≤_, _<_}
 use borrow.Author.Needs.{needs}
 use native.Mathlib.Omega.{arith}
+use Rattle.basis.specs.Limits.{max-constructs}
 use Rattle.table_layout.specs.Held.{node-of}
 use Rattle.table_layout.specs.declared.Construct.{Construct}
-use Rattle.table_first_follow.proofs.FieldLaws.{seed-none, seed-literal, seed-range, seed-uint, seed-eod}
+use Rattle.table_first_follow.proofs.FieldLaws.{seed-none, seed-switch, seed-literal, seed-range, seed-uint, seed-eod}
 use Rattle.table_layout.proofs.Bounds.{fine-as}
 use Rattle.table_first_follow.proofs.fields.seed.Statement.{statement}
 use Rattle.table_first_follow.proofs.fields.seed.Tie as tie
@@ -36,6 +37,27 @@ enum-told-4 c = search needs
 empty-requires-4 : tie.Need-empty-requires-4
 empty-requires-4 c κs = search needs
 
+enum-known-size : tie.Need-enum-known-size
+enum-known-size c = search needs
+
+add-no-default : tie.Need-add-no-default
+add-no-default c = search needs
+
+add-no-default-2 : tie.Need-add-no-default-2
+add-no-default-2 c =
+    let a = c .before .before .before .before .before .args in
+    let f = fine-as (a .table .now) (a .i) (c .before .before .before .construct-at .result) (c .before .before .before .construct-at .ensures) (Construct.Switch (c .before .size .given .0 .0)) (c .before .size .given .1) in
+    let g : a .i + c .before .size .given .0 .0 ≤ max-constructs = f .1 in
+    record { fits = omega arith }
+
+no-default-requires : tie.Need-no-default-requires
+no-default-requires c κs =
+    let a = c .before .before .before .before .before .args in
+    fine-as (a .table .now) (a .i) (c .before .before .before .construct-at .result) (c .before .before .before .construct-at .ensures) (Construct.Switch (c .before .size .given .0 .0)) (c .before .size .given .1) .1
+
+neutral-requires : tie.Need-neutral-requires
+neutral-requires c κs = search needs
+
 enum-told-5 : tie.Need-enum-told-5
 enum-told-5 c = search needs
 
@@ -44,12 +66,6 @@ empty-requires-5 c κs = search needs
 
 enum-told-6 : tie.Need-enum-told-6
 enum-told-6 c = search needs
-
-empty-requires-6 : tie.Need-empty-requires-6
-empty-requires-6 c κs = search needs
-
-enum-told-7 : tie.Need-enum-told-7
-enum-told-7 c = search needs
 
 mul-word : tie.Need-mul-word
 mul-word c = search needs
@@ -94,8 +110,8 @@ uint-requires c κs =
     let a = c .before .before .before .before .before .args in
     fine-as (a .table .now) (a .i) (c .before .before .before .construct-at .result) (c .before .before .before .construct-at .ensures) (Construct.Uint (c .before .width .given .0 .0) (c .before .width .given .0 .1 .0) (c .before .width .given .0 .1 .1 .0) (c .before .width .given .0 .1 .1 .1 .0)) (c .before .width .given .1) .2
 
-enum-told-8 : tie.Need-enum-told-8
-enum-told-8 c = search needs
+enum-told-7 : tie.Need-enum-told-7
+enum-told-7 c = search needs
 
 single-requires-2 : tie.Need-single-requires-2
 single-requires-2 c κs = search needs
@@ -125,22 +141,21 @@ returns-4 c =
     seed-none (a .table .now) (a .i) (c .before .before .before .before .before .pre) (c .before .before .before .construct-at .result) (c .before .before .before .construct-at .ensures) (c .empty4 .result .words) (Construct.Repetition (c .before .enum-told4 .given .0 .0) (c .before .enum-told4 .given .0 .1 .0)) (c .before .enum-told4 .given .1) (λ x s. s) (c .empty4 .ensures)
 
 returns-5 : tie.Need-returns-5
-unfolding node-of
 returns-5 c =
-    let a = c .before .before .before .before .before .args in
-    seed-none (a .table .now) (a .i) (c .before .before .before .before .before .pre) (c .before .before .before .construct-at .result) (c .before .before .before .construct-at .ensures) (c .empty5 .result .words) (Construct.Switch (c .before .enum-told5 .given .0 .0)) (c .before .enum-told5 .given .1) (λ x s. s) (c .empty5 .ensures)
+    let a = c .before .before .before .before .before .before .before .args in
+    seed-switch (a .table .now) (a .i) (c .before .before .before .before .before .before .before .pre) (c .before .before .before .before .before .construct-at .result) (c .before .before .before .before .before .construct-at .ensures) (c .neutral .result .words) (c .before .before .before .size .given .0 .0) (c .before .no-default .result) (c .before .before .before .size .given .1) (c .before .no-default .ensures) (c .neutral .ensures)
 
 returns-6 : tie.Need-returns-6
 unfolding node-of
 returns-6 c =
     let a = c .before .before .before .before .before .args in
-    seed-none (a .table .now) (a .i) (c .before .before .before .before .before .pre) (c .before .before .before .construct-at .result) (c .before .before .before .construct-at .ensures) (c .empty6 .result .words) (Construct.Use (c .before .enum-told6 .given .0 .0)) (c .before .enum-told6 .given .1) (λ x s. s) (c .empty6 .ensures)
+    seed-none (a .table .now) (a .i) (c .before .before .before .before .before .pre) (c .before .before .before .construct-at .result) (c .before .before .before .construct-at .ensures) (c .empty5 .result .words) (Construct.Use (c .before .enum-told5 .given .0 .0)) (c .before .enum-told5 .given .1) (λ x s. s) (c .empty5 .ensures)
 
 returns-7 : tie.Need-returns-7
 returns-7 c =
     let a = c .before .before .before .before .before .before .args in
-    seed-literal (a .table .now) (a .i) (c .before .before .before .before .before .before .pre) (c .before .before .before .before .construct-at .result) (c .before .before .before .before .construct-at .ensures) (c .single .result .words) (c .before .before .enum-told7 .given .0 .0) (c .before .word .result) (c .before .before .enum-told7 .given .1)
-    (fine-as (a .table .now) (a .i) (c .before .before .before .before .construct-at .result) (c .before .before .before .before .construct-at .ensures) (Construct.Literal (c .before .before .enum-told7 .given .0 .0)) (c .before .before .enum-told7 .given .1) .1) (c .before .word .ensures .0) (c .single .ensures)
+    seed-literal (a .table .now) (a .i) (c .before .before .before .before .before .before .pre) (c .before .before .before .before .construct-at .result) (c .before .before .before .before .construct-at .ensures) (c .single .result .words) (c .before .before .enum-told6 .given .0 .0) (c .before .word .result) (c .before .before .enum-told6 .given .1)
+    (fine-as (a .table .now) (a .i) (c .before .before .before .before .construct-at .result) (c .before .before .before .before .construct-at .ensures) (Construct.Literal (c .before .before .enum-told6 .given .0 .0)) (c .before .before .enum-told6 .given .1) .1) (c .before .word .ensures .0) (c .single .ensures)
 
 returns-8 : tie.Need-returns-8
 returns-8 c =
@@ -156,7 +171,7 @@ returns-9 c =
 returns-10 : tie.Need-returns-10
 returns-10 c =
     let a = c .before .before .before .before .before .args in
-    seed-eod (a .table .now) (a .i) (c .before .before .before .before .before .pre) (c .before .before .before .construct-at .result) (c .before .before .before .construct-at .ensures) (c .single2 .result .words) (c .before .enum-told8 .given .1) (c .single2 .ensures)
+    seed-eod (a .table .now) (a .i) (c .before .before .before .before .before .pre) (c .before .before .before .construct-at .result) (c .before .before .before .construct-at .ensures) (c .single2 .result .words) (c .before .enum-told7 .given .1) (c .single2 .ensures)
 
 pub seed-spec : {M : Type 1} → statement M
 seed-spec =
@@ -171,11 +186,14 @@ seed-spec =
     empty-requires-3
     enum-told-4
     empty-requires-4
+    enum-known-size
+    add-no-default
+    add-no-default-2
+    no-default-requires
+    neutral-requires
     enum-told-5
     empty-requires-5
     enum-told-6
-    empty-requires-6
-    enum-told-7
     mul-word
     add-word
     word-requires
@@ -187,7 +205,7 @@ seed-spec =
     numbered-requires
     enum-known-width
     uint-requires
-    enum-told-8
+    enum-told-7
     single-requires-2
     returns
     returns-2
