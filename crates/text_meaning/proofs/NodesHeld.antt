@@ -27,10 +27,10 @@ use Rattle.term_evaluation.specs.Variables.{hasVariable}
 use Rattle.theory.specs.Grammar.{_∈_, alternative, concatenation, repetition, switch, use-of, field}
 use Rattle.table_layout.specs.Places.{word, construct-word, literals-at}
 use Rattle.table_layout.specs.Constructs.{constructAt}
-use Rattle.table_layout.specs.Held.{Values, HeldNode, term-words, size-of, parts, allowed, isYes, isExact, passes-allowed, passes-static, passes-fixed, first-case, literal-byte, literal-bytes, literal-node, bound, node-of}
+use Rattle.table_layout.specs.Held.{Values, HeldNode, term-words, size-of, parts, allowed, isYes, isExact, passes-allowed, passes-static, passes-fixed, first-case, no-default, literal-byte, literal-bytes, literal-node, bound, node-of}
 use Rattle.table_layout.specs.declared.Construct.{Construct}
 use Rattle.text_wellformed.proofs.NoFaults.{use-below}
-use Rattle.text_shapes.specs.NodeShapes.{NameAt, Marked, Holds, tree, literal-tree, range-tree, use-tree, eod-tree, uint-tree, marked-tree, counted-tree, chain-tree, switch-tree}
+use Rattle.text_shapes.specs.NodeShapes.{NameAt, Marked, Conditioned, Unconditioned, Holds, tree, literal-tree, range-tree, use-tree, eod-tree, uint-tree, marked-tree, counted-tree, chain-tree, switch-tree}
 use Rattle.text_shapes.specs.Stored.{Stored}
 use Rattle.text_shapes.specs.Placed.{Placed}
 use Rattle.text_store.specs.Words.{kind-of, node-size, place-of, node-mark, how-bound, condition-from, condition-end}
@@ -45,7 +45,7 @@ use Rattle.text_wellformed.proofs.BytesLaid.{byte-is}
 use Rattle.text_wellformed.proofs.RuleWords.{body-is}
 use Rattle.text_wellformed.proofs.ListsFormed.{no-condition, a-condition}
 use Rattle.text_meaning.specs.Meaning
-use Rattle.text_meaning.specs.Meaning.{parts-from, parts-of, last-of, counts-in, static-counts, passes, is-fixed, own-list, condition-list, is-default, is-true, first-true, meant-node}
+use Rattle.text_meaning.specs.Meaning.{parts-from, parts-of, last-of, counts-in, static-counts, passes, is-fixed, own-list, condition-list, is-default, is-true, first-true, no-default as text-no-default, meant-node}
 use Rattle.text_meaning.proofs.TermLists.{same-membership, same-condition, last-at, counts-as}
 use Rattle.text_meaning.proofs.PartLists.{parts-next, parts-end, part-below, given}
 use Rattle.text_meaning.proofs.ListsHeld.{OwnShape, own-of-set, own-of-counts, own-held, condition-held}
@@ -144,20 +144,27 @@ module _ {xs ns ts rs : List ℕ} {n t b r : ℕ} (text : Readable xs ns ts rs n
   abbrev by-text : Values → ℕ → Option ℕ → Option ℕ
   by-text v c x = elim (is-default ns c) [ true ↦ some c | false ↦ elim (is-true xs ns ts rs r v c) [ true ↦ some c | false ↦ x ] ]
 
+  -- the words of a node's condition: none, or its terms
+  no-words : (c : ℕ) → c < n → Unconditioned ns c → (construct-word ws c 6 ≡ 0) × (construct-word ws c 7 ≡ 0)
+  no-words c h u = no-condition (words-by-place text stored places) (nodes text) text (few-binders text stored places) (few-terms text stored places) (term-placed text stored places) c h (omega (arith, u .from-is, u .end-is))
+
+  condition-words : (c : ℕ) → c < n → {f g : ℕ} → Conditioned ns ts c f g → (construct-word ws c 6 ≡ condition-start ns c) × (construct-word ws c 7 ≡ condition-start ns c + condition-length ns c)
+  condition-words c h d =
+      let some-terms : 0 < condition-length ns c = omega (arith, d .from-is, d .end-is, d .shape .some) in
+      a-condition (words-by-place text stored places) (nodes text) text (few-binders text stored places) (few-terms text stored places) (term-placed text stored places) c h some-terms
+
   case-held : (v : Values) (c : ℕ) (x y : Option ℕ) → c < n → x ≡ y → ConditionAt ns ts t c → by-words v c x ≡ by-text v c y
   case-held v c x y h same (without u) =
-      let z : (construct-word ws c 6 ≡ 0) × (construct-word ws c 7 ≡ 0) = no-condition (words-by-place text stored places) (nodes text) text (few-binders text stored places) (few-terms text stored places) (term-placed text stored places) c h (omega (arith, u .from-is, u .end-is)) in
+      let z = no-words c h u in
       let d : is-default ns c ≡ true = eq-eqb (condition-from ns c) (condition-end ns c) (u .from-is ∙ sym (u .end-is)) in
       (λ t.
       elim (ltb (z .0 t) (z .1 t))
       [ true ↦ elim (isYes (condition v (z .0 t) (terms (term-words ws) (z .0 t) (z .1 t)))) [ true ↦ some c | false ↦ x ] | false ↦ some c ])
       ∙ sym (λ t. elim (d t) [ true ↦ some c | false ↦ elim (is-true xs ns ts rs r v c) [ true ↦ some c | false ↦ y ] ])
   case-held v c x y h same (with-one d l) =
-      let some-terms : 0 < condition-length ns c = omega (arith, d .from-is, d .end-is, d .shape .some) in
-      let z : (construct-word ws c 6 ≡ condition-start ns c) × (construct-word ws c 7 ≡ condition-start ns c + condition-length ns c) =
-      a-condition (words-by-place text stored places) (nodes text) text (few-binders text stored places) (few-terms text stored places) (term-placed text stored places) c h some-terms in
+      let z = condition-words c h d in
       let from : ℕ = condition-start ns c in
-      let e : ltb from (from + condition-length ns c) ≡ true = lt-ltb from (from + condition-length ns c) (omega arith) in
+      let e : ltb from (from + condition-length ns c) ≡ true = lt-ltb from (from + condition-length ns c) (omega (arith, d .from-is, d .end-is, d .shape .some)) in
       let same-test : condition v from (terms (term-words ws) from (from + condition-length ns c)) ≡ condition v 0 (condition-list xs ns ts rs r c) =
       same-condition v from 0 (terms (term-words ws) from (from + condition-length ns c)) ∙ ap (condition v 0) (condition-held text stored places c h d l) in
       (λ t.
@@ -172,6 +179,26 @@ module _ {xs ns ts rs : List ℕ} {n t b r : ℕ} (text : Readable xs ns ts rs n
   cases-held v (c ∷ cs) a =
       let h : c < n = a c (List·Memᴰ·head refl) in
       case-held v c (first-case ws v cs) (first-true xs ns ts rs r v cs) h (cases-held v cs (λ d m. a d (List·Memᴰ·tail m))) (nodes text .conditions c h)
+
+  -- the words have no default where the text has none
+  default-one : (c : ℕ) (x y : Bool) → c < n → x ≡ y → ConditionAt ns ts t c
+      → _≡_ {A = Bool} (elim (ltb (construct-word ws c 6) (construct-word ws c 7)) [ true ↦ x | false ↦ false ]) (elim (is-default ns c) [ true ↦ false | false ↦ y ])
+  default-one c x y h same (without u) =
+      let z = no-words c h u in
+      let d : is-default ns c ≡ true = eq-eqb (condition-from ns c) (condition-end ns c) (u .from-is ∙ sym (u .end-is)) in
+      (λ t. elim (ltb (z .0 t) (z .1 t)) [ true ↦ x | false ↦ false ]) ∙ sym (λ t. elim (d t) [ true ↦ false | false ↦ y ])
+  default-one c x y h same (with-one d l) =
+      let z = condition-words c h d in
+      let from : ℕ = condition-start ns c in
+      let e : ltb from (from + condition-length ns c) ≡ true = lt-ltb from (from + condition-length ns c) (omega (arith, d .from-is, d .end-is, d .shape .some)) in
+      (λ t. elim (ltb (z .0 t) (z .1 t)) [ true ↦ x | false ↦ false ]) ∙ (λ t. elim (e t) [ true ↦ same t | false ↦ false ]) ∙ sym (λ t. elim (given d t) [ true ↦ false | false ↦ y ])
+
+  default-held : (cs : List ℕ) → ((c : ℕ) → c ∈ cs → c < n) → no-default ws cs ≡ text-no-default ns cs
+  unfolding no-default text-no-default
+  default-held [] a = refl
+  default-held (c ∷ cs) a =
+      let h : c < n = a c (List·Memᴰ·head refl) in
+      default-one c (no-default ws cs) (text-no-default ns cs) h (default-held cs (λ d m. a d (List·Memᴰ·tail m))) (nodes text .conditions c h)
 
   -- ---- by kind
 
@@ -207,7 +234,9 @@ module _ {xs ns ts rs : List ℕ} {n t b r : ℕ} (text : Readable xs ns ts rs n
     switch-held k =
         let first : (v : Values) → first-case ws v (parts (node-size ns i) ws (i + 1) (i + node-size ns i)) ≡ first-true xs ns ts rs r v (parts-of ns i) =
         λ v. ap (first-case ws v) parts-are ∙ cases-held v (parts-of ns i) (λ c m. omega (arith, part-below ns (node-size ns i) (i + 1) (i + node-size ns i) c m)) in
-        rw k (λ t. switch (λ c v. first v t) (parts-are t))
+        let optional : no-default ws (parts (node-size ns i) ws (i + 1) (i + node-size ns i)) ≡ text-no-default ns (parts-of ns i) =
+        ap (no-default ws) parts-are ∙ default-held (parts-of ns i) (λ c m. omega (arith, part-below ns (node-size ns i) (i + 1) (i + node-size ns i) c m)) in
+        rw k (λ t. switch (λ c v. first v t) (optional t) (parts-are t))
 
     use-held : kind-of ns i ≡ 5 → NameAt xs (place-of ns i) → Held
     unfolding Held node-of meant meant-node

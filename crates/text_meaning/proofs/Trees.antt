@@ -29,7 +29,7 @@ use Rattle.text_encoding.specs.Encoded.{encoded}
 use Rattle.text_wellformed.specs.Context.{Readable, TreeAt, ConditionAt, without, with-one}
 use Rattle.text_wellformed.proofs.NodeFacts.{nodes, tree-below, tree-size}
 use Rattle.text_wellformed.proofs.TermsListed.{cut-variable}
-use Rattle.text_meaning.specs.Meaning.{last-of, passes, uint-node, counts-in, static-counts, in-set, in-static-set, is-fixed, parts-of, own-list, condition-list, is-default, is-true, first-true, meant-node, grammar-of}
+use Rattle.text_meaning.specs.Meaning.{last-of, passes, uint-node, counts-in, static-counts, in-set, in-static-set, is-fixed, parts-of, own-list, condition-list, is-default, is-true, first-true, no-default, meant-node, grammar-of}
 use Rattle.text_meaning.specs.Claims.{ListFits, UintMeans, CountsMean, met, Guards, SwitchMeans, Meanings}
 use Rattle.text_meaning.proofs.ListsHeld.{OwnShape, set-shape, counts-shape, own-of-set, own-of-counts, own-under, condition-under, own-held, condition-held}
 use Rattle.text_meaning.proofs.PartLists.{part-below, given, default-last}
@@ -172,7 +172,7 @@ module _ {xs ns ts rs : List ℕ} {n t b r : ℕ} (text : Readable xs ns ts rs n
       let tree-at : TreeAt xs ns ts n t i = nodes text .trees i h in
       let below : (c : ℕ) → c ∈ parts-of ns i → c < n =
       λ c m. omega (arith, part-below ns (node-size ns i) (i + 1) (i + node-size ns i) c m, tree-size (tree-at .holds), tree-below (tree-at .holds), tree-at .within) in
-      let node-is : meant-node xs ns ts rs r i ≡ switch (λ c v. first-true xs ns ts rs r v (parts-of ns i)) (parts-of ns i) = rw k refl in
+      let node-is : meant-node xs ns ts rs r i ≡ switch (λ c v. first-true xs ns ts rs r v (parts-of ns i)) (no-default ns (parts-of ns i)) (parts-of ns i) = rw k refl in
       record {
         chosen = λ c v. first-true xs ns ts rs r v (parts-of ns i);
         node-is = node-below i h ∙ node-is;

@@ -24,7 +24,7 @@ use Rattle.theory.specs.Machine.{choose}
 use Rattle.table_layout.specs.Held.{Context, Values, HeldNode}
 use Rattle.text_store.specs.Words.{kind-of, node-mark, is-binder}
 use Rattle.text_encoding.specs.Numbers.{binders-before, width-of}
-use Rattle.text_meaning.specs.Meaning.{counted, parts-of, own-list, condition-list, is-default, grammar-of}
+use Rattle.text_meaning.specs.Meaning.{counted, parts-of, own-list, condition-list, is-default, no-default, grammar-of}
 
 -- "a calculation, or part of one, whose size may pass 2^62 (variables at their widest, sizes added and multiplied)" is refused. So: the values
 -- lie within sizes of the 64 variables at which no calculation of a list passes 2^62.
@@ -89,10 +89,10 @@ DefaultLast ns [] = Unit {0}
 DefaultLast ns (c ∷ []) = Unit {0}
 DefaultLast ns (c ∷ d ∷ cs) = (is-default ns c ≡ false) × DefaultLast ns (d ∷ cs)
 
--- a node is a switch of these cases: "takes its first true case, else the default"
+-- a node is a switch of these cases: "takes its first true case, else the default"; it may take none where it has no default
 pub record SwitchMeans (xs ns ts rs : List ℕ) (r : ℕ) (node : HeldNode) (cases : List ℕ) : Type 0 where
   pub chosen : Context → Values → Option ℕ
-  pub node-is : node ≡ switch chosen cases
+  pub node-is : node ≡ switch chosen (no-default ns cases) cases
   pub default-last : DefaultLast ns cases
   pub guard : ℕ → Option Condition
   pub guards : (b : ℕ) → b ∈ cases → Guards xs ns ts rs r b (guard b)

@@ -98,6 +98,11 @@ opened rs rule = use-of (λ c. some c) (λ c v. v) (λ v v′. v′) (first-node
 abbrev pub is-default : List ℕ → ℕ → Bool
 is-default ns i = eqb (condition-from ns i) (condition-end ns i)
 
+-- "no default" (Req 02): none of these cases is it
+unfoldable pub no-default : List ℕ → List ℕ → Bool
+no-default ns [] = true
+no-default ns (b ∷ bs) = elim (is-default ns b) [ true ↦ false | false ↦ no-default ns bs ]
+
 module _ (xs ns ts rs : List ℕ) (r : ℕ) where
   -- the terms from number f up to number e, in node i: "Variables are local to a rule", so a name is that of a binder before i in its rule
   abbrev pub list-of : (i f e : ℕ) → List Term
@@ -115,7 +120,7 @@ module _ (xs ns ts rs : List ℕ) (r : ℕ) where
   abbrev pub is-true : Values → ℕ → Bool
   is-true v i = isYes (condition v 0 (condition-list i))
 
-  -- "A switch takes its first true case, else the default; with neither, it matches nothing": the default is last
+  -- "A switch takes its first true case, else the default": the default is last
   unfoldable pub first-true : Values → List ℕ → Option ℕ
   first-true v [] = none
   first-true v (b ∷ bs) = elim (is-default ns b) [ true ↦ some b | false ↦ elim (is-true v b) [ true ↦ some b | false ↦ first-true v bs ] ]
@@ -123,12 +128,12 @@ module _ (xs ns ts rs : List ℕ) (r : ℕ) where
   -- A node by its kind: alternative `|`, concatenation `&`, repetition, switch, "a rule's name", "a literal", "a range of one-character
   -- literals", "uint(width, set)", "eod, which takes no bits and holds only at the frame's end".
   unfoldable pub meant-node : ℕ → HeldNode
-  unfolding parts-from first-true
+  unfolding parts-from first-true no-default
   meant-node i =
       cond (eqb (kind-of ns i) 1) (alternative (parts-of ns i))
       (cond (eqb (kind-of ns i) 2) (concatenation (parts-of ns i))
       (cond (eqb (kind-of ns i) 3) (repetition (λ c v. passes (node-mark ns i) (counts-in (own-list i) v)) (passes (node-mark ns i) (static-counts (own-list i))) (is-fixed (node-mark ns i) (own-list i)) (i + 1))
-      (cond (eqb (kind-of ns i) 4) (switch (λ c v. first-true v (parts-of ns i)) (parts-of ns i))
+      (cond (eqb (kind-of ns i) 4) (switch (λ c v. first-true v (parts-of ns i)) (no-default ns (parts-of ns i)) (parts-of ns i))
       (cond (eqb (kind-of ns i) 5) (opened rs (rule-of xs rs r (place-of ns i)))
       (cond (eqb (kind-of ns i) 6) (literal-node (characters-at xs (place-of ns i)))
       (cond (eqb (kind-of ns i) 7) (range-node (getD (characters-at xs (place-of ns i)) 0 0) (getD (characters-at xs (last-place ns i)) 0 0))

@@ -42,7 +42,7 @@ Parted (alternative []) = ⊥
 Parted (alternative (b ∷ is)) = Unit {0}
 Parted (concatenation is) = ⊥
 Parted (repetition counts static fixed b) = Unit {0}
-Parted (switch chosen is) = ⊥
+Parted (switch chosen optional is) = ⊥
 Parted (use-of enters opens closes b) = ⊥
 Parted (field w admits static binds) = ⊥
 Parted eod = ⊥
@@ -79,7 +79,7 @@ abbrev Repetition : TreeNode → Type 0
 Repetition (alternative is) = ⊥
 Repetition (concatenation is) = ⊥
 Repetition (repetition counts static fixed b) = Unit {0}
-Repetition (switch chosen is) = ⊥
+Repetition (switch chosen optional is) = ⊥
 Repetition (use-of enters opens closes b) = ⊥
 Repetition (field w admits static binds) = ⊥
 Repetition eod = ⊥

@@ -23,7 +23,7 @@ abbrev pub OwnWidth : {Context Values : Type 0} → Node Context Values → Type
 OwnWidth (alternative is) = Unit {0}
 OwnWidth (concatenation is) = Unit {0}
 OwnWidth (repetition counts static fixed b) = Unit {0}
-OwnWidth (switch chosen is) = Unit {0}
+OwnWidth (switch chosen optional is) = Unit {0}
 OwnWidth (use-of enters opens closes b) = Unit {0}
 OwnWidth (field w admits static binds) = (s : Bits) → w s ≤ length s → w (take (w s) s) ≡ w s
 OwnWidth eod = Unit {0}
@@ -44,6 +44,12 @@ module _ {Context Values : Type 0} (P : Values → Type 0) where
   after-option : {A : Type 0} (o : Option A) (f : A → State Context Values) → ((a : A) → KeptState (f a)) → KeptAfter (elim o [ none ↦ none | some a ↦ some (f a) ])
   after-option none f k = tt
   after-option (some a) f k = k a
+
+  after-switch : {A : Type 0} (o : Option A) (optional : Bool) (τ : State Context Values) (f : A → State Context Values) → KeptState τ → ((a : A) → KeptState (f a))
+      → KeptAfter (elim o [ none ↦ elim optional [ true ↦ some τ | false ↦ none ] | some a ↦ some (f a) ])
+  after-switch none true τ f k m = k
+  after-switch none false τ f k m = tt
+  after-switch (some a) optional τ f k m = m a
 
   after-turn : (d : Turn) (σ τ : State Context Values) → KeptState σ → KeptState τ → KeptAfter (elim d [ fail ↦ none | again ↦ some σ | leave ↦ some τ ])
   after-turn fail σ τ a b = tt
@@ -69,7 +75,8 @@ module _ {Context Values : Type 0} (P : Values → Type 0) where
           | again ↦ some (state (entry b c 0 ∷ entry i c (suc k) ∷ others) s p v cs)
           | leave ↦ some (state others s p v cs)
         ]
-    same-act (same-switch e) i c k others s p v cs q = λ t. elim (e c v q t) [ none ↦ none | some b ↦ some (state (entry b c 0 ∷ others) s p v cs) ]
+    same-act (same-switch {optional} e) i c k others s p v cs q =
+        λ t. elim (e c v q t) [ none ↦ elim optional [ true ↦ some (state others s p v cs) | false ↦ none ] | some b ↦ some (state (entry b c 0 ∷ others) s p v cs) ]
     same-act (same-use o m) i c k others s p v cs q = refl
     same-act (same-field {w} {binds} e m) i c k others s p v cs q =
         λ t. elim (leb (w s) (length s)) [
@@ -89,7 +96,7 @@ module _ {Context Values : Type 0} (P : Values → Type 0) where
     kept-act same-concatenation own i c k others s p v cs q = q
     kept-act (same-repetition {counts} {b} e) own i c k others s p v cs q =
         after-turn (turn (counts c v) k (tests .continues i (lookahead s)) (tests .exits i (lookahead s))) (state (entry b c 0 ∷ entry i c (suc k) ∷ others) s p v cs) (state others s p v cs) q q
-    kept-act (same-switch {chosen} e) own i c k others s p v cs q = after-option (chosen c v) (λ b. state (entry b c 0 ∷ others) s p v cs) (λ b. q)
+    kept-act (same-switch {chosen} {optional} e) own i c k others s p v cs q = after-switch (chosen c v) optional (state others s p v cs) (λ b. state (entry b c 0 ∷ others) s p v cs) q (λ b. q)
     kept-act (same-use {enters} {opens} {b} o m) own i c k others s p v cs q = after-option (enters c) (λ c′. state (entry b c′ 0 ∷ others) s p (opens c v) cs) (λ c′. o c v q)
     kept-act (same-field {w} {admits} {binds} e m) own i c k others s p v cs q =
         after-tests (leb (w s) (length s)) (admits c v (take (w s) s)) (state others (drop (w s) s) (p + w s) (binds c v (take (w s) s)) (cs ++ (record { construct = i; first-bit = p } ∷ [])))

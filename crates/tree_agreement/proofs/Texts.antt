@@ -51,7 +51,7 @@ own-width : (n : TreeNode) → WideNode n → OwnWidth n
 own-width (alternative is) w = tt
 own-width (concatenation is) w = tt
 own-width (repetition counts static fixed b) w = tt
-own-width (switch chosen is) w = tt
+own-width (switch chosen optional is) w = tt
 own-width (use-of enters opens closes b) w = tt
 own-width (field wide admits static binds) w = λ s l. w .always (take (wide s) s) ∙ sym (w .always s)
 own-width eod w = tt

@@ -7,6 +7,7 @@ pub mod Widths
 pub mod Formulas
 pub mod Counting
 pub mod Firsts
+pub mod Defaults
 pub mod Walk
 pub mod Pieces
 pub mod OneRule

@@ -17,7 +17,7 @@ use Rattle.table_layout.specs.Held.{range-node as held-range}
 use Rattle.text_literals.specs.Literals.{characters-at}
 use Rattle.text_store.specs.Words.{kind-of, place-of, node-mark, last-place, is-binder, first-node}
 use Rattle.text_encoding.specs.Numbers.{rule-of, binders-before, width-of}
-use Rattle.text_meaning.specs.Meaning.{parts-of, own-list, counts-in, static-counts, passes, is-fixed, in-set as in-list, in-static-set, first-true, meant-node}
+use Rattle.text_meaning.specs.Meaning.{parts-of, own-list, counts-in, static-counts, passes, is-fixed, in-set as in-list, in-static-set, first-true, no-default, meant-node}
 use Rattle.tree.specs.Lexemes.{Number}
 use Rattle.tree.specs.Tree.{ValueSet, Mark}
 use Rattle.tree_meaning.specs.Pieces.{set-parts}
@@ -101,10 +101,12 @@ module _ (P : Values → Type 0) (xs ns ts rs : List ℕ) (r i : ℕ) where
       in let z : _≡_ {A = TreeNode} (repetition (λ c v. passes (node-mark ns i) (counts-in list v)) (passes (node-mark ns i) (static-counts list)) (is-fixed (node-mark ns i) list) (i + 1)) n = λ t. repetition (λ c v. passes (node-mark ns i) (counts-in list v)) (static t) (fixed t) (next t)
       in told n (repetition-node variable m (suc i)) (q ∙ z) (same-repetition (λ c v p. same v p))
 
-  pub switch-means : (chosen : Values → Option ℕ) (is : List ℕ) → kind-of ns i ≡ 4 → parts-of ns i ≡ is → ((v : Values) → P v → first-true xs ns ts rs r v is ≡ chosen v) → Means (switch (λ c v. chosen v) is)
+  pub switch-means : (chosen : Values → Option ℕ) (optional : Bool) (is : List ℕ) → kind-of ns i ≡ 4 → parts-of ns i ≡ is → no-default ns is ≡ optional
+      → ((v : Values) → P v → first-true xs ns ts rs r v is ≡ chosen v) → Means (switch (λ c v. chosen v) optional is)
   unfolding meant-node
-  switch-means chosen is k e same =
-      let n : TreeNode = switch (λ c v. first-true xs ns ts rs r v is) is
-      in let q : meant-node xs ns ts rs r i ≡ switch (λ c v. first-true xs ns ts rs r v (parts-of ns i)) (parts-of ns i) = rw k refl
-      in let z : _≡_ {A = TreeNode} (switch (λ c v. first-true xs ns ts rs r v (parts-of ns i)) (parts-of ns i)) n = λ t. switch (λ c v. first-true xs ns ts rs r v (e t)) (e t)
-      in told n (switch (λ c v. chosen v) is) (q ∙ z) (same-switch (λ c v p. same v p))
+  switch-means chosen optional is k e o same =
+      let n : TreeNode = switch (λ c v. first-true xs ns ts rs r v is) optional is
+      in let q : meant-node xs ns ts rs r i ≡ switch (λ c v. first-true xs ns ts rs r v (parts-of ns i)) (no-default ns (parts-of ns i)) (parts-of ns i) = rw k refl
+      in let z : _≡_ {A = TreeNode} (switch (λ c v. first-true xs ns ts rs r v (parts-of ns i)) (no-default ns (parts-of ns i)) (parts-of ns i)) (switch (λ c v. first-true xs ns ts rs r v is) (no-default ns is) is) = λ t. switch (λ c v. first-true xs ns ts rs r v (e t)) (no-default ns (e t)) (e t)
+      in let y : _≡_ {A = TreeNode} (switch (λ c v. first-true xs ns ts rs r v is) (no-default ns is) is) n = λ t. switch (λ c v. first-true xs ns ts rs r v is) (o t) is
+      in told n (switch (λ c v. chosen v) optional is) (q ∙ z ∙ y) (same-switch (λ c v p. same v p))

@@ -6,7 +6,7 @@ use mathlib.Core.Bool.{Bool, true, false, cond, not, _&&_}
 use mathlib.Core.List.{List, [], _∷_, _++_}
 use mathlib.Core.Option.{Option, none, some}
 use native.Mathlib.Omega.{arith}
-use borrow.Author.Tests.{eq-eqb, ne-eqb}
+use borrow.Author.Tests.{eq-eqb}
 use lib.Dec.{eqb}
 use lib.IntN.{pos}
 use lib.ListN.{length, getD, set}
@@ -29,7 +29,7 @@ use Rattle.tree_form.specs.Stored.{start-of, how-bound as way-bound}
 use Rattle.tree_meaning.specs.Pieces.{counts-parts, terms-of, Piece, use-of-rule, width, formula, binding, mark-pieces, pieces}
 use Rattle.tree_meaning.specs.Counted.{constructs}
 use Rattle.tree_meaning.specs.Names.{is-among}
-use Rattle.tree_meaning.specs.Grammar.{Values, Construct, is-exact, members, branches, case-bodies, chosen, repetition-node, constructs-of}
+use Rattle.tree_meaning.specs.Grammar.{Values, Construct, is-exact, members, branches, case-bodies, chosen, no-default, repetition-node, constructs-of}
 use Rattle.tree_meaning.proofs.Keeping.{BindingKeeps}
 use Rattle.tree_meaning.proofs.Lengths.{as-counted}
 use Rattle.tree_terms.specs.Terms.{counts-tree}
@@ -47,6 +47,7 @@ use Rattle.tree_grammar.proofs.Widths.{all-wide, all-known}
 use Rattle.tree_grammar.proofs.Formulas.{FormulaRight, InRule, set-same, set-first, counts-list, condition-same}
 use Rattle.tree_grammar.proofs.Counting.{counts-answers, counts-static}
 use Rattle.tree_grammar.proofs.Firsts.{Plain, FirstAt, first-then, whole-first, uncased, first-left, first-right, first-like, case-at, none-at, some-tests, parts-sized}
+use Rattle.tree_grammar.proofs.Defaults.{is-case, cases-optional}
 
 -- ---- what 6 and 8 leave of a rule's pieces
 
@@ -167,16 +168,13 @@ module _ {P : Values → Type 0} {xs ns rs : List ℕ} {r : ℕ} {body numbered 
   unfolding first-true
   no-more-cases v = refl
 
-  is-case : (i f n : ℕ) → condition-from ns i ≡ f → condition-end ns i ≡ f + n → 1 ≤ n → is-default ns i ≡ false
-  is-case i f n p q l = ne-eqb (condition-from ns i) (condition-end ns i) (λ (z : condition-from ns i ≡ condition-end ns i). omega arith)
-
   cases-chosen : {d : ℕ} (x : Tree cases d) (i t : ℕ) (names : List Name) (w : List Lexeme) {q : ℕ} → NodesAt ns i (node-rows false x t) → RowsAt ts t (term-rows x) → Standing xs q (spell x w) → Before xs ns a i names → i + constructs false x ≤ end
       → Right P numbered widest rules whole names (pieces false x) → (v : Values) → P v → first-true xs ns ts rs r v (case-bodies i x) ≡ chosen numbered i x v
   unfolding Right node-rows term-rows spell constructs pieces case-bodies chosen
   cases-chosen (last-case c colon x close) i t names w h rows s b e ok v p =
       let k = t + length (tests-rows c [])
       in let at = case-at t k (node-rows false x k) (some-node false x k) h
-      in case-step v i [] _ none (is-case i t (length (tests-rows c [])) (at .0) (at .1) (some-tests c [])) (condition-same rule ts i names b (omega (arith, nodes-counted false x k, some-node false x k)) c t (at .0) (at .1) (rows-left (tests-rows c []) (term-rows x) rows) (ok .0) (tests-uses c (sign Kind.Colon colon ∷ spell x (sign Kind.Semicolon close ∷ w)) no-more s) v p) (no-more-cases v)
+      in case-step v i [] _ none (is-case ns i t (length (tests-rows c [])) (at .0) (at .1) (some-tests c [])) (condition-same rule ts i names b (omega (arith, nodes-counted false x k, some-node false x k)) c t (at .0) (at .1) (rows-left (tests-rows c []) (term-rows x) rows) (ok .0) (tests-uses c (sign Kind.Colon colon ∷ spell x (sign Kind.Semicolon close ∷ w)) no-more s) v p) (no-more-cases v)
   cases-chosen (case-default c colon x close colon′ y close′) i t names w h rows s b e ok v p =
       let k = t + length (tests-rows c [])
       in let M = on-first t k (node-rows false x k)
@@ -184,7 +182,7 @@ module _ {P : Values → Type 0} {xs ns rs : List ℕ} {r : ℕ} {body numbered 
       in let at = case-at t k (node-rows false x k) (some-node false x k) (nodes-left M L h)
       in let there : NodesAt ns (i + constructs false x) L = subst (λ (j : ℕ). NodesAt ns (i + j) L) (length-first t k (node-rows false x k) ∙ nodes-counted false x k) (nodes-right M L h)
       in let off = none-at y (t + length (tests-rows c [] ++ term-rows x)) tt there
-      in case-step v i ((i + constructs false x) ∷ []) _ (some (i + constructs false x)) (is-case i t (length (tests-rows c [])) (at .0) (at .1) (some-tests c [])) (condition-same rule ts i names b (omega (arith, nodes-counted false x k, some-node false x k)) c t (at .0) (at .1) (rows-left (tests-rows c []) (term-rows x) (rows-left (tests-rows c [] ++ term-rows x) (term-rows y) rows)) (ok .0) (tests-uses c (sign Kind.Colon colon ∷ spell x (sign Kind.Semicolon close ∷ sign Kind.Colon colon′ ∷ spell y (sign Kind.Semicolon close′ ∷ w))) no-more s) v p)
+      in case-step v i ((i + constructs false x) ∷ []) _ (some (i + constructs false x)) (is-case ns i t (length (tests-rows c [])) (at .0) (at .1) (some-tests c [])) (condition-same rule ts i names b (omega (arith, nodes-counted false x k, some-node false x k)) c t (at .0) (at .1) (rows-left (tests-rows c []) (term-rows x) (rows-left (tests-rows c [] ++ term-rows x) (term-rows y) rows)) (ok .0) (tests-uses c (sign Kind.Colon colon ∷ spell x (sign Kind.Semicolon close ∷ sign Kind.Colon colon′ ∷ spell y (sign Kind.Semicolon close′ ∷ w))) no-more s) v p)
       (default-step v (i + constructs false x) [] (eq-eqb (condition-from ns (i + constructs false x)) (condition-end ns (i + constructs false x)) (off .0 ∙ sym (off .1))))
   cases-chosen (case-cases c colon x close more) i t names w h rows s b e ok v p =
       let k = t + length (tests-rows c [])
@@ -192,7 +190,7 @@ module _ {P : Values → Type 0} {xs ns rs : List ℕ} {r : ℕ} {body numbered 
       in let L = node-rows false more (t + length (tests-rows c [] ++ term-rows x))
       in let at = case-at t k (node-rows false x k) (some-node false x k) (nodes-left M L h)
       in let there : NodesAt ns (i + constructs false x) L = subst (λ (j : ℕ). NodesAt ns (i + j) L) (length-first t k (node-rows false x k) ∙ nodes-counted false x k) (nodes-right M L h)
-      in case-step v i (case-bodies (i + constructs false x) more) _ _ (is-case i t (length (tests-rows c [])) (at .0) (at .1) (some-tests c [])) (condition-same rule ts i names b (omega (arith, nodes-counted false x k, some-node false x k)) c t (at .0) (at .1) (rows-left (tests-rows c []) (term-rows x) (rows-left (tests-rows c [] ++ term-rows x) (term-rows more) rows)) (ok .0) (tests-uses c (sign Kind.Colon colon ∷ spell x (sign Kind.Semicolon close ∷ spell more w)) no-more s) v p)
+      in case-step v i (case-bodies (i + constructs false x) more) _ _ (is-case ns i t (length (tests-rows c [])) (at .0) (at .1) (some-tests c [])) (condition-same rule ts i names b (omega (arith, nodes-counted false x k, some-node false x k)) c t (at .0) (at .1) (rows-left (tests-rows c []) (term-rows x) (rows-left (tests-rows c [] ++ term-rows x) (term-rows more) rows)) (ok .0) (tests-uses c (sign Kind.Colon colon ∷ spell x (sign Kind.Semicolon close ∷ spell more w)) no-more s) v p)
       (cases-chosen more (i + constructs false x) (t + length (tests-rows c [] ++ term-rows x)) (after-bound (pieces false x) names) w there (rows-right (tests-rows c [] ++ term-rows x) (term-rows more) rows) (past (after-tree x (past (after-tests c s))))
       (past-tree false false x k (sign Kind.Semicolon close ∷ spell more w) (uncased t k (node-rows false x k) (whole-first M (nodes-left M L h))) (past (after-tests c s)) b) (omega arith)
       (right-two P numbered widest rules whole names (pieces false x) (pieces false more) (ok .1)) v p)
@@ -249,7 +247,7 @@ module _ {P : Values → Type 0} {xs ns rs : List ℕ} {r : ℕ} {body numbered 
   walk top begun (switch depth opens x closes) i t names w (first-then h more) rows s b e ok =
       let b′ = past-node h refl b
       in (
-        switch-means P xs ns ts rs r i (λ v. chosen numbered (suc i) x v) (case-bodies (suc i) x) (h .kind-is) (parts-sized ns i (constructs false x) (case-bodies (suc i) x) (h .size-is) (case-parts x t (suc (constructs false x)) (omega arith) more))
+        switch-means P xs ns ts rs r i (λ v. chosen numbered (suc i) x v) (no-default x) (case-bodies (suc i) x) (h .kind-is) (parts-sized ns i (constructs false x) (case-bodies (suc i) x) (h .size-is) (case-parts x t (suc (constructs false x)) (omega arith) more)) (cases-optional x t more)
             (λ v p. cases-chosen x (suc i) t names (sign Kind.CloseBracket closes ∷ w) more rows (past s) b′ (omega arith) ok v p),
         walk false false x (suc i) t names (sign Kind.CloseBracket closes ∷ w) (whole-first (node-rows false x t) more) rows (past s) b′ (omega arith) ok,
       )

@@ -10,7 +10,7 @@ use lib.ListN.{length}
 use Rattle.basis.specs.Bits.{Bits}
 use Rattle.basis.specs.Counts.{Counts, Allows}
 use Rattle.theory.specs.Grammar.{Node, alternative, concatenation, repetition, switch, use-of, field, eod, Grammar}
-use Rattle.theory.specs.Derivation.{Tree, Shape, construct, members, passes, Derives, of-alternative, of-concatenation, of-repetition, of-switch, of-use, of-field, of-eod, no-members, more-members, no-passes, more-passes}
+use Rattle.theory.specs.Derivation.{Tree, Shape, construct, members, passes, Derives, of-alternative, of-concatenation, of-repetition, of-switch, of-no-case, of-use, of-field, of-eod, no-members, more-members, no-passes, more-passes}
 
 module _ {Context Values : Type 0} (P : Values → Type 0) where
   -- the same parts; the same counts, cases and bits admitted at values with the property, which stays
@@ -19,8 +19,8 @@ module _ {Context Values : Type 0} (P : Values → Type 0) where
     same-concatenation : {is : List ℕ} → SameNode (concatenation is) (concatenation is)
     same-repetition : {counts counts′ : Context → Values → Counts} {static : Counts} {fixed : Bool} {b : ℕ} → ((c : Context) (v : Values) → P v → counts c v ≡ counts′ c v)
         → SameNode (repetition counts static fixed b) (repetition counts′ static fixed b)
-    same-switch : {chosen chosen′ : Context → Values → Option ℕ} {is : List ℕ} → ((c : Context) (v : Values) → P v → chosen c v ≡ chosen′ c v)
-        → SameNode (switch chosen is) (switch chosen′ is)
+    same-switch : {chosen chosen′ : Context → Values → Option ℕ} {optional : Bool} {is : List ℕ} → ((c : Context) (v : Values) → P v → chosen c v ≡ chosen′ c v)
+        → SameNode (switch chosen optional is) (switch chosen′ optional is)
     same-use : {enters : Context → Option Context} {opens : Context → Values → Values} {closes : Values → Values → Values} {b : ℕ} → ((c : Context) (v : Values) → P v → P (opens c v))
         → ((v v′ : Values) → P v → P v′ → P (closes v v′)) → SameNode (use-of enters opens closes b) (use-of enters opens closes b)
     same-field : {w : Bits → ℕ} {admits admits′ : Context → Values → Bits → Bool} {static : Bits → Bool} {binds : Context → Values → Bits → Values}
@@ -50,6 +50,7 @@ module _ {Context Values : Type 0} (P : Values → Type 0) where
     agree (of-repetition {c} {v} k a d) (same-construct (same-repetition e)) p =
         let r = agree d same-passes p in (of-repetition k (subst (λ (x : Counts). Allows x k) (e c v p) a) (r .0), r .1)
     agree (of-switch {b} {c} {v} e d) (same-construct (same-switch f)) p = let r = agree d (same-construct (all b)) p in (of-switch (sym (f c v p) ∙ e) (r .0), r .1)
+    agree (of-no-case {c} {v} e o) (same-construct (same-switch f)) p = (of-no-case (sym (f c v p) ∙ e) o, p)
     agree (of-use {b} {c} {v} {v′} e d f) (same-construct (same-use o k)) p =
         let r = agree d (same-construct (all b)) (o c v p) in (of-use e (r .0) f, subst P (sym f) (k v v′ p (r .1)))
     agree (of-field {c} {v} bits l e a f) (same-construct (same-field x k)) p = (of-field bits l e (sym (x c v bits p) ∙ a) f, subst P (sym f) (k c v bits l p))

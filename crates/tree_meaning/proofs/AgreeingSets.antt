@@ -9,7 +9,7 @@ use Rattle.basis.specs.Bits.{Bits}
 use Rattle.basis.specs.Counts.{Counts}
 use Rattle.theory.specs.Grammar.{Node, alternative, concatenation, repetition, switch, use-of, Grammar}
 use Rattle.theory.specs.Derivation.{Shape}
-use Rattle.theory.specs.Lookahead.{First, of-field, of-eod, of-alternative, of-switch, of-use, of-concatenation, no-members, more-members, of-repetition, no-passes, more-passes, Follow, of-start, of-rule, of-member, of-branch, of-case, of-body, Predicted, predicted, Continues, continues, Conflict, of-branches, of-passes, EmptyBody, empty-body}
+use Rattle.theory.specs.Lookahead.{First, of-field, of-eod, of-alternative, of-switch, of-no-case, of-use, of-concatenation, no-members, more-members, of-repetition, no-passes, more-passes, Follow, of-start, of-rule, of-member, of-branch, of-case, of-body, Predicted, predicted, Continues, continues, Conflict, of-branches, of-passes, EmptyBody, empty-body}
 use Rattle.theory.specs.Weight.{weigh, Weighs}
 use Rattle.tree_meaning.proofs.Agreeing.{SameNode, same-alternative, same-concatenation, same-repetition, same-switch, same-use, same-field, same-eod, SameShape, same-construct, same-members, same-passes}
 
@@ -26,7 +26,7 @@ module _ {Context Values : Type 0} (P : Values → Type 0) where
       → (counts′ : Context → Values → Counts) × (n ≡ repetition counts′ static fixed b)
   as-repetition (same-repetition {counts′} e) = (counts′, refl)
 
-  as-switch : {chosen : Context → Values → Option ℕ} {is : List ℕ} {n : Node Context Values} → SameNode P (switch chosen is) n → (chosen′ : Context → Values → Option ℕ) × (n ≡ switch chosen′ is)
+  as-switch : {chosen : Context → Values → Option ℕ} {optional : Bool} {is : List ℕ} {n : Node Context Values} → SameNode P (switch chosen optional is) n → (chosen′ : Context → Values → Option ℕ) × (n ≡ switch chosen′ optional is)
   as-switch (same-switch {chosen′} e) = (chosen′, refl)
 
   as-use : {enters : Context → Option Context} {opens : Context → Values → Values} {closes : Values → Values → Values} {b : ℕ} {n : Node Context Values} → SameNode P (use-of enters opens closes b) n
@@ -45,6 +45,7 @@ module _ {Context Values : Type 0} (P : Values → Type 0) where
     first-agrees of-eod (same-construct same-eod) = of-eod
     first-agrees (of-alternative {b} m d) (same-construct same-alternative) = of-alternative m (first-agrees d (same-construct (all b)))
     first-agrees (of-switch {b} m d) (same-construct (same-switch e)) = of-switch m (first-agrees d (same-construct (all b)))
+    first-agrees (of-no-case o) (same-construct (same-switch e)) = of-no-case o
     first-agrees (of-use {b} d) (same-construct (same-use o k)) = of-use (first-agrees d (same-construct (all b)))
     first-agrees (of-concatenation d) (same-construct same-concatenation) = of-concatenation (first-agrees d same-members)
     first-agrees no-members same-members = no-members

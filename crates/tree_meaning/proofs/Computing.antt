@@ -23,7 +23,7 @@ use Rattle.tree_meaning.specs.Places.{least}
 use Rattle.tree_meaning.specs.Counted.{constructs, terms, Totals, no-rule, with-rule, limit-faults, refusal-5}
 use Rattle.tree_meaning.specs.Names.{is-among, variable-faults, faults-after, name-faults, refusal-6}
 use Rattle.tree_meaning.specs.Sizes.{times-size, sum-size, times-largest, sum-largest, number-faults, widest-in, calculation-faults, faults-in, size-faults, refusal-8}
-use Rattle.tree_meaning.specs.Grammar.{Values, TreeNode, first-context, Construct, members, branches, case-bodies, chosen, constructs-of, body-of, variable-of, rules-constructs, tree-constructs}
+use Rattle.tree_meaning.specs.Grammar.{Values, TreeNode, first-context, Construct, members, branches, case-bodies, chosen, no-default, constructs-of, body-of, variable-of, rules-constructs, tree-constructs}
 use Rattle.tree_meaning.proofs.Building.{bytes}
 
 -- the tokens of a text
@@ -57,7 +57,7 @@ pub data Seen : Type 0 where
   one-of : List ℕ → Seen
   in-order : List ℕ → Seen
   repeats : (counts static : Passes) (exact : Bool) (body : ℕ) → Seen
-  chooses : Option ℕ → List ℕ → Seen
+  chooses : Option ℕ → Bool → List ℕ → Seen
   opens : ℕ → Seen
   takes : (width : ℕ) (admits static : Bool) (after : Values) → Seen
   ends : Seen
@@ -66,14 +66,14 @@ abbrev pub see : Values → Bits → TreeNode → Seen
 see v bits (alternative is) = one-of is
 see v bits (concatenation is) = in-order is
 see v bits (repetition counts static fixed body) = repeats (counts first-context v) static fixed body
-see v bits (switch which is) = chooses (which first-context v) is
+see v bits (switch which optional is) = chooses (which first-context v) optional is
 see v bits (use-of enters in-it after body) = opens body
 see v bits (field width admits static binds) = takes (width bits) (admits first-context v bits) (static bits) (binds first-context v bits)
 see v bits eod = ends
 
 -- all constructs of a text, at values of the variables and w bits that are n
 unfoldable pub seen : Rules → Values → (w n : ℕ) → List Seen
-unfolding bytes starts pieces set-parts tests-parts factor-terms summand-terms terms-of uses-in bound-in rules-of constructs members branches case-bodies chosen constructs-of body-of variable-of rules-constructs times-value sum-value in-set is-true bitsOf append-digits frameBits same between exactly atLeast span
+unfolding bytes starts pieces set-parts tests-parts factor-terms summand-terms terms-of uses-in bound-in rules-of constructs members branches case-bodies chosen no-default constructs-of body-of variable-of rules-constructs times-value sum-value in-set is-true bitsOf append-digits frameBits same between exactly atLeast span
 seen t v w n = map (λ (c : Construct). see v (bitsOf w n) (c .node)) (tree-constructs t)
 
 -- their places, and their marks
@@ -95,7 +95,7 @@ admitted t v w ns = map (λ n. admits-first (seen t v w n)) ns
     admits-first (one-of is ∷ more) = false
     admits-first (in-order is ∷ more) = false
     admits-first (repeats counts static exact body ∷ more) = false
-    admits-first (chooses is js ∷ more) = false
+    admits-first (chooses is optional js ∷ more) = false
     admits-first (opens body ∷ more) = false
     admits-first (takes width admits static after ∷ more) = admits
     admits-first (ends ∷ more) = false
@@ -109,7 +109,7 @@ turns t v i = taken (getD (seen t v 8 0) i ends)
     taken (one-of is) = none
     taken (in-order is) = none
     taken (repeats counts static exact body) = none
-    taken (chooses is js) = is
+    taken (chooses is optional js) = is
     taken (opens body) = none
     taken (takes width admits static after) = none
     taken ends = none

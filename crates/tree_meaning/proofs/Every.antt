@@ -49,7 +49,7 @@ pub record Follows (body variable : List ℕ → ℕ) (R : TreeNode → Type 0) 
       → R (uint-node variable n y (λ v k. set v (variable (x .letters)) (pos k)))
   pub rule-uses : (x : Name) → S (use-of-rule x) → R (use-node (body (x .letters)))
   pub ends : R frame-end
-  pub switches : (which : Context → Values → Option ℕ) (is : List ℕ) → R (choice-by which is)
+  pub switches : (which : Context → Values → Option ℕ) (optional : Bool) (is : List ℕ) → R (choice-by which optional is)
   pub repetitions : (m : Mark) (i : ℕ) → AllPieces S (mark-pieces m) → R (repetition-node variable m i)
   pub concatenations : (is : List ℕ) → R (sequence is)
   pub alternatives : (is : List ℕ) → R (alternative is)
@@ -68,7 +68,7 @@ module _ (body variable : List ℕ → ℕ) (R : TreeNode → Type 0) (S : Piece
   every top begun i (rule-use x other) h = (f .rule-uses x (h .0), tt)
   every top begun i (eod s) h = (f .ends, tt)
   every top begun i (group depth opens x closes) h = every false false i x h
-  every top begun i (switch depth opens x closes) h = (f .switches _ _, every false false (suc i) x h)
+  every top begun i (switch depth opens x closes) h = (f .switches _ _ _, every false false (suc i) x h)
   every top begun i (last-case c colon x end) h = every false false i x (h .1)
   every top begun i (case-default c colon x end colon′ y end′) h =
       two false false i (i + constructs false x) x y (every false false i x (pieces-first S (pieces false x) (pieces false y) (h .1))) (every false false (i + constructs false x) y (pieces-second S (pieces false x) (pieces false y) (h .1)))

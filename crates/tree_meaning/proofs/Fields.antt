@@ -28,7 +28,7 @@ abbrev pub Opens : (end : ℕ) → TreeNode → Type 0
 Opens end (alternative is) = Unit {0}
 Opens end (sequence is) = Unit {0}
 Opens end (repetition counts static fixed body) = Unit {0}
-Opens end (choice-by which is) = Unit {0}
+Opens end (choice-by which optional is) = Unit {0}
 Opens end (use-of enters opens closes body) = body < end
 Opens end (bits-of wide admits static binds) = Unit {0}
 Opens end frame-end = Unit {0}
@@ -48,7 +48,7 @@ opening-below end body variable =
       binders = λ d n x y placed a b c. tt;
       rule-uses = λ x a. a;
       ends = tt;
-      switches = λ which is. tt;
+      switches = λ which optional is. tt;
       repetitions = λ m i a. tt;
       concatenations = λ is. tt;
       alternatives = λ is. tt;
@@ -86,7 +86,7 @@ abbrev pub WideNode : TreeNode → Type 0
 WideNode (alternative is) = Unit {0}
 WideNode (sequence is) = Unit {0}
 WideNode (repetition counts static fixed body) = Unit {0}
-WideNode (choice-by which is) = Unit {0}
+WideNode (choice-by which optional is) = Unit {0}
 WideNode (use-of enters opens closes body) = Unit {0}
 WideNode (bits-of wide admits static binds) = Wide wide
 WideNode frame-end = Unit {0}
@@ -106,7 +106,7 @@ widths-follow body variable =
       binders = λ d n x y placed a b c. record { bits = n .value; always = λ s. refl; right = inl a };
       rule-uses = λ x a. tt;
       ends = tt;
-      switches = λ which is. tt;
+      switches = λ which optional is. tt;
       repetitions = λ m i a. tt;
       concatenations = λ is. tt;
       alternatives = λ is. tt;

@@ -134,7 +134,7 @@ bodies-judged : judgement bodies ≡ judged 1 9 1 7 none none none
 unfolding judgement bodies
 bodies-judged = refl
 
-bodies-seen : seen bodies (pos 2 ∷ []) 8 99 ≡ in-order (1 ∷ 2 ∷ []) ∷ takes 8 true true (pos 99 ∷ []) ∷ chooses (some 6) (3 ∷ 6 ∷ 8 ∷ []) ∷ in-order (4 ∷ 5 ∷ []) ∷ takes 8 false false (pos 2 ∷ []) ∷ takes 8 false false (pos 2 ∷ []) ∷ repeats (count-from 0) (count-from 0) false 7 ∷ takes 8 true true (pos 2 ∷ []) ∷ takes 8 false false (pos 2 ∷ []) ∷ []
+bodies-seen : seen bodies (pos 2 ∷ []) 8 99 ≡ in-order (1 ∷ 2 ∷ []) ∷ takes 8 true true (pos 99 ∷ []) ∷ chooses (some 6) false (3 ∷ 6 ∷ 8 ∷ []) ∷ in-order (4 ∷ 5 ∷ []) ∷ takes 8 false false (pos 2 ∷ []) ∷ takes 8 false false (pos 2 ∷ []) ∷ repeats (count-from 0) (count-from 0) false 7 ∷ takes 8 true true (pos 2 ∷ []) ∷ takes 8 false false (pos 2 ∷ []) ∷ []
 unfolding seen bodies
 bodies-seen = refl
 

@@ -30,7 +30,7 @@ abbrev pub Keeps : (Values → Type 0) → TreeNode → Type 0
 Keeps P (alternative is) = Unit {0}
 Keeps P (sequence is) = Unit {0}
 Keeps P (repetition counts static fixed body) = Unit {0}
-Keeps P (choice-by which is) = Unit {0}
+Keeps P (choice-by which optional is) = Unit {0}
 Keeps P (use-of enters opens closes body) = Unit {0}
 Keeps P (bits-of wide admits static binds) = (c : Context) (v : Values) (bits : Bits) → length bits ≡ wide bits → P v → P (binds c v bits)
 Keeps P frame-end = Unit {0}
@@ -52,7 +52,7 @@ keeping P body variable =
       binders = λ d n x y placed a b keeps c v bits e k. keeps v bits e k;
       rule-uses = λ x a. tt;
       ends = tt;
-      switches = λ which is. tt;
+      switches = λ which optional is. tt;
       repetitions = λ m i a. tt;
       concatenations = λ is. tt;
       alternatives = λ is. tt;

@@ -28,7 +28,7 @@ module _ (read : Values → ℕ → ℤ) (scope : Scope) where
   local-is i e (alternative is) = refl
   local-is i e (concatenation is) = refl
   local-is i e (repetition counts static fixed b) = refl
-  local-is i e (switch chosen is) = refl
+  local-is i e (switch chosen optional is) = refl
   local-is i e (use-of enters opens closes b) = ap (λ (o : Bool). local-use (one-level read) scope (λ i c v. zeros v) o i enters opens closes b) e
   local-is i e (field w admits static binds) = refl
   local-is i e eod = refl

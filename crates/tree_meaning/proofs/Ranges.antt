@@ -59,7 +59,7 @@ abbrev pub PartsBetween : (low high : ℕ) → TreeNode → Type 0
 PartsBetween low high (alternative is) = AllBetween low high is
 PartsBetween low high (sequence is) = AllBetween low high is
 PartsBetween low high (repetition counts static fixed body) = Between low high body
-PartsBetween low high (choice-by which is) = AllBetween low high is × ((c : Context) (v : Values) (b : ℕ) → which c v ≡ some b → List·Memᴰ b is)
+PartsBetween low high (choice-by which optional is) = AllBetween low high is × ((c : Context) (v : Values) (b : ℕ) → which c v ≡ some b → List·Memᴰ b is)
 PartsBetween low high (use-of enters opens closes body) = Unit {0}
 PartsBetween low high (bits-of width admits static binds) = Unit {0}
 PartsBetween low high frame-end = Unit {0}

@@ -150,12 +150,12 @@ K10-places : placed K10 ≡ 8 ∷ 8 ∷ 29 ∷ 37 ∷ 49 ∷ []
 unfolding placed K10
 K10-places = refl
 
-K10-at-1 : seen K10 (pos 1 ∷ []) 8 65 ≡ in-order (1 ∷ 2 ∷ []) ∷ takes 8 true true (pos 65 ∷ []) ∷ chooses (some 3) (3 ∷ 4 ∷ []) ∷ takes 8 true true (pos 1 ∷ []) ∷ takes 16 true true (pos 1 ∷ []) ∷ []
+K10-at-1 : seen K10 (pos 1 ∷ []) 8 65 ≡ in-order (1 ∷ 2 ∷ []) ∷ takes 8 true true (pos 65 ∷ []) ∷ chooses (some 3) true (3 ∷ 4 ∷ []) ∷ takes 8 true true (pos 1 ∷ []) ∷ takes 16 true true (pos 1 ∷ []) ∷ []
 unfolding seen K10
 K10-at-1 = refl
 
 -- with neither case, nothing
-K10-at-3 : seen K10 (pos 3 ∷ []) 8 65 ≡ in-order (1 ∷ 2 ∷ []) ∷ takes 8 true true (pos 65 ∷ []) ∷ chooses none (3 ∷ 4 ∷ []) ∷ takes 8 true true (pos 3 ∷ []) ∷ takes 16 true true (pos 3 ∷ []) ∷ []
+K10-at-3 : seen K10 (pos 3 ∷ []) 8 65 ≡ in-order (1 ∷ 2 ∷ []) ∷ takes 8 true true (pos 65 ∷ []) ∷ chooses none true (3 ∷ 4 ∷ []) ∷ takes 8 true true (pos 3 ∷ []) ∷ takes 16 true true (pos 3 ∷ []) ∷ []
 unfolding seen K10
 K10-at-3 = refl
 

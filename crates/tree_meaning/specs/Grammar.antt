@@ -126,12 +126,18 @@ module _ (variable : List ℕ → ℕ) where
   abbrev pub repetition-node : Mark → ℕ → TreeNode
   repetition-node m i = repetition (λ c v. mark-passes m v) (mark-static m) (mark-exact m) i
 
-  -- ---- "A switch takes its first true case, else the default; with neither, it matches nothing": the body of the first case is number i
+  -- ---- "A switch takes its first true case, else the default": the body of the first case is number i
 
   unfoldable pub chosen : {d : ℕ} → ℕ → Tree cases d → Values → Option ℕ
   chosen i (last-case c colon x end) v = cond (is-true (values-at v) c) (some i) none
   chosen i (case-default c colon x end colon′ y end′) v = cond (is-true (values-at v) c) (some i) (some (i + constructs false x))
   chosen i (case-cases c colon x end more) v = cond (is-true (values-at v) c) (some i) (chosen (i + constructs false x) more v)
+
+-- "no default": then "a switch of bits with no true case … takes no bits and goes on" (Req 02)
+unfoldable pub no-default : {d : ℕ} → Tree cases d → Bool
+no-default (last-case c colon x end) = true
+no-default (case-default c colon x end colon′ y end′) = false
+no-default (case-cases c colon x end more) = no-default more
 
 -- all constructs of a tree, the first of which is number i; `begun` as in `constructs`, `body`: the number of a rule's body, by its letters
 module _ (body variable : List ℕ → ℕ) where
@@ -145,7 +151,7 @@ module _ (body variable : List ℕ → ℕ) where
   constructs-of begun i (eod s) = plain-at (s .start) frame-end ∷ []
   constructs-of begun i (group depth opens x closes) = constructs-of false i x
   constructs-of begun i (switch depth opens x closes) =
-      plain-at (opens .start) (choice-by (λ c v. chosen variable (suc i) x v) (case-bodies (suc i) x)) ∷ constructs-of false (suc i) x
+      plain-at (opens .start) (choice-by (λ c v. chosen variable (suc i) x v) (no-default x) (case-bodies (suc i) x)) ∷ constructs-of false (suc i) x
   constructs-of begun i (last-case c colon x end) = constructs-of false i x
   constructs-of begun i (case-default c colon x end colon′ y end′) = constructs-of false i x ++ constructs-of false (i + constructs false x) y
   constructs-of begun i (case-cases c colon x end more) = constructs-of false i x ++ constructs-of false (i + constructs false x) more

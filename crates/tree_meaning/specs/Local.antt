@@ -12,7 +12,7 @@ unfoldable pub local-node : TreeNode → TreeNode
 local-node (alternative is) = alternative is
 local-node (sequence is) = sequence is
 local-node (repetition counts static fixed body) = repetition counts static fixed body
-local-node (choice-by which cases) = choice-by which cases
+local-node (choice-by which optional cases) = choice-by which optional cases
 local-node (use-of enters opens closes body) = use-of enters (λ c v. replicate (length v) (pos 0)) (λ v v′. v) body
 local-node (bits-of width admits static binds) = bits-of width admits static binds
 local-node frame-end = frame-end
