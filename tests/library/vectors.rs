@@ -15,8 +15,7 @@ pub fn grammars(folder: &Path) -> Vec<PathBuf> {
 }
 
 pub fn check(folder: &Path) -> usize {
-    let mut texts = grammars(&folder.join("sheet"));
-    texts.extend(grammars(&folder.join("base")));
+    let texts: Vec<PathBuf> = ["sheet", "base", "req02/hand", "req02/random"].iter().flat_map(|part| grammars(&folder.join(part))).collect();
     for path in &texts {
         let text = fs::read(path).expect("a text");
         let lines = fs::read(path.with_extension("frames")).expect("its frames");

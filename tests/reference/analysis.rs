@@ -46,7 +46,8 @@ fn first(construct: &Construct, rules: &[Rule], known: &mut Vec<Option<Strings>>
     }
     let parts: Vec<Strings> = construct.parts().into_iter().map(|part| first(part, rules, known)).collect();
     let strings = match &construct.kind {
-        Kind::Alternative(_) | Kind::Switch { .. } => parts.iter().fold(Strings::default(), |all, part| all.union(part)),
+        Kind::Alternative(_) | Kind::Switch { default: Some(_), .. } => union(Strings::default(), &parts),
+        Kind::Switch { default: None, .. } => union(Strings::empty_string(), &parts),
         Kind::Concatenation(_) => parts.iter().fold(Strings::empty_string(), |all, part| all.join(part)),
         Kind::Repetition { counts, .. } => first_of_repetition(&parts[0], counts),
         Kind::Use(name) => first(&rules[name.target.get()].body, rules, known),
@@ -57,6 +58,10 @@ fn first(construct: &Construct, rules: &[Rule], known: &mut Vec<Option<Strings>>
     };
     known[construct.number] = Some(strings);
     strings
+}
+
+fn union(some: Strings, parts: &[Strings]) -> Strings {
+    parts.iter().fold(some, |all, part| all.union(part))
 }
 
 fn first_of_repetition(body: &Strings, counts: &Counts) -> Strings {

@@ -37,5 +37,15 @@ pub fn check() -> usize {
     let mut longest = format!("{HEADER}a='x';#");
     longest += &"p".repeat(LONGEST_TEXT - longest.len());
     assert_eq!((refused(&longest), refused(&format!("{longest}p"))), (None, Some((2, 0))));
+    check_switches(refused);
     limits.len() + 2
+}
+
+// A switch without a default may take nothing (Req 02): 9 and 10 of grammars that have neither with a default.
+fn check_switches(refused: impl Fn(&str) -> Option<(u8, usize)>) {
+    for (number, at, before, after) in [(9, "*", "[1=1:'A';", "]*;"), (10, "'x'*", "'x'*&[1=2:'y';", "]&'x';"), (10, "[", "[1=2:'x';", "]|eod;")] {
+        let text = format!("{HEADER}a={before}{after}");
+        assert_eq!(refused(&text), text.find(at).map(|place| (number, place)), "{text}");
+        assert_eq!(refused(&format!("{HEADER}a={before}:'z';{after}")), None, "{text}");
+    }
 }

@@ -43,7 +43,7 @@ impl Search<'_> {
             }
             Kind::Switch { cases, default } => {
                 let case = cases.iter().find(|(condition, _)| holds(condition, &from.values)).map(|(_, case)| case);
-                case.or(default.as_deref()).map_or(Some(Vec::new()), |case| self.ends(case, from))
+                case.or(default.as_deref()).map_or(Some(vec![from.clone()]), |case| self.ends(case, from))
             }
             Kind::Repetition { body, counts, .. } => self.repetition(body, counts, from),
             _ => Some(self.leaf(construct, from).into_iter().collect()),

@@ -72,7 +72,7 @@ impl<'g> Machine<'g> {
             Kind::Concatenation(members) => Some(members.iter().map(fresh).collect()),
             Kind::Switch { cases, default } => {
                 let case = cases.iter().find(|(condition, _)| holds(condition, &self.run.values)).map(|(_, case)| case);
-                Some(vec![fresh(case.or(default.as_deref())?)])
+                Some(case.or(default.as_deref()).into_iter().map(fresh).collect())
             }
             Kind::Alternative(branches) => {
                 let next = upcoming(self.frame, self.run.position);

@@ -77,7 +77,7 @@ impl Matcher<'_> {
             Kind::Switch { cases, default } => {
                 let case = cases.iter().find(|(condition, _)| holds(condition, &self.outcome.values));
                 let chosen = case.map(|(_, case)| case).or(default.as_deref());
-                self.construct(chosen.ok_or(Stop::NoMatch)?)
+                chosen.map_or(Ok(()), |case| self.construct(case))
             }
             _ => self.leaf(construct),
         }

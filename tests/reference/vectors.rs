@@ -6,10 +6,12 @@ use std::path::{Path, PathBuf};
 // How many frames a fuller account tells of.
 const FULLY_TOLD: usize = 13;
 
+// The vectors of document 01, and those that a request of document 02 adds.
+const FOLDERS: [&str; 4] = ["sheet", "base", "req02/hand", "req02/random"];
+
 // How many texts were checked. The first difference of each file is told, and any ends the program.
 pub fn check(folder: &Path) -> usize {
-    let mut texts = grammars(&folder.join("sheet"));
-    texts.extend(grammars(&folder.join("base")));
+    let texts: Vec<PathBuf> = FOLDERS.iter().flat_map(|part| grammars(&folder.join(part))).collect();
     let differences: Vec<String> = texts.iter().flat_map(|text| differences(text)).collect();
     differences.iter().for_each(|difference| println!("{difference}"));
     assert!(differences.is_empty(), "{} differences from the vectors", differences.len());

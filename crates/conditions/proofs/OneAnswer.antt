@@ -80,7 +80,7 @@ abbrev branches-in : HeldNode → List ℕ
 branches-in (alternative is) = is
 branches-in (concatenation is) = []
 branches-in (repetition counts static fixed b) = []
-branches-in (switch chosen is) = []
+branches-in (switch chosen optional is) = []
 branches-in (use-of enters opens closes b) = []
 branches-in (field w admits static binds) = []
 branches-in eod = []

@@ -72,7 +72,7 @@ pub fn change_empty_body(free: bool) {
     }
     say(b"Else take this sign away, or let a pass begin with a\n");
     say(b"field that is always there: both may change the frames. eod cannot be\n");
-    say(b"repeated.\n");
+    say(b"repeated, and a switch only with a default.\n");
 }
 
 pub fn weight() {

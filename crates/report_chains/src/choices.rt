@@ -16,7 +16,7 @@ fn with(first: &[u64], rest: Set, i: usize) -> Set {
 }
 
 // The first part from `start` up to `end` that fits with the rest; `end` where none does.
-fn fitting(
+pub fn fitting(
     table: &[u32],
     first: &[u64],
     start: usize,

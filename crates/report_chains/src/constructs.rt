@@ -1,5 +1,6 @@
 // A construct is taken off the list of what is still to come, and what it is made of put on.
 use crate::choices::choose;
+use crate::choices::fitting;
 use crate::choices::passes;
 use crate::choices::push_parts;
 use crate::choices::push_passes;
@@ -89,6 +90,28 @@ fn repeated(
     repeat(first, items, sets, steps, chain, i, counts)
 }
 
+// A case that fits; where none does, a switch without a default takes nothing.
+fn switch(
+    table: &[u32],
+    first: &[u64],
+    items: &mut [usize],
+    sets: &mut [u64],
+    steps: &mut [usize],
+    chain: Chain,
+    i: usize,
+    end: usize,
+) -> Chain {
+    let rest = strings_of(sets, chain.depth);
+    let part = fitting(table, first, next(i), end, rest, chain.target, chain.whole);
+    if part < end {
+        return push(items, sets, chain, part, set_at(first, part));
+    }
+    if lookahead::contains(set_at(first, i), 1) {
+        return noted(steps, chain, 8, i, 0);
+    }
+    closed(chain)
+}
+
 fn bytes(length: usize) -> usize {
     if length < 256 {
         return 8 * length;
@@ -118,7 +141,7 @@ pub fn construct(
             repeated(table, first, items, sets, steps, chain, i, passes)
         }
         Construct::Switch { size } => {
-            choose(table, first, items, sets, chain, next(i), sum(i, size))
+            switch(table, first, items, sets, steps, chain, i, sum(i, size))
         }
         Construct::Use { rule } => used(table, first, items, sets, steps, chain, i, rule),
         Construct::Literal { length } => field(steps, chain, i, bytes(length)),

@@ -27,7 +27,7 @@ pub fn closed(chain: Chain) -> Chain {
 
 // What is listed, three numbers each: 1 a field and the bits of the window that it has; 2 the use of a rule; 3 a repetition and how often its
 // body comes; 4 eod; 5 the use of the rule that ends here, after which the next comes; 6 a repetition and how many more passes of it; 7 the
-// frame's end.
+// frame's end; 8 a switch that takes nothing.
 pub fn noted(
     steps: &mut [usize],
     chain: Chain,

@@ -117,6 +117,13 @@ fn ended(grammar: &[u8], i: usize) {
     say(b"eod  takes no bits\n");
 }
 
+fn passed_over(grammar: &[u8], i: usize) {
+    let at = place_of(grammar, i);
+    here(grammar, at);
+    quote(grammar, at, Part::Field);
+    say(b"  takes no bits where no case is\n            true, since it has no default\n");
+}
+
 // What comes first needs no word in front.
 fn then(is_first: bool) {
     say(b"        ");
@@ -157,6 +164,7 @@ fn step(grammar: &[u8], table: &[u32], is_first: bool, tag: usize, i: usize, val
         2 => used(grammar, i),
         3 => repeated(grammar, table, i, value),
         4 => ended(grammar, i),
+        8 => passed_over(grammar, i),
         _ => {
             then(is_first);
             next(grammar, tag, i);

@@ -12,6 +12,7 @@ use table_layout::Construct;
 use table_layout::Passes;
 use table_layout::construct_at;
 use table_layout::size_of;
+use table_layout::word;
 use term_evaluation::Counted;
 ghost use Prim.Native.Nat.{_<_};
 
@@ -120,6 +121,30 @@ fn gathered(table: &[u32], lengths: &[usize], start: usize, end: usize, joined: 
     out
 }
 
+fn has_condition(table: &[u32], j: usize) -> bool {
+    if 255 < j {
+        return true;
+    }
+    word(table, 576 + 8 * j + 6) < word(table, 576 + 8 * j + 7)
+}
+
+// A switch without a default may have no bits.
+fn no_bits(table: &[u32], start: usize, end: usize) -> usize {
+    let mut at = start;
+    let mut n: usize = 0;
+    while n < 256 {
+        if end <= at {
+            return 1;
+        }
+        if !has_condition(table, at) {
+            return 0;
+        }
+        at = after(table, at, end);
+        n += 1;
+    }
+    1
+}
+
 fn end_of(i: usize, size: usize) -> usize {
     if i < 256 {
         if size <= 256 {
@@ -148,7 +173,10 @@ fn length_of(table: &[u32], lengths: &[usize], i: usize) -> usize {
         Construct::Repetition { size: _, passes } => {
             repeated(table, number_at(lengths, next(i)), passes)
         }
-        Construct::Switch { size } => gathered(table, lengths, next(i), end_of(i, size), false),
+        Construct::Switch { size } => union(
+            no_bits(table, next(i), end_of(i, size)),
+            gathered(table, lengths, next(i), end_of(i, size), false),
+        ),
         Construct::Use { rule } => number_at(lengths, body_of(table, rule)),
         Construct::Literal { length: _ } => 1,
         Construct::Range { low: _, high: _ } => 1,

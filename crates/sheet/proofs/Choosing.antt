@@ -125,7 +125,7 @@ abbrev body-in : TreeNode → ℕ
 body-in (alternative is) = 0
 body-in (concatenation is) = 0
 body-in (repetition counts static fixed b) = b
-body-in (switch chosen is) = 0
+body-in (switch chosen optional is) = 0
 body-in (use-of enters opens closes b) = 0
 body-in (field w admits static binds) = 0
 body-in eod = 0

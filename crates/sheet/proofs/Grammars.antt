@@ -59,7 +59,7 @@ abbrev pub branches-in : TreeNode → List ℕ
 branches-in (alternative is) = is
 branches-in (concatenation is) = []
 branches-in (repetition counts static fixed b) = []
-branches-in (switch chosen is) = []
+branches-in (switch chosen optional is) = []
 branches-in (use-of enters opens closes b) = []
 branches-in (field w admits static binds) = []
 branches-in eod = []
@@ -69,7 +69,7 @@ abbrev pub Quiet : TreeNode → Type 0
 Quiet (alternative is) = is ≡ []
 Quiet (concatenation is) = Unit {0}
 Quiet (repetition counts static fixed b) = fixed ≡ true
-Quiet (switch chosen is) = Unit {0}
+Quiet (switch chosen optional is) = Unit {0}
 Quiet (use-of enters opens closes b) = Unit {0}
 Quiet (field w admits static binds) = Unit {0}
 Quiet eod = Unit {0}
@@ -87,7 +87,7 @@ abbrev pub NotEmpty : Grammar Context Values → TreeNode → Type 0
 NotEmpty h (alternative is) = Unit {0}
 NotEmpty h (concatenation is) = Unit {0}
 NotEmpty h (repetition counts static fixed b) = First h (construct b (h .node b)) [] → ⊥
-NotEmpty h (switch chosen is) = Unit {0}
+NotEmpty h (switch chosen optional is) = Unit {0}
 NotEmpty h (use-of enters opens closes b) = Unit {0}
 NotEmpty h (field w admits static binds) = Unit {0}
 NotEmpty h eod = Unit {0}

@@ -137,7 +137,7 @@ rows =
     ∷ row K9 (run 6 (0x01 ∷ []) match 4 (1 ∷ []) (1 ∷ 0 ∷ []))
     -- K10
     ∷ row K10 (run 5 (0x01 ∷ 0x41 ∷ []) match 5 (1 ∷ []) (1 ∷ 0 ∷ 3 ∷ 8 ∷ []))
-    ∷ row K10 (run 5 (0x03 ∷ []) no-match 4 (3 ∷ []) (1 ∷ 0 ∷ []))
+    ∷ row K10 (run 5 (0x03 ∷ []) match 4 (3 ∷ []) (1 ∷ 0 ∷ []))
     -- K11
     ∷ row K11 (refused 7 16)
     ∷ []
