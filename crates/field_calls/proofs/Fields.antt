@@ -48,5 +48,5 @@ field-calls text old table answer answer′ a frame reading room run o gs run′
     record {
       filled = full;
       tells = λ k number field field′ l f. tells-by field field′ number (field-of table frame reading′ k) (f .number-is) (f .told-is)
-      (each-told table frame reading′ full k l);
+          (each-told table frame reading′ full k l);
     }
