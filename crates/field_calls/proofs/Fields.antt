@@ -37,8 +37,8 @@ tells-by field field′ number Answer.Outside n t z = absurd (omega arith)
 tells-by field field′ number (Answer.Found i p w v) n t z = record { answered = n; construct = i; first-bit = p; width = w; value = v; told = t }
 
 pub field-calls : FieldCalls
-field-calls text old table answer answer′ a frame reading room run o gs run′ reading′ cs =
-    let life : Life text table answer answer′ frame reading run = calls-3 text old table answer answer′ a frame reading room run o in
+field-calls text old left answer answer′ a table same frame reading room run o gs run′ reading′ cs =
+    let life : Life text table answer answer′ frame reading run = calls-3 text old left answer answer′ a table same frame reading room run o in
     let lived = life .calls gs run′ reading′ cs in
     let h : opening.Opened table frame reading = opened table frame reading (length room) (o .answer) (o .answered) (o .number-is) in
     let t : Told table frame reading gs = told-of table frame reading gs (life .claim .needed) (h .0 .0) (h .1) (lived .granted) in
