@@ -1,7 +1,7 @@
 -- Each answer to a text is the first row of document 01's table that fits, or none fits.
 -- Assumes nothing.
-use Prim.Native.Nat.{ℕ, _+_, _<_}
-use mathlib.Core.Path.{_≡_, refl, sym, ap, subst, _∙_}
+use Prim.Native.Nat.{ℕ}
+use mathlib.Core.Path.{_≡_, refl, sym, subst, _∙_}
 use mathlib.Core.Logic.{_⊎_, inl, inr}
 use mathlib.Core.List.{List}
 use native.Mathlib.Omega.{arith}
@@ -13,10 +13,9 @@ use Rattle.text_store.specs.Words.{place-of}
 use Rattle.text_admission.specs.Admitted.{words-of, Right, Bounded, Passes, Headed, Refusal, RulesRefused, AnsweredRules, Answers, refused-early, by-rules, Clashes as WordClashes}
 use Rattle.text_admission.specs.Answers.{number-of, place-in}
 use Rattle.text_admission.specs.declared.Admission.{Admission}
-use Rattle.tree.specs.Tree.{Rules}
 use Rattle.tree_meaning.specs.Rows.{EmptyBodies, Clashes, TooHeavy}
 use Rattle.admission.specs.Texts.{TreeOf, OfTree, AtPlace}
-use Rattle.admission.specs.Refusals.{Row, short-table, wrong-size, wrong-header, wrong-form, past-limit, wrong-name, recursive, too-large, empty-body, clashing, too-heavy, number, Fits, NoneBelow, First, Weight, Clashed, Exactly}
+use Rattle.admission.specs.Refusals.{Row, short-table, wrong-size, wrong-header, wrong-form, past-limit, wrong-name, recursive, too-large, empty-body, clashing, too-heavy, number, NoneBelow, First, Weight, Clashed, Exactly}
 use Rattle.admission.proofs.Rows.{same-row, in-range, one-first, below-next, below-1}
 use Rattle.admission.proofs.Stages.{at-five, at-six, at-seven, at-eight, below-2, below-3, fitting, below-4, misformed, treed, of-this, below-5, no-5, below-6, no-6, below-7, below-8, below-9}
 use Rattle.admission.proofs.Late.{marked, no-empty-body, none-before, stands, clashes, no-clash, told as told-of, heavy, not-heavy, weight-is}

@@ -2,7 +2,6 @@
 -- Assumes nothing.
 use Prim.Native.Nat.{ℕ, _≤_, _<_}
 use mathlib.Core.Path.{_≡_, sym, subst}
-use mathlib.Core.Logic.{_↔_}
 use mathlib.Core.List.{List}
 use mathlib.Core.Option.{none}
 use lib.ListN.{length}
@@ -15,7 +14,7 @@ use Rattle.text_store.specs.Store.{State, state, node-words, term-words, rule-w
 use Rattle.text_store.specs.Words.{place-of, mark-place, named-at}
 use Rattle.text_meaning.specs.Meaning.{grammar-of}
 use Rattle.text_meaning.proofs.Holding.{holds-text}
-use Rattle.text_admission.specs.Admitted.{words-of, Right, Limited, Named, Bounded}
+use Rattle.text_admission.specs.Admitted.{words-of, Right, Bounded}
 use Rattle.text_admission.proofs.Facts.{facts}
 use Rattle.text_admission.proofs.Judging.{readable}
 use Rattle.tree.specs.Tree.{Rules}

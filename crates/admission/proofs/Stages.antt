@@ -1,7 +1,7 @@
 -- Stage by stage: what is stored of a text passes a number exactly as its tree does, so a row that was passed does not fit, and one that was not does.
 -- Assumes nothing.
 use Prim.Native.Nat.{ℕ, _+_, _≤_, _<_}
-use mathlib.Core.Path.{_≡_, refl, sym, ap, subst, _∙_}
+use mathlib.Core.Path.{_≡_, sym, subst, _∙_}
 use mathlib.Core.Logic.{_⊎_, inl, inr}
 use mathlib.Core.List.{List}
 use mathlib.Core.Option.{Option, none, some}
@@ -20,7 +20,6 @@ use Rattle.text_admission.specs.Admitted.{form, words-of, fault-5, fault-6, fau
 use Rattle.text_admission.specs.declared.Found.{Found}
 use Rattle.tree.specs.Lexemes.{lexemes}
 use Rattle.tree.specs.Tree.{Rules}
-use Rattle.tree.specs.Spelling.{spelled}
 use Rattle.tree_form.specs.Form.{FirstFault}
 use Rattle.tree_form.specs.Spelled.{SpellsStored}
 use Rattle.tree_form.specs.Stored.{stored}
@@ -36,7 +35,7 @@ use Rattle.tree_store.proofs.Standing.{SpelledBy}
 use Rattle.tree_reach.proofs.Tables.{refused-7-of, acyclic-7-of}
 use Rattle.tree_sizes.proofs.Sizes.{refused-8, passed-8}
 use Rattle.admission.specs.Texts.{TreeOf, AtPlace}
-use Rattle.admission.specs.Refusals.{Row, short-table, wrong-size, wrong-header, wrong-form, past-limit, wrong-name, recursive, too-large, Fits, NoneBelow}
+use Rattle.admission.specs.Refusals.{short-table, wrong-size, wrong-header, wrong-form, past-limit, wrong-name, recursive, too-large, Fits, NoneBelow}
 use Rattle.admission.proofs.Rows.{one-base, one-tree, below-next, below-1}
 
 -- ---- what is stored, and the tree

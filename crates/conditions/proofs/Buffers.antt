@@ -1,15 +1,13 @@
 -- Condition 1: numbers of answers, and what is left of the buffers.
 -- Assumes nothing.
 use Prim.Native.Nat.{ℕ, _*_}
-use mathlib.Core.Path.{_≡_, refl, sym, ap, subst}
+use mathlib.Core.Path.{_≡_, refl}
 use mathlib.Core.Logic.{_⊎_, inl, inr}
-use mathlib.Core.Bool.{Bool, true, false}
+use mathlib.Core.Bool.{Bool, true, false, cond}
 use mathlib.Core.List.{List}
-use native.Mathlib.Omega.{arith}
 use lib.Dec.{leb}
 use lib.ListN.{length, take, drop}
 use Rattle.basis.specs.Limits.{max-frame-bytes}
-use Rattle.table_layout.specs.Constructs.{pick}
 use Rattle.run_steps.specs.Steps.{Whole, whole, steps-of}
 use Rattle.run_refinement.proofs.Readings.{Recorded, steps-record}
 use Rattle.run_grants.specs.Runs.{head-of, whole-of, fitting, After, after, run-in, reading-in, answer-in, after-steps, grant-of, number-of as grant-number, taken-of}
@@ -37,7 +35,7 @@ module _ (ws fs rs : List ℕ) (run : Run) (n : ℕ) where
   in-each P long unfit made =
       by (leb (length fs) max-frame-bytes) (fitting ws fs (length rs) (run .constructs) (run .passes) (head-of run)) (steps-of ws fs n (whole-of rs run)) (steps-record ws fs n (whole-of rs run))
     where
-      by : (s t : Bool) (w : Whole) → Recorded (whole-of rs run) w → P (pick s (pick t (after-steps (run .steps) w) (after run rs GrantAnswer.Unfit)) (after run rs GrantAnswer.LongFrame))
+      by : (s t : Bool) (w : Whole) → Recorded (whole-of rs run) w → P (cond s (cond t (after-steps (run .steps) w) (after run rs GrantAnswer.Unfit)) (after run rs GrantAnswer.LongFrame))
       by true true w r = made w r
       by true false w r = unfit
       by false t w r = long

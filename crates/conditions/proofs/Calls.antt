@@ -3,7 +3,7 @@
 use Prim.Native.Nat.{ℕ, suc, _+_, _*_, _-_, _≤_, min}
 use mathlib.Core.Path.{_≡_, refl, sym, ap, ap₂, subst, subst₂, _∙_}
 use mathlib.Core.Logic.{_⊎_, inl, inr, _↔_}
-use mathlib.Core.Bool.{Bool, true, false}
+use mathlib.Core.Bool.{Bool, true, false, cond}
 use mathlib.Core.List.{List, [], _∷_}
 use mathlib.Core.Option.{Option, none, some}
 use native.Mathlib.Omega.{arith}
@@ -12,7 +12,6 @@ use lib.Dec.{eqb, ltb}
 use lib.ListN.{length, getD, set, take, drop, length-set}
 use lib.Seq.{sets, length-sets, drop-set-lt, getD-set-same}
 use Rattle.basis.specs.Limits.{max-frame-bytes, max-entries}
-use Rattle.table_layout.specs.Constructs.{pick}
 use Rattle.table_layout.specs.Places.{table-of}
 use Rattle.run_actions.specs.Acts.{bits-of}
 use Rattle.table_conflicts.specs.declared.Clash.{Clash}
@@ -88,7 +87,7 @@ weighed text old table answer answer′ a = by (a .admission) (a .promised) (a .
 -- ---- songrafter_open
 
 abbrev numbered-so : Answer → Bool → ℕ
-numbered-so answer s = pick (eqb (opening-number answer) 0) (pick s 0 24) (opening-number answer)
+numbered-so answer s = cond (eqb (opening-number answer) 0) (cond s 0 24) (opening-number answer)
 
 open-numbers : (answer : Answer) (s : Bool) → (numbered-so answer s ≡ 0) ⊎ (numbered-so answer s ≡ 21) ⊎ (numbered-so answer s ≡ 22) ⊎ (numbered-so answer s ≡ 23) ⊎ (numbered-so answer s ≡ 24)
 open-numbers Answer.Unsound s = inr (inr (inr (inl refl)))
@@ -132,7 +131,7 @@ module _ (table frame reading run run′ : List ℕ) (number : ℕ) (o : Opens t
         run-length = o .run-length;
         refused = λ h l. o .read-back l ∙ open-refused (o .answer) (λ e. h (o .number-is ∙ ap (numbered-so (o .answer)) (eq-eqb (length run) saved-bytes l) ∙ e));
         other-only = λ e l. open-24 (o .answer) (sym (ap (numbered-so (o .answer)) (eq-eqb (length run) saved-bytes l)) ∙ sym (o .number-is) ∙ e);
-        other-length = λ h. (λ e. h (zero-is e .1), o .run-is ∙ ap (λ (s : Bool). pick s (encoded (run-given (o .answer))) run) (ne-eqb (length run) saved-bytes h));
+        other-length = λ h. (λ e. h (zero-is e .1), o .run-is ∙ ap (λ (s : Bool). cond s (encoded (run-given (o .answer))) run) (ne-eqb (length run) saved-bytes h));
       }
 
 -- ---- songrafter_grant
@@ -141,7 +140,7 @@ module _ (table frame reading run run′ : List ℕ) (number : ℕ) (o : Opens t
 abbrev GrantNumber : ℕ → Type 0
 GrantNumber n = (n ≡ 0) ⊎ (n ≡ 21) ⊎ (n ≡ 24)
 
-no-run-numbers : (b : Bool) → GrantNumber (pick b 21 24)
+no-run-numbers : (b : Bool) → GrantNumber (cond b 21 24)
 no-run-numbers true = inr (inl refl)
 no-run-numbers false = inr (inr refl)
 
@@ -202,7 +201,7 @@ open-once : (table frame reading run run₁ run₂ : List ℕ) (m n : ℕ) → O
 open-once table frame reading run run₁ run₂ m n a b =
     let e : a .answer ≡ b .answer = answer-once table frame reading (a .answer) (b .answer) (a .answered) (b .answered) in (
       a .number-is ∙ ap (λ (x : Answer). number-with-room (opening-number x) (length run)) e ∙ sym (b .number-is),
-      a .run-is ∙ ap (λ (x : Answer). pick (eqb (length run) saved-bytes) (encoded (run-given x)) run) e ∙ sym (b .run-is),
+      a .run-is ∙ ap (λ (x : Answer). cond (eqb (length run) saved-bytes) (encoded (run-given x)) run) e ∙ sym (b .run-is),
     )
 
 grant-once : (table frame reading reading₁ reading₂ run run₁ run₂ taken taken₁ taken₂ : List ℕ) (steps m n : ℕ)
@@ -377,7 +376,7 @@ calls-3 text old left answer answer′ a table copy frame reading room run o =
     let claim = condition-3 text table (w .weight) has (x .tree) frame reading opened in
     let first : Same run reading (start reading) = record {
       full = o .run-length ∙ z .1;
-      bytes-are = o .run-is ∙ ap₂ (λ (s : Bool) (y : Answer). pick s (encoded (run-given y)) room) (eq-eqb (length room) saved-bytes (z .1)) (z .0);
+      bytes-are = o .run-is ∙ ap₂ (λ (s : Bool) (y : Answer). cond s (encoded (run-given y)) room) (eq-eqb (length room) saved-bytes (z .1)) (z .0);
       read-as = sym (restored-is run (o .run-length ∙ z .1)) ∙ o .read-back (z .1) ∙ ap run-given (z .0);
       words-are = refl;
     } in

@@ -13,7 +13,6 @@ use Rattle.theory.specs.Derivation.{Tree, Derivation}
 use Rattle.table_layout.specs.Places.{table-of, weight-of}
 use Rattle.table_layout.specs.Held.{Context, Values, held}
 use Rattle.run_actions.specs.Acts.{bits-of}
-use Rattle.text_admission.specs.declared.Admission.{Admission}
 use Rattle.table_judge.specs.Sound.{SoundTable}
 use Rattle.run_matcher.specs.Opening.{Answered, Opened}
 use Rattle.run_matcher.specs.declared.Answer.{Answer}
@@ -21,7 +20,6 @@ use Rattle.run_matcher.specs.Conditions.{Grant, Kept, OthersRefused, start, her
 use Rattle.run_matcher.proofs.Conditions.{condition-2 as table-condition-2, condition-3 as table-condition-3, at-most-one as table-at-most-one, never-broken}
 use Rattle.tree_meaning.specs.Local.{local-grammar}
 use Rattle.admission.specs.Texts.{TreeOf}
-use Rattle.admission.specs.Promised.{Promised}
 use Rattle.conditions.specs.Conditions.{HasTable, Exact, AtMostOne, Claim, Condition2, Condition3}
 use Rattle.conditions.proofs.Tables.{text-table, same-local, copy-sound, copy-weight, copy-local, copy-steps}
 

@@ -25,7 +25,6 @@ use Rattle.text_admission.specs.declared.Admission.{Admission}
 use Rattle.admission.specs.Refusals.{Row, short-table, wrong-size, wrong-header, wrong-form, past-limit, wrong-name, recursive, too-large, empty-body, clashing, too-heavy, number, Fits, NoneBelow}
 use Rattle.conditions.specs.Conditions.{OneAnswer, OneTable}
 use Rattle.text_parsing.specs.Form.{Outcome, right, refused}
-use Rattle.admission.specs.Promised.{Promised}
 use Rattle.admission.proofs.Rows.{one-base, least-same}
 use Rattle.admission.proofs.Late.{weights-of}
 use Rattle.admission.proofs.Numbers.{text-answered, refused-number}

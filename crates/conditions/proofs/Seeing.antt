@@ -2,16 +2,15 @@
 -- Assumes nothing.
 use Prim.Native.Nat.{ℕ, zero, suc, _*_, _≤_}
 use mathlib.Core.Path.{_≡_, refl, sym, ap, ap₂, subst, _∙_}
-use mathlib.Core.Logic.{_↔_}
 use mathlib.Core.List.{List, [], _∷_, _++_}
 use native.Mathlib.Omega.{arith}
 use lib.ListN.{length, drop, replicate, length-set, length-replicate}
 use Rattle.basis.specs.Limits.{max-entries}
 use Rattle.theory.specs.Derivation.{Capture, captures}
-use Rattle.theory.specs.Machine.{Tests, undecided, matched, unmatched, Run as MachineRun, run, opened, granted}
+use Rattle.theory.specs.Machine.{Tests}
 use Rattle.table_layout.specs.Places.{table-of}
 use Rattle.table_layout.specs.Held.{opening}
-use Rattle.run_steps.specs.Steps.{Whole, steps-of}
+use Rattle.run_steps.specs.Steps.{Whole}
 use Rattle.run_refinement.specs.Runs.{HeldRun, words-of, recorded, verdict-as, head-of, reading-of, run-of}
 use Rattle.run_refinement.proofs.Pending.{recorded-length}
 use Rattle.run_refinement.proofs.Readings.{reading-is}

@@ -21,8 +21,7 @@ use Rattle.run_actions.specs.Stored.{tests-of}
 use Rattle.table_hypotheses.proofs.HeldLocal.{held-local}
 use Rattle.table_hypotheses.proofs.Reliability.{weighed}
 use Rattle.table_hypotheses.proofs.Trust.{trusted}
-use Rattle.text_store.specs.Store.{State}
-use Rattle.text_admission.specs.Admitted.{words-of, Right, Bounded, Headed, RulesPass, refused-early, by-rules}
+use Rattle.text_admission.specs.Admitted.{Bounded, Headed, RulesPass, refused-early, by-rules}
 use Rattle.text_admission.specs.Admitted.{Answers}
 use Rattle.text_admission.specs.declared.Admission.{Admission}
 use Rattle.tree.specs.Tree.{Rules}
@@ -31,7 +30,6 @@ use Rattle.tree_meaning.specs.Local.{local-grammar}
 use Rattle.tree_agreement.proofs.SameSets.{SameSets}
 use Rattle.tree_agreement.proofs.Texts.{stored-grammar, text-derivations, local-derivations}
 use Rattle.tree_agreement.proofs.Telling.{same-tells, text-steps}
-use Rattle.run_matcher.specs.Windows.{Tells}
 use Rattle.run_matcher.specs.Conditions.{Grant, grammar-of, BySteps}
 use Rattle.run_matcher.proofs.Telling.{tells}
 use Rattle.admission.specs.Texts.{TreeOf}

@@ -1,5 +1,5 @@
 // Prints a C header with the names of a grammar's fields and variables: of the file that it is given, or of standard input.
-use report_chains::words::put_number;
+use report_measures::words::put_number;
 use report_names::places;
 use report_names::printing;
 use report_places::Located;

@@ -1,7 +1,7 @@
 // The fields of a table, and what each is named by.
 use crate::places;
-use report_chains::structure::body_of;
-use report_chains::words::number_at;
+use report_measures::structure::body_of;
+use report_measures::words::number_at;
 use table_layout::Construct;
 use table_layout::construct_at;
 use table_layout::word;

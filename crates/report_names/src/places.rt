@@ -1,5 +1,5 @@
 // Where the names of rules and variables stand in an admitted text.
-use report_chains::words::put_number;
+use report_measures::words::put_number;
 use report_wording::quoting::Part;
 use report_wording::quoting::end_of;
 use text_header::Heading;

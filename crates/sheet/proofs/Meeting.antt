@@ -3,7 +3,7 @@
 -- Assumes nothing.
 use Prim.Native.Nat.{ℕ, _≤_}
 use Prim.Native.String.{String}
-use mathlib.Core.Path.{_≡_, subst, subst₂}
+use mathlib.Core.Path.{_≡_, refl, subst, subst₂}
 use mathlib.Core.List.{List, [], _∷_}
 use lib.ListN.{length}
 use Rattle.basis.specs.Limits.{max-frame-bytes}
@@ -39,7 +39,7 @@ module _ (rules : String) (t : Rules) (weight : ℕ) (p : Passing rules t weight
         e,
         λ rs room. (
             let o : Opened new frame rs = (y .sound, short, room) in
-            (o, ended new frame rs o (tree-grammar t) weight (condition-3 (text-of rules) old new weight b x frame rs o) tests told d n values cs (m tests told))
+            (o, ended new frame rs o (tree-grammar t) weight (condition-3 (text-of rules) new weight (record { old = old; left = new; promised = b; copy = (y .sound .0, refl) }) x frame rs o) tests told d n values cs (m tests told))
             ),
       )
 

@@ -3,14 +3,13 @@
 use Prim.Native.Nat.{ℕ, _≤_}
 use native.Mathlib.Omega.{arith}
 use mathlib.Core.Path.{_≡_, sym, ap, _∙_}
-use mathlib.Core.Bool.{Bool, true, false}
+use mathlib.Core.Bool.{Bool, true, false, cond}
 use mathlib.Core.List.{List, [], _∷_}
 use lib.Dec.{eqb}
 use lib.IntN.{pos}
 use lib.ListN.{length, getD, set, drop, length-replicate, List·getD-eq-default}
 use lib.Seq.{sets}
 use Rattle.basis.specs.Limits.{max-variables}
-use Rattle.table_layout.specs.Constructs.{pick}
 use Rattle.table_layout.specs.Places.{table-of}
 use Rattle.run_grants.specs.Runs.{After, after, grant-of, closed-run, run-in, reading-in, answer-in, number-of, taken-of, refusal-of}
 use Rattle.run_grants.specs.declared.Run.{Run}
@@ -43,7 +42,7 @@ grants-run table frame reading reading′ run run′ taken taken′ steps number
     }
 
 -- a run has 64 values, whatever the bytes
-values-of : (bs : List ℕ) (b : Bool) → length (pick b (decoded bs) closed-run .values) ≡ max-variables
+values-of : (bs : List ℕ) (b : Bool) → length (cond b (decoded bs) closed-run .values) ≡ max-variables
 unfolding decoded
 values-of bs true = numbers-length whole 8 max-variables (drop values-at bs)
 values-of bs false = length-replicate max-variables (pos 0)

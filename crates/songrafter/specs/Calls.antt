@@ -2,12 +2,12 @@
 -- Assumes nothing.
 use Prim.Native.Nat.{ℕ}
 use mathlib.Core.Path.{_≡_}
+use mathlib.Core.Bool.{cond}
 use mathlib.Core.List.{List}
 use lib.Dec.{ltb, eqb}
 use lib.ListN.{length, set}
 use lib.Seq.{sets}
 use Rattle.basis.specs.Limits.{max-frame-bytes}
-use Rattle.table_layout.specs.Constructs.{pick}
 use Rattle.table_layout.specs.Places.{table-of}
 use Rattle.admission.specs.Promised.{Promised}
 use Rattle.text_admission.specs.Answers.{number-of, told}
@@ -31,14 +31,14 @@ pub record Admits (text old new answer answer′ : List ℕ) (number : ℕ) : Ty
 
 -- document 01 has no other number for bytes that are no saved run
 abbrev pub number-with-room : ℕ → ℕ → ℕ
-number-with-room number room = pick (eqb number 0) (pick (eqb room saved-bytes) 0 24) number
+number-with-room number room = cond (eqb number 0) (cond (eqb room saved-bytes) 0 24) number
 
 -- opening answers with its number; "a refused open gives a closed run", which is written too
 pub record Opens (table frame reading run run′ : List ℕ) (number : ℕ) : Type 0 where
   pub answer : Answer
   pub answered : opening.Answered table frame reading answer
   pub number-is : number ≡ number-with-room (opening.number-of answer) (length run)
-  pub run-is : run′ ≡ pick (eqb (length run) saved-bytes) (encoded (opening.run-given answer)) run
+  pub run-is : run′ ≡ cond (eqb (length run) saved-bytes) (encoded (opening.run-given answer)) run
   pub run-length : length run′ ≡ length run
   -- what is written is read as the run that it is
   pub read-back : length run ≡ saved-bytes → restored run′ ≡ opening.run-given answer
@@ -60,7 +60,7 @@ GrantsRun table frame reading reading′ run run′ taken taken′ steps number 
 
 -- a slice that is no saved run
 abbrev pub no-run-number : List ℕ → ℕ
-no-run-number frame = pick (ltb max-frame-bytes (length frame)) 21 24
+no-run-number frame = cond (ltb max-frame-bytes (length frame)) 21 24
 
 -- they are none: nothing changes, and the count is 0
 abbrev pub GrantsNone : (frame reading reading′ run run′ taken taken′ : List ℕ) → (number : ℕ) → Type 0

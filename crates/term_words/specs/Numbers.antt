@@ -1,6 +1,5 @@
 -- The stack on which a calculation is worked out.
 -- Assumes nothing.
-pub use mathlib.Core.Bool.{cond as pick}
 use lib.IntN.{ℤ, negℤ, _+ℤ_, _-ℤ_}
 use Rattle.term_integers.specs.declared.Checked.{Checked}
 use Rattle.term_words.specs.declared.Mode.{Mode}

@@ -10,7 +10,6 @@ use lib.Dec.{ltb}
 use Rattle.text_tokens.specs.Numbers.{capped}
 use Rattle.text_store.specs.Store.{marked-tag}
 use Rattle.text_store.specs.Words.{is-use}
-use Rattle.term_words.specs.Numbers.{pick}
 use Rattle.term_words.specs.Words.{operationOf, signOf, termOf}
 use Rattle.term_words.specs.declared.Operation.{Operation}
 use Rattle.term_words.specs.declared.Comparison.{Comparison}
@@ -182,7 +181,7 @@ single-term tag low =
 
 part-term : (tag low : ℕ) → ltb tag 7 ≡ true → single-of (termOf tag low 0) ≡ Term.Single (operationOf tag low 0)
 unfolding termOf
-part-term tag low e = ap single-of (ap (λ (b : Bool). pick b (Term.Part (operationOf tag low 0)) (pick (ltb tag 32) (signOf tag) (Term.Single (operationOf (tag - 32) low 0)))) e)
+part-term tag low e = ap single-of (ap (λ (b : Bool). cond b (Term.Part (operationOf tag low 0)) (cond (ltb tag 32) (signOf tag) (Term.Single (operationOf (tag - 32) low 0)))) e)
 
 marked-term : (r : TermRow) → ltb (r .tag) 7 ≡ true → row-term (marked r) ≡ single-of (row-term r)
 marked-term r e =

@@ -3,7 +3,7 @@
 use Prim.Native.Nat.{ℕ}
 use mathlib.Core.Path.{_≡_, refl, sym, ap, ap₂, subst, _∙_}
 use mathlib.Core.Logic.{⊎-elim}
-use mathlib.Core.Bool.{Bool, true, false, not, _&&_, _||_}
+use mathlib.Core.Bool.{Bool, true, false, cond, not, _&&_, _||_}
 use mathlib.Core.List.{List, [], _∷_, _++_}
 use lib.Dec.{ltb, leb}
 use lib.IntN.{ℤ, pos, negsuc, negℤ, _+ℤ_, _-ℤ_, _*ℤ_}
@@ -13,7 +13,7 @@ use borrow.Author.Tests.{leb-true, leb-false, lt-ltb, le-ltb}
 use Rattle.basis.specs.Counts.{exactly as just, atLeast, span as from-to}
 use Rattle.basis.proofs.Booleans.{which}
 use Rattle.text_tokens.specs.Numbers.{capped}
-use Rattle.term_words.specs.Numbers.{pick, equals}
+use Rattle.term_words.specs.Numbers.{equals}
 use Rattle.term_words.specs.Steps.{compares}
 use Rattle.term_trees.specs.Trees.{Calculation as Held, value, ValueSet as HeldSet, has, either, Condition as HeldCondition, true-at, both as all-hold, any as one-holds, repeats}
 use Rattle.text_shapes.specs.TermShapes.{renamed, renamed-set, renamed-condition, renamed-repeats}
@@ -26,17 +26,17 @@ use Rattle.tree_formulas.proofs.Folding.{held-primary, held-operand, he
 
 -- ---- tests
 
-pick-and : (a b : Bool) → pick a b false ≡ (a && b)
+pick-and : (a b : Bool) → cond a b false ≡ (a && b)
 pick-and true b = refl
 pick-and false b = refl
 
-pick-not : (a b : Bool) → pick b false a ≡ (a && not b)
+pick-not : (a b : Bool) → cond b false a ≡ (a && not b)
 pick-not true true = refl
 pick-not true false = refl
 pick-not false true = refl
 pick-not false false = refl
 
-pick-or : (a b : Bool) → pick a true b ≡ (a || b)
+pick-or : (a b : Bool) → cond a true b ≡ (a || b)
 pick-or true b = refl
 pick-or false b = refl
 
@@ -133,7 +133,7 @@ module _ (g : ℕ → ℕ) (v : List ℤ) (env : Environment) where
   item-means (only a) n h =
       ap (λ (k : ℤ). equals k n) (calculation-means a (fit-left (calculation-terms a) [] h)) ∙ pick-and (leZ (calculation-value env a) n) (leZ n (calculation-value env a))
   item-means (between a s b) n h =
-      ap₂ (λ (k m : ℤ). pick (leZ k n) (leZ n m) false) (calculation-means a (fit-left (calculation-terms a) (a-sign s ∷ (calculation-terms b ++ [])) h))
+      ap₂ (λ (k m : ℤ). cond (leZ k n) (leZ n m) false) (calculation-means a (fit-left (calculation-terms a) (a-sign s ∷ (calculation-terms b ++ [])) h))
       (calculation-means b (fit-left (calculation-terms b) [] (fit-tail (fit-right (calculation-terms a) (a-sign s ∷ (calculation-terms b ++ [])) h))))
       ∙ pick-and (leZ (calculation-value env a) n) (leZ n (calculation-value env b))
   item-means (from a s) n h = ap (λ (k : ℤ). leZ k n) (calculation-means a (fit-left (calculation-terms a) (a-sign s ∷ []) h))
@@ -155,15 +155,15 @@ module _ (g : ℕ → ℕ) (v : List ℤ) (env : Environment) where
   set-from (item-but-item a s b) acc p n h f =
       f _
       ∙ ap (λ (c : Bool). p || c)
-      (ap₂ (λ (c d : Bool). pick d false c) (item-means a n (parts-left (item-parts a) (item-parts b) s h)) (item-means b n (parts-right (item-parts a) (item-parts b) s h)) ∙ pick-not (in-item env a n) (in-item env b n))
+      (ap₂ (λ (c d : Bool). cond d false c) (item-means a n (parts-left (item-parts a) (item-parts b) s h)) (item-means b n (parts-right (item-parts a) (item-parts b) s h)) ∙ pick-not (in-item env a n) (in-item env b n))
   set-from (item-but-set depth a s opens b closes) acc p n h f =
       f _
       ∙ ap (λ (c : Bool). p || c)
-      (ap₂ (λ (c d : Bool). pick d false c) (item-means a n (parts-left (item-parts a) (set-parts b) s h)) (set-from b (λ y. y) false n (parts-right (item-parts a) (set-parts b) s h) (λ y. refl)) ∙ pick-not (in-item env a n) (in-set env b n))
+      (ap₂ (λ (c d : Bool). cond d false c) (item-means a n (parts-left (item-parts a) (set-parts b) s h)) (set-from b (λ y. y) false n (parts-right (item-parts a) (set-parts b) s h) (λ y. refl)) ∙ pick-not (in-item env a n) (in-set env b n))
   set-from (last-choice a) acc p n h f = set-from a acc p n h f
   set-from (or-choices a s b) acc p n h f =
       set-from b (λ y. either (held-set a acc) y) (p || in-set env a n) n (parts-right (set-parts a) (set-parts b) s h)
-      (λ y. ap (λ (c : Bool). pick c true (has v (renamed-set g y) n)) (set-from a acc p n (parts-left (set-parts a) (set-parts b) s h) f) ∙ pick-or (p || in-set env a n) (has v (renamed-set g y) n))
+      (λ y. ap (λ (c : Bool). cond c true (has v (renamed-set g y) n)) (set-from a acc p n (parts-left (set-parts a) (set-parts b) s h) f) ∙ pick-or (p || in-set env a n) (has v (renamed-set g y) n))
       ∙ or-assoc p (in-set env a n) (in-set env b n)
 
   -- a number is in the held set exactly where it is in the tree's
@@ -203,19 +203,19 @@ module _ (g : ℕ → ℕ) (v : List ℤ) (env : Environment) where
   tests-from (last-disjunct a) acc j k h f = tests-from a acc j tt h f
   tests-from (all-of a s b) acc j k h f =
       tests-from b (λ y. all-hold (held-tests a acc) y) (λ c. j (is-true env a) && c) (λ c d. and-assoc (j (is-true env a)) c d) (parts-right (tests-parts a) (tests-parts b) s h)
-      (λ y. ap (λ (c : Bool). pick c (true-at v (renamed-condition g y)) false) (tests-from a acc j tt (parts-left (tests-parts a) (tests-parts b) s h) f) ∙ pick-and (j (is-true env a)) (true-at v (renamed-condition g y)))
+      (λ y. ap (λ (c : Bool). cond c (true-at v (renamed-condition g y)) false) (tests-from a acc j tt (parts-left (tests-parts a) (tests-parts b) s h) f) ∙ pick-and (j (is-true env a)) (true-at v (renamed-condition g y)))
       ∙ (ap (λ (c : Bool). c && is-true env b) (k (is-true env a)) ∙ sym (k (is-true env a && is-true env b)))
   tests-from (and-conjuncts a s b) acc j k h f =
       tests-from b (λ y. all-hold (held-tests a acc) y) (λ c. j (is-true env a) && c) (λ c d. and-assoc (j (is-true env a)) c d) (parts-right (tests-parts a) (tests-parts b) s h)
-      (λ y. ap (λ (c : Bool). pick c (true-at v (renamed-condition g y)) false) (tests-from a acc j tt (parts-left (tests-parts a) (tests-parts b) s h) f) ∙ pick-and (j (is-true env a)) (true-at v (renamed-condition g y)))
+      (λ y. ap (λ (c : Bool). cond c (true-at v (renamed-condition g y)) false) (tests-from a acc j tt (parts-left (tests-parts a) (tests-parts b) s h) f) ∙ pick-and (j (is-true env a)) (true-at v (renamed-condition g y)))
       ∙ k (is-true env a) (is-true env b)
   tests-from (any-of a s b) acc j k h f =
       tests-from b (λ y. one-holds (held-tests a acc) y) (λ c. j (is-true env a) || c) (λ c d. or-assoc (j (is-true env a)) c d) (parts-right (tests-parts a) (tests-parts b) s h)
-      (λ y. ap (λ (c : Bool). pick c true (true-at v (renamed-condition g y))) (tests-from a acc j tt (parts-left (tests-parts a) (tests-parts b) s h) f) ∙ pick-or (j (is-true env a)) (true-at v (renamed-condition g y)))
+      (λ y. ap (λ (c : Bool). cond c true (true-at v (renamed-condition g y))) (tests-from a acc j tt (parts-left (tests-parts a) (tests-parts b) s h) f) ∙ pick-or (j (is-true env a)) (true-at v (renamed-condition g y)))
       ∙ (ap (λ (c : Bool). c || is-true env b) (k (is-true env a)) ∙ sym (k (is-true env a || is-true env b)))
   tests-from (or-disjuncts a s b) acc j k h f =
       tests-from b (λ y. one-holds (held-tests a acc) y) (λ c. j (is-true env a) || c) (λ c d. or-assoc (j (is-true env a)) c d) (parts-right (tests-parts a) (tests-parts b) s h)
-      (λ y. ap (λ (c : Bool). pick c true (true-at v (renamed-condition g y))) (tests-from a acc j tt (parts-left (tests-parts a) (tests-parts b) s h) f) ∙ pick-or (j (is-true env a)) (true-at v (renamed-condition g y)))
+      (λ y. ap (λ (c : Bool). cond c true (true-at v (renamed-condition g y))) (tests-from a acc j tt (parts-left (tests-parts a) (tests-parts b) s h) f) ∙ pick-or (j (is-true env a)) (true-at v (renamed-condition g y)))
       ∙ k (is-true env a) (is-true env b)
 
   -- the held condition holds exactly where the tree's does

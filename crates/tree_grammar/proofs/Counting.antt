@@ -32,7 +32,6 @@ use Rattle.term_trees.specs.Postfix.{lastSign, before, calculationTerms, repeat
 use Rattle.term_trees.proofs.Chains.{Good, ends, chain, run-ends, ends-append}
 use Rattle.term_trees.proofs.Meanings.{Put, Two, calculation-ends, two-ends}
 use Rattle.term_trees.proofs.Firm.{Firm, Wait, calculation-firm}
-use Rattle.table_layout.specs.Constructs.{pick}
 use Rattle.table_layout.specs.Held.{allowed}
 use Rattle.text_meaning.specs.Meaning.{last-of, calculations, counts-in, static-counts}
 use Rattle.tree.specs.Lexemes.{Sign}
@@ -228,9 +227,9 @@ module _ (numbered widest : List ℕ → ℕ) where
   pub counts-static : (x : Counts) → CalculationsFit widest (counts-parts x) → static-counts (repeatTerms (counts-tree numbered x)) ≡ cond (has-variable (counts-parts x)) zero-or-more (passes-in (values-at numbered []) x)
   counts-static x c =
       ⊎-elim
-      (λ (e : has-variable (counts-parts x) ≡ true). (λ t. pick ((counts-variable numbered x ∙ e) t) zero-or-more (counts-in (repeatTerms (counts-tree numbered x)) [])) ∙ sym (λ t. cond (e t) zero-or-more (passes-in (values-at numbered []) x)))
+      (λ (e : has-variable (counts-parts x) ≡ true). (λ t. cond ((counts-variable numbered x ∙ e) t) zero-or-more (counts-in (repeatTerms (counts-tree numbered x)) [])) ∙ sym (λ t. cond (e t) zero-or-more (passes-in (values-at numbered []) x)))
       (λ (e : has-variable (counts-parts x) ≡ false).
-      (λ t. pick ((counts-variable numbered x ∙ e) t) zero-or-more (counts-in (repeatTerms (counts-tree numbered x)) []))
+      (λ t. cond ((counts-variable numbered x ∙ e) t) zero-or-more (counts-in (repeatTerms (counts-tree numbered x)) []))
       ∙ counts-answers [] [] no-values x (none-wide numbered widest [] (terms-of (counts-parts x)) e) (none-known numbered 0 (terms-of (counts-parts x)) e) c
       ∙ sym (λ t. cond (e t) zero-or-more (passes-in (values-at numbered []) x)))
       (which (has-variable (counts-parts x)))

@@ -11,8 +11,7 @@ use lib.IntN.{pos}
 use lib.ListN.{length, getD, set}
 use Rattle.basis.specs.Bits.{Bits, value}
 use Rattle.theory.specs.Grammar.{alternative, concatenation, repetition, switch, field, eod}
-use mathlib.Core.Bool.{_&&_ as both}
-use Rattle.table_layout.specs.Constructs.{pick}
+use mathlib.Core.Bool.{_&&_}
 use Rattle.table_layout.specs.Held.{range-node as held-range}
 use Rattle.text_literals.specs.Literals.{characters-at}
 use Rattle.text_store.specs.Words.{kind-of, place-of, node-mark, last-place, is-binder, first-node}
@@ -25,7 +24,7 @@ use Rattle.tree_meaning.specs.Values.{in-set}
 use Rattle.tree_meaning.specs.Grammar.{Values, TreeNode, values-at, has-variable, literal-node, range-node, use-node, uint-node, mark-passes, mark-static, mark-exact, repetition-node}
 use Rattle.tree_meaning.proofs.Agreeing.{SameNode, same-alternative, same-concatenation, same-repetition, same-switch, same-use, same-field, same-eod}
 
-both-and : (a b : Bool) → both a b ≡ (a && b)
+both-and : (a b : Bool) → (a && b) ≡ (a && b)
 both-and true b = refl
 both-and false b = refl
 
@@ -80,14 +79,14 @@ module _ (P : Values → Type 0) (xs ns ts rs : List ℕ) (r i : ℕ) where
   pub uint-means : (variable : List ℕ → ℕ) {d : ℕ} (n : Number) (x : ValueSet d) (binds : Values → ℕ → Values) → kind-of ns i ≡ 8 → width-of xs ns i ≡ n .value
       → ((v : Values) → P v → (k : ℕ) → in-list (own-list xs ns ts rs r i) v k ≡ in-set (values-at variable v) x (pos k))
       → ((k : ℕ) → in-static-set (own-list xs ns ts rs r i) k ≡ cond (has-variable (set-parts x)) true (in-set (values-at variable []) x (pos k)))
-      → ((v : Values) (k : ℕ) → pick (is-binder ns i) (set v (binders-before ns i) (pos k)) v ≡ binds v k) → ((v : Values) (bits : Bits) → length bits ≡ n .value → P v → P (binds v (value bits)))
+      → ((v : Values) (k : ℕ) → cond (is-binder ns i) (set v (binders-before ns i) (pos k)) v ≡ binds v k) → ((v : Values) (bits : Bits) → length bits ≡ n .value → P v → P (binds v (value bits)))
       → Means (uint-node variable n x binds)
   unfolding meant-node
   uint-means variable n x binds k wide same static bound keeps =
       let list = own-list xs ns ts rs r i
       in let m : TreeNode = field (λ bits. n .value) (λ c v bits. in-list list v (value bits)) (λ bits. cond (has-variable (set-parts x)) true (in-set (values-at variable []) x (pos (value bits)))) (λ c v bits. binds v (value bits))
-      in let q : meant-node xs ns ts rs r i ≡ field (λ bits. width-of xs ns i) (λ c v bits. in-list list v (value bits)) (λ bits. in-static-set list (value bits)) (λ c v bits. pick (is-binder ns i) (set v (binders-before ns i) (pos (value bits))) v) = rw k refl
-      in let z : _≡_ {A = TreeNode} (field (λ bits. width-of xs ns i) (λ c v bits. in-list list v (value bits)) (λ bits. in-static-set list (value bits)) (λ c v bits. pick (is-binder ns i) (set v (binders-before ns i) (pos (value bits))) v)) m = λ t. field (λ bits. wide t) (λ c v bits. in-list list v (value bits)) (λ bits. static (value bits) t) (λ c v bits. bound v (value bits) t)
+      in let q : meant-node xs ns ts rs r i ≡ field (λ bits. width-of xs ns i) (λ c v bits. in-list list v (value bits)) (λ bits. in-static-set list (value bits)) (λ c v bits. cond (is-binder ns i) (set v (binders-before ns i) (pos (value bits))) v) = rw k refl
+      in let z : _≡_ {A = TreeNode} (field (λ bits. width-of xs ns i) (λ c v bits. in-list list v (value bits)) (λ bits. in-static-set list (value bits)) (λ c v bits. cond (is-binder ns i) (set v (binders-before ns i) (pos (value bits))) v)) m = λ t. field (λ bits. wide t) (λ c v bits. in-list list v (value bits)) (λ bits. static (value bits) t) (λ c v bits. bound v (value bits) t)
       in told m (uint-node variable n x binds) (q ∙ z) (same-field (λ c v bits p. same v p (value bits)) (λ c v bits l p. keeps v bits l p))
 
   pub repetition-means : (variable : List ℕ → ℕ) (m : Mark) → kind-of ns i ≡ 3 → ((v : Values) → P v → passes (node-mark ns i) (counts-in (own-list xs ns ts rs r i) v) ≡ mark-passes variable m v)

@@ -1,12 +1,12 @@
 -- What 6 and 8 leave of a rule's pieces, put together.
 -- Assumes nothing.
 use Prim.Native.Nat.{ℕ}
-use mathlib.Core.Path.{_≡_, refl, sym, ap, _∙_}
+use mathlib.Core.Path.{_≡_, sym, ap, _∙_}
 use mathlib.Core.Logic.{⊎-elim}
 use mathlib.Core.Bool.{Bool, true, false, _||_}
 use mathlib.Core.List.{List, [], _∷_}
 use native.Mathlib.Omega.{arith}
-use Rattle.basis.proofs.Booleans.{which}
+use Rattle.basis.proofs.Booleans.{which, either-second}
 use Rattle.text_tokens.specs.Names.{is-same}
 use Rattle.tree.specs.Lexemes.{Name}
 use Rattle.tree_meaning.specs.Pieces.{terms-of, uses-in, Piece, use-of-rule, width, formula, binding, bound-in}
@@ -16,10 +16,6 @@ use Rattle.tree_meaning.proofs.Every.{AllPieces}
 use Rattle.tree_meaning.proofs.Passing.{PiecesFit, UsesRight, NamesRight}
 use Rattle.tree_meaning.proofs.Keeping.{BindingKeeps}
 use Rattle.tree_grammar.proofs.Walk.{Right}
-
-or-second : (a b : Bool) → b ≡ true → (a || b) ≡ true
-or-second true b e = refl
-or-second false b e = e
 
 uses-more : (names whole us : List Name) → ((y : Name) → is-among names y ≡ true → is-among whole y ≡ true) → UsesRight names us → UsesRight whole us
 unfolding UsesRight
@@ -40,7 +36,7 @@ module _ (P : Values → Type 0) (numbered widest : List ℕ → ℕ) (rules var
     l .0,
     right-from (x ∷ names) ps
         (λ y e. ⊎-elim (λ (c : is-same (x .letters) (y .letters) ≡ true). g y (ap (λ (b : Bool). b || is-among (bound-in ps) y) c)) (λ (c : is-same (x .letters) (y .letters) ≡ false). f y (sym (ap (λ (b : Bool). b || is-among names y) c) ∙ e)) (which (is-same (x .letters) (y .letters))))
-        (λ y e. g y (or-second (is-same (x .letters) (y .letters)) (is-among (bound-in ps) y) e)) (h .2) k (l .1),
+        (λ y e. g y (either-second (is-same (x .letters) (y .letters)) (is-among (bound-in ps) y) e)) (h .2) k (l .1),
   )
 
   pub pieces-right : (ps : List Piece) → bound-in ps ≡ whole → NamesRight rules variables [] ps → PiecesFit widest ps → AllPieces (BindingKeeps P numbered) ps → Right P numbered widest rules whole [] ps

@@ -13,7 +13,6 @@ use lib.Dec.{eqb, ltb}
 use lib.ListN.{length, getD, length-append, length-set}
 use Rattle.basis.proofs.Booleans.{which}
 use Rattle.theory.specs.Grammar.{alternative}
-use Rattle.table_layout.specs.Constructs.{pick}
 use Rattle.text_store.specs.Store.{blank, node-words, term-words, rule-words, nodes-of, rules-of}
 use Rattle.text_store.specs.Words.{first-node}
 use Rattle.text_encoding.specs.Lists.{sum}
@@ -107,15 +106,15 @@ module _ {xs : List ℕ} {t : Rules} (spelled : SpelledBy xs t) (five : refusal-
       ∙ sym (totalled-tree t .in-nodes)
       ∙ as-many (rules-in t) 0 0 0 (rules-in t)
 
-  inner : (i : ℕ) → SameNode (Kept t) (pick (ltb i n) (meant-node xs ns ts ws r i) (alternative [])) (construct-at t i .node)
+  inner : (i : ℕ) → SameNode (Kept t) (cond (ltb i n) (meant-node xs ns ts ws r i) (alternative [])) (construct-at t i .node)
   inner i =
       ⊎-elim
       (λ (e : ltb i n ≡ true).
-      subst (λ (c : Bool). SameNode (Kept t) (pick c (meant-node xs ns ts ws r i) (alternative [])) (construct-at t i .node)) (sym e)
+      subst (λ (c : Bool). SameNode (Kept t) (cond c (meant-node xs ns ts ws r i) (alternative [])) (construct-at t i .node)) (sym e)
       (subst (λ (j : ℕ). SameNode (Kept t) (meant-node xs ns ts ws r j) (construct-at t i .node)) (let q : 0 + i ≡ i = omega arith in q)
       (at-number (Kept t) xs ns ts ws r 0 (tree-constructs t) (plain-at 0 (alternative [])) all-meant i (omega (arith, count, ltb-true i n e)))))
       (λ (e : ltb i n ≡ false).
-      subst (λ (c : Bool). SameNode (Kept t) (pick c (meant-node xs ns ts ws r i) (alternative [])) (construct-at t i .node)) (sym e)
+      subst (λ (c : Bool). SameNode (Kept t) (cond c (meant-node xs ns ts ws r i) (alternative [])) (construct-at t i .node)) (sym e)
       (subst (λ (c : Construct). SameNode (Kept t) (alternative []) (c .node)) (sym (past-end (tree-constructs t) i (plain-at 0 (alternative [])) (omega (arith, count, ltb-false i n e)))) same-alternative))
       (which (ltb i n))
 
@@ -124,6 +123,6 @@ module _ {xs : List ℕ} {t : Rules} (spelled : SpelledBy xs t) (five : refusal-
   unfolding grammar-of tree-grammar
   same-node i = by (eqb i opening)
     where
-      by : (c : Bool) → SameNode (Kept t) (pick c (opened ws 0) (pick (ltb i n) (meant-node xs ns ts ws r i) (alternative []))) (cond c (use-node 0) (construct-at t i .node))
+      by : (c : Bool) → SameNode (Kept t) (cond c (opened ws 0) (cond (ltb i n) (meant-node xs ns ts ws r i) (alternative []))) (cond c (use-node 0) (construct-at t i .node))
       by true = subst (λ (k : ℕ). SameNode (Kept t) (use-node k) (use-node 0)) (sym (begins-at t (rowed t small .rules-are))) (same-use (λ c v p. p) (λ v v′ p q. q))
       by false = inner i

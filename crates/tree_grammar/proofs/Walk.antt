@@ -17,7 +17,6 @@ use Rattle.text_literals.specs.Literals.{characters-at}
 use Rattle.text_store.specs.Words.{node-mark, is-binder, condition-from, condition-end, first-node}
 use Rattle.text_names.specs.Names.{binds, same-name}
 use Rattle.text_encoding.specs.Numbers.{rule-of, binders-before, width-of}
-use Rattle.table_layout.specs.Constructs.{pick}
 use Rattle.term_words.specs.declared.Term.{Term as WordTerm}
 use Rattle.text_meaning.specs.Meaning.{own-list, counts-in, static-counts, passes, is-fixed, is-default, is-true as list-true, first-true}
 use Rattle.text_meaning.specs.Claims.{is-exact as is-exact-tree}
@@ -225,7 +224,7 @@ module _ {P : Values → Type 0} {xs ns rs : List ℕ} {r : ℕ} {body numbered 
       in let free : is-binder ns i ≡ false = ap₂ (λ (k j : ℕ). eqb k 8 && not (eqb j 0)) (h .kind-is) (h .how-is)
       in (
         uint-means P xs ns ts rs r i numbered n x (λ v k. v) (h .kind-is) (width-is i (n .start) (n .value) (h .first-is) (shown (past (past s))) (ok .0)) (set-same rule ts i names b below x t (h .own-from-is) (h .own-end-is) rows (ok .1 .0) uses) (set-first rule ts i names b below x t (h .own-from-is) (h .own-end-is) rows (ok .1 .0) uses)
-            (λ v k. ap (λ (c : Bool). pick c (set v (binders-before ns i) (pos k)) v) free) (λ v bits l p. p),
+            (λ v k. ap (λ (c : Bool). cond c (set v (binders-before ns i) (pos k)) v) free) (λ v bits l p. p),
         tt,
       )
   walk top begun (binder {d} depth u opens n comma v opens′ x comma′ y closes closes′) i t names w (first-then h more) rows s b e ok =
@@ -237,7 +236,7 @@ module _ {P : Values → Type 0} {xs ns rs : List ℕ} {r : ℕ} {body numbered 
       in let number : binders-before ns i ≡ numbered (x .letters) = rule .binders i x name (b .begins) below (b .before x name ∙ ok .1 .1 .0) this
       in (
         uint-means P xs ns ts rs r i numbered n y (λ v k. set v (numbered (x .letters)) (pos k)) (h .kind-is) (width-is i (n .start) (n .value) (h .first-is) (shown (past (past s))) (ok .0)) (set-same rule ts i names b below y t (h .own-from-is) (h .own-end-is) rows (ok .1 .0) uses) (set-first rule ts i names b below y t (h .own-from-is) (h .own-end-is) rows (ok .1 .0) uses)
-            (λ v k. ap₂ (λ (c : Bool) (j : ℕ). pick c (set v j (pos k)) v) bound number) (λ v bits l p. ok .1 .1 .1 v bits l p),
+            (λ v k. ap₂ (λ (c : Bool) (j : ℕ). cond c (set v j (pos k)) v) bound number) (λ v bits l p. ok .1 .1 .1 v bits l p),
         tt,
       )
   walk top begun (rule-use x other) i t names w (first-then h more) rows s b e ok =

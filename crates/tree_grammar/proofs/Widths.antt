@@ -20,7 +20,6 @@ use Rattle.term_evaluation.specs.Meaning.{condition}
 use Rattle.term_sizes.specs.Inside.{Below, Inside}
 use Rattle.term_trees.specs.Postfix.{setTerms, conditionTerms}
 use Rattle.term_trees.proofs.Theorems.{answer}
-use Rattle.table_layout.specs.Constructs.{pick}
 use Rattle.table_layout.specs.Held.{isYes}
 use Rattle.text_meaning.specs.Meaning.{in-set as in-list, in-static-set}
 use Rattle.tree.specs.Lexemes.{Name}
@@ -92,9 +91,9 @@ module _ (numbered widest : List ℕ → ℕ) where
       → in-static-set (setTerms (set-tree numbered none x)) k ≡ cond (has-variable (set-parts x)) true (in-set (values-at numbered []) x (pos k))
   set-static x c k =
       ⊎-elim
-      (λ (e : has-variable (set-parts x) ≡ true). (λ t. pick ((set-variable numbered x ∙ e) t) true (in-list (setTerms (set-tree numbered none x)) [] k)) ∙ sym (λ t. cond (e t) true (in-set (values-at numbered []) x (pos k))))
+      (λ (e : has-variable (set-parts x) ≡ true). (λ t. cond ((set-variable numbered x ∙ e) t) true (in-list (setTerms (set-tree numbered none x)) [] k)) ∙ sym (λ t. cond (e t) true (in-set (values-at numbered []) x (pos k))))
       (λ (e : has-variable (set-parts x) ≡ false).
-      (λ t. pick ((set-variable numbered x ∙ e) t) true (in-list (setTerms (set-tree numbered none x)) [] k))
+      (λ t. cond ((set-variable numbered x ∙ e) t) true (in-list (setTerms (set-tree numbered none x)) [] k))
       ∙ set-answers x [] [] no-values (none-wide numbered widest [] (terms-of (set-parts x)) e) (none-known numbered 0 (terms-of (set-parts x)) e) c k
       ∙ sym (λ t. cond (e t) true (in-set (values-at numbered []) x (pos k))))
       (which (has-variable (set-parts x)))

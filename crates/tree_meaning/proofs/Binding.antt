@@ -13,7 +13,7 @@ use lib.ListN.{length, getD, set, replicate}
 use lib.Seq.{getD-set-other}
 use Rattle.basis.specs.Bits.{Bits, value as number-of}
 use Rattle.basis.proofs.Values.{value-less}
-use Rattle.basis.proofs.Booleans.{which}
+use Rattle.basis.proofs.Booleans.{which, neither-first, neither-second, either-first, either-second}
 use Rattle.text_header.proofs.Runs.{word-self}
 use Rattle.text_tokens.specs.Names.{is-same}
 use Rattle.tree.specs.Lexemes.{Name}
@@ -21,9 +21,8 @@ use Rattle.tree_meaning.specs.Pieces.{Piece, use-of-rule, width, formula
 use Rattle.tree_meaning.specs.Names.{is-among}
 use Rattle.tree_meaning.specs.Sizes.{widest-in}
 use Rattle.tree_meaning.specs.Grammar.{Values, variable-of}
-use Rattle.tree_meaning.proofs.Passing.{NamesRight, neither-first, neither-second}
+use Rattle.tree_meaning.proofs.Passing.{NamesRight}
 use Rattle.tree_meaning.proofs.Numbers.{one-name}
-use Rattle.tree_meaning.proofs.Reached.{either-first, either-second}
 use Rattle.tree_meaning.proofs.Inside.{Held}
 
 -- ---- each binder is the one of its name

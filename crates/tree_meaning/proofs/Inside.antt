@@ -9,7 +9,7 @@ use mathlib.Core.Option.{none}
 use native.Mathlib.Omega.{arith}
 use lib.IntN.{pos, natAbs}
 use lib.ListN.{length, getD}
-use Rattle.basis.proofs.Booleans.{picked}
+use Rattle.basis.proofs.Booleans.{picked, either-first, either-second, either-cases}
 use Rattle.text_header.proofs.Runs.{word-equal}
 use Rattle.text_tokens.specs.Names.{is-same}
 use Rattle.tree.specs.Lexemes.{Name}
@@ -22,7 +22,6 @@ use Rattle.tree_meaning.specs.Grammar.{Values, values-at, variable-of}
 use Rattle.tree_meaning.proofs.Bounds.{Within, within-first, within-second, calculation-fits}
 use Rattle.tree_meaning.proofs.Passing.{CalculationsFit, PiecesFit, RulesFit, UsesRight, NamesRight, RulesNamed, fits, named}
 use Rattle.tree_meaning.proofs.Numbers.{among-later}
-use Rattle.tree_meaning.proofs.Reached.{either-first, either-second, either-of}
 
 -- ---- values of a rule's variables
 
@@ -93,7 +92,7 @@ module _ (env : Environment) (widest : List ℕ → ℕ) where
       (formula-valued f (terms-within before a (terms-of f) (h .0)) (k .1), pieces-valued rules variables before more a b (h .1) (k .2))
   pieces-valued rules variables before (binding y n placed ∷ more) a b h k =
       pieces-valued rules variables (y ∷ before) more
-      (λ x e. ⊎-elim (λ f. b x (either-first (is-same (y .letters) (x .letters)) (is-among (bound-in more) x) f)) (λ f. a x f) (either-of (is-same (y .letters) (x .letters)) (is-among before x) e))
+      (λ x e. ⊎-elim (λ f. b x (either-first (is-same (y .letters) (x .letters)) (is-among (bound-in more) x) f)) (λ f. a x f) (either-cases (is-same (y .letters) (x .letters)) (is-among before x) e))
       (λ x e. b x (either-second (is-same (y .letters) (x .letters)) (is-among (bound-in more) x) e)) (h .2) k
 
 -- a rule, the first of whose variables has number b: no calculation of it passes 2^62 at values within the variables' widths

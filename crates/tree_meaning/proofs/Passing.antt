@@ -1,15 +1,15 @@
 -- What holds of a tree for which 5, 6 or 8 is not given: totals, names and sizes, piece by piece.
 -- Assumes nothing.
 use Prim.Native.Nat.{ℕ, _+_, _≤_}
-use mathlib.Core.Path.{_≡_, refl, sym}
-use mathlib.Core.Bool.{Bool, true, false, not, _&&_, _||_}
+use mathlib.Core.Path.{_≡_}
+use mathlib.Core.Bool.{true, false, not, _&&_, _||_}
 use mathlib.Core.List.{List, [], _∷_, _++_}
 use mathlib.Core.Option.{none}
 use native.Mathlib.Omega.{arith}
 use borrow.Author.Tests.{leb-true, ltb-false}
 use lib.Dec.{leb, ltb}
 use lib.ListN.{length}
-use Rattle.basis.proofs.Booleans.{both-first, both-second}
+use Rattle.basis.proofs.Booleans.{both-first, both-second, neither-first, neither-second, not-false}
 use Rattle.tree.specs.Lexemes.{Name}
 use Rattle.tree.specs.Tree.{Rule, Rules}
 use Rattle.tree.specs.Spelling.{spell-calculation}
@@ -22,18 +22,6 @@ use Rattle.tree_meaning.proofs.LeastLaws.{no-place, no-first, no-second
 use Rattle.tree_meaning.proofs.Lengths.{all-constructs}
 
 -- ---- tests that fail
-
-pub neither-first : (a b : Bool) → (a || b) ≡ false → a ≡ false
-neither-first true b e = e
-neither-first false b e = refl
-
-pub neither-second : (a b : Bool) → (a || b) ≡ false → b ≡ false
-neither-second true b e = let z : _≡_ {A = ℕ} 0 1 = cc in absurd (omega arith)
-neither-second false b e = e
-
-not-not : (b : Bool) → not b ≡ false → b ≡ true
-not-not true e = refl
-not-not false e = sym e
 
 -- ---- 8
 
@@ -81,7 +69,7 @@ module _ (widest : List ℕ → ℕ) where
   pieces-fit [] e = tt
   pieces-fit (use-of-rule x ∷ more) e = pieces-fit more e
   pieces-fit (width n ∷ more) e =
-      let b = not-not (leb 1 (n .value) && leb (n .value) 32) (no-place (wrong-width n) (n .start) (no-first (place-if (wrong-width n) (n .start)) (faults-in widest more) e)) in (
+      let b = not-false (leb 1 (n .value) && leb (n .value) 32) (no-place (wrong-width n) (n .start) (no-first (place-if (wrong-width n) (n .start)) (faults-in widest more) e)) in (
         leb-true 1 (n .value) (both-first (leb 1 (n .value)) (leb (n .value) 32) b),
         leb-true (n .value) 32 (both-second (leb 1 (n .value)) (leb (n .value) 32) b),
         pieces-fit more (no-second (place-if (wrong-width n) (n .start)) (faults-in widest more) e),
@@ -120,7 +108,7 @@ uses-right : (before xs : List Name) → variable-faults before xs ≡ [] → Us
 unfolding UsesRight variable-faults
 uses-right before [] e = tt
 uses-right before (x ∷ more) e = (
-  not-not (is-among before x) (neither-second (is-reserved x) (not (is-among before x)) (no-place (variable-fault before x) (x .start) (no-first (place-if (variable-fault before x) (x .start)) (variable-faults before more) e))),
+  not-false (is-among before x) (neither-second (is-reserved x) (not (is-among before x)) (no-place (variable-fault before x) (x .start) (no-first (place-if (variable-fault before x) (x .start)) (variable-faults before more) e))),
   uses-right before more (no-second (place-if (variable-fault before x) (x .start)) (variable-faults before more) e),
 )
 
@@ -139,7 +127,7 @@ module _ (rules variables : List Name) where
       let a = no-first (place-if (use-fault rules variables x) (x .start)) (faults-after rules variables before more) e in
       let b = no-second (place-if (use-fault rules variables x) (x .start)) (faults-after rules variables before more) e in
       let c = neither-second (is-reserved x) (not (is-among rules x) || is-among variables x) (no-place (use-fault rules variables x) (x .start) a) in
-      (not-not (is-among rules x) (neither-first (not (is-among rules x)) (is-among variables x) c), neither-second (not (is-among rules x)) (is-among variables x) c, names-right before more b)
+      (not-false (is-among rules x) (neither-first (not (is-among rules x)) (is-among variables x) c), neither-second (not (is-among rules x)) (is-among variables x) c, names-right before more b)
   names-right before (width n ∷ more) e = names-right before more e
   names-right before (formula f ∷ more) e = (
     uses-right before (uses-in (terms-of f)) (no-first (variable-faults before (uses-in (terms-of f))) (faults-after rules variables before more) e),
@@ -149,7 +137,7 @@ module _ (rules variables : List Name) where
       let a = no-first (place-if (binder-fault before placed x) (x .start)) (faults-after rules variables (x ∷ before) more) e in
       let b = no-second (place-if (binder-fault before placed x) (x .start)) (faults-after rules variables (x ∷ before) more) e in
       let c = neither-second (is-reserved x) (is-among before x || not placed) (no-place (binder-fault before placed x) (x .start) a) in
-      (neither-first (is-among before x) (not placed) c, not-not placed (neither-second (is-among before x) (not placed) c), names-right (x ∷ before) more b)
+      (neither-first (is-among before x) (not placed) c, not-false placed (neither-second (is-among before x) (not placed) c), names-right (x ∷ before) more b)
 
 -- each rule, whose name no rule before it has
 unfoldable pub RulesNamed : (rules earlier : List Name) → List Rule → Type 0

@@ -2,13 +2,13 @@
 -- Assumes nothing.
 use Prim.Native.Nat.{ℕ, _≤_, _<_}
 use mathlib.Core.Path.{_≡_, refl, sym, subst, _∙_}
-use mathlib.Core.Logic.{_⊎_, inl, inr, ⊎-elim}
-use mathlib.Core.Bool.{Bool, true, false, not, _&&_, _||_, or-true}
+use mathlib.Core.Logic.{_⊎_, ⊎-elim}
+use mathlib.Core.Bool.{Bool, true, false, not, _&&_, _||_}
 use mathlib.Core.List.{List, [], _∷_, List·Memᴰ, List·Memᴰ·head, List·Memᴰ·tail}
 use native.Mathlib.Omega.{arith}
 use borrow.Author.Tests.{leb-true, ltb-true}
 use lib.Dec.{leb, ltb}
-use Rattle.basis.proofs.Booleans.{both-first, both-second}
+use Rattle.basis.proofs.Booleans.{both-first, both-second, either-first, either-second, either-cases, not-true}
 use Rattle.text_header.proofs.Runs.{word-equal, word-self}
 use Rattle.text_tokens.specs.Names.{is-same}
 use Rattle.tree.specs.Tree.{Rule, Rules}
@@ -39,12 +39,6 @@ unfolding is-in
 is-used [] y = false
 is-used (r ∷ more) y = is-in (used-in (rule-pieces r)) y || is-used more y
 
-pub either-first : (a b : Bool) → a ≡ true → (a || b) ≡ true
-either-first a b e = rw e
-
-pub either-second : (a b : Bool) → b ≡ true → (a || b) ≡ true
-either-second a b e = rw (e, or-true a)
-
 found : {y : List ℕ} {zs : List (List ℕ)} → List·Memᴰ y zs → is-in zs y ≡ true
 unfolding is-in
 found {y} (List·Memᴰ·head {x = z} {xs} e) = either-first (is-same z y) (is-in xs y) (rw (← e) (word-self y))
@@ -62,15 +56,11 @@ unreached e r =
 
 -- ---- a test of a use, and of a rule's place
 
-pub either-of : (a b : Bool) → (a || b) ≡ true → (a ≡ true) ⊎ (b ≡ true)
-either-of true b e = inl refl
-either-of false b e = inr e
-
 member : (zs : List (List ℕ)) (y : List ℕ) → is-in zs y ≡ true → List·Memᴰ y zs
 unfolding is-in
 member [] y e = let z : _≡_ {A = ℕ} 0 1 = cc in absurd (omega arith)
 member (z ∷ more) y e =
-    ⊎-elim (λ f. List·Memᴰ·head (sym (word-equal z y f))) (λ f. List·Memᴰ·tail (member more y f)) (either-of (is-same z y) (is-in more y) e)
+    ⊎-elim (λ f. List·Memᴰ·head (sym (word-equal z y f))) (λ f. List·Memᴰ·tail (member more y f)) (either-cases (is-same z y) (is-in more y) e)
 
 -- one of these rules, of the name x, uses y
 unfoldable pub uses-in : List Rule → (x y : List ℕ) → Bool
@@ -88,7 +78,7 @@ user (r ∷ more) x y e =
     ⊎-elim
     (λ f. (r, List·Memᴰ·head refl, word-equal _ _ (both-first (is-same (rule-name r .letters) x) (is-in (used-in (rule-pieces r)) y) f), member _ y (both-second (is-same (rule-name r .letters) x) (is-in (used-in (rule-pieces r)) y) f)))
     (λ f. let u = user more x y f in (u .0, List·Memᴰ·tail (u .1), u .2, u .3))
-    (either-of (is-same (rule-name r .letters) x && is-in (used-in (rule-pieces r)) y) (uses-in more x y) e)
+    (either-cases (is-same (rule-name r .letters) x && is-in (used-in (rule-pieces r)) y) (uses-in more x y) e)
 
 pub uses : {t : Rules} {x y : List ℕ} → uses-in (rules-of t) x y ≡ true → Uses t x y
 uses {t} {x} {y} e = let u = user (rules-of t) x y e in record { by = u .0; there = u .1; named = u .2; used = u .3 }
@@ -103,16 +93,12 @@ unfolding is-used
 unused-before all p [] = true
 unused-before all p (r ∷ more) = (leb p (rule-name r .start) || not (is-used all (rule-name r .letters))) && unused-before all p more
 
-is-not : (b : Bool) → not b ≡ true → b ≡ false
-is-not true e = sym e
-is-not false e = refl
-
 module _ (t : Rules) (p : ℕ) where
   here : (r : Rule) → (leb p (rule-name r .start) || not (is-used (rules-of t) (rule-name r .letters))) ≡ true → Reaches t (rule-name r .letters) (rule-name r .letters)
       → p ≤ rule-name r .start
   here r e h =
-      ⊎-elim (λ f. leb-true p (rule-name r .start) f) (λ f. absurd (unreached {t = t} (is-not _ f) h))
-      (either-of (leb p (rule-name r .start)) (not (is-used (rules-of t) (rule-name r .letters))) e)
+      ⊎-elim (λ f. leb-true p (rule-name r .start) f) (λ f. absurd (unreached {t = t} (not-true _ f) h))
+      (either-cases (leb p (rule-name r .start)) (not (is-used (rules-of t) (rule-name r .letters))) e)
 
   among : {r : Rule} {rs : List Rule} → List·Memᴰ r rs → unused-before (rules-of t) p rs ≡ true → Reaches t (rule-name r .letters) (rule-name r .letters)
       → p ≤ rule-name r .start

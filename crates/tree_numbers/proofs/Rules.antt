@@ -7,7 +7,7 @@ use mathlib.Core.Bool.{Bool, true, false, _||_}
 use mathlib.Core.List.{List, [], _∷_, _++_, map, List·Memᴰ, List·Memᴰ·head, List·Memᴰ·tail}
 use native.Mathlib.Omega.{arith}
 use lib.ListN.{length}
-use Rattle.basis.proofs.Booleans.{which}
+use Rattle.basis.proofs.Booleans.{which, neither-first, neither-second}
 use Rattle.text_header.proofs.Runs.{word-equal, word-self}
 use Rattle.text_tokens.specs.Names.{is-same}
 use Rattle.text_tokens.specs.declared.Kind.{Kind}
@@ -19,7 +19,7 @@ use Rattle.tree.specs.Spelling.{spell, spell-rules}
 use Rattle.tree_meaning.specs.Pieces.{rules-of as rules-in, rule-name, rule-body, rule-pieces}
 use Rattle.tree_meaning.specs.Counted.{Totals, with-rule}
 use Rattle.tree_meaning.specs.Names.{is-among}
-use Rattle.tree_meaning.proofs.Passing.{neither-first, neither-second, RulesNamed}
+use Rattle.tree_meaning.proofs.Passing.{RulesNamed}
 use Rattle.tree_store.proofs.Rows.{term-rows, node-rows, rules-nodes}
 use Rattle.tree_store.proofs.Lengths.{nodes-counted, terms-counted}
 use Rattle.tree_store.proofs.Standing.{Standing, past, after-tree}

@@ -8,7 +8,7 @@ use mathlib.Core.List.{List}
 use native.Mathlib.Omega.{arith}
 use lib.Dec.{eqb}
 use lib.ListN.{length}
-use Rattle.basis.proofs.Booleans.{which}
+use Rattle.basis.proofs.Booleans.{which, neither-first, neither-second}
 use Rattle.text_tokens.specs.Names.{is-same}
 use Rattle.text_store.specs.Words.{is-binder, bound-at}
 use Rattle.text_names.specs.Counting.{any-of}
@@ -19,7 +19,6 @@ use Rattle.tree.specs.Lexemes.{Name}
 use Rattle.tree_meaning.specs.Pieces.{Piece, bound-in}
 use Rattle.tree_meaning.specs.Names.{is-among}
 use Rattle.tree_meaning.specs.Grammar.{variable-of as number-among}
-use Rattle.tree_meaning.proofs.Passing.{neither-first, neither-second}
 use Rattle.tree_store.proofs.Rows.{NodeRow}
 use Rattle.tree_store.proofs.Holding.{compared}
 use Rattle.tree_store.proofs.Low.{any-suc, any-append, any-true}

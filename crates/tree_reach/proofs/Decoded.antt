@@ -2,18 +2,14 @@
 -- Assumes nothing.
 use Prim.Native.Nat.{ℕ, _<_}
 use mathlib.Core.Path.{_≡_, refl, subst}
-use mathlib.Core.Bool.{Bool, true, false, _&&_ as both}
+use mathlib.Core.Bool.{true, _&&_}
 use mathlib.Core.List.{List}
 use borrow.Author.Tests.{lt-ltb, eqb-true}
 use lib.Dec.{leb, ltb, eqb}
+use Rattle.basis.proofs.Booleans.{picked}
 use Rattle.table_layout.specs.Places.{construct-word}
-use Rattle.table_layout.specs.Constructs.{pick, branches, listed, constructOf, constructAt}
+use Rattle.table_layout.specs.Constructs.{branches, listed, constructOf, constructAt}
 use Rattle.table_layout.specs.declared.Construct.{Construct}
-
--- what holds of both choices holds of the choice
-picked-by : {A : Type 0} (P : A → Type 0) (b : Bool) {x y : A} → (b ≡ true → P x) → (b ≡ false → P y) → P (pick b x y)
-picked-by P true f g = f refl
-picked-by P false f g = g refl
 
 -- of a use: its kind is 5, and its first operand the rule
 abbrev pub UseOf : ℕ → ℕ → Construct → Type 0
@@ -31,19 +27,19 @@ UseOf kind a Construct.Missing = Unit {0}
 pub use-of : (i kind size a b c d : ℕ) → UseOf kind a (constructOf i kind size a b c d)
 unfolding constructOf
 use-of i kind size a b c d =
-    picked-by P (both (leb 1 kind) (leb kind 4))
-    (λ z. picked-by P (branches i size)
-    (λ z. picked-by P (eqb kind 1) (λ z. tt)
-    (λ z. picked-by P (eqb kind 2) (λ z. tt)
-    (λ z. picked-by P (eqb kind 3)
-    (λ z. picked-by P (eqb a 1) (λ z. tt) (λ z. picked-by P (eqb a 2) (λ z. tt) (λ z. picked-by P (eqb a 3) (λ z. tt) (λ z. picked-by P (both (eqb a 4) (listed b c)) (λ z. tt) (λ z. tt)))))
+    picked P (leb 1 kind && leb kind 4)
+    (λ z. picked P (branches i size)
+    (λ z. picked P (eqb kind 1) (λ z. tt)
+    (λ z. picked P (eqb kind 2) (λ z. tt)
+    (λ z. picked P (eqb kind 3)
+    (λ z. picked P (eqb a 1) (λ z. tt) (λ z. picked P (eqb a 2) (λ z. tt) (λ z. picked P (eqb a 3) (λ z. tt) (λ z. picked P (eqb a 4 && listed b c) (λ z. tt) (λ z. tt)))))
     (λ z. tt)))) (λ z. tt))
-    (λ z. picked-by P (eqb size 1)
-    (λ z. picked-by P (eqb kind 5) (λ (e : eqb kind 5 ≡ true). picked-by P (ltb a 64) (λ z. (eqb-true kind 5 e, refl)) (λ z. tt))
-    (λ z. picked-by P (eqb kind 6) (λ z. picked-by P (both (leb 1 a) (leb a 32)) (λ z. tt) (λ z. tt))
-    (λ z. picked-by P (eqb kind 7) (λ z. picked-by P (both (ltb a 128) (ltb b 128)) (λ z. tt) (λ z. tt))
-    (λ z. picked-by P (eqb kind 8) (λ z. picked-by P (both (both (leb 1 a) (leb a 32)) (both (listed b c) (leb d 64))) (λ z. tt) (λ z. tt))
-    (λ z. picked-by P (eqb kind 9) (λ z. tt) (λ z. tt)))))) (λ z. tt))
+    (λ z. picked P (eqb size 1)
+    (λ z. picked P (eqb kind 5) (λ (e : eqb kind 5 ≡ true). picked P (ltb a 64) (λ z. (eqb-true kind 5 e, refl)) (λ z. tt))
+    (λ z. picked P (eqb kind 6) (λ z. picked P (leb 1 a && leb a 32) (λ z. tt) (λ z. tt))
+    (λ z. picked P (eqb kind 7) (λ z. picked P (ltb a 128 && ltb b 128) (λ z. tt) (λ z. tt))
+    (λ z. picked P (eqb kind 8) (λ z. picked P ((leb 1 a && leb a 32) && (listed b c && leb d 64)) (λ z. tt) (λ z. tt))
+    (λ z. picked P (eqb kind 9) (λ z. tt) (λ z. tt)))))) (λ z. tt))
   where
     P : Construct → Type 0
     P x = UseOf kind a x
@@ -56,7 +52,7 @@ use-back ws i q e = subst (UseOf (construct-word ws i 0) (construct-word ws i 2)
   where
     said : UseOf (construct-word ws i 0) (construct-word ws i 2) (constructAt ws i)
     said =
-        picked-by (UseOf (construct-word ws i 0) (construct-word ws i 2)) (ltb i 256)
+        picked (UseOf (construct-word ws i 0) (construct-word ws i 2)) (ltb i 256)
         (λ z. use-of i (construct-word ws i 0) (construct-word ws i 1) (construct-word ws i 2) (construct-word ws i 3) (construct-word ws i 4) (construct-word ws i 5))
         (λ z. tt)
 

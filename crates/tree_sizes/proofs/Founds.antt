@@ -2,7 +2,7 @@
 -- Assumes nothing.
 use Prim.Native.Nat.{ℕ, suc, _+_, _-_, _≤_, _<_}
 use mathlib.Core.Path.{_≡_, refl, sym, ap, subst, _∙_}
-use mathlib.Core.Bool.{Bool, true, false}
+use mathlib.Core.Bool.{Bool, true, false, cond}
 use mathlib.Core.List.{List, [], _∷_, _++_, map, append-nil, append-assoc}
 use native.Mathlib.Omega.{arith}
 use borrow.Author.Tests.{lt-ltb}
@@ -10,7 +10,6 @@ use lib.Dec.{eqb}
 use lib.IntN.{ℤ, pos}
 use lib.ListN.{length, length-append}
 use Rattle.basis.specs.Counts.{Counts as Passes, exactly as so-many, atLeast, span as from-to}
-use Rattle.term_words.specs.Numbers.{pick}
 use Rattle.term_words.specs.Words.{termOf, termAt, termsFrom, terms}
 use Rattle.term_words.specs.declared.Kind.{Kind}
 use Rattle.term_words.specs.declared.Mode.{Mode}
@@ -53,7 +52,7 @@ Any s t = Unit {0}
 answered : (ts : List ℕ) (f i at : ℕ) (s : Numbers) (t : ℕ) → list-found ts f i (ofTested (lastOf s t) at) ≡ Found.Nothing
 answered ts f i at Numbers.Zero t = by (eqb t 2) (eqb t 3)
   where
-    by : (a b : Bool) → list-found ts f i (ofTested (pick a Answer.No (pick b Answer.Yes Answer.Malformed)) at) ≡ Found.Nothing
+    by : (a b : Bool) → list-found ts f i (ofTested (cond a Answer.No (cond b Answer.Yes Answer.Malformed)) at) ≡ Found.Nothing
     by true b = refl
     by false true = refl
     by false false = refl
@@ -159,7 +158,7 @@ module _ (g : ℕ → ℕ) (W : List ℕ) where
     tally-found P l A m e some form list rows q =
         let y = ran g w Kind.Calculation i A Numbers.Zero 1 in
         let z : list-found ts f i (countSizes w W i e) ≡ list-found ts f i (ofCounted (ofTrial m (y .trial)) (y .at)) =
-        ap (λ (b : Bool). list-found ts f i (ofTally (pick b (talliedBy (formOf (termAt W (e - 1))) Mode.Sizes w W i e) (record { counted = Counted.Malformed; at = i })))) (lt-ltb i e some)
+        ap (λ (b : Bool). list-found ts f i (ofTally (cond b (talliedBy (formOf (termAt W (e - 1))) Mode.Sizes w W i e) (record { counted = Counted.Malformed; at = i })))) (lt-ltb i e some)
         ∙ ap (λ (k : Form). list-found ts f i (ofTally (talliedBy k Mode.Sizes w W i e))) form
         ∙ ap (λ (L : List Term). list-found ts f i (ofCounted (ofTrial m (run Kind.Calculation Mode.Sizes w (pos 0) i L Numbers.Zero 1 .trial)) (run Kind.Calculation Mode.Sizes w (pos 0) i L Numbers.Zero 1 .at))) list in
         subst (λ (k : Found). Matches k l) (sym z) (counted-found P l ts f i (y .at) A m (y .trial) rows q)

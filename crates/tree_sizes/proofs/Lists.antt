@@ -12,7 +12,7 @@ use lib.IntN.{ℤ, pos}
 use lib.ListN.{length}
 use lib.Pow.{pow-mono, pow-pos}
 use Rattle.basis.specs.Bits.{digit}
-use Rattle.term_words.specs.Numbers.{pick, pushed}
+use Rattle.term_words.specs.Numbers.{pushed}
 use Rattle.term_words.specs.Tests.{noted, joins, combined}
 use Rattle.term_words.specs.Words.{termOf}
 use Rattle.term_words.specs.Steps.{stepOf}
@@ -63,7 +63,7 @@ pub noted-is : (t d : ℕ) (b : Bool) → Deep d t → d < 62 → noted Numbers.
 unfolding noted
 noted-is t d b h l =
     let p : 2 ^ suc d ≤ 2 ^ 62 = pow-mono {j = 62} (omega arith) in
-    ap (λ (c : Bool). pick c (Trial.Running Numbers.Zero (t * 2 + digit b)) Trial.Malformed) (lt-ltb t (2 ^ 62) (omega (arith, h .1)))
+    ap (λ (c : Bool). cond c (Trial.Running Numbers.Zero (t * 2 + digit b)) Trial.Malformed) (lt-ltb t (2 ^ 62) (omega (arith, h .1)))
 
 -- what is left after a test
 abbrev pub Tested : ℕ → Numbers → ℕ → Type 0
@@ -135,7 +135,7 @@ module _ (g : ℕ → ℕ) (w : List ℤ) (k : Kind) where
       some = pow-pos d
 
       opened : combined j Numbers.Zero t ≡ noted Numbers.Zero (t / 4) (joins j (eqb (t / 2 % 2) 1) (eqb (t % 2) 1))
-      opened = ap (λ (c : Bool). pick c Trial.Malformed (noted Numbers.Zero (t / 4) (joins j (eqb (t / 2 % 2) 1) (eqb (t % 2) 1)))) (le-ltb t 4 (omega (arith, h .0, p, q, some)))
+      opened = ap (λ (c : Bool). cond c Trial.Malformed (noted Numbers.Zero (t / 4) (joins j (eqb (t / 2 % 2) 1) (eqb (t % 2) 1)))) (le-ltb t 4 (omega (arith, h .0, p, q, some)))
 
   -- what follows a test
   pub after-test : (d : ℕ) (R : Numbers → ℕ → Type 0) (m : List ℕ) (i : ℕ) (B : List TermRow) → ((t : ℕ) → Deep d t → Judged R m i B (ran g w k i B Numbers.Zero t)) → (s : Numbers) (t : ℕ) → Tested d s t → Judged R m i B (ran g w k i B s t)

@@ -4,7 +4,7 @@
 use Prim.Native.Nat.{ℕ, _+_, _≤_, _<_, min}
 use mathlib.Core.Path.{_≡_, refl, sym, ap, ap₂, subst, _∙_}
 use mathlib.Core.Logic.{_↔_}
-use mathlib.Core.Bool.{Bool, true, false, _&&_ as both}
+use mathlib.Core.Bool.{Bool, true, false, _&&_}
 use mathlib.Core.List.{List, [], _∷_, _++_}
 use native.Mathlib.Omega.{arith}
 use native.Mathlib.Decide.{decLe}
@@ -196,7 +196,7 @@ module _ (p : ℕ) {xs ns ts rs ws : List ℕ} {n r : ℕ} {numbered : List ℕ 
     -- what is found in it is what the tree says; a wrong width leaves no construct, and no fault before it
     pub set-hit : {d : ℕ} (x : ValueSet d) (t : ℕ) (v : Number) (w : List Lexeme) → own-from ns i ≡ t → own-end ns i ≡ t + length (set-rows x []) → RowsAt ts t (set-rows x []) → Standing xs q (spell-set x w) → UsesRight names (uses-in (terms-of (set-parts x)))
         → kind-of ns i ≡ 8 → node-size ns i ≡ 1 → width-place ns i ≡ v .start → number-value xs (v .start) ≡ v .value → v .start ≤ q → (v .start ≤ p → (1 ≤ v .value) × (v .value ≤ 32)) → Hit p (own-at ns ts ws i) ↔ Hits p (calculation-faults widest (set-parts x))
-    set-hit x t v w begun upto rows s u kind size place value before narrow = by (both (leb 1 (width-of xs ns i)) (leb (width-of xs ns i) 32)) refl
+    set-hit x t v w begun upto rows s u kind size place value before narrow = by (leb 1 (width-of xs ns i) && leb (width-of xs ns i) 32) refl
       where
         long : own-length ns i ≡ length (set-rows x [])
         long = omega (arith, begun, upto)
@@ -217,22 +217,22 @@ module _ (p : ℕ) {xs ns ts rs ws : List ℕ} {n r : ℕ} {numbered : List ℕ 
             (set-found (λ k. number-at xs ns rs r i k) (Held.term-words ws) (table-widest ws) (cut widest) ts (own-from ns i) (own-start ns i) x (own-start ns i + own-length ns i) (ap (λ (k : ℕ). own-start ns i + k) long) sizes-known here
             (own-written (rule .words) (rule .few-nodes) (rule .few-terms) (rule .few-binders) i there (table-widest ws) (cut widest) many (set-tells x told) sizes-known long here))
 
-        both-first : (b c : Bool) → both b c ≡ true → b ≡ true
+        both-first : (b c : Bool) → (b && c) ≡ true → b ≡ true
         both-first true c e = refl
         both-first false c e = e
 
-        both-second : (b c : Bool) → both b c ≡ true → c ≡ true
+        both-second : (b c : Bool) → (b && c) ≡ true → c ≡ true
         both-second true c e = e
         both-second false c e = let z : _≡_ {A = ℕ} 0 1 = cc in absurd (omega arith)
 
-        wrong : both (leb 1 (width-of xs ns i)) (leb (width-of xs ns i) 32) ≡ false → (1 ≤ v .value) × (v .value ≤ 32) → ⊥
+        wrong : (leb 1 (width-of xs ns i) && leb (width-of xs ns i) 32) ≡ false → (1 ≤ v .value) × (v .value ≤ 32) → ⊥
         wrong e z =
             let w : width-of xs ns i ≡ v .value = omega (arith, width-is, z .0, z .1) in
-            let f : both (leb 1 (width-of xs ns i)) (leb (width-of xs ns i) 32) ≡ true = ap₂ both (le-leb 1 (width-of xs ns i) (omega (arith, w, z .0))) (le-leb (width-of xs ns i) 32 (omega (arith, w, z .1))) in
+            let f : (leb 1 (width-of xs ns i) && leb (width-of xs ns i) 32) ≡ true = ap₂ _&&_ (le-leb 1 (width-of xs ns i) (omega (arith, w, z .0))) (le-leb (width-of xs ns i) 32 (omega (arith, w, z .1))) in
             let c : true ≡ false = sym f ∙ e in
             let k : _≡_ {A = ℕ} 0 1 = cc in omega arith
 
-        by : (c : Bool) → both (leb 1 (width-of xs ns i)) (leb (width-of xs ns i) 32) ≡ c → Hit p (own-at ns ts ws i) ↔ Hits p (calculation-faults widest (set-parts x))
+        by : (c : Bool) → (leb 1 (width-of xs ns i) && leb (width-of xs ns i) 32) ≡ c → Hit p (own-at ns ts ws i) ↔ Hits p (calculation-faults widest (set-parts x))
         by true e =
             formula-hit (set-parts x) (own-at ns ts ws i) q
             (matches (leb-true 1 (width-of xs ns i) (both-first (leb 1 (width-of xs ns i)) (leb (width-of xs ns i) 32) e)) (leb-true (width-of xs ns i) 32 (both-second (leb 1 (width-of xs ns i)) (leb (width-of xs ns i) 32) e)))

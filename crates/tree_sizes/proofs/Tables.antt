@@ -3,7 +3,7 @@
 use Prim.Native.Nat.{ℕ, suc, _+_, _*_, _/_, _%_, _≤_, _<_}
 use mathlib.Core.Path.{_≡_, refl, sym, ap, _∙_}
 use mathlib.Core.Logic.{_⊎_, inl, inr}
-use mathlib.Core.Bool.{Bool, true, false, cond, _&&_ as both}
+use mathlib.Core.Bool.{Bool, true, false, cond, _&&_}
 use mathlib.Core.List.{List, [], _∷_, _++_}
 use native.Mathlib.Omega.{arith}
 use borrow.Author.Tests.{lt-ltb, le-ltb, le-leb, eqb-true, ne-eqb}
@@ -18,7 +18,7 @@ use Rattle.term_words.specs.declared.Term.{Term as WordTerm}
 use Rattle.term_sizes.specs.Sizes.{sizes, countSizes}
 use Rattle.term_sizes.specs.declared.Sized.{Sized}
 use Rattle.table_layout.specs.Places.{construct-word}
-use Rattle.table_layout.specs.Constructs.{pick, branches, listed, constructOf, constructAt}
+use Rattle.table_layout.specs.Constructs.{branches, listed, constructOf, constructAt}
 use Rattle.table_layout.specs.Attributes.{attributes-of}
 use Rattle.table_layout.specs.Held
 use Rattle.table_layout.specs.declared.Construct.{Construct}
@@ -94,18 +94,18 @@ module _ (i : ℕ) where
   no-own : (kind size a b c d : ℕ) → eqb kind 8 ≡ false → (eqb kind 3 ≡ true → eqb a 4 ≡ false) → attributes-of (constructOf i kind size a b c d) .own ≡ OwnList.None
   unfolding constructOf
   no-own kind size a b c d u v =
-      picked P (both (leb 1 kind) (leb kind 4))
+      picked P (leb 1 kind && leb kind 4)
       (λ z. picked P (branches i size)
       (λ z. picked P (eqb kind 1) (λ z. refl)
       (λ z. picked P (eqb kind 2) (λ z. refl)
       (λ z. picked P (eqb kind 3)
       (λ (e : eqb kind 3 ≡ true).
-      picked P (eqb a 1) (λ z. refl) (λ z. picked P (eqb a 2) (λ z. refl) (λ z. picked P (eqb a 3) (λ z. refl) (λ z. picked P (both (eqb a 4) (listed b c)) (λ (y : both (eqb a 4) (listed b c) ≡ true). absurd (clash (both (eqb a 4) (listed b c)) y (ap (λ (x : Bool). both x (listed b c)) (v e)))) (λ z. refl)))))
+      picked P (eqb a 1) (λ z. refl) (λ z. picked P (eqb a 2) (λ z. refl) (λ z. picked P (eqb a 3) (λ z. refl) (λ z. picked P (eqb a 4 && listed b c) (λ (y : (eqb a 4 && listed b c) ≡ true). absurd (clash (eqb a 4 && listed b c) y (ap (λ (x : Bool). x && listed b c) (v e)))) (λ z. refl)))))
       (λ z. refl)))) (λ z. refl))
       (λ z. picked P (eqb size 1)
       (λ z. picked P (eqb kind 5) (λ z. picked P (ltb a 64) (λ z. refl) (λ z. refl))
-      (λ z. picked P (eqb kind 6) (λ z. picked P (both (leb 1 a) (leb a 32)) (λ z. refl) (λ z. refl))
-      (λ z. picked P (eqb kind 7) (λ z. picked P (both (ltb a 128) (ltb b 128)) (λ z. refl) (λ z. refl))
+      (λ z. picked P (eqb kind 6) (λ z. picked P (leb 1 a && leb a 32) (λ z. refl) (λ z. refl))
+      (λ z. picked P (eqb kind 7) (λ z. picked P (ltb a 128 && ltb b 128) (λ z. refl) (λ z. refl))
       (λ z. picked P (eqb kind 8) (λ (e : eqb kind 8 ≡ true). absurd (clash (eqb kind 8) e u))
       (λ z. picked P (eqb kind 9) (λ z. refl) (λ z. refl)))))) (λ z. refl))
     where
@@ -120,7 +120,7 @@ module _ (i : ℕ) where
   uint-own w s e b p q r t u = rw (le-leb 1 w p, le-leb w 32 q, le-leb s e r, le-leb e 1024 t, le-leb b 64 u) refl
 
   -- a wrong width leaves no construct
-  wrong-own : (w s e b : ℕ) → both (leb 1 w) (leb w 32) ≡ false → attributes-of (constructOf i 8 1 w s e b) .own ≡ OwnList.None
+  wrong-own : (w s e b : ℕ) → (leb 1 w && leb w 32) ≡ false → attributes-of (constructOf i 8 1 w s e b) .own ≡ OwnList.None
   unfolding constructOf
   wrong-own w s e b p = rw p refl
 
@@ -181,7 +181,7 @@ module _ {xs ns ts rs ws : List ℕ} {n r : ℕ} (words : Words xs ns ts rs n r 
       → attributes-of (constructOf i kind size a b c d) .own ≡ o → own-size ws (constructAt ws i) ≡ list-size ws o
   unfolding constructAt
   own-by kind size a b c d p q s t u v o e =
-      ap (λ (x : Bool). own-size ws (pick x (constructOf i (construct-word ws i 0) (construct-word ws i 1) (construct-word ws i 2) (construct-word ws i 3) (construct-word ws i 4) (construct-word ws i 5)) Construct.Missing)) (lt-ltb i 256 (omega (arith, few-nodes)))
+      ap (λ (x : Bool). own-size ws (cond x (constructOf i (construct-word ws i 0) (construct-word ws i 1) (construct-word ws i 2) (construct-word ws i 3) (construct-word ws i 4) (construct-word ws i 5)) Construct.Missing)) (lt-ltb i 256 (omega (arith, few-nodes)))
       ∙ (λ z. own-size ws (constructOf i (p z) (q z) (s z) (t z) (u z) (v z))) ∙ ap (list-size ws) e
 
   -- it has none
@@ -224,7 +224,7 @@ module _ {xs ns ts rs ws : List ℕ} {n r : ℕ} (words : Words xs ns ts rs n r 
           uint-words (OwnList.Set (own-start ns i) (own-start ns i + own-length ns i)) (uint-own i (width-of xs ns i) (own-start ns i) (own-start ns i + own-length ns i) (cond (is-binder ns i) (binders-before ns i + 1) 0) p q (omega arith) list-end binder-most)
 
       -- but where its width is wrong
-      pub wrong-list : both (leb 1 (width-of xs ns i)) (leb (width-of xs ns i) 32) ≡ false → own-size ws (constructAt ws i) ≡ Sized.Passes
+      pub wrong-list : (leb 1 (width-of xs ns i) && leb (width-of xs ns i) 32) ≡ false → own-size ws (constructAt ws i) ≡ Sized.Passes
       wrong-list p = uint-words OwnList.None (wrong-own i (width-of xs ns i) (own-start ns i) (own-start ns i + own-length ns i) (cond (is-binder ns i) (binders-before ns i + 1) 0) p)
 
     -- counts in braces are looked at
@@ -238,11 +238,11 @@ module _ {xs ns ts rs ws : List ℕ} {n r : ℕ} (words : Words xs ns ts rs n r 
   -- ---- its condition
 
   condition-by : (a b : ℕ) → start-word (condition-start ns i) (condition-length ns i) ≡ a → end-word (condition-start ns i) (condition-length ns i) ≡ b → a ≤ 1024 → b ≤ 1024
-      → condition-size ws i ≡ pick (ltb a b) (sizes Kind.Condition (widest ws) a (Held.terms-of ws a b)) Sized.Passes
+      → condition-size ws i ≡ cond (ltb a b) (sizes Kind.Condition (widest ws) a (Held.terms-of ws a b)) Sized.Passes
   condition-by a b p q s t =
       let u = construct-is words i h 6 a (omega arith) (word-6 xs ns rs r i (kind-of ns i) (start-word (condition-start ns i) (condition-length ns i)) (end-word (condition-start ns i) (condition-length ns i)) ∙ p) (omega arith) in
       let v = construct-is words i h 7 b (omega arith) (word-7 xs ns rs r i (kind-of ns i) (start-word (condition-start ns i) (condition-length ns i)) (end-word (condition-start ns i) (condition-length ns i)) ∙ q) (omega arith) in
-      λ z. pick (ltb (u z) (v z)) (sizes Kind.Condition (widest ws) (u z) (Held.terms-of ws (u z) (v z))) Sized.Passes
+      λ z. cond (ltb (u z) (v z)) (sizes Kind.Condition (widest ws) (u z) (Held.terms-of ws (u z) (v z))) Sized.Passes
 
   -- a condition is looked at
   pub condition-list : 0 < condition-length ns i → condition-size ws i ≡ sizes Kind.Condition (widest ws) (condition-start ns i) (Held.terms-of ws (condition-start ns i) (condition-start ns i + condition-length ns i))
@@ -250,7 +250,7 @@ module _ {xs ns ts rs ws : List ℕ} {n r : ℕ} (words : Words xs ns ts rs n r 
       let s = condition-start ns i in
       let e = condition-start ns i + condition-length ns i in
       condition-by s e (ap (λ (x : Bool). cond x s 0) (lt-ltb 0 (condition-length ns i) some)) (ap (λ (x : Bool). cond x e 0) (lt-ltb 0 (condition-length ns i) some)) (omega (arith, list-end)) (omega (arith, list-end))
-      ∙ ap (λ (x : Bool). pick x (sizes Kind.Condition (widest ws) s (Held.terms-of ws s e)) Sized.Passes) (lt-ltb s e (omega arith))
+      ∙ ap (λ (x : Bool). cond x (sizes Kind.Condition (widest ws) s (Held.terms-of ws s e)) Sized.Passes) (lt-ltb s e (omega arith))
 
   -- there is none
   pub no-condition : condition-length ns i ≡ 0 → condition-size ws i ≡ Sized.Passes

@@ -10,7 +10,7 @@ use native.Mathlib.Omega.{arith}
 use borrow.Author.Tests.{ltb-true, ltb-false, lt-ltb, le-ltb, le-leb, lt-leb}
 use lib.Dec.{ltb, leb}
 use lib.ListN.{length, getD}
-use Rattle.basis.proofs.Booleans.{which}
+use Rattle.basis.proofs.Booleans.{which, neither-first, neither-second}
 use Rattle.text_store.specs.Store.{blank, rule-words, rules-of}
 use Rattle.text_names.specs.Counting.{nowhere, place-if, least-of}
 use Rattle.text_names.specs.Limits.{limit-place, refusal-5}
@@ -46,10 +46,6 @@ swapped false false true true = refl
 swapped false false true false = refl
 swapped false false false true = refl
 swapped false false false false = refl
-
-pub or-first : (a b : Bool) → (a || b) ≡ false → a ≡ false
-or-first true b e = e
-or-first false b e = refl
 
 -- ---- the place of rule k by its row
 
@@ -144,7 +140,7 @@ least-kept {most} {p} f k n (r ∷ rs) m (ascends a b more) l h =
     few : is-past (with-rule n r) ≡ false → k + 1 ≤ 64
     few e =
         let d = with-rule n r
-        in omega (arith, h .number, ltb-false 64 (suc (n .rules)) (or-first (ltb 64 (suc (n .rules))) (ltb 256 (d .all-constructs) || (ltb 64 (d .variables) || ltb 1024 (d .all-terms))) e))
+        in omega (arith, h .number, ltb-false 64 (suc (n .rules)) (neither-first (ltb 64 (suc (n .rules))) (ltb 256 (d .all-constructs) || (ltb 64 (d .variables) || ltb 1024 (d .all-terms))) e))
 
     here : f k ≡ place-if (is-past (with-rule n r)) (rule-name r .start)
     here = ap f (let q : k ≡ k + 0 = omega arith in q) ∙ h .follows 0 (omega arith) (omega arith)
@@ -221,10 +217,6 @@ pub record Limited (t : Rules) : Type 0 where
   pub few-variables : tree-totals t .variables ≤ 64
   pub few-terms : tree-totals t .all-terms ≤ 1024
 
-or-later : (a b : Bool) → (a || b) ≡ false → b ≡ false
-or-later true b e = let z : _≡_ {A = ℕ} 0 1 = cc in absurd (omega arith)
-or-later false b e = e
-
 some-none : (p : ℕ) (l : List ℕ) → least (p ∷ l) ≡ none → ⊥
 unfolding least
 some-none p l e = let z : _≡_ {A = ℕ} 0 1 = cc in omega arith
@@ -249,11 +241,11 @@ pub limited : (t : Rules) → tree-refusal-5 t ≡ none → Limited t
 limited t e =
     let n : Totals = tree-totals t
     in let p : is-past n ≡ false = none-past no-rule (rules-in t) refl e
-    in let q : (ltb 256 (n .all-constructs) || (ltb 64 (n .variables) || ltb 1024 (n .all-terms))) ≡ false = or-later (ltb 64 (n .rules)) (ltb 256 (n .all-constructs) || (ltb 64 (n .variables) || ltb 1024 (n .all-terms))) p
-    in let r : (ltb 64 (n .variables) || ltb 1024 (n .all-terms)) ≡ false = or-later (ltb 256 (n .all-constructs)) (ltb 64 (n .variables) || ltb 1024 (n .all-terms)) q
+    in let q : (ltb 256 (n .all-constructs) || (ltb 64 (n .variables) || ltb 1024 (n .all-terms))) ≡ false = neither-second (ltb 64 (n .rules)) (ltb 256 (n .all-constructs) || (ltb 64 (n .variables) || ltb 1024 (n .all-terms))) p
+    in let r : (ltb 64 (n .variables) || ltb 1024 (n .all-terms)) ≡ false = neither-second (ltb 256 (n .all-constructs)) (ltb 64 (n .variables) || ltb 1024 (n .all-terms)) q
     in record {
-      few-rules = ltb-false 64 (n .rules) (or-first (ltb 64 (n .rules)) (ltb 256 (n .all-constructs) || (ltb 64 (n .variables) || ltb 1024 (n .all-terms))) p);
-      few-constructs = ltb-false 256 (n .all-constructs) (or-first (ltb 256 (n .all-constructs)) (ltb 64 (n .variables) || ltb 1024 (n .all-terms)) q);
-      few-variables = ltb-false 64 (n .variables) (or-first (ltb 64 (n .variables)) (ltb 1024 (n .all-terms)) r);
-      few-terms = ltb-false 1024 (n .all-terms) (or-later (ltb 64 (n .variables)) (ltb 1024 (n .all-terms)) r);
+      few-rules = ltb-false 64 (n .rules) (neither-first (ltb 64 (n .rules)) (ltb 256 (n .all-constructs) || (ltb 64 (n .variables) || ltb 1024 (n .all-terms))) p);
+      few-constructs = ltb-false 256 (n .all-constructs) (neither-first (ltb 256 (n .all-constructs)) (ltb 64 (n .variables) || ltb 1024 (n .all-terms)) q);
+      few-variables = ltb-false 64 (n .variables) (neither-first (ltb 64 (n .variables)) (ltb 1024 (n .all-terms)) r);
+      few-terms = ltb-false 1024 (n .all-terms) (neither-second (ltb 64 (n .variables)) (ltb 1024 (n .all-terms)) r);
     }

@@ -6,6 +6,7 @@ use mathlib.Core.Bool.{Bool, true, false, _||_}
 use mathlib.Core.List.{List, [], _∷_, _++_}
 use mathlib.Core.Option.{Option, none, some}
 use native.Mathlib.Omega.{arith}
+use Rattle.basis.proofs.Booleans.{either-second}
 use Rattle.tree_store.proofs.Holding.{compared}
 use Rattle.text_names.specs.Counting.{nowhere, place-if, any-of, any-between}
 use Rattle.tree_meaning.specs.Places.{place-if as listed-if, lesser, least}
@@ -138,10 +139,6 @@ unfolding any-of
 any-false zero i f h = refl
 any-false (suc n) i f h = any-suc n i f ∙ ap₂ _||_ (h i (omega arith) (omega arith)) (any-false n (i + 1) f (λ j a b. h j (omega arith) (omega arith)))
 
-or-second : (a b : Bool) → b ≡ true → (a || b) ≡ true
-or-second true b e = refl
-or-second false b e = e
-
 -- one does
 pub any-true : (n i : ℕ) (f : ℕ → Bool) (j : ℕ) → i ≤ j → j < i + n → f j ≡ true → any-of n i f ≡ true
 any-true zero i f j a b e = absurd (omega arith)
@@ -149,4 +146,4 @@ any-true (suc n) i f j a b e =
     any-suc n i f
     ∙ compared j i (λ y. absurd (omega arith))
     (λ (y : j ≡ i). ap (λ (t : Bool). t || any-of n (i + 1) f) (ap f (sym y) ∙ e))
-    (λ y. or-second (f i) (any-of n (i + 1) f) (any-true n (i + 1) f j (omega arith) (omega arith) e))
+    (λ y. either-second (f i) (any-of n (i + 1) f) (any-true n (i + 1) f j (omega arith) (omega arith) e))

@@ -3,7 +3,7 @@
 use Prim.Native.Nat.{ℕ}
 use mathlib.Core.Path.{_≡_, refl, sym, ap, ap₂, _∙_}
 use mathlib.Core.Logic.{⊎-elim}
-use mathlib.Core.Bool.{Bool, true, false, not, _&&_, _||_}
+use mathlib.Core.Bool.{Bool, true, false, cond, not, _&&_, _||_}
 use mathlib.Core.List.{List}
 use mathlib.Core.Option.{Option, none, some}
 use borrow.Author.Tests.{le-leb, lt-leb, ltb-true, ltb-false}
@@ -12,7 +12,7 @@ use lib.IntN.{ℤ, pos, negsuc, negℤ, _+ℤ_, _-ℤ_, _*ℤ_}
 use lib.Signed.{leZ, ltZ}
 use Rattle.basis.specs.Counts.{exactly as just, atLeast, span as from-to}
 use Rattle.basis.proofs.Booleans.{which}
-use Rattle.term_words.specs.Numbers.{pick, equals}
+use Rattle.term_words.specs.Numbers.{equals}
 use Rattle.term_words.specs.Steps.{compares}
 use Rattle.term_trees.specs.Trees.{Calculation as TermCalculation, value, ValueSet as TermSet, has, without, Condition as TermCondition, compare as compared, true-at, repeats, times as multiplied, plus as added, minus as less-by}
 use Rattle.tree.specs.Tree.{Primary, number, variable, Operand, plain, opposite, Factors, no-factor, times, Product, product, Summands, no-summand, plus, minus, Calculation, sum, Item, everything, only, between, from, up-to, SetPart, Choices, item, item-but-item, item-but-set, last-choice, or-choices, ValueSet, Counts, exactly, at-least, at-most, span, Comparison, equal, unequal, less, at-most-as, greater, at-least-as, TestPart, tests, test, conjuncts, disjuncts, Tests, compare, test-group, one-test, all-of, any-of, last-conjunct, and-conjuncts, last-disjunct, or-disjuncts, Condition}
@@ -55,15 +55,15 @@ module _ (numbered : List ℕ → ℕ) (v : List ℤ) where
 
 -- ---- tests in other words
 
-pick-and : (a b : Bool) → pick a b false ≡ (a && b)
+pick-and : (a b : Bool) → cond a b false ≡ (a && b)
 pick-and true b = refl
 pick-and false b = refl
 
-pick-or : (a b : Bool) → pick a true b ≡ (a || b)
+pick-or : (a b : Bool) → cond a true b ≡ (a || b)
 pick-or true b = refl
 pick-or false b = refl
 
-pick-but : (a b : Bool) → pick b false a ≡ (a && not b)
+pick-but : (a b : Bool) → cond b false a ≡ (a && not b)
 pick-but true true = refl
 pick-but true false = refl
 pick-but false true = refl

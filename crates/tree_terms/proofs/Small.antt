@@ -2,7 +2,7 @@
 -- Assumes nothing.
 use Prim.Native.Nat.{ℕ, _^_, _≤_}
 use mathlib.Core.Path.{_≡_, refl, sym, subst, _∙_}
-use mathlib.Core.Bool.{Bool, true, false}
+use mathlib.Core.Bool.{Bool, true, false, cond}
 use mathlib.Core.List.{List, [], _∷_, _++_}
 use native.Mathlib.Omega.{arith}
 use lib.Dec.{ltb, eqb}
@@ -10,7 +10,7 @@ use lib.IntN.{ℤ, pos, natAbs, _+ℤ_, _*ℤ_}
 use lib.ListN.{length, getD}
 use lib.Signed.{leZ}
 use Rattle.term_integers.proofs.Laws.{bounded-in}
-use Rattle.term_words.specs.Numbers.{pick, bounded, equals, pushed, kept, topOf, pairOf}
+use Rattle.term_words.specs.Numbers.{bounded, equals, pushed, kept, topOf, pairOf}
 use Rattle.term_words.specs.Tests.{noted, combined}
 use Rattle.term_words.specs.Steps.{variableOf, binary, unary, operateOf, afterOf, testTop, testPair, operated, compares, stepOf}
 use Rattle.term_words.specs.declared.Joint.{Joint}
@@ -102,7 +102,7 @@ variable-kept : (w : List ℤ) (k : ℕ) (s : Numbers) → natAbs (getD w k (pos
 unfolding variableOf
 variable-kept w k s h = go (ltb k (length w))
   where
-    go : (b : Bool) → Kept s (getD w k (pos 0)) (pick b (kept s (bounded (getD w k (pos 0)))) Outcome.Malformed)
+    go : (b : Bool) → Kept s (getD w k (pos 0)) (cond b (kept s (bounded (getD w k (pos 0)))) Outcome.Malformed)
     go true = small-kept s (getD w k (pos 0)) h
     go false = tt
 
@@ -182,7 +182,7 @@ module _ (k : Kind) (w : List ℤ) (v : ℤ) where
   unfolding noted
   noted-calm s t b = go (ltb t (2 ^ 62)) _
     where
-      go : (x : Bool) (n : ℕ) → Calm Any (pick x (Trial.Running s n) Trial.Malformed)
+      go : (x : Bool) (n : ℕ) → Calm Any (cond x (Trial.Running s n) Trial.Malformed)
       go true n = tt
       go false n = tt
 
@@ -198,7 +198,7 @@ module _ (k : Kind) (w : List ℤ) (v : ℤ) where
   unfolding combined
   combined-calm j s t = go (ltb t 4) _ _
     where
-      go : (x : Bool) (n : ℕ) (b : Bool) → Calm Any (pick x Trial.Malformed (noted s n b))
+      go : (x : Bool) (n : ℕ) (b : Bool) → Calm Any (cond x Trial.Malformed (noted s n b))
       go true n b = tt
       go false n b = noted-calm s n b
 
@@ -225,7 +225,7 @@ module _ (w : List ℤ) (v : ℤ) where
       (λ s′ t′ q. operated-calm v s (size-of w a) (operateOf Mode.Sizes w (lastSign a) s′) t′ (q .1))
   set-calm (between a b) h s t =
       calm-last Kind.Set w v (Two s t (size-of w a) (size-of w b)) Any (calculationTerms a ++ calculationTerms b) Term.Range s t (two-from Kind.Set w v a b (puts Kind.Set w v a (h .0)) (puts Kind.Set w v b (h .1)) s t)
-      (λ s′ t′ q. pair-calm Kind.Set w v (λ x y. pick (leZ x v) (leZ v y) false) (pairOf s′) t′)
+      (λ s′ t′ q. pair-calm Kind.Set w v (λ x y. cond (leZ x v) (leZ v y) false) (pairOf s′) t′)
   set-calm (from a) h s t =
       calm-last Kind.Set w v (Put s t (size-of w a)) Any (calculationTerms a) Term.From s t (puts Kind.Set w v a h s t) (λ s′ t′ q. top-calm Kind.Set w v (λ x. leZ x v) (topOf s′) t′)
   set-calm (upTo b) h s t =
@@ -246,7 +246,7 @@ module _ (w : List ℤ) (v : ℤ) where
 last-calm : (s : Numbers) (t i at : ℕ) → ofTested (lastOf s t) i ≡ Sized.Exceeds at → ⊥
 last-calm Numbers.Zero t i at e = two (eqb t 2) (eqb t 3) e
   where
-    two : (a b : Bool) → ofTested (pick a Tested.No (pick b Tested.Yes Tested.Malformed)) i ≡ Sized.Exceeds at → ⊥
+    two : (a b : Bool) → ofTested (cond a Tested.No (cond b Tested.Yes Tested.Malformed)) i ≡ Sized.Exceeds at → ⊥
     two true b f = let z : _≡_ {A = ℕ} 0 1 = cc in absurd (omega arith)
     two false true f = let z : _≡_ {A = ℕ} 0 1 = cc in absurd (omega arith)
     two false false f = let z : _≡_ {A = ℕ} 0 1 = cc in absurd (omega arith)

@@ -3,10 +3,9 @@
 -- Assumes nothing.
 use Prim.Native.Nat.{ℕ}
 use mathlib.Core.Path.{_≡_, refl, sym, ap, ap₂, _∙_}
-use mathlib.Core.Bool.{Bool, true, false, _||_, or-false}
+use mathlib.Core.Bool.{Bool, true, false, cond, _||_, or-false}
 use mathlib.Core.List.{List, [], _∷_, _++_}
 use mathlib.Core.Option.{Option, none, some}
-use Rattle.term_words.specs.Numbers.{pick}
 use Rattle.term_words.specs.declared.Term.{Term as WordTerm}
 use Rattle.term_evaluation.specs.Variables.{isUse, usesVariable, hasVariable}
 use Rattle.term_trees.specs.Trees.{Calculation as TermCalculation, times as multiplied, plus as added, minus as less-by, ValueSet as TermSet, without}
@@ -18,7 +17,7 @@ use Rattle.tree_terms.specs.Terms.{set-after, primary-tree, operand-tree
 
 -- ---- lists
 
-pick-or : (a b : Bool) → pick a true b ≡ (a || b)
+pick-or : (a b : Bool) → cond a true b ≡ (a || b)
 pick-or true b = refl
 pick-or false b = refl
 
@@ -118,7 +117,7 @@ parts-both (joined-by s ∷ f) g = parts-both f g
 -- a sign at the end is none
 sign-last : (xs : List WordTerm) (x : WordTerm) → usesVariable x ≡ false → hasVariable (xs ++ (x ∷ [])) ≡ hasVariable xs
 unfolding hasVariable
-sign-last xs x e = some-variable xs (x ∷ []) ∙ (ap (λ (b : Bool). hasVariable xs || pick b true false) e ∙ or-false (hasVariable xs))
+sign-last xs x e = some-variable xs (x ∷ []) ∙ (ap (λ (b : Bool). hasVariable xs || cond b true false) e ∙ or-false (hasVariable xs))
 
 -- in the set that stands before
 abbrev in-before : Option TermSet → Bool

@@ -1,0 +1,2 @@
+-- The fields of a kiosk's run.
+pub mod Fields
