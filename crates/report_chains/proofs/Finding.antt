@@ -30,6 +30,7 @@ module _ {Context Values : Type 0} (g : Grammar Context Values) where
     where
       then : (js : List ℕ) (r : Rest) (y : Bits) → Chained (is ++ js) r (q .bits ++ y) → Chained (m ∷ (is ++ js)) r ((p .bits ++ q .bits) ++ y)
       then js r y (l, s) = subst (λ (x : Bits). Chained (m ∷ (is ++ js)) r x) (sym (append-assoc (p .bits) (q .bits) y)) (p .goes (is ++ js) r (q .bits ++ y) l s)
+
       both : (js : List ℕ) (r : Rest) (y : Bits) (l : List Step) → Spells g js r y l → Chained ((m ∷ is) ++ js) r ((p .bits ++ q .bits) ++ y)
       both js r y l s = then js r y (q .goes js r y l s)
 
@@ -74,8 +75,12 @@ module _ {Context Values : Type 0} (g : Grammar Context Values) where
   then-after {is} {i} {a} {b} {z} p q e = by (p .goes [] (after i) (q .bits) (q .steps) (q .spells))
     where
       by : Chained (is ++ []) (after i) (p .bits ++ q .bits) → FoundAfter is i z
-      by (l, s) = record { bits = p .bits ++ q .bits; steps = l; window = e ∙ (ap₂ join (p .window) (q .window) ∙ sym (lookahead-append (p .bits) (q .bits)));
-          spells = subst (λ (js : List ℕ). Spells g js (after i) (p .bits ++ q .bits) l) (append-nil is) s }
+      by (l, s) = record {
+        bits = p .bits ++ q .bits;
+        steps = l;
+        window = e ∙ (ap₂ join (p .window) (q .window) ∙ sym (lookahead-append (p .bits) (q .bits)));
+        spells = subst (λ (js : List ℕ). Spells g js (after i) (p .bits ++ q .bits) l) (append-nil is) s;
+      }
 
   -- what follows a part in place of what follows its owner
   part : {is : List ℕ} {i b : ℕ} {x : Bits} → ((y : Bits) (l : List Step) → Spells g is (after i) y l → Chained [] (after b) y) → FoundAfter is i x → FoundAfter [] b x

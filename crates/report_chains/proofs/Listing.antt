@@ -1,6 +1,6 @@
 -- A listed chain's fields spell its window: the bits that are not listed are those past the eighth.
 -- Assumes nothing.
-use Prim.Native.Nat.{ℕ, zero, suc, _-_}
+use Prim.Native.Nat.{ℕ, zero, suc, _-_, min}
 use mathlib.Core.Path.{_≡_, refl, sym, _∙_, ap, ap₂}
 use mathlib.Core.List.{List, [], _∷_, _++_}
 use native.Mathlib.Nat.{zero-sub, sub-zero, suc-sub-suc}
@@ -27,10 +27,10 @@ fields-listed (suc n) [] = refl
 fields-listed n (takes i bits ∷ l) = still-wanted n (takes i (take n bits) ∷ listed (n - length bits) l) (bits ++ fields l)
     (ap (take n bits ++_) (fields-listed (n - length bits) l) ∙ sym (take-parts n bits (fields l)))
 fields-listed n (enters i ∷ l) = still-wanted n (enters i ∷ listed n l) (fields l) (fields-listed n l)
-fields-listed n (repeats i k ∷ l) = still-wanted n (repeats i k ∷ listed n l) (fields l) (fields-listed n l)
+fields-listed n (repeats i k ∷ l) = still-wanted n (repeats i (min 8 k) ∷ listed n l) (fields l) (fields-listed n l)
 fields-listed n (ends i ∷ l) = still-wanted n (ends i ∷ listed n l) (fields l) (fields-listed n l)
 fields-listed n (leaves i ∷ l) = still-wanted n (leaves i ∷ listed n l) (fields l) (fields-listed n l)
-fields-listed n (goes-on i k ∷ l) = still-wanted n (goes-on i k ∷ listed n l) (fields l) (fields-listed n l)
+fields-listed n (goes-on i k ∷ l) = still-wanted n (goes-on i (min 8 k) ∷ listed n l) (fields l) (fields-listed n l)
 fields-listed n (frame-end ∷ l) = still-wanted n (frame-end ∷ listed n l) (fields l) (fields-listed n l)
 
 -- the fields of a whole chain take all that it spells

@@ -43,8 +43,13 @@ module _ {Context Values : Type 0} (g : Grammar Context Values) where
   parted (m ∷ ms) {is} {y = w} (First.more-members {x = u} {y = v} f fs e) = joined-up (parted ms fs)
     where
       joined-up : Parted ms is v → Parted (m ∷ ms) is w
-      joined-up p = record { one = join u (p .one); two = p .two; first-one = First.more-members f (p .first-one) refl; first-two = p .first-two;
-          both = ap lookahead e ∙ (cut-once (u ++ v) ∙ (sym (join-back u v) ∙ (ap (join u) (p .both) ∙ sym (join-assoc u (p .one) (p .two))))) }
+      joined-up p = record {
+        one = join u (p .one);
+        two = p .two;
+        first-one = First.more-members f (p .first-one) refl;
+        first-two = p .first-two;
+        both = ap lookahead e ∙ (cut-once (u ++ v) ∙ (sym (join-back u v) ∙ (ap (join u) (p .both) ∙ sym (join-assoc u (p .one) (p .two)))));
+      }
 
   as-passes : (k : ℕ) {b : ℕ} {y : Bits} → First g (members (replicate k b)) y → First g (passes b k) y
   as-passes zero First.no-members = First.no-passes
@@ -64,8 +69,13 @@ module _ {Context Values : Type 0} (g : Grammar Context Values) where
   gathered ms {i} {is} {r} {x} up p = by (parted ms (p .first))
     where
       by : Parted ms is (p .front) → Read (i ∷ is) r x
-      by q = record { front = join (q .one) (q .two); back = p .back; first = First.more-members (up (q .one) (q .first-one)) (q .first-two) refl; behind = p .behind;
-          joined = p .joined ∙ (sym (join-front (p .front) (p .back)) ∙ ap (λ (s : Bits). join s (p .back)) (q .both)) }
+      by q = record {
+        front = join (q .one) (q .two);
+        back = p .back;
+        first = First.more-members (up (q .one) (q .first-one)) (q .first-two) refl;
+        behind = p .behind;
+        joined = p .joined ∙ (sym (join-front (p .front) (p .back)) ∙ ap (λ (s : Bits). join s (p .back)) (q .both));
+      }
 
   -- what follows a construct in place of what follows its owner
   moved : {i b : ℕ} {x : Bits} → ((z : Bits) → Follow g i z → Follow g b z) → Read [] (after i) x → Read [] (after b) x
@@ -73,8 +83,13 @@ module _ {Context Values : Type 0} (g : Grammar Context Values) where
 
   -- what follows a construct in place of constructs after it and what follows its owner
   followed : {i b : ℕ} {is : List ℕ} {x : Bits} → ((y z : Bits) → First g (members is) y → Follow g i z → Follow g b (join y z)) → Read is (after i) x → Read [] (after b) x
-  followed down p = record { front = []; back = join (p .front) (p .back); first = First.no-members; behind = down (p .front) (p .back) (p .first) (p .behind);
-      joined = p .joined ∙ sym (cut-once (p .front ++ p .back)) }
+  followed down p = record {
+    front = [];
+    back = join (p .front) (p .back);
+    first = First.no-members;
+    behind = down (p .front) (p .back) (p .first) (p .behind);
+    joined = p .joined ∙ sym (cut-once (p .front ++ p .back));
+  }
 
   -- of a construct whose node is known
   at : {i : ℕ} {n : Node Context Values} {a : Bits} → g .node i ≡ n → First g (construct i n) a → First g (construct i (g .node i)) a
@@ -85,13 +100,23 @@ module _ {Context Values : Type 0} (g : Grammar Context Values) where
   reads (Spells.by-field {i = i} {is = is} {r = r} {x = x} {y = y} bits q n a s e) = by (reads s)
     where
       by : Read is r (lookahead y) → Read (i ∷ is) r (lookahead x)
-      by p = record { front = join (lookahead bits) (p .front); back = p .back; first = First.more-members (at q (First.of-field bits n a refl)) (p .first) refl; behind = p .behind;
-          joined = ap lookahead e ∙ (lookahead-append bits y ∙ (ap (join (lookahead bits)) (p .joined) ∙ sym (join-assoc (lookahead bits) (p .front) (p .back)))) }
+      by p = record {
+        front = join (lookahead bits) (p .front);
+        back = p .back;
+        first = First.more-members (at q (First.of-field bits n a refl)) (p .first) refl;
+        behind = p .behind;
+        joined = ap lookahead e ∙ (lookahead-append bits y ∙ (ap (join (lookahead bits)) (p .joined) ∙ sym (join-assoc (lookahead bits) (p .front) (p .back))));
+      }
   reads (Spells.by-eod {i = i} {is = is} {r = r} {x = x} q s) = by (reads s)
     where
       by : Read is r (lookahead x) → Read (i ∷ is) r (lookahead x)
-      by p = record { front = join [] (p .front); back = p .back; first = First.more-members (at q First.of-eod) (p .first) refl; behind = p .behind;
-          joined = p .joined ∙ sym (join-front (p .front) (p .back)) }
+      by p = record {
+        front = join [] (p .front);
+        back = p .back;
+        first = First.more-members (at q First.of-eod) (p .first) refl;
+        behind = p .behind;
+        joined = p .joined ∙ sym (join-front (p .front) (p .back));
+      }
   reads (Spells.by-branch q m s) = owned (λ a f. at q (First.of-alternative m f)) (reads s)
   reads (Spells.by-case q m s) = owned (λ a f. at q (First.of-switch m f)) (reads s)
   reads (Spells.by-use q s) = owned (λ a f. at q (First.of-use f)) (reads s)

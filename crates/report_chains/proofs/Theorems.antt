@@ -8,8 +8,9 @@ use Rattle.basis.specs.Lookahead.{lookahead, join}
 use Rattle.basis.proofs.Joins.{join-back, join-assoc}
 use Rattle.theory.specs.Grammar.{Grammar}
 use Rattle.theory.specs.Derivation.{Shape, construct, members}
-use Rattle.theory.specs.Lookahead.{First, Follow, Predicted}
-use Rattle.report_chains.specs.Chains.{Step, Rest, nothing, after, Spells, listed, Lists, Yields, YieldsAfter, YieldsAlone, fields}
+use Rattle.theory.specs.Lookahead.{First, Follow, Predicted, Conflict}
+use Rattle.theory.proofs.Prediction.{continue-predicted}
+use Rattle.report_chains.specs.Chains.{Step, Rest, nothing, after, Spells, listed, Lists, Yields, YieldsAfter, YieldsAlone, fields, Explained}
 use Rattle.report_chains.proofs.Reading.{cut-once, Read, reads}
 use Rattle.report_chains.proofs.Finding.{Found, found, FoundAfter, found-after, then-after}
 use Rattle.report_chains.proofs.Listing.{fields-listed, fields-spell}
@@ -48,7 +49,7 @@ module _ {Context Values : Type 0} (g : Grammar Context Values) where
   of-one : {i : ℕ} {x y z : Bits} → First g (members (i ∷ [])) y → z ≡ [] → x ≡ join y z → First g (construct i (g .node i)) x
   of-one {i} {x} {y} {z} (First.more-members {x = a} f First.no-members e) n q =
       subst (First g (construct i (g .node i)))
-        (sym (q ∙ (ap (join y) n ∙ (ap lookahead (append-nil y ∙ e) ∙ (cut-once (a ++ []) ∙ (ap lookahead (append-nil a) ∙ first-cut f)))))) f
+      (sym (q ∙ (ap (join y) n ∙ (ap lookahead (append-nil y ∙ e) ∙ (cut-once (a ++ []) ∙ (ap lookahead (append-nil a) ∙ first-cut f)))))) f
 
   -- a listed chain yields a window of its set
   pub yields-predicted : {i : ℕ} {x : Bits} {chain : List Step} → Yields g i x chain → Predicted g i x
@@ -91,5 +92,17 @@ module _ {Context Values : Type 0} (g : Grammar Context Values) where
     where
       by : (bits : Bits) → x ≡ lookahead bits → (l : List Step) × Spells g (i ∷ []) nothing bits l → (chain : List Step) × YieldsAlone g i x chain
       by bits e (l, s) = (listed 8 l, record { bits = bits; steps = l; spells = s; window = e; begins = refl })
+
       alone : Found g (i ∷ []) x → (chain : List Step) × YieldsAlone g i x chain
       alone p = by (p .bits ++ []) (p .window ∙ ap lookahead (sym (append-nil (p .bits)))) (p .goes [] nothing [] [] Spells.spelt)
+
+  -- each clash has a chain for both of its sides
+  pub conflict-explained : {i : ℕ} {x : Bits} → Conflict g i x → Explained g i x
+  conflict-explained {i} {x} (Conflict.of-branches {a = a} {b = b} q m n d p r) = by (predicted-yields p) (predicted-yields r)
+    where
+      by : (chain : List Step) × Yields g a x chain → (chain : List Step) × Yields g b x chain → Explained g i x
+      by (one, y) (other, z) = Explained.two-branches one other q m n d y z
+  conflict-explained {i} {x} (Conflict.of-passes {b = b} q c f) = by (predicted-yields (continue-predicted g q c)) (follow-yields f)
+    where
+      by : (chain : List Step) × Yields g b x chain → (chain : List Step) × YieldsAfter g i x chain → Explained g i x
+      by (go, y) (stop, z) = Explained.go-and-stop go stop q y z

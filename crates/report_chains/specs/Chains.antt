@@ -1,9 +1,10 @@
 -- How a window comes about: the fields that spell it, in order, through rules, passes and what follows, by the rules of FIRST and FOLLOW (document 01's first and
 -- follow windows). Nothing here is about how a chain is found.
 -- Assumes nothing.
-use Prim.Native.Nat.{ℕ, zero, suc, _-_}
+use Prim.Native.Nat.{ℕ, zero, suc, _-_, min}
 use mathlib.Core.Path.{_≡_}
-use mathlib.Core.Bool.{Bool, true}
+use mathlib.Core.Bool.{Bool, true, false}
+use mathlib.Core.Logic.{_≢_}
 use mathlib.Core.List.{List, [], _∷_, _++_}
 use mathlib.Core.Option.{Option}
 use lib.ListN.{length, take, replicate}
@@ -78,15 +79,16 @@ abbrev pub wanted : ℕ → List Step → List Step
 wanted zero l = []
 wanted (suc n) l = l
 
--- A window has at most 8 bits, and a list ends where they are spelt: the steps up to the field that takes the last of n bits, that field with those bits alone.
+-- A window has at most 8 bits, and a list ends where they are spelt: the steps up to the field that takes the last of n bits, that field with those bits alone. Of passes
+-- 8 stands for 8 or more.
 unfoldable pub listed : ℕ → List Step → List Step
 listed n [] = []
 listed n (takes i bits ∷ l) = wanted n (takes i (take n bits) ∷ listed (n - length bits) l)
 listed n (enters i ∷ l) = wanted n (enters i ∷ listed n l)
-listed n (repeats i k ∷ l) = wanted n (repeats i k ∷ listed n l)
+listed n (repeats i k ∷ l) = wanted n (repeats i (min 8 k) ∷ listed n l)
 listed n (ends i ∷ l) = wanted n (ends i ∷ listed n l)
 listed n (leaves i ∷ l) = wanted n (leaves i ∷ listed n l)
-listed n (goes-on i k ∷ l) = wanted n (goes-on i k ∷ listed n l)
+listed n (goes-on i k ∷ l) = wanted n (goes-on i (min 8 k) ∷ listed n l)
 listed n (frame-end ∷ l) = wanted n (frame-end ∷ listed n l)
 
 -- a listed chain of constructs and of what comes behind them: a chain to the end of both that begins so, and the window that it spells
@@ -120,3 +122,10 @@ fields (ends i ∷ l) = fields l
 fields (leaves i ∷ l) = fields l
 fields (goes-on i k ∷ l) = fields l
 fields (frame-end ∷ l) = fields l
+
+-- Both sides of a clash with their chains: "a window common to two branches of one alternative, or to go and stop". That going on has the window is said from the
+-- body on, as one pass and what follows it.
+pub data Explained {Context Values : Type 0} (g : Grammar Context Values) (i : ℕ) (x : Bits) : Type 0 where
+  two-branches : {a b : ℕ} {is : List ℕ} (one other : List Step) → g .node i ≡ alternative is → a ∈ is → b ∈ is → a ≢ b → Yields g a x one → Yields g b x other → Explained g i x
+  go-and-stop : {b : ℕ} {counts : Context → Values → Counts} {static : Counts} (go stop : List Step) → g .node i ≡ repetition counts static false b
+      → Yields g b x go → YieldsAfter g i x stop → Explained g i x
