@@ -55,6 +55,7 @@ module _ {Context Values : Type 0} (g : Grammar Context Values) where
   found (First.of-eod {i = i}) q = record { bits = []; window = refl; goes = λ js r y l s. (ends i ∷ l, Spells.by-eod q s) }
   found (First.of-alternative m f) q = owner (λ js r y l s. (l, Spells.by-branch q m s)) (found f refl)
   found (First.of-switch m f) q = owner (λ js r y l s. (l, Spells.by-case q m s)) (found f refl)
+  found (First.of-no-case o) q = record { bits = []; window = refl; goes = λ js r y l s. (l, Spells.by-no-case q o s) }
   found (First.of-use {i = i} f) q = owner (λ js r y l s. (enters i ∷ l, Spells.by-use q s)) (found f refl)
   found (First.of-concatenation f) q = owner (λ js r y l s. (l, Spells.by-members q s)) (found f tt)
   found First.no-members q = none-found

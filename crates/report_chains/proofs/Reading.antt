@@ -119,6 +119,16 @@ module _ {Context Values : Type 0} (g : Grammar Context Values) where
       }
   reads (Spells.by-branch q m s) = owned (λ a f. at q (First.of-alternative m f)) (reads s)
   reads (Spells.by-case q m s) = owned (λ a f. at q (First.of-switch m f)) (reads s)
+  reads (Spells.by-no-case {i = i} {is = is} {r = r} {x = x} q o s) = by (reads s)
+    where
+      by : Read is r (lookahead x) → Read (i ∷ is) r (lookahead x)
+      by p = record {
+        front = join [] (p .front);
+        back = p .back;
+        first = First.more-members (at q (First.of-no-case o)) (p .first) refl;
+        behind = p .behind;
+        joined = p .joined ∙ sym (join-front (p .front) (p .back));
+      }
   reads (Spells.by-use q s) = owned (λ a f. at q (First.of-use f)) (reads s)
   reads (Spells.by-members {ms = ms} q s) = gathered ms (λ a f. at q (First.of-concatenation f)) (reads s)
   reads (Spells.by-passes {b = b} k q a s) = gathered (replicate k b) (λ y f. at q (First.of-repetition k a (as-passes k f))) (reads s)

@@ -22,6 +22,7 @@ module _ {Context Values : Type 0} (g : Grammar Context Values) where
   first-cut First.of-eod = refl
   first-cut (First.of-alternative m f) = first-cut f
   first-cut (First.of-switch m f) = first-cut f
+  first-cut (First.of-no-case o) = refl
   first-cut (First.of-use f) = first-cut f
   first-cut (First.of-concatenation f) = first-cut f
   first-cut First.no-members = refl

@@ -46,8 +46,11 @@ pub data Spells {Context Values : Type 0} (g : Grammar Context Values) : List �
   by-eod : {i : ℕ} {is : List ℕ} {r : Rest} {x : Bits} {l : List Step} → g .node i ≡ eod → Spells g is r x l → Spells g (i ∷ is) r x (ends i ∷ l)
   -- "of alternatives and switches, the union"
   by-branch : {i b : ℕ} {is bs : List ℕ} {r : Rest} {x : Bits} {l : List Step} → g .node i ≡ alternative bs → b ∈ bs → Spells g (b ∷ is) r x l → Spells g (i ∷ is) r x l
-  by-case : {i b : ℕ} {is bs : List ℕ} {r : Rest} {x : Bits} {l : List Step} {chosen : Context → Values → Option ℕ}
-      → g .node i ≡ switch chosen bs → b ∈ bs → Spells g (b ∷ is) r x l → Spells g (i ∷ is) r x l
+  by-case : {i b : ℕ} {is bs : List ℕ} {r : Rest} {x : Bits} {l : List Step} {chosen : Context → Values → Option ℕ} {optional : Bool}
+      → g .node i ≡ switch chosen optional bs → b ∈ bs → Spells g (b ∷ is) r x l → Spells g (i ∷ is) r x l
+  -- "a switch without a default also has the empty first window" (Req 02)
+  by-no-case : {i : ℕ} {is bs : List ℕ} {r : Rest} {x : Bits} {l : List Step} {chosen : Context → Values → Option ℕ} {optional : Bool}
+      → g .node i ≡ switch chosen optional bs → optional ≡ true → Spells g is r x l → Spells g (i ∷ is) r x l
   -- "of a rule use, its rule's"
   by-use : {i b : ℕ} {is : List ℕ} {r : Rest} {x : Bits} {l : List Step} {into : Context → Option Context} {opens : Context → Values → Values} {closes : Values → Values → Values}
       → g .node i ≡ use-of into opens closes b → Spells g (b ∷ is) r x l → Spells g (i ∷ is) r x (enters i ∷ l)
@@ -66,8 +69,8 @@ pub data Spells {Context Values : Type 0} (g : Grammar Context Values) : List �
       → g .node i ≡ concatenation (before ++ m ∷ more) → Spells g more (after i) x l → Spells g [] (after m) x l
   -- "of a branch or a case, its owner's"
   after-branch : {i b : ℕ} {bs : List ℕ} {x : Bits} {l : List Step} → g .node i ≡ alternative bs → b ∈ bs → Spells g [] (after i) x l → Spells g [] (after b) x l
-  after-case : {i b : ℕ} {bs : List ℕ} {x : Bits} {l : List Step} {chosen : Context → Values → Option ℕ}
-      → g .node i ≡ switch chosen bs → b ∈ bs → Spells g [] (after i) x l → Spells g [] (after b) x l
+  after-case : {i b : ℕ} {bs : List ℕ} {x : Bits} {l : List Step} {chosen : Context → Values → Option ℕ} {optional : Bool}
+      → g .node i ≡ switch chosen optional bs → b ∈ bs → Spells g [] (after i) x l → Spells g [] (after b) x l
   -- "of a repeated body, zero or more further passes, joined with the repetition's follow": none is no step
   after-passes : {i b : ℕ} {x : Bits} {l : List Step} {counts : Context → Values → Counts} {static : Counts} {fixed : Bool}
       → g .node i ≡ repetition counts static fixed b → Spells g [] (after i) x l → Spells g [] (after b) x l
