@@ -96,5 +96,5 @@ module _ {Context Values : Type 0} (g : Grammar Context Values) where
   found-after (Follow.of-member before more q f w e) = part (λ y l s. (l, Spells.after-member before more q s)) (then-after (found f tt) (found-after w) e)
   found-after (Follow.of-branch q m f) = part (λ y l s. (l, Spells.after-branch q m s)) (found-after f)
   found-after (Follow.of-case q m f) = part (λ y l s. (l, Spells.after-case q m s)) (found-after f)
-  found-after (Follow.of-body zero q f w e) = part (λ y l s. (l, Spells.after-passes q s)) (then-after (found f tt) (found-after w) e)
+  found-after (Follow.of-body zero q f w e) = part (λ y l s. (l, Spells.after-last-pass q s)) (then-after (found f tt) (found-after w) e)
   found-after (Follow.of-body {i = i} (suc k) q f w e) = part (λ y l s. (goes-on i (suc k) ∷ l, Spells.after-pass k q s)) (then-after (found f tt) (found-after w) e)

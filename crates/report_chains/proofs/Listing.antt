@@ -49,5 +49,5 @@ fields-spell g (Spells.after-rule q s) = fields-spell g s
 fields-spell g (Spells.after-member before more q s) = fields-spell g s
 fields-spell g (Spells.after-branch q m s) = fields-spell g s
 fields-spell g (Spells.after-case q m s) = fields-spell g s
-fields-spell g (Spells.after-passes q s) = fields-spell g s
+fields-spell g (Spells.after-last-pass q s) = fields-spell g s
 fields-spell g (Spells.after-pass k q s) = fields-spell g s

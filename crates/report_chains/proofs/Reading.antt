@@ -137,5 +137,5 @@ module _ {Context Values : Type 0} (g : Grammar Context Values) where
   reads (Spells.after-member before more q s) = followed (λ y z f w. Follow.of-member before more q f w refl) (reads s)
   reads (Spells.after-branch q m s) = moved (λ z f. Follow.of-branch q m f) (reads s)
   reads (Spells.after-case q m s) = moved (λ z f. Follow.of-case q m f) (reads s)
-  reads (Spells.after-passes q s) = followed (λ y z f w. Follow.of-body zero q (as-passes zero f) w refl) (reads s)
+  reads (Spells.after-last-pass q s) = followed (λ y z f w. Follow.of-body zero q (as-passes zero f) w refl) (reads s)
   reads (Spells.after-pass k q s) = followed (λ y z f w. Follow.of-body (suc k) q (as-passes (suc k) f) w refl) (reads s)

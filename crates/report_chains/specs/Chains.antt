@@ -72,7 +72,7 @@ pub data Spells {Context Values : Type 0} (g : Grammar Context Values) : List �
   after-case : {i b : ℕ} {bs : List ℕ} {x : Bits} {l : List Step} {chosen : Context → Values → Option ℕ} {optional : Bool}
       → g .node i ≡ switch chosen optional bs → b ∈ bs → Spells g [] (after i) x l → Spells g [] (after b) x l
   -- "of a repeated body, zero or more further passes, joined with the repetition's follow": none is no step
-  after-passes : {i b : ℕ} {x : Bits} {l : List Step} {counts : Context → Values → Counts} {static : Counts} {fixed : Bool}
+  after-last-pass : {i b : ℕ} {x : Bits} {l : List Step} {counts : Context → Values → Counts} {static : Counts} {fixed : Bool}
       → g .node i ≡ repetition counts static fixed b → Spells g [] (after i) x l → Spells g [] (after b) x l
   after-pass : {i b : ℕ} {x : Bits} {l : List Step} {counts : Context → Values → Counts} {static : Counts} {fixed : Bool} (k : ℕ)
       → g .node i ≡ repetition counts static fixed b → Spells g (replicate (suc k) b) (after i) x l → Spells g [] (after b) x (goes-on i (suc k) ∷ l)
