@@ -1,0 +1,2 @@
+-- What a listed chain says of a window.
+pub mod Chains
