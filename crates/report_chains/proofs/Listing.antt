@@ -41,6 +41,7 @@ fields-spell g (Spells.by-field bits q n a s e) = ap (bits ++_) (fields-spell g 
 fields-spell g (Spells.by-eod q s) = fields-spell g s
 fields-spell g (Spells.by-branch q m s) = fields-spell g s
 fields-spell g (Spells.by-case q m s) = fields-spell g s
+fields-spell g (Spells.by-no-case q o s) = fields-spell g s
 fields-spell g (Spells.by-use q s) = fields-spell g s
 fields-spell g (Spells.by-members q s) = fields-spell g s
 fields-spell g (Spells.by-passes k q a s) = fields-spell g s
