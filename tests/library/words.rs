@@ -292,7 +292,8 @@ impl Words<'_> {
             }
             j = self.after(j)?;
         }
-        Ok(Act::Fail)
+        // no case is true, and there is no default
+        Ok(Act::Leave)
     }
 
     fn turn(&self, i: usize, passes: u64, allowed: Option<(u64, Option<u64>)>, position: usize) -> Act {
