@@ -44,14 +44,38 @@ fn seeds(table: &[u32], family: &mut [u64])
     }
 }
 
+fn apply_known(table: &[u32], family: &mut [u64], i: usize) {
+    if i < SETS_HELD {
+        apply(table, family, i);
+    }
+}
+
+// Each construct in the order.
+fn pass(table: &[u32], order: &[usize], family: &mut [u64])
+{
+    let mut k = 0;
+    while k < order.len() {
+        apply_known(table, family, order[k]);
+        k += 1;
+    }
+}
+
 // FIRST of each construct, and of the opening use, in the family's words, whatever they were.
-pub fn first(table: &[u32], family: &mut [u64])
+pub fn first_by(table: &[u32], order: &[usize], family: &mut [u64])
     requires { ⌜ length (now family) ≡ family-words ⌝ }
     ensures { λ r. ⌜ FirstSets (now (table .entry)) (now (family .exit)) ⌝ }
 {
     seeds(table, family);
+    pass(table, order, family);
     let mut more = true;
     while more {
         more = round(table, family);
     }
+}
+
+pub fn first(table: &[u32], family: &mut [u64])
+{
+    let mut order = [SETS_HELD; SETS_HELD];
+    crate::order::fill(table, &mut order);
+    first_by(table, &order, family);
 }

@@ -136,12 +136,29 @@ fn starts(family: &mut [u64])
     }
 }
 
+fn push_known(table: &[u32], first: &[u64], family: &mut [u64], i: usize) {
+    if i < SETS_HELD {
+        push(table, first, family, i);
+    }
+}
+
+// Each construct in the order.
+fn pass(table: &[u32], order: &[usize], first: &[u64], family: &mut [u64])
+{
+    let mut k = order.len();
+    while 0 < k {
+        k -= 1;
+        push_known(table, first, family, order[k]);
+    }
+}
+
 // FOLLOW of each construct, and of the opening use, in the family's words, whatever they were; `first` has FIRST.
-pub fn follow(table: &[u32], first: &[u64], family: &mut [u64])
+pub fn follow(table: &[u32], order: &[usize], first: &[u64], family: &mut [u64])
     requires { ⌜ (length (now family) ≡ family-words) × (length (now first) ≡ family-words) × FirstSets (now table) (now first) ⌝ }
     ensures { λ r. ⌜ FollowSets (now (table .entry)) (now (family .exit)) ⌝ }
 {
     starts(family);
+    pass(table, order, first, family);
     let mut more = true;
     while more {
         more = push_all(table, first, family);
