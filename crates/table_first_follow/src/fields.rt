@@ -21,7 +21,7 @@ fn numbered(low: usize, high: usize) -> Set
     let mut out = lookahead::empty();
     let mut n = low;
     while n < high {
-        out = lookahead::union(out, lookahead::single(n));
+        out = lookahead::insert(out, n);
         n += 1;
     }
     out
@@ -37,7 +37,7 @@ fn leading(words: &[u32], start: usize, end: usize, width: u32, low: usize, high
     let mut n = low;
     while n < high {
         if term_prefixes::leads(&marks, width, n as u64) {
-            out = lookahead::union(out, lookahead::single(n));
+            out = lookahead::insert(out, n);
         }
         n += 1;
     }

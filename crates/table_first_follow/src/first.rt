@@ -6,6 +6,7 @@ ghost use Rattle.table_first_follow.specs.Rounds.{Between, FirstStep, Fi
 ghost use Rattle.table_first_follow.specs.Sets.{FirstSets, sets-held, family-words};
 use crate::SETS_HELD;
 use crate::fields;
+use crate::order;
 use crate::parts::either;
 use crate::rules;
 
@@ -44,24 +45,31 @@ fn seeds(table: &[u32], family: &mut [u64])
     }
 }
 
-fn apply_known(table: &[u32], family: &mut [u64], i: usize) {
+// The same for any number; one past the family's is of no construct.
+fn apply_any(table: &[u32], family: &mut [u64], i: usize)
+    requires { ⌜ Between (firstLow (now table)) (firstOf (now table)) (now family) ⌝ }
+    ensures { λ r. ⌜ Between (firstLow (now (table .entry))) (firstOf (now (table .entry))) (now (family .exit)) ⌝ }
+{
     if i < SETS_HELD {
         apply(table, family, i);
     }
 }
 
-// Each construct in the order.
+// Each construct of the order once.
 fn pass(table: &[u32], order: &[usize], family: &mut [u64])
+    requires { ⌜ Between (firstLow (now table)) (firstOf (now table)) (now family) ⌝ }
+    ensures { λ r. ⌜ Between (firstLow (now (table .entry))) (firstOf (now (table .entry))) (now (family .exit)) ⌝ }
 {
     let mut k = 0;
     while k < order.len() {
-        apply_known(table, family, order[k]);
+        apply_any(table, family, order[k]);
         k += 1;
     }
 }
 
-// FIRST of each construct, and of the opening use, in the family's words, whatever they were.
-pub fn first_by(table: &[u32], order: &[usize], family: &mut [u64])
+// FIRST of each construct, and of the opening use, in the family's words, whatever they were: once through the order, whatever it is, and then rounds
+// until nothing grows. Where the order is right, one round sees that all is done.
+pub fn first_in_order(table: &[u32], order: &[usize], family: &mut [u64])
     requires { ⌜ length (now family) ≡ family-words ⌝ }
     ensures { λ r. ⌜ FirstSets (now (table .entry)) (now (family .exit)) ⌝ }
 {
@@ -74,8 +82,10 @@ pub fn first_by(table: &[u32], order: &[usize], family: &mut [u64])
 }
 
 pub fn first(table: &[u32], family: &mut [u64])
+    requires { ⌜ length (now family) ≡ family-words ⌝ }
+    ensures { λ r. ⌜ FirstSets (now (table .entry)) (now (family .exit)) ⌝ }
 {
-    let mut order = [SETS_HELD; SETS_HELD];
-    crate::order::fill(table, &mut order);
-    first_by(table, &order, family);
+    let mut places = [SETS_HELD; SETS_HELD];
+    order::fill(table, &mut places);
+    first_in_order(table, &places, family);
 }

@@ -1,6 +1,8 @@
 // An order in which each construct comes after those that its FIRST set is made of: rules after the rules that they use, and of a rule the last
 // construct first. Rules that reach themselves, and those that use them, are left out. Only the time depends on the order: the rounds after it
 // look at every construct.
+ghost use Prim.Native.Nat.{_<_};
+ghost use Rattle.basis.specs.Limits.{max-rules};
 use basis::MAX_CONSTRUCTS;
 use basis::MAX_RULES;
 use table_layout::OPENING;
@@ -25,7 +27,9 @@ fn put(order: &mut [usize], n: usize, i: usize) -> usize {
 }
 
 // The constructs of rule r.
-fn put_rule(table: &[u32], order: &mut [usize], n: usize, r: usize) -> usize {
+fn put_rule(table: &[u32], order: &mut [usize], n: usize, r: usize) -> usize
+    requires { ⌜ r < max-rules ⌝ }
+{
     let first = word(table, RULES_AT + 4 * r);
     let mut i = at_most(MAX_CONSTRUCTS, reaching::end_of(table, r));
     let mut count = n;
@@ -37,7 +41,9 @@ fn put_rule(table: &[u32], order: &mut [usize], n: usize, r: usize) -> usize {
 }
 
 // Rule r, if all rules that it uses are there and it is not.
-fn place(table: &[u32], order: &mut [usize], row: u64, old: Placed, r: usize) -> Placed {
+fn place(table: &[u32], order: &mut [usize], row: u64, old: Placed, r: usize) -> Placed
+    requires { ⌜ r < max-rules ⌝ }
+{
     let rules = old.rules;
     let count = old.count;
     if (rules >> r) % 2 == 1 {
@@ -63,6 +69,14 @@ fn place_ready(table: &[u32], order: &mut [usize], rows: &[u64; MAX_RULES], old:
     placed
 }
 
+// One turn fewer, or none where a turn has placed no rule.
+fn turns_left(left: usize, settled: bool) -> usize
+    requires { ⌜ 0 < left ⌝ }
+    ensures { λ r. ⌜ r < left ⌝ }
+{
+    if settled { 0 } else { left - 1 }
+}
+
 // The order of all constructs, the opening use last; numbers past those stay.
 pub fn fill(table: &[u32], order: &mut [usize]) {
     let mut rows = [0u64; MAX_RULES];
@@ -70,9 +84,9 @@ pub fn fill(table: &[u32], order: &mut [usize]) {
     let mut placed = Placed { rules: 0, count: 0 };
     let mut left = MAX_RULES;
     while 0 < left {
-        let next = place_ready(table, order, &rows, placed);
-        left = if next.rules == placed.rules { 0 } else { left - 1 };
-        placed = next;
+        let before = placed.rules;
+        placed = place_ready(table, order, &rows, placed);
+        left = turns_left(left, before == placed.rules);
     }
     put(order, placed.count, OPENING);
 }

@@ -28,9 +28,9 @@ pub fn all(table: &[u32], first: &mut [u64], follow: &mut [u64], prediction: &mu
     ensures { λ r. ⌜ FollowSets (now (table .entry)) (now (follow .exit)) ⌝ }
     ensures { λ r. ⌜ PredictionSets (now (table .entry)) (now (prediction .exit)) ⌝ }
 {
-    let mut order = [SETS_HELD; SETS_HELD];
-    order::fill(table, &mut order);
-    first::first_by(table, &order, first);
-    follow::follow(table, &order, first, follow);
+    let mut places = [SETS_HELD; SETS_HELD];
+    order::fill(table, &mut places);
+    first::first_in_order(table, &places, first);
+    follow::follow(table, &places, first, follow);
     join_all(first, follow, prediction);
 }
