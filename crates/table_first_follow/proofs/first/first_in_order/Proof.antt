@@ -1,11 +1,11 @@
--- `table_first_follow::first::first` meets its contract. The invariant: the sets lie between those of the fields and FIRST, and after a round without growth they are closed. The measure is twice the room for growth, and one more before a last round. Assumes nothing.
+-- `table_first_follow::first::first_in_order` meets its contract. The invariant: the sets lie between those of the fields and FIRST, and after a round without growth they are closed. The measure is twice the room for growth, and one more before a last round. Assumes nothing.
 use Prim.Native.Nat.{_<_}
 use mathlib.Core.Bool.{Bool}
 use mathlib.Core.Path.{sym, subst, _∙_}
 use Rattle.table_first_follow.specs.Rounds.{first-low, first-of, FirstClosed, From}
 use Rattle.table_first_follow.proofs.RoundLaws.{Settling, left-to-do, settle-start, settle-more, settle-less, first-done}
-use Rattle.table_first_follow.proofs.first.first.Statement.{statement}
-use Rattle.table_first_follow.proofs.first.first.Tie as tie
+use Rattle.table_first_follow.proofs.first.first_in_order.Statement.{statement}
+use Rattle.table_first_follow.proofs.first.first_in_order.Tie as tie
 
 abbrev Inv-loop : tie.InvT-loop
 Inv-loop table family₀ more₀ family more = Settling (first-low table) (first-of table) (From (FirstClosed table) 0) family more
@@ -45,8 +45,8 @@ returns c =
     let l = c .before .loop in
     first-done (c .before .before .before .before .before .before .before .before .args .table .now) (l .family) (l .inv .between) (l .inv .closed (c .loop-test .left))
 
-pub first-spec : {M : Type 1} → statement M
-first-spec =
+pub first-in-order-spec : {M : Type 1} → statement M
+first-in-order-spec =
     tie.close
     (tie.spec
     Inv-loop
