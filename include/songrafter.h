@@ -40,7 +40,7 @@ extern "C" {
 #define SONGRAFTER_VARIABLES 64u        /* values of a run */
 
 /* Stack, in bytes, that is enough for each call: more than any text, table or run that was tried took (`sh
- * tests/figures`); the tests run the calls on stacks of exactly this size, with an unmapped page below. */
+ * tests/figures/run`); the tests run the calls on stacks of exactly this size, with an unmapped page below. */
 #define SONGRAFTER_STACK_ADMIT 204800u /* songrafter_admit */
 #define SONGRAFTER_STACK_OPEN 65536u   /* songrafter_open */
 #define SONGRAFTER_STACK_GRANT 24576u  /* songrafter_grant */
