@@ -23,7 +23,7 @@ use Rattle.tree_meaning.specs.Counted.{refusal-5}
 use Rattle.tree_meaning.specs.Names.{refusal-6}
 use Rattle.tree_meaning.specs.Sizes.{refusal-8}
 use Rattle.tree_meaning.specs.Grammar.{construct-at, tree-grammar}
-use Rattle.tree_meaning.specs.Rows.{start-rule}
+use Rattle.tree_meaning.specs.Reaching.{start-rule}
 use Rattle.tree_store.proofs.Standing.{SpelledBy}
 use Rattle.tree_agreement.proofs.SameSets.{SameSets}
 use Rattle.tree_agreement.proofs.Texts.{text-sets}
