@@ -7,6 +7,7 @@ pub mod NameCases
 pub mod SizeCases
 pub mod LimitCases
 pub mod Reached
+pub mod Unreached
 pub mod ReachCases
 pub mod LeastLaws
 pub mod Bounds
