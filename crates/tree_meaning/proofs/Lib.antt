@@ -9,6 +9,8 @@ pub mod LimitCases
 pub mod Reached
 pub mod Unreached
 pub mod ReachCases
+pub mod Valued
+pub mod ValueCases
 pub mod LeastLaws
 pub mod Bounds
 pub mod Lengths
