@@ -2,11 +2,13 @@
 -- Assumes nothing.
 use Prim.Native.Nat.{ℕ, _+_, _≤_, _<_}
 use mathlib.Core.Path.{_≡_, refl, sym, ap, subst, _∙_}
+use mathlib.Core.Bool.{cond}
 use mathlib.Core.List.{List, [], _∷_}
 use mathlib.Core.Option.{Option, some}
 use native.Mathlib.Omega.{arith}
 use native.Mathlib.Decide.{decLt}
-use lib.ListN.{drop, getD}
+use lib.Dec.{eqb}
+use lib.ListN.{drop}
 use Rattle.text_header.specs.Header.{header-of}
 use Rattle.text_header.specs.declared.Heading.{Heading}
 use Rattle.text_store.specs.Store.{blank}
@@ -22,8 +24,13 @@ use Rattle.admission.specs.Refusals.{Row, short-table, wrong-size, wrong
 
 -- ---- numbers name rows
 
+-- the first of these with the number n
+abbrev row-in : List Row → ℕ → Row
+row-in [] n = short-table
+row-in (k ∷ more) n = cond (eqb (number k) n) k (row-in more n)
+
 abbrev row-of : ℕ → Row
-row-of n = getD (short-table ∷ short-table ∷ wrong-size ∷ wrong-header ∷ wrong-form ∷ past-limit ∷ wrong-name ∷ recursive ∷ too-large ∷ empty-body ∷ clashing ∷ too-heavy ∷ unreached ∷ no-value ∷ []) n short-table
+row-of n = row-in (short-table ∷ wrong-size ∷ wrong-header ∷ wrong-form ∷ past-limit ∷ wrong-name ∷ recursive ∷ too-large ∷ empty-body ∷ clashing ∷ too-heavy ∷ unreached ∷ no-value ∷ []) n
 
 numbered : (k : Row) → (row-of (number k) ≡ k) × (1 ≤ number k) × (number k < 14)
 numbered short-table = (refl, omega arith, omega arith)
