@@ -40,9 +40,9 @@ all-or false x e = (refl, e)
 -- `a`, `b`: a variable stands in the set
 empty-both : (a b : Bool) (f g : ℕ → Bool) (n : ℕ) → 0 < n → ((k : ℕ) → cond a true (f k) ≡ cond b true (g k)) → a ≡ false → ((k : ℕ) → k < n → f k ≡ false)
     → (b ≡ false) × ((k : ℕ) → k < n → g k ≡ false)
-empty-both a b f g n some same e h =
-    let at : (k : ℕ) → k < n → cond b true (g k) ≡ false = λ k l. sym (same k) ∙ (λ t. cond (e t) true (h k l t)) in
-    (all-or b (g 0) (at 0 some) .0, λ k l. all-or b (g k) (at k l) .1)
+empty-both a b f g n l same e h =
+    let at : (k : ℕ) → k < n → cond b true (g k) ≡ false = λ k m. sym (same k) ∙ (λ t. cond (e t) true (h k m t)) in
+    (all-or b (g 0) (at 0 l) .0, λ k m. all-or b (g k) (at k m) .1)
 
 -- ---- what is read of the words, with the state in one piece
 
