@@ -12,7 +12,7 @@ enum-told : tie.Need-enum-told
 enum-told c = search needs
 
 judge-values-requires : tie.Need-judge-values-requires
-judge-values-requires c κs = ?jv
+judge-values-requires c κs = let s = c .before .before .before .before .before in (record { passed = s .pre .0; reached = subst (Covered (s .args .table .now)) (c .enum-told .given .1) (c .before .before .unreached-rule .ensures) }, s .pre .1, s .pre .2)
 
 enum-known-rule : tie.Need-enum-known-rule
 enum-known-rule c = search needs
@@ -21,7 +21,7 @@ returns : tie.Need-returns
 returns c = search needs
 
 returns-2 : tie.Need-returns-2
-returns-2 c = ?r2
+returns-2 c = let s = c .before .before .before .before .before .before in let ws = s .args .table .now in let p = s .pre .0 in (p .passed, light-of ws (s .args .weight) (p .weighs) (p .limited), subst (Covered ws) (c .before .rule .given .1) (c .before .before .before .unreached-rule .ensures))
 
 pub judge-reach-spec : {M : Type 1} → statement M
 judge-reach-spec =
