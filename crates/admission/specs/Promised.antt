@@ -10,9 +10,9 @@ use Rattle.text_admission.specs.Admitted.{Answers}
 use Rattle.text_admission.specs.declared.Admission.{Admission}
 use Rattle.admission.specs.Refusals.{Exactly}
 
--- 0, or 1 to 11; "A refused grammar changes no word of the table", "Words past 16,384 are neither read nor changed"
+-- 0, or 1 to 13; "A refused grammar changes no word of the table", "Words past 16,384 are neither read nor changed"
 pub record TextAnswered (old new : List ℕ) (answer : Admission) : Type 0 where
-  pub number : number-of answer ≤ 11
+  pub number : number-of answer ≤ 13
   pub refused : (number-of answer ≡ 0 → ⊥) → new ≡ old
   pub length-kept : length new ≡ length old
   pub beyond : drop table-words new ≡ drop table-words old

@@ -1,5 +1,5 @@
--- Document 01's table "Numbers of refusal", rows 1 to 11: when each is given, and its place. "1 to 11 are tried in order". Rows 5 to 11 are sentences about
--- the text's syntax tree (`tree_meaning` `Rows`).
+-- Document 01's table "Numbers of refusal", rows 1 to 11, and Req 06's 12 and 13: when each is given, and its place. "1 to 11 are tried in order", "12 and after 11", "13
+-- after that". Rows 5 to 13 are sentences about the text's syntax tree (`tree_meaning` `Rows`).
 -- Assumes nothing.
 use Prim.Native.Nat.{ℕ, _+_, _≤_, _<_}
 use mathlib.Core.Path.{_≡_}
@@ -19,7 +19,7 @@ use Rattle.tree.specs.Lexemes.{lexemes}
 use Rattle.tree.specs.Tree.{Rules}
 use Rattle.tree_form.specs.Form.{FirstFault}
 use Rattle.tree_meaning.specs.Grammar.{Context, first-context, Values, construct-at, opening, tree-grammar}
-use Rattle.tree_meaning.specs.Rows.{PastLimit, WrongName, Recursive, TooLarge, EmptyBodies, HasConflict, Clashes, TooHeavy}
+use Rattle.tree_meaning.specs.Rows.{PastLimit, WrongName, Recursive, TooLarge, EmptyBodies, HasConflict, Clashes, TooHeavy, Unreached, NoValues}
 use Rattle.table_conflicts.specs.declared.Clash.{Clash}
 use Rattle.text_admission.specs.Answers.{number-of, place-in, window-in}
 use Rattle.text_admission.specs.declared.Admission.{Admission}
@@ -38,6 +38,8 @@ pub data Row : Type 0 where
   empty-body : Row
   clashing : Row
   too-heavy : Row
+  unreached : Row
+  no-value : Row
 
 -- the column "No."
 abbrev pub number : Row → ℕ
@@ -52,6 +54,8 @@ number too-large = 8
 number empty-body = 9
 number clashing = 10
 number too-heavy = 11
+number unreached = 12
+number no-value = 13
 
 -- ---- the table: the row fits at this place, whatever the others do
 
@@ -71,6 +75,8 @@ Fits text table too-large p = AtPlace text TooLarge p
 Fits text table empty-body p = AtPlace text EmptyBodies p
 Fits text table clashing p = AtPlace text Clashes p
 Fits text table too-heavy p = AtPlace text TooHeavy p
+Fits text table unreached p = AtPlace text Unreached p
+Fits text table no-value p = AtPlace text NoValues p
 
 -- no row below number n fits
 abbrev pub NoneBelow : (text table : List ℕ) → ℕ → Type 0
@@ -118,7 +124,7 @@ pub record Clashed (answer : Admission) (t : Rules) (p : ℕ) : Type 0 where
 
 -- "Given exactly when": an answer has the number and place of the first row that fits, and 0 exactly where none does
 pub record Exactly (text table : List ℕ) (answer : Admission) : Type 0 where
-  pub admitted-iff : (number-of answer ≡ 0) ↔ NoneBelow text table 12
+  pub admitted-iff : (number-of answer ≡ 0) ↔ NoneBelow text table 14
   pub refused-iff : (k : Row) (p : ℕ) → ((number-of answer ≡ number k) × (place-in answer ≡ p)) ↔ First text table k p
   -- 0 carries the text's weight
   pub weight : number-of answer ≡ 0 → (n : ℕ) × (answer ≡ Admission.Admitted n) × OfTree text (Weight n)

@@ -25,4 +25,6 @@ abbrev pub Completed : List ℕ → List ℕ → Judgement → Type 0
 Completed old new (Judgement.EmptyBody construct) = new ≡ old
 Completed old new (Judgement.Conflict construct clash) = new ≡ old
 Completed old new Judgement.Overweight = new ≡ old
+Completed old new (Judgement.Unreached rule) = new ≡ old
+Completed old new (Judgement.NoValue construct) = new ≡ old
 Completed old new (Judgement.Passes weight) = Sound new × Alike old new × (length new ≡ length old) × (drop table-words new ≡ drop table-words old)

@@ -1,16 +1,19 @@
--- The judgement over a table's words: "1 to 11 are tried in order". 5 and 6, and 8's limits of widths and numbers, are what the layout asks (`laid`).
+-- The judgement over a table's words: "1 to 11 are tried in order", then 12 and 13 (Req 06). 5 and 6, and 8's limits of widths and numbers, are what the layout asks (`laid`).
 -- Assumes nothing.
-use Prim.Native.Nat.{ℕ, _≤_, _<_}
+use Prim.Native.Nat.{ℕ, _≤_, _<_, _^_}
 use mathlib.Core.Path.{_≡_}
-use mathlib.Core.Bool.{true}
-use mathlib.Core.List.{List}
+use mathlib.Core.Bool.{true, false}
+use mathlib.Core.List.{List, []}
 use Rattle.basis.specs.Limits.{max-weight}
 use Rattle.theory.specs.Lookahead.{EmptyBody}
 use Rattle.theory.specs.Weight.{Weighs}
 use Rattle.table_layout.specs.Places.{construct-count}
-use Rattle.table_layout.specs.Held.{Context, first-context, held, opening}
+use Rattle.term_evaluation.specs.Variables.{hasVariable}
+use Rattle.table_layout.specs.Constructs.{constructAt}
+use Rattle.table_layout.specs.Held.{Context, first-context, held, opening, terms-of, in-set}
+use Rattle.table_layout.specs.declared.Construct.{Construct}
 use Rattle.table_wellformed.specs.Laid.{laid}
-use Rattle.table_reach.specs.Reaching.{Acyclic}
+use Rattle.table_reach.specs.Reaching.{Acyclic, AllReached, FirstUnreached}
 use Rattle.table_sizes.specs.Measures.{oversized}
 use Rattle.table_conflicts.specs.Conflicts.{Conflicting, Answered}
 use Rattle.table_judge.specs.declared.Judgement.{Judgement}
@@ -20,6 +23,8 @@ abbrev pub number-of : Judgement → ℕ
 number-of (Judgement.EmptyBody construct) = 9
 number-of (Judgement.Conflict construct clash) = 10
 number-of Judgement.Overweight = 11
+number-of (Judgement.Unreached rule) = 12
+number-of (Judgement.NoValue construct) = 13
 number-of (Judgement.Passes weight) = 0
 
 -- the least construct with the property
@@ -61,7 +66,21 @@ module _ (ws : List ℕ) where
     pub passed : Passed9
     pub no-conflict : None (Conflicting ws)
 
-  -- the first of 9 to 11 that is given, or the weight
+  -- the grammar's weight is at most 65,535 (not 11)
+  abbrev pub Light : Type 0
+  Light = Weighing ws (λ n. n ≤ max-weight)
+
+  -- construct i is "a uint whose set has no variable and no value left": none of the values from 0 to 2^width - 1 is in it
+  pub record Valueless (i : ℕ) : Type 0 where
+    pub width : ℕ
+    pub start : ℕ
+    pub end : ℕ
+    pub binder : ℕ
+    pub is-uint : constructAt ws i ≡ Construct.Uint width start end binder
+    pub no-variable : hasVariable (terms-of ws start end) ≡ false
+    pub none-left : (v : ℕ) → v < 2 ^ width → in-set ws start end [] v ≡ false
+
+  -- the first of 9 to 13 that is given, or the weight
   abbrev pub Judged : Judgement → Type 0
   -- 9: "repeated body has the empty first window"
   Judged (Judgement.EmptyBody construct) = Passed8 × Least ws (EmptyBody (held ws)) construct
@@ -69,4 +88,8 @@ module _ (ws : List ℕ) where
   Judged (Judgement.Conflict construct clash) = Passed9 × Least ws (Conflicting ws) construct × Answered ws construct clash
   -- 11: "weight over 65,535"
   Judged Judgement.Overweight = Passed10 × Weighing ws (λ n. max-weight < n)
-  Judged (Judgement.Passes weight) = Passed10 × Weighing ws (λ n. n ≡ weight) × (weight ≤ max-weight)
+  -- 12: "a rule not reached from the start rule, at the first such name"
+  Judged (Judgement.Unreached rule) = Passed10 × Light × FirstUnreached ws rule
+  -- 13: "a uint whose set has no variable and no value left, at the uint"
+  Judged (Judgement.NoValue construct) = Passed10 × Light × AllReached ws × Least ws Valueless construct
+  Judged (Judgement.Passes weight) = Passed10 × Weighing ws (λ n. n ≡ weight) × (weight ≤ max-weight) × AllReached ws × None Valueless

@@ -1,4 +1,4 @@
--- What an answer to a text says: "1 to 11 are tried in order; within one, the smallest place, outer first. A refused grammar changes no word of
+-- What an answer to a text says: "1 to 11 are tried in order", then 12 and 13 (Req 06); "within one, the smallest place, outer first. A refused grammar changes no word of
 -- the table."
 -- Assumes nothing.
 use Prim.Native.Nat.{ℕ, _+_, _≤_, _<_}
@@ -10,10 +10,10 @@ use Rattle.basis.specs.Limits.{max-text-bytes, max-weight}
 use Rattle.theory.specs.Lookahead.{EmptyBody}
 use Rattle.table_layout.specs.Places.{table-words, table-of}
 use Rattle.table_layout.specs.Held.{held}
-use Rattle.table_reach.specs.Reaching.{Reaches, Acyclic}
+use Rattle.table_reach.specs.Reaching.{Reaches, Acyclic, AllReached, FirstUnreached}
 use Rattle.table_conflicts.specs.Conflicts.{Conflicting, Answered}
 use Rattle.table_conflicts.specs.declared.Clash.{Clash}
-use Rattle.table_judge.specs.Judged.{Passed9, Passed10, Least, Weighing}
+use Rattle.table_judge.specs.Judged.{Passed9, Passed10, Least, None, Weighing, Light, Valueless}
 use Rattle.table_judge.specs.Sound.{Sound}
 use Rattle.table_hypotheses.specs.OneTable.{Alike}
 use Rattle.text_header.specs.Header.{header-of}
@@ -99,6 +99,10 @@ pub data RulesRefused (xs : List ℕ) (base : ℕ) : (number place : ℕ) → Ty
   by-empty-body : {st : State} {p place : ℕ} → Bounded xs st → LeastMark st (words-of xs st) p → place ≡ base + p → RulesRefused xs base 9 place
   -- "weight over 65,535", at the "start rule"
   by-weight : {st : State} {place : ℕ} → Bounded xs st → Passed10 (words-of xs st) → Weighing (words-of xs st) (λ n. max-weight < n) → place ≡ base + named-at (rule-words st) 0 → RulesRefused xs base 11 place
+  -- "a rule not reached from the start rule, at the first such name" (Req 06)
+  by-unreached : {st : State} {rule place : ℕ} → Bounded xs st → Passed10 (words-of xs st) → Light (words-of xs st) → FirstUnreached (words-of xs st) rule → place ≡ base + named-at (rule-words st) rule → RulesRefused xs base 12 place
+  -- "a uint whose set has no variable and no value left, at the uint" (Req 06)
+  by-no-value : {st : State} {i place : ℕ} → Bounded xs st → Passed10 (words-of xs st) → Light (words-of xs st) → AllReached (words-of xs st) → Least (words-of xs st) (Valueless (words-of xs st)) i → place ≡ base + place-of (node-words st) i → RulesRefused xs base 13 place
 
 -- 10: "clash; the answer carries the least common window", at "the construct"
 pub record Clashes (xs : List ℕ) (base place construct : ℕ) (clash : Clash) : Type 0 where
@@ -109,12 +113,14 @@ pub record Clashes (xs : List ℕ) (base place construct : ℕ) (clash : Clash) 
   pub answered : Answered (words-of xs st) construct clash
   pub at : place ≡ base + place-of (node-words st) construct
 
--- admitted: the grammar passes 4 to 11, and has this weight
+-- admitted: the grammar passes 4 to 13, and has this weight
 pub record Passes (xs : List ℕ) (st : State) (weight : ℕ) : Type 0 where
   pub passed : Bounded xs st
   pub judged : Passed10 (words-of xs st)
   pub weighs : Weighing (words-of xs st) (λ n. n ≡ weight)
   pub limited : weight ≤ max-weight
+  pub reached : AllReached (words-of xs st)
+  pub valued : None (Valueless (words-of xs st))
 
 -- "each admitted grammar has one table, sound and with unused words 0"; "Words past 16,384 are neither read nor changed."
 pub record Tabled (ws old new : List ℕ) : Type 0 where

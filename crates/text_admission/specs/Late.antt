@@ -1,4 +1,4 @@
--- What the judgement of encoded words answers, 9 to 11. Only the crate's own helpers promise this.
+-- What the judgement of encoded words answers, 9 to 13. Only the crate's own helpers promise this.
 -- Assumes nothing.
 use Prim.Native.Nat.{ℕ, _+_, _≤_, _<_}
 use mathlib.Core.Path.{_≡_}
@@ -11,7 +11,8 @@ use Rattle.table_layout.specs.Places.{construct-count}
 use Rattle.table_layout.specs.Held.{held}
 use Rattle.table_conflicts.specs.Conflicts.{Conflicting, Answered}
 use Rattle.table_conflicts.specs.declared.Clash.{Clash}
-use Rattle.table_judge.specs.Judged.{Passed9, Passed10, Least, Weighing}
+use Rattle.table_reach.specs.Reaching.{AllReached, FirstUnreached}
+use Rattle.table_judge.specs.Judged.{Passed9, Passed10, Least, None, Weighing, Light, Valueless}
 use Rattle.table_judge.specs.Sound.{Sound}
 use Rattle.table_hypotheses.specs.OneTable.{Alike}
 use Rattle.text_store.specs.Words.{place-of, second-place, mark-place, named-at}
@@ -22,10 +23,12 @@ pub record Marks (ns ws : List ℕ) (n p : ℕ) : Type 0 where
   pub below : (i : ℕ) → i < n → EmptyBody (held ws) i → p ≤ mark-place ns i
   pub found : (i : ℕ) → i < n → EmptyBody (held ws) i → (j : ℕ) × (j < n) × EmptyBody (held ws) j × (p ≡ mark-place ns j)
 
--- 9 at the least mark and 11 at the start rule; `base` is where the rules begin
+-- 9 at the least mark, 11 at the start rule, 12 at the rule and 13 at the uint; `base` is where the rules begin
 pub data LateRefused (ns rs : List ℕ) (base : ℕ) (ws : List ℕ) : (number place : ℕ) → Type 0 where
   empty-body : {p i place : ℕ} → i < construct-count ws → EmptyBody (held ws) i → Marks ns ws (construct-count ws) p → place ≡ base + p → LateRefused ns rs base ws 9 place
   overweight : {place : ℕ} → Passed10 ws → Weighing ws (λ n. max-weight < n) → place ≡ base + named-at rs 0 → LateRefused ns rs base ws 11 place
+  unreached : {rule place : ℕ} → Passed10 ws → Light ws → FirstUnreached ws rule → place ≡ base + named-at rs rule → LateRefused ns rs base ws 12 place
+  no-value : {i place : ℕ} → Passed10 ws → Light ws → AllReached ws → Least ws (Valueless ws) i → place ≡ base + place-of ns i → LateRefused ns rs base ws 13 place
 
 -- 10, as `Admitted.Clashes` has it
 pub record LateClash (ns : List ℕ) (base : ℕ) (ws : List ℕ) (place construct : ℕ) (clash : Clash) : Type 0 where
@@ -39,6 +42,8 @@ pub record LatePass (weight : ℕ) (old new : List ℕ) : Type 0 where
   pub judged : Passed10 old
   pub weighs : Weighing old (λ n. n ≡ weight)
   pub limited : weight ≤ max-weight
+  pub reached : AllReached old
+  pub valued : None (Valueless old)
   pub sound : Sound new
   pub same : Alike old new
 

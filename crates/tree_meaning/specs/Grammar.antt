@@ -1,6 +1,7 @@
 -- The grammar that a tree means: its constructs "numbered from 0 in text order, the outer before the inner", each with its place.
 -- Assumes nothing.
-use Prim.Native.Nat.{ℕ, suc, _+_, _*_}
+use Prim.Native.Nat.{ℕ, suc, _+_, _*_, _^_, _<_}
+use mathlib.Core.Path.{_≡_}
 use mathlib.Core.Bool.{Bool, true, false, cond, _&&_}
 use mathlib.Core.List.{List, [], _∷_, _++_}
 use mathlib.Core.Option.{Option, none, some}
@@ -34,15 +35,27 @@ Values = List ℤ
 abbrev pub TreeNode : Type 0
 TreeNode = Node Context Values
 
--- a construct: "its first byte, parentheses around the whole of it left out", a repetition's mark (0 of others), and what it means
+-- a uint's width and set
+pub record Uint : Type 0 where
+  pub width : Number
+  pub depth : ℕ
+  pub values : ValueSet depth
+
+-- a construct: "its first byte, parentheses around the whole of it left out", a repetition's mark (0 of others), a uint's width and set (none of others), and what
+-- it means
 pub record Construct : Type 0 where
   pub place : ℕ
   pub mark : ℕ
+  pub uint : Option Uint
   pub node : TreeNode
 
--- without a mark
+-- without a mark, and no uint
 abbrev pub plain-at : ℕ → TreeNode → Construct
-plain-at p n = record { place = p; mark = 0; node = n }
+plain-at p n = record { place = p; mark = 0; uint = none; node = n }
+
+-- a uint
+abbrev pub uint-at : {d : ℕ} → ℕ → Number → ValueSet d → TreeNode → Construct
+uint-at {d} p n x node = record { place = p; mark = 0; uint = some (record { width = n; depth = d; values = x }); node = node }
 
 -- ---- fields and rules
 
@@ -144,9 +157,9 @@ module _ (body variable : List ℕ → ℕ) where
   unfoldable pub constructs-of : {p : Part} {d : ℕ} → (begun : Bool) → (i : ℕ) → Tree p d → List Construct
   constructs-of begun i (literal l) = plain-at (l .start) (literal-node (l .characters)) ∷ []
   constructs-of begun i (range a s b one one′) = plain-at (a .start) (range-node (getD (a .characters) 0 0) (getD (b .characters) 0 0)) ∷ []
-  constructs-of begun i (field depth u opens n comma x closes) = plain-at (u .start) (uint-node variable n x (λ v k. v)) ∷ []
+  constructs-of begun i (field depth u opens n comma x closes) = uint-at (u .start) n x (uint-node variable n x (λ v k. v)) ∷ []
   constructs-of begun i (binder depth u opens n comma v opens′ x comma′ y closes closes′) =
-      plain-at (u .start) (uint-node variable n y (λ v k. set v (variable (x .letters)) (pos k))) ∷ []
+      uint-at (u .start) n y (uint-node variable n y (λ v k. set v (variable (x .letters)) (pos k))) ∷ []
   constructs-of begun i (rule-use x other) = plain-at (x .start) (use-node (body (x .letters))) ∷ []
   constructs-of begun i (eod s) = plain-at (s .start) frame-end ∷ []
   constructs-of begun i (group depth opens x closes) = constructs-of false i x
@@ -157,7 +170,7 @@ module _ (body variable : List ℕ → ℕ) where
   constructs-of begun i (case-cases c colon x end more) = constructs-of false i x ++ constructs-of false (i + constructs false x) more
   constructs-of begun i (once x) = constructs-of false i x
   constructs-of begun i (repeated x m) =
-      record { place = first-byte (spell x []); mark = first-byte (spell-mark m []); node = repetition-node variable m (suc i) } ∷ constructs-of false (suc i) x
+      record { place = first-byte (spell x []); mark = first-byte (spell-mark m []); uint = none; node = repetition-node variable m (suc i) } ∷ constructs-of false (suc i) x
   constructs-of begun i (last-member x) = constructs-of false i x
   constructs-of false i (and-members x s more) =
       plain-at (first-byte (spell x [])) (sequence (members (suc i) (and-members x s more))) ∷ (constructs-of false (suc i) x ++ constructs-of true (suc i + constructs false x) more)
@@ -205,3 +218,10 @@ tree-grammar t =
       context = first-context;
       values = replicate max-variables (pos 0);
     }
+
+-- ---- Req 06: "a uint whose set has no variable and no value left"
+
+-- no variable stands in the set, and none of the values from 0 to 2^width - 1 is in it; with no variable, their values do not matter
+abbrev pub NoValue : Option Uint → Type 0
+NoValue none = ⊥
+NoValue (some u) = (has-variable (set-parts (u .values)) ≡ false) × ((v : ℕ) → v < 2 ^ u .width .value → in-set (λ x. pos 0) (u .values) (pos v) ≡ false)

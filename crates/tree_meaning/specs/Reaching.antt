@@ -1,9 +1,11 @@
--- Refusal 7: "rule reaches itself", at the "first such rule". Every written use counts.
+-- Which rules reach which: refusal 7, "rule reaches itself", at the "first such rule", and refusal 12 (Req 06), "a rule not reached from the start rule, at the first
+-- such name". Every written use counts.
 -- Assumes nothing.
 use Prim.Native.Nat.{ℕ, _≤_}
 use mathlib.Core.Path.{_≡_}
+use mathlib.Core.Logic.{_⊎_}
 use mathlib.Core.List.{List, [], _∷_, List·Memᴰ}
-use Rattle.tree.specs.Tree.{Rule, Rules}
+use Rattle.tree.specs.Tree.{Rule, Rules, last-rule, and-rules}
 use Rattle.tree_meaning.specs.Pieces.{Piece, use-of-rule, width, formula, binding, rules-of, rule-name, rule-pieces}
 
 -- the names of rules that are used, each by its letters
@@ -41,3 +43,24 @@ pub record Refusal7 (t : Rules) (p : ℕ) : Type 0 where
 -- none does
 abbrev pub Acyclic : Rules → Type 0
 Acyclic t = (p : ℕ) → RecursiveAt t p → ⊥
+
+-- "The first is the start rule."
+abbrev pub start-rule : Rules → Rule
+start-rule (last-rule r) = r
+start-rule (and-rules r more) = r
+
+-- the start rule's name, or that of a rule that it reaches
+abbrev pub Reached : Rules → List ℕ → Type 0
+Reached t x = (x ≡ rule-name (start-rule t) .letters) ⊎ Reaches t (rule-name (start-rule t) .letters) x
+
+-- a rule with its name at p is not reached
+pub record UnreachedAt (t : Rules) (p : ℕ) : Type 0 where
+  pub unused : Rule
+  pub there : List·Memᴰ unused (rules-of t)
+  pub place : rule-name unused .start ≡ p
+  pub unreached : Reached t (rule-name unused .letters) → ⊥
+
+-- the first that is not
+pub record Refusal12 (t : Rules) (p : ℕ) : Type 0 where
+  pub unreached : UnreachedAt t p
+  pub first : (q : ℕ) → UnreachedAt t q → p ≤ q

@@ -1,5 +1,5 @@
--- Document 01's table "Numbers of refusal", rows 5 to 11, each a sentence about a tree: when it is given, and its place, which counts from where the rules
--- begin. Rows are tried in order: 7 is meant of a tree that passes 5 and 6, 8 to 11 of one that passes 5 to 7 (an unknown name has no meaning).
+-- Document 01's table "Numbers of refusal", rows 5 to 11, and 12 and 13 of Req 06, each a sentence about a tree: when it is given, and its place, which counts from
+-- where the rules begin. Rows are tried in order: 7 is meant of a tree that passes 5 and 6, 8 to 13 of one that passes 5 to 7 (an unknown name has no meaning).
 -- Assumes nothing.
 use Prim.Native.Nat.{ℕ, _≤_, _<_}
 use mathlib.Core.Path.{_≡_}
@@ -8,18 +8,17 @@ use Rattle.basis.specs.Limits.{max-weight}
 use Rattle.basis.specs.Bits.{Bits}
 use Rattle.theory.specs.Lookahead.{Conflict, EmptyBody}
 use Rattle.theory.specs.Weight.{Weighs}
-use Rattle.tree.specs.Tree.{Rule, Rules, last-rule, and-rules}
+use Rattle.tree.specs.Tree.{Rules}
 use Rattle.tree_meaning.specs.Pieces.{rule-name}
 use Rattle.tree_meaning.specs.Counted.{refusal-5}
 use Rattle.tree_meaning.specs.Names.{refusal-6}
-use Rattle.tree_meaning.specs.Reaching.{Refusal7}
+use Rattle.tree_meaning.specs.Reaching.{start-rule, Refusal7, Refusal12}
 use Rattle.tree_meaning.specs.Sizes.{refusal-8}
-use Rattle.tree_meaning.specs.Grammar.{Context, first-context, construct-at, opening, tree-grammar}
+use Rattle.tree_meaning.specs.Grammar.{Context, first-context, construct-at, opening, tree-grammar, NoValue}
 
--- "The first is the start rule."
-abbrev pub start-rule : Rules → Rule
-start-rule (last-rule r) = r
-start-rule (and-rules r more) = r
+-- construct i is a uint whose set has no variable and no value left
+abbrev pub IsEmpty : Rules → ℕ → Type 0
+IsEmpty t i = NoValue (construct-at t i .uint)
 
 -- construct i has a clash, whichever its window is
 abbrev pub HasConflict : Rules → ℕ → Type 0
@@ -53,3 +52,11 @@ module _ (t : Rules) (p : ℕ) where
   -- "weight over 65,535", at the "start rule"
   abbrev pub TooHeavy : Type 0
   TooHeavy = (w : Context → ℕ → ℕ) × Weighs (tree-grammar t) w × (max-weight < w first-context opening) × (p ≡ rule-name (start-rule t) .start)
+
+  -- "a rule not reached from the start rule, at the first such name" (Req 06)
+  abbrev pub Unreached : Type 0
+  Unreached = Refusal12 t p
+
+  -- "a uint whose set has no variable and no value left, at the uint" (Req 06): the first
+  abbrev pub NoValues : Type 0
+  NoValues = (i : ℕ) × IsEmpty t i × ((j : ℕ) → j < i → IsEmpty t j → ⊥) × (p ≡ construct-at t i .place)
