@@ -48,7 +48,7 @@ fn width_of(grammar: &[u8], at: usize) -> usize {
 // The largest value of a width.
 fn largest(width: usize) -> usize {
     if width < 33 {
-        return (term_integers::power(width as u64) - 1) as usize;
+        return lines::saturating_sub(term_integers::power(width as u64) as usize, 1);
     }
     4294967295
 }
@@ -74,7 +74,7 @@ fn range(grammar: &[u8], from: bool, low: i64, at: usize) -> Item {
     }
 }
 
-fn item(grammar: &[u8], at: usize) -> Item {
+fn item_at(grammar: &[u8], at: usize) -> Item {
     let first = look(grammar, at);
     if first.code == 126 {
         return range(grammar, false, 0, first.end);
@@ -181,7 +181,7 @@ fn line(grammar: &[u8], at: usize, most: usize) {
     say(b":  ");
     quote(grammar, at, Part::Branch);
     say(b"\n        ");
-    reason(item(grammar, at), most);
+    reason(item_at(grammar, at), most);
 }
 
 // Each item with what is taken away from it, at most twenty.
