@@ -7,18 +7,19 @@ use mathlib.Core.List.{List}
 use native.Mathlib.Omega.{arith}
 use lib.ListN.{drop}
 use Rattle.table_conflicts.specs.declared.Clash.{Clash}
-use Rattle.table_judge.specs.Judged.{Passed9, Passed10}
+use Rattle.table_reach.specs.Reaching.{AllReached}
+use Rattle.table_judge.specs.Judged.{Passed9, Passed10, Light}
 use Rattle.text_store.specs.Store.{State, node-words}
 use Rattle.text_store.specs.Words.{place-of}
 use Rattle.text_admission.specs.Admitted.{words-of, Right, Bounded, Passes, Headed, Refusal, RulesRefused, AnsweredRules, Answers, refused-early, by-rules, Clashes as WordClashes}
 use Rattle.text_admission.specs.Answers.{number-of, place-in}
 use Rattle.text_admission.specs.declared.Admission.{Admission}
-use Rattle.tree_meaning.specs.Rows.{EmptyBodies, Clashes, TooHeavy}
+use Rattle.tree_meaning.specs.Rows.{EmptyBodies, Clashes, TooHeavy, Unreached, NoValues}
 use Rattle.admission.specs.Texts.{TreeOf, OfTree, AtPlace}
-use Rattle.admission.specs.Refusals.{Row, short-table, wrong-size, wrong-header, wrong-form, past-limit, wrong-name, recursive, too-large, empty-body, clashing, too-heavy, number, NoneBelow, First, Weight, Clashed, Exactly}
+use Rattle.admission.specs.Refusals.{Row, short-table, wrong-size, wrong-header, wrong-form, past-limit, wrong-name, recursive, too-large, empty-body, clashing, too-heavy, unreached, no-value, number, NoneBelow, First, Weight, Clashed, Exactly}
 use Rattle.admission.proofs.Rows.{same-row, in-range, one-first, below-next, below-1}
 use Rattle.admission.proofs.Stages.{at-five, at-six, at-seven, at-eight, below-2, below-3, fitting, below-4, misformed, treed, of-this, below-5, no-5, below-6, no-6, below-7, below-8, below-9}
-use Rattle.admission.proofs.Late.{marked, no-empty-body, none-before, stands, clashes, no-clash, told as told-of, heavy, not-heavy, weight-is}
+use Rattle.admission.proofs.Late.{marked, no-empty-body, none-before, stands, clashes, no-clash, told as told-of, heavy, not-heavy, light, weight-is, not-reached, all-reached, no-value as valueless, all-valued}
 use Rattle.admission.proofs.Numbers.{refused-number}
 
 module _ (text table : List ℕ) where
@@ -53,10 +54,20 @@ module _ (text table : List ℕ) where
           below-next text table clashing (below-10 p (j .passed))
           (λ q e. (let x = of-this text table base h st (right-of p) Clashes q e in no-clash xs (fitting text table base h) st p j (x .0) (x .1)))
 
-      below-12 : (n : ℕ) → Passes xs st n → NoneBelow text table 12
-      below-12 n j =
-          below-next text table too-heavy (below-11 (j .passed) (j .judged))
-          (λ q e. (let x = of-this text table base h st (right-of (j .passed)) TooHeavy q e in not-heavy xs (fitting text table base h) st (j .passed) n j (x .0) (x .1)))
+      below-12 : Bounded xs st → Passed10 (words-of xs st) → Light (words-of xs st) → NoneBelow text table 12
+      below-12 p j w =
+          below-next text table too-heavy (below-11 p j)
+          (λ q e. (let x = of-this text table base h st (right-of p) TooHeavy q e in not-heavy xs (fitting text table base h) st p w (x .0) (x .1)))
+
+      below-13 : Bounded xs st → Passed10 (words-of xs st) → Light (words-of xs st) → AllReached (words-of xs st) → NoneBelow text table 13
+      below-13 p j w a =
+          below-next text table unreached (below-12 p j w)
+          (λ q e. (let x = of-this text table base h st (right-of p) Unreached q e in all-reached xs (fitting text table base h) st p a (x .0) (x .1)))
+
+      below-14 : (n : ℕ) → Passes xs st n → NoneBelow text table 14
+      below-14 n j =
+          below-next text table no-value (below-13 (j .passed) (j .judged) (light xs (fitting text table base h) st (j .passed) n j) (j .reached))
+          (λ q e. (let x = of-this text table base h st (right-of (j .passed)) NoValues q e in all-valued xs (fitting text table base h) st (j .passed) (j .valued) (x .0) (x .1)))
 
     by-rule : (n place : ℕ) → RulesRefused xs base n place → FirstAt n place
     by-rule n place (RulesRefused.by-form {p = p} e z) = (wrong-form, refl, (misformed text table base h p place e z, below-4 text table base h))
@@ -85,6 +96,10 @@ module _ (text table : List ℕ) where
         (empty-body, refl, ((treed text table base h st (right-of st p), q, marked xs (fitting text table base h) st p q m, z), below-9 text table base h st p))
     by-rule n place (RulesRefused.by-weight {st = st} p j w z) =
         (too-heavy, refl, ((treed text table base h st (right-of st p), _, heavy xs (fitting text table base h) st p j w, z), below-11 st p j))
+    by-rule n place (RulesRefused.by-unreached {st = st} {rule = rule} p j w u z) =
+        (unreached, refl, ((treed text table base h st (right-of st p), _, not-reached xs (fitting text table base h) st p rule u, z), below-12 st p j w))
+    by-rule n place (RulesRefused.by-no-value {st = st} {i = i} p j w a l z) =
+        (no-value, refl, ((treed text table base h st (right-of st p), _, valueless xs (fitting text table base h) st p i l, z), below-13 st p j w a))
 
     by-clash : (place construct : ℕ) (c : Clash) → WordClashes xs base place construct c → FirstAt 10 place
     by-clash place construct c k =
@@ -116,10 +131,10 @@ module _ (text table : List ℕ) where
 
   -- an answer is of the first row, or no row fits
   abbrev Told : Admission → Type 0
-  Told answer = ((number-of answer ≡ 0) × NoneBelow text table 12) ⊎ FirstAt (number-of answer) (place-in answer)
+  Told answer = ((number-of answer ≡ 0) × NoneBelow text table 14) ⊎ FirstAt (number-of answer) (place-in answer)
 
   told-rules : (base : ℕ) → Headed text table base → (new : List ℕ) (answer : Admission) → AnsweredRules (drop base text) base table new answer → Told answer
-  told-rules base h new (Admission.Admitted weight) p = inl (refl, below-12 base h (p .st) weight (p .passes))
+  told-rules base h new (Admission.Admitted weight) p = inl (refl, below-14 base h (p .st) weight (p .passes))
   told-rules base h new (Admission.Refused n place) p = inr (by-rule base h n place (p .0))
   told-rules base h new (Admission.Conflict place construct c) p = inr (by-clash base h place construct c (p .0))
 

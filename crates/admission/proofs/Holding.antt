@@ -23,7 +23,7 @@ use Rattle.tree_meaning.specs.Counted.{refusal-5}
 use Rattle.tree_meaning.specs.Names.{refusal-6}
 use Rattle.tree_meaning.specs.Sizes.{refusal-8}
 use Rattle.tree_meaning.specs.Grammar.{construct-at, tree-grammar}
-use Rattle.tree_meaning.specs.Rows.{start-rule}
+use Rattle.tree_meaning.specs.Reaching.{start-rule}
 use Rattle.tree_store.proofs.Standing.{SpelledBy}
 use Rattle.tree_agreement.proofs.SameSets.{SameSets}
 use Rattle.tree_agreement.proofs.Texts.{text-sets}
@@ -40,7 +40,7 @@ words-hold xs (state ns ts rs n t b r) p h =
     holds-text (readable xs ns ts rs n t b r p f h) (f .shape .stored) (f .basics .places)
 
 module _ (xs : List ℕ) (short : length xs ≤ max-text-bytes) (st : State) (p : Bounded xs st) where
-  abbrev formed : Right xs st
+  abbrev pub formed : Right xs st
   formed = p .passed .passed .passed .passed
 
   -- the tree
@@ -73,9 +73,11 @@ module _ (xs : List ℕ) (short : length xs ≤ max-text-bytes) (st : State) (p 
   pub mark-is : (i : ℕ) → EmptyBody (tree-grammar its-tree) i → mark-place (node-words st) i ≡ construct-at its-tree i .mark
   mark-is i e = from-stored xs short st formed (λ z. mark-place (node-words z) i ≡ construct-at its-tree i .mark) (mark-stored spelled no-5 no-6 no-8 i e)
 
+  pub place-there : (i : ℕ) → i < nodes-of st → place-of (node-words st) i ≡ construct-at its-tree i .place
+  place-there i = from-stored xs short st formed (λ z. i < nodes-of z → place-of (node-words z) i ≡ construct-at its-tree i .place) (place-stored spelled no-5 no-6 no-8 i)
+
   pub place-is : (i : ℕ) (x : Bits) → Conflict (tree-grammar its-tree) i x → place-of (node-words st) i ≡ construct-at its-tree i .place
-  place-is i x e =
-      from-stored xs short st formed (λ z. place-of (node-words z) i ≡ construct-at its-tree i .place) (place-stored spelled no-5 no-6 no-8 i (conflict-below spelled no-5 no-6 no-8 i x e))
+  place-is i x e = place-there i (from-stored xs short st formed (λ z. i < nodes-of z) (conflict-below spelled no-5 no-6 no-8 i x e))
 
   pub start-is : named-at (rule-words st) 0 ≡ rule-name (start-rule its-tree) .start
   start-is = from-stored xs short st formed (λ z. named-at (rule-words z) 0 ≡ rule-name (start-rule its-tree) .start) (start-stored spelled no-5 no-6 no-8)

@@ -1,4 +1,4 @@
--- Rows 9 to 11: what the judgement of the encoded words says is true of the tree.
+-- Rows 9 to 13: what the judgement of the encoded words says is true of the tree.
 -- Assumes nothing.
 use Prim.Native.Nat.{ℕ, _≤_, _<_}
 use mathlib.Core.Path.{_≡_, sym, ap, subst, _∙_}
@@ -19,16 +19,19 @@ use Rattle.table_weights.proofs.Heights.{weight-at}
 use Rattle.table_weights.proofs.Theorems.{weights-exist}
 use Rattle.table_conflicts.specs.Conflicts.{HasNumber, FirstHolders, Conflicting, Answered}
 use Rattle.table_conflicts.specs.declared.Clash.{Clash}
-use Rattle.table_judge.specs.Judged.{Passed9, Passed10, Least, Weighing}
+use Rattle.table_reach.specs.Reaching.{AllReached, FirstUnreached}
+use Rattle.table_judge.specs.Judged.{Passed9, Passed10, Least, None, Weighing, Light, Valueless}
 use Rattle.text_store.specs.Store.{State, node-words, rule-words}
 use Rattle.text_store.specs.Words.{place-of, named-at}
 use Rattle.text_admission.specs.Admitted.{words-of, Bounded, Passes, LeastMark}
 use Rattle.text_admission.specs.Answers.{window-in}
-use Rattle.tree_meaning.specs.Rows.{EmptyBodies, HasConflict, Clashes, TooHeavy}
+use Rattle.tree_meaning.specs.Rows.{EmptyBodies, HasConflict, Clashes, TooHeavy, Unreached, NoValues}
 use Rattle.tree_meaning.specs.Grammar.{construct-at, tree-grammar}
 use Rattle.tree_agreement.proofs.SameSets.{SameSets}
 use Rattle.admission.specs.Refusals.{Weight, FirstTwo, Sharing}
-use Rattle.admission.proofs.Holding.{its-tree, word-sets, empty-there, mark-is, place-is, start-is}
+use Rattle.admission.proofs.Stages.{twelve, at-twelve}
+use Rattle.admission.proofs.Holding.{formed, its-tree, no-5, no-6, word-sets, empty-there, mark-is, place-is, place-there, start-is}
+use Rattle.admission.proofs.Values.{tree-valueless, word-valueless, valueless-there}
 
 -- the weights of words that pass 10
 pub weights-of : (ws : List ℕ) → Passed10 ws → Weighs (held ws) (λ c i. weight-at ws i)
@@ -123,9 +126,26 @@ module _ (xs : List ℕ) (short : length xs ≤ max-text-bytes) (st : State) (p 
   pub heavy : Passed10 ws → Weighing ws (λ n. max-weight < n) → TooHeavy (its-tree xs short st p) (named-at (rule-words st) 0)
   heavy j w = (λ c i. weight-at ws i, weighable j, w (λ c i. weight-at ws i) (weights-of ws j), start-is xs short st p)
 
-  pub not-heavy : (n : ℕ) → Passes xs st n → (q : ℕ) → TooHeavy (its-tree xs short st p) q → ⊥
-  not-heavy n j q x =
-      let z : x .0 first-context opening ≡ n = j .weighs (x .0) (word-sets xs short st p .weighs-iff (x .0) .1 (x .1)) in omega (arith, x .2, j .limited)
+  pub not-heavy : Light ws → (q : ℕ) → TooHeavy (its-tree xs short st p) q → ⊥
+  not-heavy l q x = omega (arith, x .2, l (x .0) (word-sets xs short st p .weighs-iff (x .0) .1 (x .1)))
+
+  pub light : (n : ℕ) → Passes xs st n → Light ws
+  light n j w e = omega (arith, j .weighs w e, j .limited)
 
   pub weight-is : (n : ℕ) → Passes xs st n → Weight n (its-tree xs short st p)
   weight-is n j = (λ c i. weight-at ws i, weighable (j .judged), j .weighs (λ c i. weight-at ws i) (weights-of ws (j .judged)))
+
+  -- 12
+  pub not-reached : (k : ℕ) → FirstUnreached ws k → Unreached (its-tree xs short st p) (named-at (rule-words st) k)
+  not-reached k u = at-twelve xs short st (formed xs short st p) (no-5 xs short st p) (no-6 xs short st p) k u
+
+  pub all-reached : AllReached ws → (q : ℕ) → Unreached (its-tree xs short st p) q → ⊥
+  all-reached a q x = twelve xs short st (formed xs short st p) (no-5 xs short st p) (no-6 xs short st p) a q (x .unreached)
+
+  -- 13
+  pub no-value : (i : ℕ) → Least ws (Valueless ws) i → NoValues (its-tree xs short st p) (place-of (node-words st) i)
+  no-value i l =
+      (i, tree-valueless xs short st p i (l .holds), λ j b c. l .before j b (word-valueless xs short st p j c), place-there xs short st p i (valueless-there xs short st p i (l .holds)))
+
+  pub all-valued : None (Valueless ws) → (q : ℕ) → NoValues (its-tree xs short st p) q → ⊥
+  all-valued none q x = none (x .0) (word-valueless xs short st p (x .0) (x .1))

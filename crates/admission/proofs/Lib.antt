@@ -3,6 +3,7 @@ pub mod Rows
 pub mod Stages
 pub mod Trees
 pub mod Holding
+pub mod Values
 pub mod Late
 pub mod Numbers
 pub mod Exactly

@@ -2,11 +2,13 @@
 -- Assumes nothing.
 use Prim.Native.Nat.{ℕ, _+_, _≤_, _<_}
 use mathlib.Core.Path.{_≡_, refl, sym, ap, subst, _∙_}
+use mathlib.Core.Bool.{cond}
 use mathlib.Core.List.{List, [], _∷_}
 use mathlib.Core.Option.{Option, some}
 use native.Mathlib.Omega.{arith}
 use native.Mathlib.Decide.{decLt}
-use lib.ListN.{drop, getD}
+use lib.Dec.{eqb}
+use lib.ListN.{drop}
 use Rattle.text_header.specs.Header.{header-of}
 use Rattle.text_header.specs.declared.Heading.{Heading}
 use Rattle.text_store.specs.Store.{blank}
@@ -16,16 +18,21 @@ use Rattle.tree.specs.Tree.{Rules}
 use Rattle.tree.specs.Spelling.{spelled}
 use Rattle.tree_form.specs.Form.{FirstFault}
 use Rattle.tree_form.proofs.Formed.{formed}
-use Rattle.tree_meaning.specs.Rows.{PastLimit, WrongName, Recursive, TooLarge, EmptyBodies, HasConflict, Clashes, TooHeavy}
+use Rattle.tree_meaning.specs.Rows.{PastLimit, WrongName, Recursive, TooLarge, EmptyBodies, HasConflict, Clashes, TooHeavy, IsEmpty, Unreached, NoValues}
 use Rattle.admission.specs.Texts.{TreeOf, OneTree, AtPlace}
-use Rattle.admission.specs.Refusals.{Row, short-table, wrong-size, wrong-header, wrong-form, past-limit, wrong-name, recursive, too-large, empty-body, clashing, too-heavy, number, Fits, NoneBelow, First}
+use Rattle.admission.specs.Refusals.{Row, short-table, wrong-size, wrong-header, wrong-form, past-limit, wrong-name, recursive, too-large, empty-body, clashing, too-heavy, unreached, no-value, number, Fits, NoneBelow, First}
 
 -- ---- numbers name rows
 
-abbrev row-of : ℕ → Row
-row-of n = getD (short-table ∷ short-table ∷ wrong-size ∷ wrong-header ∷ wrong-form ∷ past-limit ∷ wrong-name ∷ recursive ∷ too-large ∷ empty-body ∷ clashing ∷ too-heavy ∷ []) n short-table
+-- the first of these with the number n
+abbrev row-in : List Row → ℕ → Row
+row-in [] n = short-table
+row-in (k ∷ more) n = cond (eqb (number k) n) k (row-in more n)
 
-numbered : (k : Row) → (row-of (number k) ≡ k) × (1 ≤ number k) × (number k < 12)
+abbrev row-of : ℕ → Row
+row-of n = row-in (short-table ∷ wrong-size ∷ wrong-header ∷ wrong-form ∷ past-limit ∷ wrong-name ∷ recursive ∷ too-large ∷ empty-body ∷ clashing ∷ too-heavy ∷ unreached ∷ no-value ∷ []) n
+
+numbered : (k : Row) → (row-of (number k) ≡ k) × (1 ≤ number k) × (number k < 14)
 numbered short-table = (refl, omega arith, omega arith)
 numbered wrong-size = (refl, omega arith, omega arith)
 numbered wrong-header = (refl, omega arith, omega arith)
@@ -37,11 +44,13 @@ numbered too-large = (refl, omega arith, omega arith)
 numbered empty-body = (refl, omega arith, omega arith)
 numbered clashing = (refl, omega arith, omega arith)
 numbered too-heavy = (refl, omega arith, omega arith)
+numbered unreached = (refl, omega arith, omega arith)
+numbered no-value = (refl, omega arith, omega arith)
 
 pub same-row : (j k : Row) → number j ≡ number k → j ≡ k
 same-row j k e = sym (numbered j .0) ∙ (ap row-of e ∙ numbered k .0)
 
-pub in-range : (k : Row) → (1 ≤ number k) × (number k < 12)
+pub in-range : (k : Row) → (1 ≤ number k) × (number k < 14)
 in-range k = (numbered k .1, numbered k .2)
 
 -- ---- a text has one tree
@@ -104,6 +113,9 @@ one-place text table empty-body p q e f = both-placed EmptyBodies (λ t m n x y.
 one-place text table clashing p q e f =
     both-placed Clashes (λ t m n x y. (let s : x .0 ≡ y .0 = least-same (HasConflict t) (x .0) (y .0) (x .1) (y .1) (x .2) (y .2) in let z = x .3 in let z′ = y .3 in cc)) p q e f
 one-place text table too-heavy p q e f = both-placed TooHeavy (λ t m n x y. x .3 ∙ sym (y .3)) p q e f
+one-place text table unreached p q e f = both-placed Unreached (λ t m n x y. omega (arith, x .first n (y .unreached), y .first m (x .unreached))) p q e f
+one-place text table no-value p q e f =
+    both-placed NoValues (λ t m n x y. (let s : x .0 ≡ y .0 = least-same (IsEmpty t) (x .0) (y .0) (x .1) (y .1) (x .2) (y .2) in let z = x .3 in let z′ = y .3 in cc)) p q e f
 
 -- ---- there is one first row
 

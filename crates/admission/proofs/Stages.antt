@@ -15,7 +15,7 @@ use Rattle.text_store.specs.Words.{named-at}
 use Rattle.text_parsing.specs.Form.{Outcome, right, refused}
 use Rattle.text_syntax.specs.Rules.{form-of}
 use Rattle.text_names.specs.Counting.{nowhere}
-use Rattle.table_reach.specs.Reaching.{Reaches, Acyclic}
+use Rattle.table_reach.specs.Reaching.{Reaches, Acyclic, AllReached, FirstUnreached}
 use Rattle.text_admission.specs.Admitted.{form, words-of, fault-5, fault-6, fault-8, Right, Limited, Named, NotRecursive, Bounded, Headed}
 use Rattle.text_admission.specs.declared.Found.{Found}
 use Rattle.tree.specs.Lexemes.{lexemes}
@@ -26,13 +26,13 @@ use Rattle.tree_form.specs.Stored.{stored}
 use Rattle.tree_form.proofs.Formed.{formed}
 use Rattle.tree_meaning.specs.Counted.{refusal-5}
 use Rattle.tree_meaning.specs.Names.{refusal-6}
-use Rattle.tree_meaning.specs.Reaching.{Refusal7, Acyclic as TreeAcyclic}
+use Rattle.tree_meaning.specs.Reaching.{Refusal7, Acyclic as TreeAcyclic, UnreachedAt, Refusal12}
 use Rattle.tree_meaning.specs.Sizes.{refusal-8}
 use Rattle.tree_meaning.specs.Rows.{PastLimit, WrongName, Recursive, TooLarge}
 use Rattle.tree_store.proofs.Limits.{limited, passed-5, given-5}
 use Rattle.tree_store.proofs.Names.{passed-6, given-6}
 use Rattle.tree_store.proofs.Standing.{SpelledBy}
-use Rattle.tree_reach.proofs.Tables.{refused-7-of, acyclic-7-of}
+use Rattle.tree_reach.proofs.Tables.{refused-7-of, acyclic-7-of, refused-12-of, reached-12-of}
 use Rattle.tree_sizes.proofs.Sizes.{refused-8, passed-8}
 use Rattle.admission.specs.Texts.{TreeOf, AtPlace}
 use Rattle.admission.specs.Refusals.{short-table, wrong-size, wrong-header, wrong-form, past-limit, wrong-name, recursive, too-large, Fits, NoneBelow}
@@ -97,6 +97,12 @@ module _ (xs : List ℕ) (short : length xs ≤ max-text-bytes) (st : State) (r 
       at-seven k e f =
           from-stored (λ z. Refusal7 tree (named-at (rule-words z) k))
           (refused-7-of by no-5 no-6 k (to-stored (λ z. Reaches (words-of xs z) k k) e) (to-stored (λ z. (q : ℕ) → q < k → Reaches (words-of xs z) q q → ⊥) f))
+
+      pub twelve : AllReached (words-of xs st) → (p : ℕ) → UnreachedAt tree p → ⊥
+      twelve e = reached-12-of by no-5 no-6 (to-stored (λ z. AllReached (words-of xs z)) e)
+
+      pub at-twelve : (k : ℕ) → FirstUnreached (words-of xs st) k → Refusal12 tree (named-at (rule-words st) k)
+      at-twelve k e = from-stored (λ z. Refusal12 tree (named-at (rule-words z) k)) (refused-12-of by no-5 no-6 k (to-stored (λ z. FirstUnreached (words-of xs z) k) e))
 
       pub eight : fault-8 xs st ≡ Found.Nothing → refusal-8 tree ≡ none
       eight e = passed-8 xs tree by no-5 no-6 .0 (to-stored (λ z. fault-8 xs z ≡ Found.Nothing) e)

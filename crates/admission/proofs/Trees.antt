@@ -18,12 +18,12 @@ use Rattle.tree_form.specs.Stored.{stored}
 use Rattle.tree_form.proofs.Formed.{formed}
 use Rattle.tree_meaning.specs.Counted.{refusal-5}
 use Rattle.tree_meaning.specs.Names.{refusal-6}
-use Rattle.tree_meaning.specs.Reaching.{Acyclic}
+use Rattle.tree_meaning.specs.Reaching.{Acyclic, UnreachedAt}
 use Rattle.tree_meaning.specs.Sizes.{refusal-8}
 use Rattle.tree_meaning.specs.Grammar.{Context, first-context, opening, tree-grammar}
-use Rattle.tree_meaning.specs.Rows.{PastLimit, WrongName, Recursive, TooLarge, EmptyBodies, Clashes, TooHeavy}
+use Rattle.tree_meaning.specs.Rows.{PastLimit, WrongName, Recursive, TooLarge, EmptyBodies, Clashes, TooHeavy, IsEmpty, Unreached, NoValues}
 use Rattle.admission.specs.Texts.{TreeOf, AtPlace}
-use Rattle.admission.specs.Refusals.{past-limit, wrong-name, recursive, too-large, empty-body, clashing, too-heavy, NoneBelow}
+use Rattle.admission.specs.Refusals.{past-limit, wrong-name, recursive, too-large, empty-body, clashing, too-heavy, unreached, no-value, NoneBelow}
 use Rattle.admission.proofs.Rows.{one-tree, below-next}
 use Rattle.admission.proofs.Stages.{none-not-some, below-5}
 
@@ -66,3 +66,11 @@ module _ {text : List ℕ} (table : List ℕ) (fits : table-words ≤ length tab
   -- nor 11
   pub tree-below-12 : NoneBelow text table 11 → ((w : Context → ℕ → ℕ) → Weighs (tree-grammar (x .tree)) w → w first-context opening ≤ max-weight) → NoneBelow text table 12
   tree-below-12 before light = below-next text table too-heavy before (nowhere-fits TooHeavy (λ p e. omega (arith, light (e .0) (e .1), e .2)))
+
+  -- nor 12
+  pub tree-below-13 : NoneBelow text table 12 → ((p : ℕ) → UnreachedAt (x .tree) p → ⊥) → NoneBelow text table 13
+  tree-below-13 before reached = below-next text table unreached before (nowhere-fits Unreached (λ p e. reached p (e .unreached)))
+
+  -- nor 13
+  pub tree-below-14 : NoneBelow text table 13 → ((i : ℕ) → IsEmpty (x .tree) i → ⊥) → NoneBelow text table 14
+  tree-below-14 before valued = below-next text table no-value before (nowhere-fits NoValues (λ p e. valued (e .0) (e .1)))

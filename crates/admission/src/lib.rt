@@ -1,4 +1,4 @@
-// Admission of a grammar's text: refusals 1 to 11 in order, as document 01's page has them, or the table of its grammar.
+// Admission of a grammar's text: refusals 1 to 13 in order, as document 01's page and Req 06 have them, or the table of its grammar.
 use text_admission::Admission;
 ghost use Rattle.admission.specs.Promised.{Promised};
 

@@ -40,6 +40,8 @@ fn show_judgement(judgement: Judgement) {
             show_clash(clash);
         }
         Judgement::Overweight => text(b" 11"),
+        Judgement::Unreached { rule } => number(b" 12 at rule ", rule),
+        Judgement::NoValue { construct } => number(b" 13 at construct ", construct),
         Judgement::Passes { weight } => number(b" weight ", weight),
     }
 }
@@ -118,6 +120,16 @@ fn clear(table: &mut [u32; TABLE_WORDS]) {
     }
 }
 
+// 12 and 13.
+fn show_strict(table: &mut [u32; TABLE_WORDS]) {
+    clear(table);
+    case_tables::unreached(table);
+    show(b"unreached:", table);
+    clear(table);
+    case_tables::valueless(table);
+    show(b"valueless:", table);
+}
+
 fn main() {
     let mut table = [0u32; TABLE_WORDS];
     show(b"nothing:", &mut table);
@@ -150,4 +162,5 @@ fn main() {
     clear(&mut table);
     case_tables::heavy(&mut table);
     show(b"heavy:", &mut table);
+    show_strict(&mut table);
 }

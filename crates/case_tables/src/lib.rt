@@ -249,3 +249,27 @@ pub fn heavy(table: &mut [u32; TABLE_WORDS]) {
     operands(table, 48, 1, 0, 0, 0);
     bytes(table, 48, 65);
 }
+
+// `a = "A"; b = "B"; c = b;`: only c uses b, and nothing uses c.
+pub fn unreached(table: &mut [u32; TABLE_WORDS]) {
+    header(table, 3, 0, 0, 1);
+    put(table, 1, 3);
+    put(table, 68, 1);
+    put(table, 72, 2);
+    construct(table, 0, 6, 1);
+    operands(table, 0, 1, 0, 0, 0);
+    bytes(table, 0, 65);
+    construct(table, 1, 6, 1);
+    operands(table, 1, 1, 0, 0, 0);
+    bytes(table, 1, 66);
+    construct(table, 2, 5, 1);
+    operands(table, 2, 1, 0, 0, 0);
+}
+
+// `frame = uint(4, 16);`: 4 bits have no 16.
+pub fn valueless(table: &mut [u32; TABLE_WORDS]) {
+    header(table, 1, 0, 1, 1);
+    construct(table, 0, 8, 1);
+    operands(table, 0, 4, 0, 1, 0);
+    term(table, 0, 33, 16);
+}

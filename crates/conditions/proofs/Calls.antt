@@ -60,7 +60,7 @@ admit-leaves : (text table table′ answer answer′ : List ℕ) (number : ℕ) 
 admit-leaves text table table′ answer answer′ number a =
     let c = a .promised .leaves in
     record {
-      numbered = subst (λ (n : ℕ). n ≤ 11) (sym (a .number-is)) (c .number);
+      numbered = subst (λ (n : ℕ). n ≤ 13) (sym (a .number-is)) (c .number);
       refused = λ h. c .refused (λ e. h (a .number-is ∙ e));
       beyond = (c .length-kept, c .beyond);
       answer-beyond = (ap length (a .told-is) ∙ length-sets answer 0 (told (a .admission)), ap (drop 5) (a .told-is) ∙ drop-sets (told (a .admission)) answer 0 5 (omega (arith, five (a .admission))));

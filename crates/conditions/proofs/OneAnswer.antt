@@ -22,7 +22,7 @@ use Rattle.text_header.specs.Header.{header-of}
 use Rattle.text_admission.specs.Admitted.{form, words-of, Passes, Tabled, RulesPass, Headed, Clashes, Answers, refused-early, by-rules}
 use Rattle.text_admission.specs.Answers.{place-in, number-of}
 use Rattle.text_admission.specs.declared.Admission.{Admission}
-use Rattle.admission.specs.Refusals.{Row, short-table, wrong-size, wrong-header, wrong-form, past-limit, wrong-name, recursive, too-large, empty-body, clashing, too-heavy, number, Fits, NoneBelow}
+use Rattle.admission.specs.Refusals.{Row, short-table, wrong-size, wrong-header, wrong-form, past-limit, wrong-name, recursive, too-large, empty-body, clashing, too-heavy, unreached, no-value, number, Fits, NoneBelow}
 use Rattle.conditions.specs.Conditions.{OneAnswer, OneTable}
 use Rattle.text_parsing.specs.Form.{Outcome, right, refused}
 use Rattle.admission.proofs.Rows.{one-base, least-same}
@@ -58,6 +58,8 @@ whole-rows text old old′ l l′ too-large p = (λ f. f, λ f. f)
 whole-rows text old old′ l l′ empty-body p = (λ f. f, λ f. f)
 whole-rows text old old′ l l′ clashing p = (λ f. f, λ f. f)
 whole-rows text old old′ l l′ too-heavy p = (λ f. f, λ f. f)
+whole-rows text old old′ l l′ unreached p = (λ f. f, λ f. f)
+whole-rows text old old′ l l′ no-value p = (λ f. f, λ f. f)
 
 module _ (text old old′ : List ℕ) (rows : SameRows text old old′) where
   none-same : (n : ℕ) → NoneBelow text old n → NoneBelow text old′ n
@@ -67,7 +69,7 @@ module _ (text old old′ : List ℕ) (rows : SameRows text old old′) where
       → (number-of r ≡ number-of r′) × ((number-of r ≡ 0 → ⊥) → place-in r ≡ place-in r′)
   same-number new new′ r r′ a a′ =
       elim (told text old new r a) [
-        | inl x ↦ (x .0 ∙ sym (exactly text old′ new′ r′ a′ .admitted-iff .1 (none-same 12 (x .1))), λ n. absurd (n (x .0)))
+        | inl x ↦ (x .0 ∙ sym (exactly text old′ new′ r′ a′ .admitted-iff .1 (none-same 14 (x .1))), λ n. absurd (n (x .0)))
         | inr x ↦
             let e = exactly text old′ new′ r′ a′ .refused-iff (x .0) (place-in r) .1 (rows (x .0) (place-in r) .0 (x .2 .0), none-same (number (x .0)) (x .2 .1)) in
             (sym (x .1) ∙ sym (e .0), λ n. sym (e .1))

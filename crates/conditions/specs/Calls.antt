@@ -30,10 +30,10 @@ use Rattle.conditions.specs.Conditions.{CopyOf, Exact, Claim}
 
 -- ---- 1. "each is answered or refused by a number of document 01, buffers are left as stated, no caller is trusted"
 
--- songrafter_admit(text, table, answer): 0, or 1 to 11. "A refused grammar changes no word of the table", "Words past 16,384 are neither read
+-- songrafter_admit(text, table, answer): 0, or 1 to 13. "A refused grammar changes no word of the table", "Words past 16,384 are neither read
 -- nor changed"; five numbers of `answer` at most are written.
 pub record AdmitLeaves (table table′ answer answer′ : List ℕ) (number : ℕ) : Type 0 where
-  pub numbered : number ≤ 11
+  pub numbered : number ≤ 13
   pub refused : (number ≡ 0 → ⊥) → table′ ≡ table
   pub beyond : (length table′ ≡ length table) × (drop table-words table′ ≡ drop table-words table)
   pub answer-beyond : (length answer′ ≡ length answer) × (drop 5 answer′ ≡ drop 5 answer)

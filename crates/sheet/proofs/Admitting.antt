@@ -14,7 +14,7 @@ use Rattle.admission.specs.Texts.{TreeOf}
 use Rattle.admission.specs.Refusals.{Row, number, NoneBelow, First, Weight}
 use Rattle.admission.specs.Promised.{Promised}
 use Rattle.admission.proofs.Rows.{one-tree}
-use Rattle.admission.proofs.Trees.{tree-below-7, tree-below-9, tree-below-10, tree-below-11, tree-below-12}
+use Rattle.admission.proofs.Trees.{tree-below-7, tree-below-9, tree-below-10, tree-below-11, tree-below-12, tree-below-13, tree-below-14}
 use Rattle.sheet.specs.Sheet.{text-of}
 use Rattle.sheet.proofs.Texts.{Formed}
 use Rattle.sheet.proofs.Stages.{Named, Bounded}
@@ -54,11 +54,13 @@ module _ (rules : String) (t : Rules) (weight : ℕ) (p : Passing rules t weight
   abbrev f : Formed rules t
   f = p .formed
 
-  none-fits : NoneBelow text old 12
+  none-fits : NoneBelow text old 14
   none-fits =
       let b₁₀ = tree-below-10 old l (f .some) (f .short) (tree-of f) (below-9 rules t f old l (p .bounded)) (p .no-empty-body) in
       let b₁₁ = tree-below-11 old l (f .some) (f .short) (tree-of f) b₁₀ (p .no-conflict) in
-      tree-below-12 old l (f .some) (f .short) (tree-of f) b₁₁ (λ w e. omega (arith, p .weighs w e, p .light))
+      let b₁₂ = tree-below-12 old l (f .some) (f .short) (tree-of f) b₁₁ (λ w e. omega (arith, p .weighs w e, p .light)) in
+      let b₁₃ = tree-below-13 old l (f .some) (f .short) (tree-of f) b₁₂ (p .reached) in
+      tree-below-14 old l (f .some) (f .short) (tree-of f) b₁₃ (p .valued)
 
   -- admitted with its weight
   pub admitted : (new : List ℕ) (answer : Admission) → Promised text old new answer → answer ≡ Admission.Admitted weight

@@ -3,7 +3,7 @@
 use Prim.Native.Nat.{ℕ, zero, suc, _+_, _*_, _≤_}
 use mathlib.Core.Path.{_≡_, refl, sym, ap, ap₂, subst, _∙_}
 use mathlib.Core.Logic.{_⊎_, _↔_, inl, inr}
-use mathlib.Core.Bool.{Bool, true, false, cond, _&&_}
+use mathlib.Core.Bool.{Bool, true, false, cond, _&&_, false≢true}
 use mathlib.Core.List.{List, [], _∷_, List·Memᴰ, List·Memᴰ·head, List·Memᴰ·not-nil, List·Memᴰ·eq-of-singleton}
 use mathlib.Core.Option.{Option, none, some}
 use native.Mathlib.Omega.{arith}
@@ -26,6 +26,8 @@ use Rattle.theory.proofs.Sheet.Ones.{one, two, continuing, continues-ones}
 use Rattle.run_matcher.specs.Windows.{Tells}
 use Rattle.tree_meaning.specs.Grammar.{Context, first-context, Values, TreeNode, opening, tree-grammar}
 use Rattle.tree_meaning.proofs.Sheet as trees
+use Rattle.tree_meaning.proofs.Unreached.{one-rule-reached}
+use Rattle.tree_meaning.proofs.Valued.{AllValued, all-valued}
 use Rattle.sheet.specs.Sheet.{K6}
 use Rattle.sheet.proofs.Computing.{grammar}
 use Rattle.sheet.proofs.Texts.{formed-K6}
@@ -145,7 +147,7 @@ weigh-starred : (a b c d e : ℕ) → a ≡ 1 + b → b ≡ 1 + (c + (e + 0)) �
 weigh-starred a b c d e p q r s t = omega arith
 
 pub passing-K6 : Passing K6 trees.K6 6
-unfolding grammar trees.K6 weigh sum
+unfolding grammar trees.K6 weigh sum AllValued
 passing-K6 =
     record {
       formed = formed-K6;
@@ -154,6 +156,8 @@ passing-K6 =
       no-conflict = no-conflict;
       weighs = λ w e. weigh-starred (w first-context opening) (w first-context 0) (w first-context 1) (w first-context 2) (w first-context 3) (e first-context opening) (e first-context 0) (e first-context 1) (e first-context 2) (e first-context 3);
       light = omega arith;
+      reached = one-rule-reached _;
+      valued = all-valued trees.K6 (λ e. e, (λ e. e, (λ e. false≢true (sym (e .1 1 (omega arith))), (λ e. false≢true (sym (e .1 2 (omega arith))), tt))));
     }
 
 -- ---- what a run looks up, if the table's sets are the grammar's

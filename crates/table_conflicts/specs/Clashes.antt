@@ -9,6 +9,7 @@ use Rattle.basis.specs.Bits.{Bits}
 use Rattle.table_layout.specs.Held.{passes-fixed}
 use Rattle.table_layout.specs.declared.Construct.{Construct}
 use Rattle.table_layout.specs.declared.Below.{Below}
+use Rattle.table_layout.specs.declared.OwnList.{OwnList}
 use Rattle.table_layout.specs.Attributes.{attributes-of}
 use Rattle.table_first_follow.specs.Rules.{Family}
 use Rattle.table_first_follow.specs.Parts.{siblings}
@@ -66,3 +67,12 @@ EmptyBelow first i Below.Rule = ⊥
 
 abbrev pub EmptyAt : Family → ℕ → Construct → Type 0
 EmptyAt first i c = EmptyBelow first i (attributes-of c .below)
+
+-- "a uint whose set has no variable and no value left" (Req 06): it has no first window
+abbrev pub NoValueIn : Family → ℕ → OwnList → Type 0
+NoValueIn first i OwnList.None = ⊥
+NoValueIn first i (OwnList.Counts start end) = ⊥
+NoValueIn first i (OwnList.Set start end) = (x : Bits) → first i x → ⊥
+
+abbrev pub NoValueAt : Family → ℕ → Construct → Type 0
+NoValueAt first i c = NoValueIn first i (attributes-of c .own)

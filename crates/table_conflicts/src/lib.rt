@@ -1,4 +1,4 @@
-// Refusals 9 and 10 over a table's words: repeated bodies that may be empty, and conflicts (01's clashes) with their least window.
+// Refusals 9, 10 and 13 over a table's words: repeated bodies that may be empty, conflicts (01's clashes) with their least window, and uints without a value left.
 ghost use mathlib.Core.Path.{_≡_};
 ghost use Prim.Native.Nat.{_+_, _-_, _≤_, _<_};
 ghost use lib.ListN.{length};
@@ -10,9 +10,10 @@ ghost use Rattle.term_evaluation.specs.Counts.{formOf};
 ghost use Rattle.lookahead.specs.Sets.{Decides};
 ghost use Rattle.table_first_follow.specs.Rounds.{strings};
 ghost use Rattle.table_first_follow.specs.Parts.{siblings};
-ghost use Rattle.table_conflicts.specs.Clashes.{Branching, Turning, Repeating, ClashBelow, ClashOf, EmptyBelow, EmptyAt};
+ghost use Rattle.table_conflicts.specs.Clashes.{Branching, Turning, Repeating, ClashBelow, ClashOf, EmptyBelow, EmptyAt, NoValueIn, NoValueAt};
 use table_first_follow::parts::set_of;
 use table_layout::Below;
+use table_layout::OwnList;
 use table_layout::Passes;
 use table_layout::attributes_of;
 use table_layout::construct_at;
@@ -170,4 +171,26 @@ pub fn empty_body(table: &[u32], first: &[u64], i: usize) -> bool
     let attributes = attributes_of(construct_at(table, i));
     let below = attributes.below;
     may_be_empty(first, i, below)
+}
+
+// A uint has no value left exactly where no window begins with one.
+fn none_left(first: &[u64], i: usize, own: OwnList) -> bool
+    requires { ⌜ length (now first) ≡ family-words ⌝ }
+    ensures { λ r. ⌜ Decides r (NoValueIn (strings (now (first .entry))) i own) ⌝ }
+{
+    match own {
+        OwnList::None => false,
+        OwnList::Counts { start: _, end: _ } => false,
+        OwnList::Set { start: _, end: _ } => lookahead::is_empty(set_of(first, i)),
+    }
+}
+
+// Whether construct i is a uint whose set has no variable and no value left.
+pub fn no_value(table: &[u32], first: &[u64], i: usize) -> bool
+    requires { ⌜ length (now first) ≡ family-words ⌝ }
+    ensures { λ r. ⌜ Decides r (NoValueAt (strings (now (first .entry))) i (constructAt (now (table .entry)) i)) ⌝ }
+{
+    let attributes = attributes_of(construct_at(table, i));
+    let own = attributes.own;
+    none_left(first, i, own)
 }

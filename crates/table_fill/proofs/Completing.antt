@@ -92,7 +92,7 @@ module _ (ws middle last follow prediction : List ℕ) (weight : ℕ) (j : Judge
 
   pub completed : Sound last × Alike ws last × (length last ≡ length ws) × (drop table-words last ≡ drop table-words ws)
   completed = (
-    sound-local alike ended (j .0) (λ f k. j .1 f k ∙ sym stored-weight)
+    sound-local alike ended (j .0) (λ f k. j .1 f k ∙ sym stored-weight) (j .3) (j .4)
         (λ i h.
         let small : i < sets-held = omega (arith, laid-words .counts .constructs) in (
           stand (prediction-at i) (Predicted (held ws) i) (part i prediction) (omega arith) (ps i small) (w .prediction-stands i h),

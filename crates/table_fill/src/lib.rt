@@ -47,6 +47,8 @@ pub fn complete(table: &mut [u32], first: &mut [u64]) -> Judgement
         Judgement::EmptyBody { construct } => Judgement::EmptyBody { construct },
         Judgement::Conflict { construct, clash } => Judgement::Conflict { construct, clash },
         Judgement::Overweight => Judgement::Overweight,
+        Judgement::Unreached { rule } => Judgement::Unreached { rule },
+        Judgement::NoValue { construct } => Judgement::NoValue { construct },
         Judgement::Passes { weight } => {
             let count = word(table, 2);
             write_sets(table, &follow, &prediction, count);

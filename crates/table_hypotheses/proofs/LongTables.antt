@@ -47,7 +47,7 @@ module _ (ws : List ℕ) where
 
   pub sound-long : SoundTable ws → Sound ws
   sound-long (long, s) =
-      sound-local (table-alike long) (kept-end long (ended-of (laid-of-sound s))) (s .passed) (λ weight w. s .weight weight w ∙ kept 5 (omega arith))
+      sound-local (table-alike long) (kept-end long (ended-of (laid-of-sound s))) (s .passed) (λ weight w. s .weight weight w ∙ kept 5 (omega arith)) (s .reached) (s .valued)
       (λ i h.
       let few : i < max-constructs = omega (arith, laid-of-sound s .counts .constructs) in (
         kept-set (prediction-at i) (Predicted (held (table-of ws)) i) (omega arith) (s .sets i h .prediction),

@@ -1,7 +1,7 @@
 -- From searches to what is passed.
 -- Assumes nothing.
 use Prim.Native.Nat.{ℕ, _≤_, _<_}
-use mathlib.Core.Path.{_≡_, refl, sym}
+use mathlib.Core.Path.{_≡_, refl, sym, _∙_}
 use mathlib.Core.Bool.{true, false, false≢true}
 use mathlib.Core.List.{List, [], List·Memᴰ·not-nil}
 use native.Mathlib.Omega.{arith}
@@ -25,7 +25,7 @@ use Rattle.table_first_follow.proofs.HeldLaws.{node-inside, node-opening, node-
 use Rattle.table_sizes.specs.Measures.{LeastOf}
 use Rattle.table_conflicts.specs.Conflicts.{Conflicting, Answered}
 use Rattle.table_conflicts.specs.declared.Clash.{Clash}
-use Rattle.table_judge.specs.Judged.{Least, None, Oversized, Weighing, Passed7, Passed8, Passed9, Passed10}
+use Rattle.table_judge.specs.Judged.{Least, None, Oversized, Weighing, Passed7, Passed8, Passed9, Passed10, Light, Valueless}
 use Rattle.table_judge.specs.Clashing.{is-clash}
 
 -- ---- past the constructs there is nothing that could
@@ -69,6 +69,9 @@ module _ {ws : List ℕ} (l : Laid ws) where
   pub no-conflicts : ((i : ℕ) → i < construct-count ws → Conflicting ws i → ⊥) → None (Conflicting ws)
   no-conflicts below = everywhere (Conflicting ws) (λ i h c. unconflicted i (c .0) (idle i h) (c .1)) below
 
+  pub no-valueless : ((i : ℕ) → i < construct-count ws → Valueless ws i → ⊥) → None (Valueless ws)
+  no-valueless below = everywhere (Valueless ws) (λ i h n. let q = sym (missing-past l i h) ∙ n .is-uint in let z : _≡_ {A = ℕ} 0 1 = cc in omega arith) below
+
 -- ---- answers of `conflict`
 
 pub clash-none : (ws : List ℕ) (i : ℕ) (r : Clash) → Answered ws i r → is-clash r ≡ false → Conflicting ws i → ⊥
@@ -93,6 +96,9 @@ module _ (ws : List ℕ) (p : Passed7 ws) (n : ℕ) (w : Weight ws n) where
   pub exact-weight : n ≤ max-weight → Weighing ws (λ m. m ≡ n)
   exact-weight h weight k = let e : n ≡ capped (weight first-context opening) = weighed weight k in omega arith
 
+pub light-of : (ws : List ℕ) (n : ℕ) → Weighing ws (λ m. m ≡ n) → n ≤ max-weight → Light ws
+light-of ws n w h weight k = let e : weight first-context opening ≡ n = w weight k in omega arith
+
 -- ---- what is passed
 
 module _ (ws : List ℕ) where
@@ -115,3 +121,6 @@ module _ (ws : List ℕ) where
 
   pub passed10 : Passed9 ws → (count i : ℕ) → count ≡ construct-count ws → ((j : ℕ) → j < i → Conflicting ws j → ⊥) → count ≤ i → Passed10 ws
   passed10 p count i e l h = record { passed = p; no-conflict = no-conflicts (facts ws (p .passed .passed .laid-out)) (λ j k. l j (omega arith)) }
+
+  pub valued : Passed10 ws → (count i : ℕ) → count ≡ construct-count ws → ((j : ℕ) → j < i → Valueless ws j → ⊥) → count ≤ i → None (Valueless ws)
+  valued p count i e l h = no-valueless (facts ws (p .passed .passed .passed .laid-out)) (λ j k. l j (omega arith))

@@ -50,6 +50,12 @@ module _ (ws : List ℕ) where
       let b : weight-at ws opening ≡ weight-of ws = s .weight (weight-of-all ws p) (gives ws p) in
       omega (arith, facts ws (p .laid-out) .counts .weight))
 
+  pub unreached : (rule : ℕ) → Judged ws (Judgement.Unreached rule) → Decides false (Sound ws)
+  unreached rule j = unsound (λ s. s .reached rule (j .2 .0))
+
+  pub no-value : (i : ℕ) → Judged ws (Judgement.NoValue i) → Decides false (Sound ws)
+  no-value i j = unsound (λ s. s .valued i (j .3 .holds))
+
 module _ (ws : List ℕ) (weight : ℕ) (j : Judged ws (Judgement.Passes weight)) where
   pub other-weight : (weight ≡ weight-of ws → ⊥) → Decides false (Sound ws)
   other-weight n =
@@ -57,4 +63,4 @@ module _ (ws : List ℕ) (weight : ℕ) (j : Judged ws (Judgement.Passes weight)
       unsound ws (λ s. n (sym (j .1 (weight-of-all ws p) (gives ws p)) ∙ s .weight (weight-of-all ws p) (gives ws p)))
 
   pub sound-iff : weight ≡ weight-of ws → (r : Bool) → Decides r ((i : ℕ) → i < construct-count ws → SetsStand ws i) → Decides r (Sound ws)
-  sound-iff e r d = ((λ t. record { passed = j .0; weight = λ f k. j .1 f k ∙ e; sets = d .0 t }), (λ s. d .1 (s .sets)))
+  sound-iff e r d = ((λ t. record { passed = j .0; weight = λ f k. j .1 f k ∙ e; reached = j .3; valued = j .4; sets = d .0 t }), (λ s. d .1 (s .sets)))

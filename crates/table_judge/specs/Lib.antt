@@ -1,3 +1,4 @@
 pub mod Judged
+pub mod Weighed
 pub mod Clashing
 pub mod Sound

@@ -1,4 +1,4 @@
-// The judgement of a table's words, 5 to 11 in order, and soundness (23).
+// The judgement of a table's words, 5 to 13 in order, and soundness (23).
 ghost use mathlib.Core.Path.{_≡_};
 ghost use mathlib.Core.Bool.{true};
 ghost use lib.ListN.{length};
@@ -6,20 +6,24 @@ ghost use Rattle.lookahead.specs.Sets.{Decides};
 ghost use Rattle.table_wellformed.specs.Laid.{laid as laidOf};
 ghost use Rattle.table_first_follow.specs.Sets.{FirstSets, FollowSets, PredictionSets, family-words};
 ghost use Rattle.table_judge.specs.Judged.{Passed8, Passed9, Passed10, Judged};
+ghost use Rattle.table_judge.specs.Weighed.{Passed11, Passed12};
 ghost use Rattle.table_judge.specs.Clashing.{is-clash};
 use basis::MAX_WEIGHT;
 use table_conflicts::Clash;
 use table_layout::word;
+use table_reach::Coverage;
 use table_reach::Recursion;
 
 pub mod sound;
 
-// What is wrong with words that pass 5 to 8, by document 01's numbers: a repeated body that may be empty (9), a conflict (10), a weight over
-// 65,535 (11); or that they pass, with the weight.
+// What is wrong with words that pass 5 to 8, by the papers' numbers: a repeated body that may be empty (9), a conflict (10), a weight over
+// 65,535 (11), a rule that the start rule does not reach (12), a uint without a value left (13); or that they pass, with the weight.
 pub enum Judgement {
     EmptyBody { construct: usize },
     Conflict { construct: usize, clash: Clash },
     Overweight,
+    Unreached { rule: usize },
+    NoValue { construct: usize },
     Passes { weight: usize },
 }
 
@@ -58,21 +62,48 @@ fn is_clash(clash: Clash) -> bool
     }
 }
 
-// 11
-fn judge_weight(table: &[u32]) -> Judgement
-    requires { ⌜ Passed10 (now table) ⌝ }
+// 13: the first uint that has no value left
+fn judge_values(table: &[u32], first: &[u64], weight: usize) -> Judgement
+    requires { ⌜ Passed12 (now table) weight × (length (now first) ≡ family-words) × FirstSets (now table) (now first) ⌝ }
+    ensures { λ r. ⌜ Judged (now (table .entry)) r ⌝ }
+{
+    let count = word(table, 2);
+    let mut i = 0;
+    while i < count {
+        if table_conflicts::no_value(table, first, i) {
+            return Judgement::NoValue { construct: i };
+        }
+        i += 1;
+    }
+    Judgement::Passes { weight }
+}
+
+// 12 and 13
+fn judge_reach(table: &[u32], first: &[u64], weight: usize) -> Judgement
+    requires { ⌜ Passed11 (now table) weight × (length (now first) ≡ family-words) × FirstSets (now table) (now first) ⌝ }
+    ensures { λ r. ⌜ Judged (now (table .entry)) r ⌝ }
+{
+    match table_reach::unreached_rule(table) {
+        Coverage::All => judge_values(table, first, weight),
+        Coverage::Without(rule) => Judgement::Unreached { rule },
+    }
+}
+
+// 11 to 13
+fn judge_weight(table: &[u32], first: &[u64]) -> Judgement
+    requires { ⌜ Passed10 (now table) × (length (now first) ≡ family-words) × FirstSets (now table) (now first) ⌝ }
     ensures { λ r. ⌜ Judged (now (table .entry)) r ⌝ }
 {
     let weight = table_weights::weigh(table).grammar;
     if MAX_WEIGHT < weight {
         return Judgement::Overweight;
     }
-    Judgement::Passes { weight }
+    judge_reach(table, first, weight)
 }
 
-// 10 and 11: the first construct with a conflict
-fn judge_conflicts(table: &[u32], follow: &[u64], prediction: &[u64]) -> Judgement
-    requires { ⌜ Passed9 (now table) × (length (now follow) ≡ family-words) × (length (now prediction) ≡ family-words) × FollowSets (now table) (now follow) × PredictionSets (now table) (now prediction) ⌝ }
+// 10 to 13: the first construct with a conflict
+fn judge_conflicts(table: &[u32], first: &[u64], follow: &[u64], prediction: &[u64]) -> Judgement
+    requires { ⌜ Passed9 (now table) × (length (now first) ≡ family-words) × (length (now follow) ≡ family-words) × (length (now prediction) ≡ family-words) × FirstSets (now table) (now first) × FollowSets (now table) (now follow) × PredictionSets (now table) (now prediction) ⌝ }
     ensures { λ r. ⌜ Judged (now (table .entry)) r ⌝ }
 {
     let count = word(table, 2);
@@ -87,10 +118,10 @@ fn judge_conflicts(table: &[u32], follow: &[u64], prediction: &[u64]) -> Judgeme
         }
         i += 1;
     }
-    judge_weight(table)
+    judge_weight(table, first)
 }
 
-// 9 to 11: the first construct whose repeated body may be empty
+// 9 to 13: the first construct whose repeated body may be empty
 fn judge_bodies(table: &[u32], first: &[u64], follow: &[u64], prediction: &[u64]) -> Judgement
     requires { ⌜ Passed8 (now table) × (length (now first) ≡ family-words) × (length (now follow) ≡ family-words) × (length (now prediction) ≡ family-words) × FirstSets (now table) (now first) × FollowSets (now table) (now follow) × PredictionSets (now table) (now prediction) ⌝ }
     ensures { λ r. ⌜ Judged (now (table .entry)) r ⌝ }
@@ -103,7 +134,7 @@ fn judge_bodies(table: &[u32], first: &[u64], follow: &[u64], prediction: &[u64]
         }
         i += 1;
     }
-    judge_conflicts(table, follow, prediction)
+    judge_conflicts(table, first, follow, prediction)
 }
 
 // The judgement of words that pass 5 to 8. Their grammar's sets are left in the arrays.

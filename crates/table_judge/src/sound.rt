@@ -63,6 +63,8 @@ fn sound_words(table: &[u32]) -> bool
             clash: _,
         } => false,
         Judgement::Overweight => false,
+        Judgement::Unreached { rule: _ } => false,
+        Judgement::NoValue { construct: _ } => false,
         Judgement::Passes { weight } => {
             if weight == word(table, 5) {
                 return all_stand(table, &follow, &prediction);

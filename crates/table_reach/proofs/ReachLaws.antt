@@ -2,21 +2,24 @@
 -- Assumes nothing.
 use Prim.Native.Nat.{ℕ, _-_, _≤_, _<_, min}
 use native.Mathlib.Omega.{arith}
+use native.Mathlib.Decide.{decLt}
 use mathlib.Core.Path.{_≡_, refl, sym, _∙_}
-use mathlib.Core.Bool.{Bool, true, false, cond}
+use mathlib.Core.Bool.{Bool, true, false, false≢true, cond}
 use mathlib.Core.List.{List}
 use borrow.Author.Tests.{ltb-true, lt-ltb, eqb-true, eq-eqb}
 use lib.Dec.{ltb, eqb}
 use lib.ListN.{getD}
 use Rattle.basis.specs.Limits.{max-rules, max-constructs}
+use Rattle.basis.proofs.Booleans.{both-first, both-second}
 use Rattle.table_layout.specs.Places.{rule-count}
 use Rattle.table_layout.specs.Constructs.{constructAt}
 use Rattle.table_layout.specs.declared.Construct.{Construct}
 use Rattle.table_layout.proofs.Views.{parted, use-by}
 use Rattle.lookahead.specs.Sets.{bit}
-use Rattle.table_reach.specs.Reaching.{body-of, rule-end, Uses, Reaches, Found}
-use Rattle.table_reach.specs.Closure.{used-rule, calls, uses-between, uses, closure, Matrix, Diagonal}
+use Rattle.table_reach.specs.Reaching.{body-of, rule-end, Uses, Reaches, Found, Unreached, Covered}
+use Rattle.table_reach.specs.Closure.{used-rule, calls, uses-between, uses, closure, Matrix, Diagonal, from-start, StartRow}
 use Rattle.table_reach.specs.declared.Recursion.{Recursion}
+use Rattle.table_reach.specs.declared.Coverage.{Coverage}
 use Rattle.table_reach.proofs.Searches.{some-binary, some-found, some-there}
 use Rattle.table_reach.proofs.Closures.{Chain, closure-binary, chain-closure, closure-least}
 use Rattle.table_reach.proofs.Constructs.{use-below}
@@ -93,3 +96,26 @@ module _ (ws : List ℕ) where
     pub found : (x : Recursion) → Diagonal rows x → Found ws x
     found Recursion.None d = λ q a. none-there q (d q (reaches-below a)) a
     found (Recursion.Rule r) d = (reach-found r r (d .0) (sym (m .entry r r (d .0) (d .0)) ∙ d .1), λ q h a. none-there q (d .2 q h) a)
+
+    -- row 0 has the bits of the rules that the start rule reaches
+    row-reaches : (q : ℕ) → from-start rows q ≡ true → Reaches ws 0 q
+    row-reaches q e =
+        let h : q < max-rules = ltb-true q max-rules (both-first (ltb q max-rules) (eqb (bit (getD rows 0 0) q) 1) e) in
+        let b : bit (getD rows 0 0) q ≡ 1 = eqb-true (bit (getD rows 0 0) q) 1 (both-second (ltb q max-rules) (eqb (bit (getD rows 0 0) q) 1) e) in
+        reach-found 0 q h (sym (m .entry 0 q (omega arith) h) ∙ b)
+
+    reaches-row : (q : ℕ) → Reaches ws 0 q → from-start rows q ≡ true
+    reaches-row q a =
+        let h : q < max-rules = reaches-below a in
+        rw (lt-ltb q max-rules h) (eq-eqb (bit (getD rows 0 0) q) 1 (m .entry 0 q (omega arith) h ∙ reach-there a))
+
+    another : (q : ℕ) → Unreached ws q → 1 ≤ q
+    another q u = elim (decLt 0 q) [ yes h ↦ h | no h ↦ absurd (u .other (omega arith)) ]
+
+    -- the first rule that row 0 does not have is the first that is not reached
+    pub covered : (count : ℕ) → count ≡ rule-count ws → (x : Coverage) → StartRow rows count x → Covered ws x
+    covered count c Coverage.All d = λ q u. u .unreached (row-reaches q (d q (another q u) (omega (arith, u .there))))
+    covered count c (Coverage.Without r) d = (
+      record { there = omega (arith, d .1); other = λ e. omega (arith, d .0); unreached = λ a. false≢true (sym (d .2) ∙ reaches-row r a) },
+      λ q h u. u .unreached (row-reaches q (d .3 q (another q u) h)),
+    )

@@ -2,7 +2,7 @@
 -- Assumes nothing.
 use Prim.Native.Nat.{ℕ, zero, suc, _+_, _-_, _<_, _≤_, max, min}
 use mathlib.Core.Path.{_≡_}
-use mathlib.Core.Bool.{cond}
+use mathlib.Core.Bool.{Bool, true, false, cond, _&&_}
 use mathlib.Core.List.{List}
 use lib.Dec.{ltb, eqb}
 use lib.ListN.{length, getD}
@@ -14,6 +14,7 @@ use Rattle.table_layout.specs.declared.Construct.{Construct}
 use Rattle.lookahead.specs.Sets.{bit}
 use Rattle.table_reach.specs.Reaching.{body-of, rule-end}
 use Rattle.table_reach.specs.declared.Recursion.{Recursion}
+use Rattle.table_reach.specs.declared.Coverage.{Coverage}
 
 -- whether f is 1 at one of n numbers from i on
 unfoldable pub some-of : ℕ → (ℕ → ℕ) → ℕ → ℕ
@@ -56,3 +57,12 @@ pub record Mended (before after : List ℕ) (via k n : ℕ) : Type 0 where
 abbrev pub Diagonal : List ℕ → Recursion → Type 0
 Diagonal rows Recursion.None = (q : ℕ) → q < max-rules → bit (getD rows q 0) q ≡ 0
 Diagonal rows (Recursion.Rule r) = (r < max-rules) × (bit (getD rows r 0) r ≡ 1) × ((q : ℕ) → q < r → bit (getD rows q 0) q ≡ 0)
+
+-- q is one of 64 rules, and row 0 has its bit
+abbrev pub from-start : List ℕ → ℕ → Bool
+from-start rows q = ltb q max-rules && eqb (bit (getD rows 0 0) q) 1
+
+-- the first of the rules from 1 up to `count` that row 0 does not have
+abbrev pub StartRow : List ℕ → ℕ → Coverage → Type 0
+StartRow rows count Coverage.All = (q : ℕ) → 1 ≤ q → q < count → from-start rows q ≡ true
+StartRow rows count (Coverage.Without r) = (1 ≤ r) × (r < count) × (from-start rows r ≡ false) × ((q : ℕ) → 1 ≤ q → q < r → from-start rows q ≡ true)

@@ -10,6 +10,7 @@ use Rattle.table_layout.specs.Places.{rule-word, rule-count, construct-count}
 use Rattle.table_layout.specs.Constructs.{constructAt}
 use Rattle.table_layout.specs.declared.Construct.{Construct}
 use Rattle.table_reach.specs.declared.Recursion.{Recursion}
+use Rattle.table_reach.specs.declared.Coverage.{Coverage}
 
 -- the construct that is rule r's body
 abbrev pub body-of : List ℕ → ℕ → ℕ
@@ -54,3 +55,8 @@ AllReached ws = (r : ℕ) → Unreached ws r → ⊥
 -- the first rule that is not
 abbrev pub FirstUnreached : List ℕ → ℕ → Type 0
 FirstUnreached ws r = Unreached ws r × ((q : ℕ) → q < r → Unreached ws q → ⊥)
+
+-- what an answer says: refusal 12 is given exactly where there is such a rule, and that is the first
+abbrev pub Covered : List ℕ → Coverage → Type 0
+Covered ws Coverage.All = AllReached ws
+Covered ws (Coverage.Without r) = FirstUnreached ws r

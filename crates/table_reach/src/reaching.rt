@@ -8,7 +8,8 @@ ghost use lib.ListN.{length};
 ghost use Rattle.basis.specs.Limits.{max-rules};
 ghost use Rattle.lookahead.specs.Sets.{bit};
 ghost use Rattle.table_reach.specs.Reaching.{rule-end};
-ghost use Rattle.table_reach.specs.Closure.{used-rule, uses-between, uses, closure, Matrix, Mended, Diagonal};
+ghost use Rattle.table_reach.specs.Closure.{used-rule, uses-between, uses, closure, Matrix, Mended, Diagonal, from-start, StartRow};
+use super::Coverage;
 use super::Recursion;
 use super::at_most;
 use basis::MAX_CONSTRUCTS;
@@ -81,7 +82,7 @@ fn row_of(table: &[u32], r: usize) -> u64
 }
 
 // The uses of every rule.
-pub fn fill(table: &[u32], rows: &mut [u64; MAX_RULES])
+fn fill(table: &[u32], rows: &mut [u64; MAX_RULES])
     requires { ⌜ length (now rows) ≡ max-rules ⌝ }
     ensures { λ r. ⌜ Matrix (now (rows .exit)) (uses (now (table .entry))) ⌝ }
 {
@@ -115,7 +116,7 @@ fn through(rows: &mut [u64; MAX_RULES], via: u64, k: usize)
 }
 
 // Warshall's closure, in place.
-pub fn close(rows: &mut [u64; MAX_RULES])
+fn close(rows: &mut [u64; MAX_RULES])
     requires { ⌜ length (now rows) ≡ max-rules ⌝ }
     ensures { λ r. ⌜ ((u : ℕ → ℕ → ℕ) → Matrix (now (rows .entry)) u → Matrix (now (rows .exit)) (closure u max-rules)) ⌝ }
 {
@@ -125,6 +126,15 @@ pub fn close(rows: &mut [u64; MAX_RULES])
         through(rows, via, k);
         k += 1;
     }
+}
+
+// Which rules reach which.
+pub fn rows_of(table: &[u32], rows: &mut [u64; MAX_RULES])
+    requires { ⌜ length (now rows) ≡ max-rules ⌝ }
+    ensures { λ r. ⌜ Matrix (now (rows .exit)) (closure (uses (now (table .entry))) max-rules) ⌝ }
+{
+    fill(table, rows);
+    close(rows);
 }
 
 pub fn first_on_diagonal(rows: &[u64; MAX_RULES]) -> Recursion
@@ -138,4 +148,29 @@ pub fn first_on_diagonal(rows: &[u64; MAX_RULES]) -> Recursion
         r += 1;
     }
     Recursion::None
+}
+
+// Whether a rule is one of 64, and the start rule reaches it.
+fn reached(rows: &[u64; MAX_RULES], q: usize) -> bool
+    ensures { λ r. ⌜ r ≡ from-start (now (rows .entry)) q ⌝ }
+{
+    if q < MAX_RULES {
+        return has(rows[0], q);
+    }
+    false
+}
+
+// The first of the rules from 1 up to `count` that the start rule does not reach.
+pub fn first_not_reached(rows: &[u64; MAX_RULES], count: usize) -> Coverage
+    ensures { λ r. ⌜ StartRow (now (rows .entry)) count r ⌝ }
+{
+    let mut r = 1;
+    while r < count {
+        if reached(rows, r) {
+            r += 1;
+        } else {
+            return Coverage::Without(r);
+        }
+    }
+    Coverage::All
 }

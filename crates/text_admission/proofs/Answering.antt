@@ -12,8 +12,8 @@ use Rattle.table_layout.specs.Held.{held}
 use Rattle.table_judge.specs.Sound.{Sound}
 use Rattle.table_hypotheses.specs.OneTable.{Alike}
 use Rattle.text_store.specs.Store.{State, node-words, rule-words, nodes-of}
-use Rattle.text_admission.specs.Admitted.{words-of, Bounded, LeastMark, RulesRefused, by-empty-body, by-weight, AnsweredRules}
-use Rattle.text_admission.specs.Late.{Marks, LateRefused, empty-body, overweight, Late, HandedOver}
+use Rattle.text_admission.specs.Admitted.{words-of, Bounded, LeastMark, RulesRefused, by-empty-body, by-weight, by-unreached, by-no-value, AnsweredRules}
+use Rattle.text_admission.specs.Late.{Marks, LateRefused, empty-body, overweight, unreached, no-value, Late, HandedOver}
 use Rattle.text_admission.specs.declared.Admission.{Admission}
 use Rattle.text_admission.proofs.Judging.{count-is}
 
@@ -27,13 +27,15 @@ module _ (xs : List ℕ) (st : State) (base : ℕ) (p : Bounded xs st) (h : leng
   refusal : {number place : ℕ} → LateRefused (node-words st) (rule-words st) base (words-of xs st) number place → RulesRefused xs base number place
   refusal (empty-body {p = q} {i = i} l e m z) = by-empty-body p (least-mark i q l e m) z
   refusal (overweight d w z) = by-weight p d w z
+  refusal (unreached d w f z) = by-unreached p d w f z
+  refusal (no-value d w r l z) = by-no-value p d w r l z
 
   -- the words before and after the judgement, and the caller's
   answers : (new old table : List ℕ) (answer : Admission) → Late (node-words st) (rule-words st) base (words-of xs st) new answer → HandedOver answer new old table → AnsweredRules xs base old table answer
   answers new old table (Admission.Admitted weight) l t =
       record {
         st = st;
-        passes = record { passed = p; judged = l .judged; weighs = l .weighs; limited = l .limited };
+        passes = record { passed = p; judged = l .judged; weighs = l .weighs; limited = l .limited; reached = l .reached; valued = l .valued };
         table = record {
           sound = subst Sound (sym (t .0)) (l .sound);
           same = subst (Alike (words-of xs st)) (sym (t .0)) (l .same);

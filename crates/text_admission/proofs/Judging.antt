@@ -20,7 +20,7 @@ use Rattle.text_store.specs.Store.{State, state, nodes-of}
 use Rattle.text_wellformed.specs.Context.{Readable}
 use Rattle.text_wellformed.proofs.LaidOut.{words-by-place, laid-out}
 use Rattle.text_admission.specs.Admitted.{words-of, Bounded}
-use Rattle.text_admission.specs.Late.{Marks, Late, LatePass, empty-body, overweight, Within}
+use Rattle.text_admission.specs.Late.{Marks, Late, LatePass, empty-body, overweight, unreached, no-value, Within}
 use Rattle.text_admission.specs.declared.Admission.{Admission}
 use Rattle.text_admission.proofs.Facts.{Facts, facts}
 use Rattle.text_admission.proofs.Extending.{numbers-right, widths-right, sizes-right}
@@ -79,5 +79,11 @@ module _ (ns rs old new : List ℕ) (base : ℕ) where
   pub late-weight : Judged old Judgement.Overweight → (r : Admission) → r ≡ Admission.Refused 11 (base + named-at rs 0) → Late ns rs base old new r
   late-weight d r e = subst (Late ns rs base old new) (sym e) (overweight (d .0) (d .1) refl)
 
+  pub late-reach : (rule : ℕ) → Judged old (Judgement.Unreached rule) → (r : Admission) → r ≡ Admission.Refused 12 (base + named-at rs rule) → Late ns rs base old new r
+  late-reach rule d r e = subst (Late ns rs base old new) (sym e) (unreached (d .0) (d .1) (d .2) refl)
+
+  pub late-value : (i : ℕ) → Judged old (Judgement.NoValue i) → (r : Admission) → r ≡ Admission.Refused 13 (base + place-of ns i) → Late ns rs base old new r
+  late-value i d r e = subst (Late ns rs base old new) (sym e) (no-value (d .0) (d .1) (d .2) (d .3) refl)
+
   pub late-pass : (weight : ℕ) → Judged old (Judgement.Passes weight) → Completed old new (Judgement.Passes weight) → LatePass weight old new
-  late-pass weight d c = record { judged = d .0; weighs = d .1; limited = d .2; sound = c .0; same = c .1 }
+  late-pass weight d c = record { judged = d .0; weighs = d .1; limited = d .2; reached = d .3; valued = d .4; sound = c .0; same = c .1 }

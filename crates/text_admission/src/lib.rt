@@ -1,4 +1,4 @@
-// Admission of a grammar's text: refusals 1 to 11 in order, or the table of its grammar.
+// Admission of a grammar's text: refusals 1 to 13 in order, or the table of its grammar.
 use basis::MAX_TEXT_BYTES;
 use basis::TABLE_WORDS;
 use table_conflicts::Clash;
@@ -28,7 +28,7 @@ mod copying;
 mod extents;
 mod marks;
 
-// The answer to a text: its grammar's weight, or a number of document 01 with a place; a conflict (10) with its construct, and the least
+// The answer to a text: its grammar's weight, or a number of the papers with a place; a conflict (10) with its construct, and the least
 // window with the branches that share it.
 pub enum Admission {
     Admitted {
@@ -76,6 +76,14 @@ fn refused_at(number: usize, base: usize, rules: &[usize], rule: usize) -> Admis
     refused(number, base, rule_word(rules, rule, NAMED_AT))
 }
 
+// At a construct.
+fn refused_in(number: usize, base: usize, nodes: &[usize], construct: usize) -> Admission
+    requires { ⌜ (length (now nodes) ≡ nodes-room) × (base ≤ max-text-bytes) × ((i : ℕ) → (node-word (now nodes) i 2 ≤ max-text-bytes) × (node-word (now nodes) i 4 ≤ max-text-bytes)) ⌝ }
+    ensures { λ r. ⌜ r ≡ Admission.Refused number (base + place-of (now (nodes .entry)) construct) ⌝ }
+{
+    refused(number, base, node_word(nodes, construct, PLACE))
+}
+
 fn conflict(nodes: &[usize], base: usize, construct: usize, clash: Clash) -> Admission
     requires { ⌜ (length (now nodes) ≡ nodes-room) × (base ≤ max-text-bytes) × ((i : ℕ) → (node-word (now nodes) i 2 ≤ max-text-bytes) × (node-word (now nodes) i 4 ≤ max-text-bytes)) ⌝ }
     ensures { λ r. ⌜ r ≡ Admission.Conflict (base + place-of (now (nodes .entry)) construct) construct clash ⌝ }
@@ -87,7 +95,7 @@ fn conflict(nodes: &[usize], base: usize, construct: usize, clash: Clash) -> Adm
     }
 }
 
-// 9 to 11, of words that pass 5 to 8.
+// 9 to 13, of words that pass 5 to 8.
 fn judged(nodes: &[usize], rules: &[usize], base: usize, words: &mut [u32]) -> Admission
     requires { ⌜ Passed8 (now words) × (length (now nodes) ≡ nodes-room) × (length (now rules) ≡ rules-room) × (base ≤ max-text-bytes) × Within (now nodes) (now rules) ⌝ }
     ensures { λ r. ⌜ Late (now (nodes .entry)) (now (rules .entry)) base (now (words .entry)) (now (words .exit)) r ⌝ }
@@ -99,6 +107,8 @@ fn judged(nodes: &[usize], rules: &[usize], base: usize, words: &mut [u32]) -> A
         }
         Judgement::Conflict { construct, clash } => conflict(nodes, base, construct, clash),
         Judgement::Overweight => refused_at(11, base, rules, 0),
+        Judgement::Unreached { rule } => refused_at(12, base, rules, rule),
+        Judgement::NoValue { construct } => refused_in(13, base, nodes, construct),
         Judgement::Passes { weight } => Admission::Admitted { weight },
     }
 }
@@ -131,7 +141,7 @@ fn handed_over(answer: Admission, words: &[u32], table: &mut [u32]) -> Admission
     answer
 }
 
-// 8 to 11, of words in which no rule reaches itself.
+// 8 to 13, of words in which no rule reaches itself.
 fn admit_words(
     text: &[u8],
     nodes: &[usize],
@@ -154,7 +164,7 @@ fn admit_words(
     }
 }
 
-// 7 to 11, of what is read.
+// 7 to 13, of what is read.
 fn admit_read(
     text: &[u8],
     nodes: &[usize],
@@ -175,7 +185,7 @@ fn admit_read(
     }
 }
 
-// 5 to 11, of what is read.
+// 5 to 13, of what is read.
 fn admit_checked(
     text: &[u8],
     nodes: &[usize],
@@ -199,7 +209,7 @@ fn admit_checked(
     admit_read(text, nodes, terms, rules, c, base, table)
 }
 
-// 4 to 11, of the text that follows the empty line; `base` is its place in the whole text.
+// 4 to 13, of the text that follows the empty line; `base` is its place in the whole text.
 fn admit_rules(text: &[u8], base: usize, table: &mut [u32]) -> Admission
     requires { ⌜ (length (now text) ≤ max-text-bytes) × (base ≤ max-text-bytes) × (table-words ≤ length (now table)) ⌝ }
     ensures { λ r. ⌜ AnsweredRules (now (text .entry)) base (now (table .entry)) (now (table .exit)) r ⌝ }

@@ -35,7 +35,7 @@ module _ {xs ns ts rs : List ℕ} {n t b r : ℕ} (text : Readable xs ns ts rs n
   zero-word : (i k : ℕ) → n ≤ i → i < max-constructs → k < 8 → construct-word ws i k ≡ 0
   zero-word i k l h m = words-by-place text stored places .constructs-rest (constructs-at + 8 * i + k) (omega arith) (omega arith)
 
-  past : (i : ℕ) → n ≤ i → constructAt ws i ≡ Construct.Missing
+  pub past : (i : ℕ) → n ≤ i → constructAt ws i ≡ Construct.Missing
   unfolding constructAt constructOf
   past i l =
       ⊎-elim

@@ -4,6 +4,7 @@ pub mod PartLists
 pub mod ListsHeld
 pub mod NodesHeld
 pub mod Holding
+pub mod Uints
 pub mod TreeLists
 pub mod Trees
 pub mod Fitting

@@ -25,7 +25,7 @@ use Rattle.tree_meaning.specs.Counted.{no-rule, refusal-5}
 use Rattle.tree_meaning.specs.Names.{refusal-6}
 use Rattle.tree_meaning.specs.Sizes.{refusal-8}
 use Rattle.tree_meaning.specs.Grammar.{TreeNode, Construct, plain-at, use-node, tree-constructs, construct-at, opening, tree-grammar}
-use Rattle.tree_meaning.specs.Rows.{start-rule}
+use Rattle.tree_meaning.specs.Reaching.{start-rule}
 use Rattle.tree_store.proofs.Limits.{Limited, limited}
 use Rattle.tree_store.proofs.Places.{Stands, stands-at}
 use Rattle.tree_store.proofs.Rowed.{RulesIn, rule-then, rowed}

@@ -4,7 +4,7 @@ use Prim.Native.Nat.{ℕ, suc, _+_}
 use mathlib.Core.Path.{_≡_, refl, sym, ap, _∙_, subst}
 use mathlib.Core.Bool.{Bool, true, false, cond, _&&_}
 use mathlib.Core.List.{List, []}
-use mathlib.Core.Option.{Option}
+use mathlib.Core.Option.{Option, none, some}
 use native.Mathlib.Omega.{arith}
 use lib.Dec.{leb}
 use lib.IntN.{pos}
@@ -21,7 +21,7 @@ use Rattle.tree.specs.Lexemes.{Number}
 use Rattle.tree.specs.Tree.{ValueSet, Mark}
 use Rattle.tree_meaning.specs.Pieces.{set-parts}
 use Rattle.tree_meaning.specs.Values.{in-set}
-use Rattle.tree_meaning.specs.Grammar.{Values, TreeNode, values-at, has-variable, literal-node, range-node, use-node, uint-node, mark-passes, mark-static, mark-exact, repetition-node}
+use Rattle.tree_meaning.specs.Grammar.{Values, TreeNode, Uint, values-at, has-variable, literal-node, range-node, use-node, uint-node, mark-passes, mark-static, mark-exact, repetition-node}
 use Rattle.tree_meaning.proofs.Agreeing.{SameNode, same-alternative, same-concatenation, same-repetition, same-switch, same-use, same-field, same-eod}
 
 both-and : (a b : Bool) → (a && b) ≡ (a && b)
@@ -109,3 +109,15 @@ module _ (P : Values → Type 0) (xs ns ts rs : List ℕ) (r i : ℕ) where
       in let z : _≡_ {A = TreeNode} (switch (λ c v. first-true xs ns ts rs r v (parts-of ns i)) (no-default ns (parts-of ns i)) (parts-of ns i)) (switch (λ c v. first-true xs ns ts rs r v is) (no-default ns is) is) = λ t. switch (λ c v. first-true xs ns ts rs r v (e t)) (no-default ns (e t)) (e t)
       in let y : _≡_ {A = TreeNode} (switch (λ c v. first-true xs ns ts rs r v is) (no-default ns is) is) n = λ t. switch (λ c v. first-true xs ns ts rs r v is) (o t) is
       in told n (switch (λ c v. chosen v) optional is) (q ∙ z ∙ y) (same-switch (λ c v p. same v p))
+
+-- node i is a uint exactly where the construct is one; of its width then, and with the same values in its set, all of them where a variable stands in it
+module _ (xs ns ts rs : List ℕ) (r i : ℕ) where
+  abbrev pub SameUint : Option Uint → Type 0
+  SameUint none = kind-of ns i ≡ 8 → ⊥
+  SameUint (some u) =
+      (kind-of ns i ≡ 8)
+      × (width-of xs ns i ≡ u .width .value)
+      × ((k : ℕ) → in-static-set (own-list xs ns ts rs r i) k ≡ cond (has-variable (set-parts (u .values))) true (in-set (λ x. pos 0) (u .values) (pos k)))
+
+  pub no-uint : (k : ℕ) → kind-of ns i ≡ k → (k ≡ 8 → ⊥) → SameUint none
+  no-uint k e n z = n (sym e ∙ z)

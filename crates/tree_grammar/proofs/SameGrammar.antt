@@ -2,7 +2,7 @@
 -- number are the same at all values that a run or a derivation meets (`tree_meaning` `Agreeing`).
 -- Assumes nothing.
 use Prim.Native.Nat.{ℕ, zero, suc, _+_, _≤_, _<_, min}
-use mathlib.Core.Path.{_≡_, refl, sym, _∙_, subst}
+use mathlib.Core.Path.{_≡_, refl, sym, ap, _∙_, subst}
 use mathlib.Core.Logic.{⊎-elim}
 use mathlib.Core.Bool.{Bool, true, false, cond}
 use mathlib.Core.List.{List, [], _∷_}
@@ -38,6 +38,7 @@ use Rattle.tree_store.proofs.Storing.{totalled-tree, nodes-read}
 use Rattle.tree_store.proofs.Rowed.{RulesIn, rule-then, rowed}
 use Rattle.tree_numbers.proofs.Rules.{At}
 use Rattle.tree_grammar.proofs.Lists.{text-rows}
+use Rattle.tree_grammar.proofs.Nodes.{SameUint}
 use Rattle.tree_grammar.proofs.Walk.{AllMeant}
 use Rattle.tree_grammar.proofs.AllRules.{rules-meant}
 
@@ -66,11 +67,15 @@ past-end [] k d l = refl
 past-end (c ∷ cs) zero d l = absurd (omega arith)
 past-end (c ∷ cs) (suc k) d l = past-end cs k d (omega arith)
 
-at-number : (P : Values → Type 0) (xs ns ts ws : List ℕ) (r i : ℕ) (cs : List Construct) (d : Construct) → AllMeant P xs ns ts ws r i cs → (k : ℕ) → k < length cs → SameNode P (meant-node xs ns ts ws r (i + k)) (getD cs k d .node)
+-- node j, and a construct
+abbrev Alike : (P : Values → Type 0) (xs ns ts ws : List ℕ) (r j : ℕ) → Construct → Type 0
+Alike P xs ns ts ws r j c = SameNode P (meant-node xs ns ts ws r j) (c .node) × SameUint xs ns ts ws r j (c .uint)
+
+at-number : (P : Values → Type 0) (xs ns ts ws : List ℕ) (r i : ℕ) (cs : List Construct) (d : Construct) → AllMeant P xs ns ts ws r i cs → (k : ℕ) → k < length cs → Alike P xs ns ts ws r (i + k) (getD cs k d)
 unfolding AllMeant
 at-number P xs ns ts ws r i [] d h k l = absurd (omega arith)
-at-number P xs ns ts ws r i (c ∷ cs) d h zero l = subst (λ (j : ℕ). SameNode P (meant-node xs ns ts ws r j) (c .node)) (let q : i ≡ i + 0 = omega arith in q) (h .0)
-at-number P xs ns ts ws r i (c ∷ cs) d h (suc k) l = subst (λ (j : ℕ). SameNode P (meant-node xs ns ts ws r j) (getD cs k d .node)) (let q : suc i + k ≡ i + suc k = omega arith in q) (at-number P xs ns ts ws r (suc i) cs d (h .1) k (omega arith))
+at-number P xs ns ts ws r i (c ∷ cs) d h zero l = subst (λ (j : ℕ). Alike P xs ns ts ws r j c) (let q : i ≡ i + 0 = omega arith in q) (h .0, h .1)
+at-number P xs ns ts ws r i (c ∷ cs) d h (suc k) l = subst (λ (j : ℕ). Alike P xs ns ts ws r j (getD cs k d)) (let q : suc i + k ≡ i + suc k = omega arith in q) (at-number P xs ns ts ws r (suc i) cs d (h .2) k (omega arith))
 
 module _ {xs : List ℕ} {t : Rules} (spelled : SpelledBy xs t) (five : refusal-5 t ≡ none) (six : refusal-6 t ≡ none) (eight : refusal-8 t ≡ none) where
   abbrev ns : List ℕ
@@ -106,17 +111,29 @@ module _ {xs : List ℕ} {t : Rules} (spelled : SpelledBy xs t) (five : refusal-
       ∙ sym (totalled-tree t .in-nodes)
       ∙ as-many (rules-in t) 0 0 0 (rules-in t)
 
+  alike : (i : ℕ) → i < n → Alike (Kept t) xs ns ts ws r i (construct-at t i)
+  alike i l =
+      subst (λ (j : ℕ). Alike (Kept t) xs ns ts ws r j (construct-at t i)) (let q : 0 + i ≡ i = omega arith in q)
+      (at-number (Kept t) xs ns ts ws r 0 (tree-constructs t) (plain-at 0 (alternative [])) all-meant i (omega (arith, count)))
+
+  none-past : (i : ℕ) → n ≤ i → construct-at t i ≡ plain-at 0 (alternative [])
+  none-past i l = past-end (tree-constructs t) i (plain-at 0 (alternative [])) (omega (arith, count))
+
   inner : (i : ℕ) → SameNode (Kept t) (cond (ltb i n) (meant-node xs ns ts ws r i) (alternative [])) (construct-at t i .node)
   inner i =
       ⊎-elim
-      (λ (e : ltb i n ≡ true).
-      subst (λ (c : Bool). SameNode (Kept t) (cond c (meant-node xs ns ts ws r i) (alternative [])) (construct-at t i .node)) (sym e)
-      (subst (λ (j : ℕ). SameNode (Kept t) (meant-node xs ns ts ws r j) (construct-at t i .node)) (let q : 0 + i ≡ i = omega arith in q)
-      (at-number (Kept t) xs ns ts ws r 0 (tree-constructs t) (plain-at 0 (alternative [])) all-meant i (omega (arith, count, ltb-true i n e)))))
+      (λ (e : ltb i n ≡ true). subst (λ (c : Bool). SameNode (Kept t) (cond c (meant-node xs ns ts ws r i) (alternative [])) (construct-at t i .node)) (sym e) (alike i (ltb-true i n e) .0))
       (λ (e : ltb i n ≡ false).
       subst (λ (c : Bool). SameNode (Kept t) (cond c (meant-node xs ns ts ws r i) (alternative [])) (construct-at t i .node)) (sym e)
-      (subst (λ (c : Construct). SameNode (Kept t) (alternative []) (c .node)) (sym (past-end (tree-constructs t) i (plain-at 0 (alternative [])) (omega (arith, count, ltb-false i n e)))) same-alternative))
+      (subst (λ (c : Construct). SameNode (Kept t) (alternative []) (c .node)) (sym (none-past i (ltb-false i n e))) same-alternative))
       (which (ltb i n))
+
+  -- uints: of the nodes, and none past them
+  pub same-uint : (i : ℕ) → i < n → SameUint xs ns ts ws r i (construct-at t i .uint)
+  same-uint i l = alike i l .1
+
+  pub no-uint-past : (i : ℕ) → n ≤ i → construct-at t i .uint ≡ none
+  no-uint-past i l = ap (λ (c : Construct). c .uint) (none-past i l)
 
   -- the claim
   pub same-node : (i : ℕ) → SameNode (Kept t) (grammar-of xs ns ts ws n r .node i) (tree-grammar t .node i)

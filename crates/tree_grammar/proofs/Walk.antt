@@ -40,7 +40,7 @@ use Rattle.tree_store.proofs.Spots.{Like}
 use Rattle.tree_store.proofs.Binding.{same-here, after-bound, Quiet, mark-quiet, bound-rows, Before, before-node, before-more}
 use Rattle.tree_store.proofs.Rowed.{NodesAt, nodes-left, nodes-right}
 use Rattle.tree_grammar.proofs.Parts.{member-parts, branch-parts, case-parts}
-use Rattle.tree_grammar.proofs.Nodes.{Means, alternative-means, concatenation-means, literal-means, range-means, use-means, eod-means, uint-means, repetition-means, switch-means}
+use Rattle.tree_grammar.proofs.Nodes.{Means, alternative-means, concatenation-means, literal-means, range-means, use-means, eod-means, uint-means, repetition-means, switch-means, SameUint, no-uint}
 use Rattle.tree_grammar.proofs.Lists.{RowsAt, rows-left, rows-right}
 use Rattle.tree_grammar.proofs.Widths.{all-wide, all-known}
 use Rattle.tree_grammar.proofs.Formulas.{FormulaRight, InRule, set-same, set-first, counts-list, condition-same}
@@ -87,14 +87,20 @@ module _ (P : Values → Type 0) (numbered widest : List ℕ → ℕ) (rules who
 module _ (P : Values → Type 0) (xs ns ts rs : List ℕ) (r : ℕ) where
   unfoldable pub AllMeant : ℕ → List Construct → Type 0
   AllMeant i [] = Unit {0}
-  AllMeant i (c ∷ more) = Means P xs ns ts rs r i (c .node) × AllMeant (suc i) more
+  AllMeant i (c ∷ more) = Means P xs ns ts rs r i (c .node) × SameUint xs ns ts rs r i (c .uint) × AllMeant (suc i) more
 
   pub meant-both : (i : ℕ) (cs ds : List Construct) → AllMeant i cs → AllMeant (i + length cs) ds → AllMeant i (cs ++ ds)
   unfolding AllMeant
   meant-both i [] ds p q = subst (λ (k : ℕ). AllMeant k ds) (let z : i + 0 ≡ i = omega arith in z) q
-  meant-both i (c ∷ cs) ds p q = (p .0, meant-both (suc i) cs ds (p .1) (subst (λ (k : ℕ). AllMeant k ds) (let z : i + suc (length cs) ≡ suc i + length cs = omega arith in z) q))
+  meant-both i (c ∷ cs) ds p q = (p .0, p .1, meant-both (suc i) cs ds (p .2) (subst (λ (k : ℕ). AllMeant k ds) (let z : i + suc (length cs) ≡ suc i + length cs = omega arith in z) q))
 
--- ---- fields
+-- ---- repetitions and fields
+
+mark-kind : (m : Mark) (size p t : ℕ) → mark-row m size p t .kind ≡ 3
+mark-kind (optional s) size p t = refl
+mark-kind (any-number s) size p t = refl
+mark-kind (one-or-more s) size p t = refl
+mark-kind (counted opens n closes) size p t = refl
 
 bound-so : (d : ℕ) → not (eqb (way-bound d) 0) ≡ true
 bound-so d = by (eqb d 2)
@@ -215,39 +221,46 @@ module _ {P : Values → Type 0} {xs ns rs : List ℕ} {r : ℕ} {body numbered 
   pub walk : {p : Part} {d : ℕ} (top begun : Bool) (x : Tree p d) (i t : ℕ) (names : List Name) (w : List Lexeme) {q : ℕ} → FirstAt ns i (node-rows begun x t) → RowsAt ts t (term-rows x) → Standing xs q (spell x w) → Before xs ns a i names → i + constructs begun x ≤ end
       → Right P numbered widest rules whole names (pieces top x) → AllMeant P xs ns ts rs r i (constructs-of body numbered begun i x)
   unfolding AllMeant Right node-rows term-rows spell constructs pieces constructs-of
-  walk top begun (literal l) i t names w (first-then h more) rows s b e ok = (literal-means P xs ns ts rs r i (l .characters) (h .kind-is) (ap (characters-at xs) (h .place-is) ∙ shown s), tt)
+  walk top begun (literal l) i t names w (first-then h more) rows s b e ok = (literal-means P xs ns ts rs r i (l .characters) (h .kind-is) (ap (characters-at xs) (h .place-is) ∙ shown s), no-uint xs ns ts rs r i 6 (h .kind-is) (λ z. omega arith), tt)
   walk top begun (range c g z one one′) i t names w (first-then h more) rows s b e ok =
-      (range-means P xs ns ts rs r i (getD (c .characters) 0 0) (getD (z .characters) 0 0) (h .kind-is) (ap (λ (k : ℕ). getD (characters-at xs k) 0 0) (h .place-is) ∙ ap (λ (k : List ℕ). getD k 0 0) (shown s)) (ap (λ (k : ℕ). getD (characters-at xs k) 0 0) (h .first-is) ∙ ap (λ (k : List ℕ). getD k 0 0) (shown (past (past s)))), tt)
+      (range-means P xs ns ts rs r i (getD (c .characters) 0 0) (getD (z .characters) 0 0) (h .kind-is) (ap (λ (k : ℕ). getD (characters-at xs k) 0 0) (h .place-is) ∙ ap (λ (k : List ℕ). getD k 0 0) (shown s)) (ap (λ (k : ℕ). getD (characters-at xs k) 0 0) (h .first-is) ∙ ap (λ (k : List ℕ). getD k 0 0) (shown (past (past s)))), no-uint xs ns ts rs r i 7 (h .kind-is) (λ z. omega arith), tt)
   walk top begun (field depth u opens n comma x closes) i t names w (first-then h more) rows s b e ok =
       let uses = set-uses x (sign Kind.CloseParen closes ∷ w) no-more (past (past (past (past s))))
       in let below : i < end = omega arith
+      in let wide : width-of xs ns i ≡ n .value = width-is i (n .start) (n .value) (h .first-is) (shown (past (past s))) (ok .0)
+      in let static = set-first rule ts i names b below x t (h .own-from-is) (h .own-end-is) rows (ok .1 .0) uses
       in let free : is-binder ns i ≡ false = ap₂ (λ (k j : ℕ). eqb k 8 && not (eqb j 0)) (h .kind-is) (h .how-is)
       in (
-        uint-means P xs ns ts rs r i numbered n x (λ v k. v) (h .kind-is) (width-is i (n .start) (n .value) (h .first-is) (shown (past (past s))) (ok .0)) (set-same rule ts i names b below x t (h .own-from-is) (h .own-end-is) rows (ok .1 .0) uses) (set-first rule ts i names b below x t (h .own-from-is) (h .own-end-is) rows (ok .1 .0) uses)
+        uint-means P xs ns ts rs r i numbered n x (λ v k. v) (h .kind-is) wide (set-same rule ts i names b below x t (h .own-from-is) (h .own-end-is) rows (ok .1 .0) uses) static
             (λ v k. ap (λ (c : Bool). cond c (set v (binders-before ns i) (pos k)) v) free) (λ v bits l p. p),
+        (h .kind-is, wide, static),
         tt,
       )
   walk top begun (binder {d} depth u opens n comma v opens′ x comma′ y closes closes′) i t names w (first-then h more) rows s b e ok =
       let uses = set-uses y (sign Kind.CloseParen closes ∷ sign Kind.CloseParen closes′ ∷ w) no-more (past (past (past (past (past (past (past (past s))))))))
       in let below : i < end = omega arith
+      in let wide : width-of xs ns i ≡ n .value = width-is i (n .start) (n .value) (h .first-is) (shown (past (past s))) (ok .0)
+      in let static = set-first rule ts i names b below y t (h .own-from-is) (h .own-end-is) rows (ok .1 .0) uses
       in let name : Here xs x = here (past (past (past (past (past (past s))))))
       in let bound : is-binder ns i ≡ true = ap₂ (λ (k j : ℕ). eqb k 8 && not (eqb j 0)) (h .kind-is) (h .how-is) ∙ bound-so (d + 1 + 1)
       in let this : binds xs ns (x .start) i ≡ true = ap₂ (λ (c : Bool) (k : ℕ). c && same-name xs k (x .start)) bound (h .second-is) ∙ same-here name name ∙ word-self (x .letters)
       in let number : binders-before ns i ≡ numbered (x .letters) = rule .binders i x name (b .begins) below (b .before x name ∙ ok .1 .1 .0) this
       in (
-        uint-means P xs ns ts rs r i numbered n y (λ v k. set v (numbered (x .letters)) (pos k)) (h .kind-is) (width-is i (n .start) (n .value) (h .first-is) (shown (past (past s))) (ok .0)) (set-same rule ts i names b below y t (h .own-from-is) (h .own-end-is) rows (ok .1 .0) uses) (set-first rule ts i names b below y t (h .own-from-is) (h .own-end-is) rows (ok .1 .0) uses)
+        uint-means P xs ns ts rs r i numbered n y (λ v k. set v (numbered (x .letters)) (pos k)) (h .kind-is) wide (set-same rule ts i names b below y t (h .own-from-is) (h .own-end-is) rows (ok .1 .0) uses) static
             (λ v k. ap₂ (λ (c : Bool) (j : ℕ). cond c (set v j (pos k)) v) bound number) (λ v bits l p. ok .1 .1 .1 v bits l p),
+        (h .kind-is, wide, static),
         tt,
       )
   walk top begun (rule-use x other) i t names w (first-then h more) rows s b e ok =
-      (use-means P xs ns ts rs r i (body (x .letters)) (h .kind-is) (ap (λ (k : ℕ). first-node rs (rule-of xs rs r k)) (h .place-is) ∙ rule .bodies x (here s) (ok .0)), tt)
-  walk top begun (eod g) i t names w (first-then h more) rows s b e ok = (eod-means P xs ns ts rs r i (h .kind-is), tt)
+      (use-means P xs ns ts rs r i (body (x .letters)) (h .kind-is) (ap (λ (k : ℕ). first-node rs (rule-of xs rs r k)) (h .place-is) ∙ rule .bodies x (here s) (ok .0)), no-uint xs ns ts rs r i 5 (h .kind-is) (λ z. omega arith), tt)
+  walk top begun (eod g) i t names w (first-then h more) rows s b e ok = (eod-means P xs ns ts rs r i (h .kind-is), no-uint xs ns ts rs r i 9 (h .kind-is) (λ z. omega arith), tt)
   walk top begun (group depth opens x closes) i t names w h rows s b e ok = walk false false x i t names (sign Kind.CloseParen closes ∷ w) h rows (past s) b e ok
   walk top begun (switch depth opens x closes) i t names w (first-then h more) rows s b e ok =
       let b′ = past-node h refl b
       in (
         switch-means P xs ns ts rs r i (λ v. chosen numbered (suc i) x v) (no-default x) (case-bodies (suc i) x) (h .kind-is) (parts-sized ns i (constructs false x) (case-bodies (suc i) x) (h .size-is) (case-parts x t (suc (constructs false x)) (omega arith) more)) (cases-optional x t more)
             (λ v p. cases-chosen x (suc i) t names (sign Kind.CloseBracket closes ∷ w) more rows (past s) b′ (omega arith) ok v p),
+        no-uint xs ns ts rs r i 4 (h .kind-is) (λ z. omega arith),
         walk false false x (suc i) t names (sign Kind.CloseBracket closes ∷ w) (whole-first (node-rows false x t) more) rows (past s) b′ (omega arith) ok,
       )
   walk top begun (last-case c colon x close) i t names w h rows s b e ok =
@@ -276,6 +289,7 @@ module _ {P : Values → Type 0} {xs ns rs : List ℕ} {r : ℕ} {body numbered 
   walk top begun (once x) i t names w h rows s b e ok = walk top false x i t names w h rows s b e ok
   walk top begun (repeated x m) i t names w (first-then h more) rows s b e ok = (
     mark-means m i (suc (constructs false x)) (start-of x) (t + length (term-rows x)) names w (pieces false x) h (rows-right (term-rows x) (mark-rows m) rows) (after-tree x s) b (omega arith) ok,
+    no-uint xs ns ts rs r i 3 (h .kind-is ∙ mark-kind m (suc (constructs false x)) (start-of x) (t + length (term-rows x))) (λ z. omega arith),
     walk false false x (suc i) t names (spell-mark m w) (whole-first (node-rows false x t) more) (rows-left (term-rows x) (mark-rows m) rows) s (past-node h (mark-quiet m (suc (constructs false x)) (start-of x) (t + length (term-rows x))) b) (omega arith) (right-marked P numbered widest rules whole names m (pieces false x) ok),
   )
   walk top begun (last-member x) i t names w h rows s b e ok = walk top false x i t names w h rows s b e ok
@@ -286,6 +300,7 @@ module _ {P : Values → Type 0} {xs ns rs : List ℕ} {r : ℕ} {body numbered 
       in let first = first-left (node-rows false x t) (node-rows true y u) both
       in (
         concatenation-means P xs ns ts rs r i (members (suc i) (and-members x g y)) (h .kind-is) (parts-sized ns i (constructs false x + constructs true y) (members (suc i) (and-members x g y)) (h .size-is) (member-parts (and-members x g y) t (suc (constructs false x + constructs true y)) (omega arith) more)),
+        no-uint xs ns ts rs r i 2 (h .kind-is) (λ z. omega arith),
         two false true (suc i) x y (walk top false x (suc i) t names (sign Kind.Ampersand g ∷ spell y w) first (rows-left (term-rows x) (term-rows y) rows) s b′ (omega arith) (right-one P numbered widest rules whole names (pieces top x) (pieces top y) ok))
             (walk top true y (suc i + constructs false x) u (after-bound (pieces top x) names) w (whole-first (node-rows true y u) (after x y true (suc i) t u both)) (rows-right (term-rows x) (term-rows y) rows) (past (after-tree x s)) (past-tree false top x t (sign Kind.Ampersand g ∷ spell y w) first s b′) (omega arith) (right-two P numbered widest rules whole names (pieces top x) (pieces top y) ok)),
       )
@@ -302,6 +317,7 @@ module _ {P : Values → Type 0} {xs ns rs : List ℕ} {r : ℕ} {body numbered 
       in let first = first-left (node-rows false x t) (node-rows true y u) both
       in (
         alternative-means P xs ns ts rs r i (branches (suc i) (or-branches x g y)) (h .kind-is) (parts-sized ns i (constructs false x + constructs true y) (branches (suc i) (or-branches x g y)) (h .size-is) (branch-parts (or-branches x g y) t (suc (constructs false x + constructs true y)) (omega arith) more)),
+        no-uint xs ns ts rs r i 1 (h .kind-is) (λ z. omega arith),
         two false true (suc i) x y (walk false false x (suc i) t names (sign Kind.Bar g ∷ spell y w) first (rows-left (term-rows x) (term-rows y) rows) s b′ (omega arith) (right-one P numbered widest rules whole names (pieces false x) (pieces false y) ok))
             (walk false true y (suc i + constructs false x) u (after-bound (pieces false x) names) w (whole-first (node-rows true y u) (after x y true (suc i) t u both)) (rows-right (term-rows x) (term-rows y) rows) (past (after-tree x s)) (past-tree false false x t (sign Kind.Bar g ∷ spell y w) first s b′) (omega arith) (right-two P numbered widest rules whole names (pieces false x) (pieces false y) ok)),
       )

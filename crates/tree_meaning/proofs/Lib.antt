@@ -7,7 +7,10 @@ pub mod NameCases
 pub mod SizeCases
 pub mod LimitCases
 pub mod Reached
+pub mod Unreached
 pub mod ReachCases
+pub mod Valued
+pub mod ValueCases
 pub mod LeastLaws
 pub mod Bounds
 pub mod Lengths

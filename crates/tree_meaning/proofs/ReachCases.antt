@@ -1,6 +1,9 @@
--- Rules that reach themselves (7), each with the place of the first.
+-- Rules that reach themselves (7), and rules that are not reached (12), each with the place of the first.
 -- Assumes nothing.
+use Prim.Native.Nat.{ℕ}
 use mathlib.Core.Path.{_≡_, refl}
+use mathlib.Core.Logic.{inl, inr}
+use native.Mathlib.Omega.{arith}
 use lib.Dec.{lit<}
 use Rattle.text_header.specs.Spans.{starts}
 use Rattle.tree.specs.Tree.{number, plain, no-factor, product, no-summand, sum, exactly, equal, compare, one-test, counted, literal, rule-use, switch, last-case, once, repeated, last-member, and-members, last-branch, rule, Rules, last-rule, and-rules}
@@ -10,8 +13,9 @@ use mathlib.Core.Bool.{cond}
 use mathlib.Core.List.{List·Memᴰ·head, List·Memᴰ·tail}
 use Rattle.text_tokens.specs.Names.{is-same}
 use Rattle.tree_meaning.specs.Pieces.{pieces, rules-of}
-use Rattle.tree_meaning.specs.Reaching.{used-in, directly, through, Refusal7, Acyclic}
+use Rattle.tree_meaning.specs.Reaching.{used-in, directly, through, Refusal7, Acyclic, UnreachedAt, Refusal12}
 use Rattle.tree_meaning.proofs.Reached.{uses, uses-in, recursive-at, unused-before, none-before, falling, ranked}
+use Rattle.tree_meaning.proofs.Unreached.{closed, not-reached, ReachedBefore, none-sooner, none-unreached, unreached-at}
 
 -- `a = "x" & b; b = a;`: K11
 unfoldable pub mutual-rules : Rules
@@ -96,3 +100,36 @@ second-use-7 =
 straight-7 : Acyclic straight
 unfolding straight bytes starts rules-of pieces used-in falling
 straight-7 = ranked (λ x. cond (is-same (bytes "a") x) 1 0) straight refl
+
+-- ---- 12
+
+-- `a = "x"; c = "y"; b = c;`: only b uses c, and nothing uses b: c is the first
+unfoldable pub used-by-unreached : Rules
+unfolding bytes starts
+used-by-unreached = and-rules (rule (name 0 "a") (at 2) (last-branch (last-member (once (literal (quote 4 7 "x"))))) (at 7)) (and-rules (rule (name 9 "c") (at 11) (last-branch (last-member (once (literal (quote 13 16 "y"))))) (at 16)) (last-rule (rule (name 18 "b") (at 20) (last-branch (last-member (once (rule-use (name 22 "c") refl)))) (at 23))))
+
+used-by-unreached-read : tokens "a = \"x\"; c = \"y\"; b = c;" ≡ written used-by-unreached 24
+unfolding tokens written used-by-unreached
+used-by-unreached-read = refl
+
+used-by-unreached-12 : Refusal12 used-by-unreached 9
+unfolding used-by-unreached bytes starts rules-of pieces used-in closed ReachedBefore
+used-by-unreached-12 =
+    record {
+      unreached = unreached-at used-by-unreached _ (List·Memᴰ·tail (List·Memᴰ·head refl)) (not-reached (is-same (bytes "a")) {t = used-by-unreached} refl refl (bytes "c") refl);
+      first = none-sooner used-by-unreached 9 (inl (inl refl), (inr (omega arith), (inr (omega arith), tt)));
+    }
+
+-- `a = c{0}; b = "y"; c = b;`: "Reached by written uses", whatever counts stand around them, and through another rule
+unfoldable pub all-reached : Rules
+unfolding bytes starts
+all-reached = and-rules (rule (name 0 "a") (at 2) (last-branch (last-member (repeated (rule-use (name 4 "c") refl) (counted (at 5) (exactly (sum (product (plain (number (num 6 7 0))) no-factor) no-summand)) (at 7))))) (at 8)) (and-rules (rule (name 10 "b") (at 12) (last-branch (last-member (once (literal (quote 14 17 "y"))))) (at 17)) (last-rule (rule (name 19 "c") (at 21) (last-branch (last-member (once (rule-use (name 23 "b") refl)))) (at 24))))
+
+all-reached-read : tokens "a = c{0}; b = \"y\"; c = b;" ≡ written all-reached 25
+unfolding tokens written all-reached
+all-reached-read = refl
+
+all-reached-12 : (p : ℕ) → UnreachedAt all-reached p → ⊥
+unfolding all-reached bytes starts rules-of pieces used-in uses-in ReachedBefore
+all-reached-12 =
+    none-unreached all-reached (λ p. (inl (inl refl), (inl (inr (through (uses {y = bytes "c"} refl) (directly (uses refl)))), (inl (inr (directly (uses refl))), tt))))

@@ -1,8 +1,8 @@
--- Refusal 7: which rules of what is stored reach themselves, by their numbers, and which rules of the tree do, by their names.
+-- Refusals 7 and 12: which rules of what is stored reach themselves or are not reached, by their numbers, and which rules of the tree, by their names.
 -- Assumes nothing.
 use Prim.Native.Nat.{ℕ, zero, suc, _+_, _-_, _≤_, _<_}
 use mathlib.Core.Path.{_≡_, refl, sym, ap, subst, _∙_}
-use mathlib.Core.Logic.{⊎-elim}
+use mathlib.Core.Logic.{inl, inr, ⊎-elim}
 use mathlib.Core.Bool.{Bool, true, false}
 use mathlib.Core.List.{List, [], _∷_, List·Memᴰ, List·Memᴰ·head, List·Memᴰ·tail, Memᴰ·cast}
 use mathlib.Core.Option.{none}
@@ -15,11 +15,11 @@ use Rattle.text_store.specs.Words.{kind-of, place-of, named-at, first-node, las
 use Rattle.text_encoding.specs.Lists.{first-of}
 use Rattle.text_encoding.specs.Numbers.{rule-of}
 use Rattle.tree.specs.Lexemes.{Name, finish}
-use Rattle.tree.specs.Tree.{Rule, Rules}
+use Rattle.tree.specs.Tree.{Rule, Rules, last-rule, and-rules}
 use Rattle.tree_meaning.specs.Pieces.{Piece, rules-of as rules-in, rule-name, rule-body, rule-pieces}
 use Rattle.tree_meaning.specs.Counted.{no-rule}
 use Rattle.tree_meaning.specs.Names.{rule-names, refusal-6}
-use Rattle.tree_meaning.specs.Reaching.{used-in, Uses, Reaches, directly, through, RecursiveAt, Refusal7, Acyclic}
+use Rattle.tree_meaning.specs.Reaching.{used-in, Uses, Reaches, directly, through, RecursiveAt, Refusal7, Acyclic, start-rule, Reached, UnreachedAt, Refusal12}
 use Rattle.tree_meaning.proofs.Passing.{named}
 use Rattle.tree_store.proofs.Rows.{NodeRow, node-rows}
 use Rattle.tree_store.proofs.Holding.{compared}
@@ -137,6 +137,17 @@ later-place (ascends u v a) at-first (at-later b) h = from-on a b
 later-place (ascends u v a) (at-later b) (at-later c) h = later-place a b c (omega arith)
 later-place a (at-later b) at-first h = absurd (omega arith)
 
+-- ---- the start rule is number 0, and a number is one rule's
+
+first-at : (t : Rules) → At (rules-in t) 0 (start-rule t)
+unfolding rules-in
+first-at (last-rule x) = at-first
+first-at (and-rules x t) = at-first
+
+one-at : {l : List Rule} {i : ℕ} {x y : Rule} → At l i x → At l i y → x ≡ y
+one-at at-first at-first = refl
+one-at (at-later a) (at-later b) = one-at a b
+
 -- ---- a text that spells a tree without faults of names
 
 module _ (xs ns ts ws : List ℕ) (r : ℕ) (t : Rules) (h : SpelledBy xs t) (w : Rowed t ns ts ws r) (none-wrong : refusal-6 t ≡ none) where
@@ -213,22 +224,74 @@ module _ (xs ns ts ws : List ℕ) (r : ℕ) (t : Rules) (h : SpelledBy xs t) (w 
       let n : Numbered all (s .itself) = member-at (s .there)
       in record { number = n .number; below = at-below (n .there); place = facts (n .there) .name-is ∙ s .place; reaches = forward (s .reaches) (n .there) refl (n .there) refl }
 
+  -- a rule that is not before another has no smaller place
+  ordered : (k m : ℕ) → k < length all → m < length all → (m < k → ⊥) → named-at ws k ≤ named-at ws m
+  ordered k m f g n =
+      let a : RuleAt all k = rule-at all k f
+      in let b : RuleAt all m = rule-at all m g
+      in let l : k ≤ m = compared m k (λ y. absurd (n y)) (λ (y : m ≡ k). omega arith) (λ y. omega arith)
+      in let o : rule-name (a .which-rule) .start ≤ rule-name (b .which-rule) .start = later-place (rules-ascend t (finish (h .end) ∷ []) (spelled-stand h)) (a .there) (b .there) l
+      in omega (arith, facts (a .there) .name-is, facts (b .there) .name-is)
+
   -- refusal 7 of what is stored is the tree's: the first rule that reaches itself
   pub refused-7 : (k : ℕ) → StoredReaches xs ns ws r k k → ((q : ℕ) → q < k → StoredReaches xs ns ws r q q → ⊥) → Refusal7 t (named-at ws k)
   refused-7 k s least =
       record {
         recursive = recursive-back k s;
-        first = λ q z. before q (recursive-forward q z);
+        first = λ q z. (let v = recursive-forward q z in subst (λ (n : ℕ). named-at ws k ≤ n) (v .place) (ordered k (v .number) (omega (arith, begins-with s, w .number)) (v .below) (λ y. least (v .number) y (v .reaches))));
       }
-    where
-      before : (q : ℕ) → Stands q → named-at ws k ≤ q
-      before q v =
-          let a : RuleAt all k = rule-at all k (omega (arith, begins-with s, w .number))
-          in let b : RuleAt all (v .number) = rule-at all (v .number) (v .below)
-          in let l : k ≤ v .number = compared (v .number) k (λ y. absurd (least (v .number) y (v .reaches))) (λ (y : v .number ≡ k). omega arith) (λ y. omega arith)
-          in let o : rule-name (a .which-rule) .start ≤ rule-name (b .which-rule) .start = later-place (rules-ascend t (finish (h .end) ∷ []) (spelled-stand h)) (a .there) (b .there) l
-          in omega (arith, facts (a .there) .name-is, facts (b .there) .name-is, v .place)
 
   -- and where none does, none does
   pub acyclic-7 : ((k : ℕ) → StoredReaches xs ns ws r k k → ⊥) → Acyclic t
   acyclic-7 never p s = let z = recursive-forward p s in never (z .number) (z .reaches)
+
+  -- ---- a rule that is not reached
+
+  -- not the start rule, which does not reach it
+  pub record StoredUnreached (k : ℕ) : Type 0 where
+    pub there : k < r
+    pub other : k ≡ 0 → ⊥
+    pub unreached : StoredReaches xs ns ws r 0 k → ⊥
+
+  pub unreached-back : (k : ℕ) → StoredUnreached k → UnreachedAt t (named-at ws k)
+  unreached-back k u = record { unused = o .which-rule; there = at-member (o .there); place = sym (facts (o .there) .name-is); unreached = not }
+    where
+      o : RuleAt all k
+      o = rule-at all k (omega (arith, u .there, w .number))
+
+      not : Reached t (rule-name (o .which-rule) .letters) → ⊥
+      not (inl e) = u .other (one (o .there) (first-at t) e)
+      not (inr s) = u .unreached (forward s (first-at t) refl (o .there) refl)
+
+  pub record StandsUnreached (p : ℕ) : Type 0 where
+    pub number : ℕ
+    pub below : number < length all
+    pub place : named-at ws number ≡ p
+    pub unreached : StoredUnreached number
+
+  pub unreached-forward : (p : ℕ) → UnreachedAt t p → StandsUnreached p
+  unreached-forward p s =
+      let n : Numbered all (s .unused) = member-at (s .there)
+      in let start : (n .number ≡ 0) → s .unused ≡ start-rule t = λ z. one-at (subst (λ (k : ℕ). At all k (s .unused)) z (n .there)) (first-at t)
+      in record {
+        number = n .number;
+        below = at-below (n .there);
+        place = facts (n .there) .name-is ∙ s .place;
+        unreached = record {
+          there = omega (arith, w .number, at-below (n .there));
+          other = λ z. s .unreached (inl (ap (λ (x : Rule). rule-name x .letters) (start z)));
+          unreached = λ q. s .unreached (inr (back q (first-at t) (n .there)));
+        };
+      }
+
+  -- refusal 12 of what is stored is the tree's: the first rule that is not reached
+  pub refused-12 : (k : ℕ) → StoredUnreached k → ((q : ℕ) → q < k → StoredUnreached q → ⊥) → Refusal12 t (named-at ws k)
+  refused-12 k u least =
+      record {
+        unreached = unreached-back k u;
+        first = λ q z. (let v = unreached-forward q z in subst (λ (n : ℕ). named-at ws k ≤ n) (v .place) (ordered k (v .number) (omega (arith, u .there, w .number)) (v .below) (λ y. least (v .number) y (v .unreached))));
+      }
+
+  -- and where all are, all are
+  pub reached-12 : ((k : ℕ) → StoredUnreached k → ⊥) → (p : ℕ) → UnreachedAt t p → ⊥
+  reached-12 never p s = let z = unreached-forward p s in never (z .number) (z .unreached)

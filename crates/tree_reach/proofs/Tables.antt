@@ -1,4 +1,4 @@
--- Refusal 7 of the table's words is that of the tree.
+-- Refusals 7 and 12 of the table's words are those of the tree.
 -- Assumes nothing.
 use Prim.Native.Nat.{ℕ, zero, suc, _+_, _≤_, _<_, min}
 use mathlib.Core.Path.{_≡_, refl, sym, ap, subst, _∙_}
@@ -14,7 +14,7 @@ use Rattle.basis.proofs.Booleans.{which}
 use Rattle.table_layout.specs.Places.{construct-word}
 use Rattle.table_layout.specs.Constructs.{constructAt}
 use Rattle.table_layout.specs.declared.Construct.{Construct}
-use Rattle.table_reach.specs.Reaching.{body-of, rule-end, Uses, Reaches, directly, through, Acyclic}
+use Rattle.table_reach.specs.Reaching.{body-of, rule-end, Uses, Reaches, directly, through, Acyclic, Unreached, AllReached, FirstUnreached}
 use Rattle.text_store.specs.Store.{State, blank, node-words, term-words, rule-words, nodes-of, rules-of}
 use Rattle.text_store.specs.Words.{kind-of, node-size, place-of, named-at, first-node, last-node}
 use Rattle.text_encoding.specs.Lists.{narrow, first-of}
@@ -29,7 +29,7 @@ use Rattle.tree_form.specs.Stored.{stored}
 use Rattle.tree_meaning.specs.Pieces.{rules-of as rules-in}
 use Rattle.tree_meaning.specs.Counted.{Totals, no-rule, with-rule, refusal-5}
 use Rattle.tree_meaning.specs.Names.{refusal-6}
-use Rattle.tree_meaning.specs.Reaching.{Refusal7, Acyclic as TreeAcyclic}
+use Rattle.tree_meaning.specs.Reaching.{Refusal7, Acyclic as TreeAcyclic, UnreachedAt, Refusal12}
 use Rattle.tree_store.proofs.Rows.{NodeRow, totals, tree-nodes, tree-totals}
 use Rattle.tree_store.proofs.Holding.{compared}
 use Rattle.tree_store.proofs.Storing.{totalled-tree, nodes-read}
@@ -37,7 +37,7 @@ use Rattle.tree_store.proofs.Standing.{SpelledBy}
 use Rattle.tree_store.proofs.Limits.{Limited, limited, rows-many}
 use Rattle.tree_store.proofs.Rowed.{NodesAt, no-nodes, node-then, RulesIn, no-rules, rule-then, Rowed, rowed}
 use Rattle.tree_numbers.proofs.Rules.{At, at-first, at-later, at-below, RuleAt, rule-at, first-here, first-later}
-use Rattle.tree_numbers.proofs.Reaching.{StoredUses, StoredReaches, by-use, by-way, refused-7, acyclic-7}
+use Rattle.tree_numbers.proofs.Reaching.{StoredUses, StoredReaches, by-use, by-way, refused-7, acyclic-7, StoredUnreached, refused-12, reached-12}
 use Rattle.tree_numbers.proofs.Sums.{terms-together, binders-together}
 use Rattle.tree_reach.proofs.SmallKinds.{Kinds, no-kinds, next-kind, rules-kinds}
 use Rattle.tree_reach.proofs.Decoded.{use-back, use-forth}
@@ -210,6 +210,23 @@ module _ (xs ns ts rs : List ℕ) (r : ℕ) (t : Rules) (w : Rowed t ns ts rs r)
     pub table-acyclic-7 : Acyclic (encoded xs ns ts rs (length (tree-nodes t)) r) → TreeAcyclic t
     table-acyclic-7 never = acyclic-7 xs ns ts rs r t spelled w none-wrong (λ k u. never k (reaches-forth u (begins-with u)))
 
+    -- ---- refusal 12
+
+    unreached-back : (k : ℕ) → Unreached (encoded xs ns ts rs (length (tree-nodes t)) r) k → StoredUnreached xs ns ts rs r t spelled w none-wrong k
+    unreached-back k u =
+        let z : k < r = omega (arith, u .there, words .rules-are) in record { there = z; other = u .other; unreached = λ s. u .unreached (reaches-forth s z) }
+
+    unreached-forth : (k : ℕ) → StoredUnreached xs ns ts rs r t spelled w none-wrong k → Unreached (encoded xs ns ts rs (length (tree-nodes t)) r) k
+    unreached-forth k u = record { there = omega (arith, u .there, words .rules-are); other = u .other; unreached = λ s. u .unreached (reaches-back s) }
+
+    -- the first rule of the table that is not reached is the tree's
+    pub table-refused-12 : (k : ℕ) → FirstUnreached (encoded xs ns ts rs (length (tree-nodes t)) r) k → Refusal12 t (named-at rs k)
+    table-refused-12 k (u, least) = refused-12 xs ns ts rs r t spelled w none-wrong k (unreached-back k u) (λ q z s. least q z (unreached-forth q s))
+
+    -- and where all of the table are reached, all of the tree are
+    pub table-reached-12 : AllReached (encoded xs ns ts rs (length (tree-nodes t)) r) → (p : ℕ) → UnreachedAt t p → ⊥
+    table-reached-12 all = reached-12 xs ns ts rs r t spelled w none-wrong (λ k s. all k (unreached-forth k s))
+
 -- ---- what the reader stores of a text
 
 -- the words that are encoded from it
@@ -237,3 +254,17 @@ acyclic-7-of {xs} {t} h five six never =
     let l : Limited t = limited t five
     in table-acyclic-7 xs (node-words (stored t blank)) (term-words (stored t blank)) (rule-words (stored t blank)) (rules-of (stored t blank)) t (rowed t l) l h six
     (subst (λ (n : ℕ). Acyclic (encoded xs (node-words (stored t blank)) (term-words (stored t blank)) (rule-words (stored t blank)) n (rules-of (stored t blank)))) (many-nodes t l) never)
+
+-- Refusal 12 of such a text is refusal 12 of the tree,
+pub refused-12-of : {xs : List ℕ} {t : Rules} → SpelledBy xs t → refusal-5 t ≡ none → refusal-6 t ≡ none → (k : ℕ) → FirstUnreached (words-of xs (stored t blank)) k → Refusal12 t (named-at (rule-words (stored t blank)) k)
+refused-12-of {xs} {t} h five six k u =
+    let l : Limited t = limited t five
+    in table-refused-12 xs (node-words (stored t blank)) (term-words (stored t blank)) (rule-words (stored t blank)) (rules-of (stored t blank)) t (rowed t l) l h six k
+    (subst (λ (n : ℕ). FirstUnreached (encoded xs (node-words (stored t blank)) (term-words (stored t blank)) (rule-words (stored t blank)) n (rules-of (stored t blank))) k) (many-nodes t l) u)
+
+-- and where every rule of the table is reached, every rule of the tree is
+pub reached-12-of : {xs : List ℕ} {t : Rules} → SpelledBy xs t → refusal-5 t ≡ none → refusal-6 t ≡ none → AllReached (words-of xs (stored t blank)) → (p : ℕ) → UnreachedAt t p → ⊥
+reached-12-of {xs} {t} h five six all =
+    let l : Limited t = limited t five
+    in table-reached-12 xs (node-words (stored t blank)) (term-words (stored t blank)) (rule-words (stored t blank)) (rules-of (stored t blank)) t (rowed t l) l h six
+    (subst (λ (n : ℕ). AllReached (encoded xs (node-words (stored t blank)) (term-words (stored t blank)) (rule-words (stored t blank)) n (rules-of (stored t blank)))) (many-nodes t l) all)

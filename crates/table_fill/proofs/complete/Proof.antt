@@ -26,6 +26,12 @@ enum-known-construct-2 c = search needs
 enum-told : tie.Need-enum-told
 enum-told c = search needs
 
+enum-known-rule : tie.Need-enum-known-rule
+enum-known-rule c = search needs
+
+enum-known-construct-3 : tie.Need-enum-known-construct-3
+enum-known-construct-3 c = search needs
+
 enum-known-weight : tie.Need-enum-known-weight
 enum-known-weight c = search needs
 
@@ -78,7 +84,25 @@ same-length-8 : tie.Need-same-length-8
 same-length-8 c = search needs
 
 returns-4 : tie.Need-returns-4
-returns-4 c = let ws = c .before .before .before .before .before .before .before .before .before .before .before .before .before .before .before .before .before .before .before .before .before .before .before .before .before .before .args .table .now in let j = c .before .before .before .before .before .before .before .before .before .before .before .before .before .before .before .before .before .before .before .judge in let q = subst (Judged ws) (c .before .before .before .before .before .before .before .before .before .before .before .before .before .weight .given .1) (j .ensures .0) in let p = c .before .before .before .before .before .before .write-sets in ((q, j .ensures .1 .0), completed ws (p .last .0) (c .before .before .write-weight .last .0) (j .last .1 .1 .0) (j .last .1 .1 .1 .0) _ q (j .ensures .1 .1 .0) (j .ensures .1 .1 .1) (subst (SetsWritten ws (p .last .0) (j .last .1 .1 .0) (j .last .1 .1 .1 .0)) (c .before .before .before .before .before .before .before .before .before .before .word .ensures .0) (p .ensures)) (c .before .before .write-weight .ensures))
+returns-4 c = let j = c .before .before .before .before .before .before .before .judge in ((subst (Judged (c .before .before .before .before .before .before .before .before .before .before .before .before .before .before .args .table .now)) (c .before .rule .given .1) (j .ensures .0), j .ensures .1 .0), refl)
+
+same-length-9 : tie.Need-same-length-9
+same-length-9 c = search needs
+
+same-length-10 : tie.Need-same-length-10
+same-length-10 c = search needs
+
+returns-5 : tie.Need-returns-5
+returns-5 c = let j = c .before .before .before .before .before .before .before .judge in ((subst (Judged (c .before .before .before .before .before .before .before .before .before .before .before .before .before .before .args .table .now)) (c .before .construct3 .given .1) (j .ensures .0), j .ensures .1 .0), refl)
+
+same-length-11 : tie.Need-same-length-11
+same-length-11 c = search needs
+
+same-length-12 : tie.Need-same-length-12
+same-length-12 c = search needs
+
+returns-6 : tie.Need-returns-6
+returns-6 c = let ws = c .before .before .before .before .before .before .before .before .before .before .before .before .before .before .before .before .before .before .before .before .before .before .before .before .before .before .args .table .now in let j = c .before .before .before .before .before .before .before .before .before .before .before .before .before .before .before .before .before .before .before .judge in let q = subst (Judged ws) (c .before .before .before .before .before .before .before .before .before .before .before .before .before .weight .given .1) (j .ensures .0) in let p = c .before .before .before .before .before .before .write-sets in ((q, j .ensures .1 .0), completed ws (p .last .0) (c .before .before .write-weight .last .0) (j .last .1 .1 .0) (j .last .1 .1 .1 .0) _ q (j .ensures .1 .1 .0) (j .ensures .1 .1 .1) (subst (SetsWritten ws (p .last .0) (j .last .1 .1 .0) (j .last .1 .1 .1 .0)) (c .before .before .before .before .before .before .before .before .before .before .word .ensures .0) (p .ensures)) (c .before .before .write-weight .ensures))
 
 pub complete-spec : {M : Type 1} → statement M
 complete-spec =
@@ -90,6 +114,8 @@ complete-spec =
     enum-known-construct
     enum-known-construct-2
     enum-told
+    enum-known-rule
+    enum-known-construct-3
     enum-known-weight
     word-requires
     slice-aggregate-write-sets
@@ -107,4 +133,10 @@ complete-spec =
     returns-3
     same-length-7
     same-length-8
-    returns-4)
+    returns-4
+    same-length-9
+    same-length-10
+    returns-5
+    same-length-11
+    same-length-12
+    returns-6)

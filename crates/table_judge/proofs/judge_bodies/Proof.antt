@@ -42,7 +42,7 @@ loop-again : tie.Need-loop-again Inv-loop μ-loop
 loop-again c = let s = c .before .before .before .before .before .before .before .before .before in let l = c .before .before .before .loop in let t = c .before .before .loop-test .taken in (below-more _ _ (l .inv .0) (λ b. false≢true (sym (c .if1 .left) ∙ c .before .empty-body .ensures .1 (empty-iff (s .args .table .now) (s .args .first .now) (s .pre .4) (l .i) (omega (arith, l .inv .2, t)) .1 b))), omega (arith, t), l .inv .2)
 
 judge-conflicts-requires : tie.Need-judge-conflicts-requires Inv-loop μ-loop
-judge-conflicts-requires c κs = let s = c .before .before .before .before .before .before .before in let w = c .before .before .word in (passed9 (s .args .table .now) (s .pre .0) (w .result) (c .before .loop .i) (w .ensures .0) (c .before .loop .inv .0) (c .loop-test .left), s .pre .2, s .pre .3, s .pre .5, s .pre .6)
+judge-conflicts-requires c κs = let s = c .before .before .before .before .before .before .before in let w = c .before .before .word in (passed9 (s .args .table .now) (s .pre .0) (w .result) (c .before .loop .i) (w .ensures .0) (c .before .loop .inv .0) (c .loop-test .left), s .pre .1, s .pre .2, s .pre .3, s .pre .4, s .pre .5, s .pre .6)
 
 returns-2 : tie.Need-returns-2 Inv-loop μ-loop
 returns-2 c = search needs

@@ -1,7 +1,7 @@
 use mathlib.Core.Path.{subst}
 use Rattle.table_judge.specs.Judged.{Judged}
 use Rattle.table_fill.specs.Completed.{Completed}
-use Rattle.text_admission.proofs.Judging.{kept, mark-within, late-body, late-conflict, late-weight, late-pass}
+use Rattle.text_admission.proofs.Judging.{kept, mark-within, late-body, late-conflict, late-weight, late-reach, late-value, late-pass}
 use borrow.Author.Needs.{needs}
 use Rattle.text_admission.proofs.judged.Statement.{statement}
 use Rattle.text_admission.proofs.judged.Tie as tie
@@ -36,6 +36,18 @@ enum-told-2 c = search needs
 refused-at-requires : tie.Need-refused-at-requires
 refused-at-requires c κs = search needs
 
+enum-known-rule : tie.Need-enum-known-rule
+enum-known-rule c = search needs
+
+refused-at-requires-2 : tie.Need-refused-at-requires-2
+refused-at-requires-2 c κs = search needs
+
+enum-known-construct-2 : tie.Need-enum-known-construct-2
+enum-known-construct-2 c = search needs
+
+refused-in-requires : tie.Need-refused-in-requires
+refused-in-requires c κs = search needs
+
 enum-known-weight : tie.Need-enum-known-weight
 enum-known-weight c = search needs
 
@@ -61,7 +73,19 @@ same-length-4 : tie.Need-same-length-4
 same-length-4 c = search needs
 
 returns-4 : tie.Need-returns-4
-returns-4 c = let s = c .before .before .before .before .before .before .before .before .before .before .before .before in let ns = s .args .nodes .now in let rs = s .args .rules .now in let old = s .args .words .now in let k = c .before .before .before .before .before .before .complete in let new = k .last .0 in let t = c .before .weight .given .1 in late-pass ns rs old new (s .args .base) _ (subst (Judged old) t (k .ensures .0 .0)) (subst (Completed old new) t (k .ensures .1))
+returns-4 c = let s = c .before .before .before .before .before .before .before .before .before .before .before .before .before in let ns = s .args .nodes .now in let rs = s .args .rules .now in let old = s .args .words .now in let k = c .before .before .before .before .before .before .before .complete in let new = k .last .0 in let t = c .before .before .rule .given .1 in late-reach ns rs old new (s .args .base) _ (subst (Judged old) t (k .ensures .0 .0)) (c .refused-at2 .result) (c .refused-at2 .ensures)
+
+same-length-5 : tie.Need-same-length-5
+same-length-5 c = search needs
+
+returns-5 : tie.Need-returns-5
+returns-5 c = let s = c .before .before .before .before .before .before .before .before .before .before .before .before .before in let ns = s .args .nodes .now in let rs = s .args .rules .now in let old = s .args .words .now in let k = c .before .before .before .before .before .before .before .complete in let new = k .last .0 in let t = c .before .before .construct2 .given .1 in late-value ns rs old new (s .args .base) _ (subst (Judged old) t (k .ensures .0 .0)) (c .refused-in .result) (c .refused-in .ensures)
+
+same-length-6 : tie.Need-same-length-6
+same-length-6 c = search needs
+
+returns-6 : tie.Need-returns-6
+returns-6 c = let s = c .before .before .before .before .before .before .before .before .before .before .before .before in let ns = s .args .nodes .now in let rs = s .args .rules .now in let old = s .args .words .now in let k = c .before .before .before .before .before .before .complete in let new = k .last .0 in let t = c .before .weight .given .1 in late-pass ns rs old new (s .args .base) _ (subst (Judged old) t (k .ensures .0 .0)) (subst (Completed old new) t (k .ensures .1))
 
 pub judged-spec : {M : Type 1} → statement M
 judged-spec =
@@ -77,6 +101,10 @@ judged-spec =
     conflict-requires
     enum-told-2
     refused-at-requires
+    enum-known-rule
+    refused-at-requires-2
+    enum-known-construct-2
+    refused-in-requires
     enum-known-weight
     same-length
     returns
@@ -85,4 +113,8 @@ judged-spec =
     same-length-3
     returns-3
     same-length-4
-    returns-4)
+    returns-4
+    same-length-5
+    returns-5
+    same-length-6
+    returns-6)

@@ -2,7 +2,7 @@ use mathlib.Core.Path.{sym, subst, _∙_}
 use borrow.Author.Tests.{not-true, not-false}
 use Rattle.table_judge.specs.Judged.{Judged}
 use Rattle.table_structure.proofs.Facts.{facts}
-use Rattle.table_judge.proofs.Soundness.{unformed, empty-body, conflict, overweight, other-weight, sound-iff}
+use Rattle.table_judge.proofs.Soundness.{unformed, empty-body, conflict, overweight, unreached, no-value, other-weight, sound-iff}
 use borrow.Author.Needs.{needs}
 use Rattle.table_judge.proofs.sound.sound_words.Statement.{statement}
 use Rattle.table_judge.proofs.sound.sound_words.Tie as tie
@@ -34,6 +34,12 @@ enum-told-2 c = search needs
 enum-told-3 : tie.Need-enum-told-3
 enum-told-3 c = search needs
 
+enum-told-4 : tie.Need-enum-told-4
+enum-told-4 c = search needs
+
+enum-told-5 : tie.Need-enum-told-5
+enum-told-5 c = search needs
+
 enum-known-weight : tie.Need-enum-known-weight
 enum-known-weight c = search needs
 
@@ -62,7 +68,13 @@ returns-5 : tie.Need-returns-5
 returns-5 c = let ws = c .before .before .before .before .before .before .before .before .before .before .before .before .args .table .now in overweight ws (subst (Judged ws) (c .enum-told3 .given .1) (c .before .before .before .before .before .judge .ensures .0))
 
 returns-6 : tie.Need-returns-6
-returns-6 c = let ws = c .before .before .before .before .before .before .before .before .before .before .before .before .before .before .before .args .table .now in let q = subst (Judged ws) (c .before .before .before .weight .given .1) (c .before .before .before .before .before .before .before .before .judge .ensures .0) in other-weight ws _ q (λ z. c .if2 .left (z ∙ sym (c .before .word .ensures .0)))
+returns-6 c = let ws = c .before .before .before .before .before .before .before .before .before .before .before .before .args .table .now in unreached ws _ (subst (Judged ws) (c .enum-told4 .given .1) (c .before .before .before .before .before .judge .ensures .0))
+
+returns-7 : tie.Need-returns-7
+returns-7 c = let ws = c .before .before .before .before .before .before .before .before .before .before .before .before .args .table .now in no-value ws _ (subst (Judged ws) (c .enum-told5 .given .1) (c .before .before .before .before .before .judge .ensures .0))
+
+returns-8 : tie.Need-returns-8
+returns-8 c = let ws = c .before .before .before .before .before .before .before .before .before .before .before .before .before .before .before .args .table .now in let q = subst (Judged ws) (c .before .before .before .weight .given .1) (c .before .before .before .before .before .before .before .before .judge .ensures .0) in other-weight ws _ q (λ z. c .if2 .left (z ∙ sym (c .before .word .ensures .0)))
 
 pub sound-words-spec : {M : Type 1} → statement M
 sound-words-spec =
@@ -77,6 +89,8 @@ sound-words-spec =
     enum-told
     enum-told-2
     enum-told-3
+    enum-told-4
+    enum-told-5
     enum-known-weight
     word-requires
     slice-aggregate-all-stand
@@ -86,4 +100,6 @@ sound-words-spec =
     returns-3
     returns-4
     returns-5
-    returns-6)
+    returns-6
+    returns-7
+    returns-8)
