@@ -41,6 +41,12 @@ fn used_at(grammar: &[u8], at: usize) {
     say(b"\n");
 }
 
+fn left(j: usize) {
+    if j < 256 {
+        say(b"    and more\n");
+    }
+}
+
 // The uses of a rule, at most twenty.
 fn uses(grammar: &[u8], table: &[u32], rule: usize) {
     let mut j = use_from(table, rule, 0);
@@ -53,7 +59,7 @@ fn uses(grammar: &[u8], table: &[u32], rule: usize) {
         j = use_from(table, rule, next(j));
         n += 1;
     }
-    say(b"    and more\n");
+    left(j);
 }
 
 fn is_near(grammar: &[u8], table: &[u32], marks: &[usize], at: usize, rule: usize) -> bool {

@@ -40,6 +40,13 @@ fn next(n: usize) -> usize {
     256
 }
 
+fn left(i: usize) {
+    if i < 256 {
+        say(b"    and more\n");
+    }
+}
+
+// At most twenty.
 fn each(grammar: &[u8], table: &[u32], first: &[u64], start: usize) {
     let mut i = start;
     let mut n: usize = 0;
@@ -51,7 +58,7 @@ fn each(grammar: &[u8], table: &[u32], first: &[u64], start: usize) {
         i = empty_from(table, first, next(i));
         n += 1;
     }
-    say(b"    and perhaps more\n");
+    left(i);
 }
 
 fn others(grammar: &[u8], table: &[u32], first: &[u64], start: usize) {
