@@ -61,6 +61,8 @@ enum songrafter_refusal {
     SONGRAFTER_EMPTY_BODY = 9,     /* what is repeated may take no bits */
     SONGRAFTER_CLASH = 10,         /* the next 8 bits do not tell which of two ways to go */
     SONGRAFTER_WEIGHT = 11,        /* weight over 65,535 */
+    SONGRAFTER_UNREACHED = 12,     /* a rule is not reached from the start rule */
+    SONGRAFTER_NO_VALUE = 13,      /* a uint's set has no variable and no value left */
     SONGRAFTER_FRAME_LONG = 21,    /* frame over 256 bytes */
     SONGRAFTER_READING_SMALL = 22, /* reading under two words for each frame bit */
     SONGRAFTER_TABLE_UNSOUND = 23, /* table not sound */
@@ -87,9 +89,9 @@ enum songrafter_field_word {
 /* The archive's version number. */
 uint32_t songrafter_version(void);
 
-/* Reads a grammar. Answers 0 and writes its table into the first 16,384 words, or a number from 1 to 11 and
+/* Reads a grammar. Answers 0 and writes its table into the first 16,384 words, or a number from 1 to 13 and
  * changes no word of the table. Of `answer`, what fits of five numbers is written:
- *   [0] the weight (0), or the place: bytes from the text's first (1 to 11);
+ *   [0] the weight (0), or the place: bytes from the text's first (1 to 13);
  *   [1] for 10 the least window that both ways admit, else 0: the bits that come next, 8 or fewer where the frame
  *       ends, read as a number behind a 1 (byte 41 is 321);
  *   [2] for 10 the construct, and [3], [4] the first two branches that share the window, by construct number;
@@ -160,6 +162,8 @@ static inline const char *songrafter_refusal_text(size_t number) {
     case SONGRAFTER_EMPTY_BODY: return "what is repeated may take no bits";
     case SONGRAFTER_CLASH: return "the next 8 bits do not tell which of two ways to go";
     case SONGRAFTER_WEIGHT: return "the grammar is too heavy: its weight is over 65,535";
+    case SONGRAFTER_UNREACHED: return "a rule is not reached from the start rule";
+    case SONGRAFTER_NO_VALUE: return "a field has no value";
     case SONGRAFTER_FRAME_LONG: return "the frame is over 256 bytes";
     case SONGRAFTER_READING_SMALL: return "the reading has too few words";
     case SONGRAFTER_TABLE_UNSOUND: return "the table is not sound, or has no such field";

@@ -107,17 +107,23 @@ fn one_uint(width: u32, parts: u64, part: impl Fn(u64) -> String) -> String {
     format!("dogma_v1 utf-8\n\na = uint({width},{});", (0..parts).map(part).collect::<Vec<_>>().join("|"))
 }
 
+// A text with one uint whose items are taken away, but for the last (a set with no value left is refused).
+fn taken_away(width: u32, parts: u64, item: impl Fn(u64) -> String, away: impl Fn(u64) -> String) -> String {
+    one_uint(width, parts, |i| if i + 1 < parts { format!("{}!{}", item(i), away(i)) } else { item(i) })
+}
+
 // Large texts: most terms, deepest. A set's ends and the values after them are tried, so the worst sets have many ends that fail.
 fn largest() {
+    let wide = |i: u64| format!("{}~{}", i * 33554432, i * 33554432 + 99);
     let texts = [
         ("512 items of 32 bits", one_uint(32, 512, |i| format!("{}", i * 3))),
         ("512 items of 16 bits", one_uint(16, 512, |i| format!("{}", i * 127))),
         ("512 items of 8 bits", one_uint(8, 512, |i| format!("{}", i % 256))),
         ("256 ranges of 32 bits", one_uint(32, 256, |i| format!("{}~{}", i * 16777216 + 7, i * 16777216 + 9))),
-        ("256 items taken away", one_uint(32, 256, |i| format!("{i}!{i}"))),
-        ("256 items of 8 bits taken away", one_uint(8, 256, |i| format!("{i}!{i}"))),
-        ("170 items up to a number, taken away", one_uint(16, 170, |i| format!("~{i}!~{}", i + 1))),
-        ("128 ranges taken away", one_uint(32, 128, |i| format!("{0}~{1}!{0}~{1}", i * 33554432, i * 33554432 + 99))),
+        ("256 items taken away", taken_away(32, 256, |i| i.to_string(), |i| i.to_string())),
+        ("256 items of 8 bits taken away", taken_away(8, 256, |i| i.to_string(), |i| i.to_string())),
+        ("170 items up to a number, taken away", taken_away(16, 170, |i| format!("~{i}"), |i| format!("~{}", i + 1))),
+        ("128 ranges taken away", taken_away(32, 128, wide, wide)),
         ("200 uints of three items", format!("dogma_v1 utf-8\n\na = {};", (0..200).map(|i| format!("uint(32,{i}!{i}|{})", i + 1)).collect::<Vec<_>>().join("&"))),
         ("16 deep", format!("dogma_v1 utf-8\n\na = {}\"x\"{};", "(".repeat(16), "?)".repeat(16))),
         ("8,000 bytes of comments", format!("dogma_v1 utf-8\n\n{}", "# comment\n".repeat(800))),

@@ -12,7 +12,7 @@ const BEHIND: usize = 3; // words behind a table, which stay
 
 #[derive(Default)]
 pub struct Tally {
-    pub refused: [usize; 12],
+    pub refused: [usize; 14],
     frames: usize,
     steps: u64,
 }
@@ -44,7 +44,7 @@ pub fn check(text: &[u8], random: &mut Random, tally: &mut Tally) -> Result<(), 
     let before: Vec<u32> = (0..TABLE_WORDS + BEHIND).map(|_| random.next() as u32).collect();
     let mut table = Guarded::new(&before);
     let answer = calls::admit(&lent, &mut table);
-    tally.refused[answer.number.min(11)] += 1;
+    tally.refused[answer.number.min(13)] += 1;
     match admit(text) {
         Err(refusal) => {
             same("number", answer.number, usize::from(refusal.number))?;

@@ -114,7 +114,7 @@ fn calls_on(text: &[u8], random: &mut Random, [admit, open, grant, access]: &mut
 }
 
 fn vectors(folder: &Path) -> Vec<Vec<u8>> {
-    let paths = ["sheet", "base"].iter().flat_map(|part| grammars(&folder.join(part)));
+    let paths = ["sheet", "base", "req06/hand"].iter().flat_map(|part| grammars(&folder.join(part)));
     paths.map(|path| std::fs::read(path).expect("a text")).collect()
 }
 
@@ -146,7 +146,7 @@ fn large() -> Vec<Vec<u8>> {
         format!("a = {};", (0..255).map(|i| format!("uint(8,{i})")).collect::<Vec<_>>().join("|")),
         format!("a = {};", ["'x'"; 255].join("&")),
         format!("a = uint(32, {});", (0..512).map(|i| format!("{}", i * 3)).collect::<Vec<_>>().join("|")),
-        format!("a = uint(32, {});", (0..128).map(|i| format!("{0}~{1}!{0}~{1}", i * 33554432u64, i * 33554432u64 + 99)).collect::<Vec<_>>().join("|")),
+        format!("a = uint(32, {});", (0..127).map(|i| format!("{0}~{1}!{0}~{1}|", i * 33554432u64, i * 33554432u64 + 99)).collect::<String>() + "7"),
         format!("r0 = r1; {chain} r63 = uint(1, ~);"),
     ];
     bodies.iter().map(|body| format!("dogma_v1 utf-8\n\n{body}").into_bytes()).collect()

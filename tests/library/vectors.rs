@@ -15,7 +15,7 @@ pub fn grammars(folder: &Path) -> Vec<PathBuf> {
 }
 
 pub fn check(folder: &Path) -> usize {
-    let texts: Vec<PathBuf> = ["sheet", "base", "req02/hand", "req02/random"].iter().flat_map(|part| grammars(&folder.join(part))).collect();
+    let texts: Vec<PathBuf> = ["sheet", "base", "req02/hand", "req02/random", "req06/hand", "req06/random"].iter().flat_map(|part| grammars(&folder.join(part))).collect();
     for path in &texts {
         let text = fs::read(path).expect("a text");
         let lines = fs::read(path.with_extension("frames")).expect("its frames");

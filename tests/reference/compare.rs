@@ -18,7 +18,7 @@ const FUEL: usize = 3000; // for the search of derivations
 // What was seen, so that a generator that makes nothing worth comparing is noticed.
 #[derive(Debug, Default)]
 struct Tally {
-    refused: [usize; 12], // by number; 0 counts the admitted
+    refused: [usize; 14], // by number; 0 counts the admitted
     matches: usize,
     no_matches: usize,
     steps: u64,

@@ -1,7 +1,7 @@
 // Admission: a grammar text is refused by a number and a place, or read.
 use crate::analysis::Analysis;
 use crate::syntax::Rule;
-use crate::{analysis, header, limits, names, numbers, parser, recursion, weight};
+use crate::{analysis, header, limits, names, no_value, numbers, parser, recursion, unreached, weight};
 
 pub const LONGEST_TEXT: usize = 8192;
 
@@ -50,5 +50,7 @@ pub fn admit(text: &[u8]) -> Result<Grammar, Refusal> {
     if weight > weight::LARGEST {
         return refuse(11, rules[0].name.place);
     }
+    unreached::check(&rules).or_else(|place| refuse(12, place))?;
+    no_value::check(&rules).or_else(|place| refuse(13, place))?;
     Ok(Grammar { rules, constructs: totals.constructs, variables: totals.variables, weight, analysis })
 }

@@ -1,5 +1,5 @@
-// Random grammar texts. Most are right by construction: what follows a choice begins with a byte that nothing else begins with, rules use later
-// rules only, fields come in whole bytes. Each kind of fault is then let in now and then.
+// Random grammar texts. Most are right by construction: what follows a choice begins with a byte that nothing else begins with, each rule uses
+// the next and no earlier one, fields come in whole bytes. Each kind of fault is then let in now and then.
 use crate::random::{damage, noise, Random};
 use crate::random_odd::{crowded, misplace, ragged};
 use crate::random_text::{header, layout};
@@ -36,6 +36,7 @@ pub(crate) struct Writer<'r> {
     pub variables: Vec<String>, // those that the member at hand may use
     unused: Vec<String>,        // rules for later, the next one last
     used: Vec<String>,
+    reaches_next: bool, // the rule at hand uses the next one
     lead: u8, // the byte that the next choice begins with
 }
 
@@ -50,7 +51,7 @@ pub fn grammar(random: &mut Random) -> Vec<String> {
     }
     names.truncate(random.pick(&[1, 1, 2, 3, 4, 6]));
     let lead = random.next() as u8;
-    let mut writer = Writer { random, tokens: Vec::new(), variables: Vec::new(), unused: names, used: Vec::new(), lead };
+    let mut writer = Writer { random, tokens: Vec::new(), variables: Vec::new(), unused: names, used: Vec::new(), reaches_next: false, lead };
     let mut first = true;
     while let Some(name) = writer.unused.pop() {
         writer.rule(&name, first);
@@ -72,12 +73,16 @@ impl Writer<'_> {
 
     fn rule(&mut self, name: &str, first: bool) {
         self.variables.clear();
+        self.reaches_next = false;
         self.put(name);
         self.put("=");
         if self.random.once_in(8) {
             self.branches(2);
         } else {
             self.top(!first);
+        }
+        if !self.reaches_next && !self.random.once_in(16) {
+            self.next_rule_use();
         }
         if first && self.random.once_in(8) {
             self.put("& eod");
@@ -171,10 +176,22 @@ impl Writer<'_> {
 
     fn rule_use(&mut self) {
         // An earlier rule may lead back to this one.
-        let choices = if self.random.once_in(12) { &self.used } else { &self.unused };
+        let back = self.random.once_in(12);
+        let choices = if back { &self.used } else { &self.unused };
         match choices.last().cloned() {
-            Some(name) => self.put(&name),
+            Some(name) => {
+                self.put(&name);
+                self.reaches_next |= !back;
+            }
             None => self.leading_field(),
+        }
+    }
+
+    // The next rule, if there is one, behind all else.
+    fn next_rule_use(&mut self) {
+        if let Some(name) = self.unused.last().cloned() {
+            self.put("&");
+            self.put(&name);
         }
     }
 

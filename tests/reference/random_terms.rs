@@ -13,38 +13,64 @@ impl Writer<'_> {
         }
     }
 
+    // Mostly one that leaves a value: what is taken away is a little of a lot.
     fn set_alternative(&mut self, width: u32) {
-        self.set_item(width);
         match self.random.below(10) {
             0 => {
+                self.much(width);
                 self.put("!");
-                self.set_item(width);
+                self.little(width);
             }
             1 => {
+                self.much(width);
                 self.put("! (");
-                self.set_item(width);
+                self.little(width);
                 if self.random.once_in(2) {
                     self.put("|");
-                    self.set_alternative(width);
+                    if self.random.once_in(6) { self.set_alternative(width) } else { self.little(width) }
                 }
                 self.put(")");
             }
-            _ => {}
+            _ => self.set_item(width),
         }
     }
 
-    // Ends are mostly small, in order and within the width; now and then below 0 or beyond it.
+    fn much(&mut self, width: u32) {
+        match self.random.below(8) {
+            0 => self.set_item(width),
+            1 | 2 => self.put("0 ~"),
+            _ => self.put("~"),
+        }
+    }
+
+    fn little(&mut self, width: u32) {
+        if self.random.once_in(20) {
+            return self.set_item(width);
+        }
+        let form = self.random.below(3);
+        self.set_item_of(form, width);
+    }
+
     fn set_item(&mut self, width: u32) {
+        let form = self.random.below(6);
+        self.set_item_of(form, width);
+    }
+
+    // One of two forms of a single value and four of a range. Ends are mostly small, in order and within the width; now and then below 0, beyond it or
+    // turned round, where no value may be left.
+    fn set_item_of(&mut self, form: u64, width: u32) {
         let limit = (1i64 << width) - 1;
-        let low = self.random.below(12) as i64 - i64::from(self.random.once_in(6)) * 9;
+        let odd = self.random.once_in(100);
+        let below = if odd || form == 2 || form == 3 { i64::from(self.random.once_in(6)) * 9 } else { 0 };
+        let low = (self.random.below(12) as i64).min(limit) - below;
         let high = match self.random.below(4) {
             0 => limit + self.random.below(3) as i64 - 1,
             1 => self.random.below(limit as u64 + 1) as i64,
-            _ => low + self.random.below(6) as i64,
+            _ => low.max(0) + self.random.below(6) as i64,
         };
-        let form = self.random.below(6);
+        let high = if odd { high - self.random.below(12) as i64 } else { high.max(low) };
         if form <= 3 {
-            self.calculation(low);
+            self.calculation(if odd { low + high } else { low });
         }
         if form >= 2 {
             self.put("~");

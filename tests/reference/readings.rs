@@ -1,4 +1,4 @@
-// What the settled readings of document 01 say by example. A mark ^ in a text shows the place of the refusal.
+// What the settled readings of documents 01 and 02 say by example. A mark ^ in a text shows the place of the refusal.
 use reference::grammar::{admit, Between, Refusal};
 
 const HEADERS: &[(u8, &str)] = &[
@@ -62,7 +62,7 @@ const FORMS: &[(u8, &str)] = &[
     (4, "a = uint(8, ^(1|2));"),
     (4, "a = uint(8, 1!(^(2)));"),
     (4, "a = uint(8, 1!2^!3);"),
-    (0, "a = uint(8, 1 - -1 ! (2 | 3 ! 4));"),
+    (0, "a = uint(8, 1 - -1 ! (3 | 4 ! 2));"),
     (4, "a = uint(8, -^-1);"),
     (4, "a = [^];"),
     (4, "a = [^: 'a';];"),
@@ -94,7 +94,7 @@ const NAMES_AND_NUMBERS: &[(u8, &str)] = &[
     (6, "a = uint(8, ^b); b = 'x';"),
     (6, "a = uint(8, var(^msb, ~));"),
     (6, "a = 'x'; b = ^c;"),
-    (0, "a = uint(8, var(a, ~)) & uint(8, var(b, a)); b = 'x';"),
+    (0, "a = c & uint(8, var(a, ~)) & uint(8, var(b, a)); c = b; b = 'x';"),
     (7, "a = 'x'; ^b = c{0}; c = b;"),
     (7, "a = b; ^b = 'x' & c; c = b;"),
     (8, "a = uint(^0, ~);"),
@@ -104,13 +104,12 @@ const NAMES_AND_NUMBERS: &[(u8, &str)] = &[
     (8, "a = uint(8, 1 | ^-99999999999999999999);"),
     (0, "a = uint(31, var(x, ~)) & uint(32, var(z, ~)) & uint(8, 0*x*z*4);"),
     (8, "a = uint(31, var(x, ~)) & uint(32, var(z, ~)) & uint(8, ^x*z*0);"),
-    (0, "a = uint(8, 2147483648 * 2147483648);"),
+    (0, "a = uint(8, ~2147483648 * 2147483648);"),
     (8, "a = uint(8, ^2147483648 * 2147483648 + 1);"),
 ];
 
 const LOOKAHEAD: &[(u8, &str)] = &[
-    (0, "a = 'x'; b = 'y' | 'y';"),
-    (9, "a = 'x'; b = ('y'?)^*;"),
+    (12, "a = 'x'; ^b = 'y' | 'y';"), // what nothing follows has no windows
     (10, "a = ('A' & ^'A'?)?;"),
     (10, "a = ^'A'{3~3} & 'A';"),
     (10, "a = ^'A'{5~3} & 'A';"),
@@ -118,8 +117,8 @@ const LOOKAHEAD: &[(u8, &str)] = &[
     (9, "a = ('A'?)^{0};"),
     (9, "a = (('A'?)^*)*;"),
     (0, "a = (eod & 'x')*;"),
-    (0, "a = uint(8, 300)*;"),
-    (0, "a = ('A' | 'A') & uint(8, 300);"),
+    (13, "a = ^uint(8, 300)*;"), // not 9 or 10: no windows
+    (13, "a = ('A' | 'A') & ^uint(8, 300);"),
     (0, "a = uint(4,1)* & uint(4,1);"),
     (10, "a = uint(8, var(n, ~)) & (^uint(8, n ! n) | 'A');"),
     (10, "a = ^eod & 'x' | 'x';"),
@@ -128,13 +127,44 @@ const LOOKAHEAD: &[(u8, &str)] = &[
     (10, "a = 'b' & ('c' & ^'A'* & 'A' | 'd');"),
 ];
 
+// Req 06.
+const STRICTER: &[(u8, &str)] = &[
+    (12, "a = 'x'; ^b = 'y';"),
+    (0, "a = b{0}; b = 'y';"),
+    (0, "a = [1 = 2: b;]; b = 'y';"),
+    (0, "a = c; b = 'y'; c = b;"),
+    (12, "a = c; ^b = d; c = 'x'; d = 'y';"), // d is used, but not reached
+    (12, "a = 'x'; ^b = c; c = 'y';"),
+    (12, "a = uint(8, 300); ^b = 'y';"), // before 13, whatever the places
+    (11, "^a = b & b & b & b; b = c & c & c & c; c = d & d & d & d; d = e & e & e & e; e = f & f & f & f; f = g & g & g & g; g = h & h & h & h; h = 'x' & 'y'; i = 'z';"),
+    (9, "a = 'x'; b = ('y'?)^*;"), // also in a rule that is not reached
+    (8, "a = 'x'; b = uint(^33, ~);"),
+    (13, "a = ^uint(8, 256);"),
+    (0, "a = uint(8, 255);"),
+    (13, "a = ^uint(8, -1);"),
+    (13, "a = ^uint(8, ~-1);"),
+    (13, "a = ^uint(8, 7~5);"),
+    (13, "a = ^uint(8, ~ ! ~);"),
+    (13, "a = ^uint(8, ~ ! (0~9 | 10~));"),
+    (0, "a = uint(8, ~ ! (0~9 | 11~));"),
+    (13, "a = 'x' & (^uint(8, 3 ! 3) | 'y');"),
+    (13, "a = ^uint(32, ~ ! ~4294967295);"),
+    (0, "a = uint(32, ~ ! ~4294967294);"),
+    (13, "a = ^uint(8, var(n, 300)) & uint(8, n);"), // a binder's set too
+    (0, "a = uint(8, var(n, ~)) & uint(8, n ! n);"), // a variable excuses it, wherever it stands
+    (0, "a = uint(8, var(n, ~)) & uint(8, 300 | 300 ! n);"),
+    (0, "a = 'z'~'a';"),
+    (0, "a = 'x'{5~3};"),
+    (13, "a = b & ^uint(8, 256); b = uint(8, 257);"), // the first in the text
+];
+
 const HEADER: &str = "dogma_v1 utf-8\n\n";
 
 pub fn check() -> usize {
     for (number, text) in HEADERS {
         check_one(*number, text, "");
     }
-    let rules = [FORMS, NAMES_AND_NUMBERS, LOOKAHEAD].concat();
+    let rules = [FORMS, NAMES_AND_NUMBERS, LOOKAHEAD, STRICTER].concat();
     for (number, rules) in &rules {
         check_one(*number, rules, HEADER);
     }

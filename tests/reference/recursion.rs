@@ -19,7 +19,7 @@ pub fn check(rules: &[Rule]) -> Result<(), usize> {
 }
 
 // Which rules one or more uses lead to from this one.
-fn reached(uses: &[Vec<usize>], from: usize) -> Vec<bool> {
+pub fn reached(uses: &[Vec<usize>], from: usize) -> Vec<bool> {
     let mut reached = vec![false; uses.len()];
     let mut open = uses[from].clone();
     while let Some(rule) = open.pop() {

@@ -7,6 +7,8 @@ mod limits;
 mod names;
 mod recursion;
 mod refusals;
+mod unreached;
+mod values;
 mod warnings;
 
 use report_wording::writing::number;

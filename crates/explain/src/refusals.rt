@@ -1,8 +1,10 @@
-// Refusals 1 to 9 and 11: what each means, and what to change.
+// Refusals 1 to 9 and 11 to 13: what each means, and what to change.
 use crate::heavy;
 use crate::limits;
 use crate::names;
 use crate::recursion;
+use crate::unreached;
+use crate::values;
 use report_clashes::empty;
 use report_wording::lines;
 use report_wording::writing::number;
@@ -13,6 +15,8 @@ fn late(grammar: &[u8], n: usize, at: usize) {
         8 => report_advice::rest::extent(grammar, at),
         9 => empty::explained(grammar, at),
         11 => heavy::explained(grammar),
+        12 => unreached::explained(grammar),
+        13 => values::explained(grammar, at),
         _ => report_advice::rest::table(),
     }
 }

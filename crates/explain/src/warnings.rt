@@ -1,20 +1,15 @@
-// Warnings for an admitted grammar: fields that admit nothing, cases that are never chosen, rules that nothing uses, a grammar that no frame
-// matches.
+// Warnings for an admitted grammar: ranges of characters that admit nothing, cases that are never chosen, a grammar that no frame matches.
 use report_listing::places::in_rule;
-use report_listing::places::owner;
 use report_listing::places::place_of;
 use report_listing::sets;
 use report_measures::cases::always_before;
 use report_measures::cases::never_holds;
 use report_measures::lengths::width_of;
-use report_measures::structure::body_of;
-use report_measures::structure::is_used;
 use report_measures::words::set_at;
 use report_wording::lines;
 use report_wording::quoting::Part;
 use report_wording::quoting::quote;
 use report_wording::writing::say;
-use table_layout::word;
 
 fn warned(grammar: &[u8], at: usize, part: Part, sentence: &[u8]) {
     say(b"Warning: ");
@@ -26,7 +21,7 @@ fn warned(grammar: &[u8], at: usize, part: Part, sentence: &[u8]) {
     say(sentence);
 }
 
-// A field whose set of strings is empty; with a variable it has all.
+// A range whose set of strings is empty (a uint's is refused).
 fn field(grammar: &[u8], table: &[u32], first: &[u64], i: usize) {
     if 0 < width_of(table, i) {
         if lookahead::is_empty(set_at(first, i)) {
@@ -84,33 +79,6 @@ fn cases(grammar: &[u8], table: &[u32]) {
     }
 }
 
-// The rule of construct i, whole.
-fn unused(grammar: &[u8], i: usize) {
-    let at = owner(grammar, place_of(grammar, i));
-    say(b"Warning: ");
-    lines::place(grammar, at);
-    say(b":  ");
-    quote(grammar, at, Part::Whole);
-    say(b"\n    is a rule that nothing uses.\n");
-}
-
-fn rule(grammar: &[u8], table: &[u32], k: usize) {
-    if k < word(table, 1) {
-        if !is_used(table, k) {
-            unused(grammar, body_of(table, k));
-        }
-    }
-}
-
-// The start rule needs no use.
-fn rules(grammar: &[u8], table: &[u32]) {
-    let mut k: usize = 1;
-    while k < 64 {
-        rule(grammar, table, k);
-        k += 1;
-    }
-}
-
 fn whole(first: &[u64]) {
     if lookahead::is_empty(set_at(first, 0)) {
         say(b"Warning: no frame at all matches this grammar.\n");
@@ -123,5 +91,4 @@ pub fn told(grammar: &[u8], table: &[u32]) {
     whole(&first);
     fields(grammar, table, &first);
     cases(grammar, table);
-    rules(grammar, table);
 }

@@ -1,4 +1,5 @@
 // What the refusals mean and what to change, in sentences for a clerk.
+mod calculations;
 pub mod clashes;
 mod expected;
 pub mod form;
@@ -9,3 +10,5 @@ pub mod names;
 pub mod rest;
 mod slips;
 pub mod titles;
+pub mod unreached;
+pub mod values;

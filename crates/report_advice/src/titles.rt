@@ -17,7 +17,9 @@ fn late_title(n: usize) {
         7 => say(b": a rule reaches itself\n"),
         8 => say(b": a number is outside its limits\n"),
         9 => say(b": what is repeated may be empty\n"),
-        _ => say(b": the grammar is too heavy\n"),
+        11 => say(b": the grammar is too heavy\n"),
+        12 => say(b": a rule is not reached\n"),
+        _ => say(b": a field has no value\n"),
     }
 }
 

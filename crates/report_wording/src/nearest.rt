@@ -104,7 +104,7 @@ fn near_of(grammar: &[u8], a: usize, b: usize, la: usize, lb: usize) -> bool {
 }
 
 // Names of at least three bytes.
-fn near(grammar: &[u8], a: usize, b: usize) -> bool {
+pub fn near(grammar: &[u8], a: usize, b: usize) -> bool {
     let la = saturating_sub(span(Class::Name, grammar, a), a);
     let lb = saturating_sub(span(Class::Name, grammar, b), b);
     if least(la, lb) < 3 {

@@ -56,7 +56,7 @@ module _ (ws first : List ℕ) (fs : FirstSets ws first) (i : ℕ) (h : i < max-
     no-windows : ((x : Bits) → strings first i x → ⊥) → Valueless ws i
     no-windows none =
         let free : hasVariable (terms-of ws start end) ≡ false =
-            elim (which (hasVariable (terms-of ws start end))) [ inl t ↦ absurd (none _ (window-of 0 (pow-pos width) (with-variable 0 t))) | inr t ↦ t ] in
+        elim (which (hasVariable (terms-of ws start end))) [ inl t ↦ absurd (none _ (window-of 0 (pow-pos width) (with-variable 0 t))) | inr t ↦ t ] in
         record {
           width = width;
           start = start;

@@ -1,0 +1,220 @@
+// Refusal 13: the items of a uint's set, and why none has a value that the uint has.
+use crate::calculations::begins;
+use crate::calculations::worked_out;
+use report_wording::lines;
+use report_wording::quoting::Part;
+use report_wording::quoting::end_of;
+use report_wording::quoting::quote;
+use report_wording::writing::number;
+use report_wording::writing::say;
+use term_integers::at_most;
+use term_integers::magnitude;
+use term_integers::negative;
+use text_parsing::terminals::look;
+
+// An item `a` or `a~b`, where each end may be left out. `single`: one number. `from`, `to`: an end is written.
+struct Item {
+    single: bool,
+    from: bool,
+    low: i64,
+    to: bool,
+    high: i64,
+}
+
+// The place behind a number of tokens.
+fn behind(grammar: &[u8], at: usize, count: usize) -> usize {
+    let mut here = at;
+    let mut n: usize = 0;
+    while n < count {
+        here = look(grammar, here).end;
+        n += 1;
+    }
+    here
+}
+
+// The set of the uint at a place: behind `uint(8,`, or behind `uint(8, var(n,`.
+fn set_of(grammar: &[u8], at: usize) -> usize {
+    let here = behind(grammar, at, 4);
+    if look(grammar, here).code == 8 {
+        return behind(grammar, here, 4);
+    }
+    here
+}
+
+fn width_of(grammar: &[u8], at: usize) -> usize {
+    look(grammar, behind(grammar, at, 2)).value
+}
+
+// The largest value of a width.
+fn largest(width: usize) -> usize {
+    if width < 33 {
+        return lines::saturating_sub(term_integers::power(width as u64) as usize, 1);
+    }
+    4294967295
+}
+
+// A range whose lower end is known, at the token behind its `~`.
+fn range(grammar: &[u8], from: bool, low: i64, at: usize) -> Item {
+    if begins(look(grammar, at).code) {
+        let high = worked_out(grammar, at).value;
+        return Item {
+            single: false,
+            from,
+            low,
+            to: true,
+            high,
+        };
+    }
+    Item {
+        single: false,
+        from,
+        low,
+        to: false,
+        high: 0,
+    }
+}
+
+fn item_at(grammar: &[u8], at: usize) -> Item {
+    let first = look(grammar, at);
+    if first.code == 126 {
+        return range(grammar, false, 0, first.end);
+    }
+    let worked = worked_out(grammar, at);
+    let low = worked.value;
+    let next = look(grammar, worked.end);
+    if next.code == 126 {
+        return range(grammar, true, low, next.end);
+    }
+    Item {
+        single: true,
+        from: true,
+        low,
+        to: true,
+        high: low,
+    }
+}
+
+fn value(before: &[u8], n: i64) {
+    say(before);
+    if negative(n) {
+        say(b"-");
+    }
+    number(b"", magnitude(n) as usize);
+}
+
+fn below(single: bool, high: i64) {
+    if single {
+        value(b"is ", high);
+    } else {
+        value(b"ends at ", high);
+    }
+    say(b", below 0\n");
+}
+
+fn above(single: bool, low: i64, most: usize) {
+    if single {
+        value(b"is ", low);
+    } else {
+        value(b"begins at ", low);
+    }
+    number(b", above ", most);
+    say(b"\n");
+}
+
+fn turned(low: i64, high: i64) {
+    value(b"begins at ", low);
+    value(b" and ends at ", high);
+    say(b": its first value comes after its last\n");
+}
+
+fn past(n: i64, most: usize) -> bool {
+    if negative(n) {
+        return false;
+    }
+    most < magnitude(n) as usize
+}
+
+fn is_turned(item: Item) -> bool {
+    if item.from {
+        if item.to {
+            return !at_most(item.low, item.high);
+        }
+    }
+    false
+}
+
+fn is_below(item: Item) -> bool {
+    if item.to {
+        return negative(item.high);
+    }
+    false
+}
+
+fn is_above(item: Item, most: usize) -> bool {
+    if item.from {
+        return past(item.low, most);
+    }
+    false
+}
+
+// Why the item has no value left.
+fn reason(item: Item, most: usize) {
+    if is_turned(item) {
+        turned(item.low, item.high);
+        return;
+    }
+    if is_below(item) {
+        below(item.single, item.high);
+        return;
+    }
+    if is_above(item, most) {
+        above(item.single, item.low, most);
+        return;
+    }
+    number(b"its values from 0 to ", most);
+    say(b" are taken away by what stands after !\n");
+}
+
+fn line(grammar: &[u8], at: usize, most: usize) {
+    say(b"    ");
+    lines::place(grammar, at);
+    say(b":  ");
+    quote(grammar, at, Part::Branch);
+    say(b"\n        ");
+    reason(item_at(grammar, at), most);
+}
+
+// Each item with what is taken away from it, at most twenty.
+fn items(grammar: &[u8], set: usize, most: usize) {
+    let mut at = set;
+    let mut n: usize = 0;
+    while n < 20 {
+        line(grammar, look(grammar, at).start, most);
+        let next = look(grammar, end_of(grammar, at, Part::Branch));
+        if next.code != 124 {
+            return;
+        }
+        at = next.end;
+        n += 1;
+    }
+    say(b"    and more\n");
+}
+
+fn change(most: usize) {
+    number(b"What to change: let the set have a value from 0 to ", most);
+    say(b".\n");
+    say(b"From 1 to 5 is written 1~5, with the smaller end first; 1-5 is a calculation.\n");
+    say(b"A larger value needs a wider uint, of at most 32 bits: that changes the frames.\n");
+    say(b"A branch or a case that no frame is to take can be left out.\n");
+}
+
+// The uint at a place.
+pub fn none_left(grammar: &[u8], at: usize) {
+    let width = width_of(grammar, at);
+    let most = largest(width);
+    number(b"This field has no value: a uint of width ", width);
+    number(b" has the values from 0 to ", most);
+    say(b",\nand its set has none of them:\n");
+    items(grammar, set_of(grammar, at), most);
+    change(most);
+}
