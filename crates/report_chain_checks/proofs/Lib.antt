@@ -1,0 +1,6 @@
+-- Why what was read is a chain.
+pub mod Stacks
+pub mod Widths
+pub mod Rules
+pub mod Readiness
+pub mod Tails
