@@ -3,4 +3,5 @@ pub mod Stacks
 pub mod Widths
 pub mod Rules
 pub mod Readiness
+pub mod Counting
 pub mod Tails

@@ -2,6 +2,7 @@
 -- Assumes nothing.
 use Prim.Native.Nat.{ℕ, zero, suc, _+_, _-_, _≤_, _<_}
 use mathlib.Core.Path.{_≡_, refl, sym, ap, _∙_, subst}
+use mathlib.Core.Bool.{Bool, true, false, not, false≢true}
 use mathlib.Core.List.{List, [], _∷_, _++_}
 use native.Mathlib.Omega.{arith}
 use borrow.Author.Tests.{lt-ltb, le-ltb}
@@ -11,7 +12,9 @@ use Rattle.basis.specs.Bits.{Bits}
 use Rattle.basis.specs.Limits.{max-constructs}
 use Rattle.basis.specs.Lookahead.{join}
 use Rattle.table_layout.specs.Constructs.{constructAt}
-use Rattle.table_layout.specs.Held.{held, HeldNode}
+use Rattle.table_layout.specs.Held.{held, node-of, HeldNode}
+use Rattle.table_layout.specs.declared.Construct.{Construct}
+use Rattle.table_first_follow.proofs.HeldLaws.{node-inside}
 use Rattle.theory.specs.Derivation.{construct, members}
 use Rattle.theory.specs.Lookahead.{First, Follow}
 use Rattle.table_first_follow.specs.Rounds.{strings}
@@ -20,8 +23,12 @@ use Rattle.report_chains.specs.Chains.{Step, after, Spells}
 use Rattle.report_chains.specs.Strings.{string, Begun}
 use Rattle.report_chains.proofs.Finding.{FoundAfter, found, found-after, then-after}
 use Rattle.report_chain_checks.specs.Replayed.{row, stack, past-eight, least-count, counts-at, FirstOf, FollowOf, IsField, is-field, Pattern, pattern, BeginsWith, begins-with}
-use Rattle.report_chain_checks.proofs.Widths.{string-number, front-of, begins-twice, cut-begins}
+use Rattle.report_chain_checks.proofs.Widths.{string-number, number-string, front-of, begins-twice, cut-begins}
 use Rattle.basis.specs.Lookahead.{number}
+
+pub unless : (b : Bool) → not b ≡ false → b ≡ true
+unless true e = refl
+unless false e = absurd (false≢true (sym e))
 
 module _ (ws : List ℕ) where
   pub none-ready : FirstOf ws []
@@ -73,3 +80,23 @@ module _ (ws : List ℕ) where
   pub begins-so : (i v : ℕ) → 0 < v → v < 512 → (s : Bits) → Pattern ws i s → Begun (number s) v → BeginsWith ws i (string v)
   begins-so i v p h s (pattern bits q l t e) (k, d) =
       begins-with bits q l t (begins-twice (string v) s bits (front-of s (string v) k (d ∙ sym (string-number v p h))) (cut-begins s bits e))
+
+  -- a field whose strings have these bits
+  pub of-bits : (words : List ℕ) → FirstSets ws words → (i v : ℕ) → i < max-constructs → IsField (held ws .node i) → (s : Bits) × (number s ≡ v) × strings words i s → Pattern ws i (string v)
+  of-bits words f i v h d (s, e, m) = subst (λ (t : Bits). Pattern ws i t) (sym (number-string s (m .0)) ∙ ap string e) (of-set words f i h d s m)
+
+  module _ (i : ℕ) (h : i < max-constructs) where
+    kind : (c : Construct) → constructAt ws i ≡ c → IsField (node-of ws i c) → IsField (held ws .node i)
+    kind c e f = subst IsField (sym (node-inside ws i h ∙ ap (node-of ws i) e)) f
+
+    pub of-literal : (n : ℕ) → constructAt ws i ≡ Construct.Literal n → IsField (held ws .node i)
+    unfolding node-of
+    of-literal n e = kind (Construct.Literal n) e (is-field _ _ _ _)
+
+    pub of-range : (low high : ℕ) → constructAt ws i ≡ Construct.Range low high → IsField (held ws .node i)
+    unfolding node-of
+    of-range low high e = kind (Construct.Range low high) e (is-field _ _ _ _)
+
+    pub of-uint : (width start end binder : ℕ) → constructAt ws i ≡ Construct.Uint width start end binder → IsField (held ws .node i)
+    unfolding node-of
+    of-uint width start end binder e = kind (Construct.Uint width start end binder) e (is-field _ _ _ _)

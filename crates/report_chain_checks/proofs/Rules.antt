@@ -1,9 +1,9 @@
 -- A law for each entry: what its construct is made of, or what follows it, by the rule of FIRST or FOLLOW that the entry stands for.
 -- Assumes nothing.
-use Prim.Native.Nat.{ℕ, zero, suc, _+_, _≤_, _<_, min}
+use Prim.Native.Nat.{ℕ, zero, suc, _+_, _-_, _≤_, _<_, min}
 use mathlib.Core.Path.{_≡_, refl, sym, ap, _∙_, subst}
 use mathlib.Core.Bool.{Bool, true}
-use mathlib.Core.List.{List, [], _∷_, _++_, append-nil, List·Memᴰ·head, List·Memᴰ·tail}
+use mathlib.Core.List.{List, [], _∷_, _++_, append-nil, append-assoc, List·Memᴰ·head, List·Memᴰ·tail}
 use native.Mathlib.Omega.{arith}
 use lib.ListN.{replicate}
 use Rattle.basis.specs.Bits.{Bits}
@@ -20,7 +20,7 @@ use Rattle.table_first_follow.specs.Parts.{siblings}
 use Rattle.table_first_follow.proofs.HeldLaws.{node-inside}
 use Rattle.table_first_follow.proofs.PartLaws.{parts-siblings, siblings-first, siblings-next}
 use Rattle.report_chains.specs.Chains.{Step, enters, repeats, ends, leaves, goes-on, passes-over, Rest, after, Spells, listed}
-use Rattle.report_chain_checks.specs.Replayed.{Longer, Made, Moved}
+use Rattle.report_chain_checks.specs.Replayed.{stack, Longer, Made, Moved}
 
 in-middle : (before : List ℕ) (b : ℕ) (more : List ℕ) → b ∈ before ++ b ∷ more
 in-middle [] b more = List·Memᴰ·head refl
@@ -154,3 +154,21 @@ module _ (ws : List ℕ) (i : ℕ) (h : i < max-constructs) where
 pub others : (ws : List ℕ) (end m size : ℕ) (is : List ℕ) → m < end → size ≡ size-of (constructAt ws m) → (size ≡ 0 → ⊥) → is ≡ siblings ws (m + size) end ++ [] → siblings ws m end ≡ m ∷ is
 others ws end m size is h e z s =
     siblings-next ws end m h (λ q. z (e ∙ q)) ∙ ap (λ (k : ℕ). m ∷ siblings ws (m + k) end) (sym e) ∙ ap (λ (ks : List ℕ). m ∷ ks) (sym (s ∙ append-nil (siblings ws (m + size) end)))
+
+-- the walk goes on to the next part
+pub step-part : (ws : List ℕ) (end at size : ℕ) → at < end → size ≡ size-of (constructAt ws at) → (size ≡ 0 → ⊥) → siblings ws at end ≡ at ∷ siblings ws (at + size) end
+step-part ws end at size h e z = siblings-next ws end at h (λ q. z (e ∙ q)) ∙ ap (λ (k : ℕ). at ∷ siblings ws (at + k) end) (sym e)
+
+pub further-part : (ws : List ℕ) (start end at size : ℕ) (before : List ℕ) → at < end → size ≡ size-of (constructAt ws at) → (size ≡ 0 → ⊥)
+    → siblings ws start end ≡ before ++ siblings ws at end → siblings ws start end ≡ (before ++ at ∷ []) ++ siblings ws (at + size) end
+further-part ws start end at size before h e z s =
+    s ∙ ap (λ (is : List ℕ). before ++ is) (step-part ws end at size h e z) ∙ sym (append-assoc before (at ∷ []) (siblings ws (at + size) end))
+
+-- no row is no construct
+pub bottom : (ws items : List ℕ) (depth : ℕ) → depth ≡ 0 → stack ws items depth ≡ []
+unfolding stack
+bottom ws items depth e = ap (stack ws items) e
+
+-- what is followed now, by its number and 1
+pub moved-to : (ws is : List ℕ) (p q r : ℕ) (more : List Step) → r ≡ q + 1 → Moved ws is (after p) (after q) more → Moved ws is (after p) (after (r - 1)) more
+moved-to ws is p q r more e m = let z : q ≡ r - 1 = omega arith in subst (λ (k : ℕ). Moved ws is (after p) (after k) more) z m

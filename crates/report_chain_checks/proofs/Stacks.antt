@@ -58,6 +58,6 @@ unfolding past-eight
 passes-many ws i n is js ks h e f =
     let m : ℕ = least-count (counts-at ws (constructAt ws i)) - 8 in
     rw (eq-eqb n 8 h) (
-      e ∙ ap (λ (k : ℕ). replicate k (i + 1) ++ js) h ∙ ap (λ (l : List ℕ). replicate 8 (i + 1) ++ l) f
-      ∙ sym (append-assoc (replicate 8 (i + 1)) (replicate m (i + 1)) ks) ∙ ap (λ (l : List ℕ). l ++ ks) (replicate-append-replicate 8 m (i + 1))
+    e ∙ ap (λ (k : ℕ). replicate k (i + 1) ++ js) h ∙ ap (λ (l : List ℕ). replicate 8 (i + 1) ++ l) f
+    ∙ sym (append-assoc (replicate 8 (i + 1)) (replicate m (i + 1)) ks) ∙ ap (λ (l : List ℕ). l ++ ks) (replicate-append-replicate 8 m (i + 1))
     )

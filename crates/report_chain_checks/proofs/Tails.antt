@@ -18,11 +18,12 @@ use Rattle.table_first_follow.proofs.HeldLaws.{node-opening}
 use Rattle.report_chains.specs.Chains.{Step, takes, leaves, frame-end, Rest, after, Spells, listed, Lists}
 use Rattle.report_chains.specs.Strings.{width-of, string}
 use Rattle.report_chains.proofs.Finding.{FoundAfter}
-use Rattle.report_chain_checks.specs.Replayed.{stack, rest-of, Longer, Made, Moved, Tail, FirstOf, FollowOf, Pattern, pattern, BeginsWith, begins-with}
+use Rattle.report_chain_checks.specs.Replayed.{stack, rest-of, Longer, Made, Moved, Read, Tail, FirstOf, FollowOf, Pattern, pattern, BeginsWith, begins-with}
 use Rattle.report_chain_checks.specs.Told.{steps-of, told}
 use Rattle.report_chain_checks.specs.declared.Place.{Place}
 use Rattle.report_chain_checks.proofs.Widths.{string-length, string-number, number-string, width-number, width-small, width-some, not-cut}
 use Rattle.report_chain_checks.proofs.Readiness.{goes-to-end}
+use Rattle.report_chain_checks.proofs.Stacks.{top-is}
 
 -- what comes after a construct, by its number
 pub rest-after : (n : ℕ) → 0 < n → rest-of n ≡ after (n - 1)
@@ -83,7 +84,7 @@ module _ (ws items : List ℕ) (at : Place) (shown : List Step) (t : Tail ws ite
 
   -- a field that has all its bits
   module _ (now-items : List ℕ) (r : Place) (i v : ℕ) (p : 0 < v) (h : v < 256) (b : at .left ≤ 8) (e : r .rest ≡ at .rest) (f : r .left ≡ at .left + width-of v)
-    (g : r .seen ≡ (v - 1) * 2 ^ width-of (at .seen) + at .seen) (s : stack ws now-items (r .depth) ≡ i ∷ stack ws items (at .depth)) where
+      (g : r .seen ≡ (v - 1) * 2 ^ width-of (at .seen) + at .seen) (s : stack ws now-items (r .depth) ≡ i ∷ stack ws items (at .depth)) where
     spelt : Bits
     spelt = string v
 
@@ -137,7 +138,7 @@ module _ (ws items : List ℕ) (at : Place) (shown : List Step) (t : Tail ws ite
 -- ---- where a list ends
 
 module _ (ws items now-items : List ℕ) (r : Place) (depth i j v : ℕ) (p : 1 < v) (h : v < 512) (e : r .left ≡ width-of v) (g : r .seen ≡ v) (d : 0 < r .rest) (c : j ≡ r .rest - 1)
-  (s : stack ws now-items (r .depth) ≡ i ∷ stack ws items depth) where
+    (s : stack ws now-items (r .depth) ≡ i ∷ stack ws items depth) where
   with-rest : (z : Bits) → FoundAfter (held ws) (stack ws items depth) j z → BeginsWith ws i (string v) → Tail ws now-items r (takes i (string v) ∷ [])
   with-rest z q (begins-with bits n l t b) =
       let m : length (string v) ≡ width-of v = string-length v in
@@ -230,3 +231,43 @@ told-back steps j k n (suc m) e f =
 pub told-one : (steps : List ℕ) (k : ℕ) → told steps k 1 ≡ steps-of (getD steps (3 * k) 0) (getD steps (3 * k + 1) 0) (getD steps (3 * k + 2) 0)
 unfolding told
 told-one steps k = append-nil (steps-of (getD steps (3 * k) 0) (getD steps (3 * k + 1) 0) (getD steps (3 * k + 2) 0))
+
+-- ---- what the functions hand on
+
+pub moved-rests : (ws is : List ℕ) (rest r : ℕ) (more : List Step) → 0 < rest → 0 < r → Moved ws is (after (rest - 1)) (after (r - 1)) more → Moved ws is (rest-of rest) (rest-of r) more
+moved-rests ws is rest r more h l m =
+    subst (λ (x : Rest). Moved ws is x (rest-of r) more) (sym (rest-after rest h)) (subst (λ (x : Rest). Moved ws is (after (rest - 1)) x more) (sym (rest-after r l)) m)
+
+-- the entry's numbers, by other names
+same-steps : (a b c p q s : ℕ) → a ≡ p → b ≡ q → c ≡ s → steps-of a b c ≡ steps-of p q s
+same-steps a b c p q s e f g = ap (λ (k : ℕ). steps-of k b c) e ∙ ap (λ (k : ℕ). steps-of p k c) f ∙ ap (λ (k : ℕ). steps-of p q k) g
+
+pub read-as : (ws items now-items : List ℕ) (at r : Place) (a b c p q s : ℕ) → a ≡ p → b ≡ q → c ≡ s → Read ws items now-items at r (steps-of a b c) → Read ws items now-items at r (steps-of p q s)
+read-as ws items now-items at r a b c p q s e f g m = subst (λ (more : List Step). Read ws items now-items at r more) (same-steps a b c p q s e f g) m
+
+pub made-as : (ws is js : List ℕ) (i a p v : ℕ) → a ≡ p → Made ws is js i (steps-of a i v) → Made ws is js i (steps-of p i v)
+made-as ws is js i a p v e m = subst (λ (k : ℕ). Made ws is js i (steps-of k i v)) e m
+
+pub moved-as : (ws is : List ℕ) (r s : Rest) (a b p q v : ℕ) → a ≡ p → b ≡ q → Moved ws is r s (steps-of a b v) → Moved ws is r s (steps-of p q v)
+moved-as ws is r s a b p q v e f m = subst (λ (more : List Step). Moved ws is r s more) (same-steps a b v p q v e f refl) m
+
+pub last-as : (ws items : List ℕ) (r : Place) (steps : List ℕ) (k a b c : ℕ) → a ≡ getD steps (3 * k) 0 → b ≡ getD steps (3 * k + 1) 0 → c ≡ getD steps (3 * k + 2) 0
+    → Tail ws items r (steps-of a b c) → Tail ws items r (told steps k 1)
+last-as ws items r steps k a b c e f g t =
+    subst (λ (l : List Step). Tail ws items r l) (same-steps a b c (getD steps (3 * k) 0) (getD steps (3 * k + 1) 0) (getD steps (3 * k + 2) 0) e f g ∙ sym (told-one steps k)) t
+
+-- one construct is left
+pub one-left : (ws items : List ℕ) (depth i : ℕ) → depth ≡ 1 → i < max-constructs → getD items 1 0 ≡ i → stack ws items depth ≡ i ∷ []
+unfolding stack
+one-left ws items depth i d h e = ap (stack ws items) d ∙ top-is ws items 1 i (omega arith) h e
+
+pub tail-is : (ws items : List ℕ) (r : Place) (shown other : List Step) → shown ≡ other → Tail ws items r shown → Tail ws items r other
+tail-is ws items r shown other e t = subst (λ (l : List Step). Tail ws items r l) e t
+
+-- no entry, and all
+pub told-none : (steps : List ℕ) (k : ℕ) → [] ≡ told steps k 0
+unfolding told
+told-none steps k = refl
+
+pub all-told : (steps : List ℕ) (count : ℕ) → told steps 0 (count + 0) ≡ told steps 0 count
+all-told steps count = let e : count + 0 ≡ count = omega arith in ap (told steps 0) e

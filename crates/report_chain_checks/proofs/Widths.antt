@@ -60,6 +60,19 @@ width-small n h =
     (λ f. split (λ (w : ℕ). w < 8) n 128 6 _ (λ g. omega arith)
     (λ g. split (λ (w : ℕ). w < 8) n 256 7 8 (λ k. omega arith) (λ k. absurd (omega arith)))))))))
 
+-- no number has more than 8
+pub width-at-most : (n : ℕ) → width-of n ≤ 8
+unfolding width-of
+width-at-most n =
+    split (λ (w : ℕ). w ≤ 8) n 2 0 _ (λ a. omega arith)
+    (λ a. split (λ (w : ℕ). w ≤ 8) n 4 1 _ (λ b. omega arith)
+    (λ b. split (λ (w : ℕ). w ≤ 8) n 8 2 _ (λ c. omega arith)
+    (λ c. split (λ (w : ℕ). w ≤ 8) n 16 3 _ (λ d. omega arith)
+    (λ d. split (λ (w : ℕ). w ≤ 8) n 32 4 _ (λ e. omega arith)
+    (λ e. split (λ (w : ℕ). w ≤ 8) n 64 5 _ (λ f. omega arith)
+    (λ f. split (λ (w : ℕ). w ≤ 8) n 128 6 _ (λ g. omega arith)
+    (λ g. split (λ (w : ℕ). w ≤ 8) n 256 7 8 (λ k. omega arith) (λ k. omega arith))))))))
+
 -- a number from 2 on has one at least
 pub width-some : (n : ℕ) → 1 < n → n < 512 → 0 < width-of n
 width-some n p h = go (width-of n) (width-wide n (omega arith) h)
@@ -70,9 +83,6 @@ width-some n p h = go (width-of n) (width-wide n (omega arith) h)
 
 pub string-length : (n : ℕ) → length (string n) ≡ width-of n
 string-length n = length-bitsOf (width-of n) n
-
-pub width-few : (n : ℕ) → 0 < n → n < 512 → width-of n ≤ 8
-width-few n p h = width-wide n p h .few
 
 -- the string with a number has it
 pub string-number : (n : ℕ) → 0 < n → n < 512 → number (string n) ≡ n
