@@ -1,11 +1,13 @@
 -- What the numbers of a listed chain say: three for each entry, a tag, a construct and a value.
 -- Assumes nothing.
 use Prim.Native.Nat.{ℕ, zero, suc, _+_, _*_}
+use mathlib.Core.Path.{_≡_}
 use mathlib.Core.Bool.{cond}
 use mathlib.Core.List.{List, [], _∷_, _++_}
 use lib.Dec.{eqb}
-use lib.ListN.{getD}
+use lib.ListN.{length, getD}
 use Rattle.table_layout.specs.Held.{opening}
+use Rattle.table_first_follow.specs.Sets.{FirstSets, FollowSets, family-words}
 use Rattle.report_chains.specs.Chains.{Step, takes, enters, repeats, ends, leaves, goes-on, frame-end, passes-over}
 use Rattle.report_chains.specs.Strings.{string}
 
@@ -26,3 +28,10 @@ unfoldable pub told : List ℕ → ℕ → ℕ → List Step
 unfolding steps-of
 told steps k zero = []
 told steps k (suc n) = steps-of (getD steps (3 * k) 0) (getD steps (3 * k + 1) 0) (getD steps (3 * k + 2) 0) ++ told steps (k + 1) n
+
+-- the families that a chain is checked by are the FIRST and FOLLOW sets
+abbrev pub FirstFamily : List ℕ → List ℕ → Type 0
+FirstFamily ws first = (length first ≡ family-words) × FirstSets ws first
+
+abbrev pub Families : List ℕ → List ℕ → List ℕ → Type 0
+Families ws first follow = (length first ≡ family-words) × (length follow ≡ family-words) × FirstSets ws first × FollowSets ws follow

@@ -17,7 +17,7 @@ ghost use Rattle.table_layout.specs.Held.{held};
 ghost use Rattle.table_first_follow.specs.Sets.{FirstSets, FollowSets, family-words};
 ghost use Rattle.report_chains.specs.Chains.{Yields, YieldsAfter, YieldsAlone};
 ghost use Rattle.report_chains.specs.Strings.{string};
-ghost use Rattle.report_chain_checks.specs.Told.{told};
+ghost use Rattle.report_chain_checks.specs.Told.{told, FirstFamily, Families};
 ghost use Rattle.report_chain_checks.specs.Replayed.{no-depth, Tail};
 
 // At the last entry.
@@ -57,7 +57,7 @@ fn all(
     depth: usize,
     window: usize,
 ) -> Place
-    requires { ⌜ (length (now first) ≡ family-words) × (length (now follow) ≡ family-words) × FirstSets (now table) (now first) × FollowSets (now table) (now follow) ⌝ }
+    requires { ⌜ Families (now table) (now first) (now follow) ⌝ }
     ensures { λ r. ⌜ (r .depth < no-depth → Tail (now (table .entry)) (now (items .exit)) r (told (now (steps .entry)) 0 count)) ⌝ }
 {
     if count == 0 {
@@ -107,7 +107,7 @@ fn yields(
     i: usize,
     window: usize,
 ) -> bool
-    requires { ⌜ (length (now first) ≡ family-words) × (length (now follow) ≡ family-words) × FirstSets (now table) (now first) × FollowSets (now table) (now follow) ⌝ }
+    requires { ⌜ Families (now table) (now first) (now follow) ⌝ }
     ensures { λ r. ⌜ (r ≡ true → Yields (held (now (table .entry))) i (string window) (told (now (steps .entry)) 0 count)) ⌝ }
 {
     let at = all(table, first, follow, steps, items, count, depth, window);
@@ -128,7 +128,7 @@ fn yields_after(
     i: usize,
     window: usize,
 ) -> bool
-    requires { ⌜ (length (now first) ≡ family-words) × (length (now follow) ≡ family-words) × FirstSets (now table) (now first) × FollowSets (now table) (now follow) ⌝ }
+    requires { ⌜ Families (now table) (now first) (now follow) ⌝ }
     ensures { λ r. ⌜ (r ≡ true → YieldsAfter (held (now (table .entry))) i (string window) (told (now (steps .entry)) 0 count)) ⌝ }
 {
     let at = all(table, first, follow, steps, items, count, depth, window);
@@ -148,7 +148,7 @@ fn yields_alone(
     count: usize,
     i: usize,
 ) -> bool
-    requires { ⌜ (length (now first) ≡ family-words) × FirstSets (now table) (now first) ⌝ }
+    requires { ⌜ FirstFamily (now table) (now first) ⌝ }
     ensures { λ r. ⌜ (r ≡ true → YieldsAlone (held (now (table .entry))) i [] (told (now (steps .entry)) 0 count)) ⌝ }
 {
     if 1024 < count {
@@ -170,7 +170,7 @@ pub fn goes(
     i: usize,
     window: usize,
 ) -> usize
-    requires { ⌜ (length (now first) ≡ family-words) × (length (now follow) ≡ family-words) × FirstSets (now table) (now first) × FollowSets (now table) (now follow) ⌝ }
+    requires { ⌜ Families (now table) (now first) (now follow) ⌝ }
     ensures { λ r. ⌜ (0 < r → Yields (held (now (table .entry))) i (string window) (told (now (steps .exit)) 0 r)) ⌝ }
 {
     let mut items = [0usize; 1024];
@@ -200,7 +200,7 @@ pub fn stops(
     i: usize,
     window: usize,
 ) -> usize
-    requires { ⌜ (length (now first) ≡ family-words) × (length (now follow) ≡ family-words) × FirstSets (now table) (now first) × FollowSets (now table) (now follow) ⌝ }
+    requires { ⌜ Families (now table) (now first) (now follow) ⌝ }
     ensures { λ r. ⌜ (0 < r → YieldsAfter (held (now (table .entry))) i (string window) (told (now (steps .exit)) 0 r)) ⌝ }
 {
     let mut items = [0usize; 1024];
@@ -223,7 +223,7 @@ pub fn stops(
 
 // How construct i takes no bits.
 pub fn takes_nothing(table: &[u32], first: &[u64], steps: &mut [usize], i: usize) -> usize
-    requires { ⌜ (length (now first) ≡ family-words) × FirstSets (now table) (now first) ⌝ }
+    requires { ⌜ FirstFamily (now table) (now first) ⌝ }
     ensures { λ r. ⌜ (0 < r → YieldsAlone (held (now (table .entry))) i [] (told (now (steps .exit)) 0 r)) ⌝ }
 {
     let mut items = [0usize; 1024];
