@@ -11,7 +11,7 @@ use Rattle.theory.specs.Grammar.{Grammar}
 use Rattle.theory.specs.Derivation.{Shape, construct, members, passes}
 use Rattle.theory.specs.Lookahead.{First, Follow}
 use Rattle.theory.proofs.FirstTheorem.{Known}
-use Rattle.report_chains.specs.Chains.{Step, takes, enters, repeats, ends, leaves, goes-on, frame-end, Rest, after, Spells}
+use Rattle.report_chains.specs.Chains.{Step, takes, enters, repeats, ends, leaves, goes-on, frame-end, passes-over, Rest, after, Spells}
 
 module _ {Context Values : Type 0} (g : Grammar Context Values) where
   -- some chain spells these bits
@@ -55,7 +55,7 @@ module _ {Context Values : Type 0} (g : Grammar Context Values) where
   found (First.of-eod {i = i}) q = record { bits = []; window = refl; goes = λ js r y l s. (ends i ∷ l, Spells.by-eod q s) }
   found (First.of-alternative m f) q = owner (λ js r y l s. (l, Spells.by-branch q m s)) (found f refl)
   found (First.of-switch m f) q = owner (λ js r y l s. (l, Spells.by-case q m s)) (found f refl)
-  found (First.of-no-case o) q = record { bits = []; window = refl; goes = λ js r y l s. (l, Spells.by-no-case q o s) }
+  found (First.of-no-case {i = i} o) q = record { bits = []; window = refl; goes = λ js r y l s. (passes-over i ∷ l, Spells.by-no-case q o s) }
   found (First.of-use {i = i} f) q = owner (λ js r y l s. (enters i ∷ l, Spells.by-use q s)) (found f refl)
   found (First.of-concatenation f) q = owner (λ js r y l s. (l, Spells.by-members q s)) (found f tt)
   found First.no-members q = none-found

@@ -3,3 +3,4 @@ pub mod Reading
 pub mod Finding
 pub mod Listing
 pub mod Theorems
+pub mod Cuts

@@ -7,7 +7,7 @@ use native.Mathlib.Nat.{zero-sub, sub-zero, suc-sub-suc}
 use lib.ListN.{length, take}
 use Rattle.basis.specs.Bits.{Bits}
 use Rattle.theory.specs.Grammar.{Grammar}
-use Rattle.report_chains.specs.Chains.{Step, takes, enters, repeats, ends, leaves, goes-on, frame-end, Rest, Spells, wanted, listed, fields}
+use Rattle.report_chains.specs.Chains.{Step, takes, enters, repeats, ends, leaves, goes-on, frame-end, passes-over, Rest, Spells, wanted, listed, fields}
 
 take-parts : (n : ℕ) (a b : Bits) → take n (a ++ b) ≡ take n a ++ take (n - length a) b
 take-parts zero [] b = refl
@@ -32,6 +32,7 @@ fields-listed n (ends i ∷ l) = still-wanted n (ends i ∷ listed n l) (fields 
 fields-listed n (leaves i ∷ l) = still-wanted n (leaves i ∷ listed n l) (fields l) (fields-listed n l)
 fields-listed n (goes-on i k ∷ l) = still-wanted n (goes-on i (min 8 k) ∷ listed n l) (fields l) (fields-listed n l)
 fields-listed n (frame-end ∷ l) = still-wanted n (frame-end ∷ listed n l) (fields l) (fields-listed n l)
+fields-listed n (passes-over i ∷ l) = still-wanted n (passes-over i ∷ listed n l) (fields l) (fields-listed n l)
 
 -- the fields of a whole chain take all that it spells
 pub fields-spell : {Context Values : Type 0} (g : Grammar Context Values) {is : List ℕ} {r : Rest} {x : Bits} {l : List Step} → Spells g is r x l → fields l ≡ x

@@ -29,6 +29,8 @@ pub data Step : Type 0 where
   goes-on : (i passes : ℕ) → Step
   -- the frame's end, after the start rule
   frame-end : Step
+  -- a switch that takes nothing
+  passes-over : (i : ℕ) → Step
 
 -- what comes behind the constructs that are still to be read: nothing, or what follows a construct
 pub data Rest : Type 0 where
@@ -50,7 +52,7 @@ pub data Spells {Context Values : Type 0} (g : Grammar Context Values) : List �
       → g .node i ≡ switch chosen optional bs → b ∈ bs → Spells g (b ∷ is) r x l → Spells g (i ∷ is) r x l
   -- "a switch without a default also has the empty first window" (Req 02)
   by-no-case : {i : ℕ} {is bs : List ℕ} {r : Rest} {x : Bits} {l : List Step} {chosen : Context → Values → Option ℕ} {optional : Bool}
-      → g .node i ≡ switch chosen optional bs → optional ≡ true → Spells g is r x l → Spells g (i ∷ is) r x l
+      → g .node i ≡ switch chosen optional bs → optional ≡ true → Spells g is r x l → Spells g (i ∷ is) r x (passes-over i ∷ l)
   -- "of a rule use, its rule's"
   by-use : {i b : ℕ} {is : List ℕ} {r : Rest} {x : Bits} {l : List Step} {into : Context → Option Context} {opens : Context → Values → Values} {closes : Values → Values → Values}
       → g .node i ≡ use-of into opens closes b → Spells g (b ∷ is) r x l → Spells g (i ∷ is) r x (enters i ∷ l)
@@ -93,6 +95,7 @@ listed n (ends i ∷ l) = wanted n (ends i ∷ listed n l)
 listed n (leaves i ∷ l) = wanted n (leaves i ∷ listed n l)
 listed n (goes-on i k ∷ l) = wanted n (goes-on i (min 8 k) ∷ listed n l)
 listed n (frame-end ∷ l) = wanted n (frame-end ∷ listed n l)
+listed n (passes-over i ∷ l) = wanted n (passes-over i ∷ listed n l)
 
 -- a listed chain of constructs and of what comes behind them: a chain to the end of both that begins so, and the window that it spells
 pub record Lists {Context Values : Type 0} (g : Grammar Context Values) (is : List ℕ) (r : Rest) (x : Bits) (chain : List Step) : Type 0 where
@@ -125,6 +128,7 @@ fields (ends i ∷ l) = fields l
 fields (leaves i ∷ l) = fields l
 fields (goes-on i k ∷ l) = fields l
 fields (frame-end ∷ l) = fields l
+fields (passes-over i ∷ l) = fields l
 
 -- Both sides of a clash with their chains: "a window common to two branches of one alternative, or to go and stop". That going on has the window is said from the
 -- body on, as one pass and what follows it.

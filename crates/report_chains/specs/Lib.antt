@@ -1,2 +1,3 @@
--- What a listed chain says of a window.
+-- What a chain is, and the numbers of strings.
 pub mod Chains
+pub mod Strings

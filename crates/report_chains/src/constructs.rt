@@ -41,8 +41,18 @@ fn repeat(
     if n == 9 {
         return closed(chain);
     }
-    let told = noted(steps, chain, 3, i, n);
+    let told = past_eight(items, sets, noted(steps, chain, 3, i, n), i, n);
     push_passes(items, sets, told, body, set, n)
+}
+
+// Eight passes stand for eight or more; those past the eighth come after them.
+fn past_eight(items: &mut [usize], sets: &mut [u64], chain: Chain, i: usize, n: usize) -> Chain {
+    if n == 8 {
+        if i < 256 {
+            return push(items, sets, chain, 512 + i, lookahead::single(1));
+        }
+    }
+    chain
 }
 
 pub fn next(i: usize) -> usize {
@@ -104,7 +114,8 @@ fn switch(
     let rest = strings_of(sets, chain.depth);
     let part = fitting(table, first, next(i), end, rest, chain.target, chain.whole);
     if part < end {
-        return push(items, sets, chain, part, set_at(first, part));
+        let told = noted(steps, chain, 9, i, 0);
+        return push(items, sets, told, part, set_at(first, part));
     }
     if lookahead::contains(set_at(first, i), 1) {
         return noted(steps, chain, 8, i, 0);
@@ -132,10 +143,12 @@ pub fn construct(
     match construct_at(table, i) {
         Construct::Missing => closed(chain),
         Construct::Alternative { size } => {
-            choose(table, first, items, sets, chain, next(i), sum(i, size))
+            let told = noted(steps, chain, 9, i, 0);
+            choose(table, first, items, sets, told, next(i), sum(i, size))
         }
         Construct::Concatenation { size } => {
-            push_parts(table, first, items, sets, chain, next(i), sum(i, size))
+            let told = noted(steps, chain, 10, i, 0);
+            push_parts(table, first, items, sets, told, next(i), sum(i, size))
         }
         Construct::Repetition { size: _, passes } => {
             repeated(table, first, items, sets, steps, chain, i, passes)

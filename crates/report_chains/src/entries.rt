@@ -6,7 +6,8 @@ use report_measures::words::put_number;
 use report_measures::words::put_set;
 use report_measures::words::set_at;
 
-// An entry below 256 is a construct, one from 256 on what comes after a construct. `whole`: the frame ends after the target.
+// An entry below 256 is a construct, one from 256 on what comes after a construct, one from 512 on the passes of a repetition past the eighth.
+// `whole`: the frame ends after the target.
 pub struct Chain {
     pub depth: usize,
     pub target: usize,
@@ -27,7 +28,8 @@ pub fn closed(chain: Chain) -> Chain {
 
 // What is listed, three numbers each: 1 a field and the bits of the window that it has; 2 the use of a rule; 3 a repetition and how often its
 // body comes; 4 eod; 5 the use of the rule that ends here, after which the next comes; 6 a repetition and how many more passes of it; 7 the
-// frame's end; 8 a switch that takes nothing.
+// frame's end; 8 a switch that takes nothing. What a report does not print is listed too: 9 an alternative or a switch, of which the next is a
+// part; 10 a concatenation; and what ends here: 11 a member, 12 a branch or a case, 13 the last pass of a body.
 pub fn noted(
     steps: &mut [usize],
     chain: Chain,
@@ -36,7 +38,7 @@ pub fn noted(
     value: usize,
 ) -> Chain {
     let count = chain.count;
-    if 85 <= count {
+    if 1024 <= count {
         return closed(chain);
     }
     put_number(steps, 3 * count, tag);

@@ -82,7 +82,7 @@ fn after_pass(
 
 fn more(steps: &mut [usize], chain: Chain, p: usize, n: usize) -> Chain {
     if n == 0 {
-        return chain;
+        return noted(steps, chain, 13, next(p), 0);
     }
     noted(steps, chain, 6, p, n)
 }
@@ -125,12 +125,13 @@ fn after_in(
 ) -> Chain {
     match construct_at(table, p) {
         Construct::Concatenation { size } => {
-            after_member(table, first, follow, items, sets, chain, i, p, size)
+            let told = noted(steps, chain, 11, i, 0);
+            after_member(table, first, follow, items, sets, told, i, p, size)
         }
         Construct::Repetition { size: _, passes: _ } => {
             after_pass(first, follow, items, sets, steps, chain, p)
         }
-        _ => push_after(follow, items, sets, chain, p),
+        _ => push_after(follow, items, sets, noted(steps, chain, 12, i, 0), p),
     }
 }
 

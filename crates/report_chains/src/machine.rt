@@ -25,7 +25,10 @@ fn step(
     if item < 256 {
         return construct(table, first, items, sets, steps, rest, item);
     }
-    after(table, first, follow, items, sets, steps, rest, item - 256)
+    if item < 512 {
+        return after(table, first, follow, items, sets, steps, rest, item - 256);
+    }
+    rest
 }
 
 fn runs(chain: Chain) -> bool {
@@ -66,27 +69,34 @@ fn started(target: usize, whole: bool) -> Chain {
     }
 }
 
-// How construct i and what comes after it spell the window; how many steps are listed.
+// How many steps are listed, and how many entries are still to come.
+pub struct Listing {
+    pub count: usize,
+    pub depth: usize,
+}
+
+fn found(chain: Chain) -> Listing {
+    Listing {
+        count: chain.count,
+        depth: chain.depth,
+    }
+}
+
+// How construct i and what comes after it spell the window.
 pub fn goes(
     table: &[u32],
     first: &[u64],
     follow: &[u64],
     steps: &mut [usize],
+    items: &mut [usize],
     i: usize,
     window: usize,
-) -> usize {
-    let mut items = [0usize; 512];
+) -> Listing {
     let mut sets = [0u64; 4096];
-    let after = push_after(
-        follow,
-        &mut items,
-        &mut sets,
-        started(window, window < 256),
-        i,
-    );
-    let both = push(&mut items, &mut sets, after, i, set_at(first, i));
-    let chain = run(table, first, follow, &mut items, &mut sets, steps, both);
-    chain.count
+    let after = push_after(follow, items, &mut sets, started(window, window < 256), i);
+    let both = push(items, &mut sets, after, i, set_at(first, i));
+    let chain = run(table, first, follow, items, &mut sets, steps, both);
+    found(chain)
 }
 
 // How what comes after construct i spells the window.
@@ -95,20 +105,14 @@ pub fn stops(
     first: &[u64],
     follow: &[u64],
     steps: &mut [usize],
+    items: &mut [usize],
     i: usize,
     window: usize,
-) -> usize {
-    let mut items = [0usize; 512];
+) -> Listing {
     let mut sets = [0u64; 4096];
-    let after = push_after(
-        follow,
-        &mut items,
-        &mut sets,
-        started(window, window < 256),
-        i,
-    );
-    let chain = run(table, first, follow, &mut items, &mut sets, steps, after);
-    chain.count
+    let after = push_after(follow, items, &mut sets, started(window, window < 256), i);
+    let chain = run(table, first, follow, items, &mut sets, steps, after);
+    found(chain)
 }
 
 // How construct i takes no bits.
@@ -117,11 +121,11 @@ pub fn takes_nothing(
     first: &[u64],
     follow: &[u64],
     steps: &mut [usize],
+    items: &mut [usize],
     i: usize,
-) -> usize {
-    let mut items = [0usize; 512];
+) -> Listing {
     let mut sets = [0u64; 4096];
-    let both = push(&mut items, &mut sets, started(1, true), i, set_at(first, i));
-    let chain = run(table, first, follow, &mut items, &mut sets, steps, both);
-    chain.count
+    let both = push(items, &mut sets, started(1, true), i, set_at(first, i));
+    let chain = run(table, first, follow, items, &mut sets, steps, both);
+    found(chain)
 }

@@ -1,9 +1,14 @@
 // Strings of at most 8 bits by their number, a 1 followed by the bits, and what is left to be spelt.
 use lookahead::Set;
-use text_header::bytes::either;
+ghost use mathlib.Core.Bool.{true};
+ghost use mathlib.Core.Path.{_≡_};
 ghost use Prim.Native.Nat.{_<_, _≤_};
+ghost use Rattle.report_chains.specs.Strings.{width-of, Begun, SomeBegins};
 
-fn few_bits(n: usize) -> usize {
+// How many bits a string has.
+pub fn bits(n: usize) -> usize
+    ensures { λ r. ⌜ r ≡ width-of n ⌝ }
+{
     if n < 2 {
         return 0;
     }
@@ -13,10 +18,9 @@ fn few_bits(n: usize) -> usize {
     if n < 8 {
         return 2;
     }
-    3
-}
-
-fn many_bits(n: usize) -> usize {
+    if n < 16 {
+        return 3;
+    }
     if n < 32 {
         return 4;
     }
@@ -30,14 +34,6 @@ fn many_bits(n: usize) -> usize {
         return 7;
     }
     8
-}
-
-// How many bits a string has.
-pub fn bits(n: usize) -> usize {
-    if n < 16 {
-        return few_bits(n);
-    }
-    many_bits(n)
 }
 
 // 2 to the number of bits.
@@ -85,20 +81,42 @@ pub fn tail(n: usize, width: usize) -> usize {
 }
 
 // Whether one string begins with another.
-fn begins(n: usize, with: usize) -> bool {
-    either(
-        either(
-            either(n == with, n / 2 == with),
-            either(n / 4 == with, n / 8 == with),
-        ),
-        either(
-            either(n / 16 == with, n / 32 == with),
-            either(n / 64 == with, either(n / 128 == with, n / 256 == with)),
-        ),
-    )
+fn begins(n: usize, with: usize) -> bool
+    ensures { λ r. ⌜ (r ≡ true → Begun n with) ⌝ }
+{
+    if n == with {
+        return true;
+    }
+    if n / 2 == with {
+        return true;
+    }
+    if n / 4 == with {
+        return true;
+    }
+    if n / 8 == with {
+        return true;
+    }
+    if n / 16 == with {
+        return true;
+    }
+    if n / 32 == with {
+        return true;
+    }
+    if n / 64 == with {
+        return true;
+    }
+    if n / 128 == with {
+        return true;
+    }
+    if n / 256 == with {
+        return true;
+    }
+    false
 }
 
-fn begun(set: Set, n: usize, target: usize) -> bool {
+fn begun(set: Set, n: usize, target: usize) -> bool
+    ensures { λ r. ⌜ (r ≡ true → SomeBegins (set .words) target) ⌝ }
+{
     if begins(n, target) {
         return lookahead::contains(set, n);
     }
@@ -106,7 +124,9 @@ fn begun(set: Set, n: usize, target: usize) -> bool {
 }
 
 // Whether a string of the set begins so.
-fn some_begins(set: Set, target: usize) -> bool {
+pub fn some_begins(set: Set, target: usize) -> bool
+    ensures { λ r. ⌜ (r ≡ true → SomeBegins (set .words) target) ⌝ }
+{
     let mut n = 1;
     while n < 512 {
         if begun(set, n, target) {

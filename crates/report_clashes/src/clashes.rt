@@ -12,7 +12,7 @@ fn told(grammar: &[u8], table: &[u32], construct: usize, clash: Clash) {
     let mut first = [0u64; 2056];
     let mut follow = [0u64; 2056];
     let mut prediction = [0u64; 2056];
-    sets::all(table, &mut first, &mut follow, &mut prediction);
+    table_first_follow::prediction::all(table, &mut first, &mut follow, &mut prediction);
     sides::explained(grammar, table, &first, &follow, construct, clash);
     examples::told(table, &first, &follow, construct, clash);
     changes::shared(grammar, table, &follow, &prediction, construct, clash);

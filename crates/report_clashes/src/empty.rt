@@ -1,6 +1,6 @@
 // Refusal 9: how what is repeated can take no bits.
 use crate::sides::next;
-use report_chains::machine;
+use report_chain_checks::chains as checked;
 use report_listing::chains;
 use report_listing::places::part_at;
 use report_listing::places::place_of;
@@ -9,6 +9,7 @@ use report_wording::quoting::Part;
 use report_wording::quoting::end_of;
 use report_wording::writing::say;
 use text_parsing::terminals::look;
+ghost use Rattle.report_chain_checks.specs.Told.{FirstFamily};
 
 // The place of a repetition's sign.
 fn mark_of(grammar: &[u8], construct: usize) -> usize {
@@ -18,17 +19,21 @@ fn mark_of(grammar: &[u8], construct: usize) -> usize {
 }
 
 // A repetition, and how its body takes nothing.
-fn body(grammar: &[u8], table: &[u32], first: &[u64], construct: usize) {
-    let mut steps = [0usize; 256];
+fn body(grammar: &[u8], table: &[u32], first: &[u64], construct: usize)
+    requires { ⌜ FirstFamily (now table) (now first) ⌝ }
+{
+    let mut steps = [0usize; 3072];
     part_at(grammar, place_of(grammar, construct), Part::Member);
-    let count = machine::takes_nothing(table, first, first, &mut steps, next(construct));
+    let count = checked::takes_nothing(table, first, &mut steps, next(construct));
     chains::listed(grammar, table, &steps, count);
 }
 
 // Whether a count with a variable is on the way.
-fn is_free(table: &[u32], first: &[u64], construct: usize) -> bool {
-    let mut steps = [0usize; 256];
-    let count = machine::takes_nothing(table, first, first, &mut steps, next(construct));
+fn is_free(table: &[u32], first: &[u64], construct: usize) -> bool
+    requires { ⌜ FirstFamily (now table) (now first) ⌝ }
+{
+    let mut steps = [0usize; 3072];
+    let count = checked::takes_nothing(table, first, &mut steps, next(construct));
     chains::free(table, &steps, count)
 }
 
@@ -69,13 +74,17 @@ fn has_others(grammar: &[u8], table: &[u32], first: &[u64], at: usize) -> bool {
     false
 }
 
-fn another(grammar: &[u8], table: &[u32], first: &[u64], i: usize, at: usize) {
+fn another(grammar: &[u8], table: &[u32], first: &[u64], i: usize, at: usize)
+    requires { ⌜ FirstFamily (now table) (now first) ⌝ }
+{
     if is_other(grammar, table, first, i, at) {
         body(grammar, table, first, i);
     }
 }
 
-fn each_other(grammar: &[u8], table: &[u32], first: &[u64], at: usize) {
+fn each_other(grammar: &[u8], table: &[u32], first: &[u64], at: usize)
+    requires { ⌜ FirstFamily (now table) (now first) ⌝ }
+{
     let mut i: usize = 0;
     while i < 256 {
         another(grammar, table, first, i, at);
@@ -83,7 +92,9 @@ fn each_other(grammar: &[u8], table: &[u32], first: &[u64], at: usize) {
     }
 }
 
-fn others(grammar: &[u8], table: &[u32], first: &[u64], at: usize) {
+fn others(grammar: &[u8], table: &[u32], first: &[u64], at: usize)
+    requires { ⌜ FirstFamily (now table) (now first) ⌝ }
+{
     if has_others(grammar, table, first, at) {
         say(b"The same is wrong here:\n");
         each_other(grammar, table, first, at);
@@ -92,9 +103,7 @@ fn others(grammar: &[u8], table: &[u32], first: &[u64], at: usize) {
 
 fn told(grammar: &[u8], table: &[u32], at: usize) {
     let mut first = [0u64; 2056];
-    let mut follow = [0u64; 2056];
-    let mut prediction = [0u64; 2056];
-    sets::all(table, &mut first, &mut follow, &mut prediction);
+    table_first_follow::first::first(table, &mut first);
     let construct = this(grammar, table, &first, at);
     let free = is_free(table, &first, construct);
     report_advice::rest::empty_body(free);

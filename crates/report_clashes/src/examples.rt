@@ -1,7 +1,7 @@
 // An example of a clash: a frame's beginning at which both sides fit. It is printed only where it is certain: both chains are whole, no variable and no
 // switch is in the grammar, no further pass is on the way, and where a chain leaves a rule no rule is used twice.
 use crate::sides::next;
-use report_chains::machine;
+use report_chain_checks::chains as checked;
 use report_chains::strings::bits;
 use report_examples::plain::plain;
 use report_examples::plain::used_once;
@@ -15,6 +15,7 @@ use report_wording::writing::number;
 use report_wording::writing::say;
 use table_conflicts::Clash;
 ghost use Prim.Native.Nat.{_<_};
+ghost use Rattle.report_chain_checks.specs.Told.{Families};
 
 fn has(steps: &[usize], count: usize, tag: usize) -> bool {
     let mut k: usize = 0;
@@ -72,15 +73,19 @@ fn certain(table: &[u32], steps: &[usize], count: usize) -> bool {
     false
 }
 
-fn goes(table: &[u32], first: &[u64], follow: &[u64], i: usize, window: usize) -> bool {
-    let mut steps = [0usize; 256];
-    let count = machine::goes(table, first, follow, &mut steps, i, window);
+fn goes(table: &[u32], first: &[u64], follow: &[u64], i: usize, window: usize) -> bool
+    requires { ⌜ Families (now table) (now first) (now follow) ⌝ }
+{
+    let mut steps = [0usize; 3072];
+    let count = checked::goes(table, first, follow, &mut steps, i, window);
     certain(table, &steps, count)
 }
 
-fn stops(table: &[u32], first: &[u64], follow: &[u64], i: usize, window: usize) -> bool {
-    let mut steps = [0usize; 256];
-    let count = machine::stops(table, first, follow, &mut steps, i, window);
+fn stops(table: &[u32], first: &[u64], follow: &[u64], i: usize, window: usize) -> bool
+    requires { ⌜ Families (now table) (now first) (now follow) ⌝ }
+{
+    let mut steps = [0usize; 3072];
+    let count = checked::stops(table, first, follow, &mut steps, i, window);
     certain(table, &steps, count)
 }
 
@@ -188,7 +193,9 @@ fn branches(
     window: usize,
     one: usize,
     other: usize,
-) {
+)
+    requires { ⌜ Families (now table) (now first) (now follow) ⌝ }
+{
     if goes(table, first, follow, one, window) {
         if goes(table, first, follow, other, window) {
             at(table, construct, window);
@@ -196,7 +203,9 @@ fn branches(
     }
 }
 
-fn passes(table: &[u32], first: &[u64], follow: &[u64], construct: usize, window: usize) {
+fn passes(table: &[u32], first: &[u64], follow: &[u64], construct: usize, window: usize)
+    requires { ⌜ Families (now table) (now first) (now follow) ⌝ }
+{
     if goes(table, first, follow, next(construct), window) {
         if stops(table, first, follow, construct, window) {
             at(table, construct, window);
@@ -204,7 +213,9 @@ fn passes(table: &[u32], first: &[u64], follow: &[u64], construct: usize, window
     }
 }
 
-pub fn told(table: &[u32], first: &[u64], follow: &[u64], construct: usize, clash: Clash) {
+pub fn told(table: &[u32], first: &[u64], follow: &[u64], construct: usize, clash: Clash)
+    requires { ⌜ Families (now table) (now first) (now follow) ⌝ }
+{
     match clash {
         Clash::None => {}
         Clash::Branches {

@@ -1,5 +1,5 @@
 // Why the two sides of a clash both admit the window.
-use report_chains::machine;
+use report_chain_checks::chains as checked;
 use report_listing::chains;
 use report_listing::places::part_at;
 use report_listing::places::place_of;
@@ -13,6 +13,7 @@ use report_wording::writing::say;
 use table_conflicts::Clash;
 use text_header::bytes::either;
 ghost use mathlib.Core.Path.{_≡_};
+ghost use Rattle.report_chain_checks.specs.Told.{Families};
 ghost use Rattle.report_clashes.specs.Quoted.{part-of};
 
 // An alternative that is a branch stands in parentheses.
@@ -55,9 +56,11 @@ fn goes(
     follow: &[u64],
     construct: usize,
     window: usize,
-) {
-    let mut steps = [0usize; 256];
-    let count = machine::goes(table, first, follow, &mut steps, construct, window);
+)
+    requires { ⌜ Families (now table) (now first) (now follow) ⌝ }
+{
+    let mut steps = [0usize; 3072];
+    let count = checked::goes(table, first, follow, &mut steps, construct, window);
     if !is_plain(table, construct, count) {
         chains::listed(grammar, table, &steps, count);
     }
@@ -70,9 +73,11 @@ fn goes_free(
     follow: &[u64],
     construct: usize,
     window: usize,
-) -> bool {
-    let mut steps = [0usize; 256];
-    let count = machine::goes(table, first, follow, &mut steps, construct, window);
+) -> bool
+    requires { ⌜ Families (now table) (now first) (now follow) ⌝ }
+{
+    let mut steps = [0usize; 3072];
+    let count = checked::goes(table, first, follow, &mut steps, construct, window);
     chains::free(table, &steps, count)
 }
 
@@ -83,9 +88,11 @@ fn stops(
     follow: &[u64],
     construct: usize,
     window: usize,
-) {
-    let mut steps = [0usize; 256];
-    let count = machine::stops(table, first, follow, &mut steps, construct, window);
+)
+    requires { ⌜ Families (now table) (now first) (now follow) ⌝ }
+{
+    let mut steps = [0usize; 3072];
+    let count = checked::stops(table, first, follow, &mut steps, construct, window);
     chains::listed(grammar, table, &steps, count);
 }
 
@@ -95,9 +102,11 @@ fn stops_free(
     follow: &[u64],
     construct: usize,
     window: usize,
-) -> bool {
-    let mut steps = [0usize; 256];
-    let count = machine::stops(table, first, follow, &mut steps, construct, window);
+) -> bool
+    requires { ⌜ Families (now table) (now first) (now follow) ⌝ }
+{
+    let mut steps = [0usize; 3072];
+    let count = checked::stops(table, first, follow, &mut steps, construct, window);
     chains::free(table, &steps, count)
 }
 
@@ -136,7 +145,9 @@ fn branches(
     window: usize,
     one: usize,
     other: usize,
-) {
+)
+    requires { ⌜ Families (now table) (now first) (now follow) ⌝ }
+{
     let a = goes_free(table, first, follow, one, window);
     let free = either(a, goes_free(table, first, follow, other, window));
     say(b"The next bits of a frame must say which branch of an alternative is\n");
@@ -165,7 +176,9 @@ fn passes(
     follow: &[u64],
     construct: usize,
     window: usize,
-) {
+)
+    requires { ⌜ Families (now table) (now first) (now follow) ⌝ }
+{
     let a = goes_free(table, first, follow, next(construct), window);
     let free = either(a, stops_free(table, first, follow, construct, window));
     say(b"Before each pass of ?, *, + or {2~4} the next 8 bits must say whether one\n");
@@ -187,7 +200,9 @@ pub fn explained(
     follow: &[u64],
     construct: usize,
     clash: Clash,
-) {
+)
+    requires { ⌜ Families (now table) (now first) (now follow) ⌝ }
+{
     match clash {
         Clash::None => {}
         Clash::Branches {

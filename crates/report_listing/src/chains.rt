@@ -132,8 +132,9 @@ fn then(is_first: bool) {
     }
 }
 
-fn after_use(grammar: &[u8], i: usize) {
+fn after_use(grammar: &[u8], is_first: bool, i: usize) {
     let at = place_of(grammar, i);
+    then(is_first);
     say(b"what comes after ");
     token(grammar, at);
     say(b" at ");
@@ -141,8 +142,9 @@ fn after_use(grammar: &[u8], i: usize) {
     say(b":\n");
 }
 
-fn further(grammar: &[u8], i: usize) {
+fn further(grammar: &[u8], is_first: bool, i: usize) {
     let at = place_of(grammar, i);
+    then(is_first);
     say(b"a further pass of ");
     quote(grammar, at, Part::Member);
     say(b" at ");
@@ -150,12 +152,9 @@ fn further(grammar: &[u8], i: usize) {
     say(b":\n");
 }
 
-fn next(grammar: &[u8], tag: usize, i: usize) {
-    match tag {
-        5 => after_use(grammar, i),
-        6 => further(grammar, i),
-        _ => say(b"the frame ends\n"),
-    }
+fn frame_ends(is_first: bool) {
+    then(is_first);
+    say(b"the frame ends\n");
 }
 
 fn step(grammar: &[u8], table: &[u32], is_first: bool, tag: usize, i: usize, value: usize) {
@@ -165,10 +164,10 @@ fn step(grammar: &[u8], table: &[u32], is_first: bool, tag: usize, i: usize, val
         3 => repeated(grammar, table, i, value),
         4 => ended(grammar, i),
         8 => passed_over(grammar, i),
-        _ => {
-            then(is_first);
-            next(grammar, tag, i);
-        }
+        5 => after_use(grammar, is_first, i),
+        6 => further(grammar, is_first, i),
+        7 => frame_ends(is_first),
+        _ => {}
     }
 }
 
@@ -184,21 +183,21 @@ fn is_free(table: &[u32], tag: usize, i: usize) -> bool {
 
 // The three numbers of step k.
 pub fn tag_at(steps: &[usize], k: usize) -> usize {
-    if k < 256 {
+    if k < 1024 {
         return number_at(steps, 3 * k);
     }
     0
 }
 
 fn construct_of(steps: &[usize], k: usize) -> usize {
-    if k < 256 {
+    if k < 1024 {
         return number_at(steps, 3 * k + 1);
     }
     0
 }
 
 pub fn value_at(steps: &[usize], k: usize) -> usize {
-    if k < 256 {
+    if k < 1024 {
         return number_at(steps, 3 * k + 2);
     }
     0
@@ -220,21 +219,31 @@ pub fn free(table: &[u32], steps: &[usize], count: usize) -> bool {
     false
 }
 
-fn step_at(grammar: &[u8], table: &[u32], steps: &[usize], k: usize) {
+fn step_at(grammar: &[u8], table: &[u32], steps: &[usize], is_first: bool, k: usize) {
     step(
         grammar,
         table,
-        k == 0,
+        is_first,
         tag_at(steps, k),
         construct_of(steps, k),
         value_at(steps, k),
     );
 }
 
+// Entries from 9 on are not printed.
+fn still_first(is_first: bool, tag: usize) -> bool {
+    if is_first {
+        return 8 < tag;
+    }
+    false
+}
+
 pub fn listed(grammar: &[u8], table: &[u32], steps: &[usize], count: usize) {
+    let mut is_first = true;
     let mut k: usize = 0;
     while k < count {
-        step_at(grammar, table, steps, k);
+        step_at(grammar, table, steps, is_first, k);
+        is_first = still_first(is_first, tag_at(steps, k));
         k += 1;
     }
 }

@@ -1,16 +1,6 @@
 // The sets behind clashes, where the arrays are as long as they must be.
 use table_conflicts::Clash;
 
-pub fn all(table: &[u32], first: &mut [u64], follow: &mut [u64], prediction: &mut [u64]) {
-    if first.len() == 2056 {
-        if follow.len() == 2056 {
-            if prediction.len() == 2056 {
-                table_first_follow::prediction::all(table, first, follow, prediction);
-            }
-        }
-    }
-}
-
 // The clash of construct i.
 pub fn clash(table: &[u32], follow: &[u64], prediction: &[u64], i: usize) -> Clash {
     if i < 256 {

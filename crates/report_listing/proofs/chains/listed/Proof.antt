@@ -5,16 +5,22 @@ use Rattle.report_listing.proofs.chains.listed.Statement.{statement}
 use Rattle.report_listing.proofs.chains.listed.Tie as tie
 
 abbrev Inv-loop : tie.InvT-loop
-Inv-loop grammar table steps count k₀ k = Unit
+Inv-loop grammar table steps count is-first₀ k₀ is-first k = Unit
 
 abbrev μ-loop : tie.MeasureT-loop
-μ-loop grammar table steps count k₀ k = count - k
+μ-loop grammar table steps count is-first₀ k₀ is-first k = count - k
 
 loop-holds : tie.Need-loop-holds Inv-loop μ-loop
 loop-holds c = tt
 
 step-at-requires : tie.Need-step-at-requires Inv-loop μ-loop
 step-at-requires c κs = search needs
+
+tag-at-requires : tie.Need-tag-at-requires Inv-loop μ-loop
+tag-at-requires c κs = search needs
+
+still-first-requires : tie.Need-still-first-requires Inv-loop μ-loop
+still-first-requires c κs = search needs
 
 add-k : tie.Need-add-k Inv-loop μ-loop
 add-k c = omega arith
@@ -36,6 +42,8 @@ listed-spec =
     μ-loop
     loop-holds
     step-at-requires
+    tag-at-requires
+    still-first-requires
     add-k
     loop-less
     loop-again
