@@ -4,6 +4,7 @@
 use Prim.Native.Nat.{ℕ, zero, suc, _+_, _*_, _-_, _/_, _%_, _^_, _≤_, _<_}
 use mathlib.Core.Path.{_≡_, refl, sym, ap, ap₂, subst, _∙_}
 use mathlib.Core.Bool.{Bool, true, false, not, cond, false≢true}
+use mathlib.Core.Logic.{_⊎_, inl, inr}
 use mathlib.Core.List.{[], _∷_}
 use native.Mathlib.Omega.{arith}
 use native.Mathlib.Nat.{pow-succ', mod-eq-of-lt, div-eq-of-lt}
@@ -14,7 +15,7 @@ use lib.ListN.{length}
 use lib.Pow.{pow-pos, high, low}
 use lib.Signed.{leZ}
 use Rattle.basis.specs.Bits.{Bits, digit, bitsOf, append-digits, value}
-use Rattle.basis.specs.Patterns.{pattern-value, pattern-of, offset, least-value, greatest-value, turned, place}
+use Rattle.basis.specs.Patterns.{pattern-value, pattern-of, offset, least-value, greatest-value, turned, place, halves-swapped}
 use Rattle.basis.proofs.Booleans.{which}
 use Rattle.basis.proofs.Values.{length-bitsOf, value-bitsOf, append-value, value-less, bitsOf-value}
 
@@ -224,3 +225,71 @@ value-of signed w z r = ap (λ (x : ℤ). pattern-value signed (pattern-of w x))
 
     same : pattern-of w (pattern-value signed t) ≡ t
     same = ap (λ (n : ℕ). pattern-of n (pattern-value signed t)) (sym wide) ∙ of-value signed t
+
+-- ---- patterns by their numbers
+
+pub swapped-low : (half n : ℕ) → n < half → halves-swapped half n ≡ n + half
+unfolding halves-swapped
+swapped-low half n h = rw (lt-ltb n half h)
+
+pub swapped-high : (half n : ℕ) → half ≤ n → halves-swapped half n ≡ n - half
+unfolding halves-swapped
+swapped-high half n h = rw (le-ltb n half h)
+
+-- the first bit, and the others
+first-low : (w v : ℕ) → v < 2 ^ w → eqb (v / 2 ^ w % 2) 1 ≡ false
+first-low w v h = let q : v / 2 ^ w ≡ 0 = div-eq-of-lt h in ne-eqb (v / 2 ^ w % 2) 1 (λ e. omega arith)
+
+upper : (w v : ℕ) → 2 ^ w ≤ v → 1 * 2 ^ w + (v - 2 ^ w) ≡ v
+upper w v h = omega arith
+
+first-high : (w v : ℕ) → 2 ^ w ≤ v → v - 2 ^ w < 2 ^ w → eqb (v / 2 ^ w % 2) 1 ≡ true
+first-high w v h l =
+    let q : v / 2 ^ w ≡ 1 = ap (λ (x : ℕ). x / 2 ^ w) (sym (upper w v h)) ∙ high 1 w l in
+    eq-eqb (v / 2 ^ w % 2) 1 (omega arith)
+
+pub place-bitsOf : (signed : Bool) (w v : ℕ) → v < 2 ^ w → place signed (bitsOf w v) ≡ halves-swapped (offset signed w) v
+unfolding bitsOf
+place-bitsOf false w v h = value-bitsOf w v ∙ mod-eq-of-lt h ∙ (let e : v ≡ v - 0 = omega arith in e ∙ sym (swapped-high 0 v (omega arith)))
+place-bitsOf true zero v h = value-bitsOf 0 v ∙ mod-eq-of-lt h ∙ (let e : v ≡ v - 0 = omega arith in e ∙ sym (swapped-high 0 v (omega arith)))
+place-bitsOf true (suc w) v h = go (ltb v (2 ^ w)) refl
+  where
+    others : value (bitsOf w v) ≡ v % 2 ^ w
+    others = value-bitsOf w v
+
+    go : (t : Bool) → ltb v (2 ^ w) ≡ t → place true (bitsOf (suc w) v) ≡ halves-swapped (2 ^ w) v
+    go true e =
+        let l : v < 2 ^ w = ltb-true v (2 ^ w) e in
+        let n : length (bitsOf w v) ≡ w = length-bitsOf w v in
+        let m : v % 2 ^ w ≡ v = mod-eq-of-lt l in
+        let z : 1 * 2 ^ w + v ≡ v + 2 ^ w = omega arith in
+        ap (λ (b : Bool). value (not b ∷ bitsOf w v)) (first-low w v l) ∙ value-first true (bitsOf w v) ∙ ap₂ (λ (x y : ℕ). 1 * 2 ^ x + y) n (others ∙ m) ∙ z ∙ sym (swapped-low (2 ^ w) v l)
+    go false e =
+        let l : 2 ^ w ≤ v = ltb-false v (2 ^ w) e in
+        let k : v - 2 ^ w < 2 ^ w = omega arith in
+        let n : length (bitsOf w v) ≡ w = length-bitsOf w v in
+        let m : v % 2 ^ w ≡ v - 2 ^ w = ap (λ (x : ℕ). x % 2 ^ w) (sym (upper w v l)) ∙ low 1 w k in
+        let z : 0 * 2 ^ w + (v - 2 ^ w) ≡ v - 2 ^ w = omega arith in
+        ap (λ (b : Bool). value (not b ∷ bitsOf w v)) (first-high w v l k) ∙ value-first false (bitsOf w v) ∙ ap₂ (λ (x y : ℕ). 0 * 2 ^ x + y) n (others ∙ m) ∙ z ∙ sym (swapped-high (2 ^ w) v l)
+
+-- a value by the number that its pattern is
+pub value-bits : (signed : Bool) (w v : ℕ) → v < 2 ^ w → pattern-value signed (bitsOf w v) ≡ subℕ (halves-swapped (offset signed w) v) (offset signed w)
+value-bits signed w v h = value-place signed (bitsOf w v) ∙ ap₂ (λ (x n : ℕ). subℕ x (offset signed n)) (place-bitsOf signed w v h) (length-bitsOf w v)
+
+module _ (signed : Bool) (w v : ℕ) (h : v < 2 ^ w) where
+  -- where the first bit is 0, or the pattern unsigned
+  pub value-low : (v < offset signed w) ⊎ (offset signed w ≡ 0) → pattern-value signed (bitsOf w v) ≡ pos v
+  value-low (inl l) = value-bits signed w v h ∙ ap (λ (x : ℕ). subℕ x (offset signed w)) (swapped-low (offset signed w) v l) ∙ difference-up v (offset signed w)
+  value-low (inr e) =
+      let z : v - 0 ≡ v = omega arith in
+      value-bits signed w v h ∙ ap (λ (x : ℕ). subℕ (halves-swapped x v) x) e ∙ ap (λ (x : ℕ). subℕ x 0) (swapped-high 0 v (omega arith) ∙ z) ∙ difference-zero v
+
+  -- where it is 1
+  pub value-high : offset signed w ≤ v → v - offset signed w < offset signed w → pattern-value signed (bitsOf w v) ≡ negsuc (offset signed w - suc (v - offset signed w))
+  value-high l k = value-bits signed w v h ∙ ap (λ (x : ℕ). subℕ x (offset signed w)) (swapped-high (offset signed w) v l) ∙ difference-below (v - offset signed w) (offset signed w) k
+
+-- there are as many values below 0 as others
+pub offset-double : (signed : Bool) (w v : ℕ) → v < 2 ^ w → 0 < offset signed w → v - offset signed w < offset signed w
+offset-double false w v h k = absurd (omega arith)
+offset-double true zero v h k = absurd (omega arith)
+offset-double true (suc w) v h k = omega arith

@@ -1,8 +1,9 @@
 -- The whole number that a pattern of bits is, unsigned or signed, at any width: "`sint(width, set)` in two's complement" (document 02).
 -- Assumes nothing.
-use Prim.Native.Nat.{ℕ, zero, suc, _*_, _-_, _^_}
-use mathlib.Core.Bool.{Bool, true, false, not}
+use Prim.Native.Nat.{ℕ, zero, suc, _+_, _*_, _-_, _^_}
+use mathlib.Core.Bool.{Bool, true, false, not, cond}
 use mathlib.Core.List.{[], _∷_}
+use lib.Dec.{ltb}
 use lib.ListN.{length}
 use lib.IntN.{ℤ, pos, negsuc, subℕ}
 use Rattle.basis.specs.Bits.{Bits, digit, bitsOf, append-digits, value}
@@ -44,3 +45,7 @@ turned true (b ∷ s) = not b ∷ s
 -- the place of a pattern's value among all values of its width
 abbrev pub place : Bool → Bits → ℕ
 place signed s = value (turned signed s)
+
+-- the first bit turned, of numbers: those below `half` and those from `half` on change places
+unfoldable pub halves-swapped : ℕ → ℕ → ℕ
+halves-swapped half n = cond (ltb n half) (n + half) (n - half)

@@ -1,13 +1,13 @@
 -- A set holds all whole numbers past 2^62 or none of them, and all below −2^62 or none.
 -- Assumes nothing.
-use Prim.Native.Nat.{ℕ, suc, _+_, _*_, _/_, _%_, _^_, _≤_, _<_}
+use Prim.Native.Nat.{ℕ, zero, suc, _+_, _*_, _/_, _%_, _^_, _≤_, _<_}
 use mathlib.Core.Path.{_≡_, refl, sym, ap, ap₂, _∙_}
 use mathlib.Core.Bool.{Bool, true, false, cond}
 use mathlib.Core.List.{List, [], _∷_}
 use native.Mathlib.Omega.{arith}
 use borrow.Author.Tests.{le-leb, lt-leb, leb-true, leb-false, ltb-true}
 use lib.Dec.{leb, ltb, eqb}
-use lib.IntN.{ℤ, pos, negsuc, natAbs, negℤ, _+ℤ_, _*ℤ_}
+use lib.IntN.{ℤ, pos, negsuc, natAbs, _+ℤ_, _-ℤ_, _*ℤ_}
 use lib.ListN.{length, getD}
 use lib.Signed.{leZ}
 use Rattle.basis.specs.Bits.{digit}
@@ -245,17 +245,28 @@ module _ (env : List ℤ) (v : ℤ) where
   membership-clamped i xs = ap (λ (e : Ended). verdictOf (e .trial)) (run-same xs i Numbers.Zero 1 tt)
 
 -- all past 2^62 are alike, and all below −2^62
+pub clamped-past : (n : ℕ) → 2 ^ 62 < n → clamped (pos n) ≡ pos (2 ^ 62 + 1)
+unfolding clamped
+clamped-past n h = rw (lt-leb n (2 ^ 62) h)
+
+pub clamped-below : (n : ℕ) → 2 ^ 62 < suc n → clamped (negsuc n) ≡ negsuc (2 ^ 62)
+unfolding clamped
+clamped-below n h = rw (lt-leb (suc n) (2 ^ 62) h)
+
 module _ (env : List ℤ) (i : ℕ) (xs : List Term) where
-  clamped-past : (n : ℕ) → 2 ^ 62 < n → clamped (pos n) ≡ pos (2 ^ 62 + 1)
-  unfolding clamped
-  clamped-past n h = rw (lt-leb n (2 ^ 62) h)
-
-  clamped-below : (n : ℕ) → 2 ^ 62 < suc n → clamped (negsuc n) ≡ negsuc (2 ^ 62)
-  unfolding clamped
-  clamped-below n h = rw (lt-leb (suc n) (2 ^ 62) h)
-
   pub membership-past : (m n : ℕ) → 2 ^ 62 < m → 2 ^ 62 < n → membership env (pos m) i xs ≡ membership env (pos n) i xs
   membership-past m n h k = sym (membership-clamped env (pos m) i xs) ∙ ap (λ (z : ℤ). membership env z i xs) (clamped-past m h ∙ sym (clamped-past n k)) ∙ membership-clamped env (pos n) i xs
 
   pub membership-below : (m n : ℕ) → 2 ^ 62 ≤ m → 2 ^ 62 ≤ n → membership env (negsuc m) i xs ≡ membership env (negsuc n) i xs
   membership-below m n h k = sym (membership-clamped env (negsuc m) i xs) ∙ ap (λ (z : ℤ). membership env z i xs) (clamped-below m (omega arith) ∙ sym (clamped-below n (omega arith))) ∙ membership-clamped env (negsuc n) i xs
+
+-- ---- in code
+
+-- −1 less a natural number
+pub one-less : (n : ℕ) → negsuc 0 -ℤ pos n ≡ negsuc n
+one-less zero = refl
+one-less (suc n) = let e : suc (0 + n) ≡ suc n = omega arith in ap negsuc e
+
+pub clamped-in : (z : ℤ) → natAbs z ≤ 2 ^ 62 → clamped z ≡ z
+unfolding clamped
+clamped-in z h = rw (le-leb (natAbs z) (2 ^ 62) h)
