@@ -19,7 +19,7 @@ joined j t = cond (ltb t 4) 0 (noted (t / 4) (joins j (eqb (t / 2 % 2) 1) (eqb (
 -- an effect on the tests of the value v
 abbrev pub applied : Effect → ℕ → ℕ → ℕ
 applied Effect.None t v = t
-applied (Effect.Within a b) t v = noted t (cond (leb a v) (ltb v b) false)
+applied (Effect.Within a b) t v = noted t (cond (leb a v) (leb v b) false)
 applied (Effect.From a) t v = noted t (leb a v)
 applied Effect.Or t v = joined Joint.Or t
 applied Effect.Except t v = joined Joint.Except t

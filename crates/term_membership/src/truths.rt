@@ -49,9 +49,9 @@ fn apply(effect: Effect, truths: u64, value: u64) -> u64
 {
     match effect {
         Effect::None => truths,
-        Effect::Within(low, past) => {
+        Effect::Within(low, last) => {
             if low <= value {
-                note(truths, value < past)
+                note(truths, value <= last)
             } else {
                 note(truths, false)
             }
