@@ -16,12 +16,13 @@ const LONG: [(&str, &str); 3] = [
     ("nibbles by choice", "dogma_v1 utf-8\n\nframe = (low | high)*; low = uint(4, 0~7) & uint(4, ~); high = uint(4, 8~15) & uint(4, 0~9);"),
 ];
 
-pub fn report(folder: &Path) {
+pub fn report(folder: &Path, worst: &Path) {
     admission(folder);
     for (name, text) in LONG {
         matching(name, text.as_bytes());
     }
     largest();
+    worst_found(worst);
     slowest_step();
 }
 
@@ -106,10 +107,9 @@ fn one_uint(width: u32, parts: u64, part: impl Fn(u64) -> String) -> String {
     format!("dogma_v1 utf-8\n\na = uint({width},{});", (0..parts).map(part).collect::<Vec<_>>().join("|"))
 }
 
-// The largest texts: most constructs, most terms, deepest. A set's ends and the values after them are tried, so the worst sets have many ends that fail.
+// Large texts: most terms, deepest. A set's ends and the values after them are tried, so the worst sets have many ends that fail.
 fn largest() {
     let texts = [
-        ("255 branches", format!("dogma_v1 utf-8\n\na = {};", (0..255).map(|i| format!("uint(8,{i})")).collect::<Vec<_>>().join("|"))),
         ("512 items of 32 bits", one_uint(32, 512, |i| format!("{}", i * 3))),
         ("512 items of 16 bits", one_uint(16, 512, |i| format!("{}", i * 127))),
         ("512 items of 8 bits", one_uint(8, 512, |i| format!("{}", i % 256))),
@@ -120,17 +120,24 @@ fn largest() {
         ("128 ranges taken away", one_uint(32, 128, |i| format!("{0}~{1}!{0}~{1}", i * 33554432, i * 33554432 + 99))),
         ("200 uints of three items", format!("dogma_v1 utf-8\n\na = {};", (0..200).map(|i| format!("uint(32,{i}!{i}|{})", i + 1)).collect::<Vec<_>>().join("&"))),
         ("16 deep", format!("dogma_v1 utf-8\n\na = {}\"x\"{};", "(".repeat(16), "?)".repeat(16))),
-        ("250 uses", format!("dogma_v1 utf-8\n\na = uint(8, var(n, ~)) & {};", (0..250).map(|_| "uint(8, n)").collect::<Vec<_>>().join("&"))),
-        ("64 rules, each after the one that uses it", late_rules()),
         ("8,000 bytes of comments", format!("dogma_v1 utf-8\n\n{}", "# comment\n".repeat(800))),
     ];
-    for (name, text) in texts {
-        let lent = Guarded::new(&text.as_bytes()[..text.len().min(8192)]);
-        let mut table = Guarded::new(&[0; TABLE_WORDS]);
-        let mut number = 0;
-        let time = (0..5).map(|_| seconds(|| number = calls::admit(&lent, &mut table).number)).fold(f64::INFINITY, f64::min);
-        println!("library: {name}, {} bytes: answered {number} in {:.2} ms{}", lent.length, time * 1e3, opened(&table, number));
+    texts.iter().for_each(|(name, text)| answered(name, &text.as_bytes()[..text.len().min(8192)]));
+}
+
+// The worst texts found (tests/figures/search.rs).
+fn worst_found(folder: &Path) {
+    for path in grammars(folder) {
+        answered(&path.file_stem().expect("a name").to_string_lossy(), &std::fs::read(&path).expect("a text"));
     }
+}
+
+fn answered(name: &str, text: &[u8]) {
+    let lent = Guarded::new(text);
+    let mut table = Guarded::new(&[0; TABLE_WORDS]);
+    let mut number = 0;
+    let time = (0..5).map(|_| seconds(|| number = calls::admit(&lent, &mut table).number)).fold(f64::INFINITY, f64::min);
+    println!("library: {name}, {} bytes: answered {number} in {:.2} ms{}", lent.length, time * 1e3, opened(&table, number));
 }
 
 // How long opening takes, on the table of an admitted text.
@@ -141,13 +148,6 @@ fn opened(table: &Guarded<u32>, number: usize) -> String {
     let (frame, reading, mut run) = (Guarded::new(&[]), Guarded::new(&[]), Guarded::new(&[0; RUN_BYTES]));
     let time = (0..5).map(|_| seconds(|| assert_eq!(calls::open(table, &frame, &reading, &mut run), 0))).fold(f64::INFINITY, f64::min);
     format!(", opened in {:.2} ms", time * 1e3)
-}
-
-// The worst text found: each rule is used by the one after it, so that its sets are known only one round later, and a round joins many sets.
-fn late_rules() -> String {
-    let parts = ["uint(1,1)"].into_iter().chain(std::iter::repeat_n("uint(1,~){8}", 94)).collect::<Vec<_>>().join("&");
-    let rules = (2..64).map(|i| format!("r{i}=r{};", i - 1)).collect::<String>();
-    format!("dogma_v1 utf-8\n\nr0=r63;r1={parts};{rules}")
 }
 
 // The slowest step found: a uint whose set is one product of 512 numbers.

@@ -1,6 +1,6 @@
 // Compares the compiled library with the reference implementation: `library vectors FOLDER`, `library extremes`, `library nulls`, `library compare
-// SEED TEXTS` (random and damaged texts, frames and grants), `library forged SEED RUNS` (forged tables and runs), `library bench FOLDER`, `library
-// stack FOLDER`. Every array that the library is lent ends where a page begins that nobody may touch, so that a read or write past it ends the program.
+// SEED TEXTS` (random and damaged texts, frames and grants), `library forged SEED RUNS` (forged tables and runs), `library bench FOLDER WORST`,
+// `library stack FOLDER`. Every array that the library is lent ends where a page begins that nobody may touch, so that a read or write past it ends the program.
 mod bench;
 mod calls;
 mod compare;
@@ -23,9 +23,9 @@ fn main() {
         ["extremes"] => extremes::report(),
         ["nulls"] => nulls::report(),
         ["forged", seed, runs] => forged::report(number(seed), number(runs)),
-        ["bench", folder] => bench::report(Path::new(folder)),
+        ["bench", folder, worst] => bench::report(Path::new(folder), Path::new(worst)),
         ["stack", folder] => stack::report(Path::new(folder)),
-        _ => panic!("use: library vectors FOLDER | compare SEED TEXTS | extremes | nulls | forged SEED RUNS | bench FOLDER | stack FOLDER"),
+        _ => panic!("use: library vectors FOLDER | compare SEED TEXTS | extremes | nulls | forged SEED RUNS | bench FOLDER WORST | stack FOLDER"),
     }
 }
 

@@ -1,8 +1,15 @@
-// Compares the lookahead sets' join, union, addition, halves and least common string with ones that go pair by pair and string by string, and reports
-// how long the two joins take on two full sets. The time is printed and never fails the test.
+// Compares the lookahead sets' join, union, addition, halves and least common string with ones that go pair by pair and string by string, on sets of many
+// kinds and on those of the largest grammars (`lookahead FOLDER`, a folder of texts), and how long the two joins take. The join may take at most a quarter
+// of the time of the one that goes pair by pair on two full sets (Req 04), and so on sets of all bytes and on the sets of the largest grammars together.
+use reference::grammar::admit;
+use reference::lookahead::Strings;
 use std::collections::BTreeSet;
 use std::hint::black_box;
+use std::path::Path;
 use std::time::Instant;
+
+// What the join may take of the time of one that goes pair by pair.
+const MOST: f64 = 0.25;
 
 extern "C" {
     fn lookahead_c_join(sets: *mut u64, len: usize) -> bool;
@@ -134,15 +141,46 @@ impl Random {
     }
 }
 
-fn nanoseconds(turns: u32, mut f: impl FnMut() -> Words) -> f64 {
-    let start = Instant::now();
-    for _ in 0..turns {
-        black_box(f());
-    }
-    start.elapsed().as_nanos() as f64 / f64::from(turns)
+// FIRST and FOLLOW of each construct of a folder's texts, by the reference implementation: the pairs that admission joins.
+fn sets_of_grammars(folder: &Path) -> Vec<(Words, Words)> {
+    let mut texts: Vec<_> = std::fs::read_dir(folder).expect("a folder").map(|entry| entry.expect("a text").path()).collect();
+    texts.sort();
+    let grammar = |path| admit(&std::fs::read(path).expect("a text")).ok();
+    let of = |set: &Strings| words(set.iter().map(usize::from));
+    let sets = |grammar: reference::grammar::Grammar| {
+        let analysis = grammar.analysis;
+        let pairs = analysis.first.iter().zip(&analysis.follow).map(|(first, follow)| (of(first), of(follow)));
+        pairs.collect::<Vec<_>>()
+    };
+    texts.iter().filter_map(grammar).flat_map(sets).collect()
 }
 
-fn main() {
+// Of one join, the least of five times as many as said.
+fn nanoseconds(turns: u32, mut f: impl FnMut() -> Words) -> f64 {
+    let mut time = || {
+        let start = Instant::now();
+        for _ in 0..turns {
+            black_box(f());
+        }
+        start.elapsed().as_nanos() as f64 / f64::from(turns)
+    };
+    (0..5).map(|_| time()).fold(f64::INFINITY, f64::min)
+}
+
+// The two joins side by side.
+fn ratio(name: &str, pairs: &[(Words, Words)]) -> f64 {
+    let by_words = nanoseconds((20_000 / pairs.len() as u32).max(1), || pairs.iter().map(|(a, b)| call(lookahead_c_join, black_box(a), black_box(b))).fold(EMPTY, either));
+    let by_pairs = nanoseconds((20 / pairs.len() as u32).max(1), || pairs.iter().map(|(a, b)| join_by_pairs(black_box(a), black_box(b))).fold(EMPTY, either));
+    let each = |time: f64| time / pairs.len() as f64;
+    println!("{name}: {:.0} ns a join by words, {:.0} ns pair by pair, ratio {:.5}", each(by_words), each(by_pairs), by_words / by_pairs);
+    by_words / by_pairs
+}
+
+fn either(a: Words, b: Words) -> Words {
+    std::array::from_fn(|i| a[i] | b[i])
+}
+
+fn same(folder: &Path) -> Vec<(Words, Words)> {
     let mut pairs = 0;
     let special = [EMPTY, FULL, words([1]), words([2]), words([18]), words([321]), words([511]), words(256..512), words([1, 321]), [1, 0, 0, 0, 0, 0, 0, 0], [!0; 8]];
     for a in &special {
@@ -173,10 +211,22 @@ fn main() {
     }
     let mut short = [0u64; 23];
     assert!(!unsafe { lookahead_c_join(short.as_mut_ptr(), short.len()) }, "a slice without room for three sets");
-    println!("{pairs} pairs of sets: joins, unions, additions, halves and least common strings are the same");
-    for (name, a, b) in [("full sets", FULL, FULL), ("sets of all bytes", words(256..512), words(256..512)), ("sets of one byte", words([321]), words([322]))] {
-        let by_words = nanoseconds(20_000, || call(lookahead_c_join, black_box(&a), black_box(&b)));
-        let by_pairs = nanoseconds(100, || join_by_pairs(black_box(&a), black_box(&b)));
-        println!("two {name}: {by_words:.0} ns by words, {by_pairs:.0} ns pair by pair, ratio {:.5}", by_words / by_pairs);
+    let grammars = sets_of_grammars(folder);
+    assert!(grammars.len() > 200, "the sets of large grammars");
+    for (a, b) in &grammars {
+        compare(a, b);
+        pairs += 1;
     }
+    println!("{pairs} pairs of sets: joins, unions, additions, halves and least common strings are the same");
+    grammars
+}
+
+fn main() {
+    let folder = std::env::args().nth(1).expect("a folder of texts");
+    let grammars = same(Path::new(&folder));
+    let bytes = words(256..512);
+    assert!(ratio("two full sets", &[(FULL, FULL)]) <= MOST);
+    assert!(ratio("two sets of all bytes", &[(bytes, bytes)]) <= MOST);
+    assert!(ratio("the sets of the largest grammars", &grammars) <= MOST);
+    ratio("two sets of one byte", &[(words([321]), words([322]))]);
 }

@@ -222,6 +222,54 @@ single-is n p h = rw (mod-eq-of-lt small) record { strings = λ s. (to s, back s
     fits : (i : ℕ) → getD (set zeros (n / 64) (1 * 2 ^ (n % 64))) i 0 < 2 ^ 64
     fits = set-fit zeros (n / 64) (1 * 2 ^ (n % 64)) (omega arith) small (filled-none (λ i w. Unit {0}) .fit)
 
+-- ---- one string more
+
+module _ (x : List ℕ) (n : ℕ) (p : Proper x) where
+  abbrev One : Bits → Type 0
+  One s = (length s ≤ 8) × (number s ≡ n)
+
+  abbrev one : List ℕ
+  one = set zeros (n / 64) (1 * 2 ^ (n % 64) % 2 ^ 64)
+
+  -- a number that is no string's adds none
+  pub insert-none : ((s : Bits) → One s → ⊥) → Is x (Union (Has x) One)
+  insert-none f = record { strings = λ s. ((λ h. inl h), (λ u. elim u [ inl h ↦ h | inr q ↦ absurd (f s q) ])); proper = p }
+
+  pub insert-is : (w : ℕ) → 0 < n → n < 512 → w ≡ bitOr (getD x (n / 64) 0) (1 * 2 ^ (n % 64) % 2 ^ 64) → w < 2 ^ 64 → Is (set x (n / 64) w) (Union (Has x) One)
+  unfolding member
+  insert-is w z h e l = record { strings = λ s. (to s, back s); proper = record { eight = length-set x (n / 64) w ∙ p .eight; fit = set-fit x (n / 64) w inside l (p .fit); unused = none } }
+    where
+      inside : n / 64 < length x
+      inside = omega (arith, p .eight)
+
+      alone : Is one One
+      alone = single-is n z h
+
+      numbers : (m : ℕ) → member (set x (n / 64) w) m ≡ max (member x m) (member one m)
+      numbers m = elim (ℕ-discrete (m / 64) (n / 64)) [
+        | yes q ↦
+            let a : getD (set x (n / 64) w) (m / 64) 0 ≡ w = ap (λ (i : ℕ). getD (set x (n / 64) w) i 0) q ∙ getD-set-same x (n / 64) w 0 inside in
+            let b : getD one (m / 64) 0 ≡ 1 * 2 ^ (n % 64) % 2 ^ 64 = ap (λ (i : ℕ). getD one i 0) q ∙ getD-set-same zeros (n / 64) (1 * 2 ^ (n % 64) % 2 ^ 64) 0 (omega arith) in
+            ap (λ (v : ℕ). bit v (m % 64)) (a ∙ e) ∙ bit-or (getD x (n / 64) 0) (1 * 2 ^ (n % 64) % 2 ^ 64) (m % 64)
+            ∙ ap₂ (λ (u v : ℕ). max (bit u (m % 64)) (bit v (m % 64))) (ap (λ (i : ℕ). getD x i 0) (sym q)) (sym b)
+        | no q ↦
+            let b : bit (getD one (m / 64) 0) (m % 64) ≡ 0 =
+            ap (λ (v : ℕ). bit v (m % 64)) (getD-set-other zeros (n / 64) (m / 64) (1 * 2 ^ (n % 64) % 2 ^ 64) 0 q ∙ zeros-at (m / 64)) ∙ bit-none (m % 64) in
+            ap (λ (v : ℕ). bit v (m % 64)) (getD-set-other x (n / 64) (m / 64) w 0 q) ∙ omega (arith, b)
+      ]
+
+      none : member (set x (n / 64) w) 0 ≡ 0
+      none = numbers 0 ∙ ap₂ max (p .unused) (alone .proper .unused)
+
+      union : (s : Bits) → Has (set x (n / 64) w) s ↔ Union (Has x) (Has one) s
+      union s = has-union x one (set x (n / 64) w) (λ m u v. numbers m) s
+
+      to : (s : Bits) → Has (set x (n / 64) w) s → Union (Has x) One s
+      to s a = elim (union s .0 a) [ inl b ↦ inl b | inr b ↦ inr (alone .strings s .0 b) ]
+
+      back : (s : Bits) → Union (Has x) One s → Has (set x (n / 64) w) s
+      back s a = union s .1 (elim a [ inl b ↦ inl b | inr b ↦ inr (alone .strings s .1 b) ])
+
 -- ---- answers
 
 pub decides-true : (A : Type 0) → A → Decides true A

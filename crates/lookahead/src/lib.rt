@@ -8,7 +8,7 @@ ghost use Prim.Native.Nat.{_+_, _*_, _<_, _≤_};
 ghost use lib.ListN.{length};
 ghost use Rattle.basis.specs.Bits.{Bits, bitsOf};
 ghost use Rattle.basis.specs.Lookahead.{lookahead, number};
-ghost use Rattle.lookahead.specs.Sets.{Has, Is, Decides, Union, Joined, SameWords};
+ghost use Rattle.lookahead.specs.Sets.{Has, Is, Proper, Decides, Union, Joined, SameWords};
 ghost use Rattle.lookahead.specs.Least.{LeastCommon};
 
 pub mod passes;
@@ -57,6 +57,20 @@ pub fn single(n: usize) -> Set
         }
     }
     Set { words }
+}
+
+// The set with the string of number n in it too; the same strings where n is no string's.
+pub fn insert(set: Set, n: usize) -> Set
+    requires { ⌜ Proper (set .words) ⌝ }
+    ensures { λ r. ⌜ Is (r .words) (Union (Has (set .words)) (λ (s : Bits). (length s ≤ 8) × (number s ≡ n))) ⌝ }
+{
+    let mut x = set.words;
+    if 0 < n {
+        if n < 512 {
+            x[n / 64] = words::or(x[n / 64], 1 << (n % 64));
+        }
+    }
+    Set { words: x }
 }
 
 // Whether the string with number n is in the set; no other number is.
@@ -137,7 +151,7 @@ pub fn is_empty(set: Set) -> bool
 }
 
 // Every string of a followed by every string of b, cut at 8 bits. A result of 8 bits ends in a prefix of a string of b, a shorter one in a whole string.
-pub fn join(a: Set, b: Set) -> Set
+fn join_words(a: Set, b: Set) -> Set
     ensures { λ r. ⌜ Is (r .words) (Joined (Has (a .words)) (Has (b .words))) ⌝ }
 {
     let mut x = a.words;
@@ -151,4 +165,14 @@ pub fn join(a: Set, b: Set) -> Set
         i += 1;
     }
     Set { words: out }
+}
+
+// The same. Many constructs have no strings, and with none there is no join.
+pub fn join(a: Set, b: Set) -> Set
+    ensures { λ r. ⌜ Is (r .words) (Joined (Has (a .words)) (Has (b .words))) ⌝ }
+{
+    if is_empty(a) {
+        return empty();
+    }
+    join_words(a, b)
 }

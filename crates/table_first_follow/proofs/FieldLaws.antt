@@ -52,17 +52,17 @@ module _ (low : ℕ) (P : ℕ → Type 0) where
   pub numbered-none : (n : ℕ) (out : List ℕ) → n ≡ low → Is out (λ (x : Bits). ⊥) → Is out (Numbered low n P)
   numbered-none n out e s = is-map out (λ (x : Bits). ⊥) (Numbered low n P) (λ x. ((λ z. absurd z), (λ h. omega (arith, h .1, h .2)))) s
 
-  pub numbered-hit : (n : ℕ) (out one next : List ℕ) → low ≤ n → P n → Is out (Numbered low n P) → Is one (λ (x : Bits). (length x ≤ 8) × (number x ≡ n))
-      → Is next (Union (Has out) (Has one)) → Is next (Numbered low (n + 1) P)
-  numbered-hit n out one next l p s o u = is-map next (Union (Has out) (Has one)) (Numbered low (n + 1) P) (λ x. (to x, back x)) u
+  pub numbered-hit : (n : ℕ) (out next : List ℕ) → low ≤ n → P n → Is out (Numbered low n P) → Is next (Union (Has out) (λ (x : Bits). (length x ≤ 8) × (number x ≡ n)))
+      → Is next (Numbered low (n + 1) P)
+  numbered-hit n out next l p s u = is-map next (Union (Has out) (λ (x : Bits). (length x ≤ 8) × (number x ≡ n))) (Numbered low (n + 1) P) (λ x. (to x, back x)) u
     where
-      to : (x : Bits) → Union (Has out) (Has one) x → Numbered low (n + 1) P x
+      to : (x : Bits) → Union (Has out) (λ (y : Bits). (length y ≤ 8) × (number y ≡ n)) x → Numbered low (n + 1) P x
       to x (inl h) = let q = s .strings x .0 h in (q .0, q .1, omega (arith, q .2), q .3)
-      to x (inr h) = let q = o .strings x .0 h in (q .0, omega (arith, q .1), omega (arith, q .1), subst P (sym (q .1)) p)
+      to x (inr q) = (q .0, omega (arith, q .1), omega (arith, q .1), subst P (sym (q .1)) p)
 
-      back : (x : Bits) → Numbered low (n + 1) P x → Union (Has out) (Has one) x
+      back : (x : Bits) → Numbered low (n + 1) P x → Union (Has out) (λ (y : Bits). (length y ≤ 8) × (number y ≡ n)) x
       back x q = elim (ℕ-discrete (number x) n) [
-        | yes e ↦ inr (o .strings x .1 (q .0, e))
+        | yes e ↦ inr (q .0, e)
         | no e ↦ inl (s .strings x .1 (q .0, q .1, omega (arith, q .2, e), q .3))
       ]
 

@@ -22,7 +22,7 @@ fn numbered(low: usize, high: usize) -> Set
     let mut out = lookahead::empty();
     let mut n = low;
     while n < high {
-        out = lookahead::union(out, lookahead::single(n));
+        out = lookahead::insert(out, n);
         n += 1;
     }
     out
@@ -46,7 +46,7 @@ fn leading(
     let mut n = low;
     while n < high {
         if term_prefixes::leads(&marks, width, signed, n as u64) {
-            out = lookahead::union(out, lookahead::single(n));
+            out = lookahead::insert(out, n);
         }
         n += 1;
     }

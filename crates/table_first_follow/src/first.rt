@@ -6,6 +6,7 @@ ghost use Rattle.table_first_follow.specs.Rounds.{Between, FirstStep, Fi
 ghost use Rattle.table_first_follow.specs.Sets.{FirstSets, sets-held, family-words};
 use crate::SETS_HELD;
 use crate::fields;
+use crate::order;
 use crate::parts::either;
 use crate::rules;
 
@@ -44,14 +45,47 @@ fn seeds(table: &[u32], family: &mut [u64])
     }
 }
 
-// FIRST of each construct, and of the opening use, in the family's words, whatever they were.
-pub fn first(table: &[u32], family: &mut [u64])
+// The same for any number; one past the family's is of no construct.
+fn apply_any(table: &[u32], family: &mut [u64], i: usize)
+    requires { ⌜ Between (firstLow (now table)) (firstOf (now table)) (now family) ⌝ }
+    ensures { λ r. ⌜ Between (firstLow (now (table .entry))) (firstOf (now (table .entry))) (now (family .exit)) ⌝ }
+{
+    if i < SETS_HELD {
+        apply(table, family, i);
+    }
+}
+
+// Each construct of the order once.
+fn pass(table: &[u32], order: &[usize], family: &mut [u64])
+    requires { ⌜ Between (firstLow (now table)) (firstOf (now table)) (now family) ⌝ }
+    ensures { λ r. ⌜ Between (firstLow (now (table .entry))) (firstOf (now (table .entry))) (now (family .exit)) ⌝ }
+{
+    let mut k = 0;
+    while k < order.len() {
+        apply_any(table, family, order[k]);
+        k += 1;
+    }
+}
+
+// FIRST of each construct, and of the opening use, in the family's words, whatever they were: once through the order, whatever it is, and then rounds
+// until nothing grows. Where the order is right, one round sees that all is done.
+pub fn first_in_order(table: &[u32], order: &[usize], family: &mut [u64])
     requires { ⌜ length (now family) ≡ family-words ⌝ }
     ensures { λ r. ⌜ FirstSets (now (table .entry)) (now (family .exit)) ⌝ }
 {
     seeds(table, family);
+    pass(table, order, family);
     let mut more = true;
     while more {
         more = round(table, family);
     }
+}
+
+pub fn first(table: &[u32], family: &mut [u64])
+    requires { ⌜ length (now family) ≡ family-words ⌝ }
+    ensures { λ r. ⌜ FirstSets (now (table .entry)) (now (family .exit)) ⌝ }
+{
+    let mut places = [SETS_HELD; SETS_HELD];
+    order::fill(table, &mut places);
+    first_in_order(table, &places, family);
 }

@@ -136,12 +136,36 @@ fn starts(family: &mut [u64])
     }
 }
 
-// FOLLOW of each construct, and of the opening use, in the family's words, whatever they were; `first` has FIRST.
-pub fn follow(table: &[u32], first: &[u64], family: &mut [u64])
+// The same for any number; one past the family's is of no construct.
+fn push_any(table: &[u32], first: &[u64], family: &mut [u64], i: usize)
+    requires { ⌜ (length (now first) ≡ family-words) × FirstSets (now table) (now first) × Between (followLow (now table)) (followOf (now table)) (now family) ⌝ }
+    ensures { λ r. ⌜ Between (followLow (now (table .entry))) (followOf (now (table .entry))) (now (family .exit)) ⌝ }
+{
+    if i < SETS_HELD {
+        push(table, first, family, i);
+    }
+}
+
+// Each construct of the order once, the last first: users before what they use.
+fn pass(table: &[u32], order: &[usize], first: &[u64], family: &mut [u64])
+    requires { ⌜ (length (now first) ≡ family-words) × FirstSets (now table) (now first) × Between (followLow (now table)) (followOf (now table)) (now family) ⌝ }
+    ensures { λ r. ⌜ Between (followLow (now (table .entry))) (followOf (now (table .entry))) (now (family .exit)) ⌝ }
+{
+    let mut k = order.len();
+    while 0 < k {
+        k -= 1;
+        push_any(table, first, family, order[k]);
+    }
+}
+
+// FOLLOW of each construct, and of the opening use, in the family's words, whatever they were; `first` has FIRST. Once through the order, whatever it
+// is, and then rounds until nothing grows.
+pub fn follow(table: &[u32], order: &[usize], first: &[u64], family: &mut [u64])
     requires { ⌜ (length (now family) ≡ family-words) × (length (now first) ≡ family-words) × FirstSets (now table) (now first) ⌝ }
     ensures { λ r. ⌜ FollowSets (now (table .entry)) (now (family .exit)) ⌝ }
 {
     starts(family);
+    pass(table, order, first, family);
     let mut more = true;
     while more {
         more = push_all(table, first, family);

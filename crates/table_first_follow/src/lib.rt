@@ -6,6 +6,7 @@ use basis::MAX_CONSTRUCTS;
 mod fields;
 pub mod first;
 mod follow;
+mod order;
 pub mod parts;
 pub mod prediction;
 mod rules;

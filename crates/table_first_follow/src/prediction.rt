@@ -6,6 +6,7 @@ ghost use Rattle.table_first_follow.specs.Follows.{JoinedSets};
 use crate::SETS_HELD;
 use crate::first;
 use crate::follow;
+use crate::order;
 use crate::parts;
 
 fn join_all(first: &[u64], follow: &[u64], family: &mut [u64])
@@ -27,7 +28,9 @@ pub fn all(table: &[u32], first: &mut [u64], follow: &mut [u64], prediction: &mu
     ensures { λ r. ⌜ FollowSets (now (table .entry)) (now (follow .exit)) ⌝ }
     ensures { λ r. ⌜ PredictionSets (now (table .entry)) (now (prediction .exit)) ⌝ }
 {
-    first::first(table, first);
-    follow::follow(table, first, follow);
+    let mut places = [SETS_HELD; SETS_HELD];
+    order::fill(table, &mut places);
+    first::first_in_order(table, &places, first);
+    follow::follow(table, &places, first, follow);
     join_all(first, follow, prediction);
 }

@@ -4,7 +4,7 @@ ghost use mathlib.Core.Path.{_≡_};
 ghost use Prim.Native.Nat.{min};
 ghost use Rattle.table_reach.specs.Reaching.{Found};
 
-mod reaching;
+pub mod reaching;
 
 // The first rule that reaches itself.
 pub enum Recursion {

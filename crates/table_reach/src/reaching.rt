@@ -56,7 +56,7 @@ fn row_between(table: &[u32], first: usize, end: usize) -> u64
 }
 
 // Where the constructs of rule r end.
-fn end_of(table: &[u32], r: usize) -> usize
+pub fn end_of(table: &[u32], r: usize) -> usize
     requires { ⌜ r < max-rules ⌝ }
     ensures { λ n. ⌜ n ≡ rule-end (now (table .entry)) r ⌝ }
 {

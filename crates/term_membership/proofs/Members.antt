@@ -8,7 +8,7 @@ use native.Mathlib.Omega.{arith}
 use borrow.Author.Tests.{lt-ltb, ltb-false, eqb-true}
 use lib.Dec.{ltb, eqb, leb·zero}
 use lib.IntN.{ℤ, pos, negsuc, subℕ, _+ℤ_}
-use lib.ListN.{length, getD, replicate, length-replicate, getD-replicate}
+use lib.ListN.{length, getD, replicate, length-replicate}
 use lib.Signed.{leZ}
 use Rattle.basis.specs.Bits.{digit}
 use Rattle.term_integers.specs.Wholes.{equals}
@@ -32,7 +32,7 @@ use Rattle.term_evaluation.specs.declared.Tested.{Tested}
 use Rattle.term_evaluation.proofs.Runs.{terms-next, terms-none}
 use Rattle.term_membership.specs.Members.{isYes, holds, holds-from}
 use Rattle.term_membership.specs.Effects.{endOf, lowOf, itemOf, equalTurn, fromTurn, upToTurn, pairTurn, partTurn, singleTurn, turnOf}
-use Rattle.term_membership.specs.Truths.{noted, joined, applied}
+use Rattle.term_membership.specs.Truths.{noted, joined, applied, waiting}
 use Rattle.term_membership.specs.Batches.{ends, onward, held, Applied}
 use Rattle.term_membership.specs.declared.Effect.{Effect}
 use Rattle.term_membership.specs.declared.Turn.{Turn}
@@ -205,31 +205,28 @@ module _ (o : ℕ) (env : List ℤ) (v : ℕ) where
 
 -- ---- the pass over a list's terms, for 64 values
 
-pub record Underway (o : ℕ) (env : List ℤ) (ws : List ℕ) (start end : ℕ) (values : List ℕ) (at : ℕ) (s : Numbers) (truths : List ℕ) : Type 0 where
-  pub all : length truths ≡ 64
-  pub same : (j : ℕ) → j < 64 → holds-from o env start (terms ws start end) (getD values j 0) ≡ held o env (getD values j 0) (terms ws at end) s (getD truths j 0)
+pub record Underway (o : ℕ) (env : List ℤ) (ws : List ℕ) (start end : ℕ) (values : List ℕ) (at : ℕ) (s : Numbers) (masks : List ℕ) (n : ℕ) : Type 0 where
+  pub all : length masks ≡ 64
+  pub same : (j : ℕ) → j < 64 → holds-from o env start (terms ws start end) (getD values j 0) ≡ held o env (getD values j 0) (terms ws at end) s (waiting masks n j)
 
 module _ (o : ℕ) (env : List ℤ) (ws : List ℕ) (start end : ℕ) (values : List ℕ) where
-  pub begins : Underway o env ws start end values start Numbers.Zero (replicate {A = ℕ} 64 1)
-  begins = record {
-    all = length-replicate {A = ℕ} 64 1;
-    same = λ j h. holds-held o env (getD values j 0) start (terms ws start end) ∙ ap (held o env (getD values j 0) (terms ws start end) Numbers.Zero) (sym (getD-replicate {A = ℕ} 64 j 1 0 h));
-  }
+  pub begins : Underway o env ws start end values start Numbers.Zero (replicate {A = ℕ} 64 0) 0
+  begins = record { all = length-replicate {A = ℕ} 64 0; same = λ j h. holds-held o env (getD values j 0) start (terms ws start end) }
 
-  module _ (at : ℕ) (s : Numbers) (truths : List ℕ) (u : Underway o env ws start end values at s truths) where
+  module _ (at : ℕ) (s : Numbers) (masks : List ℕ) (n : ℕ) (u : Underway o env ws start end values at s masks n) where
     one : at < end → (r : Turn) → r ≡ turnOf o env (termAt ws at) s → (v t : ℕ) → held o env v (terms ws at end) s t ≡ onward (λ s′ e. held o env v (terms ws (at + 1) end) s′ (applied e t v)) r
     unfolding held
     one h r k v t = ap (λ (xs : List Term). held o env v xs s t) (terms-next ws at end h) ∙ ap (onward (λ s′ e. held o env v (terms ws (at + 1) end) s′ (applied e t v))) (sym k)
 
-    pub goes-on : at < end → (s′ : Numbers) (e : Effect) → Turn.On s′ e ≡ turnOf o env (termAt ws at) s → (more : List ℕ) → Applied e values truths 64 more → Underway o env ws start end values (at + 1) s′ more
-    goes-on h s′ e k more a = record {
-      all = a .all;
-      same = λ j l. u .same j l ∙ one h (Turn.On s′ e) k (getD values j 0) (getD truths j 0) ∙ ap (held o env (getD values j 0) (terms ws (at + 1) end) s′) (sym (a .done j l));
+    pub goes-on : at < end → (s′ : Numbers) (e : Effect) → Turn.On s′ e ≡ turnOf o env (termAt ws at) s → (more : List ℕ) (m : ℕ) → Applied e values masks n more m → Underway o env ws start end values (at + 1) s′ more m
+    goes-on h s′ e k more m a = record {
+      all = a .0;
+      same = λ j l. u .same j l ∙ one h (Turn.On s′ e) k (getD values j 0) (waiting masks n j) ∙ ap (held o env (getD values j 0) (terms ws (at + 1) end) s′) (sym (a .1 j l));
     }
 
     pub goes-off : at < end → Turn.Off ≡ turnOf o env (termAt ws at) s → (j : ℕ) → j < 64 → holds-from o env start (terms ws start end) (getD values j 0) ≡ false
-    goes-off h k j l = u .same j l ∙ one h Turn.Off k (getD values j 0) (getD truths j 0)
+    goes-off h k j l = u .same j l ∙ one h Turn.Off k (getD values j 0) (waiting masks n j)
 
-    pub goes-out : end ≤ at → (j : ℕ) → j < 64 → holds-from o env start (terms ws start end) (getD values j 0) ≡ ends s (getD truths j 0)
+    pub goes-out : end ≤ at → (j : ℕ) → j < 64 → holds-from o env start (terms ws start end) (getD values j 0) ≡ ends s (waiting masks n j)
     unfolding held
-    goes-out h j l = u .same j l ∙ ap (λ (xs : List Term). held o env (getD values j 0) xs s (getD truths j 0)) (terms-none ws at end h)
+    goes-out h j l = u .same j l ∙ ap (λ (xs : List Term). held o env (getD values j 0) xs s (waiting masks n j)) (terms-none ws at end h)

@@ -1,16 +1,15 @@
 -- A set's terms worked out for one value by their effects. Only the private functions of the crate speak of this.
 -- Assumes nothing.
-use Prim.Native.Nat.{ℕ, _≤_, _<_}
-use mathlib.Core.Path.{_≡_}
+use Prim.Native.Nat.{ℕ}
 use mathlib.Core.Bool.{Bool, false}
 use mathlib.Core.List.{List, [], _∷_}
 use lib.Dec.{eqb}
 use lib.IntN.{ℤ}
-use lib.ListN.{length, getD}
+use lib.ListN.{getD}
 use Rattle.term_words.specs.declared.Numbers.{Numbers}
 use Rattle.term_words.specs.declared.Term.{Term}
 use Rattle.term_membership.specs.Effects.{turnOf}
-use Rattle.term_membership.specs.Truths.{applied}
+use Rattle.term_membership.specs.Truths.{applied, Anew}
 use Rattle.term_membership.specs.declared.Effect.{Effect}
 use Rattle.term_membership.specs.declared.Turn.{Turn}
 
@@ -31,8 +30,6 @@ unfoldable pub held : ℕ → List ℤ → ℕ → List Term → Numbers → ℕ
 held o env v [] s t = ends s t
 held o env v (x ∷ xs) s t = onward (λ s′ e. held o env v xs s′ (applied e t v)) (turnOf o env x s)
 
--- the tests of the first n values have had an effect, the others not yet
-pub record Applied (e : Effect) (values old : List ℕ) (n : ℕ) (new : List ℕ) : Type 0 where
-  pub all : length new ≡ 64
-  pub done : (j : ℕ) → j < n → getD new j 0 ≡ applied e (getD old j 0) (getD values j 0)
-  pub left : (j : ℕ) → n ≤ j → getD new j 0 ≡ getD old j 0
+-- the tests of 64 values have had an effect
+abbrev pub Applied : Effect → List ℕ → List ℕ → ℕ → List ℕ → ℕ → Type 0
+Applied e values = Anew (λ j t. applied e t (getD values j 0))

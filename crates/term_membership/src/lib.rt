@@ -4,10 +4,14 @@ mod truths;
 
 use crate::effects::turn;
 use crate::truths::apply_all;
+use lookahead::words::same;
 use term_words::Numbers;
 use term_words::decode::term_at;
 ghost use mathlib.Core.Path.{_≡_};
-ghost use Prim.Native.Nat.{ℕ, _^_, _≤_, _<_};
+ghost use Prim.Native.Nat.{ℕ, _+_, _^_, _≤_, _<_};
+ghost use mathlib.Core.List.{List};
+ghost use Rattle.lookahead.specs.Sets.{bit};
+ghost use Rattle.term_membership.specs.Truths.{waiting};
 ghost use mathlib.Core.Bool.{false};
 ghost use lib.Dec.{eqb};
 ghost use lib.ListN.{getD};
@@ -38,12 +42,35 @@ fn nothing() -> [u64; 64]
     [0; 64]
 }
 
+// 3 for each bit of a word that is 1, and 2 for each that is 0.
+fn spread(test: u64) -> [u64; 64]
+    ensures { λ r. ⌜ ((j : ℕ) → j < 64 → getD r j 0 ≡ 2 + bit test j) ⌝ }
+{
+    let mut out = [0u64; 64];
+    let mut j = 0;
+    while j < 64 {
+        out[j] = 2 + (test >> j) % 2;
+        j += 1;
+    }
+    out
+}
+
+// One test waits, `test`.
+fn alone(count: usize, test: u64) -> [u64; 64]
+    ensures { λ r. ⌜ ((masks : List ℕ) → getD masks 0 0 ≡ test → (j : ℕ) → j < 64 → eqb (waiting masks count j) 3 ≡ eqb (getD r j 0) 3) ⌝ }
+{
+    if count == 1 {
+        return spread(test);
+    }
+    nothing()
+}
+
 // A list's end: one test and no number.
-fn ended(numbers: Numbers, truths: [u64; 64]) -> [u64; 64]
-    ensures { λ r. ⌜ ((j : ℕ) → j < 64 → ends numbers (getD truths j 0) ≡ eqb (getD r j 0) 3) ⌝ }
+fn ended(numbers: Numbers, count: usize, test: u64) -> [u64; 64]
+    ensures { λ r. ⌜ ((masks : List ℕ) → getD masks 0 0 ≡ test → (j : ℕ) → j < 64 → ends numbers (waiting masks count j) ≡ eqb (getD r j 0) 3) ⌝ }
 {
     match numbers {
-        Numbers::Zero => truths,
+        Numbers::Zero => alone(count, test),
         Numbers::One(_) => nothing(),
         Numbers::Two(_, _) => nothing(),
         Numbers::Three(_, _, _) => nothing(),
@@ -64,13 +91,14 @@ pub fn contains_all(
     requires { ⌜ offset ≤ 2 ^ 63 ⌝ }
     ensures { λ r. ⌜ ((j : ℕ) → j < 64 → holds-from offset (now (variables .entry)) start (terms (now (words .entry)) start end) (getD (now (values .entry)) j 0) ≡ eqb (getD r j 0) 3) ⌝ }
 {
-    let mut truths = [1u64; 64];
+    let mut masks = [0u64; 64];
+    let mut count = 0;
     let mut numbers = Numbers::Zero;
     let mut at = start;
     while at < end {
         match turn(variables, term_at(words, at), numbers, offset) {
             Turn::On(next, effect) => {
-                apply_all(effect, values, &mut truths);
+                count = apply_all(effect, values, &mut masks, count);
                 numbers = next;
             }
             Turn::Off => {
@@ -79,5 +107,5 @@ pub fn contains_all(
         }
         at += 1;
     }
-    ended(numbers, truths)
+    ended(numbers, count, same(masks[0]))
 }

@@ -32,11 +32,8 @@ loop-holds c =
 leads-requires : tie.Need-leads-requires Inv-loop μ-loop
 leads-requires c κs = search needs
 
-single-requires : tie.Need-single-requires Inv-loop μ-loop
-single-requires c κs = search needs
-
-union-requires : tie.Need-union-requires Inv-loop μ-loop
-union-requires c κs = search needs
+insert-requires : tie.Need-insert-requires Inv-loop μ-loop
+insert-requires c κs = c .before .before .before .before .loop .inv .0 .proper
 
 add-n : tie.Need-add-n Inv-loop μ-loop
 add-n c = search needs
@@ -51,8 +48,8 @@ loop-again c =
     let P : ℕ → Type 0 = Led (a .width) (a .signed) (a .words .now) (a .start) (a .end) in
     let t = c .before .leads .ensures (a .start) (terms (a .words .now) (a .start) (a .end)) (c .before .before .before .before .before .before .first-windows .ensures (c .before .before .before .before .before .before .before .before .pre)) in (
       ⊎-elim
-          (λ w. subst (λ (s : Set). Is (s .words) (Numbered (a .low) (l .n + 1) P)) (sym (w .3))
-          (numbered-hit (a .low) P (l .n) (l .out .words) (w .1 .result .words) (w .2 .result .words) (l .inv .1) (t .found (w .0 .taken)) (l .inv .0) (w .1 .ensures) (w .2 .ensures)))
+          (λ w. subst (λ (s : Set). Is (s .words) (Numbered (a .low) (l .n + 1) P)) (sym (w .2))
+          (numbered-hit (a .low) P (l .n) (l .out .words) (w .1 .result .words) (l .inv .1) (t .found (w .0 .taken)) (l .inv .0) (w .1 .ensures)))
           (λ w. subst (λ (s : Set). Is (s .words) (Numbered (a .low) (l .n + 1) P)) (sym (w .1))
           (numbered-miss (a .low) P (l .n) (l .out .words) (λ p. let z : _≡_ {A = ℕ} 0 1 = cc (t .all (p .0) (p .1), w .0 .left) in omega arith) (l .inv .0)))
           (c .if1 .came),
@@ -76,8 +73,7 @@ leading-spec =
     empty-requires
     loop-holds
     leads-requires
-    single-requires
-    union-requires
+    insert-requires
     add-n
     loop-less
     loop-again

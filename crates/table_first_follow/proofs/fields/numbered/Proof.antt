@@ -21,11 +21,8 @@ empty-requires c κs = search needs
 loop-holds : tie.Need-loop-holds Inv-loop μ-loop
 loop-holds c = (numbered-none (c .before .args .low) Any (c .before .args .low) (c .empty .result .words) refl (c .empty .ensures), omega arith, omega arith)
 
-single-requires : tie.Need-single-requires Inv-loop μ-loop
-single-requires c κs = search needs
-
-union-requires : tie.Need-union-requires Inv-loop μ-loop
-union-requires c κs = search needs
+insert-requires : tie.Need-insert-requires Inv-loop μ-loop
+insert-requires c κs = c .before .loop .inv .0 .proper
 
 add-n : tie.Need-add-n Inv-loop μ-loop
 add-n c = search needs
@@ -35,8 +32,8 @@ loop-less c = search needs
 
 loop-again : tie.Need-loop-again Inv-loop μ-loop
 loop-again c =
-    let l = c .before .before .before .loop in
-    (numbered-hit (c .before .before .before .before .before .args .low) Any (l .n) (l .out .words) (c .before .single .result .words) (c .union .result .words) (l .inv .1) tt (l .inv .0) (c .before .single .ensures) (c .union .ensures), omega (arith, l .inv .1), omega (arith, c .before .before .loop-test .taken))
+    let l = c .before .before .loop in
+    (numbered-hit (c .before .before .before .before .args .low) Any (l .n) (l .out .words) (c .insert .result .words) (l .inv .1) tt (l .inv .0) (c .insert .ensures), omega (arith, l .inv .1), omega (arith, c .before .loop-test .taken))
 
 returns : tie.Need-returns Inv-loop μ-loop
 returns c =
@@ -51,8 +48,7 @@ numbered-spec =
     μ-loop
     empty-requires
     loop-holds
-    single-requires
-    union-requires
+    insert-requires
     add-n
     loop-less
     loop-again

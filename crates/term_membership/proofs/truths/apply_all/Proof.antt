@@ -1,67 +1,92 @@
-use Prim.Native.Nat.{_-_, _≤_}
+use Prim.Native.Nat.{ℕ}
+use mathlib.Core.Path.{sym, ap, _∙_}
+use lib.ListN.{getD}
+use Rattle.term_membership.specs.Truths.{applied, passes, waiting}
+use Rattle.term_membership.specs.declared.Effect.{Effect}
+use Rattle.term_membership.proofs.Rounds.{within-applied, from-applied, tested-first}
 use borrow.Author.Needs.{needs}
-use Rattle.term_membership.specs.Batches.{Applied}
-use Rattle.term_membership.proofs.Rounds.{applied-none, applied-more, applied-all}
 use Rattle.term_membership.proofs.truths.apply_all.Statement.{statement}
 use Rattle.term_membership.proofs.truths.apply_all.Tie as tie
 
-abbrev Inv-loop : tie.InvT-loop
-Inv-loop effect values truths₀ j₀ truths j = Applied effect values truths₀ j truths × (j ≤ 64)
+enum-told : tie.Need-enum-told
+enum-told c = search needs
 
-abbrev μ-loop : tie.MeasureT-loop
-μ-loop effect values truths₀ j₀ truths j = 64 - j
+enum-told-2 : tie.Need-enum-told-2
+enum-told-2 c = search needs
 
-loop-holds : tie.Need-loop-holds Inv-loop μ-loop
-loop-holds c = (applied-none _ _ _ (c .pre), search needs)
+tested-requires : tie.Need-tested-requires
+tested-requires c κs = search needs
 
-mul-apply : tie.Need-mul-apply Inv-loop μ-loop
-mul-apply c = search needs
+note-requires : tie.Need-note-requires
+note-requires c κs = search needs
 
-element-copy-out-apply : tie.Need-element-copy-out-apply Inv-loop μ-loop
-element-copy-out-apply c = search needs
+enum-told-3 : tie.Need-enum-told-3
+enum-told-3 c = search needs
 
-mul-apply-2 : tie.Need-mul-apply-2 Inv-loop μ-loop
-mul-apply-2 c = search needs
+tested-requires-2 : tie.Need-tested-requires-2
+tested-requires-2 c κs = search needs
 
-element-copy-out-apply-2 : tie.Need-element-copy-out-apply-2 Inv-loop μ-loop
-element-copy-out-apply-2 c = search needs
+note-requires-2 : tie.Need-note-requires-2
+note-requires-2 c κs = search needs
 
-apply-requires : tie.Need-apply-requires Inv-loop μ-loop
-apply-requires c κs = search needs
+enum-told-4 : tie.Need-enum-told-4
+enum-told-4 c = search needs
 
-mul-truths : tie.Need-mul-truths Inv-loop μ-loop
-mul-truths c = search needs
+join-requires : tie.Need-join-requires
+join-requires c κs = search needs
 
-element-write-truths : tie.Need-element-write-truths Inv-loop μ-loop
-element-write-truths c = search needs
+enum-told-5 : tie.Need-enum-told-5
+enum-told-5 c = search needs
 
-add-j : tie.Need-add-j Inv-loop μ-loop
-add-j c = search needs
+join-requires-2 : tie.Need-join-requires-2
+join-requires-2 c κs = search needs
 
-loop-less : tie.Need-loop-less Inv-loop μ-loop
-loop-less c = search needs
+returns : tie.Need-returns
+returns c =
+    let s = c .before .before in
+    (s .pre, λ j h. ap (λ (e : Effect). applied e (waiting (s .args .masks .now) (s .args .count) j) (getD (s .args .values .now) j 0)) (sym (c .enum-told .given .1)))
 
-loop-again : tie.Need-loop-again Inv-loop μ-loop
-loop-again c = (applied-more (c .before .before .before .before .loop .inv .0) _ (c .before .before .before .loop-test .taken) (c .apply .ensures), search needs)
+returns-2 : tie.Need-returns-2
+returns-2 c =
+    let s = c .before .before .before .before .before in
+    let n = c .note .ensures (λ j. passes (s .args .effect) (getD (s .args .values .now) j 0)) (tested-first (s .args .effect) (s .args .values .now) (c .before .tested .result) (c .before .tested .ensures)) in
+    (n .0, λ j h. n .1 j h ∙ within-applied (s .args .effect) _ _ (c .before .before .before .enum-told2 .given .1) (waiting (s .args .masks .now) (s .args .count) j) (getD (s .args .values .now) j 0))
 
-returns : tie.Need-returns Inv-loop μ-loop
-returns c = applied-all _ _ _ _ _ (c .before .loop .inv .0) (c .loop-test .left) (c .before .loop .inv .1)
+returns-3 : tie.Need-returns-3
+returns-3 c =
+    let s = c .before .before .before .before .before in
+    let n = c .note2 .ensures (λ j. passes (s .args .effect) (getD (s .args .values .now) j 0)) (tested-first (s .args .effect) (s .args .values .now) (c .before .tested2 .result) (c .before .tested2 .ensures)) in
+    (n .0, λ j h. n .1 j h ∙ from-applied (s .args .effect) _ (c .before .before .before .enum-told3 .given .1) (waiting (s .args .masks .now) (s .args .count) j) (getD (s .args .values .now) j 0))
+
+returns-4 : tie.Need-returns-4
+returns-4 c =
+    let s = c .before .before .before .before in
+    let n = c .join .ensures in
+    (n .0, λ j h. n .1 j h ∙ ap (λ (e : Effect). applied e (waiting (s .args .masks .now) (s .args .count) j) (getD (s .args .values .now) j 0)) (sym (c .before .before .enum-told4 .given .1)))
+
+returns-5 : tie.Need-returns-5
+returns-5 c =
+    let s = c .before .before .before .before in
+    let n = c .join2 .ensures in
+    (n .0, λ j h. n .1 j h ∙ ap (λ (e : Effect). applied e (waiting (s .args .masks .now) (s .args .count) j) (getD (s .args .values .now) j 0)) (sym (c .before .before .enum-told5 .given .1)))
 
 pub apply-all-spec : {M : Type 1} → statement M
 apply-all-spec =
     tie.close
     (tie.spec
-    Inv-loop
-    μ-loop
-    loop-holds
-    mul-apply
-    element-copy-out-apply
-    mul-apply-2
-    element-copy-out-apply-2
-    apply-requires
-    mul-truths
-    element-write-truths
-    add-j
-    loop-less
-    loop-again
-    returns)
+    enum-told
+    enum-told-2
+    tested-requires
+    note-requires
+    enum-told-3
+    tested-requires-2
+    note-requires-2
+    enum-told-4
+    join-requires
+    enum-told-5
+    join-requires-2
+    returns
+    returns-2
+    returns-3
+    returns-4
+    returns-5)
