@@ -3,10 +3,10 @@
 use Prim.Native.Nat.{ℕ, zero, suc, _+_, _-_, _*_, _/_, _%_, _^_, _≤_, _<_}
 use native.Mathlib.Omega.{arith}
 use native.Mathlib.Nat.{mod-eq-of-lt, zero-add, suc-add}
-use mathlib.Core.Path.{_≡_, refl, sym, ap, _∙_}
+use mathlib.Core.Path.{_≡_, refl, sym, ap, ap₂, _∙_}
 use mathlib.Core.List.{List, [], _∷_, _++_, append-nil, append-assoc}
 use lib.ListN.{length, take, drop, getD, length-append, length-take, length-drop, take-append-drop}
-use lib.Seq.{take-all, take-at, drop-at, take-suc, take-take, drop-drop, take-nil, getD-drop, length-take-le}
+use lib.Seq.{take-all, take-at, drop-at, take-suc, take-add, take-take, drop-drop, take-nil, getD-drop, length-take-le}
 use lib.Pow.{high, low, pow-mono}
 use Rattle.basis.specs.Bits.{Bits, bitsOf, append-digits, value, frameBits}
 use Rattle.basis.proofs.Values.{length-bitsOf, value-bitsOf, append-value, value-less}
@@ -103,6 +103,16 @@ bits-in-bytes fs q r n w l h =
     let y : length (drop w (drop r b)) ≡ 8 * n - r - w = length-drop w (drop r b) ∙ ap (_- w) x in
     ap value (same-bits fs q r n w l h)
     ∙ (value-take w (drop r b) ∙ (ap (λ (e : ℕ). value (drop r b) / 2 ^ e) y ∙ ap (λ (v : ℕ). v / 2 ^ (8 * n - r - w)) (value-drop r b ∙ ap (λ (e : ℕ). value b % 2 ^ e) x)))
+
+-- two runs of bits, one after the other
+pub bits-in-two : (fs : List ℕ) (p a b : ℕ) → p + a + b ≤ 8 * length fs
+    → value (take (a + b) (drop p (frameBits fs))) ≡ value (take a (drop p (frameBits fs))) * 2 ^ b + value (take b (drop (p + a) (frameBits fs)))
+bits-in-two fs p a b h =
+    let s = drop p (frameBits fs) in
+    let d : drop a s ≡ drop (p + a) (frameBits fs) = drop-drop a p (frameBits fs) in
+    let n : length (drop (p + a) (frameBits fs)) ≡ 8 * length fs - (p + a) = length-drop (p + a) (frameBits fs) ∙ ap (_- (p + a)) (frame-length fs) in
+    let l : length (take b (drop a s)) ≡ b = ap (λ (t : Bits). length (take b t)) d ∙ length-take-le b (drop (p + a) (frameBits fs)) (omega arith) in
+    ap value (take-add a b s) ∙ value-append (take a s) (take b (drop a s)) ∙ ap₂ (λ (k : ℕ) (t : Bits). value (take a s) * 2 ^ k + value (take b t)) l d
 
 pub value-take-less : (w : ℕ) (s : Bits) → value (take w s) < 2 ^ w
 value-take-less w s =

@@ -6,3 +6,5 @@ pub mod Joins
 pub mod CountLaws
 pub mod Frames
 pub mod Strings
+pub mod PatternLaws
+pub mod PatternCases

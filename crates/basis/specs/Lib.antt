@@ -1,4 +1,5 @@
 pub mod Bits
+pub mod Patterns
 pub mod Lookahead
 pub mod Counts
 pub mod Limits

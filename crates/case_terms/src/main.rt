@@ -5,7 +5,7 @@ use term_evaluation::Counted;
 use term_evaluation::Tested;
 use term_sizes::Sized;
 use term_words::Kind;
-ghost use Prim.Native.Nat.{_≤_};
+ghost use Prim.Native.Nat.{_^_, _≤_, _<_};
 
 fn text(bytes: &[u8]) {
     io::write_all(STDOUT_FILENO, bytes);
@@ -93,16 +93,16 @@ struct Windows {
 }
 
 // How many first windows a set has at a width, and the least and the greatest of them.
-fn first_windows(words: &[u32], end: usize, width: u32) -> Windows
-    requires { ⌜ width ≤ 62 ⌝ }
+fn first_windows(words: &[u32], end: usize, width: u32, signed: bool) -> Windows
+    requires { ⌜ width ≤ 64 ⌝ }
 {
-    let marks = term_prefixes::first_windows(words, 0, end, width);
+    let marks = term_prefixes::first_windows(words, 0, end, width, signed);
     let mut count: u64 = 0;
     let mut least: u64 = 0;
     let mut greatest: u64 = 0;
     let mut number: u64 = 1;
     while number < 512 {
-        if term_prefixes::leads(&marks, width, number) {
+        if term_prefixes::leads(&marks, width, signed, number) {
             if least == 0 {
                 least = number;
             }
@@ -118,16 +118,51 @@ fn first_windows(words: &[u32], end: usize, width: u32) -> Windows
     }
 }
 
-fn show_windows(name: &[u8], words: &[u32], end: usize, width: u32)
-    requires { ⌜ width ≤ 62 ⌝ }
+fn show_windows(name: &[u8], words: &[u32], end: usize, width: u32, signed: bool)
+    requires { ⌜ width ≤ 64 ⌝ }
 {
     text(name);
-    let found = first_windows(words, end, width);
+    let found = first_windows(words, end, width, signed);
     natural(found.count);
     text(b": ");
     natural(found.least);
     text(b" ");
     natural(found.greatest);
+    text(b"\n");
+}
+
+// Each first window of a set.
+fn list_windows(name: &[u8], words: &[u32], end: usize, width: u32, signed: bool)
+    requires { ⌜ width ≤ 64 ⌝ }
+{
+    text(name);
+    let marks = term_prefixes::first_windows(words, 0, end, width, signed);
+    let mut number: u64 = 1;
+    while number < 512 {
+        if term_prefixes::leads(&marks, width, signed, number) {
+            text(b" ");
+            natural(number);
+        }
+        number += 1;
+    }
+    text(b"\n");
+}
+
+// Whether a pattern's value is in a set.
+fn show_pattern(name: &[u8], words: &[u32], end: usize, pattern: u64, width: u32, signed: bool)
+    requires { ⌜ (width ≤ 64) × (pattern < 2 ^ width) ⌝ }
+{
+    text(name);
+    let none = [0i64; 1];
+    tested(term_evaluation::patterns::contains_pattern(
+        words,
+        0,
+        end,
+        &none,
+        pattern,
+        width,
+        signed,
+    ));
     text(b"\n");
 }
 
@@ -278,34 +313,34 @@ fn sets() {
 
 fn windows_of_range() {
     let range = RANGE;
-    show_windows(b"1~8 of 8: ", &range, 3, 8);
-    show_windows(b"1~8 of 4: ", &range, 3, 4);
-    show_windows(b"1~8 of 9: ", &range, 3, 9);
-    show_windows(b"1~8 of 32: ", &range, 3, 32);
+    show_windows(b"1~8 of 8: ", &range, 3, 8, false);
+    show_windows(b"1~8 of 4: ", &range, 3, 4, false);
+    show_windows(b"1~8 of 9: ", &range, 3, 9, false);
+    show_windows(b"1~8 of 32: ", &range, 3, 32, false);
 }
 
 fn windows_of_all() {
     let all = ALL;
-    show_windows(b"~ of 1: ", &all, 1, 1);
-    show_windows(b"~ of 4: ", &all, 1, 4);
-    show_windows(b"~ of 8: ", &all, 1, 8);
-    show_windows(b"~ of 9: ", &all, 1, 9);
-    show_windows(b"~ of 16: ", &all, 1, 16);
-    show_windows(b"~ of 32: ", &all, 1, 32);
+    show_windows(b"~ of 1: ", &all, 1, 1, false);
+    show_windows(b"~ of 4: ", &all, 1, 4, false);
+    show_windows(b"~ of 8: ", &all, 1, 8, false);
+    show_windows(b"~ of 9: ", &all, 1, 9, false);
+    show_windows(b"~ of 16: ", &all, 1, 16, false);
+    show_windows(b"~ of 32: ", &all, 1, 32, false);
 }
 
 fn windows_of_others() {
     let without = WITHOUT;
-    show_windows(b"1~10 ! 5 of 8: ", &without, 5, 8);
+    show_windows(b"1~10 ! 5 of 8: ", &without, 5, 8, false);
     let mixed = MIXED;
-    show_windows(b"1 | 3~4 ! (3) of 4: ", &mixed, 7, 4);
+    show_windows(b"1 | 3~4 ! (3) of 4: ", &mixed, 7, 4, false);
     let beyond = [33, 300, 0];
-    show_windows(b"300 of 8: ", &beyond, 1, 8);
-    show_windows(b"300 of 9: ", &beyond, 1, 9);
+    show_windows(b"300 of 8: ", &beyond, 1, 8, false);
+    show_windows(b"300 of 9: ", &beyond, 1, 9, false);
     let odd = [1, 1000, 0, 1, 1023, 0, 8, 0, 0];
-    show_windows(b"1000~1023 of 16: ", &odd, 3, 16);
+    show_windows(b"1000~1023 of 16: ", &odd, 3, 16, false);
     let variable = [34, 0, 0];
-    show_windows(b"n of 4: ", &variable, 1, 4);
+    show_windows(b"n of 4: ", &variable, 1, 4, false);
 }
 
 // A window whose values are all taken away, a value just after an end, an end below 0, and two sets where one belongs.
@@ -333,13 +368,183 @@ fn windows_of_ends() {
         0,
         0,
     ];
-    show_windows(b"512~1023 ! 512~1022 of 16: ", &emptied, 7, 16);
+    show_windows(b"512~1023 ! 512~1022 of 16: ", &emptied, 7, 16, false);
     let after = [7, 0, 0, 1, 511, 0, 10, 0, 0, 12, 0, 0];
-    show_windows(b"~ ! ~511 of 16: ", &after, 4, 16);
+    show_windows(b"~ ! ~511 of 16: ", &after, 4, 16, false);
     let below = [1, 3, 0, 6, 0, 0, 1, 1, 0, 8, 0, 0];
-    show_windows(b"-3~1 of 16: ", &below, 4, 16);
+    show_windows(b"-3~1 of 16: ", &below, 4, 16, false);
     let two = [7, 0, 0, 7, 0, 0];
-    show_windows(b"~ ~ of 16: ", &two, 2, 16);
+    show_windows(b"~ ~ of 16: ", &two, 2, 16, false);
+}
+
+// -3~2
+const AROUND: [u32; 12] = [1, 3, 0, 6, 0, 0, 1, 2, 0, 8, 0, 0];
+
+// ~-1
+const NEGATIVE: [u32; 9] = [1, 1, 0, 6, 0, 0, 10, 0, 0];
+
+// ~ ! 0~2^62
+const PAST: [u32; 15] = [7, 0, 0, 1, 0, 0, 1, 0, 1073741824, 8, 0, 0, 12, 0, 0];
+
+// 2^62~
+const FROM_LARGE: [u32; 6] = [1, 0, 1073741824, 9, 0, 0];
+
+// -2^62~
+const FROM_SMALL: [u32; 9] = [1, 0, 1073741824, 6, 0, 0, 9, 0, 0];
+
+// ~-2^62
+const UP_TO_SMALL: [u32; 9] = [1, 0, 1073741824, 6, 0, 0, 10, 0, 0];
+
+fn windows_of_signed() {
+    let around = AROUND;
+    list_windows(b"-3~2 of 4, signed:", &around, 4, 4, true);
+    list_windows(b"-3~2 of 4:", &around, 4, 4, false);
+    show_windows(b"-3~2 of 64, signed: ", &around, 4, 64, true);
+    let negative = NEGATIVE;
+    list_windows(b"~-1 of 1, signed:", &negative, 3, 1, true);
+    show_windows(b"~-1 of 8, signed: ", &negative, 3, 8, true);
+    let all = ALL;
+    list_windows(b"~ of 1, signed:", &all, 1, 1, true);
+    show_windows(b"~ of 64, signed: ", &all, 1, 64, true);
+    let least = [1, 128, 0, 38, 0, 0];
+    list_windows(b"-128 of 8, signed:", &least, 2, 8, true);
+    let beyond = [33, 128, 0];
+    list_windows(b"128 of 8, signed:", &beyond, 1, 8, true);
+}
+
+fn windows_of_wide() {
+    let past = PAST;
+    show_windows(b"~ ! 0~2^62 of 64: ", &past, 5, 64, false);
+    show_windows(b"~ ! 0~2^62 of 62: ", &past, 5, 62, false);
+    let large = FROM_LARGE;
+    show_windows(b"2^62~ of 64: ", &large, 2, 64, false);
+    show_windows(b"2^62~ of 63: ", &large, 2, 63, false);
+    show_windows(b"2^62~ of 62: ", &large, 2, 62, false);
+    show_windows(b"2^62~ of 64, signed: ", &large, 2, 64, true);
+    let small = FROM_SMALL;
+    show_windows(b"-2^62~ of 64, signed: ", &small, 3, 64, true);
+    let up_to = UP_TO_SMALL;
+    show_windows(b"~-2^62 of 64, signed: ", &up_to, 3, 64, true);
+    show_windows(b"~-2^62 of 62, signed: ", &up_to, 3, 62, true);
+}
+
+// ffffffffffffffff, 8000000000000000, 7fffffffffffffff, 2^62 and what lies beside them.
+fn patterns_of_past() {
+    let past = PAST;
+    show_pattern(
+        b"~ ! 0~2^62, all ones of 64: ",
+        &past,
+        5,
+        18446744073709551615,
+        64,
+        false,
+    );
+    show_pattern(
+        b"~ ! 0~2^62, 2^62 + 1 of 64: ",
+        &past,
+        5,
+        4611686018427387905,
+        64,
+        false,
+    );
+    show_pattern(
+        b"~ ! 0~2^62, 2^62 of 64: ",
+        &past,
+        5,
+        4611686018427387904,
+        64,
+        false,
+    );
+    let large = FROM_LARGE;
+    show_pattern(
+        b"2^62~, all ones of 64: ",
+        &large,
+        2,
+        18446744073709551615,
+        64,
+        false,
+    );
+    show_pattern(
+        b"2^62~, all ones of 64, signed: ",
+        &large,
+        2,
+        18446744073709551615,
+        64,
+        true,
+    );
+    show_pattern(
+        b"2^62~, greatest of 64, signed: ",
+        &large,
+        2,
+        9223372036854775807,
+        64,
+        true,
+    );
+}
+
+fn patterns_of_signed() {
+    let negative = NEGATIVE;
+    show_pattern(
+        b"~-1, all ones of 64, signed: ",
+        &negative,
+        3,
+        18446744073709551615,
+        64,
+        true,
+    );
+    show_pattern(
+        b"~-1, least of 64, signed: ",
+        &negative,
+        3,
+        9223372036854775808,
+        64,
+        true,
+    );
+    show_pattern(
+        b"~-1, greatest of 64, signed: ",
+        &negative,
+        3,
+        9223372036854775807,
+        64,
+        true,
+    );
+    show_pattern(
+        b"~-1, all ones of 64: ",
+        &negative,
+        3,
+        18446744073709551615,
+        64,
+        false,
+    );
+    let up_to = UP_TO_SMALL;
+    show_pattern(
+        b"~-2^62, least of 64, signed: ",
+        &up_to,
+        3,
+        9223372036854775808,
+        64,
+        true,
+    );
+    show_pattern(
+        b"~-2^62, least of 63, signed: ",
+        &up_to,
+        3,
+        4611686018427387904,
+        63,
+        true,
+    );
+    show_pattern(
+        b"~-2^62, least of 62, signed: ",
+        &up_to,
+        3,
+        2305843009213693952,
+        62,
+        true,
+    );
+    let least = [1, 128, 0, 38, 0, 0];
+    show_pattern(b"-128, 80 of 8, signed: ", &least, 2, 128, 8, true);
+    let beyond = [33, 128, 0];
+    show_pattern(b"128, 80 of 8, signed: ", &beyond, 1, 128, 8, true);
 }
 
 fn condition(name: &[u8], words: &[u32], end: usize) {
@@ -467,6 +672,10 @@ fn main() {
     windows_of_all();
     windows_of_others();
     windows_of_ends();
+    windows_of_signed();
+    windows_of_wide();
+    patterns_of_past();
+    patterns_of_signed();
     conditions();
     size_rule();
 }

@@ -2,7 +2,7 @@
 ghost use mathlib.Core.Path.{_≡_};
 ghost use Prim.Native.Nat.{ℕ, _+_, _*_, _≤_, _<_, _^_};
 ghost use lib.ListN.{length, take, drop};
-ghost use Rattle.basis.specs.Limits.{max-width, max-frame-bytes};
+ghost use Rattle.basis.specs.Limits.{max-frame-bytes};
 ghost use Rattle.basis.specs.Bits.{value, frameBits};
 ghost use Rattle.basis.specs.Lookahead.{lookahead, number};
 ghost use Rattle.basis.proofs.Frames.{bytes-value};
@@ -28,9 +28,9 @@ fn bytes(frame: &[u8], q: usize, n: usize) -> u64
     sum
 }
 
-// w bits from bit p on, at most 32, as a number.
-pub fn bits(frame: &[u8], p: usize, w: usize) -> u64
-    requires { ⌜ (p + w ≤ 8 * length (now frame)) × (w ≤ max-width) × (length (now frame) ≤ max-frame-bytes) ⌝ }
+// w bits from bit p on, at most 32, as a number: they lie in 5 bytes.
+fn few_bits(frame: &[u8], p: usize, w: usize) -> u64
+    requires { ⌜ (p + w ≤ 8 * length (now frame)) × (w ≤ 32) × (length (now frame) ≤ max-frame-bytes) ⌝ }
     ensures { λ r. ⌜ (r ≡ value (take w (drop p (frameBits (now (frame .entry)))))) × (r < 2 ^ w) ⌝ }
 {
     let q = p / 8;
@@ -41,6 +41,19 @@ pub fn bits(frame: &[u8], p: usize, w: usize) -> u64
     (y % power(below as u64)) / power((below - w) as u64)
 }
 
+// w bits from bit p on, at most 64, as a number: more than 32 are read in two parts.
+pub fn bits(frame: &[u8], p: usize, w: usize) -> u64
+    requires { ⌜ (p + w ≤ 8 * length (now frame)) × (w ≤ 64) × (length (now frame) ≤ max-frame-bytes) ⌝ }
+    ensures { λ r. ⌜ (r ≡ value (take w (drop p (frameBits (now (frame .entry)))))) × (r < 2 ^ w) ⌝ }
+{
+    if w <= 32 {
+        return few_bits(frame, p, w);
+    }
+    let above = few_bits(frame, p, w - 32);
+    let below = few_bits(frame, p + (w - 32), 32);
+    above * 4294967296 + below
+}
+
 // The number of what comes next at bit p (document 01's window).
 pub fn ahead(frame: &[u8], p: usize) -> u64
     requires { ⌜ (p ≤ 8 * length (now frame)) × (length (now frame) ≤ max-frame-bytes) ⌝ }
@@ -48,7 +61,7 @@ pub fn ahead(frame: &[u8], p: usize) -> u64
 {
     let left = 8 * frame.len() - p;
     if left < 8 {
-        return power(left as u64) + bits(frame, p, left);
+        return power(left as u64) + few_bits(frame, p, left);
     }
-    256 + bits(frame, p, 8)
+    256 + few_bits(frame, p, 8)
 }

@@ -7,7 +7,7 @@ use mathlib.Core.Logic.{inl, inr, _↔_}
 use mathlib.Core.List.{List, [], _∷_}
 use native.Mathlib.Omega.{arith}
 use native.Mathlib.Decide.{ℕ-discrete, decLt}
-use native.Mathlib.Nat.{mod-eq-of-lt, add-zero}
+use native.Mathlib.Nat.{add-zero}
 use borrow.Author.Tests.{le-leb, leb-true}
 use lib.Dec.{leb}
 use lib.IntN.{pos}
@@ -18,10 +18,12 @@ use Rattle.table_first_follow.specs.Sets.{sets-held}
 use Rattle.basis.specs.Limits.{max-constructs}
 use Rattle.basis.specs.Bits.{Bits, bitsOf, value, frameBits, same}
 use Rattle.basis.specs.Lookahead.{lookahead, number}
+use Rattle.basis.specs.Patterns.{pattern-value}
+use Rattle.basis.proofs.PatternLaws.{unsigned-value}
 use Rattle.basis.proofs.Frames.{frame-length}
 use Rattle.basis.proofs.Strings.{same-refl, same-true}
 use Rattle.basis.proofs.Numbers.{number-value, number-ge, number-lt, number-injective, number-bitsOf}
-use Rattle.basis.proofs.Values.{length-bitsOf, value-bitsOf, value-less, bitsOf-value}
+use Rattle.basis.proofs.Values.{length-bitsOf, value-less, bitsOf-value}
 use Rattle.basis.proofs.Joins.{lookahead-length, lookahead-short}
 use Rattle.basis.proofs.Booleans.{both-true, both-pass}
 use Rattle.lookahead.specs.Sets.{Has, Is, Union}
@@ -150,15 +152,15 @@ module _ (ws : List ℕ) (start end : ℕ) where
     abbrev count : ℕ
     count = 2 ^ min 8 width
 
-    pub uint-strings : (x : Bits) → Numbered count (count + count) (Led width (term-words ws) start end) x ↔ Leading (λ bits. width) (λ bits. in-static-set ws start end (value bits)) x
+    pub uint-strings : (x : Bits) → Numbered count (count + count) (Led width false (term-words ws) start end) x ↔ Leading (λ bits. width) (λ bits. in-static-set ws start end (value bits)) x
     uint-strings x = (to, back)
       where
-        to : Numbered count (count + count) (Led width (term-words ws) start end) x → Leading (λ bits. width) (λ bits. in-static-set ws start end (value bits)) x
+        to : Numbered count (count + count) (Led width false (term-words ws) start end) x → Leading (λ bits. width) (λ bits. in-static-set ws start end (value bits)) x
         to (l, lo, hi, (v, k)) =
-            let e : value (bitsOf width v) ≡ v = value-bitsOf width v ∙ mod-eq-of-lt (k .less) in
-            (bitsOf width v, length-bitsOf width v, ap (in-static-set ws start end) e ∙ static-admits v ∙ k .member, number-injective x (lookahead (bitsOf width v)) (sym (k .leading)))
+            let e : admits start (terms-of ws start end) (pos (value (bitsOf width v))) ≡ true = ap (admits start (terms-of ws start end)) (sym (unsigned-value (bitsOf width v))) ∙ k .member in
+            (bitsOf width v, length-bitsOf width v, static-admits (value (bitsOf width v)) ∙ e, number-injective x (lookahead (bitsOf width v)) (sym (k .leading)))
 
-        back : Leading (λ bits. width) (λ bits. in-static-set ws start end (value bits)) x → Numbered count (count + count) (Led width (term-words ws) start end) x
+        back : Leading (λ bits. width) (λ bits. in-static-set ws start end (value bits)) x → Numbered count (count + count) (Led width false (term-words ws) start end) x
         back (bits, l, t, p) =
             let n : length x ≡ min 8 width = ap length p ∙ length-take 8 bits ∙ ap (min 8) l in
             let b : bitsOf width (value bits) ≡ bits = ap (λ (w : ℕ). bitsOf w (value bits)) (sym l) ∙ bitsOf-value bits in
@@ -171,7 +173,7 @@ module _ (ws : List ℕ) (start end : ℕ) where
                 value bits,
                 record {
                   less = subst (λ (w : ℕ). value bits < 2 ^ w) l (value-less bits);
-                  member = sym (static-admits (value bits)) ∙ t;
+                  member = ap (λ (s : Bits). admits start (terms-of ws start end) (pattern-value false s)) b ∙ ap (admits start (terms-of ws start end)) (unsigned-value bits) ∙ sym (static-admits (value bits)) ∙ t;
                   leading = ap (λ (s : Bits). number (lookahead s)) b ∙ ap number (sym p);
                 },
               ),
@@ -218,11 +220,11 @@ module _ (ws : List ℕ) (i : ℕ) (h : i < sets-held) (r : Construct) (e : r �
   seed-range low high p l s = seed-placed (Construct.Range low high) p (is-map out (Numbered (256 + low) (257 + high) Any) (Seeded (node-of ws i (Construct.Range low high))) (range-strings low high l) s)
 
   pub seed-uint : (width start end binder : ℕ) → r ≡ Construct.Uint width start end binder
-      → Is out (Numbered (2 ^ min 8 width) (2 ^ min 8 width + 2 ^ min 8 width) (Led width (term-words ws) start end)) → Right
+      → Is out (Numbered (2 ^ min 8 width) (2 ^ min 8 width + 2 ^ min 8 width) (Led width false (term-words ws) start end)) → Right
   unfolding node-of
   seed-uint width start end binder p s =
       seed-placed (Construct.Uint width start end binder) p
-      (is-map out (Numbered (2 ^ min 8 width) (2 ^ min 8 width + 2 ^ min 8 width) (Led width (term-words ws) start end)) (Seeded (node-of ws i (Construct.Uint width start end binder)))
+      (is-map out (Numbered (2 ^ min 8 width) (2 ^ min 8 width + 2 ^ min 8 width) (Led width false (term-words ws) start end)) (Seeded (node-of ws i (Construct.Uint width start end binder)))
       (uint-strings ws start end width) s)
 
   -- a switch without a default has the empty string

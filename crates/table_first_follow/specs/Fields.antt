@@ -1,6 +1,7 @@
 -- The FIRST sets of fields, by the numbers of their strings. Only the crate's own helpers promise this.
 -- Assumes nothing.
 use Prim.Native.Nat.{ℕ, _≤_, _<_}
+use mathlib.Core.Bool.{Bool}
 use mathlib.Core.List.{List}
 use lib.ListN.{length}
 use Rattle.basis.specs.Bits.{Bits}
@@ -16,6 +17,6 @@ Numbered low high P x = (length x ≤ 8) × (low ≤ number x) × (number x < hi
 abbrev pub Any : ℕ → Type 0
 Any n = Unit {0}
 
--- those of a uint of the width with the set of the terms from `start` up to `end`
-abbrev pub Led : ℕ → List ℕ → ℕ → ℕ → ℕ → Type 0
-Led width words start end n = (v : ℕ) × Leads width start (terms words start end) n v
+-- those of a field of the width, signed or not, with the set of the terms from `start` up to `end`
+abbrev pub Led : ℕ → Bool → List ℕ → ℕ → ℕ → ℕ → Type 0
+Led width signed words start end n = (v : ℕ) × Leads width signed start (terms words start end) n v

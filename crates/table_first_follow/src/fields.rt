@@ -1,5 +1,6 @@
 // What constructs have in FIRST without their parts: it is worked out once, before the rounds.
 ghost use mathlib.Core.Path.{_≡_};
+ghost use mathlib.Core.Bool.{false};
 ghost use Prim.Native.Nat.{_+_, _^_, _≤_, _<_, min};
 ghost use Rattle.table_first_follow.specs.Sets.{sets-held};
 ghost use Rattle.basis.specs.Limits.{max-width};
@@ -27,16 +28,24 @@ fn numbered(low: usize, high: usize) -> Set
     out
 }
 
-// Those of them that a uint's values begin with.
-fn leading(words: &[u32], start: usize, end: usize, width: u32, low: usize, high: usize) -> Set
-    requires { ⌜ width ≤ 62 ⌝ }
-    ensures { λ r. ⌜ Is (r .words) (Numbered low high (Led width (now (words .entry)) start end)) ⌝ }
+// Those of them that the patterns of a field's values begin with, signed or not.
+fn leading(
+    words: &[u32],
+    start: usize,
+    end: usize,
+    width: u32,
+    signed: bool,
+    low: usize,
+    high: usize,
+) -> Set
+    requires { ⌜ width ≤ 64 ⌝ }
+    ensures { λ r. ⌜ Is (r .words) (Numbered low high (Led width signed (now (words .entry)) start end)) ⌝ }
 {
-    let marks = term_prefixes::first_windows(words, start, end, width);
+    let marks = term_prefixes::first_windows(words, start, end, width, signed);
     let mut out = lookahead::empty();
     let mut n = low;
     while n < high {
-        if term_prefixes::leads(&marks, width, n as u64) {
+        if term_prefixes::leads(&marks, width, signed, n as u64) {
             out = lookahead::insert(out, n);
         }
         n += 1;
@@ -56,7 +65,7 @@ fn strings_of(width: usize) -> usize
 
 fn uint(table: &[u32], width: usize, start: usize, end: usize) -> Set
     requires { ⌜ width ≤ max-width ⌝ }
-    ensures { λ r. ⌜ Is (r .words) (Numbered (2 ^ min 8 width) (2 ^ min 8 width + 2 ^ min 8 width) (Led width (termWords (now (table .entry))) start end)) ⌝ }
+    ensures { λ r. ⌜ Is (r .words) (Numbered (2 ^ min 8 width) (2 ^ min 8 width + 2 ^ min 8 width) (Led width false (termWords (now (table .entry))) start end)) ⌝ }
 {
     let strings = strings_of(width);
     leading(
@@ -64,6 +73,7 @@ fn uint(table: &[u32], width: usize, start: usize, end: usize) -> Set
         start,
         end,
         width as u32,
+        false,
         strings,
         strings + strings,
     )

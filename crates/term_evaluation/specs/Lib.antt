@@ -1,3 +1,4 @@
 pub mod Meaning
 pub mod Counts
 pub mod Variables
+pub mod Patterns

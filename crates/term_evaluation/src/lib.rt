@@ -1,5 +1,6 @@
 // A list of terms worked out: calculations, sets and conditions.
 pub mod counts;
+pub mod patterns;
 pub mod variables;
 
 use term_words::Kind;

@@ -188,7 +188,7 @@ pub fn negate(a: i64) -> Checked
 
 // A power of two.
 pub fn power(exponent: u64) -> u64
-    requires { ⌜ exponent ≤ 62 ⌝ }
+    requires { ⌜ exponent ≤ 63 ⌝ }
     ensures { λ r. ⌜ r ≡ 2 ^ exponent ⌝ }
 {
     1 << exponent

@@ -7,7 +7,7 @@ use mathlib.Core.List.{List, [], _∷_}
 use native.Mathlib.Omega.{arith}
 use borrow.Author.Tests.{lt-ltb, ltb-false, eqb-true}
 use lib.Dec.{ltb, eqb, leb·zero}
-use lib.IntN.{ℤ, pos, negsuc}
+use lib.IntN.{ℤ, pos, negsuc, subℕ, _+ℤ_}
 use lib.ListN.{length, getD, replicate, length-replicate}
 use lib.Signed.{leZ}
 use Rattle.basis.specs.Bits.{digit}
@@ -30,13 +30,13 @@ use Rattle.term_evaluation.specs.Meaning.{next, run, lastOf, verdictOf, members
 use Rattle.term_evaluation.specs.declared.Ended.{Ended}
 use Rattle.term_evaluation.specs.declared.Tested.{Tested}
 use Rattle.term_evaluation.proofs.Runs.{terms-next, terms-none}
-use Rattle.term_membership.specs.Members.{isYes, holds}
-use Rattle.term_membership.specs.Effects.{itemOf, equalTurn, fromTurn, upToTurn, pairTurn, partTurn, singleTurn, turnOf}
+use Rattle.term_membership.specs.Members.{isYes, holds, holds-from}
+use Rattle.term_membership.specs.Effects.{endOf, lowOf, itemOf, equalTurn, fromTurn, upToTurn, pairTurn, partTurn, singleTurn, turnOf}
 use Rattle.term_membership.specs.Truths.{noted, joined, applied, waiting}
 use Rattle.term_membership.specs.Batches.{ends, onward, held, Applied}
 use Rattle.term_membership.specs.declared.Effect.{Effect}
 use Rattle.term_membership.specs.declared.Turn.{Turn}
-use Rattle.term_membership.proofs.Items.{inside, clip-at-most, item-test}
+use Rattle.term_membership.proofs.Items.{inside, from-test, up-to-test, end-test, item-test}
 
 -- ---- tests that have no room, and tests of one value
 
@@ -65,9 +65,9 @@ join-same j s t = go (ltb t 4) refl
     go true e = refl
     go false e = let h : 4 ≤ t = ltb-false t 4 e in note-same s (t / 4) (joins j (eqb (t / 2 % 2) 1) (eqb (t % 2) 1)) (omega arith)
 
-applied-item : (a b : ℤ) (t v : ℕ) → applied (itemOf a b) t v ≡ noted t (inside v (itemOf a b))
-applied-item a (pos n) t v = refl
-applied-item a (negsuc n) t v = refl
+applied-end : (low : ℕ) (z : ℤ) (t v : ℕ) → applied (endOf low z) t v ≡ noted t (inside v (endOf low z))
+applied-end low (pos n) t v = refl
+applied-end low (negsuc n) t v = refl
 
 -- ---- one term
 
@@ -77,44 +77,54 @@ gone go (Trial.Running s t) = go s t
 gone go Trial.Malformed = false
 gone go Trial.Overflow = false
 
-module _ (go : Numbers → ℕ → Bool) (v t : ℕ) (h : 0 < t) where
+module _ (o : ℕ) (go : Numbers → ℕ → Bool) (v t : ℕ) (h : 0 < t) where
   abbrev after : Turn → Bool
   after = onward (λ s e. gone go (trialOf s (applied e t v)))
 
-  part-same : (o : Outcome) → gone go (afterOf o t) ≡ after (partTurn o)
+  -- the value that is tried
+  abbrev tried : ℤ
+  tried = subℕ v o
+
+  part-same : (r : Outcome) → gone go (afterOf r t) ≡ after (partTurn r)
   part-same (Outcome.Stack s) = sym (ap (gone go) (trial-positive s t h))
   part-same Outcome.Malformed = refl
   part-same Outcome.Overflow = refl
 
-  -- an item of two ends
-  item-same : (s : Numbers) (a b : ℤ) (p : Bool) → p ≡ cond (leZ a (pos v)) (leZ (pos v) b) false → Tests.noted s t p ≡ trialOf s (applied (itemOf a b) t v)
-  item-same s a b p e = note-same s t p h ∙ ap (λ (x : Bool). trialOf s (noted t x)) (e ∙ item-test a b v) ∙ ap (trialOf s) (sym (applied-item a b t v))
+  -- an item up to an end
+  end-same : (s : Numbers) (low : ℕ) (z : ℤ) (p : Bool) → p ≡ inside v (endOf low z) → Tests.noted s t p ≡ trialOf s (applied (endOf low z) t v)
+  end-same s low z p e = note-same s t p h ∙ ap (λ (x : Bool). trialOf s (noted t x)) e ∙ ap (trialOf s) (sym (applied-end low z t v))
 
-  equal-same : (q : Top) → gone go (equalTo (pos v) q t) ≡ after (equalTurn q)
+  -- of two ends
+  item-same : (s : Numbers) (a b : ℤ) (p : Bool) → p ≡ cond (leZ a tried) (leZ tried b) false → Tests.noted s t p ≡ trialOf s (applied (itemOf o a b) t v)
+  item-same s a b p e = end-same s (lowOf o a) (b +ℤ pos o) p (e ∙ item-test o a b v)
+
+  equal-same : (q : Top) → gone go (equalTo tried q t) ≡ after (equalTurn o q)
   unfolding equals
-  equal-same (Top.Of s a) = ap (gone go) (item-same s a a (equals a (pos v)) refl)
+  equal-same (Top.Of s a) = ap (gone go) (item-same s a a (equals a tried) refl)
   equal-same Top.Short = refl
 
-  from-same : (q : Top) → gone go (from (pos v) q t) ≡ after (fromTurn q)
-  from-same (Top.Of s a) = ap (gone go) (note-same s t (leZ a (pos v)) h ∙ ap (λ (x : Bool). trialOf s (noted t x)) (clip-at-most a v))
+  from-same : (q : Top) → gone go (from tried q t) ≡ after (fromTurn o q)
+  from-same (Top.Of s a) = ap (gone go) (note-same s t (leZ a tried) h ∙ ap (λ (x : Bool). trialOf s (noted t x)) (from-test o v a))
   from-same Top.Short = refl
 
-  upTo-same : (q : Top) → gone go (upTo (pos v) q t) ≡ after (upToTurn q)
-  upTo-same (Top.Of s b) = ap (gone go) (item-same s (pos 0) b (leZ (pos v) b) (ap (λ (x : Bool). cond x (leZ (pos v) b) false) (sym (leb·zero v))))
+  upTo-same : (q : Top) → gone go (upTo tried q t) ≡ after (upToTurn o q)
+  upTo-same (Top.Of s b) =
+      ap (gone go)
+      (end-same s 0 (b +ℤ pos o) (leZ tried b) (up-to-test o v b ∙ ap (λ (x : Bool). cond x (leZ (pos v) (b +ℤ pos o)) false) (sym (leb·zero v)) ∙ end-test 0 (b +ℤ pos o) v))
   upTo-same Top.Short = refl
 
-  range-same : (q : Pair) → gone go (within (pos v) q t) ≡ after (pairTurn q)
-  range-same (Pair.Of s a b) = ap (gone go) (item-same s a b (cond (leZ a (pos v)) (leZ (pos v) b) false) refl)
+  range-same : (q : Pair) → gone go (within tried q t) ≡ after (pairTurn o q)
+  range-same (Pair.Of s a b) = ap (gone go) (item-same s a b (cond (leZ a tried) (leZ tried b) false) refl)
   range-same Pair.Short = refl
 
-  single-same : (o : Outcome) → gone go (operated (pos v) o t) ≡ after (singleTurn o)
+  single-same : (r : Outcome) → gone go (operated tried r t) ≡ after (singleTurn o r)
   single-same (Outcome.Stack s) = equal-same (topOf s)
   single-same Outcome.Malformed = refl
   single-same Outcome.Overflow = refl
 
-  step-same : (env : List ℤ) (x : Term) (s : Numbers) → gone go (stepOf Kind.Set Mode.Values env (pos v) x s t) ≡ after (turnOf env x s)
-  step-same env (Term.Part o) s = part-same (operateOf Mode.Values env o s)
-  step-same env (Term.Single o) s = single-same (operateOf Mode.Values env o s)
+  step-same : (env : List ℤ) (x : Term) (s : Numbers) → gone go (stepOf Kind.Set Mode.Values env tried x s t) ≡ after (turnOf o env x s)
+  step-same env (Term.Part p) s = part-same (operateOf Mode.Values env p s)
+  step-same env (Term.Single p) s = single-same (operateOf Mode.Values env p s)
   step-same env Term.All s = ap (gone go) (note-same s t true h ∙ ap (λ (x : Bool). trialOf s (noted t x)) (sym (leb·zero v)))
   step-same env Term.Range s = range-same (pairOf s)
   step-same env Term.From s = from-same (topOf s)
@@ -147,10 +157,10 @@ onward-off : (f : Numbers → Effect → Bool) → ((s : Numbers) (e : Effect) �
 onward-off f h (Turn.On s e) = h s e
 onward-off f h Turn.Off = refl
 
-held-zero : (env : List ℤ) (v : ℕ) (xs : List Term) (s : Numbers) → held env v xs s 0 ≡ false
+held-zero : (o : ℕ) (env : List ℤ) (v : ℕ) (xs : List Term) (s : Numbers) → held o env v xs s 0 ≡ false
 unfolding held
-held-zero env v [] s = ends-zero s
-held-zero env v (x ∷ xs) s = onward-off (λ s′ e. held env v xs s′ (applied e 0 v)) (λ s′ e. ap (held env v xs s′) (applied-zero e v) ∙ held-zero env v xs s′) (turnOf env x s)
+held-zero o env v [] s = ends-zero s
+held-zero o env v (x ∷ xs) s = onward-off (λ s′ e. held o env v xs s′ (applied e 0 v)) (λ s′ e. ap (held o env v xs s′) (applied-zero e v) ∙ held-zero o env v xs s′) (turnOf o env x s)
 
 last-same : (s : Numbers) (t : ℕ) → isYes (lastOf s t) ≡ ends s t
 last-same Numbers.Zero t = go (eqb t 2) (eqb t 3) refl refl
@@ -170,53 +180,53 @@ next-gone go i (Trial.Running s t) = refl
 next-gone go i Trial.Malformed = refl
 next-gone go i Trial.Overflow = refl
 
-module _ (env : List ℤ) (v : ℕ) where
+module _ (o : ℕ) (env : List ℤ) (v : ℕ) where
   -- after an effect, where the rest of the list is known
-  rest-same : (xs : List Term) (go : Numbers → ℕ → Bool) → ((s : Numbers) (t : ℕ) → 0 < t → go s t ≡ held env v xs s t) → (s : Numbers) (t : ℕ) → gone go (trialOf s t) ≡ held env v xs s t
-  rest-same xs go f s zero = sym (held-zero env v xs s)
+  rest-same : (xs : List Term) (go : Numbers → ℕ → Bool) → ((s : Numbers) (t : ℕ) → 0 < t → go s t ≡ held o env v xs s t) → (s : Numbers) (t : ℕ) → gone go (trialOf s t) ≡ held o env v xs s t
+  rest-same xs go f s zero = sym (held-zero o env v xs s)
   rest-same xs go f s (suc t) = f s (suc t) (omega arith)
 
   turn-same : (f g : Numbers → Effect → Bool) → ((s : Numbers) (e : Effect) → f s e ≡ g s e) → (r : Turn) → onward f r ≡ onward g r
   turn-same f g h (Turn.On s e) = h s e
   turn-same f g h Turn.Off = refl
 
-  held-run : (xs : List Term) (i : ℕ) (s : Numbers) (t : ℕ) → 0 < t → isYes (verdictOf (run Kind.Set Mode.Values env (pos v) i xs s t .trial)) ≡ held env v xs s t
+  held-run : (xs : List Term) (i : ℕ) (s : Numbers) (t : ℕ) → 0 < t → isYes (verdictOf (run Kind.Set Mode.Values env (subℕ v o) i xs s t .trial)) ≡ held o env v xs s t
   unfolding run held
   held-run [] i s t h = last-same s t
   held-run (x ∷ xs) i s t h =
-      next-gone (λ s′ t′. run Kind.Set Mode.Values env (pos v) (i + 1) xs s′ t′) i (stepOf Kind.Set Mode.Values env (pos v) x s t)
-      ∙ step-same (λ s′ t′. isYes (verdictOf (run Kind.Set Mode.Values env (pos v) (i + 1) xs s′ t′ .trial))) v t h env x s
-      ∙ turn-same _ (λ s′ e. held env v xs s′ (applied e t v))
-      (λ s′ e. rest-same xs (λ s″ t″. isYes (verdictOf (run Kind.Set Mode.Values env (pos v) (i + 1) xs s″ t″ .trial))) (λ s″ t″ k. held-run xs (i + 1) s″ t″ k) s′ (applied e t v)) (turnOf env x s)
+      next-gone (λ s′ t′. run Kind.Set Mode.Values env (subℕ v o) (i + 1) xs s′ t′) i (stepOf Kind.Set Mode.Values env (subℕ v o) x s t)
+      ∙ step-same o (λ s′ t′. isYes (verdictOf (run Kind.Set Mode.Values env (subℕ v o) (i + 1) xs s′ t′ .trial))) v t h env x s
+      ∙ turn-same _ (λ s′ e. held o env v xs s′ (applied e t v))
+      (λ s′ e. rest-same xs (λ s″ t″. isYes (verdictOf (run Kind.Set Mode.Values env (subℕ v o) (i + 1) xs s″ t″ .trial))) (λ s″ t″ k. held-run xs (i + 1) s″ t″ k) s′ (applied e t v)) (turnOf o env x s)
 
-  pub holds-held : (i : ℕ) (xs : List Term) → holds env i xs (pos v) ≡ held env v xs Numbers.Zero 1
+  pub holds-held : (i : ℕ) (xs : List Term) → holds-from o env i xs v ≡ held o env v xs Numbers.Zero 1
   unfolding holds membership
   holds-held i xs = held-run xs i Numbers.Zero 1 (omega arith)
 
 -- ---- the pass over a list's terms, for 64 values
 
-pub record Underway (env : List ℤ) (ws : List ℕ) (start end : ℕ) (values : List ℕ) (at : ℕ) (s : Numbers) (masks : List ℕ) (n : ℕ) : Type 0 where
+pub record Underway (o : ℕ) (env : List ℤ) (ws : List ℕ) (start end : ℕ) (values : List ℕ) (at : ℕ) (s : Numbers) (masks : List ℕ) (n : ℕ) : Type 0 where
   pub all : length masks ≡ 64
-  pub same : (j : ℕ) → j < 64 → holds env start (terms ws start end) (pos (getD values j 0)) ≡ held env (getD values j 0) (terms ws at end) s (waiting masks n j)
+  pub same : (j : ℕ) → j < 64 → holds-from o env start (terms ws start end) (getD values j 0) ≡ held o env (getD values j 0) (terms ws at end) s (waiting masks n j)
 
-module _ (env : List ℤ) (ws : List ℕ) (start end : ℕ) (values : List ℕ) where
-  pub begins : Underway env ws start end values start Numbers.Zero (replicate {A = ℕ} 64 0) 0
-  begins = record { all = length-replicate {A = ℕ} 64 0; same = λ j h. holds-held env (getD values j 0) start (terms ws start end) }
+module _ (o : ℕ) (env : List ℤ) (ws : List ℕ) (start end : ℕ) (values : List ℕ) where
+  pub begins : Underway o env ws start end values start Numbers.Zero (replicate {A = ℕ} 64 0) 0
+  begins = record { all = length-replicate {A = ℕ} 64 0; same = λ j h. holds-held o env (getD values j 0) start (terms ws start end) }
 
-  module _ (at : ℕ) (s : Numbers) (masks : List ℕ) (n : ℕ) (u : Underway env ws start end values at s masks n) where
-    one : at < end → (r : Turn) → r ≡ turnOf env (termAt ws at) s → (v t : ℕ) → held env v (terms ws at end) s t ≡ onward (λ s′ e. held env v (terms ws (at + 1) end) s′ (applied e t v)) r
+  module _ (at : ℕ) (s : Numbers) (masks : List ℕ) (n : ℕ) (u : Underway o env ws start end values at s masks n) where
+    one : at < end → (r : Turn) → r ≡ turnOf o env (termAt ws at) s → (v t : ℕ) → held o env v (terms ws at end) s t ≡ onward (λ s′ e. held o env v (terms ws (at + 1) end) s′ (applied e t v)) r
     unfolding held
-    one h r k v t = ap (λ (xs : List Term). held env v xs s t) (terms-next ws at end h) ∙ ap (onward (λ s′ e. held env v (terms ws (at + 1) end) s′ (applied e t v))) (sym k)
+    one h r k v t = ap (λ (xs : List Term). held o env v xs s t) (terms-next ws at end h) ∙ ap (onward (λ s′ e. held o env v (terms ws (at + 1) end) s′ (applied e t v))) (sym k)
 
-    pub goes-on : at < end → (s′ : Numbers) (e : Effect) → Turn.On s′ e ≡ turnOf env (termAt ws at) s → (more : List ℕ) (m : ℕ) → Applied e values masks n more m → Underway env ws start end values (at + 1) s′ more m
+    pub goes-on : at < end → (s′ : Numbers) (e : Effect) → Turn.On s′ e ≡ turnOf o env (termAt ws at) s → (more : List ℕ) (m : ℕ) → Applied e values masks n more m → Underway o env ws start end values (at + 1) s′ more m
     goes-on h s′ e k more m a = record {
       all = a .0;
-      same = λ j l. u .same j l ∙ one h (Turn.On s′ e) k (getD values j 0) (waiting masks n j) ∙ ap (held env (getD values j 0) (terms ws (at + 1) end) s′) (sym (a .1 j l));
+      same = λ j l. u .same j l ∙ one h (Turn.On s′ e) k (getD values j 0) (waiting masks n j) ∙ ap (held o env (getD values j 0) (terms ws (at + 1) end) s′) (sym (a .1 j l));
     }
 
-    pub goes-off : at < end → Turn.Off ≡ turnOf env (termAt ws at) s → (j : ℕ) → j < 64 → holds env start (terms ws start end) (pos (getD values j 0)) ≡ false
+    pub goes-off : at < end → Turn.Off ≡ turnOf o env (termAt ws at) s → (j : ℕ) → j < 64 → holds-from o env start (terms ws start end) (getD values j 0) ≡ false
     goes-off h k j l = u .same j l ∙ one h Turn.Off k (getD values j 0) (waiting masks n j)
 
-    pub goes-out : end ≤ at → (j : ℕ) → j < 64 → holds env start (terms ws start end) (pos (getD values j 0)) ≡ ends s (waiting masks n j)
+    pub goes-out : end ≤ at → (j : ℕ) → j < 64 → holds-from o env start (terms ws start end) (getD values j 0) ≡ ends s (waiting masks n j)
     unfolding held
-    goes-out h j l = u .same j l ∙ ap (λ (xs : List Term). held env (getD values j 0) xs s (waiting masks n j)) (terms-none ws at end h)
+    goes-out h j l = u .same j l ∙ ap (λ (xs : List Term). held o env (getD values j 0) xs s (waiting masks n j)) (terms-none ws at end h)

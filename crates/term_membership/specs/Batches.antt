@@ -1,4 +1,4 @@
--- A set's terms worked out for one natural number by their effects. Only the private functions of the crate speak of this.
+-- A set's terms worked out for one value by their effects. Only the private functions of the crate speak of this.
 -- Assumes nothing.
 use Prim.Native.Nat.{ℕ}
 use mathlib.Core.Bool.{Bool, false}
@@ -25,10 +25,10 @@ abbrev pub onward : (Numbers → Effect → Bool) → Turn → Bool
 onward go (Turn.On s e) = go s e
 onward go Turn.Off = false
 
--- the value v is in the set of the terms, where numbers s and tests t wait before them
-unfoldable pub held : List ℤ → ℕ → List Term → Numbers → ℕ → Bool
-held env v [] s t = ends s t
-held env v (x ∷ xs) s t = onward (λ s′ e. held env v xs s′ (applied e t v)) (turnOf env x s)
+-- the value v, counted from the least on at offset o, is in the set of the terms, where numbers s and tests t wait before them
+unfoldable pub held : ℕ → List ℤ → ℕ → List Term → Numbers → ℕ → Bool
+held o env v [] s t = ends s t
+held o env v (x ∷ xs) s t = onward (λ s′ e. held o env v xs s′ (applied e t v)) (turnOf o env x s)
 
 -- the tests of 64 values have had an effect
 abbrev pub Applied : Effect → List ℕ → List ℕ → ℕ → List ℕ → ℕ → Type 0

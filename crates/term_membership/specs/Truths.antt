@@ -24,7 +24,7 @@ joined j t = cond (ltb t 4) 0 (noted (t / 4) (joins j (eqb (t / 2 % 2) 1) (eqb (
 -- whether the value v passes the test of an item
 abbrev pub passes : Effect → ℕ → Bool
 passes Effect.None v = false
-passes (Effect.Within a b) v = cond (leb a v) (ltb v b) false
+passes (Effect.Within a b) v = cond (leb a v) (leb v b) false
 passes (Effect.From a) v = leb a v
 passes Effect.Or v = false
 passes Effect.Except v = false

@@ -8,20 +8,19 @@ use lookahead::words::same;
 use term_words::Numbers;
 use term_words::decode::term_at;
 ghost use mathlib.Core.Path.{_≡_};
-ghost use Prim.Native.Nat.{ℕ, _+_, _<_};
+ghost use Prim.Native.Nat.{ℕ, _+_, _^_, _≤_, _<_};
 ghost use mathlib.Core.List.{List};
 ghost use Rattle.lookahead.specs.Sets.{bit};
 ghost use Rattle.term_membership.specs.Truths.{waiting};
 ghost use mathlib.Core.Bool.{false};
 ghost use lib.Dec.{eqb};
-ghost use lib.IntN.{pos};
 ghost use lib.ListN.{getD};
 ghost use Rattle.term_words.specs.Words.{terms};
-ghost use Rattle.term_membership.specs.Members.{holds};
+ghost use Rattle.term_membership.specs.Members.{holds-from};
 ghost use Rattle.term_membership.specs.Batches.{ends};
 
-// What a term does to the tests that wait: nothing, a test of the value, or two tests become one. Values are natural numbers; `Within` has its first
-// value and the first after its last.
+// What a term does to the tests that wait: nothing, a test of the value, or two tests become one. Values are counted from the least on; `Within` has its
+// first value and its last.
 pub enum Effect {
     None,
     Within(u64, u64),
@@ -79,22 +78,25 @@ fn ended(numbers: Numbers, count: usize, test: u64) -> [u64; 64]
     }
 }
 
-// 3 for each value that is in the set of the terms from `start` up to `end`, another number for each that is not.
+// 3 for each value that is in the set of the terms from `start` up to `end`, another number for each that is not. A value is given as the natural number
+// that is `offset` above it.
 pub fn contains_all(
     words: &[u32],
     start: usize,
     end: usize,
     variables: &[i64],
+    offset: u64,
     values: &[u64; 64],
 ) -> [u64; 64]
-    ensures { λ r. ⌜ ((j : ℕ) → j < 64 → holds (now (variables .entry)) start (terms (now (words .entry)) start end) (pos (getD (now (values .entry)) j 0)) ≡ eqb (getD r j 0) 3) ⌝ }
+    requires { ⌜ offset ≤ 2 ^ 63 ⌝ }
+    ensures { λ r. ⌜ ((j : ℕ) → j < 64 → holds-from offset (now (variables .entry)) start (terms (now (words .entry)) start end) (getD (now (values .entry)) j 0) ≡ eqb (getD r j 0) 3) ⌝ }
 {
     let mut masks = [0u64; 64];
     let mut count = 0;
     let mut numbers = Numbers::Zero;
     let mut at = start;
     while at < end {
-        match turn(variables, term_at(words, at), numbers) {
+        match turn(variables, term_at(words, at), numbers, offset) {
             Turn::On(next, effect) => {
                 count = apply_all(effect, values, &mut masks, count);
                 numbers = next;

@@ -22,7 +22,7 @@ fn passes(effect: Effect, value: u64) -> bool
 {
     match effect {
         Effect::None => false,
-        Effect::Within(low, past) => if low <= value { value < past } else { false },
+        Effect::Within(low, last) => if low <= value { value <= last } else { false },
         Effect::From(low) => low <= value,
         Effect::Or => false,
         Effect::Except => false,

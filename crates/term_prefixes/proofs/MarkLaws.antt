@@ -10,7 +10,6 @@ use native.Mathlib.Decide.{ℕ-discrete, decLt}
 use native.Mathlib.Nat.{div-lt-iff-lt-mul, mul-le-mul-right}
 use borrow.Author.Tests.{ne-eqb}
 use lib.Dec.{eqb}
-use lib.IntN.{ℤ, pos}
 use lib.ListN.{length, getD, set, length-set}
 use lib.Pow.{pow-pos, pow-mono}
 use lib.Seq.{getD-set-same, getD-set-other}
@@ -29,7 +28,7 @@ window-less w v h =
     let k : strings w ≤ 256 = few w in
     omega arith
 
-module _ (f : ℤ → Bool) (w : ℕ) where
+module _ (f : ℕ → Bool) (w : ℕ) where
   pub sought-none : (P : ℕ → Type 0) (m : List ℕ) → length m ≡ 256 → ((k v : ℕ) → P v → Hits f w k v → ⊥) → Sought f w P m m
   sought-none P m l h = record { all = l; sound = λ s. s; kept = λ k z. z; hit = λ k v p q. absurd (h k v p q) }
 
@@ -43,7 +42,7 @@ module _ (f : ℤ → Bool) (w : ℕ) where
   }
 
   -- one mark more
-  pub sought-one : (v : ℕ) (m : List ℕ) → length m ≡ 256 → f (pos v) ≡ true → v < 2 ^ w → Sought f w (λ (u : ℕ). v ≡ u) m (set m (v / 2 ^ (w - 8)) 1)
+  pub sought-one : (v : ℕ) (m : List ℕ) → length m ≡ 256 → f v ≡ true → v < 2 ^ w → Sought f w (λ (u : ℕ). v ≡ u) m (set m (v / 2 ^ (w - 8)) 1)
   sought-one v m l e h = record { all = length-set m x 1 ∙ l; sound = sound; kept = kept; hit = λ k u p q. subst (Marked (set m x 1)) (ap (λ (y : ℕ). y / 2 ^ (w - 8)) p ∙ q .block) here }
     where
       x : ℕ
@@ -68,18 +67,18 @@ module _ (f : ℤ → Bool) (w : ℕ) where
       ]
 
   -- a value that is not in the set, or too large for the width
-  pub sought-absent : (v t : ℕ) (m : List ℕ) → length m ≡ 256 → f (pos v) ≡ eqb t 3 → (t ≡ 3 → ⊥) → Sought f w (λ (u : ℕ). v ≡ u) m m
-  sought-absent v t m l e n = sought-none (λ (u : ℕ). v ≡ u) m l (λ k u p q. differ (sym (q .member) ∙ ap (λ (y : ℕ). f (pos y)) (sym p) ∙ e ∙ ne-eqb t 3 n))
+  pub sought-absent : (v t : ℕ) (m : List ℕ) → length m ≡ 256 → f v ≡ eqb t 3 → (t ≡ 3 → ⊥) → Sought f w (λ (u : ℕ). v ≡ u) m m
+  sought-absent v t m l e n = sought-none (λ (u : ℕ). v ≡ u) m l (λ k u p q. differ (sym (q .member) ∙ ap (λ (y : ℕ). f y) (sym p) ∙ e ∙ ne-eqb t 3 n))
 
   pub sought-large : (v : ℕ) (m : List ℕ) → length m ≡ 256 → 2 ^ w ≤ v → Sought f w (λ (u : ℕ). v ≡ u) m m
   sought-large v m l h = sought-none (λ (u : ℕ). v ≡ u) m l (λ k u p q. let z : u < 2 ^ w = q .less in omega arith)
 
 -- ---- values one after the other
 
-pub among-none : (f : ℤ → Bool) (w : ℕ) (values m : List ℕ) → length m ≡ 256 → Sought f w (Among values 0) m m
+pub among-none : (f : ℕ → Bool) (w : ℕ) (values m : List ℕ) → length m ≡ 256 → Sought f w (Among values 0) m m
 among-none f w values m l = sought-none f w (Among values 0) m l (λ k v p q. let h : p .0 < 0 = p .1 in omega arith)
 
-module _ (f : ℤ → Bool) (w : ℕ) (values old mid new : List ℕ) (n : ℕ) where
+module _ (f : ℕ → Bool) (w : ℕ) (values old mid new : List ℕ) (n : ℕ) where
   split : (v : ℕ) → Among values (n + 1) v → Among values n v ⊎ (getD values n 0 ≡ v)
   split v (j, h, e) = elim (ℕ-discrete j n) [
     | yes q ↦ inr (ap (λ (y : ℕ). getD values y 0) (sym q) ∙ e)
@@ -106,7 +105,7 @@ filled-more first block n values x h g e = record { all = length-set values n x 
       | no q ↦ getD-set-other values n j x 0 q ∙ g .at j (omega arith)
     ]
 
-module _ (f : ℤ → Bool) (w : ℕ) (values old mid new : List ℕ) (i b : ℕ) (e : b ≡ 2 ^ (w - 8)) (g : Filled (64 * i) b 64 values) where
+module _ (f : ℕ → Bool) (w : ℕ) (values old mid new : List ℕ) (i b : ℕ) (e : b ≡ 2 ^ (w - 8)) (g : Filled (64 * i) b 64 values) where
   part : (v : ℕ) → Least w (64 * (i + 1)) v → Least w (64 * i) v ⊎ Among values 64 v
   part v (k, h, q) = elim (decLt k (64 * i)) [
     | yes l ↦ inl (k, l, q)
@@ -118,9 +117,9 @@ module _ (f : ℤ → Bool) (w : ℕ) (values old mid new : List ℕ) (i b : ℕ
   pub least-more : Sought f w (Least w (64 * i)) old mid → Sought f w (Among values 64) mid new → Sought f w (Least w (64 * (i + 1))) old new
   least-more = sought-more f w (Least w (64 * i)) (Among values 64) (Least w (64 * (i + 1))) old mid new part
 
-pub least-none : (f : ℤ → Bool) (w : ℕ) (m : List ℕ) → length m ≡ 256 → Sought f w (Least w (64 * 0)) m m
+pub least-none : (f : ℕ → Bool) (w : ℕ) (m : List ℕ) → length m ≡ 256 → Sought f w (Least w (64 * 0)) m m
 least-none f w m l = sought-none f w (Least w (64 * 0)) m l (λ k v p q. let h : p .0 < 0 = p .1 in omega arith)
 
 -- the multiples are in range
-pub multiple-fits : (x b : ℕ) → x ≤ 255 → b ≤ 2 ^ 54 → x * b < 2 ^ 64
+pub multiple-fits : (x b : ℕ) → x ≤ 255 → b ≤ 2 ^ 56 → x * b < 2 ^ 64
 multiple-fits x b h l = let m : x * b ≤ 255 * b = mul-le-mul-right b h in omega arith

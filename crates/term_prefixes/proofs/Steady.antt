@@ -8,12 +8,12 @@ use mathlib.Core.List.{List, [], _∷_}
 use native.Mathlib.Omega.{arith}
 use native.Mathlib.Decide.{ℕ-discrete}
 use borrow.Author.Tests.{le-leb, lt-leb, leb-true, leb-false}
-use lib.Dec.{leb, ltb}
-use lib.IntN.{ℤ, pos}
+use lib.Dec.{leb}
+use lib.IntN.{ℤ}
 use Rattle.term_integers.proofs.Laws.{differ}
 use Rattle.term_words.specs.declared.Numbers.{Numbers}
 use Rattle.term_words.specs.declared.Term.{Term}
-use Rattle.term_membership.specs.Members.{holds}
+use Rattle.term_membership.specs.Members.{holds-from}
 use Rattle.term_membership.specs.Effects.{turnOf}
 use Rattle.term_membership.specs.Truths.{noted, applied}
 use Rattle.term_membership.specs.Batches.{onward, held}
@@ -31,12 +31,12 @@ from-steady a v f = go (leb a v) refl
     go true e = let h : a ≤ v = leb-true a v e in le-leb a (suc v) (omega arith) ∙ sym e
     go false e = let h : v < a = leb-false a v e in lt-leb a (suc v) (omega (arith, f)) ∙ sym e
 
-below-steady : (v b : ℕ) → (b ≡ suc v → ⊥) → ltb (suc v) b ≡ ltb v b
-below-steady v b f = go (ltb v b) refl
+up-to-steady : (v b : ℕ) → (suc b ≡ suc v → ⊥) → leb (suc v) b ≡ leb v b
+up-to-steady v b f = go (leb v b) refl
   where
-    go : (t : Bool) → ltb v b ≡ t → ltb (suc v) b ≡ ltb v b
-    go true e = let h : suc v ≤ b = leb-true (suc v) b e in le-leb (suc (suc v)) b (omega (arith, f)) ∙ sym e
-    go false e = let h : b < suc v = leb-false (suc v) b e in lt-leb (suc (suc v)) b (omega arith) ∙ sym e
+    go : (t : Bool) → leb v b ≡ t → leb (suc v) b ≡ leb v b
+    go true e = let h : v ≤ b = leb-true v b e in le-leb (suc v) b (omega (arith, f)) ∙ sym e
+    go false e = let h : b < v = leb-false v b e in lt-leb (suc v) b (omega arith) ∙ sym e
 
 -- ---- one effect
 
@@ -44,9 +44,9 @@ effect-steady : (e : Effect) (t v : ℕ) → (applied e t (suc v) ≡ applied e 
 effect-steady Effect.None t v = inl refl
 effect-steady (Effect.Within a b) t v = elim (ℕ-discrete a (suc v)) [
   | yes p ↦ inr (inl p)
-  | no p ↦ elim (ℕ-discrete b (suc v)) [
+  | no p ↦ elim (ℕ-discrete (suc b) (suc v)) [
     | yes q ↦ inr (inr q)
-    | no q ↦ inl (ap₂ (λ (x y : Bool). noted t (cond x y false)) (from-steady a v p) (below-steady v b q))
+    | no q ↦ inl (ap₂ (λ (x y : Bool). noted t (cond x y false)) (from-steady a v p) (up-to-steady v b q))
   ]
 ]
 effect-steady (Effect.From a) t v = elim (ℕ-discrete a (suc v)) [
@@ -58,47 +58,47 @@ effect-steady Effect.Except t v = inl refl
 
 -- ---- a whole list
 
-module _ (env : List ℤ) (v : ℕ) where
-  turn-steady : (xs : List Term) (t : ℕ) → ((s : Numbers) (t : ℕ) → (held env (suc v) xs s t ≡ held env v xs s t) ⊎ Changes env (suc v) xs s) → (r : Turn)
-      → (onward (λ s e. held env (suc v) xs s (applied e t (suc v))) r ≡ onward (λ s e. held env v xs s (applied e t v)) r) ⊎ HereOrOn (λ s. Changes env (suc v) xs s) (suc v) r
+module _ (o : ℕ) (env : List ℤ) (v : ℕ) where
+  turn-steady : (xs : List Term) (t : ℕ) → ((s : Numbers) (t : ℕ) → (held o env (suc v) xs s t ≡ held o env v xs s t) ⊎ Changes o env (suc v) xs s) → (r : Turn)
+      → (onward (λ s e. held o env (suc v) xs s (applied e t (suc v))) r ≡ onward (λ s e. held o env v xs s (applied e t v)) r) ⊎ HereOrOn (λ s. Changes o env (suc v) xs s) (suc v) r
   turn-steady xs t h (Turn.On s e) =
       ⊎-elim
-      (λ (p : applied e t (suc v) ≡ applied e t v). ⊎-elim (λ (q : held env (suc v) xs s (applied e t v) ≡ held env v xs s (applied e t v)). inl (ap (held env (suc v) xs s) p ∙ q)) (λ q. inr (inr q)) (h s (applied e t v)))
+      (λ (p : applied e t (suc v) ≡ applied e t v). ⊎-elim (λ (q : held o env (suc v) xs s (applied e t v) ≡ held o env v xs s (applied e t v)). inl (ap (held o env (suc v) xs s) p ∙ q)) (λ q. inr (inr q)) (h s (applied e t v)))
       (λ p. inr (inl p)) (effect-steady e t v)
   turn-steady xs t h Turn.Off = inl refl
 
-  held-steady : (xs : List Term) (s : Numbers) (t : ℕ) → (held env (suc v) xs s t ≡ held env v xs s t) ⊎ Changes env (suc v) xs s
+  held-steady : (xs : List Term) (s : Numbers) (t : ℕ) → (held o env (suc v) xs s t ≡ held o env v xs s t) ⊎ Changes o env (suc v) xs s
   unfolding held Changes
   held-steady [] s t = inl refl
-  held-steady (x ∷ xs) s t = turn-steady xs t (held-steady xs) (turnOf env x s)
+  held-steady (x ∷ xs) s t = turn-steady xs t (held-steady xs) (turnOf o env x s)
 
-  holds-steady : (i : ℕ) (xs : List Term) → (holds env i xs (pos (suc v)) ≡ holds env i xs (pos v)) ⊎ Changes env (suc v) xs Numbers.Zero
-  holds-steady i xs = ⊎-elim (λ p. inl (holds-held env (suc v) i xs ∙ p ∙ sym (holds-held env v i xs))) (λ p. inr p) (held-steady xs Numbers.Zero 1)
+  holds-steady : (i : ℕ) (xs : List Term) → (holds-from o env i xs (suc v) ≡ holds-from o env i xs v) ⊎ Changes o env (suc v) xs Numbers.Zero
+  holds-steady i xs = ⊎-elim (λ p. inl (holds-held o env (suc v) i xs ∙ p ∙ sym (holds-held o env v i xs))) (λ p. inr p) (held-steady xs Numbers.Zero 1)
 
 -- ---- the first value from a number on
 
-module _ (env : List ℤ) (i : ℕ) (xs : List Term) (lo : ℕ) where
+module _ (o : ℕ) (env : List ℤ) (i : ℕ) (xs : List Term) (lo : ℕ) where
   -- a value of the set, lo or one at which the set changes, from lo up to v
   pub record First (v : ℕ) : Type 0 where
     pub value : ℕ
     pub least : lo ≤ value
     pub most : value ≤ v
-    pub member : holds env i xs (pos value) ≡ true
-    pub change : (lo ≡ value) ⊎ Changes env value xs Numbers.Zero
+    pub member : holds-from o env i xs value ≡ true
+    pub change : (lo ≡ value) ⊎ Changes o env value xs Numbers.Zero
 
   up-to : {v w : ℕ} → v ≤ w → First v → First w
   up-to h f = record { value = f .value; least = f .least; most = omega (arith, f .most); member = f .member; change = f .change }
 
-  next-first : (v : ℕ) → lo ≤ v → (b : Bool) → holds env i xs (pos v) ≡ b → (b ≡ true → First v) → holds env i xs (pos (suc v)) ≡ true → First (suc v)
+  next-first : (v : ℕ) → lo ≤ v → (b : Bool) → holds-from o env i xs v ≡ b → (b ≡ true → First v) → holds-from o env i xs (suc v) ≡ true → First (suc v)
   next-first v h true e f m = up-to (omega arith) (f refl)
   next-first v h false e f m =
-      ⊎-elim (λ (p : holds env i xs (pos (suc v)) ≡ holds env i xs (pos v)). differ (sym m ∙ p ∙ e))
-      (λ c. record { value = suc v; least = omega arith; most = omega arith; member = m; change = inr c }) (holds-steady env v i xs)
+      ⊎-elim (λ (p : holds-from o env i xs (suc v) ≡ holds-from o env i xs v). differ (sym m ∙ p ∙ e))
+      (λ c. record { value = suc v; least = omega arith; most = omega arith; member = m; change = inr c }) (holds-steady o env v i xs)
 
-  first-at : (n v : ℕ) → v ≡ n + lo → holds env i xs (pos v) ≡ true → First v
+  first-at : (n v : ℕ) → v ≡ n + lo → holds-from o env i xs v ≡ true → First v
   first-at zero v e m = let q : lo ≡ v = omega arith in record { value = v; least = omega arith; most = omega arith; member = m; change = inl q }
   first-at (suc n) zero e m = absurd (omega arith)
-  first-at (suc n) (suc u) e m = let q : u ≡ n + lo = omega arith in next-first u (omega arith) (holds env i xs (pos u)) refl (λ b. first-at n u q b) m
+  first-at (suc n) (suc u) e m = let q : u ≡ n + lo = omega arith in next-first u (omega arith) (holds-from o env i xs u) refl (λ b. first-at n u q b) m
 
-  pub first-from : (v : ℕ) → lo ≤ v → holds env i xs (pos v) ≡ true → First v
+  pub first-from : (v : ℕ) → lo ≤ v → holds-from o env i xs v ≡ true → First v
   first-from v h m = let q : v ≡ v - lo + lo = omega arith in first-at (v - lo) v q m

@@ -10,13 +10,14 @@ use native.Mathlib.Decide.{decLt}
 use native.Mathlib.Nat.{mul-le-mul-right, div-eq-of-lt-le, le-div-iff-mul-le, div-lt-iff-lt-mul}
 use borrow.Author.Tests.{lt-ltb, ltb-true}
 use lib.Dec.{ltb}
-use lib.IntN.{ℤ, pos}
+use lib.IntN.{ℤ, subℕ}
 use lib.ListN.{getD, replicate, length-replicate, getD-replicate, List·getD-eq-default}
 use lib.Pow.{pow-pos}
+use Rattle.basis.specs.Patterns.{offset}
 use Rattle.term_words.specs.declared.Numbers.{Numbers}
 use Rattle.term_words.specs.declared.Term.{Term}
 use Rattle.term_evaluation.specs.Variables.{hasVariable}
-use Rattle.term_membership.specs.Members.{holds}
+use Rattle.term_membership.specs.Members.{holds, holds-from}
 use Rattle.term_prefixes.specs.Marks.{Hits, Marked, Sound, Sought, Among, Least, Found, Offered, Changes}
 use Rattle.term_prefixes.specs.Prefixes.{admits, Within, Spans, ToldBy, Told}
 use Rattle.term_prefixes.specs.declared.Tried.{Tried}
@@ -26,7 +27,7 @@ use Rattle.term_prefixes.proofs.Windows.{block, strings, blocks, next-b
 
 -- ---- a window's block
 
-module _ (f : ℤ → Bool) (w k : ℕ) (h : k < strings w) where
+module _ (f : ℕ → Bool) (w k : ℕ) (h : k < strings w) where
   abbrev lo : ℕ
   lo = k * block w
 
@@ -34,7 +35,7 @@ module _ (f : ℤ → Bool) (w k : ℕ) (h : k < strings w) where
   hi = k * block w + (block w - 1)
 
   -- a value of the block is one of the width that has the window
-  pub in-block : (v : ℕ) → lo ≤ v → v ≤ hi → f (pos v) ≡ true → Hits f w k v
+  pub in-block : (v : ℕ) → lo ≤ v → v ≤ hi → f v ≡ true → Hits f w k v
   in-block v p q e =
       let o : 1 ≤ block w = pow-pos (w - 8) in
       let n : (k + 1) * block w ≡ k * block w + block w = next-block w k in
@@ -63,55 +64,58 @@ unmarked k z = elim (decLt k 256) [
 
 -- ---- all that is tried: the least value of each window, and where the set changes
 
-module _ (env : List ℤ) (i : ℕ) (xs : List Term) (w : ℕ) (least : List ℕ) (s : Sought (holds env i xs) w (Least w 256) (replicate {A = ℕ} 256 0) least)
-    (old new : Tried) (e : old .marks ≡ least) (t : Offered (holds env i xs) w (λ (v : ℕ). Changes env v xs Numbers.Zero) old new) (marks : List ℕ) (u : Sought (holds env i xs) w (Among (new .values) 64) (new .marks) marks) where
-  none : Sound (holds env i xs) w (replicate {A = ℕ} 256 0)
+module _ (o : ℕ) (env : List ℤ) (i : ℕ) (xs : List Term) (w : ℕ) (least : List ℕ) (s : Sought (holds-from o env i xs) w (Least w 256) (replicate {A = ℕ} 256 0) least)
+    (old new : Tried) (e : old .marks ≡ least) (t : Offered (holds-from o env i xs) w (λ (v : ℕ). Changes o env v xs Numbers.Zero) old new) (marks : List ℕ) (u : Sought (holds-from o env i xs) w (Among (new .values) 64) (new .marks) marks) where
+  none : Sound (holds-from o env i xs) w (replicate {A = ℕ} 256 0)
   none k z = absurd (unmarked k z)
 
-  sound : Sound (holds env i xs) w marks
-  sound = u .sound (t .sound (subst (Sound (holds env i xs) w) (sym e) (s .sound none)))
+  sound : Sound (holds-from o env i xs) w marks
+  sound = u .sound (t .sound (subst (Sound (holds-from o env i xs) w) (sym e) (s .sound none)))
 
-  settled : (k : ℕ) → Found (holds env i xs) w k new → Marked marks k
+  settled : (k : ℕ) → Found (holds-from o env i xs) w k new → Marked marks k
   settled k (inl z) = u .kept k z
   settled k (inr (j, h, z)) = let r : new .waiting < 64 = t .ready .room in u .hit k (getD (new .values) j 0) (j, omega arith, refl) z
 
   module _ (k : ℕ) (h : k < strings w) where
     -- the first value of the set in the window has been tried
-    marked : (v : ℕ) → First env i xs (k * block w) v → v ≤ k * block w + (block w - 1) → Marked marks k
+    marked : (v : ℕ) → First o env i xs (k * block w) v → v ≤ k * block w + (block w - 1) → Marked marks k
     marked v x h′ = ⊎-elim (λ q. settled k (t .kept k (inl (subst (λ (m : List ℕ). Marked m k) (sym e) (s .hit k (x .value) (k, below, q) here))))) (λ c. settled k (t .hit k (x .value) c here)) (x .change)
       where
         below : k < 256
         below = omega (arith, few w)
 
-        here : Hits (holds env i xs) w k (x .value)
-        here = let a : x .value ≤ v = x .most in in-block (holds env i xs) w k h (x .value) (x .least) (omega arith) (x .member)
+        here : Hits (holds-from o env i xs) w k (x .value)
+        here = let a : x .value ≤ v = x .most in in-block (holds-from o env i xs) w k h (x .value) (x .least) (omega arith) (x .member)
 
-    pub told-window : Spans (holds env i xs) (k * block w) (k * block w + (block w - 1)) (ltb 0 (getD marks k 0))
+    pub told-window : Spans (holds-from o env i xs) (k * block w) (k * block w + (block w - 1)) (ltb 0 (getD marks k 0))
     told-window = record {
-      found = λ q. let v = sound k (ltb-true 0 (getD marks k 0) q) in (v .0, of-block (holds env i xs) w k h (v .0) (v .1));
-      all = λ v l. lt-ltb 0 (getD marks k 0) (marked v (first-from env i xs (k * block w) v (l .least) (l .member)) (l .most));
+      found = λ q. let v = sound k (ltb-true 0 (getD marks k 0) q) in (v .0, of-block (holds-from o env i xs) w k h (v .0) (v .1));
+      all = λ v l. lt-ltb 0 (getD marks k 0) (marked v (first-from o env i xs (k * block w) v (l .least) (l .member)) (l .most));
     }
 
 -- ---- a set whatever the variables are
 
-module _ (w i : ℕ) (xs : List Term) where
+module _ (w : ℕ) (signed : Bool) (i : ℕ) (xs : List Term) where
+  abbrev o : ℕ
+  o = offset signed w
+
   -- with a variable it counts as `~`
-  pub told-variable : hasVariable xs ≡ true → Told w i xs (replicate {A = ℕ} 256 1)
+  pub told-variable : hasVariable xs ≡ true → Told w signed i xs (replicate {A = ℕ} 256 1)
   unfolding admits
   told-variable e k h =
       let z : strings w ≤ 256 = few w in
       let m : getD (replicate {A = ℕ} 256 1) k 0 ≡ 1 = getD-replicate {A = ℕ} 256 k 1 0 (omega arith) in
       record {
-        found = λ q. (k * block w, record { least = omega arith; most = omega arith; member = ap (λ (b : Bool). cond b true (holds [] i xs (pos (k * block w)))) e });
+        found = λ q. (k * block w, record { least = omega arith; most = omega arith; member = ap (λ (b : Bool). cond b true (holds [] i xs (subℕ (k * block w) o))) e });
         all = λ v l. ap (ltb 0) m;
       }
 
   -- without one it admits the same at no values
-  pub told-set : (marks : List ℕ) → hasVariable xs ≡ false → ToldBy w (holds [] i xs) marks → Told w i xs marks
+  pub told-set : (marks : List ℕ) → hasVariable xs ≡ false → ToldBy w (holds-from o [] i xs) marks → Told w signed i xs marks
   unfolding admits
   told-set marks e t k h = record {
-    found = λ q. let v = t k h .found q in (v .0, record { least = v .1 .least; most = v .1 .most; member = same (pos (v .0)) ∙ v .1 .member });
-    all = λ v l. t k h .all v (record { least = l .least; most = l .most; member = sym (same (pos v)) ∙ l .member });
+    found = λ q. let v = t k h .found q in (v .0, record { least = v .1 .least; most = v .1 .most; member = same (subℕ (v .0) o) ∙ v .1 .member });
+    all = λ v l. t k h .all v (record { least = l .least; most = l .most; member = sym (same (subℕ v o)) ∙ l .member });
   }
     where
       same : (v : ℤ) → cond (hasVariable xs) true (holds [] i xs v) ≡ holds [] i xs v

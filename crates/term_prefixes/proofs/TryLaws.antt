@@ -1,6 +1,6 @@
 -- Laws of values that wait, and of the walk over a set's ends.
 -- Assumes nothing.
-use Prim.Native.Nat.{ℕ, _+_, _≤_, _<_}
+use Prim.Native.Nat.{ℕ, _+_, _^_, _≤_, _<_}
 use mathlib.Core.Path.{_≡_, sym, subst, _∙_}
 use mathlib.Core.Bool.{Bool}
 use mathlib.Core.Logic.{_⊎_, inl, inr, ⊎-elim}
@@ -8,6 +8,7 @@ use mathlib.Core.List.{List}
 use native.Mathlib.Omega.{arith}
 use lib.IntN.{ℤ}
 use lib.ListN.{getD, set, length-set}
+use lib.Pow.{pow-mono}
 use lib.Seq.{getD-set-same, getD-set-other}
 use Rattle.term_membership.specs.Effects.{turnOf}
 use Rattle.term_membership.specs.declared.Effect.{Effect}
@@ -21,7 +22,11 @@ use Rattle.term_prefixes.specs.declared.Tried.{Tried}
 
 -- ---- handing values over
 
-module _ (f : ℤ → Bool) (w : ℕ) where
+-- a value that has a window is a number of 64 bits
+pub hits-fit : (f : ℕ → Bool) (w k v : ℕ) → w ≤ 64 → Hits f w k v → v < 2 ^ 64
+hits-fit f w k v l h = let p : 2 ^ w ≤ 2 ^ 64 = pow-mono {i = w} {j = 64} l in let q : v < 2 ^ w = h .less in omega arith
+
+module _ (f : ℕ → Bool) (w : ℕ) where
   pub offered-none : (t : Tried) → Ready t → Offered f w (λ (v : ℕ). ⊥) t t
   offered-none t r = record { ready = r; sound = λ s. s; kept = λ k z. z; hit = λ k v p h. absurd p }
 
@@ -32,6 +37,10 @@ module _ (f : ℤ → Bool) (w : ℕ) where
     kept = λ k z. q .kept k (p .kept k z);
     hit = λ k v r h. ⊎-elim (λ x. q .kept k (p .hit k v x h)) (λ y. q .hit k v y h) r;
   }
+
+  -- handed over for other values that have a window
+  pub offered-as : (P Q : ℕ → Type 0) → ((k v : ℕ) → Q v → Hits f w k v → P v) → (a b : Tried) → Offered f w P a b → Offered f w Q a b
+  offered-as P Q g a b p = record { ready = p .ready; sound = p .sound; kept = p .kept; hit = λ k v q h. p .hit k v (g k v q h) h }
 
   module _ (t : Tried) (value : ℕ) (r : Ready t) where
     abbrev values : List ℕ
@@ -62,39 +71,39 @@ module _ (f : ℤ → Bool) (w : ℕ) where
 -- ---- the walk
 
 -- the walk has come to a place
-pub record Walking (f : ℤ → Bool) (w : ℕ) (env : List ℤ) (ws : List ℕ) (start end : ℕ) (old : Tried) (now : Tried) (at : ℕ) (s : Numbers) : Type 0 where
+pub record Walking (f : ℕ → Bool) (w o : ℕ) (env : List ℤ) (ws : List ℕ) (start end : ℕ) (old : Tried) (now : Tried) (at : ℕ) (s : Numbers) : Type 0 where
   pub ready : Ready now
   pub sound : Sound f w (old .marks) → Sound f w (now .marks)
   pub kept : (k : ℕ) → Found f w k old → Found f w k now
-  pub hit : (k v : ℕ) → Changes env v (terms ws start end) Numbers.Zero → Hits f w k v → Found f w k now ⊎ Changes env v (terms ws at end) s
+  pub hit : (k v : ℕ) → Changes o env v (terms ws start end) Numbers.Zero → Hits f w k v → Found f w k now ⊎ Changes o env v (terms ws at end) s
 
-module _ (f : ℤ → Bool) (w : ℕ) (env : List ℤ) (ws : List ℕ) (start end : ℕ) (old : Tried) where
+module _ (f : ℕ → Bool) (w o : ℕ) (env : List ℤ) (ws : List ℕ) (start end : ℕ) (old : Tried) where
   abbrev All : ℕ → Type 0
-  All v = Changes env v (terms ws start end) Numbers.Zero
+  All v = Changes o env v (terms ws start end) Numbers.Zero
 
-  pub walk-begins : Ready old → Walking f w env ws start end old old start Numbers.Zero
+  pub walk-begins : Ready old → Walking f w o env ws start end old old start Numbers.Zero
   walk-begins r = record { ready = r; sound = λ s. s; kept = λ k z. z; hit = λ k v x h. inr x }
 
-  module _ (now : Tried) (at : ℕ) (s : Numbers) (m : Walking f w env ws start end old now at s) where
+  module _ (now : Tried) (at : ℕ) (s : Numbers) (m : Walking f w o env ws start end old now at s) where
     -- nothing is left
-    rest-none : (v : ℕ) → end ≤ at → Changes env v (terms ws at end) s → ⊥
+    rest-none : (v : ℕ) → end ≤ at → Changes o env v (terms ws at end) s → ⊥
     unfolding Changes
-    rest-none v h x = subst (λ (xs : List Term). Changes env v xs s) (terms-none ws at end h) x
+    rest-none v h x = subst (λ (xs : List Term). Changes o env v xs s) (terms-none ws at end h) x
 
     pub walk-out : end ≤ at → Offered f w All old now
     walk-out h = record { ready = m .ready; sound = m .sound; kept = m .kept; hit = λ k v x z. ⊎-elim (λ y. y) (λ y. absurd (rest-none v h y)) (m .hit k v x z) }
 
-    rest-one : (v : ℕ) → at < end → (r : Turn) → r ≡ turnOf env (termAt ws at) s → Changes env v (terms ws at end) s → HereOrOn (λ s′. Changes env v (terms ws (at + 1) end) s′) v r
+    rest-one : (v : ℕ) → at < end → (r : Turn) → r ≡ turnOf o env (termAt ws at) s → Changes o env v (terms ws at end) s → HereOrOn (λ s′. Changes o env v (terms ws (at + 1) end) s′) v r
     unfolding Changes
-    rest-one v h r e x = subst (HereOrOn (λ s′. Changes env v (terms ws (at + 1) end) s′) v) (sym e) (subst (λ (xs : List Term). Changes env v xs s) (terms-next ws at end h) x)
+    rest-one v h r e x = subst (HereOrOn (λ s′. Changes o env v (terms ws (at + 1) end) s′) v) (sym e) (subst (λ (xs : List Term). Changes o env v xs s) (terms-next ws at end h) x)
 
-    pub walk-off : at < end → Turn.Off ≡ turnOf env (termAt ws at) s → Offered f w All old now
+    pub walk-off : at < end → Turn.Off ≡ turnOf o env (termAt ws at) s → Offered f w All old now
     walk-off h e = record { ready = m .ready; sound = m .sound; kept = m .kept; hit = λ k v x z. ⊎-elim (λ y. y) (λ y. absurd (rest-one v h Turn.Off e y)) (m .hit k v x z) }
 
-    pub walk-on : at < end → (s′ : Numbers) (e : Effect) → Turn.On s′ e ≡ turnOf env (termAt ws at) s → (next : Tried) → Offered f w (ChangesAt e) now next → Walking f w env ws start end old next (at + 1) s′
-    walk-on h s′ e q next o = record { ready = o .ready; sound = λ x. o .sound (m .sound x); kept = λ k z. o .kept k (m .kept k z); hit = hit }
+    pub walk-on : at < end → (s′ : Numbers) (e : Effect) → Turn.On s′ e ≡ turnOf o env (termAt ws at) s → (next : Tried) → Offered f w (ChangesAt e) now next → Walking f w o env ws start end old next (at + 1) s′
+    walk-on h s′ e q next p = record { ready = p .ready; sound = λ x. p .sound (m .sound x); kept = λ k z. p .kept k (m .kept k z); hit = hit }
       where
-        hit : (k v : ℕ) → Changes env v (terms ws start end) Numbers.Zero → Hits f w k v → Found f w k next ⊎ Changes env v (terms ws (at + 1) end) s′
+        hit : (k v : ℕ) → Changes o env v (terms ws start end) Numbers.Zero → Hits f w k v → Found f w k next ⊎ Changes o env v (terms ws (at + 1) end) s′
         hit k v x z =
-            ⊎-elim (λ y. inl (o .kept k y))
-            (λ (y : Changes env v (terms ws at end) s). ⊎-elim (λ c. inl (o .hit k v c z)) (λ c. inr c) (rest-one v h (Turn.On s′ e) q y)) (m .hit k v x z)
+            ⊎-elim (λ y. inl (p .kept k y))
+            (λ (y : Changes o env v (terms ws at end) s). ⊎-elim (λ c. inl (p .hit k v c z)) (λ c. inr c) (rest-one v h (Turn.On s′ e) q y)) (m .hit k v x z)

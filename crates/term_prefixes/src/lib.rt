@@ -1,4 +1,5 @@
-// Which leading bits the values of a set have. A set changes only at the first value of an item and at the first after it, so that few values
+// Which leading bits the patterns of a set's values have, signed or not. Values are counted from the least of the width on, so that they are natural
+// numbers in their order; of a signed pattern this turns the first bit. A set changes only at the first value of an item and at the first after it, so that few values
 // are tried: these, and the least of each window. They are tried 64 at a time.
 mod marks;
 mod tries;
@@ -7,13 +8,16 @@ use crate::marks::hidden;
 use crate::marks::least_values;
 use crate::marks::settle;
 use crate::tries::try_changes;
+use term_evaluation::patterns::offset_of;
 use term_evaluation::variables::has_variable;
 use term_integers::power;
 ghost use mathlib.Core.List.{List};
-ghost use Prim.Native.Nat.{ℕ, _≤_, _<_};
+ghost use mathlib.Core.Path.{_≡_};
+ghost use Prim.Native.Nat.{ℕ, _^_, _≤_, _<_};
+ghost use Rattle.basis.specs.Patterns.{halves-swapped};
 ghost use Rattle.term_words.specs.Words.{terms};
 ghost use Rattle.term_words.specs.declared.Term.{Term};
-ghost use Rattle.term_membership.specs.Members.{holds};
+ghost use Rattle.term_membership.specs.Members.{holds-from};
 ghost use Rattle.term_prefixes.specs.Prefixes.{Tells, Told, ToldBy};
 
 // The values that wait to be tried, the first `waiting` of these, and the windows that are marked so far.
@@ -24,18 +28,26 @@ pub struct Tried {
 }
 
 // The windows of a set.
-fn windows_of(words: &[u32], start: usize, end: usize, variables: &[i64], width: u32) -> [u8; 256]
-    requires { ⌜ width ≤ 62 ⌝ }
-    ensures { λ r. ⌜ ToldBy width (holds (now (variables .entry)) start (terms (now (words .entry)) start end)) r ⌝ }
+fn windows_of(
+    words: &[u32],
+    start: usize,
+    end: usize,
+    variables: &[i64],
+    width: u32,
+    offset: u64,
+) -> [u8; 256]
+    requires { ⌜ (width ≤ 64) × (offset ≤ 2 ^ 63) ⌝ }
+    ensures { λ r. ⌜ ToldBy width (holds-from offset (now (variables .entry)) start (terms (now (words .entry)) start end)) r ⌝ }
 {
     let mut least = [0u8; 256];
-    least_values(words, start, end, variables, width, &mut least);
+    least_values(words, start, end, variables, width, offset, &mut least);
     let last = try_changes(
         words,
         start,
         end,
         variables,
         width,
+        offset,
         Tried {
             values: [0; 64],
             waiting: 0,
@@ -44,29 +56,49 @@ fn windows_of(words: &[u32], start: usize, end: usize, variables: &[i64], width:
     );
     let values = last.values;
     let mut marks = last.marks;
-    settle(words, start, end, variables, width, &values, &mut marks);
+    settle(
+        words,
+        start,
+        end,
+        variables,
+        width,
+        offset,
+        &values,
+        &mut marks,
+    );
     marks
 }
 
-// A mark for each first window of a field of a width with a set, at its leading bits; a set with a variable counts as `~`. No field is wider
-// than 62 bits.
-pub fn first_windows(words: &[u32], start: usize, end: usize, width: u32) -> [u8; 256]
-    ensures { λ r. ⌜ (width ≤ 62 → Told width start (terms (now (words .entry)) start end) r) ⌝ }
+// A mark for each first window of a field of a width, signed or not, with a set; a set with a variable counts as `~`. No field is wider than 64 bits.
+pub fn first_windows(words: &[u32], start: usize, end: usize, width: u32, signed: bool) -> [u8; 256]
+    ensures { λ r. ⌜ (width ≤ 64 → Told width signed start (terms (now (words .entry)) start end) r) ⌝ }
 {
-    if 62 < width {
+    if 64 < width {
         return [0; 256];
     }
     if has_variable(words, start, end) {
         return [1; 256];
     }
     let none = [0i64; 1];
-    windows_of(words, start, end, &none[0..0], width)
+    let offset = offset_of(width, signed);
+    windows_of(words, start, end, &none[0..0], width, offset)
+}
+
+// The first bit turned: numbers below `half` and those from it on change places.
+fn swapped(half: u64, number: u64) -> u64
+    requires { ⌜ (half ≤ 256) × (number ≤ 256) ⌝ }
+    ensures { λ r. ⌜ r ≡ halves-swapped half number ⌝ }
+{
+    if number < half {
+        return number + half;
+    }
+    number - half
 }
 
 // Whether the window of a number is marked.
-pub fn leads(marks: &[u8; 256], width: u32, number: u64) -> bool
-    requires { ⌜ width ≤ 62 ⌝ }
-    ensures { λ r. ⌜ ((i : ℕ) (xs : List Term) → Told width i xs (now (marks .entry)) → Tells width i xs number r) ⌝ }
+pub fn leads(marks: &[u8; 256], width: u32, signed: bool, number: u64) -> bool
+    requires { ⌜ width ≤ 64 ⌝ }
+    ensures { λ r. ⌜ ((i : ℕ) (xs : List Term) → Told width signed i xs (now (marks .entry)) → Tells width signed i xs number r) ⌝ }
 {
     let shift = hidden(width);
     let strings = power((width - shift) as u64);
@@ -77,5 +109,7 @@ pub fn leads(marks: &[u8; 256], width: u32, number: u64) -> bool
     if strings <= leading {
         return false;
     }
-    0 < marks[leading as usize]
+    let half = offset_of(width - shift, signed);
+    let turned = swapped(half, leading);
+    0 < marks[turned as usize]
 }

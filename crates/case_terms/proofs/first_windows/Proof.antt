@@ -6,10 +6,10 @@ use Rattle.case_terms.proofs.first_windows.Statement.{statement}
 use Rattle.case_terms.proofs.first_windows.Tie as tie
 
 abbrev Inv-loop : tie.InvT-loop
-Inv-loop words end width marks count₀ least₀ greatest₀ number₀ count least greatest number = (number ≤ 512) × (count ≤ number)
+Inv-loop words end width signed marks count₀ least₀ greatest₀ number₀ count least greatest number = (number ≤ 512) × (count ≤ number)
 
 abbrev μ-loop : tie.MeasureT-loop
-μ-loop words end width marks count₀ least₀ greatest₀ number₀ count least greatest number = 512 - number
+μ-loop words end width signed marks count₀ least₀ greatest₀ number₀ count least greatest number = 512 - number
 
 first-windows-requires : tie.Need-first-windows-requires Inv-loop μ-loop
 first-windows-requires c κs = search needs

@@ -1,86 +1,63 @@
-use Prim.Native.Nat.{ℕ, _+_, _*_, _-_, _/_, _%_, _^_, _≤_, _<_}
+use Prim.Native.Nat.{ℕ, _+_, _*_, _-_, _^_, _≤_, _<_}
 use native.Mathlib.Omega.{arith}
-use mathlib.Core.Path.{_≡_, sym, _∙_, ap, ap₂, subst}
-use lib.ListN.{length, take, drop}
-use lib.Pow.{pow-pos}
+use mathlib.Core.Path.{_≡_, sym, ap, ap₂, subst, _∙_}
+use lib.ListN.{take, drop}
+use lib.Pow.{pow-mono}
 use Rattle.basis.specs.Bits.{value, frameBits}
-use Rattle.basis.proofs.Frames.{bits-in-bytes, value-take-less}
+use Rattle.basis.proofs.Frames.{bits-in-two, value-take-less}
 use borrow.Author.Needs.{needs}
 use Rattle.run_frame.proofs.bits.Statement.{statement}
 use Rattle.run_frame.proofs.bits.Tie as tie
-use Rattle.run_frame.proofs.bits.Reads as reads
-use Rattle.run_frame.proofs.bits.Lts as lts
-use Rattle.run_frame.proofs.bytes.Reads as bytes-reads
 
--- src/lib.rt:43:14
-add-n : tie.Need-add-n
-add-n c = search needs
+few-bits-requires : tie.Need-few-bits-requires
+few-bits-requires c κs = search needs
 
--- src/lib.rt:43:14
-add-n-2 : tie.Need-add-n-2
-add-n-2 c = search needs
-
--- src/lib.rt:44:9
-bytes-requires : tie.Need-bytes-requires
-bytes-requires c κs = search needs
-
--- src/lib.rt:45:17
-mul-below : tie.Need-mul-below
-mul-below c = search needs
-
--- src/lib.rt:45:17
-sub-below : tie.Need-sub-below
-sub-below c = search needs
-
--- src/lib.rt:46:10
-power-requires : tie.Need-power-requires
-power-requires c κs = search needs
-
--- src/lib.rt:46:6
-rem-result : tie.Need-rem-result
-rem-result c = subst (λ (n : ℕ). 0 < n) (sym (c .power .ensures)) (pow-pos _)
-
--- src/lib.rt:46:32
-sub-power : tie.Need-sub-power
-sub-power c = search needs
-
--- src/lib.rt:46:26
-power-requires-2 : tie.Need-power-requires-2
-power-requires-2 c κs = search needs
-
--- src/lib.rt:46:5
-div-result : tie.Need-div-result
-div-result c = subst (λ (n : ℕ). 0 < n) (sym (c .power2 .ensures)) (pow-pos _)
-
--- src/lib.rt:37:1
 returns : tie.Need-returns
-returns c =
+returns c = search needs
+
+sub-few-bits : tie.Need-sub-few-bits
+sub-few-bits c = search needs
+
+few-bits-requires-2 : tie.Need-few-bits-requires-2
+few-bits-requires-2 c κs = search needs
+
+sub-few-bits-2 : tie.Need-sub-few-bits-2
+sub-few-bits-2 c = search needs
+
+add-few-bits : tie.Need-add-few-bits
+add-few-bits c = search needs
+
+few-bits-requires-3 : tie.Need-few-bits-requires-3
+few-bits-requires-3 c κs = search needs
+
+mul-result : tie.Need-mul-result
+mul-result c = let p : 2 ^ (c .before .before .before .before .args .w - 32) ≤ 2 ^ 32 = pow-mono {i = c .before .before .before .before .args .w - 32} {j = 32} (omega arith) in let h = c .before .few-bits2 .ensures .1 in record { fits = omega arith }
+
+add-result : tie.Need-add-result
+add-result c = let p : 2 ^ (c .before .before .before .before .args .w - 32) ≤ 2 ^ 32 = pow-mono {i = c .before .before .before .before .args .w - 32} {j = 32} (omega arith) in let h = c .before .few-bits2 .ensures .1 in let k = c .few-bits3 .ensures .1 in record { fits = omega arith }
+
+returns-2 : tie.Need-returns-2
+returns-2 c =
     let fs = c .before .before .before .before .args .frame .now in
     let p = c .before .before .before .before .args .p in
     let w = c .before .before .before .before .args .w in
-    let q = p / 8 in
-    let r = p % 8 in
-    let n = (r + w + 7) / 8 in
-    let place : 8 * q + r ≡ p = omega arith in
-    let l : q + n ≤ length fs = omega arith in
-    let m : r + w ≤ 8 * n = omega arith in
-    let e : c .before .before .bytes .result % c .before .power .result / c .power2 .result ≡ value (take w (drop p (frameBits fs))) =
-    ap₂ (λ (x y : ℕ). x / y) (ap₂ (λ (x y : ℕ). x % y) (c .before .before .bytes .ensures .0) (c .before .power .ensures)) (c .power2 .ensures)
-    ∙ (sym (bits-in-bytes fs q r n w l m) ∙ ap (λ (x : ℕ). value (take w (drop x (frameBits fs)))) place) in
+    let s : w - 32 + 32 ≡ w = omega arith in
+    let e : c .before .few-bits2 .result * 4294967296 + c .few-bits3 .result ≡ value (take w (drop p (frameBits fs))) =
+    ap₂ (λ (x y : ℕ). x * 4294967296 + y) (c .before .few-bits2 .ensures .0) (c .few-bits3 .ensures .0)
+    ∙ (sym (bits-in-two fs p (w - 32) 32 (omega arith)) ∙ ap (λ (n : ℕ). value (take n (drop p (frameBits fs)))) s) in
     (e, subst (λ (x : ℕ). x < 2 ^ w) (sym e) (value-take-less w (drop p (frameBits fs))))
 
 pub bits-spec : {M : Type 1} → statement M
 bits-spec =
     tie.close
     (tie.spec
-    add-n
-    add-n-2
-    bytes-requires
-    mul-below
-    sub-below
-    power-requires
-    rem-result
-    sub-power
-    power-requires-2
-    div-result
-    returns)
+    few-bits-requires
+    returns
+    sub-few-bits
+    few-bits-requires-2
+    sub-few-bits-2
+    add-few-bits
+    few-bits-requires-3
+    mul-result
+    add-result
+    returns-2)

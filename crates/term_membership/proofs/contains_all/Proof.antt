@@ -9,13 +9,13 @@ use Rattle.term_membership.proofs.contains_all.Statement.{statement}
 use Rattle.term_membership.proofs.contains_all.Tie as tie
 
 abbrev Inv-loop : tie.InvT-loop
-Inv-loop words start end variables values masks₀ count₀ numbers₀ at₀ masks count numbers at = Underway variables words start end values at numbers masks count
+Inv-loop words start end variables offset values masks₀ count₀ numbers₀ at₀ masks count numbers at = Underway offset variables words start end values at numbers masks count
 
 abbrev μ-loop : tie.MeasureT-loop
-μ-loop words start end variables values masks₀ count₀ numbers₀ at₀ masks count numbers at = end - at
+μ-loop words start end variables offset values masks₀ count₀ numbers₀ at₀ masks count numbers at = end - at
 
 loop-holds : tie.Need-loop-holds Inv-loop μ-loop
-loop-holds c = begins (c .before .args .variables .now) (c .before .args .words .now) (c .before .args .start) (c .before .args .end) (c .before .args .values .now)
+loop-holds c = begins (c .before .args .offset) (c .before .args .variables .now) (c .before .args .words .now) (c .before .args .start) (c .before .args .end) (c .before .args .values .now)
 
 term-at-requires : tie.Need-term-at-requires Inv-loop μ-loop
 term-at-requires c κs = search needs
@@ -40,8 +40,8 @@ returns c =
     let a = c .before .before .before .before .before .before .before .before .args in
     let l = c .before .before .before .before .before .before .loop in
     λ j h.
-    goes-off (a .variables .now) (a .words .now) (a .start) (a .end) (a .values .now) (l .at) (l .numbers) (l .masks) (l .count) (l .inv) (c .before .before .before .before .before .loop-test .taken)
-    (sym (c .before .enum-told .given .1) ∙ c .before .before .before .turn .ensures ∙ ap (λ (x : Term). turnOf (a .variables .now) x (l .numbers)) (c .before .before .before .before .term-at .ensures)) j h
+    goes-off (a .offset) (a .variables .now) (a .words .now) (a .start) (a .end) (a .values .now) (l .at) (l .numbers) (l .masks) (l .count) (l .inv) (c .before .before .before .before .before .loop-test .taken)
+    (sym (c .before .enum-told .given .1) ∙ c .before .before .before .turn .ensures ∙ ap (λ (x : Term). turnOf (a .offset) (a .variables .now) x (l .numbers)) (c .before .before .before .before .term-at .ensures)) j h
     ∙ c .nothing .ensures j h
 
 add-at : tie.Need-add-at Inv-loop μ-loop
@@ -54,9 +54,9 @@ loop-again : tie.Need-loop-again Inv-loop μ-loop
 loop-again c =
     let a = c .before .before .before .before .before .before .before .before .before .before .args in
     let l = c .before .before .before .before .before .before .before .before .loop in
-    goes-on (a .variables .now) (a .words .now) (a .start) (a .end) (a .values .now) (l .at) (l .numbers) (l .masks) (l .count) (l .inv) (c .before .before .before .before .before .before .before .loop-test .taken)
+    goes-on (a .offset) (a .variables .now) (a .words .now) (a .start) (a .end) (a .values .now) (l .at) (l .numbers) (l .masks) (l .count) (l .inv) (c .before .before .before .before .before .before .before .loop-test .taken)
     (c .before .before .before .next .given .0 .0) (c .before .before .before .next .given .0 .1 .0)
-    (sym (c .before .before .before .next .given .1) ∙ c .before .before .before .before .before .turn .ensures ∙ ap (λ (x : Term). turnOf (a .variables .now) x (l .numbers)) (c .before .before .before .before .before .before .term-at .ensures))
+    (sym (c .before .before .before .next .given .1) ∙ c .before .before .before .before .before .turn .ensures ∙ ap (λ (x : Term). turnOf (a .offset) (a .variables .now) x (l .numbers)) (c .before .before .before .before .before .before .term-at .ensures))
     (c .apply-all .last .1 .1 .0) (c .apply-all .result) (c .apply-all .ensures)
 
 array-read-same : tie.Need-array-read-same Inv-loop μ-loop
@@ -73,7 +73,7 @@ returns-2 c =
     let a = c .before .before .before .before .before .args in
     let l = c .before .before .before .loop in
     λ j h.
-    goes-out (a .variables .now) (a .words .now) (a .start) (a .end) (a .values .now) (l .at) (l .numbers) (l .masks) (l .count) (l .inv) (c .before .before .loop-test .left) j h
+    goes-out (a .offset) (a .variables .now) (a .words .now) (a .start) (a .end) (a .values .now) (l .at) (l .numbers) (l .masks) (l .count) (l .inv) (c .before .before .loop-test .left) j h
     ∙ c .ended .ensures (l .masks) (sym (c .before .same .ensures)) j h
 
 pub contains-all-spec : {M : Type 1} → statement M

@@ -22,8 +22,8 @@ returns c =
     let l = c .before .before .before .before .before .before .least-values in
     let t = c .before .before .before .before .before .try-changes in
     λ k h.
-    told-window (a .variables .now) (a .start) (terms (a .words .now) (a .start) (a .end)) (a .width) (l .last .1 .1 .1 .1 .1 .0) (l .ensures)
-    (record { values = replicate {A = ℕ} 64 0; waiting = 0; marks = l .last .1 .1 .1 .1 .1 .0 }) (t .result) refl (t .ensures) (c .settle .last .1 .1 .1 .1 .1 .1 .0) (c .settle .ensures) k h
+    told-window (a .offset) (a .variables .now) (a .start) (terms (a .words .now) (a .start) (a .end)) (a .width) (l .last .1 .1 .1 .1 .1 .1 .0) (l .ensures)
+    (record { values = replicate {A = ℕ} 64 0; waiting = 0; marks = l .last .1 .1 .1 .1 .1 .1 .0 }) (t .result) refl (t .ensures) (c .settle .last .1 .1 .1 .1 .1 .1 .1 .0) (c .settle .ensures) k h
 
 pub windows-of-spec : {M : Type 1} → statement M
 windows-of-spec =

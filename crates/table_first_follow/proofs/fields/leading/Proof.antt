@@ -13,10 +13,10 @@ use Rattle.table_first_follow.proofs.fields.leading.Statement.{statemen
 use Rattle.table_first_follow.proofs.fields.leading.Tie as tie
 
 abbrev Inv-loop : tie.InvT-loop
-Inv-loop words start end width low high marks out₀ n₀ out n = Is (out .words) (Numbered low n (Led width words start end)) × (low ≤ n) × (n ≤ max low high)
+Inv-loop words start end width signed low high marks out₀ n₀ out n = Is (out .words) (Numbered low n (Led width signed words start end)) × (low ≤ n) × (n ≤ max low high)
 
 abbrev μ-loop : tie.MeasureT-loop
-μ-loop words start end width low high marks out₀ n₀ out n = high - n
+μ-loop words start end width signed low high marks out₀ n₀ out n = high - n
 
 first-windows-requires : tie.Need-first-windows-requires Inv-loop μ-loop
 first-windows-requires c κs = search needs
@@ -27,7 +27,7 @@ empty-requires c κs = search needs
 loop-holds : tie.Need-loop-holds Inv-loop μ-loop
 loop-holds c =
     let a = c .before .before .before .args in
-    (numbered-none (a .low) (Led (a .width) (a .words .now) (a .start) (a .end)) (a .low) (c .empty .result .words) refl (c .empty .ensures), omega arith, omega arith)
+    (numbered-none (a .low) (Led (a .width) (a .signed) (a .words .now) (a .start) (a .end)) (a .low) (c .empty .result .words) refl (c .empty .ensures), omega arith, omega arith)
 
 leads-requires : tie.Need-leads-requires Inv-loop μ-loop
 leads-requires c κs = search needs
@@ -45,7 +45,7 @@ loop-again : tie.Need-loop-again Inv-loop μ-loop
 loop-again c =
     let a = c .before .before .before .before .before .before .before .before .args in
     let l = c .before .before .before .before .loop in
-    let P : ℕ → Type 0 = Led (a .width) (a .words .now) (a .start) (a .end) in
+    let P : ℕ → Type 0 = Led (a .width) (a .signed) (a .words .now) (a .start) (a .end) in
     let t = c .before .leads .ensures (a .start) (terms (a .words .now) (a .start) (a .end)) (c .before .before .before .before .before .before .first-windows .ensures (c .before .before .before .before .before .before .before .before .pre)) in (
       ⊎-elim
           (λ w. subst (λ (s : Set). Is (s .words) (Numbered (a .low) (l .n + 1) P)) (sym (w .2))
@@ -61,7 +61,7 @@ returns : tie.Need-returns Inv-loop μ-loop
 returns c =
     let a = c .before .before .before .before .before .args in
     let l = c .before .loop in
-    numbered-end (a .low) (Led (a .width) (a .words .now) (a .start) (a .end)) (l .n) (a .high) (l .out .words) (c .loop-test .left) (l .inv .2) (l .inv .0)
+    numbered-end (a .low) (Led (a .width) (a .signed) (a .words .now) (a .start) (a .end)) (l .n) (a .high) (l .out .words) (c .loop-test .left) (l .inv .2) (l .inv .0)
 
 pub leading-spec : {M : Type 1} → statement M
 leading-spec =

@@ -1,6 +1,7 @@
 -- `table_first_follow::fields::uint` meets its contract. Assumes nothing.
 use Prim.Native.Nat.{ℕ, _+_}
 use borrow.Author.Needs.{needs}
+use mathlib.Core.Bool.{false}
 use mathlib.Core.List.{List}
 use mathlib.Core.Path.{subst₂}
 use Rattle.table_layout.specs.Held.{term-words}
@@ -27,7 +28,7 @@ leading-requires c κs = search needs
 returns : tie.Need-returns
 returns c =
     let a = c .before .before .before .before .args in
-    subst₂ (λ (n : ℕ) (words : List ℕ). Is (c .leading .result .words) (Numbered n (n + n) (Led (a .width) words (a .start) (a .end)))) (c .before .before .strings-of .ensures .0) (c .before .term-words .ensures) (c .leading .ensures)
+    subst₂ (λ (n : ℕ) (words : List ℕ). Is (c .leading .result .words) (Numbered n (n + n) (Led (a .width) false words (a .start) (a .end)))) (c .before .before .strings-of .ensures .0) (c .before .term-words .ensures) (c .leading .ensures)
 
 pub uint-spec : {M : Type 1} → statement M
 uint-spec =

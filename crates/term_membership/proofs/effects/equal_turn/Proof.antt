@@ -18,7 +18,7 @@ enum-told : tie.Need-enum-told
 enum-told c = search needs
 
 returns : tie.Need-returns
-returns c = rw (c .item .ensures, back (c .before .before .rest .given .0 .1 .0) (c .before .known-told .given .1 .0 .1)) (ap equalTurn (sym (c .before .before .rest .given .1) ∙ c .before .before .before .before .top .ensures))
+returns c = rw (c .item .ensures, back (c .before .before .rest .given .0 .1 .0) (c .before .known-told .given .1 .0 .1)) (ap (equalTurn (c .before .before .before .before .before .args .offset)) (sym (c .before .before .rest .given .1) ∙ c .before .before .before .before .top .ensures))
 
 returns-2 : tie.Need-returns-2
 returns-2 c = search needs

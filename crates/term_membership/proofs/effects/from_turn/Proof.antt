@@ -11,18 +11,18 @@ top-requires c κs = search needs
 enum-known-rest : tie.Need-enum-known-rest
 enum-known-rest c = search needs
 
-natural-requires : tie.Need-natural-requires
-natural-requires c κs = search needs
+raised-requires : tie.Need-raised-requires
+raised-requires c κs = search needs
 
 enum-told : tie.Need-enum-told
 enum-told c = search needs
 
 returns : tie.Need-returns
-returns c = rw (c .natural .ensures, back (c .before .before .rest .given .0 .1 .0) (c .before .known-told .given .1 .0 .1)) (ap fromTurn (sym (c .before .before .rest .given .1) ∙ c .before .before .before .before .top .ensures))
+returns c = rw (c .raised .ensures, back (c .before .before .rest .given .0 .1 .0) (c .before .known-told .given .1 .0 .1)) (ap (fromTurn (c .before .before .before .before .before .args .offset)) (sym (c .before .before .rest .given .1) ∙ c .before .before .before .before .top .ensures))
 
 returns-2 : tie.Need-returns-2
 returns-2 c = search needs
 
 pub from-turn-spec : {M : Type 1} → statement M
 from-turn-spec =
-    tie.close (tie.spec top-requires enum-known-rest natural-requires enum-told returns returns-2)
+    tie.close (tie.spec top-requires enum-known-rest raised-requires enum-told returns returns-2)

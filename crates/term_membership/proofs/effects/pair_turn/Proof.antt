@@ -18,7 +18,7 @@ enum-told : tie.Need-enum-told
 enum-told c = search needs
 
 returns : tie.Need-returns
-returns c = rw (c .item .ensures, back (c .before .before .rest .given .0 .1 .0) (c .before .known-told .given .1 .0 .1), back (c .before .before .rest .given .0 .1 .1 .0) (c .before .known-told .given .1 .1 .0 .1)) (ap pairTurn (sym (c .before .before .rest .given .1) ∙ c .before .before .before .before .pair .ensures))
+returns c = rw (c .item .ensures, back (c .before .before .rest .given .0 .1 .0) (c .before .known-told .given .1 .0 .1), back (c .before .before .rest .given .0 .1 .1 .0) (c .before .known-told .given .1 .1 .0 .1)) (ap (pairTurn (c .before .before .before .before .before .args .offset)) (sym (c .before .before .rest .given .1) ∙ c .before .before .before .before .pair .ensures))
 
 returns-2 : tie.Need-returns-2
 returns-2 c = search needs

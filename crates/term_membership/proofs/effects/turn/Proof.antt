@@ -66,13 +66,13 @@ returns-3 : tie.Need-returns-3
 returns-3 c = simp (c .enum-told .given .1)
 
 returns-4 : tie.Need-returns-4
-returns-4 c = search needs
+returns-4 c = simp (c .pair-turn .ensures, c .before .enum-told2 .given .1)
 
 returns-5 : tie.Need-returns-5
-returns-5 c = search needs
+returns-5 c = simp (c .from-turn .ensures, c .before .enum-told3 .given .1)
 
 returns-6 : tie.Need-returns-6
-returns-6 c = search needs
+returns-6 c = simp (c .up-to-turn .ensures, c .before .enum-told4 .given .1)
 
 returns-7 : tie.Need-returns-7
 returns-7 c = simp (c .enum-told5 .given .1)

@@ -11,18 +11,18 @@ top-requires c κs = search needs
 enum-known-rest : tie.Need-enum-known-rest
 enum-known-rest c = search needs
 
-item-requires : tie.Need-item-requires
-item-requires c κs = search needs
+up-to-requires : tie.Need-up-to-requires
+up-to-requires c κs = search needs
 
 enum-told : tie.Need-enum-told
 enum-told c = search needs
 
 returns : tie.Need-returns
-returns c = rw (c .item .ensures, back (c .before .before .rest .given .0 .1 .0) (c .before .known-told .given .1 .0 .1)) (ap upToTurn (sym (c .before .before .rest .given .1) ∙ c .before .before .before .before .top .ensures))
+returns c = rw (c .up-to .ensures, back (c .before .before .rest .given .0 .1 .0) (c .before .known-told .given .1 .0 .1)) (ap (upToTurn (c .before .before .before .before .before .args .offset)) (sym (c .before .before .rest .given .1) ∙ c .before .before .before .before .top .ensures))
 
 returns-2 : tie.Need-returns-2
 returns-2 c = search needs
 
 pub up-to-turn-spec : {M : Type 1} → statement M
 up-to-turn-spec =
-    tie.close (tie.spec top-requires enum-known-rest item-requires enum-told returns returns-2)
+    tie.close (tie.spec top-requires enum-known-rest up-to-requires enum-told returns returns-2)

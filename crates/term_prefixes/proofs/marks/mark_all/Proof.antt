@@ -4,7 +4,6 @@ use Prim.Native.Nat.{ℕ, _-_, _≤_, _<_}
 use mathlib.Core.Bool.{Bool}
 use borrow.Author.Needs.{needs}
 use lib.Dec.{eqb}
-use lib.IntN.{ℤ, pos}
 use lib.ListN.{length, getD}
 use Rattle.term_prefixes.specs.Marks.{Sought, Among}
 use Rattle.term_prefixes.proofs.MarkLaws.{among-none, among-more}
@@ -12,7 +11,7 @@ use Rattle.term_prefixes.proofs.marks.mark_all.Statement.{statement}
 use Rattle.term_prefixes.proofs.marks.mark_all.Tie as tie
 
 abbrev Inv-loop : tie.InvT-loop
-Inv-loop values truths width marks₀ j₀ marks j = ((f : ℤ → Bool) → ((j : ℕ) → j < 64 → f (pos (getD values j 0)) ≡ eqb (getD truths j 0) 3) → Sought f width (Among values j) marks₀ marks) × (length marks ≡ 256) × (j ≤ 64)
+Inv-loop values truths width marks₀ j₀ marks j = ((f : ℕ → Bool) → ((j : ℕ) → j < 64 → f (getD values j 0) ≡ eqb (getD truths j 0) 3) → Sought f width (Among values j) marks₀ marks) × (length marks ≡ 256) × (j ≤ 64)
 
 abbrev μ-loop : tie.MeasureT-loop
 μ-loop values truths width marks₀ j₀ marks j = 64 - j
