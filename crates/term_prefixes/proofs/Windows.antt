@@ -49,6 +49,11 @@ module _ (signed : Bool) (w v : ℕ) (h : v < 2 ^ w) where
         ∙ ⊎-elim (λ (e : low-half ≡ 0). swapped-high low-half (v - low-half) (omega arith) ∙ omega arith) (λ (e : 2 ^ w ≡ low-half + low-half). swapped-low low-half (v - low-half) (omega arith) ∙ omega arith) (half-or-none signed w)
   ]
 
+pub offset-few : (signed : Bool) (w : ℕ) → w ≤ 8 → offset signed w ≤ 128
+offset-few false w h = omega arith
+offset-few true zero h = omega arith
+offset-few true (suc w) h = pow-mono {i = w} {j = 7} (omega arith)
+
 -- ---- blocks: the values whose leading bits are alike
 
 module _ (w : ℕ) where

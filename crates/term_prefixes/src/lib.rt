@@ -14,7 +14,7 @@ use term_integers::power;
 ghost use mathlib.Core.List.{List};
 ghost use mathlib.Core.Path.{_≡_};
 ghost use Prim.Native.Nat.{ℕ, _^_, _≤_, _<_};
-ghost use Rattle.basis.specs.Patterns.{halves-swapped};
+ghost use Rattle.basis.specs.Patterns.{offset, halves-swapped};
 ghost use Rattle.term_words.specs.Words.{terms};
 ghost use Rattle.term_words.specs.declared.Term.{Term};
 ghost use Rattle.term_membership.specs.Members.{holds-from};
@@ -84,10 +84,18 @@ pub fn first_windows(words: &[u32], start: usize, end: usize, width: u32, signed
     windows_of(words, start, end, &none[0..0], width, offset)
 }
 
+// The first bit of a signed window, as a number.
+fn first_bit(length: u32, signed: bool) -> u64
+    requires { ⌜ length ≤ 8 ⌝ }
+    ensures { λ r. ⌜ (r ≡ offset signed length) × (r ≤ 128) ⌝ }
+{
+    offset_of(length, signed)
+}
+
 // The first bit turned: numbers below `half` and those from it on change places.
 fn swapped(half: u64, number: u64) -> u64
-    requires { ⌜ (half ≤ 256) × (number ≤ 256) ⌝ }
-    ensures { λ r. ⌜ r ≡ halves-swapped half number ⌝ }
+    requires { ⌜ (half ≤ 128) × (number < 256) ⌝ }
+    ensures { λ r. ⌜ (r ≡ halves-swapped half number) × (r < 256) ⌝ }
 {
     if number < half {
         return number + half;
@@ -109,7 +117,7 @@ pub fn leads(marks: &[u8; 256], width: u32, signed: bool, number: u64) -> bool
     if strings <= leading {
         return false;
     }
-    let half = offset_of(width - shift, signed);
+    let half = first_bit(width - shift, signed);
     let turned = swapped(half, leading);
     0 < marks[turned as usize]
 }
