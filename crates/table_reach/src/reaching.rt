@@ -82,7 +82,7 @@ fn row_of(table: &[u32], r: usize) -> u64
 }
 
 // The uses of every rule.
-fn fill(table: &[u32], rows: &mut [u64; MAX_RULES])
+pub fn fill(table: &[u32], rows: &mut [u64; MAX_RULES])
     requires { ⌜ length (now rows) ≡ max-rules ⌝ }
     ensures { λ r. ⌜ Matrix (now (rows .exit)) (uses (now (table .entry))) ⌝ }
 {
