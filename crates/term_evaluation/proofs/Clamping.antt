@@ -1,16 +1,19 @@
 -- A set holds all whole numbers past 2^62 or none of them, and all below −2^62 or none.
 -- Assumes nothing.
-use Prim.Native.Nat.{ℕ, zero, suc, _+_, _*_, _/_, _%_, _^_, _≤_, _<_}
+use Prim.Native.Nat.{ℕ, zero, suc, _+_, _*_, _-_, _/_, _%_, _^_, _≤_, _<_}
 use mathlib.Core.Path.{_≡_, refl, sym, ap, ap₂, _∙_}
 use mathlib.Core.Bool.{Bool, true, false, cond}
 use mathlib.Core.List.{List, [], _∷_}
 use native.Mathlib.Omega.{arith}
 use borrow.Author.Tests.{le-leb, lt-leb, leb-true, leb-false, ltb-true}
 use lib.Dec.{leb, ltb, eqb}
-use lib.IntN.{ℤ, pos, negsuc, natAbs, _+ℤ_, _-ℤ_, _*ℤ_}
+use lib.IntN.{ℤ, pos, negsuc, natAbs, subℕ, _+ℤ_, _-ℤ_, _*ℤ_}
 use lib.ListN.{length, getD}
+use lib.Pow.{pow-mono}
 use lib.Signed.{leZ}
-use Rattle.basis.specs.Bits.{digit}
+use Rattle.basis.specs.Bits.{Bits, digit}
+use Rattle.basis.specs.Patterns.{pattern-value, offset, place}
+use Rattle.basis.proofs.PatternLaws.{place-less, value-place, offset-small}
 use Rattle.term_integers.specs.Wholes.{bounded, equals}
 use Rattle.term_integers.specs.declared.Checked.{Checked}
 use Rattle.term_words.specs.Numbers.{topOf, pairOf, pushed, kept, differenceOf, oppositeOf}
@@ -270,3 +273,19 @@ one-less (suc n) = let e : suc (0 + n) ≡ suc n = omega arith in ap negsuc e
 pub clamped-in : (z : ℤ) → natAbs z ≤ 2 ^ 62 → clamped z ≡ z
 unfolding clamped
 clamped-in z h = rw (le-leb (natAbs z) (2 ^ 62) h)
+
+-- ---- of 62 bits and fewer, a value is itself
+
+difference-small : (a b m : ℕ) → a ≤ m → b ≤ m → natAbs (subℕ a b) ≤ m
+difference-small a b m h k = go (ltb a b) refl
+  where
+    go : (t : Bool) → ltb a b ≡ t → natAbs (cond t (negsuc (b - suc a)) (pos (a - b))) ≤ m
+    go true e = let l : a < b = ltb-true a b e in omega arith
+    go false e = omega arith
+
+pub clamped-narrow : (signed : Bool) (s : Bits) → length s ≤ 62 → clamped (pattern-value signed s) ≡ pattern-value signed s
+clamped-narrow signed s h =
+    let m : 2 ^ length s ≤ 2 ^ 62 = pow-mono {i = length s} {j = 62} h in
+    let a : place signed s < 2 ^ length s = place-less signed s in
+    let b : offset signed (length s) ≤ 2 ^ length s = offset-small signed (length s) in
+    clamped-in (pattern-value signed s) (rw value-place (difference-small (place signed s) (offset signed (length s)) (2 ^ 62) (omega arith) (omega arith)))

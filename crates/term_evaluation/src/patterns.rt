@@ -54,8 +54,8 @@ pub fn offset_of(width: u32, sign: bool) -> u64
     0
 }
 
-// The value of a pattern, or what stands for it.
-fn value_of(pattern: u64, width: u32, sign: bool) -> i64
+// The value of a pattern, which of 62 bits and fewer is the value itself (`Clamping.clamped-narrow`), or what stands for it.
+pub fn value_of(pattern: u64, width: u32, sign: bool) -> i64
     requires { ⌜ (width ≤ 64) × (pattern < 2 ^ width) ⌝ }
     ensures { λ r. ⌜ r ≡ clamped (pattern-value sign (bitsOf width pattern)) ⌝ }
 {
