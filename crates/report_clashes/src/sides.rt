@@ -67,13 +67,7 @@ fn goes(
 }
 
 // Whether a variable is on the way.
-fn goes_free(
-    table: &[u32],
-    first: &[u64],
-    follow: &[u64],
-    construct: usize,
-    window: usize,
-) -> bool
+fn goes_free(table: &[u32], first: &[u64], follow: &[u64], construct: usize, window: usize) -> bool
     requires { ⌜ Families (now table) (now first) (now follow) ⌝ }
 {
     let mut steps = [0usize; 3072];
@@ -96,13 +90,7 @@ fn stops(
     chains::listed(grammar, table, &steps, count);
 }
 
-fn stops_free(
-    table: &[u32],
-    first: &[u64],
-    follow: &[u64],
-    construct: usize,
-    window: usize,
-) -> bool
+fn stops_free(table: &[u32], first: &[u64], follow: &[u64], construct: usize, window: usize) -> bool
     requires { ⌜ Families (now table) (now first) (now follow) ⌝ }
 {
     let mut steps = [0usize; 3072];
