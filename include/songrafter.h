@@ -26,8 +26,8 @@ extern "C" {
 
 /* This header's version, as text and as a number: major * 1000000 + minor * 1000 + patch. songrafter_version() is the
  * archive's: the two are the same where header and archive belong together. */
-#define SONGRAFTER_VERSION "0.1.0"
-#define SONGRAFTER_VERSION_NUMBER 1000u
+#define SONGRAFTER_VERSION "0.2.0"
+#define SONGRAFTER_VERSION_NUMBER 2000u
 
 /* Sizes of what the caller lends. */
 #define SONGRAFTER_TEXT_BYTES 8192u     /* the longest grammar */
