@@ -76,7 +76,7 @@ fn told(grammar: &[u8], table: &[u32]) {
 }
 
 pub fn explained(grammar: &[u8], at: usize) {
-    report_advice::values::none_left(grammar, at);
+    report_values::values::none_left(grammar, at);
     let words = sets::encoded(grammar).words;
     told(grammar, &words);
 }

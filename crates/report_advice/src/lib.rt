@@ -1,5 +1,4 @@
 // What the refusals mean and what to change, in sentences for a clerk.
-mod calculations;
 pub mod clashes;
 mod expected;
 pub mod form;
@@ -11,4 +10,3 @@ pub mod rest;
 mod slips;
 pub mod titles;
 pub mod unreached;
-pub mod values;

@@ -1,8 +1,8 @@
 use native.Mathlib.Omega.{arith}
 use borrow.Author.Needs.{needs}
 use Prim.Native.Nat.{_-_}
-use Rattle.report_advice.proofs.values.behind.Statement.{statement}
-use Rattle.report_advice.proofs.values.behind.Tie as tie
+use Rattle.report_values.proofs.values.behind.Statement.{statement}
+use Rattle.report_values.proofs.values.behind.Tie as tie
 
 abbrev Inv-loop : tie.InvT-loop
 Inv-loop grammar at count here₀ n₀ here n = Unit

@@ -1,8 +1,8 @@
 use native.Mathlib.Omega.{arith}
 use borrow.Author.Needs.{needs}
 use Prim.Native.Nat.{_-_}
-use Rattle.report_advice.proofs.calculations.worked_out.Statement.{statement}
-use Rattle.report_advice.proofs.calculations.worked_out.Tie as tie
+use Rattle.report_values.proofs.calculations.worked_out.Statement.{statement}
+use Rattle.report_values.proofs.calculations.worked_out.Tie as tie
 
 abbrev Inv-loop : tie.InvT-loop
 Inv-loop grammar at state₀ here₀ tokens₀ state here tokens = Unit

@@ -1,8 +1,8 @@
 use native.Mathlib.Omega.{arith}
 use borrow.Author.Needs.{needs}
 use Prim.Native.Nat.{_-_}
-use Rattle.report_advice.proofs.values.items.Statement.{statement}
-use Rattle.report_advice.proofs.values.items.Tie as tie
+use Rattle.report_values.proofs.values.items.Statement.{statement}
+use Rattle.report_values.proofs.values.items.Tie as tie
 
 abbrev Inv-loop : tie.InvT-loop
 Inv-loop grammar set most at₀ n₀ t7 at n = Unit
