@@ -24,7 +24,7 @@ fn late(grammar: &[u8], n: usize, at: usize) {
 fn explained(grammar: &[u8], n: usize, at: usize) {
     match n {
         3 => report_advice::header::wrong(grammar, at),
-        4 => report_advice::form::wrong(grammar, at),
+        4 => report_form::form::wrong(grammar, at),
         5 => limits::passed(grammar, at),
         6 => names::fault(grammar, at),
         _ => late(grammar, n, at),

@@ -18,7 +18,7 @@ use text_header::spans::byte_at;
 use text_literals::quote;
 use text_parsing::terminals::look;
 ghost use mathlib.Core.Path.{_≡_};
-ghost use Rattle.report_advice.specs.Codes.{begins-item, ends-item, is-literal, is-ranging, in-field, in-set, is-joining};
+ghost use Rattle.report_form.specs.Codes.{begins-item, ends-item, is-literal, is-ranging, in-field, in-set, is-joining};
 
 fn long_name() {
     say(b"This name has more than 32 bytes.\n");
