@@ -42,10 +42,12 @@ fn leading(
     ensures { λ r. ⌜ Is (r .words) (Numbered low high (Led width signed (now (words .entry)) start end)) ⌝ }
 {
     let marks = term_prefixes::first_windows(words, start, end, width, signed);
+    let strings = term_prefixes::window_count(width);
+    let half = term_prefixes::first_bit(width, signed);
     let mut out = lookahead::empty();
     let mut n = low;
     while n < high {
-        if term_prefixes::leads(&marks, width, signed, n as u64) {
+        if term_prefixes::leads(&marks, strings, half, n as u64) {
             out = lookahead::insert(out, n);
         }
         n += 1;

@@ -13,24 +13,30 @@ use Rattle.table_first_follow.proofs.fields.leading.Statement.{statemen
 use Rattle.table_first_follow.proofs.fields.leading.Tie as tie
 
 abbrev Inv-loop : tie.InvT-loop
-Inv-loop words start end width signed low high marks out₀ n₀ out n = Is (out .words) (Numbered low n (Led width signed words start end)) × (low ≤ n) × (n ≤ max low high)
+Inv-loop words start end width signed low high marks strings half out₀ n₀ out n = Is (out .words) (Numbered low n (Led width signed words start end)) × (low ≤ n) × (n ≤ max low high)
 
 abbrev μ-loop : tie.MeasureT-loop
-μ-loop words start end width signed low high marks out₀ n₀ out n = high - n
+μ-loop words start end width signed low high marks strings half out₀ n₀ out n = high - n
 
 first-windows-requires : tie.Need-first-windows-requires Inv-loop μ-loop
 first-windows-requires c κs = search needs
+
+window-count-requires : tie.Need-window-count-requires Inv-loop μ-loop
+window-count-requires c κs = search needs
+
+first-bit-requires : tie.Need-first-bit-requires Inv-loop μ-loop
+first-bit-requires c κs = search needs
 
 empty-requires : tie.Need-empty-requires Inv-loop μ-loop
 empty-requires c κs = search needs
 
 loop-holds : tie.Need-loop-holds Inv-loop μ-loop
 loop-holds c =
-    let a = c .before .before .before .args in
+    let a = c .before .before .before .before .before .args in
     (numbered-none (a .low) (Led (a .width) (a .signed) (a .words .now) (a .start) (a .end)) (a .low) (c .empty .result .words) refl (c .empty .ensures), omega arith, omega arith)
 
 leads-requires : tie.Need-leads-requires Inv-loop μ-loop
-leads-requires c κs = search needs
+leads-requires c κs = let w = c .before .before .before .before in (w .before .window-count .ensures .1, w .first-bit .ensures .1)
 
 insert-requires : tie.Need-insert-requires Inv-loop μ-loop
 insert-requires c κs = c .before .before .before .before .loop .inv .0 .proper
@@ -43,10 +49,11 @@ loop-less c = search needs
 
 loop-again : tie.Need-loop-again Inv-loop μ-loop
 loop-again c =
-    let a = c .before .before .before .before .before .before .before .before .args in
+    let a = c .before .before .before .before .before .before .before .before .before .before .args in
     let l = c .before .before .before .before .loop in
     let P : ℕ → Type 0 = Led (a .width) (a .signed) (a .words .now) (a .start) (a .end) in
-    let t = c .before .leads .ensures (a .start) (terms (a .words .now) (a .start) (a .end)) (c .before .before .before .before .before .before .first-windows .ensures (c .before .before .before .before .before .before .before .before .pre)) in (
+    let w = c .before .before .before .before .before .before .before in
+    let t = c .before .leads .ensures (a .width) (a .signed) (a .start) (terms (a .words .now) (a .start) (a .end)) (w .window-count .ensures .0) (c .before .before .before .before .before .before .first-bit .ensures .0) (w .before .first-windows .ensures (w .before .before .before .pre)) in (
       ⊎-elim
           (λ w. subst (λ (s : Set). Is (s .words) (Numbered (a .low) (l .n + 1) P)) (sym (w .2))
           (numbered-hit (a .low) P (l .n) (l .out .words) (w .1 .result .words) (l .inv .1) (t .found (w .0 .taken)) (l .inv .0) (w .1 .ensures)))
@@ -59,7 +66,7 @@ loop-again c =
 
 returns : tie.Need-returns Inv-loop μ-loop
 returns c =
-    let a = c .before .before .before .before .before .args in
+    let a = c .before .before .before .before .before .before .before .args in
     let l = c .before .loop in
     numbered-end (a .low) (Led (a .width) (a .signed) (a .words .now) (a .start) (a .end)) (l .n) (a .high) (l .out .words) (c .loop-test .left) (l .inv .2) (l .inv .0)
 
@@ -70,6 +77,8 @@ leading-spec =
     Inv-loop
     μ-loop
     first-windows-requires
+    window-count-requires
+    first-bit-requires
     empty-requires
     loop-holds
     leads-requires
