@@ -100,9 +100,11 @@ fn first_windows(words: &[u32], end: usize, width: u32, signed: bool) -> Windows
     let mut count: u64 = 0;
     let mut least: u64 = 0;
     let mut greatest: u64 = 0;
+    let strings = term_prefixes::window_count(width);
+    let half = term_prefixes::first_bit(width, signed);
     let mut number: u64 = 1;
     while number < 512 {
-        if term_prefixes::leads(&marks, width, signed, number) {
+        if term_prefixes::leads(&marks, strings, half, number) {
             if least == 0 {
                 least = number;
             }
@@ -137,9 +139,11 @@ fn list_windows(name: &[u8], words: &[u32], end: usize, width: u32, signed: bool
 {
     text(name);
     let marks = term_prefixes::first_windows(words, 0, end, width, signed);
+    let strings = term_prefixes::window_count(width);
+    let half = term_prefixes::first_bit(width, signed);
     let mut number: u64 = 1;
     while number < 512 {
-        if term_prefixes::leads(&marks, width, signed, number) {
+        if term_prefixes::leads(&marks, strings, half, number) {
             text(b" ");
             natural(number);
         }

@@ -1,6 +1,6 @@
 -- The FIRST sets of fields, from the numbers of their strings.
 -- Assumes nothing.
-use Prim.Native.Nat.{ℕ, zero, suc, _+_, _-_, _*_, _/_, _%_, _^_, _≤_, _<_, min, max}
+use Prim.Native.Nat.{ℕ, zero, suc, _+_, _-_, _*_, _/_, _%_, _^_, _≤_, _<_, max}
 use mathlib.Core.Path.{_≡_, refl, sym, ap, _∙_, subst}
 use mathlib.Core.Bool.{Bool, true, false, false≢true, cond, _&&_}
 use mathlib.Core.Logic.{inl, inr, _↔_}
@@ -11,7 +11,7 @@ use native.Mathlib.Nat.{add-zero}
 use borrow.Author.Tests.{le-leb, leb-true}
 use lib.Dec.{leb}
 use lib.IntN.{pos}
-use lib.ListN.{length, length-take}
+use lib.ListN.{length}
 use lib.Seq.{take-at}
 use lib.Pow.{pow-mono}
 use Rattle.table_first_follow.specs.Sets.{sets-held}
@@ -22,7 +22,7 @@ use Rattle.basis.specs.Patterns.{pattern-value}
 use Rattle.basis.proofs.PatternLaws.{unsigned-value}
 use Rattle.basis.proofs.Frames.{frame-length}
 use Rattle.basis.proofs.Strings.{same-refl, same-true}
-use Rattle.basis.proofs.Numbers.{number-value, number-ge, number-lt, number-injective, number-bitsOf}
+use Rattle.basis.proofs.Numbers.{number-value, number-lt, number-injective, number-bitsOf}
 use Rattle.basis.proofs.Values.{length-bitsOf, value-less, bitsOf-value}
 use Rattle.basis.proofs.Joins.{lookahead-length, lookahead-short}
 use Rattle.basis.proofs.Booleans.{both-true, both-pass}
@@ -40,7 +40,7 @@ use Rattle.term_membership.specs.Members.{holds}
 use Rattle.term_membership.specs.Members as Members
 use Rattle.term_words.specs.Numbers as Numbers
 use Rattle.table_first_follow.specs.Rules.{Seeded, Leading}
-use Rattle.table_first_follow.specs.Fields.{Numbered, Any, Led}
+use Rattle.table_first_follow.specs.Fields.{Numbered, Any, Led, Named}
 use Rattle.table_first_follow.specs.Parts.{siblings, Neutral}
 use Rattle.table_layout.proofs.Bounds.{missing-past}
 use Rattle.table_first_follow.proofs.HeldLaws.{node-inside, node-opening}
@@ -65,12 +65,6 @@ module _ (low : ℕ) (P : ℕ → Type 0) where
         | yes e ↦ inr (q .0, e)
         | no e ↦ inl (s .strings x .1 (q .0, q .1, omega (arith, q .2, e), q .3))
       ]
-
-  pub numbered-miss : (n : ℕ) (out : List ℕ) → (P n → ⊥) → Is out (Numbered low n P) → Is out (Numbered low (n + 1) P)
-  numbered-miss n out f s = is-map out (Numbered low n P) (Numbered low (n + 1) P) (λ x. (
-    (λ q. (q .0, q .1, omega (arith, q .2), q .3)),
-    (λ q. elim (ℕ-discrete (number x) n) [ yes e ↦ absurd (f (subst P e (q .3))) | no e ↦ (q .0, q .1, omega (arith, q .2, e), q .3) ]),
-  )) s
 
   -- at the end, where there may have been no number
   pub numbered-end : (n high : ℕ) (out : List ℕ) → high ≤ n → n ≤ max low high → Is out (Numbered low n P) → Is out (Numbered low high P)
@@ -149,26 +143,18 @@ module _ (ws : List ℕ) (start end : ℕ) where
   static-admits n = ap (cond (hasVariable (terms-of ws start end)) true) (yes-same (membership [] (pos n) start (terms-of ws start end)))
 
   module _ (width : ℕ) where
-    abbrev count : ℕ
-    count = 2 ^ min 8 width
-
-    pub uint-strings : (x : Bits) → Numbered count (count + count) (Led width false (term-words ws) start end) x ↔ Leading (λ bits. width) (λ bits. in-static-set ws start end (value bits)) x
+    pub uint-strings : (x : Bits) → Named (Led width false (term-words ws) start end) x ↔ Leading (λ bits. width) (λ bits. in-static-set ws start end (value bits)) x
     uint-strings x = (to, back)
       where
-        to : Numbered count (count + count) (Led width false (term-words ws) start end) x → Leading (λ bits. width) (λ bits. in-static-set ws start end (value bits)) x
-        to (l, lo, hi, (v, k)) =
+        to : Named (Led width false (term-words ws) start end) x → Leading (λ bits. width) (λ bits. in-static-set ws start end (value bits)) x
+        to (l, (v, k)) =
             let e : admits start (terms-of ws start end) (pos (value (bitsOf width v))) ≡ true = ap (admits start (terms-of ws start end)) (sym (unsigned-value (bitsOf width v))) ∙ k .member in
             (bitsOf width v, length-bitsOf width v, static-admits (value (bitsOf width v)) ∙ e, number-injective x (lookahead (bitsOf width v)) (sym (k .leading)))
 
-        back : Leading (λ bits. width) (λ bits. in-static-set ws start end (value bits)) x → Numbered count (count + count) (Led width false (term-words ws) start end) x
+        back : Leading (λ bits. width) (λ bits. in-static-set ws start end (value bits)) x → Named (Led width false (term-words ws) start end) x
         back (bits, l, t, p) =
-            let n : length x ≡ min 8 width = ap length p ∙ length-take 8 bits ∙ ap (min 8) l in
-            let b : bitsOf width (value bits) ≡ bits = ap (λ (w : ℕ). bitsOf w (value bits)) (sym l) ∙ bitsOf-value bits in
-            let g : count ≤ number x = subst (λ (k : ℕ). 2 ^ k ≤ number x) n (number-ge x) in
-            let u : number x < 2 ^ suc (min 8 width) = subst (λ (k : ℕ). number x < 2 ^ suc k) n (number-lt x) in (
-              omega arith,
-              g,
-              omega arith,
+            let b : bitsOf width (value bits) ≡ bits = ap (λ (w : ℕ). bitsOf w (value bits)) (sym l) ∙ bitsOf-value bits in (
+              subst (λ (s : Bits). length s ≤ 8) (sym p) (lookahead-length bits),
               (
                 value bits,
                 record {
@@ -220,11 +206,11 @@ module _ (ws : List ℕ) (i : ℕ) (h : i < sets-held) (r : Construct) (e : r �
   seed-range low high p l s = seed-placed (Construct.Range low high) p (is-map out (Numbered (256 + low) (257 + high) Any) (Seeded (node-of ws i (Construct.Range low high))) (range-strings low high l) s)
 
   pub seed-uint : (width start end binder : ℕ) → r ≡ Construct.Uint width start end binder
-      → Is out (Numbered (2 ^ min 8 width) (2 ^ min 8 width + 2 ^ min 8 width) (Led width false (term-words ws) start end)) → Right
+      → Is out (Named (Led width false (term-words ws) start end)) → Right
   unfolding node-of
   seed-uint width start end binder p s =
       seed-placed (Construct.Uint width start end binder) p
-      (is-map out (Numbered (2 ^ min 8 width) (2 ^ min 8 width + 2 ^ min 8 width) (Led width false (term-words ws) start end)) (Seeded (node-of ws i (Construct.Uint width start end binder)))
+      (is-map out (Named (Led width false (term-words ws) start end)) (Seeded (node-of ws i (Construct.Uint width start end binder)))
       (uint-strings ws start end width) s)
 
   -- a switch without a default has the empty string

@@ -5,5 +5,6 @@ pub mod PartLaws
 pub mod CountLaws
 pub mod AppliedLaws
 pub mod FieldLaws
+pub mod WordLaws
 pub mod FollowLaws
 pub mod PushLaws

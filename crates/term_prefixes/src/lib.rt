@@ -11,9 +11,10 @@ use crate::tries::try_changes;
 use term_evaluation::patterns::offset_of;
 use term_evaluation::variables::has_variable;
 use term_integers::power;
+ghost use mathlib.Core.Bool.{Bool};
 ghost use mathlib.Core.List.{List};
 ghost use mathlib.Core.Path.{_≡_};
-ghost use Prim.Native.Nat.{ℕ, _^_, _≤_, _<_};
+ghost use Prim.Native.Nat.{ℕ, _-_, _^_, _≤_, _<_};
 ghost use Rattle.basis.specs.Patterns.{offset, halves-swapped};
 ghost use Rattle.term_words.specs.Words.{terms};
 ghost use Rattle.term_words.specs.declared.Term.{Term};
@@ -84,12 +85,22 @@ pub fn first_windows(words: &[u32], start: usize, end: usize, width: u32, signed
     windows_of(words, start, end, &none[0..0], width, offset)
 }
 
-// The first bit of a signed window, as a number.
-fn first_bit(length: u32, signed: bool) -> u64
-    requires { ⌜ length ≤ 8 ⌝ }
-    ensures { λ r. ⌜ (r ≡ offset signed length) × (r ≤ 128) ⌝ }
+// How many first windows the fields of a width have.
+pub fn window_count(width: u32) -> u64
+    requires { ⌜ width ≤ 64 ⌝ }
+    ensures { λ r. ⌜ (r ≡ 2 ^ (width - (width - 8))) × (r ≤ 256) ⌝ }
 {
-    offset_of(length, signed)
+    let shift = hidden(width);
+    power((width - shift) as u64)
+}
+
+// The first bit of a signed field's window, as a number; else 0.
+pub fn first_bit(width: u32, signed: bool) -> u64
+    requires { ⌜ width ≤ 64 ⌝ }
+    ensures { λ r. ⌜ (r ≡ offset signed (width - (width - 8))) × (r ≤ 128) ⌝ }
+{
+    let shift = hidden(width);
+    offset_of(width - shift, signed)
 }
 
 // The first bit turned: numbers below `half` and those from it on change places.
@@ -103,13 +114,11 @@ fn swapped(half: u64, number: u64) -> u64
     number - half
 }
 
-// Whether the window of a number is marked.
-pub fn leads(marks: &[u8; 256], width: u32, signed: bool, number: u64) -> bool
-    requires { ⌜ width ≤ 64 ⌝ }
-    ensures { λ r. ⌜ ((i : ℕ) (xs : List Term) → Told width signed i xs (now (marks .entry)) → Tells width signed i xs number r) ⌝ }
+// Whether the window of a number is marked. The number of windows and their first bit are those of the field, worked out once for all of its windows.
+pub fn leads(marks: &[u8; 256], strings: u64, half: u64, number: u64) -> bool
+    requires { ⌜ (strings ≤ 256) × (half ≤ 128) ⌝ }
+    ensures { λ r. ⌜ ((width : ℕ) (signed : Bool) (i : ℕ) (xs : List Term) → strings ≡ 2 ^ (width - (width - 8)) → half ≡ offset signed (width - (width - 8)) → Told width signed i xs (now (marks .entry)) → Tells width signed i xs number r) ⌝ }
 {
-    let shift = hidden(width);
-    let strings = power((width - shift) as u64);
     if number < strings {
         return false;
     }
@@ -117,7 +126,6 @@ pub fn leads(marks: &[u8; 256], width: u32, signed: bool, number: u64) -> bool
     if strings <= leading {
         return false;
     }
-    let half = first_bit(width - shift, signed);
     let turned = swapped(half, leading);
     0 < marks[turned as usize]
 }

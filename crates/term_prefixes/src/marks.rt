@@ -29,16 +29,13 @@ fn last_of(width: u32) -> u64
 }
 
 // Marks the window of a value of the width that is in a set: `truth` is 3.
-fn mark(marks: &mut [u8; 256], width: u32, value: u64, truth: u64)
-    requires { ⌜ (width ≤ 64) × (length (now marks) ≡ 256) ⌝ }
+fn mark(marks: &mut [u8; 256], width: u32, last: u64, shift: u32, value: u64, truth: u64)
+    requires { ⌜ (width ≤ 64) × (length (now marks) ≡ 256) × (last + 1 ≡ 2 ^ width) × (shift ≡ width - 8) ⌝ }
     ensures { λ r. ⌜ ((f : ℕ → Bool) → f value ≡ eqb truth 3 → Sought f width (λ (v : ℕ). value ≡ v) (now (marks .entry)) (now (marks .exit))) ⌝ }
 {
     if truth == 3 {
-        let last = last_of(width);
-        let shift = hidden(width);
-        let block = power(shift as u64);
         if value <= last {
-            let window = (value / block) as usize;
+            let window = (value >> shift) as usize;
             marks[window] = 1;
         }
     }
@@ -48,9 +45,11 @@ fn mark_all(values: &[u64; 64], truths: &[u64; 64], width: u32, marks: &mut [u8;
     requires { ⌜ (width ≤ 64) × (length (now marks) ≡ 256) ⌝ }
     ensures { λ r. ⌜ ((f : ℕ → Bool) → ((j : ℕ) → j < 64 → f (getD (now (values .entry)) j 0) ≡ eqb (getD (now (truths .entry)) j 0) 3) → Sought f width (Among (now (values .entry)) 64) (now (marks .entry)) (now (marks .exit))) ⌝ }
 {
+    let last = last_of(width);
+    let shift = hidden(width);
     let mut j = 0;
     while j < 64 {
-        mark(marks, width, values[j], truths[j]);
+        mark(marks, width, last, shift, values[j], truths[j]);
         j += 1;
     }
 }

@@ -6,13 +6,19 @@ use Rattle.case_terms.proofs.first_windows.Statement.{statement}
 use Rattle.case_terms.proofs.first_windows.Tie as tie
 
 abbrev Inv-loop : tie.InvT-loop
-Inv-loop words end width signed marks count₀ least₀ greatest₀ number₀ count least greatest number = (number ≤ 512) × (count ≤ number)
+Inv-loop words end width signed marks count₀ least₀ greatest₀ strings half number₀ count least greatest number = (number ≤ 512) × (count ≤ number)
 
 abbrev μ-loop : tie.MeasureT-loop
-μ-loop words end width signed marks count₀ least₀ greatest₀ number₀ count least greatest number = 512 - number
+μ-loop words end width signed marks count₀ least₀ greatest₀ strings half number₀ count least greatest number = 512 - number
 
 first-windows-requires : tie.Need-first-windows-requires Inv-loop μ-loop
 first-windows-requires c κs = search needs
+
+window-count-requires : tie.Need-window-count-requires Inv-loop μ-loop
+window-count-requires c κs = search needs
+
+first-bit-requires : tie.Need-first-bit-requires Inv-loop μ-loop
+first-bit-requires c κs = search needs
 
 loop-holds : tie.Need-loop-holds Inv-loop μ-loop
 loop-holds c = search needs
@@ -42,6 +48,8 @@ first-windows-spec =
     Inv-loop
     μ-loop
     first-windows-requires
+    window-count-requires
+    first-bit-requires
     loop-holds
     leads-requires
     add-count

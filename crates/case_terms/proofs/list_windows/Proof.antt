@@ -6,16 +6,22 @@ use Rattle.case_terms.proofs.list_windows.Statement.{statement}
 use Rattle.case_terms.proofs.list_windows.Tie as tie
 
 abbrev Inv-loop : tie.InvT-loop
-Inv-loop name words end width signed marks number₀ t8 t9 number = number ≤ 512
+Inv-loop name words end width signed marks strings half number₀ t8 t9 number = number ≤ 512
 
 abbrev μ-loop : tie.MeasureT-loop
-μ-loop name words end width signed marks number₀ t8 t9 number = 512 - number
+μ-loop name words end width signed marks strings half number₀ t8 t9 number = 512 - number
 
 text-requires : tie.Need-text-requires Inv-loop μ-loop
 text-requires c κs = search needs
 
 first-windows-requires : tie.Need-first-windows-requires Inv-loop μ-loop
 first-windows-requires c κs = search needs
+
+window-count-requires : tie.Need-window-count-requires Inv-loop μ-loop
+window-count-requires c κs = search needs
+
+first-bit-requires : tie.Need-first-bit-requires Inv-loop μ-loop
+first-bit-requires c κs = search needs
 
 loop-holds : tie.Need-loop-holds Inv-loop μ-loop
 loop-holds c = search needs
@@ -58,6 +64,8 @@ list-windows-spec =
     μ-loop
     text-requires
     first-windows-requires
+    window-count-requires
+    first-bit-requires
     loop-holds
     leads-requires
     slice-aggregate-text

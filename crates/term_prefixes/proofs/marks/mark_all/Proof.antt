@@ -11,13 +11,19 @@ use Rattle.term_prefixes.proofs.marks.mark_all.Statement.{statement}
 use Rattle.term_prefixes.proofs.marks.mark_all.Tie as tie
 
 abbrev Inv-loop : tie.InvT-loop
-Inv-loop values truths width marks₀ j₀ marks j = ((f : ℕ → Bool) → ((j : ℕ) → j < 64 → f (getD values j 0) ≡ eqb (getD truths j 0) 3) → Sought f width (Among values j) marks₀ marks) × (length marks ≡ 256) × (j ≤ 64)
+Inv-loop values truths width marks₀ last shift j₀ marks j = ((f : ℕ → Bool) → ((j : ℕ) → j < 64 → f (getD values j 0) ≡ eqb (getD truths j 0) 3) → Sought f width (Among values j) marks₀ marks) × (length marks ≡ 256) × (j ≤ 64)
 
 abbrev μ-loop : tie.MeasureT-loop
-μ-loop values truths width marks₀ j₀ marks j = 64 - j
+μ-loop values truths width marks₀ last shift j₀ marks j = 64 - j
+
+last-of-requires : tie.Need-last-of-requires Inv-loop μ-loop
+last-of-requires c κs = search needs
+
+hidden-requires : tie.Need-hidden-requires Inv-loop μ-loop
+hidden-requires c κs = search needs
 
 loop-holds : tie.Need-loop-holds Inv-loop μ-loop
-loop-holds c = ((λ f h. among-none f (c .args .width) (c .args .values .now) (c .args .marks .now) (c .pre .1)), c .pre .1, search needs)
+loop-holds c = let a = c .before .before .args in ((λ f h. among-none f (a .width) (a .values .now) (a .marks .now) (c .before .before .pre .1)), c .before .before .pre .1, search needs)
 
 mul-mark : tie.Need-mul-mark Inv-loop μ-loop
 mul-mark c = search needs
@@ -42,7 +48,7 @@ loop-less c = search needs
 
 loop-again : tie.Need-loop-again Inv-loop μ-loop
 loop-again c =
-    let a = c .before .before .before .before .before .before .args in
+    let a = c .before .before .before .before .before .before .before .before .args in
     let l = c .before .before .before .before .before .loop in
     let t = c .before .before .before .before .loop-test .taken in (
       (λ f h. among-more f (a .width) (a .values .now) (a .marks .now) (l .marks) (c .mark .last .0) (l .j) (l .inv .0 f h) (c .mark .ensures f (h (l .j) t))),
@@ -52,7 +58,7 @@ loop-again c =
 
 returns : tie.Need-returns Inv-loop μ-loop
 returns c =
-    let a = c .before .before .args in
+    let a = c .before .before .before .before .args in
     let l = c .before .loop in
     let e : l .j ≡ 64 = omega (arith, l .inv .2) in
     λ f h. subst (λ (n : ℕ). Sought f (a .width) (Among (a .values .now) n) (a .marks .now) (l .marks)) e (l .inv .0 f h)
@@ -63,6 +69,8 @@ mark-all-spec =
     (tie.spec
     Inv-loop
     μ-loop
+    last-of-requires
+    hidden-requires
     loop-holds
     mul-mark
     element-copy-out-mark
