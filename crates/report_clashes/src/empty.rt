@@ -18,14 +18,18 @@ fn mark_of(grammar: &[u8], construct: usize) -> usize {
     terminal.start
 }
 
-// A repetition, and how its body takes nothing.
+// A repetition, and how its body takes nothing; of a body with 8 passes and more that take nothing no list is made.
 fn body(grammar: &[u8], table: &[u32], first: &[u64], construct: usize)
     requires { ⌜ FirstFamily (now table) (now first) ⌝ }
 {
     let mut steps = [0usize; 3072];
     part_at(grammar, place_of(grammar, construct), Part::Member);
     let count = checked::takes_nothing(table, first, &mut steps, next(construct));
-    chains::listed(grammar, table, &steps, count);
+    if count == 0 {
+        say(b"        every part of it may take nothing\n");
+    } else {
+        chains::listed(grammar, table, &steps, count);
+    }
 }
 
 // Whether a count with a variable is on the way.

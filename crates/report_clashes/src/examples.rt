@@ -1,5 +1,5 @@
-// An example of a clash: a frame's beginning at which both sides fit. It is printed only where it is certain: both chains are whole, no variable and no
-// switch is in the grammar, no further pass is on the way, and where a chain leaves a rule no rule is used twice.
+// An example of a clash: a frame's beginning at which both sides fit. It is printed only where it is certain: both chains are whole, no variable, no
+// switch and no eod before something else is in the grammar, no further pass is on the way, and where a chain leaves a rule no rule is used twice.
 use crate::sides::next;
 use report_chain_checks::chains as checked;
 use report_chains::strings::bits;
@@ -177,8 +177,8 @@ fn shown(bits: &[usize], count: usize, window: usize) {
     }
 }
 
-fn at(table: &[u32], construct: usize, window: usize) {
-    if plain(table) {
+fn at(table: &[u32], follow: &[u64], construct: usize, window: usize) {
+    if plain(table, follow) {
         let mut bits = [0usize; 256];
         let count = up_to(table, construct, &mut bits);
         shown(&bits, count, window);
@@ -198,7 +198,7 @@ fn branches(
 {
     if goes(table, first, follow, one, window) {
         if goes(table, first, follow, other, window) {
-            at(table, construct, window);
+            at(table, follow, construct, window);
         }
     }
 }
@@ -208,7 +208,7 @@ fn passes(table: &[u32], first: &[u64], follow: &[u64], construct: usize, window
 {
     if goes(table, first, follow, next(construct), window) {
         if stops(table, first, follow, construct, window) {
-            at(table, construct, window);
+            at(table, follow, construct, window);
         }
     }
 }

@@ -1,6 +1,7 @@
-// Tables whose FIRST and FOLLOW say no more than frames have: without variables, switches and, where asked, rules that are used twice.
+// Tables whose FIRST and FOLLOW say no more than frames have: without variables, switches, something after an eod and, where asked, rules that are used twice.
 use report_measures::counts::varies;
 use report_measures::structure::is_use;
+use report_measures::words::set_at;
 use table_layout::Construct;
 use table_layout::construct_at;
 
@@ -11,11 +12,22 @@ fn is_switch(table: &[u32], i: usize) -> bool {
     }
 }
 
-// No construct is a switch, or has a variable in its set or counts.
-pub fn plain(table: &[u32]) -> bool {
+// An eod after which more than the frame's end may come: windows join what stands there, and no frame has it.
+fn is_inner_end(table: &[u32], follow: &[u64], i: usize) -> bool {
+    match construct_at(table, i) {
+        Construct::Eod => !lookahead::equal(set_at(follow, i), lookahead::single(1)),
+        _ => false,
+    }
+}
+
+// No construct is a switch or an eod before something else, or has a variable in its set or counts.
+pub fn plain(table: &[u32], follow: &[u64]) -> bool {
     let mut i: usize = 0;
     while i < 256 {
         if is_switch(table, i) {
+            return false;
+        }
+        if is_inner_end(table, follow, i) {
             return false;
         }
         if varies(table, i) {

@@ -1,5 +1,7 @@
 // The sets behind clashes, where the arrays are as long as they must be.
 use table_conflicts::Clash;
+ghost use mathlib.Core.Bool.{Bool};
+ghost use Rattle.report_places.specs.Tables.{TextEncoding};
 
 // The clash of construct i.
 pub fn clash(table: &[u32], follow: &[u64], prediction: &[u64], i: usize) -> Clash {
@@ -35,8 +37,10 @@ pub struct Words {
     pub words: [u32; 16384],
 }
 
-// The table's words of a text, whether or not it is refused.
-pub fn encoded(grammar: &[u8]) -> Words {
+// The table's words of a text, whether or not it is refused; zeros of one that has none.
+pub fn encoded(grammar: &[u8]) -> Words
+    ensures { λ r. ⌜ ((found : Bool) × TextEncoding (now (grammar .entry)) (r .words) found) ⌝ }
+{
     let mut words = [0u32; 16384];
     report_places::tables::encode(grammar, &mut words);
     Words { words }

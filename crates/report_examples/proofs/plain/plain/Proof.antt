@@ -5,10 +5,10 @@ use Rattle.report_examples.proofs.plain.plain.Statement.{statement}
 use Rattle.report_examples.proofs.plain.plain.Tie as tie
 
 abbrev Inv-loop : tie.InvT-loop
-Inv-loop table i₀ i = Unit
+Inv-loop table follow i₀ i = Unit
 
 abbrev μ-loop : tie.MeasureT-loop
-μ-loop table i₀ i = 256 - i
+μ-loop table follow i₀ i = 256 - i
 
 loop-holds : tie.Need-loop-holds Inv-loop μ-loop
 loop-holds c = tt
@@ -19,11 +19,17 @@ is-switch-requires c κs = search needs
 returns : tie.Need-returns Inv-loop μ-loop
 returns c = search needs
 
-varies-requires : tie.Need-varies-requires Inv-loop μ-loop
-varies-requires c κs = search needs
+is-inner-end-requires : tie.Need-is-inner-end-requires Inv-loop μ-loop
+is-inner-end-requires c κs = search needs
 
 returns-2 : tie.Need-returns-2 Inv-loop μ-loop
 returns-2 c = search needs
+
+varies-requires : tie.Need-varies-requires Inv-loop μ-loop
+varies-requires c κs = search needs
+
+returns-3 : tie.Need-returns-3 Inv-loop μ-loop
+returns-3 c = search needs
 
 add-i : tie.Need-add-i Inv-loop μ-loop
 add-i c = omega arith
@@ -34,8 +40,8 @@ loop-less c = omega arith
 loop-again : tie.Need-loop-again Inv-loop μ-loop
 loop-again c = tt
 
-returns-3 : tie.Need-returns-3 Inv-loop μ-loop
-returns-3 c = search needs
+returns-4 : tie.Need-returns-4 Inv-loop μ-loop
+returns-4 c = search needs
 
 pub plain-spec : {M : Type 1} → statement M
 plain-spec =
@@ -46,9 +52,11 @@ plain-spec =
     loop-holds
     is-switch-requires
     returns
-    varies-requires
+    is-inner-end-requires
     returns-2
+    varies-requires
+    returns-3
     add-i
     loop-less
     loop-again
-    returns-3)
+    returns-4)

@@ -10,7 +10,7 @@ encode-requires : tie.Need-encode-requires
 encode-requires c κs = refl
 
 returns : tie.Need-returns
-returns c = search needs
+returns c = (c .before .encode .result, c .before .encode .ensures)
 
 pub encoded-spec : {M : Type 1} → statement M
 encoded-spec = tie.close (tie.spec slice-aggregate-encode encode-requires returns)
