@@ -46,7 +46,7 @@ empty-both a b f g n l same e h =
 
 -- ---- what is read of the words, with the state in one piece
 
-uint-node : (xs : List ℕ) (st : State) → Bounded xs st → length xs ≤ max-text-bytes → (i width start end binder : ℕ) → constructAt (words-of xs st) i ≡ Construct.Uint width start end binder
+uint-node : (xs : List ℕ) (st : State) → Bounded xs st → length xs ≤ max-text-bytes → (i : ℕ) (signed : Bool) (width start end binder : ℕ) → constructAt (words-of xs st) i ≡ Construct.Uint signed width start end binder
     → (i < nodes-of st) × OfNode xs (node-words st) (term-words st) (rule-words st) (words-of xs st) (rules-of st) i width start end
 uint-node xs (state ns ts rs n t b r) p h i width start end binder e =
     let f = facts xs (state ns ts rs n t b r) (p .passed .passed .passed) h in

@@ -35,9 +35,13 @@ max-terms = 1024
 abbrev pub max-literal-bytes : ℕ
 max-literal-bytes = 32
 
--- "width a number from 1 to 32"
+-- "Widths go to 64" (Req 10)
 abbrev pub max-width : ℕ
-max-width = 32
+max-width = 64
+
+-- "A binder wider than 62 bits is refusal 8" (Req 10)
+abbrev pub max-bound-width : ℕ
+max-bound-width = 62
 
 -- "weight over 65,535" (11)
 abbrev pub max-weight : ℕ
@@ -49,9 +53,9 @@ table-words = 16384
 
 -- ---- a run
 
--- "frame over 256 bytes" (21)
+-- "frame over 1,024 bytes" (21; Req 10)
 abbrev pub max-frame-bytes : ℕ
-max-frame-bytes = 256
+max-frame-bytes = 1024
 
 abbrev pub max-frame-bits : ℕ
 max-frame-bits = 8 * max-frame-bytes

@@ -1,7 +1,7 @@
 // The limits, as the code has them; `specs/` has the bit strings and sets of counts that every other crate speaks of.
 ghost use mathlib.Core.Path.{_≡_};
 ghost use mathlib.Core.List.{List, _∷_, []};
-ghost use Rattle.basis.specs.Limits.{max-text-bytes, max-name-bytes, max-nesting, max-rules, max-constructs, max-variables, max-terms, max-literal-bytes, max-width, max-weight, table-words, max-frame-bytes, max-frame-bits, max-entries};
+ghost use Rattle.basis.specs.Limits.{max-text-bytes, max-name-bytes, max-nesting, max-rules, max-constructs, max-variables, max-terms, max-literal-bytes, max-width, max-bound-width, max-weight, table-words, max-frame-bytes, max-frame-bits, max-entries};
 
 // A text.
 pub const MAX_TEXT_BYTES: usize = 8192;
@@ -21,22 +21,24 @@ pub const MAX_TERMS: usize = 1024;
 
 pub const MAX_LITERAL_BYTES: usize = 32;
 
-pub const MAX_WIDTH: usize = 32;
+pub const MAX_WIDTH: usize = 64;
+
+pub const MAX_BOUND_WIDTH: usize = 62;
 
 pub const MAX_WEIGHT: usize = 65535;
 
 pub const TABLE_WORDS: usize = 16384;
 
 // A run.
-pub const MAX_FRAME_BYTES: usize = 256;
+pub const MAX_FRAME_BYTES: usize = 1024;
 
 pub const MAX_FRAME_BITS: usize = 8 * MAX_FRAME_BYTES;
 
 pub const MAX_ENTRIES: usize = 256;
 
 // The code's limits are those of the specification.
-pub fn every_limit() -> [usize; 14]
-    ensures { λ r. ⌜ r ≡ (max-text-bytes ∷ max-name-bytes ∷ max-nesting ∷ max-rules ∷ max-constructs ∷ max-variables ∷ max-terms ∷ max-literal-bytes ∷ max-width ∷ max-weight ∷ table-words ∷ max-frame-bytes ∷ max-frame-bits ∷ max-entries ∷ []) ⌝ }
+pub fn every_limit() -> [usize; 15]
+    ensures { λ r. ⌜ r ≡ (max-text-bytes ∷ max-name-bytes ∷ max-nesting ∷ max-rules ∷ max-constructs ∷ max-variables ∷ max-terms ∷ max-literal-bytes ∷ max-width ∷ max-bound-width ∷ max-weight ∷ table-words ∷ max-frame-bytes ∷ max-frame-bits ∷ max-entries ∷ []) ⌝ }
 {
     [
         MAX_TEXT_BYTES,
@@ -48,6 +50,7 @@ pub fn every_limit() -> [usize; 14]
         MAX_TERMS,
         MAX_LITERAL_BYTES,
         MAX_WIDTH,
+        MAX_BOUND_WIDTH,
         MAX_WEIGHT,
         TABLE_WORDS,
         MAX_FRAME_BYTES,

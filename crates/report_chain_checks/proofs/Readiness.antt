@@ -97,6 +97,6 @@ module _ (ws : List ℕ) where
     unfolding node-of
     of-range low high e = kind (Construct.Range low high) e (is-field _ _ _ _)
 
-    pub of-uint : (width start end binder : ℕ) → constructAt ws i ≡ Construct.Uint width start end binder → IsField (held ws .node i)
+    pub of-uint : (signed : Bool) (width start end binder : ℕ) → constructAt ws i ≡ Construct.Uint signed width start end binder → IsField (held ws .node i)
     unfolding node-of
-    of-uint width start end binder e = kind (Construct.Uint width start end binder) e (is-field _ _ _ _)
+    of-uint width start end binder e = kind (Construct.Uint signed width start end binder) e (is-field _ _ _ _)

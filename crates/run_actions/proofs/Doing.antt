@@ -177,7 +177,7 @@ module _ (ws fs : List ℕ) (vs : List ℤ) (p : ℕ) where
   construct-good i k (Construct.Use rule) f l = open-good rule
   construct-good i k (Construct.Literal n) f l = literal-good i n (f .1)
   construct-good i k (Construct.Range low high) f l = range-good low high
-  construct-good i k (Construct.Uint width start end binder) f l =
+  construct-good i k (Construct.Uint signed width start end binder) f l =
       picked-true Good (terms-in-table ws end && binder-in-table ws binder) (bits-act ws fs vs p width start end binder) Act.Broken (λ e. uint-good width start end binder (f .2) (f .5) (f .1)) tt
   construct-good i k Construct.Eod f l = picked-true Good (eqb p (bits-of fs)) Act.Leave Act.Fail (λ e. tt) tt
 

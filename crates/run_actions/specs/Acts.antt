@@ -14,6 +14,7 @@ use lib.IntN.{ℤ, pos}
 use lib.ListN.{length, take, drop}
 use Rattle.basis.specs.Limits.{max-constructs, max-variables}
 use Rattle.basis.specs.Bits.{value, frameBits, same}
+use Rattle.basis.specs.Patterns.{pattern-value}
 use Rattle.basis.specs.Lookahead.{lookahead, number}
 use Rattle.term_evaluation.specs.Meaning.{membership, condition}
 use Rattle.term_evaluation.specs.Counts.{counts}
@@ -140,32 +141,42 @@ literal-holds ws fs p i k n = same (take (8 * n) (drop (p + 8 * k) (frameBits fs
 -- a literal of n bytes: "no match on a difference or too few bits"
 abbrev pub literal-act : List ℕ → List ℕ → ℕ → ℕ → ℕ → Act
 literal-act ws fs p i n =
-    cond (leb (p + 8 * n) (bits-of fs)) (cond (literal-holds ws fs p i 0 n) (Act.Take (8 * n) 0 0) Act.Fail) Act.Fail
+    cond (leb (p + 8 * n) (bits-of fs)) (cond (literal-holds ws fs p i 0 n) (Act.Take (8 * n) 0 (pos 0)) Act.Fail) Act.Fail
 
 -- "a range of one-character literals": the next 8 bits are a number from the one character to the other
 abbrev pub range-act : List ℕ → ℕ → ℕ → ℕ → Act
 range-act fs p low high =
     cond (leb (p + 8) (bits-of fs))
-    (cond (leb low (value (take 8 (drop p (frameBits fs)))) && leb (value (take 8 (drop p (frameBits fs)))) high) (Act.Take 8 0 0) Act.Fail)
+    (cond (leb low (value (take 8 (drop p (frameBits fs)))) && leb (value (take 8 (drop p (frameBits fs)))) high) (Act.Take 8 0 (pos 0)) Act.Fail)
     Act.Fail
 
+-- what is bound, where there is a binder
+abbrev pub kept : ℕ → ℤ → ℤ
+kept zero n = pos 0
+kept (suc x) n = n
+
 -- a value that is in the set is taken; "a calculation past 2^62" and terms against the layout are broken
-abbrev pub by-set : Tested → ℕ → ℕ → ℕ → Act
+abbrev pub by-set : Tested → ℕ → ℕ → ℤ → Act
 by-set Tested.Yes width binder n = Act.Take width binder n
 by-set Tested.No width binder n = Act.Fail
 by-set Tested.Malformed width binder n = Act.Broken
 by-set Tested.Overflow width binder n = Act.Broken
 
--- "`uint(width, set)`, …, most significant bit first": so many bits are there, and the number that they are is in the set
-abbrev pub bits-act : List ℕ → List ℕ → List ℤ → ℕ → ℕ → ℕ → ℕ → ℕ → Act
-bits-act ws fs vs p width start end binder =
+-- the number that so many bits from bit p on are
+abbrev pub number-at : List ℕ → ℕ → Bool → ℕ → ℤ
+number-at fs p signed width = pattern-value signed (take width (drop p (frameBits fs)))
+
+-- "`uint(width, set)`, …, most significant bit first", or a sint: so many bits are there, and the number that they are is in the set
+abbrev pub bits-act : List ℕ → List ℕ → List ℤ → ℕ → Bool → ℕ → ℕ → ℕ → ℕ → Act
+bits-act ws fs vs p signed width start end binder =
     cond (leb (p + width) (bits-of fs))
-    (by-set (membership vs (pos (value (take width (drop p (frameBits fs))))) start (terms-of ws start end)) width binder (value (take width (drop p (frameBits fs)))))
+    (by-set (membership vs (number-at fs p signed width) start (terms-of ws start end)) width binder (kept binder (number-at fs p signed width)))
     Act.Fail
 
 -- of a uint whose set and variable are in the table
-abbrev pub uint-act : List ℕ → List ℕ → List ℤ → ℕ → ℕ → ℕ → ℕ → ℕ → Act
-uint-act ws fs vs p width start end binder = cond (terms-in-table ws end && binder-in-table ws binder) (bits-act ws fs vs p width start end binder) Act.Broken
+abbrev pub uint-act : List ℕ → List ℕ → List ℤ → ℕ → Bool → ℕ → ℕ → ℕ → ℕ → Act
+uint-act ws fs vs p signed width start end binder =
+    cond (terms-in-table ws end && binder-in-table ws binder) (bits-act ws fs vs p signed width start end binder) Act.Broken
 
 -- "`eod`, which takes no bits and holds only at the frame's end"
 abbrev pub end-act : List ℕ → ℕ → Act
@@ -183,7 +194,7 @@ construct-act ws fs vs p i k (Construct.Switch size) = case-act ws vs (i + 1) (i
 construct-act ws fs vs p i k (Construct.Use rule) = open-rule ws rule
 construct-act ws fs vs p i k (Construct.Literal n) = literal-act ws fs p i n
 construct-act ws fs vs p i k (Construct.Range low high) = range-act fs p low high
-construct-act ws fs vs p i k (Construct.Uint width start end binder) = uint-act ws fs vs p width start end binder
+construct-act ws fs vs p i k (Construct.Uint signed width start end binder) = uint-act ws fs vs p signed width start end binder
 construct-act ws fs vs p i k Construct.Eod = end-act fs p
 
 -- the opening use of the start rule has a number of its own
@@ -202,4 +213,4 @@ Doable ws fs p (Act.Enter b) = (b < max-constructs) × (b < construct-count ws)
 Doable ws fs p (Act.Members start end n) = (end ≤ max-constructs) × (n ≤ max-constructs) × (end ≤ construct-count ws) × (n ≡ part-count ws start end)
 Doable ws fs p (Act.Again b) = (b < max-constructs) × (b < construct-count ws)
 Doable ws fs p Act.Leave = Unit {0}
-Doable ws fs p (Act.Take width binder n) = (p + width ≤ bits-of fs) × (binder ≤ max-variables) × (n < 4294967296) × (1 ≤ width)
+Doable ws fs p (Act.Take width binder n) = (p + width ≤ bits-of fs) × (binder ≤ max-variables) × (1 ≤ width)

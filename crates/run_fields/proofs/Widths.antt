@@ -18,7 +18,7 @@ small i (Construct.Switch size) h = omega arith
 small i (Construct.Use rule) h = omega arith
 small i (Construct.Literal n) h = omega (arith, h .2)
 small i (Construct.Range low high) h = omega arith
-small i (Construct.Uint width start end binder) h = omega (arith, h .2)
+small i (Construct.Uint signed width start end binder) h = omega (arith, h .2)
 small i Construct.Eod h = omega arith
 
 -- construct i of any words

@@ -24,7 +24,7 @@ field-width (Construct.Switch size) = 0
 field-width (Construct.Use rule) = 0
 field-width (Construct.Literal n) = 8 * n
 field-width (Construct.Range low high) = 8
-field-width (Construct.Uint width start end binder) = width
+field-width (Construct.Uint signed width start end binder) = width
 field-width Construct.Eod = 0
 
 -- the number that the w bits from bit p on are, "most significant bit first"; 0 for more than 32 bits, which only a literal has

@@ -91,7 +91,7 @@ construct-wide ws fs vs p i k (Construct.Literal n) =
 construct-wide ws fs vs p i k (Construct.Range low high) =
     let v = value (take 8 (drop p (frameBits fs))) in
     either-way (Wide 8) (leb (p + 8) (bits-of fs)) (either-way (Wide 8) (leb low v && leb v high) refl tt) tt
-construct-wide ws fs vs p i k (Construct.Uint width start end binder) =
+construct-wide ws fs vs p i k (Construct.Uint signed width start end binder) =
     let v = value (take width (drop p (frameBits fs))) in
     either-way (Wide width) (terms-in-table ws end && binder-in-table ws binder)
     (either-way (Wide width) (leb (p + width) (bits-of fs)) (set-wide width binder v (membership vs (pos v) start (terms-of ws start end))) tt)

@@ -208,7 +208,7 @@ module _ (ws fs : List ℕ) (vs : List ℤ) (p i k : ℕ) (others : List HeldEnt
     does-construct (Construct.Use rule) s = does-open rule s
     does-construct (Construct.Literal n) s = does-literal n s
     does-construct (Construct.Range low high) s = does-range low high s
-    does-construct (Construct.Uint width start end binder) s =
+    does-construct (Construct.Uint signed width start end binder) s =
         let n : ℕ = value (take width rest) in
         does-guarded (uint-node ws width start end binder) (terms-in-table ws end && binder-in-table ws binder) (bits-act ws fs vs p width start end binder)
         (does-field width binder n (λ c v bits. in-set ws start end v (value bits)) _ (λ c v bits. bound binder v (value bits)) (membership vs (pos n) start (terms-of ws start end)) refl refl) s

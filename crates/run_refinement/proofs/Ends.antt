@@ -118,5 +118,5 @@ module _ {ws : List ℕ} {widest : List ℤ} {weight rooms : Context → ℕ →
   pub counts-end : (n start end : ℕ) → constructAt ws i ≡ Construct.Repetition n (Passes.Counted start end) → end ≤ term-count ws
   counts-end n start end e = (rw e at (ends .own)) (some-counts widest ws start end (counts-answer r i n start end h e))
 
-  pub set-ends : (width start end binder : ℕ) → constructAt ws i ≡ Construct.Uint width start end binder → end ≤ term-count ws
+  pub set-ends : (signed : Bool) (width start end binder : ℕ) → constructAt ws i ≡ Construct.Uint signed width start end binder → end ≤ term-count ws
   set-ends width start end binder e = (rw e at (ends .own)) (some-set widest ws start end (set-answers r i width start end binder h e))

@@ -43,7 +43,7 @@ pub record Reliable (ws : List ℕ) (widest : List ℤ) (weight rooms : Context 
       → (at : ℕ) → sizes Kind.Condition widest (construct-word ws i 6) (terms-of ws (construct-word ws i 6) (construct-word ws i 7)) ≡ Sized.Exceeds at → ⊥
   pub counts-within : (i n start end : ℕ) → i < construct-count ws → constructAt ws i ≡ Construct.Repetition n (Passes.Counted start end)
       → (at : ℕ) → countSizes widest (term-words ws) start end ≡ Sized.Exceeds at → ⊥
-  pub sets-within : (i width start end binder : ℕ) → i < construct-count ws → constructAt ws i ≡ Construct.Uint width start end binder
+  pub sets-within : (i : ℕ) (signed : Bool) (width start end binder : ℕ) → i < construct-count ws → constructAt ws i ≡ Construct.Uint signed width start end binder
       → (at : ℕ) → sizes Kind.Set widest start (terms-of ws start end) ≡ Sized.Exceeds at → ⊥
   -- refusal 7 gives weights and room (`table_weights`); stored weight = computed weight
   pub weighs : Outweighs (held ws) weight
@@ -84,7 +84,7 @@ module _ {ws : List ℕ} {widest : List ℤ} {weight rooms : Context → ℕ →
       let f : counts-formed ws start end ≡ true = both-second (operands-zero ws i 5) (counts-formed ws start end) (both-first P S k) in
       counts-passes zero-values widest zero-inside (term-words ws) start end (formed-not _ f) (r .counts-within i n start end h e)
 
-  pub set-answers : (i width start end binder : ℕ) → i < construct-count ws → constructAt ws i ≡ Construct.Uint width start end binder → sizes Kind.Set widest start (terms-of ws start end) ≡ Sized.Passes
+  pub set-answers : (i : ℕ) (signed : Bool) (width start end binder : ℕ) → i < construct-count ws → constructAt ws i ≡ Construct.Uint signed width start end binder → sizes Kind.Set widest start (terms-of ws start end) ≡ Sized.Passes
   set-answers i width start end binder h e =
       let k : (named-back ws i binder && list-formed Kind.Set ws start end) ≡ true = rw e at (r .laid .kind i h) in
       let f : list-formed Kind.Set ws start end ≡ true = both-second (named-back ws i binder) (list-formed Kind.Set ws start end) k in

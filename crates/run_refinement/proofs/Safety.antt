@@ -101,7 +101,7 @@ module _ (ws : List ℕ) (widest : List ℤ) {weight rooms : Context → ℕ →
   ends i n h e = omega (arith, rule-holds (r .laid) i h, rule-within (r .laid) (rule-of (r .laid) i h .rule) (rule-of (r .laid) i h .exists))
 
   -- a value that a binder gives is within its variable's size
-  binds-within : (i width start end binder n : ℕ) → i < construct-count ws → constructAt ws i ≡ Construct.Uint width start end binder → n < 2 ^ width → width ≤ max-width → Binds widest binder n
+  binds-within : (i : ℕ) (signed : Bool) (width start end binder : ℕ) (n : ℕ) → i < construct-count ws → constructAt ws i ≡ Construct.Uint signed width start end binder → n < 2 ^ width → width ≤ max-width → Binds widest binder n
   binds-within i width start end zero n h e l w = tt
   binds-within i width start end (suc x) n h e l w =
       let b = binder-width (r .laid) i width start end x h e in
@@ -109,7 +109,7 @@ module _ (ws : List ℕ) (widest : List ℤ) {weight rooms : Context → ℕ →
       (2 ^ width - 1, r .each-widest x (b .known) ∙ ap (λ (k : ℕ). pos (2 ^ k - 1)) m, (let z : n ≤ 2 ^ width - 1 = omega arith in z))
 
   -- a binder is one of the table's variables
-  binder-counted : (i width start end binder : ℕ) → i < construct-count ws → constructAt ws i ≡ Construct.Uint width start end binder → binder ≤ variable-count ws
+  binder-counted : (i : ℕ) (signed : Bool) (width start end binder : ℕ) → i < construct-count ws → constructAt ws i ≡ Construct.Uint signed width start end binder → binder ≤ variable-count ws
   binder-counted i width start end zero h e = omega arith
   binder-counted i width start end (suc x) h e = binder-width (r .laid) i width start end x h e .counted
 
@@ -186,7 +186,7 @@ module _ (ws : List ℕ) (widest : List ℤ) {weight rooms : Context → ℕ →
   construct-safe i k (Construct.Range low high) h e =
       let v = value (take 8 (drop p (frameBits fs))) in
       either-way Good (leb (p + 8) (bits-of fs)) (either-way Good (leb low v && leb v high) tt tt) tt
-  construct-safe i k (Construct.Uint width start end binder) h e =
+  construct-safe i k (Construct.Uint signed width start end binder) h e =
       let v = value (take width (drop p (frameBits fs))) in
       let l : v < 2 ^ width = value-take-less width (drop p (frameBits fs)) in
       let t : Tested = membership us (pos v) start (terms-of ws start end) in

@@ -248,7 +248,7 @@ module _ (ws fs : List ℕ) (vs : List ℤ) (p i k : ℕ) where
   act-same (Construct.Use rule) s = refl
   act-same (Construct.Literal m) s = refl
   act-same (Construct.Range low high) s = refl
-  act-same (Construct.Uint width start end binder) s = uint-same width start end binder s
+  act-same (Construct.Uint signed width start end binder) s = uint-same width start end binder s
   act-same Construct.Eod s = refl
 
 -- ---- over laid out words
@@ -274,7 +274,7 @@ module _ {ws : List ℕ} (l : Laid ws) where
     condition-known =
         condition-same (Visible ws (o .rule) i) (known-values ws vs) vs visible-same (term-words ws) (construct-word ws i 6) (construct-word ws i 7) (condition-reads l (o .rule) i (o .exists) (o .begins) (o .ends))
 
-    pub set-known : (width start end binder : ℕ) → constructAt ws i ≡ Construct.Uint width start end binder → (v : ℤ) → membership (known-values ws vs) v start (terms-of ws start end) ≡ membership vs v start (terms-of ws start end)
+    pub set-known : (signed : Bool) (width start end binder : ℕ) → constructAt ws i ≡ Construct.Uint signed width start end binder → (v : ℤ) → membership (known-values ws vs) v start (terms-of ws start end) ≡ membership vs v start (terms-of ws start end)
     set-known width start end binder e v = membership-same (Visible ws (o .rule) i) (known-values ws vs) vs visible-same (term-words ws) v start end (rw e at (own-reads l (o .rule) i (o .exists) (o .begins) (o .ends)))
 
     pub counts-known : (size start end : ℕ) → constructAt ws i ≡ Construct.Repetition size (Passes.Counted start end) → counts (known-values ws vs) (term-words ws) start end ≡ counts vs (term-words ws) start end

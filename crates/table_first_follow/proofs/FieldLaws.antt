@@ -205,12 +205,12 @@ module _ (ws : List ℕ) (i : ℕ) (h : i < sets-held) (r : Construct) (e : r �
   unfolding node-of
   seed-range low high p l s = seed-placed (Construct.Range low high) p (is-map out (Numbered (256 + low) (257 + high) Any) (Seeded (node-of ws i (Construct.Range low high))) (range-strings low high l) s)
 
-  pub seed-uint : (width start end binder : ℕ) → r ≡ Construct.Uint width start end binder
+  pub seed-uint : (signed : Bool) (width start end binder : ℕ) → r ≡ Construct.Uint signed width start end binder
       → Is out (Named (Led width false (term-words ws) start end)) → Right
   unfolding node-of
   seed-uint width start end binder p s =
-      seed-placed (Construct.Uint width start end binder) p
-      (is-map out (Named (Led width false (term-words ws) start end)) (Seeded (node-of ws i (Construct.Uint width start end binder)))
+      seed-placed (Construct.Uint signed width start end binder) p
+      (is-map out (Named (Led width false (term-words ws) start end)) (Seeded (node-of ws i (Construct.Uint signed width start end binder)))
       (uint-strings ws start end width) s)
 
   -- a switch without a default has the empty string

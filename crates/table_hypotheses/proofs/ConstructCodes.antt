@@ -32,7 +32,7 @@ code (Construct.Switch size) = 4 ∷ size ∷ []
 code (Construct.Use rule) = 5 ∷ 1 ∷ rule ∷ []
 code (Construct.Literal length) = 6 ∷ 1 ∷ length ∷ []
 code (Construct.Range low high) = 7 ∷ 1 ∷ low ∷ high ∷ []
-code (Construct.Uint width start end binder) = 8 ∷ 1 ∷ width ∷ start ∷ end ∷ binder ∷ []
+code (Construct.Uint signed width start end binder) = 8 ∷ 1 ∷ width ∷ start ∷ end ∷ binder ∷ []
 code Construct.Eod = 9 ∷ 1 ∷ []
 
 -- what holds of 0 to 5
@@ -130,7 +130,7 @@ module _ (ws : List ℕ) (i : ℕ) where
   zero-past (Construct.Use rule) h k = zeros-from 3 (both-second (ltb rule (rule-count ws)) (operands-zero ws i 3) h) k
   zero-past (Construct.Literal n) h k = zeros-from 3 h k
   zero-past (Construct.Range low high) h k = zeros-from 4 h k
-  zero-past (Construct.Uint width start end binder) h k = λ low high. absurd (omega arith)
+  zero-past (Construct.Uint signed width start end binder) h k = λ low high. absurd (omega arith)
   zero-past Construct.Eod h k = zeros-from 2 h k
 
   pub coded : kind-laid ws i (constructAt ws i) ≡ true → (k : ℕ) → k < 6 → construct-word ws i k ≡ getD (code (constructAt ws i)) k 0

@@ -149,7 +149,7 @@ module _ {ws ws′ : List ℕ} (a : Alike ws ws′) where
   node-same i (Construct.Use rule) f = use-same rule (f .1)
   node-same i (Construct.Literal n) f = ap literal-node (literals-same i 0 n (f .0) (omega (arith, f .2)))
   node-same i (Construct.Range low high) f = refl
-  node-same i (Construct.Uint width start end binder) f =
+  node-same i (Construct.Uint signed width start end binder) f =
       ap (λ (w : List ℕ).
       field (λ bits. width) (λ c v bits. isYes (membership v (pos (value bits)) start (terms w start end)))
       (λ bits. cond (hasVariable (terms w start end)) true (isYes (membership [] (pos (value bits)) start (terms w start end))))

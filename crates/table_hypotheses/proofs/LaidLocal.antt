@@ -119,7 +119,7 @@ module _ {ws ws′ : List ℕ} (a : Alike ws ws′) where
   kind-same i (Construct.Use rule) h f = λ t. ltb rule (header-same 1 (omega arith) t) && operands-same i 3 h t
   kind-same i (Construct.Literal n) h f = operands-same i 3 h
   kind-same i (Construct.Range low high) h f = operands-same i 4 h
-  kind-same i (Construct.Uint width start end binder) h f = λ t. named-same i binder (f .5) t && list-same Kind.Set start end t
+  kind-same i (Construct.Uint signed width start end binder) h f = λ t. named-same i binder (f .5) t && list-same Kind.Set start end t
   kind-same i Construct.Eod h f = operands-same i 2 h
 
   byte-same : (i k : ℕ) → i < max-constructs → k < max-literal-bytes → byte-laid ws i (literal-length (constructAt ws i)) k ≡ byte-laid ws′ i (literal-length (constructAt ws′ i)) k

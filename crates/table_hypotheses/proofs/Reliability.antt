@@ -83,7 +83,7 @@ module _ {ws : List ℕ} (s : Sound ws) where
         each-widest = λ x h. widest-each max-variables ws 0 x x h (omega arith);
         conditions-within = condition-within ws (s .passed .passed .passed .sized);
         counts-within = λ i n start end h e. own-within ws (s .passed .passed .passed .sized) i h (Construct.Repetition n (Passes.Counted start end)) e;
-        sets-within = λ i width start end binder h e. own-within ws (s .passed .passed .passed .sized) i h (Construct.Uint width start end binder) e;
+        sets-within = λ i width start end binder h e. own-within ws (s .passed .passed .passed .sized) i h (Construct.Uint signed width start end binder) e;
         weighs = outweighs;
         weight-stored = omega (arith, weight-stored);
         has-room = housed;

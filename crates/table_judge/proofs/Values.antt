@@ -33,7 +33,7 @@ use Rattle.table_judge.specs.Judged.{Valueless}
 
 module _ (ws first : List ℕ) (fs : FirstSets ws first) (i : ℕ) (h : i < max-constructs) where
   -- the windows of a uint, both ways
-  module _ (width start end binder : ℕ) (e : constructAt ws i ≡ Construct.Uint width start end binder) where
+  module _ (signed : Bool) (width start end binder : ℕ) (e : constructAt ws i ≡ Construct.Uint signed width start end binder) where
     node-is : held ws .node i ≡ uint-node ws width start end binder
     unfolding node-of
     node-is = node-inside ws i h ∙ ap (node-of ws i) e

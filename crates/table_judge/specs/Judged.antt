@@ -1,10 +1,13 @@
 -- The judgement over a table's words: "1 to 11 are tried in order", then 12 and 13 (Req 06). 5 and 6, and 8's limits of widths and numbers, are what the layout asks (`laid`).
 -- Assumes nothing.
-use Prim.Native.Nat.{ℕ, _≤_, _<_, _^_}
+use Prim.Native.Nat.{ℕ, _≤_, _<_}
 use mathlib.Core.Path.{_≡_}
-use mathlib.Core.Bool.{true, false}
+use mathlib.Core.Bool.{Bool, true, false}
 use mathlib.Core.List.{List, []}
+use lib.ListN.{length}
 use Rattle.basis.specs.Limits.{max-weight}
+use Rattle.basis.specs.Bits.{Bits}
+use Rattle.basis.specs.Patterns.{pattern-value}
 use Rattle.theory.specs.Lookahead.{EmptyBody}
 use Rattle.theory.specs.Weight.{Weighs}
 use Rattle.table_layout.specs.Places.{construct-count}
@@ -70,15 +73,16 @@ module _ (ws : List ℕ) where
   abbrev pub Light : Type 0
   Light = Weighing ws (λ n. n ≤ max-weight)
 
-  -- construct i is "a uint whose set has no variable and no value left": none of the values from 0 to 2^width - 1 is in it
+  -- construct i is "a uint whose set has no variable and no value left", or a sint: no pattern of its width has a value that is in it
   pub record Valueless (i : ℕ) : Type 0 where
+    pub signed : Bool
     pub width : ℕ
     pub start : ℕ
     pub end : ℕ
     pub binder : ℕ
-    pub is-uint : constructAt ws i ≡ Construct.Uint width start end binder
+    pub is-uint : constructAt ws i ≡ Construct.Uint signed width start end binder
     pub no-variable : hasVariable (terms-of ws start end) ≡ false
-    pub none-left : (v : ℕ) → v < 2 ^ width → in-set ws start end [] v ≡ false
+    pub none-left : (s : Bits) → length s ≡ width → in-set ws start end [] (pattern-value signed s) ≡ false
 
   -- the first of 9 to 13 that is given, or the weight
   abbrev pub Judged : Judgement → Type 0

@@ -2,15 +2,15 @@
 -- Assumes nothing.
 use Prim.Native.Nat.{ℕ, _+_, _-_, _≤_, _<_}
 use mathlib.Core.Path.{_≡_, refl, sym, subst, _∙_}
-use mathlib.Core.Bool.{Bool, true, _&&_}
+use mathlib.Core.Bool.{Bool, true, false, _&&_}
 use mathlib.Core.List.{List}
 use native.Mathlib.Omega.{arith}
-use borrow.Author.Tests.{ltb-true, leb-true, le-ltb}
+use borrow.Author.Tests.{ltb-true, leb-true, le-ltb, lt-ltb}
 use lib.Dec.{leb, ltb, eqb}
-use Rattle.basis.specs.Limits.{max-rules, max-constructs, max-variables, max-terms, max-literal-bytes, max-width}
+use Rattle.basis.specs.Limits.{max-rules, max-constructs, max-variables, max-terms, max-literal-bytes, max-width, max-bound-width}
 use Rattle.basis.proofs.Booleans.{both-first, both-second, picked}
 use Rattle.table_layout.specs.Places.{construct-word}
-use Rattle.table_layout.specs.Constructs.{branches, listed, innerOf, uintOf, leafOf, constructOf, constructAt}
+use Rattle.table_layout.specs.Constructs.{branches, listed, innerOf, widest-for, uintOf, leafOf, constructOf, constructAt}
 use Rattle.table_layout.specs.Attributes.{attributes-of}
 use Rattle.table_layout.specs.Held.{size-of}
 use Rattle.table_layout.specs.declared.Construct.{Construct}
@@ -26,7 +26,8 @@ Fine i (Construct.Switch size) = (2 ≤ size) × (i + size ≤ max-constructs)
 Fine i (Construct.Use rule) = (i < max-constructs) × (rule < max-rules)
 Fine i (Construct.Literal length) = (i < max-constructs) × (1 ≤ length) × (length ≤ max-literal-bytes)
 Fine i (Construct.Range low high) = (i < max-constructs) × (low < 128) × (high < 128)
-Fine i (Construct.Uint width start end binder) = (i < max-constructs) × (1 ≤ width) × (width ≤ max-width) × (start ≤ end) × (end ≤ max-terms) × (binder ≤ max-variables)
+Fine i (Construct.Uint signed width start end binder) =
+    (i < max-constructs) × (1 ≤ width) × (width ≤ max-width) × (start ≤ end) × (end ≤ max-terms) × (binder ≤ max-variables) × (0 < binder → width ≤ max-bound-width)
 Fine i Construct.Eod = i < max-constructs
 
 inner-fine : (i kind size a b c : ℕ) → (2 ≤ size) × (i + size ≤ max-constructs) → Fine i (innerOf kind size a b c)
@@ -41,15 +42,22 @@ inner-fine i kind size a b c h =
     picked (Fine i) (eqb a 4 && listed b c) (λ e. h) (λ e. tt)))))
     (λ e. h)))
 
-uint-fine : (i a b c d : ℕ) → i < max-constructs → Fine i (uintOf a b c d)
-uint-fine i a b c d h =
-    let W : Bool = leb 1 a && leb a max-width
+for-most : (d : ℕ) → widest-for d ≤ max-width
+for-most d = picked (λ (n : ℕ). n ≤ max-width) (ltb 0 d) (λ e. omega arith) (λ e. omega arith)
+
+for-bound : (d : ℕ) → 0 < d → widest-for d ≡ max-bound-width
+for-bound d h = rw (lt-ltb 0 d h)
+
+uint-fine : (signed : Bool) (i a b c d : ℕ) → i < max-constructs → Fine i (uintOf signed a b c d)
+uint-fine signed i a b c d h =
+    let W : Bool = leb 1 a && leb a (widest-for d)
     in let L : Bool = listed b c
     in picked (Fine i) (W && (L && leb d max-variables))
     (λ e.
     let w : W ≡ true = both-first W (L && leb d max-variables) e
     in let l : L ≡ true = both-first L (leb d max-variables) (both-second W (L && leb d max-variables) e)
-    in (h, leb-true 1 a (both-first (leb 1 a) (leb a max-width) w), leb-true a max-width (both-second (leb 1 a) (leb a max-width) w), leb-true b c (both-first (leb b c) (leb c max-terms) l), leb-true c max-terms (both-second (leb b c) (leb c max-terms) l), leb-true d max-variables (both-second L (leb d max-variables) (both-second W (L && leb d max-variables) e))))
+    in let k : a ≤ widest-for d = leb-true a (widest-for d) (both-second (leb 1 a) (leb a (widest-for d)) w)
+    in (h, leb-true 1 a (both-first (leb 1 a) (leb a (widest-for d)) w), omega (arith, for-most d), leb-true b c (both-first (leb b c) (leb c max-terms) l), leb-true c max-terms (both-second (leb b c) (leb c max-terms) l), leb-true d max-variables (both-second L (leb d max-variables) (both-second W (L && leb d max-variables) e)), (λ q. omega (arith, for-bound d q))))
     (λ e. tt)
 
 leaf-fine : (i kind a b c d : ℕ) → i < max-constructs → Fine i (leafOf kind a b c d)
@@ -61,8 +69,9 @@ leaf-fine i kind a b c d h =
     picked (Fine i) (eqb kind 7)
     (λ e. picked (Fine i) (ltb a 128 && ltb b 128) (λ e. (h, ltb-true a 128 (both-first (ltb a 128) (ltb b 128) e), ltb-true b 128 (both-second (ltb a 128) (ltb b 128) e))) (λ e. tt))
     (λ e.
-    picked (Fine i) (eqb kind 8) (λ e. uint-fine i a b c d h) (λ e.
-    picked (Fine i) (eqb kind 9) (λ e. h) (λ e. tt)))))
+    picked (Fine i) (eqb kind 8) (λ e. uint-fine false i a b c d h) (λ e.
+    picked (Fine i) (eqb kind 9) (λ e. h) (λ e.
+    picked (Fine i) (eqb kind 12) (λ e. uint-fine true i a b c d h) (λ e. tt))))))
 
 pub fine : (ws : List ℕ) (i : ℕ) → Fine i (constructAt ws i)
 unfolding constructAt constructOf
@@ -123,7 +132,7 @@ bounds-of i (Construct.Switch size) f = unused i _ (omega (arith, f .1)) refl re
 bounds-of i (Construct.Use rule) f = record { whole = omega (arith, f .0); length = omega arith; used = λ k. f .0; binder = omega arith; bound = λ k. f .0 }
 bounds-of i (Construct.Literal length) f = record { whole = omega (arith, f .0); length = f .2; used = λ k. f .0; binder = omega arith; bound = λ k. f .0 }
 bounds-of i (Construct.Range low high) f = unused i _ (omega (arith, f .0)) refl refl refl
-bounds-of i (Construct.Uint width start end binder) f = record { whole = omega (arith, f .0); length = omega arith; used = λ k. f .0; binder = f .5; bound = λ k. f .0 }
+bounds-of i (Construct.Uint signed width start end binder) f = record { whole = omega (arith, f .0); length = omega arith; used = λ k. f .0; binder = f .5; bound = λ k. f .0 }
 bounds-of i Construct.Eod f = unused i _ (omega arith) refl refl refl
 
 pub bounds : (ws : List ℕ) (i : ℕ) → Bounds i (attributes-of (constructAt ws i))

@@ -44,7 +44,7 @@ parted (Construct.Switch size) = cases size
 parted (Construct.Use rule) = opens rule
 parted (Construct.Literal length) = leaf record { below = refl; size = refl; rule = refl }
 parted (Construct.Range low high) = leaf record { below = refl; size = refl; rule = refl }
-parted (Construct.Uint width start end binder) = leaf record { below = refl; size = refl; rule = refl }
+parted (Construct.Uint signed width start end binder) = leaf record { below = refl; size = refl; rule = refl }
 parted Construct.Eod = leaf record { below = refl; size = refl; rule = refl }
 
 -- its node is a field or eod
@@ -60,7 +60,7 @@ leaf-node ws i P f e (Construct.Switch size) l = let p = l .below in let z : _�
 leaf-node ws i P f e (Construct.Use rule) l = let p = l .below in let z : _≡_ {A = ℕ} 0 1 = cc in absurd (omega arith)
 leaf-node ws i P f e (Construct.Literal length) l = f _ _ _ _
 leaf-node ws i P f e (Construct.Range low high) l = f _ _ _ _
-leaf-node ws i P f e (Construct.Uint width start end binder) l = f _ _ _ _
+leaf-node ws i P f e (Construct.Uint signed width start end binder) l = f _ _ _ _
 leaf-node ws i P f e Construct.Eod l = e
 
 -- a construct, from its attributes and what stands below it
@@ -120,7 +120,7 @@ pub record Plain (c : Construct) : Type 0 where
 pub data Operands : Construct → Type 0 where
   counts : (size start end : ℕ) → Operands (Construct.Repetition size (Passes.Counted start end))
   characters : (length : ℕ) → Operands (Construct.Literal length)
-  set : (width start end binder : ℕ) → Operands (Construct.Uint width start end binder)
+  set : (signed : Bool) (width start end binder : ℕ) → Operands (Construct.Uint signed width start end binder)
   plain : {c : Construct} → Plain c → Operands c
 
 pub operands : (c : Construct) → Operands c
@@ -135,5 +135,5 @@ operands (Construct.Switch size) = plain record { own = refl; binder = refl; len
 operands (Construct.Use rule) = plain record { own = refl; binder = refl; length = refl }
 operands (Construct.Literal length) = characters length
 operands (Construct.Range low high) = plain record { own = refl; binder = refl; length = refl }
-operands (Construct.Uint width start end binder) = set width start end binder
+operands (Construct.Uint signed width start end binder) = set signed width start end binder
 operands Construct.Eod = plain record { own = refl; binder = refl; length = refl }

@@ -1,10 +1,10 @@
 -- What a construct's words say. Of words that say nothing the construct is missing.
 -- Assumes nothing.
 use Prim.Native.Nat.{ℕ, _+_}
-use mathlib.Core.Bool.{Bool, cond, _&&_}
+use mathlib.Core.Bool.{Bool, true, false, cond, _&&_}
 use mathlib.Core.List.{List}
 use lib.Dec.{leb, ltb, eqb}
-use Rattle.basis.specs.Limits.{max-rules, max-constructs, max-variables, max-terms, max-literal-bytes, max-width}
+use Rattle.basis.specs.Limits.{max-rules, max-constructs, max-variables, max-terms, max-literal-bytes, max-width, max-bound-width}
 use Rattle.table_layout.specs.Places.{construct-word}
 use Rattle.table_layout.specs.declared.Construct.{Construct}
 use Rattle.table_layout.specs.declared.Passes.{Passes}
@@ -33,10 +33,14 @@ innerOf kind size a b c =
     (cond (eqb kind 3) (repetitionOf size a b c)
     (Construct.Switch size)))
 
--- "width a number from 1 to 32"; a binder is 1 + one of 64 variables, 0 binds none
-abbrev pub uintOf : ℕ → ℕ → ℕ → ℕ → Construct
-uintOf width start end binder =
-    cond ((leb 1 width && leb width max-width) && (listed start end && leb binder max-variables)) (Construct.Uint width start end binder) Construct.Missing
+-- "Widths go to 64", "A binder wider than 62 bits is refusal 8" (Req 10); a binder is 1 + one of 64 variables, 0 binds none
+abbrev pub widest-for : ℕ → ℕ
+widest-for binder = cond (ltb 0 binder) max-bound-width max-width
+
+-- uint, and signed: sint
+abbrev pub uintOf : Bool → ℕ → ℕ → ℕ → ℕ → Construct
+uintOf signed width start end binder =
+    cond ((leb 1 width && leb width (widest-for binder)) && (listed start end && leb binder max-variables)) (Construct.Uint signed width start end binder) Construct.Missing
 
 -- "1 to 32 characters"
 abbrev pub literalOf : ℕ → Construct
@@ -52,9 +56,10 @@ leafOf kind a b c d =
     cond (eqb kind 5) (cond (ltb a max-rules) (Construct.Use a) Construct.Missing)
     (cond (eqb kind 6) (literalOf a)
     (cond (eqb kind 7) (rangeOf a b)
-    (cond (eqb kind 8) (uintOf a b c d)
+    (cond (eqb kind 8) (uintOf false a b c d)
     (cond (eqb kind 9) Construct.Eod
-    Construct.Missing))))
+    (cond (eqb kind 12) (uintOf true a b c d)
+    Construct.Missing)))))
 
 -- it is one construct, itself
 abbrev pub withoutParts : ℕ → ℕ → ℕ → ℕ → ℕ → ℕ → Construct

@@ -9,6 +9,7 @@ use lib.IntN.{ℤ, pos}
 use lib.ListN.{length, take, drop, set, replicate}
 use Rattle.basis.specs.Limits.{max-constructs, max-variables, max-terms}
 use Rattle.basis.specs.Bits.{value, frameBits, same}
+use Rattle.basis.specs.Patterns.{pattern-value}
 use Rattle.basis.specs.Counts.{Counts, from, within, zero-or-one, zero-or-more, one-or-more}
 use Rattle.term_words.specs.Words.{termAt, terms}
 use Rattle.term_evaluation.specs.Meaning.{membership, condition}
@@ -140,22 +141,24 @@ range-node low high =
     field (λ bits. 8) (λ c v bits. leb low (value bits) && leb (value bits) high) (λ bits. leb low (value bits) && leb (value bits) high) (λ c v bits. v)
 
 -- the value is in the set of these terms
-abbrev pub in-set : List ℕ → ℕ → ℕ → Values → ℕ → Bool
-in-set ws start end v n = isYes (membership v (pos n) start (terms-of ws start end))
+abbrev pub in-set : List ℕ → ℕ → ℕ → Values → ℤ → Bool
+in-set ws start end v n = isYes (membership v n start (terms-of ws start end))
 
 -- "a set with a variable counting as `~`"
-abbrev pub in-static-set : List ℕ → ℕ → ℕ → ℕ → Bool
+abbrev pub in-static-set : List ℕ → ℕ → ℕ → ℤ → Bool
 in-static-set ws start end n = cond (hasVariable (terms-of ws start end)) true (in-set ws start end [] n)
 
 -- a binder is 1 + its variable; 0 binds none
-abbrev pub bound : ℕ → Values → ℕ → Values
+abbrev pub bound : ℕ → Values → ℤ → Values
 bound zero v n = v
-bound (suc x) v n = set v x (pos n)
+bound (suc x) v n = set v x n
 
--- "`uint(width, set)`, …, most significant bit first; `uint(width, var(name, set))` also binds the value"
-abbrev pub uint-node : List ℕ → ℕ → ℕ → ℕ → ℕ → HeldNode
-uint-node ws width start end binder =
-    field (λ bits. width) (λ c v bits. in-set ws start end v (value bits)) (λ bits. in-static-set ws start end (value bits)) (λ c v bits. bound binder v (value bits))
+-- "`uint(width, set)`, …, most significant bit first; `uint(width, var(name, set))` also binds the value"; "`sint(width, set)` in two's complement, … its value bound
+-- with its sign" (Req 10)
+abbrev pub uint-node : List ℕ → Bool → ℕ → ℕ → ℕ → ℕ → HeldNode
+uint-node ws signed width start end binder =
+    field (λ bits. width) (λ c v bits. in-set ws start end v (pattern-value signed bits)) (λ bits. in-static-set ws start end (pattern-value signed bits))
+    (λ c v bits. bound binder v (pattern-value signed bits))
 
 -- ---- nodes
 
@@ -175,7 +178,7 @@ node-of ws i (Construct.Switch size) =
 node-of ws i (Construct.Use rule) = use-node ws rule
 node-of ws i (Construct.Literal length) = literal-node (literal-bytes ws i 0 length)
 node-of ws i (Construct.Range low high) = range-node low high
-node-of ws i (Construct.Uint width start end binder) = uint-node ws width start end binder
+node-of ws i (Construct.Uint signed width start end binder) = uint-node ws signed width start end binder
 node-of ws i Construct.Eod = eod
 
 -- the opening use of the start rule has the first number past all constructs

@@ -1,4 +1,5 @@
 // The words of a table (docs/TABLE.md): where things stand, and what they say. Any words may arrive.
+use basis::MAX_BOUND_WIDTH;
 use basis::MAX_CONSTRUCTS;
 use basis::MAX_LITERAL_BYTES;
 use basis::MAX_RULES;
@@ -11,7 +12,7 @@ ghost use Rattle.basis.specs.Limits.{max-constructs};
 ghost use Rattle.table_layout.specs.Attributes.{counts-list, row as rowOf, attributes-of};
 ghost use Rattle.table_layout.specs.Held.{size-of};
 ghost use Rattle.table_layout.specs.Places.{word as wordAt};
-ghost use Rattle.table_layout.specs.Constructs.{branches as branchesOf, listed as listedOf, repetitionOf, innerOf, uintOf, literalOf, rangeOf, leafOf, withoutParts, constructOf, constructAt};
+ghost use Rattle.table_layout.specs.Constructs.{branches as branchesOf, listed as listedOf, repetitionOf, innerOf, widest-for, uintOf, literalOf, rangeOf, leafOf, withoutParts, constructOf, constructAt};
 
 // Where rules, variables, constructs, terms, bytes of literals and sets begin.
 pub const RULES_AT: usize = 64;
@@ -63,7 +64,9 @@ pub enum Construct {
         low: usize,
         high: usize,
     },
+    // A sint where it is signed.
     Uint {
+        signed: bool,
         width: usize,
         start: usize,
         end: usize,
@@ -91,7 +94,7 @@ pub enum OwnList {
 }
 
 // What all layers ask of a construct. `rule` is 64 where it uses none; `length` is that of a literal, `width` and `binder` those of a
-// uint, 0 elsewhere.
+// uint or sint, 0 elsewhere; a sint is `signed`.
 pub struct Attributes {
     pub size: usize,
     pub below: Below,
@@ -100,6 +103,7 @@ pub struct Attributes {
     pub length: usize,
     pub width: usize,
     pub binder: usize,
+    pub signed: bool,
 }
 
 fn wide(x: u32) -> usize
@@ -187,18 +191,30 @@ fn inner(kind: usize, size: usize, a: usize, b: usize, c: usize) -> Construct
     Construct::Switch { size }
 }
 
-fn uint(width: usize, start: usize, end: usize, binder: usize) -> Construct
-    ensures { λ r. ⌜ r ≡ uintOf width start end binder ⌝ }
+// How wide what binds a variable, or none, may be.
+fn widest_for(binder: usize) -> usize
+    ensures { λ r. ⌜ r ≡ widest-for binder ⌝ }
+{
+    if 0 < binder {
+        return MAX_BOUND_WIDTH;
+    }
+    MAX_WIDTH
+}
+
+fn uint(signed: bool, width: usize, start: usize, end: usize, binder: usize) -> Construct
+    ensures { λ r. ⌜ r ≡ uintOf signed width start end binder ⌝ }
 {
     if width < 1 {
         return Construct::Missing;
     }
-    if MAX_WIDTH < width {
+    let most = widest_for(binder);
+    if most < width {
         return Construct::Missing;
     }
     if listed(start, end) {
         if binder <= MAX_VARIABLES {
             return Construct::Uint {
+                signed,
                 width,
                 start,
                 end,
@@ -249,10 +265,13 @@ fn leaf(kind: usize, a: usize, b: usize, c: usize, d: usize) -> Construct
         return range(a, b);
     }
     if kind == 8 {
-        return uint(a, b, c, d);
+        return uint(false, a, b, c, d);
     }
     if kind == 9 {
         return Construct::Eod;
+    }
+    if kind == 12 {
+        return uint(true, a, b, c, d);
     }
     Construct::Missing
 }
@@ -321,8 +340,9 @@ fn row(
     length: usize,
     width: usize,
     binder: usize,
+    signed: bool,
 ) -> Attributes
-    ensures { λ r. ⌜ r ≡ rowOf size below own rule length width binder ⌝ }
+    ensures { λ r. ⌜ r ≡ rowOf size below own rule length width binder signed ⌝ }
 {
     Attributes {
         size,
@@ -332,6 +352,7 @@ fn row(
         length,
         width,
         binder,
+        signed,
     }
 }
 
@@ -340,9 +361,9 @@ pub fn attributes_of(construct: Construct) -> Attributes
     ensures { λ r. ⌜ r ≡ attributes-of construct ⌝ }
 {
     match construct {
-        Construct::Missing => row(0, Below::Nothing, OwnList::None, 64, 0, 0, 0),
-        Construct::Alternative { size } => row(size, Below::Branches, OwnList::None, 64, 0, 0, 0),
-        Construct::Concatenation { size } => row(size, Below::Members, OwnList::None, 64, 0, 0, 0),
+        Construct::Missing => row(0, Below::Nothing, OwnList::None, 64, 0, 0, 0, false),
+        Construct::Alternative { size } => row(size, Below::Branches, OwnList::None, 64, 0, 0, 0, false),
+        Construct::Concatenation { size } => row(size, Below::Members, OwnList::None, 64, 0, 0, 0, false),
         Construct::Repetition { size, passes } => {
             row(
                 size,
@@ -352,13 +373,15 @@ pub fn attributes_of(construct: Construct) -> Attributes
                 0,
                 0,
                 0,
+                false,
             )
         }
-        Construct::Switch { size } => row(size, Below::Cases, OwnList::None, 64, 0, 0, 0),
-        Construct::Use { rule } => row(1, Below::Rule, OwnList::None, rule, 0, 0, 0),
-        Construct::Literal { length } => row(1, Below::Nothing, OwnList::None, 64, length, 0, 0),
-        Construct::Range { low: _, high: _ } => row(1, Below::Nothing, OwnList::None, 64, 0, 0, 0),
+        Construct::Switch { size } => row(size, Below::Cases, OwnList::None, 64, 0, 0, 0, false),
+        Construct::Use { rule } => row(1, Below::Rule, OwnList::None, rule, 0, 0, 0, false),
+        Construct::Literal { length } => row(1, Below::Nothing, OwnList::None, 64, length, 0, 0, false),
+        Construct::Range { low: _, high: _ } => row(1, Below::Nothing, OwnList::None, 64, 0, 0, 0, false),
         Construct::Uint {
+            signed,
             width,
             start,
             end,
@@ -371,8 +394,9 @@ pub fn attributes_of(construct: Construct) -> Attributes
             0,
             width,
             binder,
+            signed,
         ),
-        Construct::Eod => row(1, Below::Nothing, OwnList::None, 64, 0, 0, 0),
+        Construct::Eod => row(1, Below::Nothing, OwnList::None, 64, 0, 0, 0, false),
     }
 }
 

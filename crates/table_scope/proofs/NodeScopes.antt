@@ -130,8 +130,8 @@ module _ {ws : List ℕ} (l : Laid ws) (r i : ℕ) (s : Stands ws r i) (whole : 
   scoped-by (Construct.Use rule) e = (own-of ws i (Construct.Use rule) e, λ c c′ v x z h. refl)
   scoped-by (Construct.Literal n) e = (λ c v v′ bits a. refl, λ c v v′ bits a. unbinding ws i (own-of ws i (Construct.Literal n) e) v v′ a, λ c v bits x h. refl, λ c v v′ bits p. refl)
   scoped-by (Construct.Range low high) e = (λ c v v′ bits a. refl, λ c v v′ bits a. unbinding ws i (own-of ws i (Construct.Range low high) e) v v′ a, λ c v bits x h. refl, λ c v v′ bits p. refl)
-  scoped-by (Construct.Uint width start end binder) e =
-      let own : bound-at ws i ≡ bound-by binder = own-of ws i (Construct.Uint width start end binder) e
+  scoped-by (Construct.Uint signed width start end binder) e =
+      let own : bound-at ws i ≡ bound-by binder = own-of ws i (Construct.Uint signed width start end binder) e
       in (
         λ c v v′ bits a. set-agrees l r i (s .exists) (s .begins) (s .ends) width start end binder e v v′ (agreeing l r i s v v′ a) (value bits),
         λ c v v′ bits a. rw own (after-binder (seen-at ws i) binder v v′ (value bits) (agreeing l r i s v v′ a .lengths) a),

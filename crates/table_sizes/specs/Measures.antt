@@ -1,12 +1,13 @@
 -- Refusal 8 over a table's words: "a calculation, or part of one, whose size may pass 2^62 (variables at their widest, sizes added and
 -- multiplied)".
 -- Assumes nothing.
-use Prim.Native.Nat.{ℕ, zero, suc, _+_, _-_, _^_, _≤_, _<_, min}
+use Prim.Native.Nat.{ℕ, zero, suc, _+_, _≤_, _<_, min}
 use mathlib.Core.Bool.{Bool, true, false, cond, _||_}
 use mathlib.Core.List.{List, [], _∷_}
 use lib.Dec.{ltb}
 use lib.IntN.{ℤ, pos}
-use Rattle.basis.specs.Limits.{max-variables, max-width}
+use Rattle.basis.specs.Limits.{max-variables, max-bound-width}
+use Rattle.basis.specs.Patterns.{greatest-size}
 use Rattle.term_words.specs.declared.Kind.{Kind}
 use Rattle.term_sizes.specs.Sizes.{sizes, countSizes}
 use Rattle.term_sizes.specs.declared.Sized.{Sized}
@@ -17,14 +18,14 @@ use Rattle.table_layout.specs.Held.{term-words, terms-of}
 use Rattle.table_layout.specs.declared.Construct.{Construct}
 use Rattle.table_layout.specs.declared.OwnList.{OwnList}
 
--- "variables at their widest": the largest number of a width within the limit
-abbrev pub largest : ℕ → ℤ
-largest width = pos (2 ^ min max-width width - 1)
+-- "variables at their widest": of a width within the limit, signed where the word for it is not 0
+abbrev pub largest : ℕ → ℕ → ℤ
+largest width sign = pos (greatest-size (ltb 0 sign) (min max-bound-width width))
 
 -- n variables from x on
 unfoldable pub widest-from : ℕ → List ℕ → ℕ → List ℤ
 widest-from zero ws x = []
-widest-from (suc n) ws x = largest (variable-word ws x 1) ∷ widest-from n ws (x + 1)
+widest-from (suc n) ws x = largest (variable-word ws x 1) (variable-word ws x 2) ∷ widest-from n ws (x + 1)
 
 -- every variable
 abbrev pub widest : List ℕ → List ℤ

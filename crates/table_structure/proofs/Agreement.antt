@@ -42,10 +42,10 @@ module _ {ws : List ℕ} (l : Laid ws) (r i : ℕ) (h : r < rule-count ws) (low 
   own-list : (c : Construct) → constructAt ws i ≡ c → Reads (Visible ws r i) (term-words ws) (own-start c) (own-end c)
   own-list c e = rw e at (own-reads l r i h low high)
 
-  pub set-agrees : (width start end binder : ℕ) → constructAt ws i ≡ Construct.Uint width start end binder
+  pub set-agrees : (signed : Bool) (width start end binder : ℕ) → constructAt ws i ≡ Construct.Uint signed width start end binder
       → (v v′ : Values) → Agreeing (Visible ws r i) v v′ → (n : ℕ) → in-set ws start end v n ≡ in-set ws start end v′ n
   set-agrees width start end binder e v v′ a n =
-      ap isYes (membership-same (Visible ws r i) v v′ (agree-same a) (term-words ws) (pos n) start end (own-list (Construct.Uint width start end binder) e))
+      ap isYes (membership-same (Visible ws r i) v v′ (agree-same a) (term-words ws) (pos n) start end (own-list (Construct.Uint signed width start end binder) e))
 
   pub passes-agree : (size : ℕ) (p : Passes) → constructAt ws i ≡ Construct.Repetition size p
       → (v v′ : Values) → Agreeing (Visible ws r i) v v′ → passes-allowed ws p v ≡ passes-allowed ws p v′

@@ -148,7 +148,7 @@ construct-static ws i (Construct.Use rule) f = λ v v′. refl
 construct-static ws i (Construct.Literal n) f =
     (λ c v bits e. e, λ s r l. refl, λ s. let e : length (literal-bytes ws i 0 n) ≡ n = literal-long ws i 0 n in omega (arith, f .1))
 construct-static ws i (Construct.Range low high) f = (λ c v bits e. e, λ s r l. refl, λ s. omega arith)
-construct-static ws i (Construct.Uint width start end binder) f =
+construct-static ws i (Construct.Uint signed width start end binder) f =
     (λ c v bits e. set-static ws start end v (value bits) e, λ s r l. refl, λ s. f .1)
 construct-static ws i Construct.Eod f = tt
 

@@ -71,7 +71,7 @@ kind-laid ws i (Construct.Switch size) = switch-laid ws i
 kind-laid ws i (Construct.Use rule) = ltb rule (rule-count ws) && operands-zero ws i 3
 kind-laid ws i (Construct.Literal length) = operands-zero ws i 3
 kind-laid ws i (Construct.Range low high) = operands-zero ws i 4
-kind-laid ws i (Construct.Uint width start end binder) = named-back ws i binder && list-formed Kind.Set ws start end
+kind-laid ws i (Construct.Uint signed width start end binder) = named-back ws i binder && list-formed Kind.Set ws start end
 kind-laid ws i Construct.Eod = operands-zero ws i 2
 
 -- how many bytes construct i has in the area of literals

@@ -45,11 +45,15 @@ binder-of c = attributes-of c .binder
 abbrev pub named-back : List ℕ → ℕ → ℕ → Bool
 named-back ws i binder = cond (eqb binder 0) true (leb binder (variable-count ws) && eqb (variable-word ws (binder - 1) 0) i)
 
+-- 1 of a sint, else 0
+abbrev pub sign-word : Construct → ℕ
+sign-word c = cond (attributes-of c .signed) 1 0
+
 -- variable x is bound by construct j
 abbrev pub variable-laid : List ℕ → ℕ → ℕ → Bool
 variable-laid ws x j =
     (eqb (binder-of (constructAt ws j)) (x + 1) && eqb (variable-word ws x 0) j)
-    && (eqb (variable-word ws x 1) (construct-word ws j 2) && all-zero ws (variables-at + 4 * x + 2) (variables-at + 4 * x + 4))
+    && ((eqb (variable-word ws x 1) (construct-word ws j 2) && eqb (variable-word ws x 2) (sign-word (constructAt ws j))) && all-zero ws (variables-at + 4 * x + 3) (variables-at + 4 * x + 4))
 
 -- construct j is a binder
 abbrev pub binds : List ℕ → ℕ → Bool

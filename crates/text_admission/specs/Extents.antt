@@ -2,14 +2,14 @@
 -- added and multiplied)", at the "number or calculation". Each has a place, and the least is the refusal's.
 -- Assumes nothing.
 use Prim.Native.Nat.{ℕ, zero, suc, _+_, _-_, min}
-use mathlib.Core.Bool.{Bool, cond, not, _&&_, _||_}
+use mathlib.Core.Bool.{Bool, cond, not, _&&_}
 use mathlib.Core.List.{List}
-use lib.Dec.{leb, ltb, eqb}
-use Rattle.basis.specs.Limits.{max-width}
+use lib.Dec.{leb, eqb}
+use Rattle.basis.specs.Limits.{max-width, max-bound-width}
 use Rattle.term_sizes.specs.declared.Sized.{Sized}
 use Rattle.table_layout.specs.Constructs.{constructAt}
 use Rattle.table_sizes.specs.Measures.{condition-size, own-size}
-use Rattle.text_store.specs.Words.{kind-of, width-place, own-from, condition-from, term-tag, term-value, term-at, term-origin}
+use Rattle.text_store.specs.Words.{kind-of, width-place, own-from, condition-from, is-binder, term-origin}
 use Rattle.text_encoding.specs.Numbers.{width-of, condition-start, own-start}
 use Rattle.text_admission.specs.declared.Found.{Found}
 
@@ -28,13 +28,12 @@ unfoldable pub least-found : ℕ → ℕ → (ℕ → Found) → Found
 least-found zero i f = Found.Nothing
 least-found (suc n) i f = lesser (f i) (least-found n (i + 1) f)
 
--- "width a number from 1 to 32"
-abbrev pub width-found : List ℕ → List ℕ → ℕ → Found
-width-found xs ns i = found-if (eqb (kind-of ns i) 8 && not (leb 1 (width-of xs ns i) && leb (width-of xs ns i) max-width)) (width-place ns i)
+-- "Widths go to 64", of a binder to 62 (Req 10)
+abbrev pub most-of : List ℕ → ℕ → ℕ
+most-of ns i = cond (is-binder ns i) max-bound-width max-width
 
--- "Numbers: … to 4,294,967,295"
-abbrev pub number-found : List ℕ → ℕ → Found
-number-found ts k = found-if ((eqb (term-tag ts k) 1 || eqb (term-tag ts k) 33) && ltb 4294967295 (term-value ts k)) (term-at ts k)
+abbrev pub width-found : List ℕ → List ℕ → ℕ → Found
+width-found xs ns i = found-if (eqb (kind-of ns i) 8 && not (leb 1 (width-of xs ns i) && leb (width-of xs ns i) (most-of ns i))) (width-place ns i)
 
 -- the first byte of the calculation that the table's term `at` is in, of a list that is read from term f on and is the table's from `start`
 abbrev pub origin-after : List ℕ → ℕ → ℕ → ℕ → ℕ
@@ -52,6 +51,6 @@ node-found xs ns ts ws i =
     lesser (width-found xs ns i)
     (lesser (list-found ts (condition-from ns i) (condition-start ns i) (condition-size ws i)) (list-found ts (own-from ns i) (own-start ns i) (own-size ws (constructAt ws i))))
 
--- n nodes and t terms, encoded as the words ws
-abbrev pub refusal-8 : (xs ns ts ws : List ℕ) → (n t : ℕ) → Found
-refusal-8 xs ns ts ws n t = lesser (least-found t 0 (number-found ts)) (least-found n 0 (node-found xs ns ts ws))
+-- n nodes, encoded as the words ws. A number past 2^62 is a calculation that passes it.
+abbrev pub refusal-8 : (xs ns ts ws : List ℕ) → (n : ℕ) → Found
+refusal-8 xs ns ts ws n = least-found n 0 (node-found xs ns ts ws)

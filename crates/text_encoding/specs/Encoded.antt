@@ -1,7 +1,7 @@
 -- The words of a table (docs/TABLE.md) from what is read, without sets and with weight 1: `table_fill` writes those.
 -- Assumes nothing.
 use Prim.Native.Nat.{ℕ, _+_, _*_, _-_, _/_}
-use mathlib.Core.Bool.{cond}
+use mathlib.Core.Bool.{cond, _&&_}
 use mathlib.Core.List.{List, [], _∷_, _++_}
 use lib.Dec.{ltb, eqb}
 use lib.ListN.{getD, length, replicate}
@@ -10,7 +10,7 @@ use Rattle.basis.specs.Limits.{table-words}
 use Rattle.text_literals.specs.Literals.{characters-at}
 use Rattle.text_store.specs.Words.{kind-of, node-size, place-of, node-mark, last-place, own-from, condition-from, is-binder, term-tag, term-value, term-at, is-use, first-node, last-node}
 use Rattle.text_encoding.specs.Lists.{flat, written}
-use Rattle.text_encoding.specs.Numbers.{rule-of, first-at, binders-before, variable-of, width-of, condition-length, own-length, condition-start, own-start}
+use Rattle.text_encoding.specs.Numbers.{rule-of, first-at, binders-before, variable-of, width-of, is-signed, condition-length, own-length, condition-start, own-start}
 
 -- the mark, how many rules, constructs, variables and terms, and weight 1 until the weight is known
 abbrev pub header-words : List ℕ → ℕ → ℕ → List ℕ
@@ -21,9 +21,9 @@ abbrev pub rule-words : List ℕ → List ℕ → ℕ → List ℕ
 rule-words ns rs k =
     first-node rs k ∷ binders-before ns (first-node rs k) ∷ (binders-before ns (last-node rs k) - binders-before ns (first-node rs k)) ∷ 0 ∷ []
 
--- a variable, where node i binds one: the construct and its width
+-- a variable, where node i binds one: the construct, its width, and 1 where it is signed
 abbrev pub variable-words : List ℕ → List ℕ → ℕ → List ℕ
-variable-words xs ns i = cond (is-binder ns i) (i ∷ width-of xs ns i ∷ 0 ∷ 0 ∷ []) []
+variable-words xs ns i = cond (is-binder ns i) (i ∷ width-of xs ns i ∷ cond (is-signed xs ns i) 1 0 ∷ 0 ∷ []) []
 
 -- ---- constructs
 
@@ -45,10 +45,14 @@ operands xs ns rs r i kind =
     (cond (eqb kind 8) (width-of xs ns i ∷ start-word (own-start ns i) (own-length ns i) ∷ end-word (own-start ns i) (own-length ns i) ∷ cond (is-binder ns i) (binders-before ns i + 1) 0 ∷ [])
     (0 ∷ 0 ∷ 0 ∷ 0 ∷ [])))))
 
+-- a sint is kind 12 and has a uint's operands
+abbrev pub kind-word : List ℕ → List ℕ → ℕ → ℕ
+kind-word xs ns i = cond (eqb (kind-of ns i) 8 && is-signed xs ns i) 12 (kind-of ns i)
+
 -- eight words: kind, size, four operands, and the terms of its condition, from and up to
 abbrev pub construct-words : (xs ns rs : List ℕ) → (r i : ℕ) → List ℕ
 construct-words xs ns rs r i =
-    kind-of ns i ∷ node-size ns i ∷ (operands xs ns rs r i (kind-of ns i) ++ (start-word (condition-start ns i) (condition-length ns i) ∷ end-word (condition-start ns i) (condition-length ns i) ∷ []))
+    kind-word xs ns i ∷ node-size ns i ∷ (operands xs ns rs r i (kind-of ns i) ++ (start-word (condition-start ns i) (condition-length ns i) ∷ end-word (condition-start ns i) (condition-length ns i) ∷ []))
 
 -- ---- terms
 

@@ -1,11 +1,12 @@
 -- What names and lists of terms are in a table: numbers of rules, of variables, of terms.
 -- Assumes nothing.
 use Prim.Native.Nat.{ℕ, zero, suc, _+_, _-_, min}
-use mathlib.Core.Bool.{true, false, cond}
+use mathlib.Core.Bool.{Bool, true, false, cond}
 use mathlib.Core.List.{List}
-use lib.Dec.{leb}
+use lib.Dec.{leb, eqb}
+use lib.ListN.{getD}
 use Rattle.text_tokens.specs.Numbers.{number-value, capped}
-use Rattle.text_store.specs.Words.{width-place, own-from, own-end, condition-from, condition-end, is-binder, named-at, first-node}
+use Rattle.text_store.specs.Words.{place-of, width-place, own-from, own-end, condition-from, condition-end, is-binder, named-at, first-node}
 use Rattle.text_names.specs.Names.{same-name, binds}
 use Rattle.text_encoding.specs.Lists.{sum, first-of}
 
@@ -38,9 +39,13 @@ binder-of xs ns a i p = first-of (i - a) a (binds xs ns p)
 abbrev pub variable-of : (xs ns : List ℕ) → (a i p : ℕ) → ℕ
 variable-of xs ns a i p = binders-before ns (binder-of xs ns a i p)
 
--- a uint's width; all that is more than 32 is as wrong as 33 (refusal 8)
+-- a uint's width; all that is more than 64 is as wrong as 65 (refusal 8)
 abbrev pub width-of : List ℕ → List ℕ → ℕ → ℕ
-width-of xs ns i = min 33 (capped (number-value xs (width-place ns i)))
+width-of xs ns i = min 65 (capped (number-value xs (width-place ns i)))
+
+-- it is a sint and no uint: its word begins with s
+abbrev pub is-signed : List ℕ → List ℕ → ℕ → Bool
+is-signed xs ns i = eqb (getD xs (place-of ns i) 0) 115
 
 -- ---- terms: "in the order of the constructs: for each construct its condition's terms, then its own"
 

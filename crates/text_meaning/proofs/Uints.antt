@@ -42,7 +42,7 @@ is-uint (Construct.Switch size) = false
 is-uint (Construct.Use rule) = false
 is-uint (Construct.Literal length) = false
 is-uint (Construct.Range low high) = false
-is-uint (Construct.Uint width start end binder) = true
+is-uint (Construct.Uint signed width start end binder) = true
 is-uint Construct.Eod = false
 
 record Numbers : Type 0 where
@@ -59,7 +59,7 @@ numbers-in (Construct.Switch size) = record { width = 0; start = 0; end = 0 }
 numbers-in (Construct.Use rule) = record { width = 0; start = 0; end = 0 }
 numbers-in (Construct.Literal length) = record { width = 0; start = 0; end = 0 }
 numbers-in (Construct.Range low high) = record { width = 0; start = 0; end = 0 }
-numbers-in (Construct.Uint width start end binder) = record { width = width; start = start; end = end }
+numbers-in (Construct.Uint signed width start end binder) = record { width = width; start = start; end = end }
 numbers-in Construct.Eod = record { width = 0; start = 0; end = 0 }
 
 -- neither of two is one
@@ -96,7 +96,7 @@ module _ {xs ns ts rs : List ℕ} {n t b r : ℕ} (text : Readable xs ns ts rs n
   ws = encoded xs ns ts rs n r
 
   -- a number past the nodes is none
-  pub uint-below : (i width start end binder : ℕ) → constructAt ws i ≡ Construct.Uint width start end binder → i < n
+  pub uint-below : (i : ℕ) (signed : Bool) (width start end binder : ℕ) → constructAt ws i ≡ Construct.Uint signed width start end binder → i < n
   uint-below i width start end binder e =
       elim (decLt i n) [ yes l ↦ l | no l ↦ absurd (false≢true (sym (ap is-uint (past text stored places i (omega arith))) ∙ ap is-uint e)) ]
 
@@ -116,7 +116,7 @@ module _ {xs ns ts rs : List ℕ} {n t b r : ℕ} (text : Readable xs ns ts rs n
     uint-read k = constructs-known text stored places i h ∙ uint-kind xs ns rs r i k
 
     -- and what is read as one is such a node
-    pub uint-of : (width start end binder : ℕ) → constructAt ws i ≡ Construct.Uint width start end binder → OfNode xs ns ts rs ws r i width start end
+    pub uint-of : (signed : Bool) (width start end binder : ℕ) → constructAt ws i ≡ Construct.Uint signed width start end binder → OfNode xs ns ts rs ws r i width start end
     uint-of width start end binder e =
         ⊎-elim
         (λ (c : eqb (kind-of ns i) 8 ≡ true).

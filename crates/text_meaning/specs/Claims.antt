@@ -5,10 +5,11 @@ use mathlib.Core.Path.{_≡_}
 use mathlib.Core.Bool.{Bool, true, false, cond}
 use mathlib.Core.List.{List, [], _∷_}
 use mathlib.Core.Option.{Option, none, some}
-use lib.IntN.{ℤ, pos}
+use lib.IntN.{ℤ}
 use lib.ListN.{length, set}
 use Rattle.basis.specs.Limits.{max-variables}
-use Rattle.basis.specs.Bits.{Bits, value}
+use Rattle.basis.specs.Bits.{Bits}
+use Rattle.basis.specs.Patterns.{pattern-value}
 use Rattle.basis.specs.Counts.{Counts, zero-or-more}
 use Rattle.term_words.specs.declared.Kind.{Kind}
 use Rattle.term_words.specs.declared.Mode.{Mode}
@@ -23,7 +24,7 @@ use Rattle.theory.specs.Grammar.{_∈_, repetition, switch, field}
 use Rattle.theory.specs.Machine.{choose}
 use Rattle.table_layout.specs.Held.{Context, Values, HeldNode}
 use Rattle.text_store.specs.Words.{kind-of, node-mark, is-binder}
-use Rattle.text_encoding.specs.Numbers.{binders-before, width-of}
+use Rattle.text_encoding.specs.Numbers.{binders-before, width-of, is-signed}
 use Rattle.text_meaning.specs.Meaning.{counted, parts-of, own-list, condition-list, is-default, no-default, grammar-of}
 
 -- "a calculation, or part of one, whose size may pass 2^62 (variables at their widest, sizes added and multiplied)" is refused. So: the values
@@ -42,16 +43,16 @@ ListFits kind list v = Fits (λ w. sizes kind w 0 list) v
 abbrev pub CountsFit : List Term → Values → Type 0
 CountsFit list v = Fits (λ w. ofTally (counted Mode.Sizes w list)) v
 
--- a node is a uint of this width with the set of this list; where it binds, it binds this variable
-pub record UintMeans (node : HeldNode) (width : ℕ) (list : List Term) (binds : Bool) (variable : ℕ) : Type 0 where
+-- a node is a uint or sint of this width with the set of this list; where it binds, it binds this variable
+pub record UintMeans (node : HeldNode) (signed : Bool) (width : ℕ) (list : List Term) (binds : Bool) (variable : ℕ) : Type 0 where
   pub admits : Context → Values → Bits → Bool
   pub static : Bits → Bool
-  pub node-is : node ≡ field (λ bits. width) admits static (λ c v bits. cond binds (set v variable (pos (value bits))) v)
+  pub node-is : node ≡ field (λ bits. width) admits static (λ c v bits. cond binds (set v variable (pattern-value signed bits)) v)
   pub tree : ValueSet
   pub list-is : list ≡ setTerms tree
-  pub admitted : (c : Context) (v : Values) (bits : Bits) → ListFits Kind.Set list v → admits c v bits ≡ has v tree (pos (value bits))
+  pub admitted : (c : Context) (v : Values) (bits : Bits) → ListFits Kind.Set list v → admits c v bits ≡ has v tree (pattern-value signed bits)
   -- "a set with a variable counting as `~`"
-  pub at-first : (v : Values) (bits : Bits) → ListFits Kind.Set list v → static bits ≡ cond (hasVariable list) true (has v tree (pos (value bits)))
+  pub at-first : (v : Values) (bits : Bits) → ListFits Kind.Set list v → static bits ≡ cond (hasVariable list) true (has v tree (pattern-value signed bits))
 
 -- written `{n}`
 abbrev pub is-exact : Repeats → Bool
@@ -101,6 +102,6 @@ pub record SwitchMeans (xs ns ts rs : List ℕ) (r : ℕ) (node : HeldNode) (cas
 
 -- Sets, counts and cases of what is read (n nodes, r rules) mean what the trees of document 01's forms mean (crate `term_trees`).
 pub record Meanings (xs ns ts rs : List ℕ) (n r : ℕ) : Type 0 where
-  pub uints : (i : ℕ) → i < n → kind-of ns i ≡ 8 → UintMeans (grammar-of xs ns ts rs n r .node i) (width-of xs ns i) (own-list xs ns ts rs r i) (is-binder ns i) (binders-before ns i)
+  pub uints : (i : ℕ) → i < n → kind-of ns i ≡ 8 → UintMeans (grammar-of xs ns ts rs n r .node i) (is-signed xs ns i) (width-of xs ns i) (own-list xs ns ts rs r i) (is-binder ns i) (binders-before ns i)
   pub counted-passes : (i : ℕ) → i < n → kind-of ns i ≡ 3 → node-mark ns i ≡ 4 → CountsMean (grammar-of xs ns ts rs n r .node i) (own-list xs ns ts rs r i) (i + 1)
   pub switches : (i : ℕ) → i < n → kind-of ns i ≡ 4 → SwitchMeans xs ns ts rs r (grammar-of xs ns ts rs n r .node i) (parts-of ns i)

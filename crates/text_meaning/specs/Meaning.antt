@@ -6,10 +6,10 @@ use mathlib.Core.Bool.{Bool, true, false, cond}
 use mathlib.Core.List.{List, [], _∷_, map}
 use mathlib.Core.Option.{Option, none, some}
 use lib.Dec.{eqb, ltb}
-use lib.IntN.{pos}
+use lib.IntN.{ℤ, pos}
 use lib.ListN.{length, getD, take, set, replicate}
 use Rattle.basis.specs.Limits.{max-variables}
-use Rattle.basis.specs.Bits.{value}
+use Rattle.basis.specs.Patterns.{pattern-value}
 use Rattle.basis.specs.Counts.{Counts, zero-or-one, zero-or-more, one-or-more}
 use Rattle.text_literals.specs.Literals.{characters-at}
 use Rattle.term_words.specs.declared.Kind.{Kind}
@@ -25,7 +25,7 @@ use Rattle.theory.specs.Grammar.{alternative, concatenation, repetition, switch
 use Rattle.table_layout.specs.Held.{Context, first-context, Values, HeldNode, allowed, isYes, isExact, literal-node, range-node, opening}
 use Rattle.text_shapes.specs.TermShapes.{read-terms, rename-term}
 use Rattle.text_store.specs.Words.{kind-of, node-size, place-of, node-mark, last-place, own-from, own-end, condition-from, condition-end, is-binder, first-node}
-use Rattle.text_encoding.specs.Numbers.{rule-of, first-at, binders-before, variable-of, width-of}
+use Rattle.text_encoding.specs.Numbers.{rule-of, first-at, binders-before, variable-of, width-of, is-signed}
 
 -- ---- parts: a node's parts follow it, each as far after the one before as that is large
 
@@ -74,17 +74,18 @@ is-fixed how list = cond (eqb how 4) (isExact (formOf (last-of list))) false
 -- ---- sets: "alternatives of `~`, `a`, `a~b`, `a~`, `~b`, each with at most one `!`"
 
 -- n is in the set of these terms, at these values
-abbrev pub in-set : List Term → Values → ℕ → Bool
-in-set list v n = isYes (membership v (pos n) 0 list)
+abbrev pub in-set : List Term → Values → ℤ → Bool
+in-set list v n = isYes (membership v n 0 list)
 
 -- "a set with a variable counting as `~`"
-abbrev pub in-static-set : List Term → ℕ → Bool
+abbrev pub in-static-set : List Term → ℤ → Bool
 in-static-set list n = cond (hasVariable list) true (in-set list [] n)
 
--- "Values below 0 or above the width drop out silently": so many bits have no others. It may also bind the value.
-abbrev pub uint-node : (width : ℕ) → List Term → (binds : Bool) → (variable : ℕ) → HeldNode
-uint-node width list binds variable =
-    field (λ bits. width) (λ c v bits. in-set list v (value bits)) (λ bits. in-static-set list (value bits)) (λ c v bits. cond binds (set v variable (pos (value bits))) v)
+-- "Values below 0 or above the width drop out silently": so many bits have no others. It may also bind the value. Of a sint bits are a number "in two's complement".
+abbrev pub uint-node : (signed : Bool) → (width : ℕ) → List Term → (binds : Bool) → (variable : ℕ) → HeldNode
+uint-node signed width list binds variable =
+    field (λ bits. width) (λ c v bits. in-set list v (pattern-value signed bits)) (λ bits. in-static-set list (pattern-value signed bits))
+    (λ c v bits. cond binds (set v variable (pattern-value signed bits)) v)
 
 -- ---- rules: "a rule's name" stands for its body
 
@@ -137,7 +138,7 @@ module _ (xs ns ts rs : List ℕ) (r : ℕ) where
       (cond (eqb (kind-of ns i) 5) (opened rs (rule-of xs rs r (place-of ns i)))
       (cond (eqb (kind-of ns i) 6) (literal-node (characters-at xs (place-of ns i)))
       (cond (eqb (kind-of ns i) 7) (range-node (getD (characters-at xs (place-of ns i)) 0 0) (getD (characters-at xs (last-place ns i)) 0 0))
-      (cond (eqb (kind-of ns i) 8) (uint-node (width-of xs ns i) (own-list i) (is-binder ns i) (binders-before ns i))
+      (cond (eqb (kind-of ns i) 8) (uint-node (is-signed xs ns i) (width-of xs ns i) (own-list i) (is-binder ns i) (binders-before ns i))
       (cond (eqb (kind-of ns i) 9) eod
       (alternative [])))))))))
 

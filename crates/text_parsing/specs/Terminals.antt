@@ -47,9 +47,10 @@ code-of Kind.AtLeast = 190
 abbrev pub opens-at : List ℕ → ℕ → Bool
 opens-at xs at = eqb (code-of (token-of xs at .kind)) 40
 
--- Names: `uint` and `var` are more than a name only before `(` (6, 8), `eod` always (7). Being reserved is refusal 6.
+-- Names: `uint`, `sint` and `var` are more than a name only before `(` (6, 6, 8), `eod` always (7). Being reserved is refusal 6. Which of `uint` and `sint` it is does
+-- not matter to the form.
 abbrev pub word-code : ℕ → Bool → ℕ
-word-code word opens = cond (eqb word 12) (cond opens 6 1) (cond (eqb word 9) (cond opens 8 1) (cond (eqb word 10) 7 1))
+word-code word opens = cond (eqb word 12 || eqb word 13) (cond opens 6 1) (cond (eqb word 9) (cond opens 8 1) (cond (eqb word 10) 7 1))
 
 -- the code of the name from `start` up to `end`
 unfoldable pub name-code : List ℕ → ℕ → ℕ → ℕ

@@ -81,7 +81,7 @@ module _ (i : ℕ) where
   unfolding constructOf
   range-of low high h k = rw (lt-ltb low 128 h, lt-ltb high 128 k)
 
-  uint-of : (width start end binder : ℕ) → 1 ≤ width → width ≤ max-width → start ≤ end → end ≤ max-terms → binder ≤ max-variables → constructOf i 8 1 width start end binder ≡ Construct.Uint width start end binder
+  uint-of : (signed : Bool) (width start end binder : ℕ) → 1 ≤ width → width ≤ max-width → start ≤ end → end ≤ max-terms → binder ≤ max-variables → constructOf i 8 1 width start end binder ≡ Construct.Uint signed width start end binder
   unfolding constructOf
   uint-of width start end binder h k l m v = rw (le-leb 1 width h, le-leb width max-width k, le-leb start end l, le-leb end max-terms m, le-leb binder max-variables v)
 

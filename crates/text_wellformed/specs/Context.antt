@@ -1,12 +1,13 @@
 -- What is known of a text that has passed 5 and 6 and the widths and numbers of 8, and of the words that are encoded from it.
 -- Assumes nothing.
-use Prim.Native.Nat.{ℕ, _+_, _*_, _≤_, _<_}
+use Prim.Native.Nat.{ℕ, _+_, _*_, _^_, _≤_, _<_}
 use mathlib.Core.Path.{_≡_}
 use mathlib.Core.Logic.{_⊎_}
-use mathlib.Core.Bool.{true}
+use mathlib.Core.Bool.{true, cond}
 use mathlib.Core.List.{List}
 use lib.ListN.{length, getD}
-use Rattle.basis.specs.Limits.{max-text-bytes, max-rules, max-constructs, max-variables, max-terms, max-width, table-words}
+use Rattle.basis.specs.Limits.{max-text-bytes, max-rules, max-constructs, max-variables, max-terms, table-words}
+use Rattle.table_layout.specs.Constructs.{widest-for}
 use Rattle.table_layout.specs.Places.{word, rules-at, variables-at, constructs-at, terms-at, literals-at}
 use Rattle.text_shapes.specs.NodeShapes.{Unconditioned, Conditioned, tree, Holds, Rules}
 use Rattle.text_names.specs.Counting.{nowhere}
@@ -29,8 +30,8 @@ pub record Readable (xs ns ts rs : List ℕ) (n t b r : ℕ) : Type 0 where
   pub rules-limit : r ≤ max-rules
   pub short : length xs ≤ max-text-bytes
   pub named : refusal-6 xs ns ts rs r ≡ nowhere
-  pub widths : (i : ℕ) → i < n → kind-of ns i ≡ 8 → (1 ≤ width-of xs ns i) × (width-of xs ns i ≤ max-width)
-  pub numbers : (k : ℕ) → k < t → (term-tag ts k ≡ 1) ⊎ (term-tag ts k ≡ 33) → term-value ts k < 4294967296
+  pub widths : (i : ℕ) → i < n → kind-of ns i ≡ 8 → (1 ≤ width-of xs ns i) × (width-of xs ns i ≤ widest-for (cond (is-binder ns i) (binders-before ns i + 1) 0))
+  pub numbers : (k : ℕ) → k < t → (term-tag ts k ≡ 1) ⊎ (term-tag ts k ≡ 33) → term-value ts k < 2 ^ 63
 
 -- the words by place
 pub record Words (xs ns ts rs : List ℕ) (n r : ℕ) (ws : List ℕ) : Type 0 where

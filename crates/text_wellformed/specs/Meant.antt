@@ -17,7 +17,7 @@ use Rattle.table_wellformed.specs.Rules.{named-back}
 use Rattle.table_wellformed.specs.Laid.{byte-laid, literal-length}
 use Rattle.text_literals.specs.Literals.{characters-at}
 use Rattle.text_store.specs.Words.{kind-of, node-size, place-of, node-mark, last-place, is-binder}
-use Rattle.text_encoding.specs.Numbers.{rule-of, binders-before, width-of, own-length, own-start}
+use Rattle.text_encoding.specs.Numbers.{rule-of, binders-before, width-of, is-signed, own-length, own-start}
 
 -- `?`, `*`, `+`, or counts in braces: the terms from `start` up to `end`
 abbrev pub passes-meant : ℕ → ℕ → ℕ → Passes
@@ -33,7 +33,7 @@ meant xs ns rs r i =
     (cond (eqb (kind-of ns i) 5) (Construct.Use (rule-of xs rs r (place-of ns i)))
     (cond (eqb (kind-of ns i) 6) (Construct.Literal (length (characters-at xs (place-of ns i))))
     (cond (eqb (kind-of ns i) 7) (Construct.Range (getD (characters-at xs (place-of ns i)) 0 0) (getD (characters-at xs (last-place ns i)) 0 0))
-    (cond (eqb (kind-of ns i) 8) (Construct.Uint (width-of xs ns i) (own-start ns i) (own-start ns i + own-length ns i) (cond (is-binder ns i) (binders-before ns i + 1) 0))
+    (cond (eqb (kind-of ns i) 8) (Construct.Uint (is-signed xs ns i) (width-of xs ns i) (own-start ns i) (own-start ns i + own-length ns i) (cond (is-binder ns i) (binders-before ns i + 1) 0))
     Construct.Eod)))))))
 
 -- the words say so

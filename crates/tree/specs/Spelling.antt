@@ -1,14 +1,16 @@
 -- How a tree is spelled: its tokens in order, and then `w`.
 -- Assumes nothing.
 use Prim.Native.Nat.{ℕ}
+use mathlib.Core.Bool.{Bool, true, false}
 use mathlib.Core.List.{List, [], _∷_}
 use Rattle.text_tokens.specs.declared.Kind.{Kind}
 use Rattle.tree.specs.Lexemes.{Sign, Name, Number, Literal, Lexeme, sign, word, numeral, quoted, finish}
 use Rattle.tree.specs.Tree.{Primary, number, variable, Operand, plain, opposite, Factors, no-factor, times, Product, product, Summands, no-summand, plus, minus, Calculation, sum, Item, everything, only, between, from, up-to, SetPart, Choices, item, item-but-item, item-but-set, last-choice, or-choices, Counts, exactly, at-least, at-most, span, Comparison, equal, unequal, less, at-most-as, greater, at-least-as, TestPart, Tests, compare, test-group, one-test, all-of, any-of, last-conjunct, and-conjuncts, last-disjunct, or-disjuncts, Mark, optional, any-number, one-or-more, counted, eod-word, Part, Tree, literal, range, field, binder, rule-use, eod, group, switch, last-case, case-default, case-cases, once, repeated, last-member, and-members, last-branch, or-branches, Rule, rule, Rules, last-rule, and-rules}
 
--- the words `uint` and `var`
-abbrev pub uint-word : List ℕ
-uint-word = 117 ∷ 105 ∷ 110 ∷ 116 ∷ []
+-- the words `uint` and `sint`, and `var`
+abbrev pub field-word : Bool → List ℕ
+field-word false = 117 ∷ 105 ∷ 110 ∷ 116 ∷ []
+field-word true = 115 ∷ 105 ∷ 110 ∷ 116 ∷ []
 
 abbrev pub var-word : List ℕ
 var-word = 118 ∷ 97 ∷ 114 ∷ []
@@ -100,10 +102,10 @@ spell-mark (counted opens n closes) w = sign Kind.OpenBrace opens ∷ spell-coun
 unfoldable pub spell : {p : Part} {d : ℕ} → Tree p d → List Lexeme → List Lexeme
 spell (literal l) w = quoted l ∷ w
 spell (range a s b one one′) w = quoted a ∷ sign Kind.Tilde s ∷ quoted b ∷ w
-spell (field depth u opens n comma x closes) w =
-    spelled-as uint-word u ∷ sign Kind.OpenParen opens ∷ numeral n ∷ sign Kind.Comma comma ∷ spell-set x (sign Kind.CloseParen closes ∷ w)
-spell (binder depth u opens n comma v opens′ x comma′ y closes closes′) w =
-    spelled-as uint-word u ∷ sign Kind.OpenParen opens ∷ numeral n ∷ sign Kind.Comma comma ∷ spelled-as var-word v ∷ sign Kind.OpenParen opens′ ∷ word x ∷ sign Kind.Comma comma′ ∷ spell-set y (sign Kind.CloseParen closes ∷ sign Kind.CloseParen closes′ ∷ w)
+spell (field signed depth u opens n comma x closes) w =
+    spelled-as (field-word signed) u ∷ sign Kind.OpenParen opens ∷ numeral n ∷ sign Kind.Comma comma ∷ spell-set x (sign Kind.CloseParen closes ∷ w)
+spell (binder signed depth u opens n comma v opens′ x comma′ y closes closes′) w =
+    spelled-as (field-word signed) u ∷ sign Kind.OpenParen opens ∷ numeral n ∷ sign Kind.Comma comma ∷ spelled-as var-word v ∷ sign Kind.OpenParen opens′ ∷ word x ∷ sign Kind.Comma comma′ ∷ spell-set y (sign Kind.CloseParen closes ∷ sign Kind.CloseParen closes′ ∷ w)
 spell (rule-use x other) w = word x ∷ w
 spell (eod s) w = spelled-as eod-word s ∷ w
 spell (group depth opens x closes) w = sign Kind.OpenParen opens ∷ spell x (sign Kind.CloseParen closes ∷ w)

@@ -3,7 +3,7 @@
 -- Assumes nothing.
 use Prim.Native.Nat.{ℕ, _+_, _<_}
 use mathlib.Core.Path.{_≡_}
-use mathlib.Core.Bool.{false}
+use mathlib.Core.Bool.{Bool, false}
 use mathlib.Core.List.{List, [], _∷_}
 use lib.ListN.{length}
 use Rattle.text_tokens.specs.Names.{is-same}
@@ -130,10 +130,10 @@ pub data Tree : Part → ℕ → Type 0 where
   -- "a literal in `"` or `'`"; "`'a'~'z'`, a range of one-character literals"
   literal : {d : ℕ} → Literal → Tree atom d
   range : {d : ℕ} (first : Literal) → Sign → (last : Literal) → Single first → Single last → Tree atom d
-  -- "uint(width, set)": the word, `(`, width, `,`, set, `)`
-  field : {d : ℕ} → d < 16 → Sign → Sign → Number → Sign → ValueSet (d + 1) → Sign → Tree atom d
-  -- "uint(width, var(name, set))": the word, `(`, width, `,`, the word, `(`, name, `,`, set, `)`, `)`
-  binder : {d : ℕ} → d + 1 < 16 → Sign → Sign → Number → Sign → Sign → Sign → Name → Sign → ValueSet (d + 1 + 1) → Sign → Sign → Tree atom d
+  -- "uint(width, set)", signed: "`sint(width, set)`" (Req 10): the word, `(`, width, `,`, set, `)`
+  field : {d : ℕ} → (signed : Bool) → d < 16 → Sign → Sign → Number → Sign → ValueSet (d + 1) → Sign → Tree atom d
+  -- "uint(width, var(name, set))", or sint: the word, `(`, width, `,`, the word, `(`, name, `,`, set, `)`, `)`
+  binder : {d : ℕ} → (signed : Bool) → d + 1 < 16 → Sign → Sign → Number → Sign → Sign → Sign → Name → Sign → ValueSet (d + 1 + 1) → Sign → Sign → Tree atom d
   -- "a rule's name"; "eod"
   rule-use : {d : ℕ} (name : Name) → is-same eod-word (name .letters) ≡ false → Tree atom d
   eod : {d : ℕ} → Sign → Tree atom d

@@ -33,8 +33,8 @@ pub atom-place : {d : ℕ} (a : Tree atom d) (w : List Lexeme) → start-of a �
 unfolding spell start-of
 atom-place (literal l) w = refl
 atom-place (range a s b one one′) w = refl
-atom-place (field depth u opens n comma x closes) w = refl
-atom-place (binder depth u opens n comma v opens′ x comma′ y closes closes′) w = refl
+atom-place (field signed depth u opens n comma x closes) w = refl
+atom-place (binder signed depth u opens n comma v opens′ x comma′ y closes closes′) w = refl
 atom-place (rule-use x other) w = refl
 atom-place (eod s) w = refl
 atom-place (group depth opens x closes) w = refl

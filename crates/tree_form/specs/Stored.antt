@@ -95,8 +95,8 @@ store-tests (or-disjuncts a s b) join st = store-tests b (add 11 0 (s .start) 0)
 unfoldable pub start-of : {p : Part} {d : ℕ} → Tree p d → ℕ
 start-of (literal l) = l .start
 start-of (range a s b one one′) = a .start
-start-of (field depth u opens n comma x closes) = u .start
-start-of (binder depth u opens n comma v opens′ x comma′ y closes closes′) = u .start
+start-of (field signed depth u opens n comma x closes) = u .start
+start-of (binder signed depth u opens n comma v opens′ x comma′ y closes closes′) = u .start
 start-of (rule-use x other) = x .start
 start-of (eod s) = s .start
 start-of (group depth opens x closes) = opens .start
@@ -130,8 +130,8 @@ how-bound d = cond (eqb d 2) 1 2
 unfoldable pub store : {p : Part} {d : ℕ} → Tree p d → (on : Bool) → State → State
 store (literal l) on st = leaf 6 (l .start) 0 0 0 0 0 st
 store (range a s b one one′) on st = leaf 7 (a .start) (b .start) 0 0 0 0 st
-store (field depth u opens n comma x closes) on st = leaf 8 (u .start) (n .start) 0 (terms-of st) (terms-of (store-set x (λ y. y) st)) 0 (store-set x (λ y. y) st)
-store (binder {d} depth u opens n comma v opens′ x comma′ y closes closes′) on st =
+store (field signed depth u opens n comma x closes) on st = leaf 8 (u .start) (n .start) 0 (terms-of st) (terms-of (store-set x (λ y. y) st)) 0 (store-set x (λ y. y) st)
+store (binder {d} signed depth u opens n comma v opens′ x comma′ y closes closes′) on st =
     leaf 8 (u .start) (n .start) (x .start) (terms-of st) (terms-of (store-set y (λ z. z) (bind st))) (how-bound (d + 1 + 1)) (store-set y (λ z. z) (bind st))
 store (rule-use x other) on st = leaf 5 (x .start) 0 0 0 0 0 st
 store (eod s) on st = leaf 9 (s .start) 0 0 0 0 0 st

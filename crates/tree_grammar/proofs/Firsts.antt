@@ -81,8 +81,8 @@ no-case : {p : Part} {d : ℕ} (x : Tree p d) (t : ℕ) → Whole p → NoCase (
 unfolding node-rows
 no-case (literal l) t w = (refl, refl)
 no-case (range a s b one one′) t w = (refl, refl)
-no-case (field depth u opens n comma x closes) t w = (refl, refl)
-no-case (binder depth u opens n comma v opens′ x comma′ y closes closes′) t w = (refl, refl)
+no-case (field signed depth u opens n comma x closes) t w = (refl, refl)
+no-case (binder signed depth u opens n comma v opens′ x comma′ y closes closes′) t w = (refl, refl)
 no-case (rule-use x other) t w = (refl, refl)
 no-case (eod s) t w = (refl, refl)
 no-case (group depth opens x closes) t w = no-case x t tt

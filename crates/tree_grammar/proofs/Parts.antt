@@ -46,8 +46,8 @@ first-size : {p : Part} {d : ℕ} (x : Tree p d) (t : ℕ) → Whole p → First
 unfolding node-rows constructs
 first-size (literal l) t w = refl
 first-size (range a s b one one′) t w = refl
-first-size (field depth u opens n comma x closes) t w = refl
-first-size (binder depth u opens n comma v opens′ x comma′ y closes closes′) t w = refl
+first-size (field signed depth u opens n comma x closes) t w = refl
+first-size (binder signed depth u opens n comma v opens′ x comma′ y closes closes′) t w = refl
 first-size (rule-use x other) t w = refl
 first-size (eod s) t w = refl
 first-size (group depth opens x closes) t w = first-size x t tt

@@ -224,7 +224,7 @@ module _ {P : Values → Type 0} {xs ns rs : List ℕ} {r : ℕ} {body numbered 
   walk top begun (literal l) i t names w (first-then h more) rows s b e ok = (literal-means P xs ns ts rs r i (l .characters) (h .kind-is) (ap (characters-at xs) (h .place-is) ∙ shown s), no-uint xs ns ts rs r i 6 (h .kind-is) (λ z. omega arith), tt)
   walk top begun (range c g z one one′) i t names w (first-then h more) rows s b e ok =
       (range-means P xs ns ts rs r i (getD (c .characters) 0 0) (getD (z .characters) 0 0) (h .kind-is) (ap (λ (k : ℕ). getD (characters-at xs k) 0 0) (h .place-is) ∙ ap (λ (k : List ℕ). getD k 0 0) (shown s)) (ap (λ (k : ℕ). getD (characters-at xs k) 0 0) (h .first-is) ∙ ap (λ (k : List ℕ). getD k 0 0) (shown (past (past s)))), no-uint xs ns ts rs r i 7 (h .kind-is) (λ z. omega arith), tt)
-  walk top begun (field depth u opens n comma x closes) i t names w (first-then h more) rows s b e ok =
+  walk top begun (field signed depth u opens n comma x closes) i t names w (first-then h more) rows s b e ok =
       let uses = set-uses x (sign Kind.CloseParen closes ∷ w) no-more (past (past (past (past s))))
       in let below : i < end = omega arith
       in let wide : width-of xs ns i ≡ n .value = width-is i (n .start) (n .value) (h .first-is) (shown (past (past s))) (ok .0)
@@ -236,7 +236,7 @@ module _ {P : Values → Type 0} {xs ns rs : List ℕ} {r : ℕ} {body numbered 
         (h .kind-is, wide, static),
         tt,
       )
-  walk top begun (binder {d} depth u opens n comma v opens′ x comma′ y closes closes′) i t names w (first-then h more) rows s b e ok =
+  walk top begun (binder {d} signed depth u opens n comma v opens′ x comma′ y closes closes′) i t names w (first-then h more) rows s b e ok =
       let uses = set-uses y (sign Kind.CloseParen closes ∷ sign Kind.CloseParen closes′ ∷ w) no-more (past (past (past (past (past (past (past (past s))))))))
       in let below : i < end = omega arith
       in let wide : width-of xs ns i ≡ n .value = width-is i (n .start) (n .value) (h .first-is) (shown (past (past s))) (ok .0)

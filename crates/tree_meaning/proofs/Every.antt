@@ -63,8 +63,8 @@ module _ (body variable : List ℕ → ℕ) (R : TreeNode → Type 0) (S : Piece
   unfolding AllPieces AllNodes pieces constructs-of
   every top begun i (literal l) h = (f .literals (l .characters), tt)
   every top begun i (range a s b one one′) h = (f .ranges _ _, tt)
-  every top begun i (field depth u opens n comma x closes) h = (f .fields _ n x (h .0) (h .1 .0), tt)
-  every top begun i (binder depth u opens n comma v opens′ x comma′ y closes closes′) h = (f .binders _ n x y top (h .0) (h .1 .0) (h .1 .1 .0), tt)
+  every top begun i (field signed depth u opens n comma x closes) h = (f .fields _ n x (h .0) (h .1 .0), tt)
+  every top begun i (binder signed depth u opens n comma v opens′ x comma′ y closes closes′) h = (f .binders _ n x y top (h .0) (h .1 .0) (h .1 .1 .0), tt)
   every top begun i (rule-use x other) h = (f .rule-uses x (h .0), tt)
   every top begun i (eod s) h = (f .ends, tt)
   every top begun i (group depth opens x closes) h = every false false i x h

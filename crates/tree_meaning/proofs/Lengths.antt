@@ -16,8 +16,8 @@ pub some-construct : {p : Part} {d : ℕ} (begun : Bool) (x : Tree p d) → 1 �
 unfolding constructs
 some-construct begun (literal l) = omega arith
 some-construct begun (range a s b one one′) = omega arith
-some-construct begun (field depth u opens n comma x closes) = omega arith
-some-construct begun (binder depth u opens n comma v opens′ x comma′ y closes closes′) = omega arith
+some-construct begun (field signed depth u opens n comma x closes) = omega arith
+some-construct begun (binder signed depth u opens n comma v opens′ x comma′ y closes closes′) = omega arith
 some-construct begun (rule-use x other) = omega arith
 some-construct begun (eod s) = omega arith
 some-construct begun (group depth opens x closes) = some-construct false x
@@ -45,8 +45,8 @@ module _ (body variable : List ℕ → ℕ) where
   unfolding constructs constructs-of
   as-counted begun i (literal l) = refl
   as-counted begun i (range a s b one one′) = refl
-  as-counted begun i (field depth u opens n comma x closes) = refl
-  as-counted begun i (binder depth u opens n comma v opens′ x comma′ y closes closes′) = refl
+  as-counted begun i (field signed depth u opens n comma x closes) = refl
+  as-counted begun i (binder signed depth u opens n comma v opens′ x comma′ y closes closes′) = refl
   as-counted begun i (rule-use x other) = refl
   as-counted begun i (eod s) = refl
   as-counted begun i (group depth opens x closes) = as-counted false i x

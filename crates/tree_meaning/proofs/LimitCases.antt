@@ -77,7 +77,7 @@ choices (suc n) = or-choices (item (only one)) (at 0) (choices n)
 -- 1,023 of them in a set, and then one or two more in counts: widths, braces and marks are none
 sized-by : Calculation → Tree concatenation 0
 sized-by c =
-    last-member (repeated (group (lit< tt) (at 0) (last-branch (last-member (once (field (lit< tt) (at 0) (at 0) (num 0 0 8) (at 0) (choices 511) (at 0))))) (at 0)) (counted (at 0) (exactly c) (at 0)))
+    last-member (repeated (group (lit< tt) (at 0) (last-branch (last-member (once (field false (lit< tt) (at 0) (at 0) (num 0 0 8) (at 0) (choices 511) (at 0))))) (at 0)) (counted (at 0) (exactly c) (at 0)))
 
 terms-1024 : judgement (rules 0 0 (sized-by one)) ≡ judged 1 2 0 1024 none none none
 unfolding judgement rules ruled sized-by choices one

@@ -41,8 +41,8 @@ pub unplaced : {p : Part} {d : ℕ} (x : Tree p d) → Unplaced (pieces false x)
 unfolding Unplaced pieces
 unplaced (literal l) = tt
 unplaced (range a s b one one′) = tt
-unplaced (field depth u opens n comma x closes) = tt
-unplaced (binder depth u opens n comma v opens′ x comma′ y closes closes′) = (refl, tt)
+unplaced (field signed depth u opens n comma x closes) = tt
+unplaced (binder signed depth u opens n comma v opens′ x comma′ y closes closes′) = (refl, tt)
 unplaced (rule-use x other) = tt
 unplaced (eod s) = tt
 unplaced (group depth opens x closes) = unplaced x
@@ -107,8 +107,8 @@ module _ (rules variables : List Name) where
   unfolding NamesRight Sees pieces
   item-sees before (literal l) h = tt
   item-sees before (range a s b one one′) h = tt
-  item-sees before (field depth u opens n comma x closes) h = (h .0, tt)
-  item-sees before (binder depth u opens n comma v opens′ x comma′ y closes closes′) h = (h .0, tt)
+  item-sees before (field signed depth u opens n comma x closes) h = (h .0, tt)
+  item-sees before (binder signed depth u opens n comma v opens′ x comma′ y closes closes′) h = (h .0, tt)
   item-sees before (rule-use x other) h = tt
   item-sees before (eod s) h = tt
   item-sees before (group depth opens x closes) h = sees-before before (pieces false x) (unplaced x) h

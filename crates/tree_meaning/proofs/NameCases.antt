@@ -74,7 +74,7 @@ reserved-used-six = refl
 -- `a = b & uint(8, var(b, ~)); b = "x";`: a variable hides the rule in its whole rule, before its binder too
 unfoldable pub hidden : Rules
 unfolding bytes starts
-hidden = and-rules (rule (name 0 "a") (at 2) (last-branch (and-members (once (rule-use (name 4 "b") refl)) (at 6) (last-member (once (binder (lit< tt) (over 8 12) (at 12) (num 13 14 8) (at 14) (over 16 19) (at 19) (name 20 "b") (at 21) (last-choice (item (everything (at 23)))) (at 24) (at 25)))))) (at 26)) (last-rule (rule (name 28 "b") (at 30) (last-branch (last-member (once (literal (quote 32 35 "x"))))) (at 35)))
+hidden = and-rules (rule (name 0 "a") (at 2) (last-branch (and-members (once (rule-use (name 4 "b") refl)) (at 6) (last-member (once (binder false (lit< tt) (over 8 12) (at 12) (num 13 14 8) (at 14) (over 16 19) (at 19) (name 20 "b") (at 21) (last-choice (item (everything (at 23)))) (at 24) (at 25)))))) (at 26)) (last-rule (rule (name 28 "b") (at 30) (last-branch (last-member (once (literal (quote 32 35 "x"))))) (at 35)))
 
 hidden-read : tokens "a = b & uint(8, var(b, ~)); b = \"x\";" ≡ written hidden 36
 unfolding tokens written hidden
@@ -87,7 +87,7 @@ hidden-six = refl
 -- `a = b; b = uint(8, var(a, ~)); c = a;`: and in no other rule; a variable may have any rule's name
 unfoldable pub hidden-elsewhere : Rules
 unfolding bytes starts
-hidden-elsewhere = and-rules (rule (name 0 "a") (at 2) (last-branch (last-member (once (rule-use (name 4 "b") refl)))) (at 5)) (and-rules (rule (name 7 "b") (at 9) (last-branch (last-member (once (binder (lit< tt) (over 11 15) (at 15) (num 16 17 8) (at 17) (over 19 22) (at 22) (name 23 "a") (at 24) (last-choice (item (everything (at 26)))) (at 27) (at 28))))) (at 29)) (last-rule (rule (name 31 "c") (at 33) (last-branch (last-member (once (rule-use (name 35 "a") refl)))) (at 36))))
+hidden-elsewhere = and-rules (rule (name 0 "a") (at 2) (last-branch (last-member (once (rule-use (name 4 "b") refl)))) (at 5)) (and-rules (rule (name 7 "b") (at 9) (last-branch (last-member (once (binder false (lit< tt) (over 11 15) (at 15) (num 16 17 8) (at 17) (over 19 22) (at 22) (name 23 "a") (at 24) (last-choice (item (everything (at 26)))) (at 27) (at 28))))) (at 29)) (last-rule (rule (name 31 "c") (at 33) (last-branch (last-member (once (rule-use (name 35 "a") refl)))) (at 36))))
 
 hidden-elsewhere-read : tokens "a = b; b = uint(8, var(a, ~)); c = a;" ≡ written hidden-elsewhere 37
 unfolding tokens written hidden-elsewhere
@@ -99,7 +99,7 @@ hidden-elsewhere-six = refl
 
 -- `a = uint(8, var(a, ~)) & uint(8, a);`: its own rule's name too
 unfoldable pub own-name : Rules
-own-name = last-rule (rule (name 0 "a") (at 2) (last-branch (and-members (once (binder (lit< tt) (over 4 8) (at 8) (num 9 10 8) (at 10) (over 12 15) (at 15) (name 16 "a") (at 17) (last-choice (item (everything (at 19)))) (at 20) (at 21))) (at 23) (last-member (once (field (lit< tt) (over 25 29) (at 29) (num 30 31 8) (at 31) (last-choice (item (only (sum (product (plain (variable (name 33 "a"))) no-factor) no-summand)))) (at 34)))))) (at 35))
+own-name = last-rule (rule (name 0 "a") (at 2) (last-branch (and-members (once (binder false (lit< tt) (over 4 8) (at 8) (num 9 10 8) (at 10) (over 12 15) (at 15) (name 16 "a") (at 17) (last-choice (item (everything (at 19)))) (at 20) (at 21))) (at 23) (last-member (once (field false (lit< tt) (over 25 29) (at 29) (num 30 31 8) (at 31) (last-choice (item (only (sum (product (plain (variable (name 33 "a"))) no-factor) no-summand)))) (at 34)))))) (at 35))
 
 own-name-read : tokens "a = uint(8, var(a, ~)) & uint(8, a);" ≡ written own-name 36
 unfolding tokens written own-name
@@ -111,7 +111,7 @@ own-name-six = refl
 
 -- `a = uint(8, var(n, ~)) & uint(8, b); b = "x";`: of the wrong kind: a rule's name in a set
 unfoldable pub rule-as-variable : Rules
-rule-as-variable = and-rules (rule (name 0 "a") (at 2) (last-branch (and-members (once (binder (lit< tt) (over 4 8) (at 8) (num 9 10 8) (at 10) (over 12 15) (at 15) (name 16 "n") (at 17) (last-choice (item (everything (at 19)))) (at 20) (at 21))) (at 23) (last-member (once (field (lit< tt) (over 25 29) (at 29) (num 30 31 8) (at 31) (last-choice (item (only (sum (product (plain (variable (name 33 "b"))) no-factor) no-summand)))) (at 34)))))) (at 35)) (last-rule (rule (name 37 "b") (at 39) (last-branch (last-member (once (literal (quote 41 44 "x"))))) (at 44)))
+rule-as-variable = and-rules (rule (name 0 "a") (at 2) (last-branch (and-members (once (binder false (lit< tt) (over 4 8) (at 8) (num 9 10 8) (at 10) (over 12 15) (at 15) (name 16 "n") (at 17) (last-choice (item (everything (at 19)))) (at 20) (at 21))) (at 23) (last-member (once (field false (lit< tt) (over 25 29) (at 29) (num 30 31 8) (at 31) (last-choice (item (only (sum (product (plain (variable (name 33 "b"))) no-factor) no-summand)))) (at 34)))))) (at 35)) (last-rule (rule (name 37 "b") (at 39) (last-branch (last-member (once (literal (quote 41 44 "x"))))) (at 44)))
 
 rule-as-variable-read : tokens "a = uint(8, var(n, ~)) & uint(8, b); b = \"x\";" ≡ written rule-as-variable 45
 unfolding tokens written rule-as-variable
@@ -123,7 +123,7 @@ rule-as-variable-six = refl
 
 -- `a = uint(8, var(n, ~)); b = uint(8, n);`: "Variables are local to a rule"
 unfoldable pub other-rule : Rules
-other-rule = and-rules (rule (name 0 "a") (at 2) (last-branch (last-member (once (binder (lit< tt) (over 4 8) (at 8) (num 9 10 8) (at 10) (over 12 15) (at 15) (name 16 "n") (at 17) (last-choice (item (everything (at 19)))) (at 20) (at 21))))) (at 22)) (last-rule (rule (name 24 "b") (at 26) (last-branch (last-member (once (field (lit< tt) (over 28 32) (at 32) (num 33 34 8) (at 34) (last-choice (item (only (sum (product (plain (variable (name 36 "n"))) no-factor) no-summand)))) (at 37))))) (at 38)))
+other-rule = and-rules (rule (name 0 "a") (at 2) (last-branch (last-member (once (binder false (lit< tt) (over 4 8) (at 8) (num 9 10 8) (at 10) (over 12 15) (at 15) (name 16 "n") (at 17) (last-choice (item (everything (at 19)))) (at 20) (at 21))))) (at 22)) (last-rule (rule (name 24 "b") (at 26) (last-branch (last-member (once (field false (lit< tt) (over 28 32) (at 32) (num 33 34 8) (at 34) (last-choice (item (only (sum (product (plain (variable (name 36 "n"))) no-factor) no-summand)))) (at 37))))) (at 38)))
 
 other-rule-read : tokens "a = uint(8, var(n, ~)); b = uint(8, n);" ≡ written other-rule 39
 unfolding tokens written other-rule
@@ -135,7 +135,7 @@ other-rule-six = refl
 
 -- `a = uint(8, var(n, n));`: a binder's own set is no later member
 unfoldable pub own-set : Rules
-own-set = last-rule (rule (name 0 "a") (at 2) (last-branch (last-member (once (binder (lit< tt) (over 4 8) (at 8) (num 9 10 8) (at 10) (over 12 15) (at 15) (name 16 "n") (at 17) (last-choice (item (only (sum (product (plain (variable (name 19 "n"))) no-factor) no-summand)))) (at 20) (at 21))))) (at 22))
+own-set = last-rule (rule (name 0 "a") (at 2) (last-branch (last-member (once (binder false (lit< tt) (over 4 8) (at 8) (num 9 10 8) (at 10) (over 12 15) (at 15) (name 16 "n") (at 17) (last-choice (item (only (sum (product (plain (variable (name 19 "n"))) no-factor) no-summand)))) (at 20) (at 21))))) (at 22))
 
 own-set-read : tokens "a = uint(8, var(n, n));" ≡ written own-set 23
 unfolding tokens written own-set
@@ -147,7 +147,7 @@ own-set-six = refl
 
 -- `a = uint(8, n) & uint(8, var(n, ~));`: nor is an earlier one
 unfoldable pub earlier : Rules
-earlier = last-rule (rule (name 0 "a") (at 2) (last-branch (and-members (once (field (lit< tt) (over 4 8) (at 8) (num 9 10 8) (at 10) (last-choice (item (only (sum (product (plain (variable (name 12 "n"))) no-factor) no-summand)))) (at 13))) (at 15) (last-member (once (binder (lit< tt) (over 17 21) (at 21) (num 22 23 8) (at 23) (over 25 28) (at 28) (name 29 "n") (at 30) (last-choice (item (everything (at 32)))) (at 33) (at 34)))))) (at 35))
+earlier = last-rule (rule (name 0 "a") (at 2) (last-branch (and-members (once (field false (lit< tt) (over 4 8) (at 8) (num 9 10 8) (at 10) (last-choice (item (only (sum (product (plain (variable (name 12 "n"))) no-factor) no-summand)))) (at 13))) (at 15) (last-member (once (binder false (lit< tt) (over 17 21) (at 21) (num 22 23 8) (at 23) (over 25 28) (at 28) (name 29 "n") (at 30) (last-choice (item (everything (at 32)))) (at 33) (at 34)))))) (at 35))
 
 earlier-read : tokens "a = uint(8, n) & uint(8, var(n, ~));" ≡ written earlier 36
 unfolding tokens written earlier
@@ -159,7 +159,7 @@ earlier-six = refl
 
 -- `a = uint(8, var(n, ~)) & "x"{n} & [n = 1: "y"{n};];`: uses in later members, inside them too
 unfoldable pub later : Rules
-later = last-rule (rule (name 0 "a") (at 2) (last-branch (and-members (once (binder (lit< tt) (over 4 8) (at 8) (num 9 10 8) (at 10) (over 12 15) (at 15) (name 16 "n") (at 17) (last-choice (item (everything (at 19)))) (at 20) (at 21))) (at 23) (and-members (repeated (literal (quote 25 28 "x")) (counted (at 28) (exactly (sum (product (plain (variable (name 29 "n"))) no-factor) no-summand)) (at 30))) (at 32) (last-member (once (switch (lit< tt) (at 34) (last-case (one-test (compare (sum (product (plain (variable (name 35 "n"))) no-factor) no-summand) equal (at 37) (sum (product (plain (number (num 39 40 1))) no-factor) no-summand))) (at 40) (last-branch (last-member (repeated (literal (quote 42 45 "y")) (counted (at 45) (exactly (sum (product (plain (variable (name 46 "n"))) no-factor) no-summand)) (at 47))))) (at 48)) (at 49))))))) (at 50))
+later = last-rule (rule (name 0 "a") (at 2) (last-branch (and-members (once (binder false (lit< tt) (over 4 8) (at 8) (num 9 10 8) (at 10) (over 12 15) (at 15) (name 16 "n") (at 17) (last-choice (item (everything (at 19)))) (at 20) (at 21))) (at 23) (and-members (repeated (literal (quote 25 28 "x")) (counted (at 28) (exactly (sum (product (plain (variable (name 29 "n"))) no-factor) no-summand)) (at 30))) (at 32) (last-member (once (switch (lit< tt) (at 34) (last-case (one-test (compare (sum (product (plain (variable (name 35 "n"))) no-factor) no-summand) equal (at 37) (sum (product (plain (number (num 39 40 1))) no-factor) no-summand))) (at 40) (last-branch (last-member (repeated (literal (quote 42 45 "y")) (counted (at 45) (exactly (sum (product (plain (variable (name 46 "n"))) no-factor) no-summand)) (at 47))))) (at 48)) (at 49))))))) (at 50))
 
 later-read : tokens "a = uint(8, var(n, ~)) & \"x\"{n} & [n = 1: \"y\"{n};];" ≡ written later 51
 unfolding tokens written later
@@ -171,7 +171,7 @@ later-six = refl
 
 -- `a = uint(8, var(n, ~)) & "x" & uint(4, var(n, ~));`: double: the later of two
 unfoldable pub double-variable : Rules
-double-variable = last-rule (rule (name 0 "a") (at 2) (last-branch (and-members (once (binder (lit< tt) (over 4 8) (at 8) (num 9 10 8) (at 10) (over 12 15) (at 15) (name 16 "n") (at 17) (last-choice (item (everything (at 19)))) (at 20) (at 21))) (at 23) (and-members (once (literal (quote 25 28 "x"))) (at 29) (last-member (once (binder (lit< tt) (over 31 35) (at 35) (num 36 37 4) (at 37) (over 39 42) (at 42) (name 43 "n") (at 44) (last-choice (item (everything (at 46)))) (at 47) (at 48))))))) (at 49))
+double-variable = last-rule (rule (name 0 "a") (at 2) (last-branch (and-members (once (binder false (lit< tt) (over 4 8) (at 8) (num 9 10 8) (at 10) (over 12 15) (at 15) (name 16 "n") (at 17) (last-choice (item (everything (at 19)))) (at 20) (at 21))) (at 23) (and-members (once (literal (quote 25 28 "x"))) (at 29) (last-member (once (binder false (lit< tt) (over 31 35) (at 35) (num 36 37 4) (at 37) (over 39 42) (at 42) (name 43 "n") (at 44) (last-choice (item (everything (at 46)))) (at 47) (at 48))))))) (at 49))
 
 double-variable-read : tokens "a = uint(8, var(n, ~)) & \"x\" & uint(4, var(n, ~));" ≡ written double-variable 50
 unfolding tokens written double-variable
@@ -183,7 +183,7 @@ double-variable-six = refl
 
 -- `a = uint(8, var(eod, ~));`: reserved
 unfoldable pub reserved-variable : Rules
-reserved-variable = last-rule (rule (name 0 "a") (at 2) (last-branch (last-member (once (binder (lit< tt) (over 4 8) (at 8) (num 9 10 8) (at 10) (over 12 15) (at 15) (name 16 "eod") (at 19) (last-choice (item (everything (at 21)))) (at 22) (at 23))))) (at 24))
+reserved-variable = last-rule (rule (name 0 "a") (at 2) (last-branch (last-member (once (binder false (lit< tt) (over 4 8) (at 8) (num 9 10 8) (at 10) (over 12 15) (at 15) (name 16 "eod") (at 19) (last-choice (item (everything (at 21)))) (at 22) (at 23))))) (at 24))
 
 reserved-variable-read : tokens "a = uint(8, var(eod, ~));" ≡ written reserved-variable 25
 unfolding tokens written reserved-variable
@@ -195,7 +195,7 @@ reserved-variable-six = refl
 
 -- `a = uint(8, var(n, ~));`: the whole body
 unfoldable pub body-binder : Rules
-body-binder = last-rule (rule (name 0 "a") (at 2) (last-branch (last-member (once (binder (lit< tt) (over 4 8) (at 8) (num 9 10 8) (at 10) (over 12 15) (at 15) (name 16 "n") (at 17) (last-choice (item (everything (at 19)))) (at 20) (at 21))))) (at 22))
+body-binder = last-rule (rule (name 0 "a") (at 2) (last-branch (last-member (once (binder false (lit< tt) (over 4 8) (at 8) (num 9 10 8) (at 10) (over 12 15) (at 15) (name 16 "n") (at 17) (last-choice (item (everything (at 19)))) (at 20) (at 21))))) (at 22))
 
 body-binder-read : tokens "a = uint(8, var(n, ~));" ≡ written body-binder 23
 unfolding tokens written body-binder
@@ -207,7 +207,7 @@ body-binder-six = refl
 
 -- `a = (uint(8, var(n, ~)));`: misplaced: in a group, even around the whole body
 unfoldable pub grouped : Rules
-grouped = last-rule (rule (name 0 "a") (at 2) (last-branch (last-member (once (group (lit< tt) (at 4) (last-branch (last-member (once (binder (lit< tt) (over 5 9) (at 9) (num 10 11 8) (at 11) (over 13 16) (at 16) (name 17 "n") (at 18) (last-choice (item (everything (at 20)))) (at 21) (at 22))))) (at 23))))) (at 24))
+grouped = last-rule (rule (name 0 "a") (at 2) (last-branch (last-member (once (group (lit< tt) (at 4) (last-branch (last-member (once (binder false (lit< tt) (over 5 9) (at 9) (num 10 11 8) (at 11) (over 13 16) (at 16) (name 17 "n") (at 18) (last-choice (item (everything (at 20)))) (at 21) (at 22))))) (at 23))))) (at 24))
 
 grouped-read : tokens "a = (uint(8, var(n, ~)));" ≡ written grouped 25
 unfolding tokens written grouped
@@ -219,7 +219,7 @@ grouped-six = refl
 
 -- `a = "x" & uint(8, var(n, ~))?;`: under a repetition
 unfoldable pub repeated-binder : Rules
-repeated-binder = last-rule (rule (name 0 "a") (at 2) (last-branch (and-members (once (literal (quote 4 7 "x"))) (at 8) (last-member (repeated (binder (lit< tt) (over 10 14) (at 14) (num 15 16 8) (at 16) (over 18 21) (at 21) (name 22 "n") (at 23) (last-choice (item (everything (at 25)))) (at 26) (at 27)) (optional (at 28)))))) (at 29))
+repeated-binder = last-rule (rule (name 0 "a") (at 2) (last-branch (and-members (once (literal (quote 4 7 "x"))) (at 8) (last-member (repeated (binder false (lit< tt) (over 10 14) (at 14) (num 15 16 8) (at 16) (over 18 21) (at 21) (name 22 "n") (at 23) (last-choice (item (everything (at 25)))) (at 26) (at 27)) (optional (at 28)))))) (at 29))
 
 repeated-binder-read : tokens "a = \"x\" & uint(8, var(n, ~))?;" ≡ written repeated-binder 30
 unfolding tokens written repeated-binder
@@ -231,7 +231,7 @@ repeated-binder-six = refl
 
 -- `a = uint(8, var(n, ~)) | "x";`: in a branch
 unfoldable pub branch-binder : Rules
-branch-binder = last-rule (rule (name 0 "a") (at 2) (or-branches (last-member (once (binder (lit< tt) (over 4 8) (at 8) (num 9 10 8) (at 10) (over 12 15) (at 15) (name 16 "n") (at 17) (last-choice (item (everything (at 19)))) (at 20) (at 21)))) (at 23) (last-branch (last-member (once (literal (quote 25 28 "x")))))) (at 28))
+branch-binder = last-rule (rule (name 0 "a") (at 2) (or-branches (last-member (once (binder false (lit< tt) (over 4 8) (at 8) (num 9 10 8) (at 10) (over 12 15) (at 15) (name 16 "n") (at 17) (last-choice (item (everything (at 19)))) (at 20) (at 21)))) (at 23) (last-branch (last-member (once (literal (quote 25 28 "x")))))) (at 28))
 
 branch-binder-read : tokens "a = uint(8, var(n, ~)) | \"x\";" ≡ written branch-binder 29
 unfolding tokens written branch-binder
@@ -243,7 +243,7 @@ branch-binder-six = refl
 
 -- `a = "x" | "y" & uint(8, var(n, ~));`: in a branch's concatenation, which is not the top one
 unfoldable pub branch-member : Rules
-branch-member = last-rule (rule (name 0 "a") (at 2) (or-branches (last-member (once (literal (quote 4 7 "x")))) (at 8) (last-branch (and-members (once (literal (quote 10 13 "y"))) (at 14) (last-member (once (binder (lit< tt) (over 16 20) (at 20) (num 21 22 8) (at 22) (over 24 27) (at 27) (name 28 "n") (at 29) (last-choice (item (everything (at 31)))) (at 32) (at 33))))))) (at 34))
+branch-member = last-rule (rule (name 0 "a") (at 2) (or-branches (last-member (once (literal (quote 4 7 "x")))) (at 8) (last-branch (and-members (once (literal (quote 10 13 "y"))) (at 14) (last-member (once (binder false (lit< tt) (over 16 20) (at 20) (num 21 22 8) (at 22) (over 24 27) (at 27) (name 28 "n") (at 29) (last-choice (item (everything (at 31)))) (at 32) (at 33))))))) (at 34))
 
 branch-member-read : tokens "a = \"x\" | \"y\" & uint(8, var(n, ~));" ≡ written branch-member 35
 unfolding tokens written branch-member
@@ -255,7 +255,7 @@ branch-member-six = refl
 
 -- `a = [1 = 1: uint(8, var(n, ~));];`: in a case
 unfoldable pub case-binder : Rules
-case-binder = last-rule (rule (name 0 "a") (at 2) (last-branch (last-member (once (switch (lit< tt) (at 4) (last-case (one-test (compare (sum (product (plain (number (num 5 6 1))) no-factor) no-summand) equal (at 7) (sum (product (plain (number (num 9 10 1))) no-factor) no-summand))) (at 10) (last-branch (last-member (once (binder (lit< tt) (over 12 16) (at 16) (num 17 18 8) (at 18) (over 20 23) (at 23) (name 24 "n") (at 25) (last-choice (item (everything (at 27)))) (at 28) (at 29))))) (at 30)) (at 31))))) (at 32))
+case-binder = last-rule (rule (name 0 "a") (at 2) (last-branch (last-member (once (switch (lit< tt) (at 4) (last-case (one-test (compare (sum (product (plain (number (num 5 6 1))) no-factor) no-summand) equal (at 7) (sum (product (plain (number (num 9 10 1))) no-factor) no-summand))) (at 10) (last-branch (last-member (once (binder false (lit< tt) (over 12 16) (at 16) (num 17 18 8) (at 18) (over 20 23) (at 23) (name 24 "n") (at 25) (last-choice (item (everything (at 27)))) (at 28) (at 29))))) (at 30)) (at 31))))) (at 32))
 
 case-binder-read : tokens "a = [1 = 1: uint(8, var(n, ~));];" ≡ written case-binder 33
 unfolding tokens written case-binder
@@ -268,7 +268,7 @@ case-binder-six = refl
 -- `a = "x" & uint(8, var(msb, k)); b = c;`: "the smallest place": the binder's name before its set's, and both before the next rule's
 unfoldable pub smallest : Rules
 unfolding bytes starts
-smallest = and-rules (rule (name 0 "a") (at 2) (last-branch (and-members (once (literal (quote 4 7 "x"))) (at 8) (last-member (once (binder (lit< tt) (over 10 14) (at 14) (num 15 16 8) (at 16) (over 18 21) (at 21) (name 22 "msb") (at 25) (last-choice (item (only (sum (product (plain (variable (name 27 "k"))) no-factor) no-summand)))) (at 28) (at 29)))))) (at 30)) (last-rule (rule (name 32 "b") (at 34) (last-branch (last-member (once (rule-use (name 36 "c") refl)))) (at 37)))
+smallest = and-rules (rule (name 0 "a") (at 2) (last-branch (and-members (once (literal (quote 4 7 "x"))) (at 8) (last-member (once (binder false (lit< tt) (over 10 14) (at 14) (num 15 16 8) (at 16) (over 18 21) (at 21) (name 22 "msb") (at 25) (last-choice (item (only (sum (product (plain (variable (name 27 "k"))) no-factor) no-summand)))) (at 28) (at 29)))))) (at 30)) (last-rule (rule (name 32 "b") (at 34) (last-branch (last-member (once (rule-use (name 36 "c") refl)))) (at 37)))
 
 smallest-read : tokens "a = \"x\" & uint(8, var(msb, k)); b = c;" ≡ written smallest 38
 unfolding tokens written smallest
@@ -281,7 +281,7 @@ smallest-six = refl
 -- `a = "x" & b & (uint(8, var(b, ~))); b = "x";`: a misplaced binder hides too
 unfoldable pub hidden-by-misplaced : Rules
 unfolding bytes starts
-hidden-by-misplaced = and-rules (rule (name 0 "a") (at 2) (last-branch (and-members (once (literal (quote 4 7 "x"))) (at 8) (and-members (once (rule-use (name 10 "b") refl)) (at 12) (last-member (once (group (lit< tt) (at 14) (last-branch (last-member (once (binder (lit< tt) (over 15 19) (at 19) (num 20 21 8) (at 21) (over 23 26) (at 26) (name 27 "b") (at 28) (last-choice (item (everything (at 30)))) (at 31) (at 32))))) (at 33))))))) (at 34)) (last-rule (rule (name 36 "b") (at 38) (last-branch (last-member (once (literal (quote 40 43 "x"))))) (at 43)))
+hidden-by-misplaced = and-rules (rule (name 0 "a") (at 2) (last-branch (and-members (once (literal (quote 4 7 "x"))) (at 8) (and-members (once (rule-use (name 10 "b") refl)) (at 12) (last-member (once (group (lit< tt) (at 14) (last-branch (last-member (once (binder false (lit< tt) (over 15 19) (at 19) (num 20 21 8) (at 21) (over 23 26) (at 26) (name 27 "b") (at 28) (last-choice (item (everything (at 30)))) (at 31) (at 32))))) (at 33))))))) (at 34)) (last-rule (rule (name 36 "b") (at 38) (last-branch (last-member (once (literal (quote 40 43 "x"))))) (at 43)))
 
 hidden-by-misplaced-read : tokens "a = \"x\" & b & (uint(8, var(b, ~))); b = \"x\";" ≡ written hidden-by-misplaced 44
 unfolding tokens written hidden-by-misplaced
@@ -293,7 +293,7 @@ hidden-by-misplaced-six = refl
 
 -- `a = "x" & uint(8, var(n, ~)) & uint(8, n);`: a member of the top concatenation, not its first
 unfoldable pub second-member : Rules
-second-member = last-rule (rule (name 0 "a") (at 2) (last-branch (and-members (once (literal (quote 4 7 "x"))) (at 8) (and-members (once (binder (lit< tt) (over 10 14) (at 14) (num 15 16 8) (at 16) (over 18 21) (at 21) (name 22 "n") (at 23) (last-choice (item (everything (at 25)))) (at 26) (at 27))) (at 29) (last-member (once (field (lit< tt) (over 31 35) (at 35) (num 36 37 8) (at 37) (last-choice (item (only (sum (product (plain (variable (name 39 "n"))) no-factor) no-summand)))) (at 40))))))) (at 41))
+second-member = last-rule (rule (name 0 "a") (at 2) (last-branch (and-members (once (literal (quote 4 7 "x"))) (at 8) (and-members (once (binder false (lit< tt) (over 10 14) (at 14) (num 15 16 8) (at 16) (over 18 21) (at 21) (name 22 "n") (at 23) (last-choice (item (everything (at 25)))) (at 26) (at 27))) (at 29) (last-member (once (field false (lit< tt) (over 31 35) (at 35) (num 36 37 8) (at 37) (last-choice (item (only (sum (product (plain (variable (name 39 "n"))) no-factor) no-summand)))) (at 40))))))) (at 41))
 
 second-member-read : tokens "a = \"x\" & uint(8, var(n, ~)) & uint(8, n);" ≡ written second-member 42
 unfolding tokens written second-member
@@ -318,7 +318,7 @@ in-default-six = refl
 
 -- `a = uint(8, eod) & "x"{msb};`: a reserved name used as a variable
 unfoldable pub reserved-variables : Rules
-reserved-variables = last-rule (rule (name 0 "a") (at 2) (last-branch (and-members (once (field (lit< tt) (over 4 8) (at 8) (num 9 10 8) (at 10) (last-choice (item (only (sum (product (plain (variable (name 12 "eod"))) no-factor) no-summand)))) (at 15))) (at 17) (last-member (repeated (literal (quote 19 22 "x")) (counted (at 22) (exactly (sum (product (plain (variable (name 23 "msb"))) no-factor) no-summand)) (at 26)))))) (at 27))
+reserved-variables = last-rule (rule (name 0 "a") (at 2) (last-branch (and-members (once (field false (lit< tt) (over 4 8) (at 8) (num 9 10 8) (at 10) (last-choice (item (only (sum (product (plain (variable (name 12 "eod"))) no-factor) no-summand)))) (at 15))) (at 17) (last-member (repeated (literal (quote 19 22 "x")) (counted (at 22) (exactly (sum (product (plain (variable (name 23 "msb"))) no-factor) no-summand)) (at 26)))))) (at 27))
 
 reserved-variables-read : tokens "a = uint(8, eod) & \"x\"{msb};" ≡ written reserved-variables 28
 unfolding tokens written reserved-variables

@@ -174,8 +174,8 @@ begins-atom : {d low : ℕ} (x : Tree atom d) (u v : List Lexeme) → Ascending 
 unfolding spell
 begins-atom (literal l) u v h = first-token h
 begins-atom (range a s b one one′) u v h = first-token h
-begins-atom (field depth u opens n comma x closes) v w h = first-token h
-begins-atom (binder depth u opens n comma v opens′ x comma′ y closes closes′) w z h = first-token h
+begins-atom (field signed depth u opens n comma x closes) v w h = first-token h
+begins-atom (binder signed depth u opens n comma v opens′ x comma′ y closes closes′) w z h = first-token h
 begins-atom (rule-use x other) u v h = first-token h
 begins-atom (eod s) u v h = first-token h
 begins-atom (group depth opens x closes) u v h = first-token h
@@ -198,9 +198,9 @@ module _ (body variable : List ℕ → ℕ) where
   unfolding spell constructs-of
   in-text-order begun i (literal l) w h = leaf _ refl h (λ m k. here k)
   in-text-order begun i (range a s b one one′) w h = leaf _ refl h (λ m k. then (token k) (λ n l. token l))
-  in-text-order begun i (field depth u opens n comma x closes) w h =
+  in-text-order begun i (field signed depth u opens n comma x closes) w h =
       leaf _ refl h (λ m k. then (token k) (λ q l. then (token l) (λ r j. then (token j) (λ t g. then (pass-set x (sign Kind.CloseParen closes ∷ w) g) (λ y z. token z)))))
-  in-text-order begun i (binder depth u opens n comma v opens′ x comma′ y closes closes′) w h =
+  in-text-order begun i (binder signed depth u opens n comma v opens′ x comma′ y closes closes′) w h =
       leaf _ refl h (λ a b. then (token b) (λ a b. then (token b) (λ a b. then (token b) (λ a b. then (token b) (λ a b. then (token b) (λ a b. then (token b) (λ a b. then (token b) (λ a b. then (pass-set y (sign Kind.CloseParen closes ∷ sign Kind.CloseParen closes′ ∷ w) b) (λ a b. then (token b) (λ a b. token b))))))))))
   in-text-order begun i (rule-use x other) w h = leaf _ refl h (λ m k. here k)
   in-text-order begun i (eod s) w h = leaf _ refl h (λ m k. here k)

@@ -95,8 +95,8 @@ module _ (body variable : List ℕ → ℕ) where
   unfolding InOrder constructs constructs-of
   in-order begun i e (literal l) h = (tt, tt)
   in-order begun i e (range a s b one one′) h = (tt, tt)
-  in-order begun i e (field depth u opens n comma x closes) h = (tt, tt)
-  in-order begun i e (binder depth u opens n comma v opens′ x comma′ y closes closes′) h = (tt, tt)
+  in-order begun i e (field signed depth u opens n comma x closes) h = (tt, tt)
+  in-order begun i e (binder signed depth u opens n comma v opens′ x comma′ y closes closes′) h = (tt, tt)
   in-order begun i e (rule-use x other) h = (tt, tt)
   in-order begun i e (eod s) h = (tt, tt)
   in-order begun i e (group depth opens x closes) h = in-order false i e x h

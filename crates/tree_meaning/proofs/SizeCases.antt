@@ -9,7 +9,7 @@ use Rattle.tree_meaning.proofs.Computing.{tokens, written, judgement, p
 
 -- `a = uint(0, ~);`: "width a number from 1 to 32"
 unfoldable pub width-0 : Rules
-width-0 = last-rule (rule (name 0 "a") (at 2) (last-branch (last-member (once (field (lit< tt) (over 4 8) (at 8) (num 9 10 0) (at 10) (last-choice (item (everything (at 12)))) (at 13))))) (at 14))
+width-0 = last-rule (rule (name 0 "a") (at 2) (last-branch (last-member (once (field false (lit< tt) (over 4 8) (at 8) (num 9 10 0) (at 10) (last-choice (item (everything (at 12)))) (at 13))))) (at 14))
 
 width-0-read : tokens "a = uint(0, ~);" ≡ written width-0 15
 unfolding tokens written width-0
@@ -21,7 +21,7 @@ width-0-eight = refl
 
 -- `a = uint(1, ~) & uint(32, ~) & uint(33, ~);`
 unfoldable pub width-33 : Rules
-width-33 = last-rule (rule (name 0 "a") (at 2) (last-branch (and-members (once (field (lit< tt) (over 4 8) (at 8) (num 9 10 1) (at 10) (last-choice (item (everything (at 12)))) (at 13))) (at 15) (and-members (once (field (lit< tt) (over 17 21) (at 21) (num 22 24 32) (at 24) (last-choice (item (everything (at 26)))) (at 27))) (at 29) (last-member (once (field (lit< tt) (over 31 35) (at 35) (num 36 38 33) (at 38) (last-choice (item (everything (at 40)))) (at 41))))))) (at 42))
+width-33 = last-rule (rule (name 0 "a") (at 2) (last-branch (and-members (once (field false (lit< tt) (over 4 8) (at 8) (num 9 10 1) (at 10) (last-choice (item (everything (at 12)))) (at 13))) (at 15) (and-members (once (field false (lit< tt) (over 17 21) (at 21) (num 22 24 32) (at 24) (last-choice (item (everything (at 26)))) (at 27))) (at 29) (last-member (once (field false (lit< tt) (over 31 35) (at 35) (num 36 38 33) (at 38) (last-choice (item (everything (at 40)))) (at 41))))))) (at 42))
 
 width-33-read : tokens "a = uint(1, ~) & uint(32, ~) & uint(33, ~);" ≡ written width-33 43
 unfolding tokens written width-33
@@ -33,7 +33,7 @@ width-33-eight = refl
 
 -- `a = uint(8, 4294967295 | 4294967296);`: "Numbers: … to 4,294,967,295"
 unfoldable pub numbers : Rules
-numbers = last-rule (rule (name 0 "a") (at 2) (last-branch (last-member (once (field (lit< tt) (over 4 8) (at 8) (num 9 10 8) (at 10) (or-choices (item (only (sum (product (plain (number (num 12 22 4294967295))) no-factor) no-summand))) (at 23) (last-choice (item (only (sum (product (plain (number (num 25 35 4294967296))) no-factor) no-summand))))) (at 35))))) (at 36))
+numbers = last-rule (rule (name 0 "a") (at 2) (last-branch (last-member (once (field false (lit< tt) (over 4 8) (at 8) (num 9 10 8) (at 10) (or-choices (item (only (sum (product (plain (number (num 12 22 4294967295))) no-factor) no-summand))) (at 23) (last-choice (item (only (sum (product (plain (number (num 25 35 4294967296))) no-factor) no-summand))))) (at 35))))) (at 36))
 
 numbers-read : tokens "a = uint(8, 4294967295 | 4294967296);" ≡ written numbers 37
 unfolding tokens written numbers
@@ -45,7 +45,7 @@ numbers-eight = refl
 
 -- `a = "x" & uint(8, 5 + 4294967296);`: at the number
 unfoldable pub at-number : Rules
-at-number = last-rule (rule (name 0 "a") (at 2) (last-branch (and-members (once (literal (quote 4 7 "x"))) (at 8) (last-member (once (field (lit< tt) (over 10 14) (at 14) (num 15 16 8) (at 16) (last-choice (item (only (sum (product (plain (number (num 18 19 5))) no-factor) (plus (at 20) (product (plain (number (num 22 32 4294967296))) no-factor) no-summand))))) (at 32)))))) (at 33))
+at-number = last-rule (rule (name 0 "a") (at 2) (last-branch (and-members (once (literal (quote 4 7 "x"))) (at 8) (last-member (once (field false (lit< tt) (over 10 14) (at 14) (num 15 16 8) (at 16) (last-choice (item (only (sum (product (plain (number (num 18 19 5))) no-factor) (plus (at 20) (product (plain (number (num 22 32 4294967296))) no-factor) no-summand))))) (at 32)))))) (at 33))
 
 at-number-read : tokens "a = \"x\" & uint(8, 5 + 4294967296);" ≡ written at-number 34
 unfolding tokens written at-number
@@ -57,7 +57,7 @@ at-number-eight = refl
 
 -- `a = "x" & uint(8, 5 + 99999999999999999999);`: at the calculation, whose size passes 2^62 too and which comes first
 unfoldable pub at-calculation : Rules
-at-calculation = last-rule (rule (name 0 "a") (at 2) (last-branch (and-members (once (literal (quote 4 7 "x"))) (at 8) (last-member (once (field (lit< tt) (over 10 14) (at 14) (num 15 16 8) (at 16) (last-choice (item (only (sum (product (plain (number (num 18 19 5))) no-factor) (plus (at 20) (product (plain (number (num 22 42 99999999999999999999))) no-factor) no-summand))))) (at 42)))))) (at 43))
+at-calculation = last-rule (rule (name 0 "a") (at 2) (last-branch (and-members (once (literal (quote 4 7 "x"))) (at 8) (last-member (once (field false (lit< tt) (over 10 14) (at 14) (num 15 16 8) (at 16) (last-choice (item (only (sum (product (plain (number (num 18 19 5))) no-factor) (plus (at 20) (product (plain (number (num 22 42 99999999999999999999))) no-factor) no-summand))))) (at 42)))))) (at 43))
 
 at-calculation-read : tokens "a = \"x\" & uint(8, 5 + 99999999999999999999);" ≡ written at-calculation 44
 unfolding tokens written at-calculation
@@ -69,7 +69,7 @@ at-calculation-eight = refl
 
 -- `a = uint(31, var(y, ~)) & "x"{y * y + 4294967295};`: (2^31 - 1)^2 + 2^32 - 1 is 2^62: no more than that
 unfoldable pub no-more : Rules
-no-more = last-rule (rule (name 0 "a") (at 2) (last-branch (and-members (once (binder (lit< tt) (over 4 8) (at 8) (num 9 11 31) (at 11) (over 13 16) (at 16) (name 17 "y") (at 18) (last-choice (item (everything (at 20)))) (at 21) (at 22))) (at 24) (last-member (repeated (literal (quote 26 29 "x")) (counted (at 29) (exactly (sum (product (plain (variable (name 30 "y"))) (times (at 32) (plain (variable (name 34 "y"))) no-factor)) (plus (at 36) (product (plain (number (num 38 48 4294967295))) no-factor) no-summand))) (at 48)))))) (at 49))
+no-more = last-rule (rule (name 0 "a") (at 2) (last-branch (and-members (once (binder false (lit< tt) (over 4 8) (at 8) (num 9 11 31) (at 11) (over 13 16) (at 16) (name 17 "y") (at 18) (last-choice (item (everything (at 20)))) (at 21) (at 22))) (at 24) (last-member (repeated (literal (quote 26 29 "x")) (counted (at 29) (exactly (sum (product (plain (variable (name 30 "y"))) (times (at 32) (plain (variable (name 34 "y"))) no-factor)) (plus (at 36) (product (plain (number (num 38 48 4294967295))) no-factor) no-summand))) (at 48)))))) (at 49))
 
 no-more-read : tokens "a = uint(31, var(y, ~)) & \"x\"{y * y + 4294967295};" ≡ written no-more 50
 unfolding tokens written no-more
@@ -81,7 +81,7 @@ no-more-eight = refl
 
 -- `a = uint(31, var(y, ~)) & "x"{y * y + 4294967295 + 1};`: at the calculation's first byte
 unfoldable pub one-more : Rules
-one-more = last-rule (rule (name 0 "a") (at 2) (last-branch (and-members (once (binder (lit< tt) (over 4 8) (at 8) (num 9 11 31) (at 11) (over 13 16) (at 16) (name 17 "y") (at 18) (last-choice (item (everything (at 20)))) (at 21) (at 22))) (at 24) (last-member (repeated (literal (quote 26 29 "x")) (counted (at 29) (exactly (sum (product (plain (variable (name 30 "y"))) (times (at 32) (plain (variable (name 34 "y"))) no-factor)) (plus (at 36) (product (plain (number (num 38 48 4294967295))) no-factor) (plus (at 49) (product (plain (number (num 51 52 1))) no-factor) no-summand)))) (at 52)))))) (at 53))
+one-more = last-rule (rule (name 0 "a") (at 2) (last-branch (and-members (once (binder false (lit< tt) (over 4 8) (at 8) (num 9 11 31) (at 11) (over 13 16) (at 16) (name 17 "y") (at 18) (last-choice (item (everything (at 20)))) (at 21) (at 22))) (at 24) (last-member (repeated (literal (quote 26 29 "x")) (counted (at 29) (exactly (sum (product (plain (variable (name 30 "y"))) (times (at 32) (plain (variable (name 34 "y"))) no-factor)) (plus (at 36) (product (plain (number (num 38 48 4294967295))) no-factor) (plus (at 49) (product (plain (number (num 51 52 1))) no-factor) no-summand)))) (at 52)))))) (at 53))
 
 one-more-read : tokens "a = uint(31, var(y, ~)) & \"x\"{y * y + 4294967295 + 1};" ≡ written one-more 54
 unfolding tokens written one-more
@@ -93,7 +93,7 @@ one-more-eight = refl
 
 -- `a = uint(31, var(y, ~)) & "x"{y * y - y * y};`: "sizes added": a minus is no less
 unfoldable pub added : Rules
-added = last-rule (rule (name 0 "a") (at 2) (last-branch (and-members (once (binder (lit< tt) (over 4 8) (at 8) (num 9 11 31) (at 11) (over 13 16) (at 16) (name 17 "y") (at 18) (last-choice (item (everything (at 20)))) (at 21) (at 22))) (at 24) (last-member (repeated (literal (quote 26 29 "x")) (counted (at 29) (exactly (sum (product (plain (variable (name 30 "y"))) (times (at 32) (plain (variable (name 34 "y"))) no-factor)) (minus (at 36) (product (plain (variable (name 38 "y"))) (times (at 40) (plain (variable (name 42 "y"))) no-factor)) no-summand))) (at 43)))))) (at 44))
+added = last-rule (rule (name 0 "a") (at 2) (last-branch (and-members (once (binder false (lit< tt) (over 4 8) (at 8) (num 9 11 31) (at 11) (over 13 16) (at 16) (name 17 "y") (at 18) (last-choice (item (everything (at 20)))) (at 21) (at 22))) (at 24) (last-member (repeated (literal (quote 26 29 "x")) (counted (at 29) (exactly (sum (product (plain (variable (name 30 "y"))) (times (at 32) (plain (variable (name 34 "y"))) no-factor)) (minus (at 36) (product (plain (variable (name 38 "y"))) (times (at 40) (plain (variable (name 42 "y"))) no-factor)) no-summand))) (at 43)))))) (at 44))
 
 added-read : tokens "a = uint(31, var(y, ~)) & \"x\"{y * y - y * y};" ≡ written added 45
 unfolding tokens written added
@@ -105,7 +105,7 @@ added-eight = refl
 
 -- `a = uint(31, var(y, ~)) & "x"{1~-y * -y * 2};`: the second calculation of two, and its unary minus
 unfoldable pub unary : Rules
-unary = last-rule (rule (name 0 "a") (at 2) (last-branch (and-members (once (binder (lit< tt) (over 4 8) (at 8) (num 9 11 31) (at 11) (over 13 16) (at 16) (name 17 "y") (at 18) (last-choice (item (everything (at 20)))) (at 21) (at 22))) (at 24) (last-member (repeated (literal (quote 26 29 "x")) (counted (at 29) (span (sum (product (plain (number (num 30 31 1))) no-factor) no-summand) (at 31) (sum (product (opposite (at 32) (variable (name 33 "y"))) (times (at 35) (opposite (at 37) (variable (name 38 "y"))) (times (at 40) (plain (number (num 42 43 2))) no-factor))) no-summand)) (at 43)))))) (at 44))
+unary = last-rule (rule (name 0 "a") (at 2) (last-branch (and-members (once (binder false (lit< tt) (over 4 8) (at 8) (num 9 11 31) (at 11) (over 13 16) (at 16) (name 17 "y") (at 18) (last-choice (item (everything (at 20)))) (at 21) (at 22))) (at 24) (last-member (repeated (literal (quote 26 29 "x")) (counted (at 29) (span (sum (product (plain (number (num 30 31 1))) no-factor) no-summand) (at 31) (sum (product (opposite (at 32) (variable (name 33 "y"))) (times (at 35) (opposite (at 37) (variable (name 38 "y"))) (times (at 40) (plain (number (num 42 43 2))) no-factor))) no-summand)) (at 43)))))) (at 44))
 
 unary-read : tokens "a = uint(31, var(y, ~)) & \"x\"{1~-y * -y * 2};" ≡ written unary 45
 unfolding tokens written unary
@@ -117,7 +117,7 @@ unary-eight = refl
 
 -- `a = uint(32, var(x, ~)) & "x"{x * x * 0};`: "or part of one"
 unfoldable pub a-part : Rules
-a-part = last-rule (rule (name 0 "a") (at 2) (last-branch (and-members (once (binder (lit< tt) (over 4 8) (at 8) (num 9 11 32) (at 11) (over 13 16) (at 16) (name 17 "x") (at 18) (last-choice (item (everything (at 20)))) (at 21) (at 22))) (at 24) (last-member (repeated (literal (quote 26 29 "x")) (counted (at 29) (exactly (sum (product (plain (variable (name 30 "x"))) (times (at 32) (plain (variable (name 34 "x"))) (times (at 36) (plain (number (num 38 39 0))) no-factor))) no-summand)) (at 39)))))) (at 40))
+a-part = last-rule (rule (name 0 "a") (at 2) (last-branch (and-members (once (binder false (lit< tt) (over 4 8) (at 8) (num 9 11 32) (at 11) (over 13 16) (at 16) (name 17 "x") (at 18) (last-choice (item (everything (at 20)))) (at 21) (at 22))) (at 24) (last-member (repeated (literal (quote 26 29 "x")) (counted (at 29) (exactly (sum (product (plain (variable (name 30 "x"))) (times (at 32) (plain (variable (name 34 "x"))) (times (at 36) (plain (number (num 38 39 0))) no-factor))) no-summand)) (at 39)))))) (at 40))
 
 a-part-read : tokens "a = uint(32, var(x, ~)) & \"x\"{x * x * 0};" ≡ written a-part 41
 unfolding tokens written a-part
@@ -129,7 +129,7 @@ a-part-eight = refl
 
 -- `a = uint(32, var(x, ~)) & "x"{0 * x * x};`: from the left: no part of it passes
 unfoldable pub no-part : Rules
-no-part = last-rule (rule (name 0 "a") (at 2) (last-branch (and-members (once (binder (lit< tt) (over 4 8) (at 8) (num 9 11 32) (at 11) (over 13 16) (at 16) (name 17 "x") (at 18) (last-choice (item (everything (at 20)))) (at 21) (at 22))) (at 24) (last-member (repeated (literal (quote 26 29 "x")) (counted (at 29) (exactly (sum (product (plain (number (num 30 31 0))) (times (at 32) (plain (variable (name 34 "x"))) (times (at 36) (plain (variable (name 38 "x"))) no-factor))) no-summand)) (at 39)))))) (at 40))
+no-part = last-rule (rule (name 0 "a") (at 2) (last-branch (and-members (once (binder false (lit< tt) (over 4 8) (at 8) (num 9 11 32) (at 11) (over 13 16) (at 16) (name 17 "x") (at 18) (last-choice (item (everything (at 20)))) (at 21) (at 22))) (at 24) (last-member (repeated (literal (quote 26 29 "x")) (counted (at 29) (exactly (sum (product (plain (number (num 30 31 0))) (times (at 32) (plain (variable (name 34 "x"))) (times (at 36) (plain (variable (name 38 "x"))) no-factor))) no-summand)) (at 39)))))) (at 40))
 
 no-part-read : tokens "a = uint(32, var(x, ~)) & \"x\"{0 * x * x};" ≡ written no-part 41
 unfolding tokens written no-part
@@ -141,7 +141,7 @@ no-part-eight = refl
 
 -- `a = uint(32, var(x, ~)) & "x"{0 + x * x * 0 + 1};`: part of a summand
 unfoldable pub a-summand : Rules
-a-summand = last-rule (rule (name 0 "a") (at 2) (last-branch (and-members (once (binder (lit< tt) (over 4 8) (at 8) (num 9 11 32) (at 11) (over 13 16) (at 16) (name 17 "x") (at 18) (last-choice (item (everything (at 20)))) (at 21) (at 22))) (at 24) (last-member (repeated (literal (quote 26 29 "x")) (counted (at 29) (exactly (sum (product (plain (number (num 30 31 0))) no-factor) (plus (at 32) (product (plain (variable (name 34 "x"))) (times (at 36) (plain (variable (name 38 "x"))) (times (at 40) (plain (number (num 42 43 0))) no-factor))) (plus (at 44) (product (plain (number (num 46 47 1))) no-factor) no-summand)))) (at 47)))))) (at 48))
+a-summand = last-rule (rule (name 0 "a") (at 2) (last-branch (and-members (once (binder false (lit< tt) (over 4 8) (at 8) (num 9 11 32) (at 11) (over 13 16) (at 16) (name 17 "x") (at 18) (last-choice (item (everything (at 20)))) (at 21) (at 22))) (at 24) (last-member (repeated (literal (quote 26 29 "x")) (counted (at 29) (exactly (sum (product (plain (number (num 30 31 0))) no-factor) (plus (at 32) (product (plain (variable (name 34 "x"))) (times (at 36) (plain (variable (name 38 "x"))) (times (at 40) (plain (number (num 42 43 0))) no-factor))) (plus (at 44) (product (plain (number (num 46 47 1))) no-factor) no-summand)))) (at 47)))))) (at 48))
 
 a-summand-read : tokens "a = uint(32, var(x, ~)) & \"x\"{0 + x * x * 0 + 1};" ≡ written a-summand 49
 unfolding tokens written a-summand
@@ -153,7 +153,7 @@ a-summand-eight = refl
 
 -- `a = uint(32, var(x, ~)) & "x"{1 - x * x * 0};`
 unfoldable pub a-difference : Rules
-a-difference = last-rule (rule (name 0 "a") (at 2) (last-branch (and-members (once (binder (lit< tt) (over 4 8) (at 8) (num 9 11 32) (at 11) (over 13 16) (at 16) (name 17 "x") (at 18) (last-choice (item (everything (at 20)))) (at 21) (at 22))) (at 24) (last-member (repeated (literal (quote 26 29 "x")) (counted (at 29) (exactly (sum (product (plain (number (num 30 31 1))) no-factor) (minus (at 32) (product (plain (variable (name 34 "x"))) (times (at 36) (plain (variable (name 38 "x"))) (times (at 40) (plain (number (num 42 43 0))) no-factor))) no-summand))) (at 43)))))) (at 44))
+a-difference = last-rule (rule (name 0 "a") (at 2) (last-branch (and-members (once (binder false (lit< tt) (over 4 8) (at 8) (num 9 11 32) (at 11) (over 13 16) (at 16) (name 17 "x") (at 18) (last-choice (item (everything (at 20)))) (at 21) (at 22))) (at 24) (last-member (repeated (literal (quote 26 29 "x")) (counted (at 29) (exactly (sum (product (plain (number (num 30 31 1))) no-factor) (minus (at 32) (product (plain (variable (name 34 "x"))) (times (at 36) (plain (variable (name 38 "x"))) (times (at 40) (plain (number (num 42 43 0))) no-factor))) no-summand))) (at 43)))))) (at 44))
 
 a-difference-read : tokens "a = uint(32, var(x, ~)) & \"x\"{1 - x * x * 0};" ≡ written a-difference 45
 unfolding tokens written a-difference
@@ -165,7 +165,7 @@ a-difference-eight = refl
 
 -- `a = uint(8, 0 * 4611686018427387905);`: one factor, which is a number out of its limits as well
 unfoldable pub a-factor : Rules
-a-factor = last-rule (rule (name 0 "a") (at 2) (last-branch (last-member (once (field (lit< tt) (over 4 8) (at 8) (num 9 10 8) (at 10) (last-choice (item (only (sum (product (plain (number (num 12 13 0))) (times (at 14) (plain (number (num 16 35 4611686018427387905))) no-factor)) no-summand)))) (at 35))))) (at 36))
+a-factor = last-rule (rule (name 0 "a") (at 2) (last-branch (last-member (once (field false (lit< tt) (over 4 8) (at 8) (num 9 10 8) (at 10) (last-choice (item (only (sum (product (plain (number (num 12 13 0))) (times (at 14) (plain (number (num 16 35 4611686018427387905))) no-factor)) no-summand)))) (at 35))))) (at 36))
 
 a-factor-read : tokens "a = uint(8, 0 * 4611686018427387905);" ≡ written a-factor 37
 unfolding tokens written a-factor
@@ -177,7 +177,7 @@ a-factor-eight = refl
 
 -- `a = uint(8, var(x, ~)) & "x"{x * x * 4294967295}; b = uint(32, var(x, ~)) & [x = 2 & 2 < x * x: "x";];`: each rule's own width; in conditions too
 unfoldable pub own-widths : Rules
-own-widths = and-rules (rule (name 0 "a") (at 2) (last-branch (and-members (once (binder (lit< tt) (over 4 8) (at 8) (num 9 10 8) (at 10) (over 12 15) (at 15) (name 16 "x") (at 17) (last-choice (item (everything (at 19)))) (at 20) (at 21))) (at 23) (last-member (repeated (literal (quote 25 28 "x")) (counted (at 28) (exactly (sum (product (plain (variable (name 29 "x"))) (times (at 31) (plain (variable (name 33 "x"))) (times (at 35) (plain (number (num 37 47 4294967295))) no-factor))) no-summand)) (at 47)))))) (at 48)) (last-rule (rule (name 50 "b") (at 52) (last-branch (and-members (once (binder (lit< tt) (over 54 58) (at 58) (num 59 61 32) (at 61) (over 63 66) (at 66) (name 67 "x") (at 68) (last-choice (item (everything (at 70)))) (at 71) (at 72))) (at 74) (last-member (once (switch (lit< tt) (at 76) (last-case (all-of (compare (sum (product (plain (variable (name 77 "x"))) no-factor) no-summand) equal (at 79) (sum (product (plain (number (num 81 82 2))) no-factor) no-summand)) (at 83) (last-conjunct (compare (sum (product (plain (number (num 85 86 2))) no-factor) no-summand) less (at 87) (sum (product (plain (variable (name 89 "x"))) (times (at 91) (plain (variable (name 93 "x"))) no-factor)) no-summand)))) (at 94) (last-branch (last-member (once (literal (quote 96 99 "x"))))) (at 99)) (at 100)))))) (at 101)))
+own-widths = and-rules (rule (name 0 "a") (at 2) (last-branch (and-members (once (binder false (lit< tt) (over 4 8) (at 8) (num 9 10 8) (at 10) (over 12 15) (at 15) (name 16 "x") (at 17) (last-choice (item (everything (at 19)))) (at 20) (at 21))) (at 23) (last-member (repeated (literal (quote 25 28 "x")) (counted (at 28) (exactly (sum (product (plain (variable (name 29 "x"))) (times (at 31) (plain (variable (name 33 "x"))) (times (at 35) (plain (number (num 37 47 4294967295))) no-factor))) no-summand)) (at 47)))))) (at 48)) (last-rule (rule (name 50 "b") (at 52) (last-branch (and-members (once (binder false (lit< tt) (over 54 58) (at 58) (num 59 61 32) (at 61) (over 63 66) (at 66) (name 67 "x") (at 68) (last-choice (item (everything (at 70)))) (at 71) (at 72))) (at 74) (last-member (once (switch (lit< tt) (at 76) (last-case (all-of (compare (sum (product (plain (variable (name 77 "x"))) no-factor) no-summand) equal (at 79) (sum (product (plain (number (num 81 82 2))) no-factor) no-summand)) (at 83) (last-conjunct (compare (sum (product (plain (number (num 85 86 2))) no-factor) no-summand) less (at 87) (sum (product (plain (variable (name 89 "x"))) (times (at 91) (plain (variable (name 93 "x"))) no-factor)) no-summand)))) (at 94) (last-branch (last-member (once (literal (quote 96 99 "x"))))) (at 99)) (at 100)))))) (at 101)))
 
 own-widths-read : tokens "a = uint(8, var(x, ~)) & \"x\"{x * x * 4294967295}; b = uint(32, var(x, ~)) & [x = 2 & 2 < x * x: \"x\";];" ≡ written own-widths 102
 unfolding tokens written own-widths
@@ -189,7 +189,7 @@ own-widths-eight = refl
 
 -- `a = uint(32, var(x, ~)) & uint(8, var(y, ~)) & "x"{y * y};`: each variable's own width
 unfoldable pub each-width : Rules
-each-width = last-rule (rule (name 0 "a") (at 2) (last-branch (and-members (once (binder (lit< tt) (over 4 8) (at 8) (num 9 11 32) (at 11) (over 13 16) (at 16) (name 17 "x") (at 18) (last-choice (item (everything (at 20)))) (at 21) (at 22))) (at 24) (and-members (once (binder (lit< tt) (over 26 30) (at 30) (num 31 32 8) (at 32) (over 34 37) (at 37) (name 38 "y") (at 39) (last-choice (item (everything (at 41)))) (at 42) (at 43))) (at 45) (last-member (repeated (literal (quote 47 50 "x")) (counted (at 50) (exactly (sum (product (plain (variable (name 51 "y"))) (times (at 53) (plain (variable (name 55 "y"))) no-factor)) no-summand)) (at 56))))))) (at 57))
+each-width = last-rule (rule (name 0 "a") (at 2) (last-branch (and-members (once (binder false (lit< tt) (over 4 8) (at 8) (num 9 11 32) (at 11) (over 13 16) (at 16) (name 17 "x") (at 18) (last-choice (item (everything (at 20)))) (at 21) (at 22))) (at 24) (and-members (once (binder false (lit< tt) (over 26 30) (at 30) (num 31 32 8) (at 32) (over 34 37) (at 37) (name 38 "y") (at 39) (last-choice (item (everything (at 41)))) (at 42) (at 43))) (at 45) (last-member (repeated (literal (quote 47 50 "x")) (counted (at 50) (exactly (sum (product (plain (variable (name 51 "y"))) (times (at 53) (plain (variable (name 55 "y"))) no-factor)) no-summand)) (at 56))))))) (at 57))
 
 each-width-read : tokens "a = uint(32, var(x, ~)) & uint(8, var(y, ~)) & \"x\"{y * y};" ≡ written each-width 58
 unfolding tokens written each-width
@@ -201,7 +201,7 @@ each-width-eight = refl
 
 -- `a = uint(8, 1 ! (3 | 4294967296)) & "x"{4294967296};`: in a set in parentheses; the smaller of two
 unfoldable pub in-sets : Rules
-in-sets = last-rule (rule (name 0 "a") (at 2) (last-branch (and-members (once (field (lit< tt) (over 4 8) (at 8) (num 9 10 8) (at 10) (last-choice (item-but-set (lit< tt) (only (sum (product (plain (number (num 12 13 1))) no-factor) no-summand)) (at 14) (at 16) (or-choices (item (only (sum (product (plain (number (num 17 18 3))) no-factor) no-summand))) (at 19) (last-choice (item (only (sum (product (plain (number (num 21 31 4294967296))) no-factor) no-summand))))) (at 31))) (at 32))) (at 34) (last-member (repeated (literal (quote 36 39 "x")) (counted (at 39) (exactly (sum (product (plain (number (num 40 50 4294967296))) no-factor) no-summand)) (at 50)))))) (at 51))
+in-sets = last-rule (rule (name 0 "a") (at 2) (last-branch (and-members (once (field false (lit< tt) (over 4 8) (at 8) (num 9 10 8) (at 10) (last-choice (item-but-set (lit< tt) (only (sum (product (plain (number (num 12 13 1))) no-factor) no-summand)) (at 14) (at 16) (or-choices (item (only (sum (product (plain (number (num 17 18 3))) no-factor) no-summand))) (at 19) (last-choice (item (only (sum (product (plain (number (num 21 31 4294967296))) no-factor) no-summand))))) (at 31))) (at 32))) (at 34) (last-member (repeated (literal (quote 36 39 "x")) (counted (at 39) (exactly (sum (product (plain (number (num 40 50 4294967296))) no-factor) no-summand)) (at 50)))))) (at 51))
 
 in-sets-read : tokens "a = uint(8, 1 ! (3 | 4294967296)) & \"x\"{4294967296};" ≡ written in-sets 52
 unfolding tokens written in-sets

@@ -13,7 +13,7 @@ use Rattle.tree_meaning.proofs.Valued.{none-below, none-of, AllValued, 
 
 -- `a = "x" & uint(4, -1 | 16);`: "Values below 0 or above the width drop out"
 unfoldable pub outside : Rules
-outside = last-rule (rule (name 0 "a") (at 2) (last-branch (and-members (once (literal (quote 4 7 "x"))) (at 8) (last-member (once (field (lit< tt) (over 10 14) (at 14) (num 15 16 4) (at 16) (or-choices (item (only (sum (product (opposite (at 18) (number (num 19 20 1))) no-factor) no-summand))) (at 21) (last-choice (item (only (sum (product (plain (number (num 23 25 16))) no-factor) no-summand))))) (at 25)))))) (at 26))
+outside = last-rule (rule (name 0 "a") (at 2) (last-branch (and-members (once (literal (quote 4 7 "x"))) (at 8) (last-member (once (field false (lit< tt) (over 10 14) (at 14) (num 15 16 4) (at 16) (or-choices (item (only (sum (product (opposite (at 18) (number (num 19 20 1))) no-factor) no-summand))) (at 21) (last-choice (item (only (sum (product (plain (number (num 23 25 16))) no-factor) no-summand))))) (at 25)))))) (at 26))
 
 outside-read : tokens "a = \"x\" & uint(4, -1 | 16);" ≡ written outside 27
 unfolding tokens written outside
@@ -26,7 +26,7 @@ outside-13 = first-empty outside 2 (refl, none-of _ _ refl) (λ e. e, (λ e. e, 
 
 -- `a = uint(4, 15 | 16);`: 15 is left
 unfoldable pub one-left : Rules
-one-left = last-rule (rule (name 0 "a") (at 2) (last-branch (last-member (once (field (lit< tt) (over 4 8) (at 8) (num 9 10 4) (at 10) (or-choices (item (only (sum (product (plain (number (num 12 14 15))) no-factor) no-summand))) (at 15) (last-choice (item (only (sum (product (plain (number (num 17 19 16))) no-factor) no-summand))))) (at 19))))) (at 20))
+one-left = last-rule (rule (name 0 "a") (at 2) (last-branch (last-member (once (field false (lit< tt) (over 4 8) (at 8) (num 9 10 4) (at 10) (or-choices (item (only (sum (product (plain (number (num 12 14 15))) no-factor) no-summand))) (at 15) (last-choice (item (only (sum (product (plain (number (num 17 19 16))) no-factor) no-summand))))) (at 19))))) (at 20))
 
 one-left-read : tokens "a = uint(4, 15 | 16);" ≡ written one-left 21
 unfolding tokens written one-left
@@ -38,7 +38,7 @@ one-left-13 = all-valued one-left (λ e. false≢true (sym (e .1 15 (omega arith
 
 -- `a = uint(8, ~!~);`
 unfoldable pub all-taken-out : Rules
-all-taken-out = last-rule (rule (name 0 "a") (at 2) (last-branch (last-member (once (field (lit< tt) (over 4 8) (at 8) (num 9 10 8) (at 10) (last-choice (item-but-item (everything (at 12)) (at 13) (everything (at 14)))) (at 15))))) (at 16))
+all-taken-out = last-rule (rule (name 0 "a") (at 2) (last-branch (last-member (once (field false (lit< tt) (over 4 8) (at 8) (num 9 10 8) (at 10) (last-choice (item-but-item (everything (at 12)) (at 13) (everything (at 14)))) (at 15))))) (at 16))
 
 all-taken-out-read : tokens "a = uint(8, ~!~);" ≡ written all-taken-out 17
 unfolding tokens written all-taken-out
@@ -50,7 +50,7 @@ all-taken-out-13 = first-empty all-taken-out 0 (refl, λ v l. refl) tt
 
 -- `a = uint(8, ~) & uint(3, var(x, 8~9));`: of a binder too
 unfoldable pub empty-binder : Rules
-empty-binder = last-rule (rule (name 0 "a") (at 2) (last-branch (and-members (once (field (lit< tt) (over 4 8) (at 8) (num 9 10 8) (at 10) (last-choice (item (everything (at 12)))) (at 13))) (at 15) (last-member (once (binder (lit< tt) (over 17 21) (at 21) (num 22 23 3) (at 23) (over 25 28) (at 28) (name 29 "x") (at 30) (last-choice (item (between (sum (product (plain (number (num 32 33 8))) no-factor) no-summand) (at 33) (sum (product (plain (number (num 34 35 9))) no-factor) no-summand)))) (at 35) (at 36)))))) (at 37))
+empty-binder = last-rule (rule (name 0 "a") (at 2) (last-branch (and-members (once (field false (lit< tt) (over 4 8) (at 8) (num 9 10 8) (at 10) (last-choice (item (everything (at 12)))) (at 13))) (at 15) (last-member (once (binder false (lit< tt) (over 17 21) (at 21) (num 22 23 3) (at 23) (over 25 28) (at 28) (name 29 "x") (at 30) (last-choice (item (between (sum (product (plain (number (num 32 33 8))) no-factor) no-summand) (at 33) (sum (product (plain (number (num 34 35 9))) no-factor) no-summand)))) (at 35) (at 36)))))) (at 37))
 
 empty-binder-read : tokens "a = uint(8, ~) & uint(3, var(x, 8~9));" ≡ written empty-binder 38
 unfolding tokens written empty-binder
@@ -62,7 +62,7 @@ empty-binder-13 = first-empty empty-binder 2 (refl, none-of _ _ refl) (λ e. e, 
 
 -- `a = uint(4, var(n, ~)) & uint(4, n ! n);`: "One variable … anywhere in the set excuses it"
 unfoldable pub excused : Rules
-excused = last-rule (rule (name 0 "a") (at 2) (last-branch (and-members (once (binder (lit< tt) (over 4 8) (at 8) (num 9 10 4) (at 10) (over 12 15) (at 15) (name 16 "n") (at 17) (last-choice (item (everything (at 19)))) (at 20) (at 21))) (at 23) (last-member (once (field (lit< tt) (over 25 29) (at 29) (num 30 31 4) (at 31) (last-choice (item-but-item (only (sum (product (plain (variable (name 33 "n"))) no-factor) no-summand)) (at 35) (only (sum (product (plain (variable (name 37 "n"))) no-factor) no-summand)))) (at 38)))))) (at 39))
+excused = last-rule (rule (name 0 "a") (at 2) (last-branch (and-members (once (binder false (lit< tt) (over 4 8) (at 8) (num 9 10 4) (at 10) (over 12 15) (at 15) (name 16 "n") (at 17) (last-choice (item (everything (at 19)))) (at 20) (at 21))) (at 23) (last-member (once (field false (lit< tt) (over 25 29) (at 29) (num 30 31 4) (at 31) (last-choice (item-but-item (only (sum (product (plain (variable (name 33 "n"))) no-factor) no-summand)) (at 35) (only (sum (product (plain (variable (name 37 "n"))) no-factor) no-summand)))) (at 38)))))) (at 39))
 
 excused-read : tokens "a = uint(4, var(n, ~)) & uint(4, n ! n);" ≡ written excused 40
 unfolding tokens written excused

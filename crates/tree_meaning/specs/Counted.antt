@@ -17,8 +17,8 @@ use Rattle.tree_meaning.specs.Places.{place-if, least}
 unfoldable pub constructs : {p : Part} {d : ℕ} → (begun : Bool) → Tree p d → ℕ
 constructs begun (literal l) = 1
 constructs begun (range a s b one one′) = 1
-constructs begun (field depth u opens n comma x closes) = 1
-constructs begun (binder depth u opens n comma v opens′ x comma′ y closes closes′) = 1
+constructs begun (field signed depth u opens n comma x closes) = 1
+constructs begun (binder signed depth u opens n comma v opens′ x comma′ y closes closes′) = 1
 constructs begun (rule-use x other) = 1
 constructs begun (eod s) = 1
 constructs begun (group depth opens x closes) = constructs false x

@@ -1,6 +1,6 @@
 -- The grammar that a tree means: its constructs "numbered from 0 in text order, the outer before the inner", each with its place.
 -- Assumes nothing.
-use Prim.Native.Nat.{ℕ, suc, _+_, _*_, _^_, _<_}
+use Prim.Native.Nat.{ℕ, suc, _+_, _*_}
 use mathlib.Core.Path.{_≡_}
 use mathlib.Core.Bool.{Bool, true, false, cond, _&&_}
 use mathlib.Core.List.{List, [], _∷_, _++_}
@@ -9,7 +9,8 @@ use lib.Dec.{leb, eqb}
 use lib.IntN.{ℤ, pos}
 use lib.ListN.{length, getD, set, replicate}
 use Rattle.basis.specs.Limits.{max-constructs, max-variables}
-use Rattle.basis.specs.Bits.{value as number-of, frameBits, same}
+use Rattle.basis.specs.Bits.{Bits, value as number-of, frameBits, same}
+use Rattle.basis.specs.Patterns.{pattern-value}
 use Rattle.basis.specs.Counts.{Counts as Passes, zero-or-one, zero-or-more, one-or-more as one-to-more}
 use Rattle.theory.specs.Grammar.{Node, alternative, concatenation as sequence, repetition, switch as choice-by, use-of, field as bits-of, eod as frame-end, Grammar}
 use Rattle.text_tokens.specs.Names.{is-same}
@@ -35,8 +36,9 @@ Values = List ℤ
 abbrev pub TreeNode : Type 0
 TreeNode = Node Context Values
 
--- a uint's width and set
+-- a uint's or sint's width and set
 pub record Uint : Type 0 where
+  pub signed : Bool
   pub width : Number
   pub depth : ℕ
   pub values : ValueSet depth
@@ -53,9 +55,9 @@ pub record Construct : Type 0 where
 abbrev pub plain-at : ℕ → TreeNode → Construct
 plain-at p n = record { place = p; mark = 0; uint = none; node = n }
 
--- a uint
-abbrev pub uint-at : {d : ℕ} → ℕ → Number → ValueSet d → TreeNode → Construct
-uint-at {d} p n x node = record { place = p; mark = 0; uint = some (record { width = n; depth = d; values = x }); node = node }
+-- a uint, or a sint
+abbrev pub uint-at : {d : ℕ} → ℕ → Bool → Number → ValueSet d → TreeNode → Construct
+uint-at {d} p signed n x node = record { place = p; mark = 0; uint = some (record { signed = signed; width = n; depth = d; values = x }); node = node }
 
 -- ---- fields and rules
 
@@ -107,12 +109,14 @@ module _ (variable : List ℕ → ℕ) where
   abbrev pub values-at : Values → Environment
   values-at v x = getD v (variable x) (pos 0)
 
-  -- ---- "uint(width, set)": "Values below 0 or above the width drop out silently", since so many bits have no others
+  -- ---- "uint(width, set)": "Values below 0 or above the width drop out silently", since so many bits have no others; "`sint(width, set)` in two's complement, … its set
+  -- running from the least to the greatest value of the width, negative values included, and its value bound with its sign" (Req 10)
 
   -- "a set with a variable counting as `~`" where no values are known; `binds`: the values after it
-  abbrev pub uint-node : {d : ℕ} → Number → ValueSet d → (binds : Values → ℕ → Values) → TreeNode
-  uint-node n x binds =
-      bits-of (λ bits. n .value) (λ c v bits. in-set (values-at v) x (pos (number-of bits))) (λ bits. cond (has-variable (set-parts x)) true (in-set (values-at []) x (pos (number-of bits)))) (λ c v bits. binds v (number-of bits))
+  abbrev pub uint-node : {d : ℕ} → Bool → Number → ValueSet d → (binds : Values → ℤ → Values) → TreeNode
+  uint-node signed n x binds =
+      bits-of (λ bits. n .value) (λ c v bits. in-set (values-at v) x (pattern-value signed bits)) (λ bits. cond (has-variable (set-parts x)) true (in-set (values-at []) x (pattern-value signed bits)))
+      (λ c v bits. binds v (pattern-value signed bits))
 
   -- ---- repetitions: `?`, `*`, `+`, or counts
 
@@ -157,9 +161,9 @@ module _ (body variable : List ℕ → ℕ) where
   unfoldable pub constructs-of : {p : Part} {d : ℕ} → (begun : Bool) → (i : ℕ) → Tree p d → List Construct
   constructs-of begun i (literal l) = plain-at (l .start) (literal-node (l .characters)) ∷ []
   constructs-of begun i (range a s b one one′) = plain-at (a .start) (range-node (getD (a .characters) 0 0) (getD (b .characters) 0 0)) ∷ []
-  constructs-of begun i (field depth u opens n comma x closes) = uint-at (u .start) n x (uint-node variable n x (λ v k. v)) ∷ []
-  constructs-of begun i (binder depth u opens n comma v opens′ x comma′ y closes closes′) =
-      uint-at (u .start) n y (uint-node variable n y (λ v k. set v (variable (x .letters)) (pos k))) ∷ []
+  constructs-of begun i (field signed depth u opens n comma x closes) = uint-at (u .start) signed n x (uint-node variable signed n x (λ v k. v)) ∷ []
+  constructs-of begun i (binder signed depth u opens n comma v opens′ x comma′ y closes closes′) =
+      uint-at (u .start) signed n y (uint-node variable signed n y (λ v k. set v (variable (x .letters)) k)) ∷ []
   constructs-of begun i (rule-use x other) = plain-at (x .start) (use-node (body (x .letters))) ∷ []
   constructs-of begun i (eod s) = plain-at (s .start) frame-end ∷ []
   constructs-of begun i (group depth opens x closes) = constructs-of false i x
@@ -221,7 +225,7 @@ tree-grammar t =
 
 -- ---- Req 06: "a uint whose set has no variable and no value left"
 
--- no variable stands in the set, and none of the values from 0 to 2^width - 1 is in it; with no variable, their values do not matter
+-- no variable stands in the set, and no pattern of the width has a value that is in it; with no variable, their values do not matter
 abbrev pub NoValue : Option Uint → Type 0
 NoValue none = ⊥
-NoValue (some u) = (has-variable (set-parts (u .values)) ≡ false) × ((v : ℕ) → v < 2 ^ u .width .value → in-set (λ x. pos 0) (u .values) (pos v) ≡ false)
+NoValue (some u) = (has-variable (set-parts (u .values)) ≡ false) × ((s : Bits) → length s ≡ u .width .value → in-set (λ x. pos 0) (u .values) (pattern-value (u .signed) s) ≡ false)

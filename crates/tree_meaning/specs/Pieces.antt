@@ -2,6 +2,7 @@
 -- Assumes nothing.
 use Prim.Native.Nat.{ℕ}
 use mathlib.Core.Bool.{Bool, true, false}
+use Rattle.basis.specs.Limits.{max-width, max-bound-width}
 use mathlib.Core.List.{List, [], _∷_, _++_}
 use Rattle.tree.specs.Lexemes.{Sign, Name, Number}
 use Rattle.tree.specs.Tree.{Primary, number, variable, Operand, plain, opposite, Factors, no-factor, times, Product, product, Summands, no-summand, plus, minus, Calculation, sum, Item, everything, only, between, from, up-to, SetPart, Choices, item, item-but-item, item-but-set, last-choice, or-choices, Counts, exactly, at-least, at-most, span, TestPart, Tests, compare, test-group, one-test, all-of, any-of, last-conjunct, and-conjuncts, last-disjunct, or-disjuncts, Mark, optional, any-number, one-or-more, counted, expression, Part, Tree, literal, range, field, binder, rule-use, eod, group, switch, last-case, case-default, case-cases, once, repeated, last-member, and-members, last-branch, or-branches, Rule, rule, Rules, last-rule, and-rules}
@@ -91,12 +92,12 @@ uses-in (a-sign s ∷ more) = uses-in more
 pub data Piece : Type 0 where
   -- "a rule's name"
   use-of-rule : Name → Piece
-  -- a uint's width
-  width : Number → Piece
+  -- a uint's or sint's width, and the most that it may be: "Widths go to 64", of a binder 62 (Req 10)
+  width : (most : ℕ) → Number → Piece
   -- a set, counts or a condition
   formula : List Component → Piece
-  -- a variable's name in its binder, and the width; `placed`: "A binder is the whole body of a rule or a member of its top concatenation, outside any group"
-  binding : Name → Number → (placed : Bool) → Piece
+  -- a variable's name in its binder, whether it is signed, and the width; `placed`: "A binder is the whole body of a rule or a member of its top concatenation, outside any group"
+  binding : Name → (signed : Bool) → Number → (placed : Bool) → Piece
 
 abbrev pub mark-pieces : Mark → List Piece
 mark-pieces (optional s) = []
@@ -109,8 +110,8 @@ mark-pieces (counted opens n closes) = formula (counts-parts n) ∷ []
 unfoldable pub pieces : {p : Part} {d : ℕ} → (top : Bool) → Tree p d → List Piece
 pieces top (literal l) = []
 pieces top (range a s b one one′) = []
-pieces top (field depth u opens n comma x closes) = width n ∷ formula (set-parts x) ∷ []
-pieces top (binder depth u opens n comma v opens′ x comma′ y closes closes′) = width n ∷ formula (set-parts y) ∷ binding x n top ∷ []
+pieces top (field signed depth u opens n comma x closes) = width max-width n ∷ formula (set-parts x) ∷ []
+pieces top (binder signed depth u opens n comma v opens′ x comma′ y closes closes′) = width max-bound-width n ∷ formula (set-parts y) ∷ binding x signed n top ∷ []
 pieces top (rule-use x other) = use-of-rule x ∷ []
 pieces top (eod s) = []
 pieces top (group depth opens x closes) = pieces false x
@@ -129,9 +130,9 @@ pieces top (or-branches x s more) = pieces false x ++ pieces false more
 unfoldable pub bound-in : List Piece → List Name
 bound-in [] = []
 bound-in (use-of-rule x ∷ more) = bound-in more
-bound-in (width n ∷ more) = bound-in more
+bound-in (width most n ∷ more) = bound-in more
 bound-in (formula f ∷ more) = bound-in more
-bound-in (binding x n placed ∷ more) = x ∷ bound-in more
+bound-in (binding x signed n placed ∷ more) = x ∷ bound-in more
 
 -- ---- rules
 

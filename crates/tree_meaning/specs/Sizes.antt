@@ -1,17 +1,17 @@
 -- Refusal 8: "number or width outside its limits, or a calculation, or part of one, whose size may pass 2^62 (variables at their widest, sizes added and
--- multiplied)", at the "number or calculation".
+-- multiplied)", at the "number or calculation". Written numbers go to 2^62 too (Req 10), so a number past it is a part of a calculation that passes.
 -- Assumes nothing.
-use Prim.Native.Nat.{ℕ, _+_, _*_, _-_, _^_, max}
+use Prim.Native.Nat.{ℕ, _+_, _*_, _^_, max}
 use mathlib.Core.Bool.{Bool, cond, not, _&&_}
 use mathlib.Core.List.{List, [], _∷_, _++_}
 use mathlib.Core.Option.{Option}
 use lib.Dec.{leb, ltb}
-use Rattle.basis.specs.Limits.{max-width}
+use Rattle.basis.specs.Patterns.{greatest-size}
 use Rattle.text_tokens.specs.Names.{is-same}
 use Rattle.tree.specs.Lexemes.{Number}
 use Rattle.tree.specs.Tree.{Primary, number, variable, Operand, plain, opposite, Factors, no-factor, times, Product, product, Summands, no-summand, plus, minus, Calculation, sum, Rule, Rules}
 use Rattle.tree.specs.Spelling.{spell-calculation}
-use Rattle.tree_meaning.specs.Pieces.{Term, a-number, a-use, a-sign, Component, whole-number, joined-by, terms-of, Piece, use-of-rule, width, formula, binding, rules-of, rule-pieces}
+use Rattle.tree_meaning.specs.Pieces.{Component, whole-number, joined-by, Piece, use-of-rule, width, formula, binding, rules-of, rule-pieces}
 use Rattle.tree_meaning.specs.Places.{first-byte, place-if, least}
 
 -- ---- sizes, with the size of each variable by its letters; a minus changes none
@@ -61,28 +61,17 @@ module _ (widest : List ℕ → ℕ) where
 
 -- ---- what is outside its limits
 
--- "width a number from 1 to 32"
-abbrev pub wrong-width : Number → Bool
-wrong-width n = not (leb 1 (n .value) && leb (n .value) max-width)
+-- "width a number from 1" to the most that it may be
+abbrev pub wrong-width : ℕ → Number → Bool
+wrong-width most n = not (leb 1 (n .value) && leb (n .value) most)
 
--- "Numbers: … to 4,294,967,295"
-abbrev pub wrong-number : Number → Bool
-wrong-number n = ltb 4294967295 (n .value)
-
--- the numbers among terms that are
-unfoldable pub number-faults : List Term → List ℕ
-number-faults [] = []
-number-faults (a-number n ∷ more) = place-if (wrong-number n) (n .start) ++ number-faults more
-number-faults (a-use x ∷ more) = number-faults more
-number-faults (a-sign s ∷ more) = number-faults more
-
--- "variables at their widest": 2^width - 1, of the variable's binder
+-- "variables at their widest": 2^width - 1, of a signed one 2^(width - 1), of the variable's binder
 unfoldable pub widest-in : List Piece → List ℕ → ℕ
 widest-in [] x = 0
 widest-in (use-of-rule y ∷ more) x = widest-in more x
-widest-in (width n ∷ more) x = widest-in more x
+widest-in (width most n ∷ more) x = widest-in more x
 widest-in (formula f ∷ more) x = widest-in more x
-widest-in (binding y n placed ∷ more) x = cond (is-same (y .letters) x) (2 ^ n .value - 1) (widest-in more x)
+widest-in (binding y signed n placed ∷ more) x = cond (is-same (y .letters) x) (greatest-size signed (n .value)) (widest-in more x)
 
 module _ (widest : List ℕ → ℕ) where
   -- "a calculation, or part of one, whose size may pass 2^62"
@@ -98,9 +87,9 @@ module _ (widest : List ℕ → ℕ) where
   unfoldable pub faults-in : List Piece → List ℕ
   faults-in [] = []
   faults-in (use-of-rule x ∷ more) = faults-in more
-  faults-in (width n ∷ more) = place-if (wrong-width n) (n .start) ++ faults-in more
-  faults-in (formula f ∷ more) = number-faults (terms-of f) ++ (calculation-faults f ++ faults-in more)
-  faults-in (binding x n placed ∷ more) = faults-in more
+  faults-in (width most n ∷ more) = place-if (wrong-width most n) (n .start) ++ faults-in more
+  faults-in (formula f ∷ more) = calculation-faults f ++ faults-in more
+  faults-in (binding x signed n placed ∷ more) = faults-in more
 
 -- in each rule, with its own variables
 unfoldable pub size-faults : List Rule → List ℕ

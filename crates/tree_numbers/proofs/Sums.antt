@@ -53,8 +53,8 @@ tree-lists : {p : Part} {d : ℕ} (on : Bool) (x : Tree p d) (t : ℕ) → rows-
 unfolding rows-lists node-rows term-rows
 tree-lists on (literal l) t = refl
 tree-lists on (range a s b one one′) t = refl
-tree-lists on (field depth u opens n comma x closes) t = omega arith
-tree-lists on (binder depth u opens n comma v opens′ x comma′ y closes closes′) t = omega arith
+tree-lists on (field signed depth u opens n comma x closes) t = omega arith
+tree-lists on (binder signed depth u opens n comma v opens′ x comma′ y closes closes′) t = omega arith
 tree-lists on (rule-use x other) t = refl
 tree-lists on (eod s) t = refl
 tree-lists on (group depth opens x closes) t = tree-lists false x t
@@ -146,8 +146,8 @@ tree-bind : {p : Part} {d : ℕ} (on : Bool) (x : Tree p d) (t : ℕ) → rows-b
 unfolding rows-bind node-rows binders-in
 tree-bind on (literal l) t = refl
 tree-bind on (range a s b one one′) t = refl
-tree-bind on (field depth u opens n comma x closes) t = refl
-tree-bind on (binder {d} depth u opens n comma v opens′ x comma′ y closes closes′) t = one-bind (d + 1 + 1)
+tree-bind on (field signed depth u opens n comma x closes) t = refl
+tree-bind on (binder {d} signed depth u opens n comma v opens′ x comma′ y closes closes′) t = one-bind (d + 1 + 1)
 tree-bind on (rule-use x other) t = refl
 tree-bind on (eod s) t = refl
 tree-bind on (group depth opens x closes) t = tree-bind false x t

@@ -43,8 +43,8 @@ pub tree-kinds : {p : Part} {d : ℕ} (on : Bool) (x : Tree p d) (t : ℕ) → K
 unfolding node-rows
 tree-kinds on (literal l) t = other-next refl refl no-kinds
 tree-kinds on (range a s b one one′) t = other-next refl refl no-kinds
-tree-kinds on (field depth u opens n comma x closes) t = other-next refl refl no-kinds
-tree-kinds on (binder depth u opens n comma v opens′ x comma′ y closes closes′) t = other-next refl refl no-kinds
+tree-kinds on (field signed depth u opens n comma x closes) t = other-next refl refl no-kinds
+tree-kinds on (binder signed depth u opens n comma v opens′ x comma′ y closes closes′) t = other-next refl refl no-kinds
 tree-kinds on (rule-use x other) t = use-next refl refl no-kinds
 tree-kinds on (eod s) t = other-next refl refl no-kinds
 tree-kinds on (group depth opens x closes) t = tree-kinds false x t

@@ -110,8 +110,8 @@ module _ (p : ℕ) where
   unfolding RowsHit Hits gathered term-rows pieces
   tree-numbers top (literal l) = (λ h. h, λ h. h)
   tree-numbers top (range a s b one one′) = (λ h. h, λ h. h)
-  tree-numbers top (field depth u opens n comma x closes) = alone (set-rows x []) (set-parts x) (told-hits (set-tells x told))
-  tree-numbers top (binder depth u opens n comma v opens′ x comma′ y closes closes′) = alone (set-rows y []) (set-parts y) (told-hits (set-tells y told))
+  tree-numbers top (field signed depth u opens n comma x closes) = alone (set-rows x []) (set-parts x) (told-hits (set-tells x told))
+  tree-numbers top (binder signed depth u opens n comma v opens′ x comma′ y closes closes′) = alone (set-rows y []) (set-parts y) (told-hits (set-tells y told))
   tree-numbers top (rule-use x other) = (λ h. h, λ h. h)
   tree-numbers top (eod s) = (λ h. h, λ h. h)
   tree-numbers top (group depth opens x closes) = tree-numbers false x

@@ -141,7 +141,7 @@ module _ (p : ℕ) {xs ns ts rs ws : List ℕ} {n r : ℕ} {numbered : List ℕ 
   unfolding node-rows term-rows spell constructs pieces Ready gathered after-bound NodesHit FirstHit
   walk top begun (literal l) i t names w (first-then h more) rows s b e ok settled = leaf [] refl refl (omega (arith, rule .inside)) h refl (omega arith) (λ z. omega arith) (past s) settled
   walk top begun (range c g z one one′) i t names w (first-then h more) rows s b e ok settled = leaf [] refl refl (omega (arith, rule .inside)) h refl (omega arith) (λ z. omega arith) (past (past (past s))) settled
-  walk top begun (field depth u opens k comma x closes) i t names w {m} (first-then h more) rows s b e ok settled =
+  walk top begun (field signed depth u opens k comma x closes) i t names w {m} (first-then h more) rows s b e ok settled =
       let st = after-token (past (past s)) in
       let set = past (st .1) in
       let on = settled-on p ws numbered widest m (k .start) names (st .0) settled in
@@ -151,7 +151,7 @@ module _ (p : ℕ) {xs ns ts rs ws : List ℕ} {n r : ℕ} {numbered : List ℕ 
         left = past (after-set x set);
         settled = on;
       }
-  walk top begun (binder depth u opens k comma v opens′ x comma′ y closes closes′) i t names w {m} (first-then h more) rows s b e ok settled =
+  walk top begun (binder signed depth u opens k comma v opens′ x comma′ y closes closes′) i t names w {m} (first-then h more) rows s b e ok settled =
       let st = after-token (past (past s)) in
       let set = past (past (past (past (past (st .1))))) in
       let on = settled-on p ws numbered widest m (k .start) names (st .0) settled in

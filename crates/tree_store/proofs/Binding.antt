@@ -165,8 +165,8 @@ pub bound-rows : {xs ns : List ℕ} {p : Part} {d : ℕ} (on top : Bool) (x : Tr
 unfolding node-rows pieces spell bound-in
 bound-rows on top (literal l) t w h s = bound-none h refl refl
 bound-rows on top (range a g b one one′) t w h s = bound-none h refl refl
-bound-rows on top (field depth u opens n comma x closes) t w h s = bound-none h refl refl
-bound-rows on top (binder {d} depth u opens n comma v opens′ x comma′ y closes closes′) t w h s = bound-binder (d + 1 + 1) (here (past (past (past (past (past (past s))))))) h
+bound-rows on top (field signed depth u opens n comma x closes) t w h s = bound-none h refl refl
+bound-rows on top (binder {d} signed depth u opens n comma v opens′ x comma′ y closes closes′) t w h s = bound-binder (d + 1 + 1) (here (past (past (past (past (past (past s))))))) h
 bound-rows on top (rule-use x other) t w h s = bound-none h refl refl
 bound-rows on top (eod g) t w h s = bound-none h refl refl
 bound-rows on top (group depth opens x closes) t w h s = bound-rows false false x t (sign Kind.CloseParen closes ∷ w) h (past s)

@@ -147,8 +147,8 @@ pub tree-builds : {p : Part} {d : ℕ} (on : Bool) (x : Tree p d) → Builds (λ
 unfolding store node-rows term-rows binders-in
 tree-builds on (literal l) = bare-builds 6 (l .start) 0
 tree-builds on (range a s b one one′) = bare-builds 7 (a .start) (b .start)
-tree-builds on (field depth u opens n comma x closes) = field-builds (u .start) (n .start) 0 0 (set-adds x adds-none)
-tree-builds on (binder {d} depth u opens n comma v opens′ x comma′ y closes closes′) = binder-builds (u .start) (n .start) (x .start) (how-bound (d + 1 + 1)) (set-adds y adds-none)
+tree-builds on (field signed depth u opens n comma x closes) = field-builds (u .start) (n .start) 0 0 (set-adds x adds-none)
+tree-builds on (binder {d} signed depth u opens n comma v opens′ x comma′ y closes closes′) = binder-builds (u .start) (n .start) (x .start) (how-bound (d + 1 + 1)) (set-adds y adds-none)
 tree-builds on (rule-use x other) = bare-builds 5 (x .start) 0
 tree-builds on (eod s) = bare-builds 9 (s .start) 0
 tree-builds on (group depth opens x closes) = tree-builds false x

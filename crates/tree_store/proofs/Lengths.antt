@@ -28,8 +28,8 @@ pub nodes-counted : {p : Part} {d : ℕ} (begun : Bool) (x : Tree p d) (t : ℕ)
 unfolding node-rows constructs
 nodes-counted begun (literal l) t = refl
 nodes-counted begun (range a s b one one′) t = refl
-nodes-counted begun (field depth u opens n comma x closes) t = refl
-nodes-counted begun (binder depth u opens n comma v opens′ x comma′ y closes closes′) t = refl
+nodes-counted begun (field signed depth u opens n comma x closes) t = refl
+nodes-counted begun (binder signed depth u opens n comma v opens′ x comma′ y closes closes′) t = refl
 nodes-counted begun (rule-use x other) t = refl
 nodes-counted begun (eod s) t = refl
 nodes-counted begun (group depth opens x closes) t = nodes-counted false x t
@@ -227,8 +227,8 @@ pub terms-counted : {p : Part} {d : ℕ} (top : Bool) (x : Tree p d) → length 
 unfolding term-rows pieces terms
 terms-counted top (literal l) = refl
 terms-counted top (range a s b one one′) = refl
-terms-counted top (field depth u opens n comma x closes) = omega (arith, set-length x [])
-terms-counted top (binder depth u opens n comma v opens′ x comma′ y closes closes′) = omega (arith, set-length y [])
+terms-counted top (field signed depth u opens n comma x closes) = omega (arith, set-length x [])
+terms-counted top (binder signed depth u opens n comma v opens′ x comma′ y closes closes′) = omega (arith, set-length y [])
 terms-counted top (rule-use x other) = refl
 terms-counted top (eod s) = refl
 terms-counted top (group depth opens x closes) = terms-counted false x
@@ -258,8 +258,8 @@ pub binders-counted : {p : Part} {d : ℕ} (top : Bool) (x : Tree p d) → binde
 unfolding binders-in pieces bound-in
 binders-counted top (literal l) = refl
 binders-counted top (range a s b one one′) = refl
-binders-counted top (field depth u opens n comma x closes) = refl
-binders-counted top (binder depth u opens n comma v opens′ x comma′ y closes closes′) = refl
+binders-counted top (field signed depth u opens n comma x closes) = refl
+binders-counted top (binder signed depth u opens n comma v opens′ x comma′ y closes closes′) = refl
 binders-counted top (rule-use x other) = refl
 binders-counted top (eod s) = refl
 binders-counted top (group depth opens x closes) = binders-counted false x

@@ -57,8 +57,8 @@ pub plain : {p : Part} {d : ℕ} (on : Bool) (x : Tree p d) (t : ℕ) → PlainF
 unfolding node-rows
 plain on (literal l) t = (refl, refl)
 plain on (range a s b one one′) t = (refl, refl)
-plain on (field depth u opens n comma x closes) t = (refl, refl)
-plain on (binder depth u opens n comma v opens′ x comma′ y closes closes′) t = (refl, refl)
+plain on (field signed depth u opens n comma x closes) t = (refl, refl)
+plain on (binder signed depth u opens n comma v opens′ x comma′ y closes closes′) t = (refl, refl)
 plain on (rule-use x other) t = (refl, refl)
 plain on (eod s) t = (refl, refl)
 plain on (group depth opens x closes) t = plain false x t
@@ -347,9 +347,9 @@ module _ (xs ns ts rs : List ℕ) (r a e : ℕ) where
     unfolding node-rows term-rows pieces spell least-of
     named on top (literal l) t w h k s z b = bare-right refl
     named on top (range a′ g c one one′) t w h k s z b = bare-right refl
-    named on top (field depth u opens n comma x closes) t w h k s z b =
+    named on top (field signed depth u opens n comma x closes) t w h k s z b =
         field-right (set-rows x []) b k (set-uses x (sign Kind.CloseParen closes ∷ w) no-more (past (past (past (past s)))))
-    named on top (binder depth u opens n comma v opens′ x comma′ y closes closes′) t w h k s z b =
+    named on top (binder signed depth u opens n comma v opens′ x comma′ y closes closes′) t w h k s z b =
         binder-right (set-rows y []) (here (past (past (past (past (past (past s))))))) z b k
         (set-uses y (sign Kind.CloseParen closes ∷ sign Kind.CloseParen closes′ ∷ w) no-more (past (past (past (past (past (past (past (past s)))))))))
     named on top (rule-use x fresh) t w h k s z b = use-right (here s)

@@ -34,8 +34,8 @@ begins : {p : Part} {d : ℕ} (x : Tree p d) (w : List Lexeme) → Begins p (sta
 unfolding spell start-of
 begins (literal l) w = refl
 begins (range a s b one one′) w = refl
-begins (field depth u opens n comma x closes) w = refl
-begins (binder depth u opens n comma v opens′ x comma′ y closes closes′) w = refl
+begins (field signed depth u opens n comma x closes) w = refl
+begins (binder signed depth u opens n comma v opens′ x comma′ y closes closes′) w = refl
 begins (rule-use x other) w = refl
 begins (eod s) w = refl
 begins (group depth opens x closes) w = refl
@@ -80,8 +80,8 @@ module _ (body variable : List ℕ → ℕ) where
   unfolding node-rows constructs-of
   tree-alike on (literal l) t i = alike-plain (λ e. omega arith) refl none-alike
   tree-alike on (range a s b one one′) t i = alike-plain (λ e. omega arith) refl none-alike
-  tree-alike on (field depth u opens n comma x closes) t i = alike-plain (λ e. omega arith) refl none-alike
-  tree-alike on (binder depth u opens n comma v opens′ x comma′ y closes closes′) t i = alike-plain (λ e. omega arith) refl none-alike
+  tree-alike on (field signed depth u opens n comma x closes) t i = alike-plain (λ e. omega arith) refl none-alike
+  tree-alike on (binder signed depth u opens n comma v opens′ x comma′ y closes closes′) t i = alike-plain (λ e. omega arith) refl none-alike
   tree-alike on (rule-use x other) t i = alike-plain (λ e. omega arith) refl none-alike
   tree-alike on (eod s) t i = alike-plain (λ e. omega arith) refl none-alike
   tree-alike on (group depth opens x closes) t i = tree-alike false x t i

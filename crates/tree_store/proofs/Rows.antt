@@ -155,8 +155,8 @@ mark-rows (counted opens n closes) = counts-rows n
 unfoldable pub term-rows : {p : Part} {d : ℕ} → Tree p d → List TermRow
 term-rows (literal l) = []
 term-rows (range a s b one one′) = []
-term-rows (field depth u opens n comma x closes) = set-rows x []
-term-rows (binder depth u opens n comma v opens′ x comma′ y closes closes′) = set-rows y []
+term-rows (field signed depth u opens n comma x closes) = set-rows x []
+term-rows (binder signed depth u opens n comma v opens′ x comma′ y closes closes′) = set-rows y []
 term-rows (rule-use x other) = []
 term-rows (eod s) = []
 term-rows (group depth opens x closes) = term-rows x
@@ -183,8 +183,8 @@ mark-row (counted opens n closes) size p t = a-node 3 size p 4 (opens .start) t 
 unfoldable pub node-rows : {p : Part} {d : ℕ} → (begun : Bool) → Tree p d → (t : ℕ) → List NodeRow
 node-rows begun (literal l) t = a-node 6 1 (l .start) 0 0 0 0 0 ∷ []
 node-rows begun (range a s b one one′) t = a-node 7 1 (a .start) (b .start) 0 0 0 0 ∷ []
-node-rows begun (field depth u opens n comma x closes) t = a-node 8 1 (u .start) (n .start) 0 t (t + length (set-rows x [])) 0 ∷ []
-node-rows begun (binder {d} depth u opens n comma v opens′ x comma′ y closes closes′) t =
+node-rows begun (field signed depth u opens n comma x closes) t = a-node 8 1 (u .start) (n .start) 0 t (t + length (set-rows x [])) 0 ∷ []
+node-rows begun (binder {d} signed depth u opens n comma v opens′ x comma′ y closes closes′) t =
     a-node 8 1 (u .start) (n .start) (x .start) t (t + length (set-rows y [])) (how-bound (d + 1 + 1)) ∷ []
 node-rows begun (rule-use x other) t = a-node 5 1 (x .start) 0 0 0 0 0 ∷ []
 node-rows begun (eod s) t = a-node 9 1 (s .start) 0 0 0 0 0 ∷ []
@@ -213,8 +213,8 @@ node-rows true (or-branches x s more) t = node-rows false x t ++ node-rows true 
 unfoldable pub binders-in : {p : Part} {d : ℕ} → Tree p d → ℕ
 binders-in (literal l) = 0
 binders-in (range a s b one one′) = 0
-binders-in (field depth u opens n comma x closes) = 0
-binders-in (binder depth u opens n comma v opens′ x comma′ y closes closes′) = 1
+binders-in (field signed depth u opens n comma x closes) = 0
+binders-in (binder signed depth u opens n comma v opens′ x comma′ y closes closes′) = 1
 binders-in (rule-use x other) = 0
 binders-in (eod s) = 0
 binders-in (group depth opens x closes) = binders-in x

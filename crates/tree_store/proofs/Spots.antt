@@ -77,8 +77,8 @@ pub fits : {p : Part} {d : ℕ} (on : Bool) (x : Tree p d) (t : ℕ) → FitsIn 
 unfolding node-rows
 fits on (literal l) t = fits-node _ [] refl fits-none
 fits on (range a s b one one′) t = fits-node _ [] refl fits-none
-fits on (field depth u opens n comma x closes) t = fits-node _ [] refl fits-none
-fits on (binder depth u opens n comma v opens′ x comma′ y closes closes′) t = fits-node _ [] refl fits-none
+fits on (field signed depth u opens n comma x closes) t = fits-node _ [] refl fits-none
+fits on (binder signed depth u opens n comma v opens′ x comma′ y closes closes′) t = fits-node _ [] refl fits-none
 fits on (rule-use x other) t = fits-node _ [] refl fits-none
 fits on (eod s) t = fits-node _ [] refl fits-none
 fits on (group depth opens x closes) t = fits false x t

@@ -284,8 +284,8 @@ pub after-tree : {q : Part} {d : ℕ} (x : Tree q d) {xs : List ℕ} {p : ℕ} {
 unfolding spell
 after-tree (literal l) h = past h
 after-tree (range a s b one one′) h = past (past (past h))
-after-tree (field depth u opens n comma x closes) h = past (after-set x (past (past (past (past h)))))
-after-tree (binder depth u opens n comma v opens′ x comma′ y closes closes′) h = past (past (after-set y (past (past (past (past (past (past (past (past h))))))))))
+after-tree (field signed depth u opens n comma x closes) h = past (after-set x (past (past (past (past h)))))
+after-tree (binder signed depth u opens n comma v opens′ x comma′ y closes closes′) h = past (past (after-set y (past (past (past (past (past (past (past (past h))))))))))
 after-tree (rule-use x other) h = past h
 after-tree (eod s) h = past h
 after-tree (group depth opens x closes) h = past (after-tree x (past h))

@@ -65,8 +65,8 @@ pub in-step : {xs : List ℕ} {p : Part} {d : ℕ} (on top : Bool) (x : Tree p d
 unfolding node-rows pieces spell
 in-step on top (literal l) t w s = another refl refl no-step
 in-step on top (range a g b one one′) t w s = another refl refl no-step
-in-step on top (field depth u opens n comma x closes) t w s = a-field refl refl refl (shown (past (past s))) no-step
-in-step on top (binder {d} depth u opens n comma v opens′ x comma′ y closes closes′) t w s =
+in-step on top (field signed depth u opens n comma x closes) t w s = a-field refl refl refl (shown (past (past s))) no-step
+in-step on top (binder {d} signed depth u opens n comma v opens′ x comma′ y closes closes′) t w s =
     a-binder refl (bound-so (d + 1 + 1)) refl (shown (past (past s))) refl (here (past (past (past (past (past (past s))))))) no-step
 in-step on top (rule-use x other) t w s = a-use refl refl (here s) no-step
 in-step on top (eod g) t w s = another refl refl no-step

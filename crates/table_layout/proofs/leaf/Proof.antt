@@ -44,9 +44,19 @@ returns-5 c = simp (eq-eqb _ _ (c .before .if5 .taken), ne-eqb _ _ (c .before .b
 returns-6 : tie.Need-returns-6
 returns-6 c = simp (eq-eqb _ _ (c .if6 .taken), ne-eqb _ _ (c .before .if5 .left), ne-eqb _ _ (c .before .before .if4 .left), ne-eqb _ _ (c .before .before .before .if3 .left), ne-eqb _ _ (c .before .before .before .before .if1 .left))
 
--- src/lib.rt:156:1
+uint-requires-2 : tie.Need-uint-requires-2
+uint-requires-2 c κs = search needs
+
 returns-7 : tie.Need-returns-7
-returns-7 c = simp (ne-eqb _ _ (c .if6 .left), ne-eqb _ _ (c .before .if5 .left), ne-eqb _ _ (c .before .before .if4 .left), ne-eqb _ _ (c .before .before .before .if3 .left), ne-eqb _ _ (c .before .before .before .before .if1 .left))
+returns-7 c =
+    simp
+    (eq-eqb _ _ (c .before .if7 .taken), ne-eqb _ _ (c .before .before .if6 .left), ne-eqb _ _ (c .before .before .before .if5 .left), ne-eqb _ _ (c .before .before .before .before .if4 .left), ne-eqb _ _ (c .before .before .before .before .before .if3 .left), ne-eqb _ _ (c .before .before .before .before .before .before .if1 .left))
+    (c .uint2 .ensures)
+
+returns-8 : tie.Need-returns-8
+returns-8 c =
+    simp
+    (ne-eqb _ _ (c .if7 .left), ne-eqb _ _ (c .before .if6 .left), ne-eqb _ _ (c .before .before .if5 .left), ne-eqb _ _ (c .before .before .before .if4 .left), ne-eqb _ _ (c .before .before .before .before .if3 .left), ne-eqb _ _ (c .before .before .before .before .before .if1 .left))
 
 pub leaf-spec : {M : Type 1} → statement M
 leaf-spec =
@@ -61,4 +71,6 @@ leaf-spec =
     uint-requires
     returns-5
     returns-6
-    returns-7)
+    uint-requires-2
+    returns-7
+    returns-8)
