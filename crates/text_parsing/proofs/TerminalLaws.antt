@@ -3,7 +3,7 @@
 use Prim.Native.Nat.{ℕ, zero, suc, _-_, _≤_, _<_}
 use mathlib.Core.Path.{_≡_, refl, sym, ap, subst}
 use mathlib.Core.Logic.{_⊎_, inl, inr, ⊎-elim}
-use mathlib.Core.Bool.{Bool, true, false, cond}
+use mathlib.Core.Bool.{Bool, true, false, cond, _||_}
 use mathlib.Core.List.{List, [], _∷_}
 use native.Mathlib.Omega.{arith}
 use borrow.Author.Tests.{eqb-true, leb-true, leb-false, ltb-true}
@@ -56,7 +56,7 @@ Live n = live n ≡ true
 name-live : (xs : List ℕ) (start end : ℕ) → Live (name-code xs start end)
 unfolding name-code
 name-live xs start end =
-    either-way Live (eqb (reserved-of (name-of xs start end)) 12) (either-way Live (opens-at xs end) refl refl)
+    either-way Live (eqb (reserved-of (name-of xs start end)) 12 || eqb (reserved-of (name-of xs start end)) 13) (either-way Live (opens-at xs end) refl refl)
     (either-way Live (eqb (reserved-of (name-of xs start end)) 9) (either-way Live (opens-at xs end) refl refl) (either-way Live (eqb (reserved-of (name-of xs start end)) 10) refl refl))
 
 literal-live : (xs : List ℕ) (start : ℕ) → Live (literal-code xs start)

@@ -70,6 +70,9 @@ fn name_of(text: &[u8], start: usize, end: usize) -> usize
     if word == 12 {
         return before_paren(text, end, 6);
     }
+    if word == 13 {
+        return before_paren(text, end, 6);
+    }
     if word == 9 {
         return before_paren(text, end, 8);
     }

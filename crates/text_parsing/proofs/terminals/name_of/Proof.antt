@@ -49,14 +49,28 @@ unfolding name-code
 returns-2 c = (c .before-paren2) .ensures ∙ ap (λ (n : ℕ). word-code n (opens-at ((c .before .before .before .before .before .before) .args .text .now) ((c .before .before .before .before .before .before) .args .end))) (sym ((c .before .if2) .taken) ∙ (c .before .before .before .reserved) .ensures)
 
 -- src/terminals.rt:77:9
+before-paren-requires-3 : tie.Need-before-paren-requires-3
+before-paren-requires-3 c κs = search needs
+
+-- src/terminals.rt:77:9
 returns-3 : tie.Need-returns-3
 unfolding name-code
-returns-3 c = ap (λ (n : ℕ). word-code n (opens-at ((c .before .before .before .before .before .before) .args .text .now) ((c .before .before .before .before .before .before) .args .end))) (sym ((c .if3) .taken) ∙ (c .before .before .before .reserved) .ensures)
+returns-3 c = (c .before-paren3) .ensures ∙ ap (λ (n : ℕ). word-code n (opens-at ((c .before .before .before .before .before .before .before) .args .text .now) ((c .before .before .before .before .before .before .before) .args .end))) (sym ((c .before .if3) .taken) ∙ (c .before .before .before .before .reserved) .ensures)
 
--- src/terminals.rt:65:1
+-- src/terminals.rt:80:9
 returns-4 : tie.Need-returns-4
 unfolding name-code
-returns-4 c = let u : eqb (reserved-of (name-of ((c .before .before .before .before .before .before) .args .text .now) ((c .before .before .before .before .before .before) .args .start) ((c .before .before .before .before .before .before) .args .end))) 12 ≡ false = ne-eqb (reserved-of (name-of ((c .before .before .before .before .before .before) .args .text .now) ((c .before .before .before .before .before .before) .args .start) ((c .before .before .before .before .before .before) .args .end))) 12 (λ z. (c .before .before .if1) .left ((c .before .before .before .reserved) .ensures ∙ z)) in let v : eqb (reserved-of (name-of ((c .before .before .before .before .before .before) .args .text .now) ((c .before .before .before .before .before .before) .args .start) ((c .before .before .before .before .before .before) .args .end))) 9 ≡ false = ne-eqb (reserved-of (name-of ((c .before .before .before .before .before .before) .args .text .now) ((c .before .before .before .before .before .before) .args .start) ((c .before .before .before .before .before .before) .args .end))) 9 (λ z. (c .before .if2) .left ((c .before .before .before .reserved) .ensures ∙ z)) in let x : eqb (reserved-of (name-of ((c .before .before .before .before .before .before) .args .text .now) ((c .before .before .before .before .before .before) .args .start) ((c .before .before .before .before .before .before) .args .end))) 10 ≡ false = ne-eqb (reserved-of (name-of ((c .before .before .before .before .before .before) .args .text .now) ((c .before .before .before .before .before .before) .args .start) ((c .before .before .before .before .before .before) .args .end))) 10 (λ z. (c .if3) .left ((c .before .before .before .reserved) .ensures ∙ z)) in rw (u, v, x)
+returns-4 c = ap (λ (n : ℕ). word-code n (opens-at ((c .before .before .before .before .before .before .before) .args .text .now) ((c .before .before .before .before .before .before .before) .args .end))) (sym ((c .if4) .taken) ∙ (c .before .before .before .before .reserved) .ensures)
+
+-- src/terminals.rt:65:1
+returns-5 : tie.Need-returns-5
+unfolding name-code
+returns-5 c =
+    let u : eqb (reserved-of (name-of ((c .before .before .before .before .before .before .before) .args .text .now) ((c .before .before .before .before .before .before .before) .args .start) ((c .before .before .before .before .before .before .before) .args .end))) 12 ≡ false = ne-eqb (reserved-of (name-of ((c .before .before .before .before .before .before .before) .args .text .now) ((c .before .before .before .before .before .before .before) .args .start) ((c .before .before .before .before .before .before .before) .args .end))) 12 (λ z. (c .before .before .before .if1) .left ((c .before .before .before .before .reserved) .ensures ∙ z)) in
+    let s : eqb (reserved-of (name-of ((c .before .before .before .before .before .before .before) .args .text .now) ((c .before .before .before .before .before .before .before) .args .start) ((c .before .before .before .before .before .before .before) .args .end))) 13 ≡ false = ne-eqb (reserved-of (name-of ((c .before .before .before .before .before .before .before) .args .text .now) ((c .before .before .before .before .before .before .before) .args .start) ((c .before .before .before .before .before .before .before) .args .end))) 13 (λ z. (c .before .before .if2) .left ((c .before .before .before .before .reserved) .ensures ∙ z)) in
+    let v : eqb (reserved-of (name-of ((c .before .before .before .before .before .before .before) .args .text .now) ((c .before .before .before .before .before .before .before) .args .start) ((c .before .before .before .before .before .before .before) .args .end))) 9 ≡ false = ne-eqb (reserved-of (name-of ((c .before .before .before .before .before .before .before) .args .text .now) ((c .before .before .before .before .before .before .before) .args .start) ((c .before .before .before .before .before .before .before) .args .end))) 9 (λ z. (c .before .if3) .left ((c .before .before .before .before .reserved) .ensures ∙ z)) in
+    let x : eqb (reserved-of (name-of ((c .before .before .before .before .before .before .before) .args .text .now) ((c .before .before .before .before .before .before .before) .args .start) ((c .before .before .before .before .before .before .before) .args .end))) 10 ≡ false = ne-eqb (reserved-of (name-of ((c .before .before .before .before .before .before .before) .args .text .now) ((c .before .before .before .before .before .before .before) .args .start) ((c .before .before .before .before .before .before .before) .args .end))) 10 (λ z. (c .if4) .left ((c .before .before .before .before .reserved) .ensures ∙ z)) in
+    rw (u, s, v, x)
 
 pub name-of-spec : {M : Type 1} → statement M
 name-of-spec =
@@ -70,5 +84,7 @@ name-of-spec =
     returns
     before-paren-requires-2
     returns-2
+    before-paren-requires-3
     returns-3
-    returns-4)
+    returns-4
+    returns-5)
