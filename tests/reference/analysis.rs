@@ -1,5 +1,5 @@
 // FIRST and FOLLOW (document 01's first and follow windows), and what they refuse: 9 and 10.
-use crate::arithmetic::{passes, set_has_variable, set_ranges, Passes};
+use crate::arithmetic::{passes, set_has_variable, set_patterns, Passes};
 use crate::grammar::{Between, Refusal};
 use crate::lookahead::{self, Strings};
 use crate::recursion;
@@ -53,7 +53,7 @@ fn first(construct: &Construct, rules: &[Rule], known: &mut Vec<Option<Strings>>
         Kind::Use(name) => first(&rules[name.target.get()].body, rules, known),
         Kind::Literal(bytes) => first_of_range(u64::from(bytes[0]), u64::from(bytes[0]), 8).collect(),
         Kind::Range(from, to) => first_of_range(u64::from(*from), u64::from(*to), 8).collect(),
-        Kind::Uint { width, set, .. } => first_of_uint(width.value as u32, set),
+        Kind::Uint { signed, width, set, .. } => first_of_uint(*signed, width.value as u32, set),
         Kind::Eod => Strings::empty_string(),
     };
     known[construct.number] = Some(strings);
@@ -72,16 +72,16 @@ fn first_of_repetition(body: &Strings, counts: &Counts) -> Strings {
     allowed.map_or(Strings::default(), |allowed| body.repeated(cut(allowed.least), allowed.greatest.map(cut)))
 }
 
-// The leading bits of the values of a range.
+// The leading bits of the patterns of a range.
 fn first_of_range(from: u64, to: u64, width: u32) -> impl Iterator<Item = u16> {
     let bits = width.min(lookahead::LONGEST);
     let hidden = width - bits;
     (from >> hidden..=to >> hidden).map(move |value| lookahead::string(value, bits))
 }
 
-fn first_of_uint(width: u32, set: &Set) -> Strings {
-    let largest = (1 << width) - 1;
-    let ranges = if set_has_variable(set) { vec![(0, largest)] } else { set_ranges(set, largest, &[]) };
+fn first_of_uint(signed: bool, width: u32, set: &Set) -> Strings {
+    let all = vec![(0, u64::MAX >> (64 - width))];
+    let ranges = if set_has_variable(set) { all } else { set_patterns(set, signed, width, &[]) };
     ranges.into_iter().flat_map(|(from, to)| first_of_range(from, to, width)).collect()
 }
 

@@ -2,7 +2,7 @@
 use crate::grammar::{admit, Grammar};
 use crate::matcher::{self, Outcome, Verdict};
 
-pub const LONGEST_FRAME: usize = 256;
+pub const LONGEST_FRAME: usize = 1024;
 
 // The frames of standard input: a line each, or the number that refuses it.
 pub fn frames(input: &[u8]) -> Vec<Result<Vec<u8>, u8>> {

@@ -1,15 +1,15 @@
 // Compares the reference implementation with itself on random grammars and frames: the recursive matcher with the step machine after every
 // number of steps, the verdict with the derivations by their definition, and FIRST of narrow fields with membership.
 use reference::analysis::Analysis;
-use reference::arithmetic::{set_contains, set_has_variable};
+use reference::arithmetic::{set_contains, set_has_variable, value_of_pattern};
 use reference::bench::bound;
 use reference::derivations::{derivations, Derivation};
 use reference::grammar::{admit, Grammar};
-use reference::lookahead;
+use reference::lookahead::{self, Strings};
 use reference::machine::Machine;
 use reference::matcher::{self, Outcome, Verdict};
 use reference::random::Random;
-use reference::syntax::Kind;
+use reference::syntax::{Kind, Set};
 use reference::{random_frame, random_grammar};
 
 const FRAMES: usize = 6;
@@ -103,14 +103,30 @@ fn check_first(grammar: &Grammar) {
     let Analysis { first, .. } = &grammar.analysis;
     for construct in grammar.rules.iter().flat_map(|rule| rule.body.all()) {
         match &construct.kind {
-            Kind::Uint { width, set, .. } if width.value <= 8 && !set_has_variable(set) => {
+            Kind::Uint { signed, width, set, .. } if width.value <= 8 && !set_has_variable(set) => {
                 let bits = width.value as u32;
-                for value in 0..1 << bits {
-                    let predicted = first[construct.number].contains(lookahead::string(value, bits));
+                for pattern in 0..1 << bits {
+                    let predicted = first[construct.number].contains(lookahead::string(pattern, bits));
+                    let value = value_of_pattern(*signed, bits, pattern);
                     assert_eq!(predicted, set_contains(set, value, &[]), "{value} in {set:?}");
                 }
             }
+            Kind::Uint { signed, width, set, .. } if !set_has_variable(set) => check_wide(&first[construct.number], *signed, width.value as u32, set),
             _ => {}
+        }
+    }
+}
+
+// Of a field of more than 8 bits: the first and the last pattern of each window. Where one is in the set, its window is there; between two that
+// are not, a value may still be.
+fn check_wide(first: &Strings, signed: bool, width: u32, set: &Set) {
+    let hidden = width - lookahead::LONGEST;
+    for window in 0..1u64 << lookahead::LONGEST {
+        let least = window << hidden;
+        for pattern in [least, least + 1, least | ((1 << hidden) - 1)] {
+            let value = value_of_pattern(signed, width, pattern);
+            let predicted = first.contains(lookahead::string(window, lookahead::LONGEST));
+            assert!(predicted || !set_contains(set, value, &[]), "{value} in {set:?}");
         }
     }
 }

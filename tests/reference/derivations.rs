@@ -1,14 +1,14 @@
 // Derivations of a frame by their definition: every choice is tried, without windows, steps or weight. Slow, and only for tests.
 use crate::arithmetic::{holds, passes};
 use crate::grammar::Grammar;
-use crate::matcher::{bits, compare};
+use crate::matcher::{bound, compare};
 use crate::syntax::*;
 
 // How far a partial derivation has come.
 #[derive(Debug, Clone, PartialEq, Eq)]
 pub struct Derivation {
     pub position: usize,
-    pub values: Vec<u64>,
+    pub values: Vec<i64>,
     pub reading: Vec<(usize, usize)>,
 }
 
@@ -75,8 +75,8 @@ impl Search<'_> {
     fn leaf(&self, construct: &Construct, from: &Derivation) -> Option<Derivation> {
         let length = compare(construct, self.frame, from.position, &from.values)?;
         let mut end = from.clone();
-        if let Kind::Uint { binder: Some(name), .. } = &construct.kind {
-            end.values[name.target.get()] = bits(self.frame, from.position, length);
+        if let Kind::Uint { signed, binder: Some(name), .. } = &construct.kind {
+            end.values[name.target.get()] = bound(*signed, self.frame, from.position, length);
         }
         if !matches!(construct.kind, Kind::Eod) {
             end.reading.push((construct.number, from.position));

@@ -1,6 +1,6 @@
 // Checks the example of a report of a clash: a frame's beginning, and after it 8 bits that both sides fit. Every choice is tried, without windows; a
 // derivation need only come to the end of the bits.
-use reference::arithmetic::{passes, set_ranges};
+use reference::arithmetic::{passes, set_patterns};
 use reference::grammar::Between;
 use reference::parser::parse;
 use reference::syntax::*;
@@ -112,14 +112,14 @@ impl<'g> Search<'g> {
         let (width, ranges) = match &field.kind {
             Kind::Literal(bytes) => return self.literal(pending, position, taken, bytes),
             Kind::Range(from, to) => (8, vec![(u64::from(*from), u64::from(*to))]),
-            Kind::Uint { width, set, .. } => (width.value as usize, set_ranges(set, (1 << width.value) - 1, &[])),
+            Kind::Uint { signed, width, set, .. } => (width.value as usize, set_patterns(set, *signed, width.value as u32, &[])),
             _ => return false,
         };
         let given = width.min(self.bits.len() - position);
-        let value = self.bits[position..position + given].iter().fold(0u64, |value, bit| value * 2 + u64::from(*bit));
+        let value = self.bits[position..position + given].iter().fold(0u128, |value, bit| value * 2 + u128::from(*bit));
         let hidden = width - given;
         let (least, most) = (value << hidden, (value + 1 << hidden) - 1);
-        ranges.iter().any(|(from, to)| from <= to && *from <= most && least <= *to) && self.comes(pending, position + width, taken)
+        ranges.iter().any(|(from, to)| from <= to && u128::from(*from) <= most && least <= u128::from(*to)) && self.comes(pending, position + width, taken)
     }
 
     fn literal(&self, pending: Vec<Pending<'g>>, position: usize, taken: bool, bytes: &[u8]) -> bool {

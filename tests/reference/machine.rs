@@ -2,7 +2,7 @@
 use crate::arithmetic::{holds, passes};
 use crate::grammar::Grammar;
 use crate::limits::CONSTRUCTS;
-use crate::matcher::{bits, compare, upcoming, Outcome, Verdict};
+use crate::matcher::{bound, compare, upcoming, Outcome, Verdict};
 use crate::syntax::*;
 
 #[derive(Debug, Clone, Copy)]
@@ -104,8 +104,8 @@ impl<'g> Machine<'g> {
 
     fn field(&mut self, construct: &'g Construct) -> Option<Vec<Entry<'g>>> {
         let length = compare(construct, self.frame, self.run.position, &self.run.values)?;
-        if let Kind::Uint { binder: Some(name), .. } = &construct.kind {
-            self.run.values[name.target.get()] = bits(self.frame, self.run.position, length);
+        if let Kind::Uint { signed, binder: Some(name), .. } = &construct.kind {
+            self.run.values[name.target.get()] = bound(*signed, self.frame, self.run.position, length);
         }
         if !matches!(construct.kind, Kind::Eod) {
             self.run.reading.push((construct.number, self.run.position));

@@ -1,5 +1,5 @@
 // The run by recursion: each construct is a call, and a call is a step.
-use crate::arithmetic::{holds, passes, set_contains};
+use crate::arithmetic::{holds, passes, set_contains, value_of_pattern};
 use crate::grammar::Grammar;
 use crate::lookahead;
 use crate::syntax::*;
@@ -16,7 +16,7 @@ pub struct Outcome {
     pub verdict: Verdict,
     pub steps: u64,
     pub position: usize,              // in bits
-    pub values: Vec<u64>,             // by binder in text order
+    pub values: Vec<i64>,             // by binder in text order
     pub reading: Vec<(usize, usize)>, // construct number, first bit
 }
 
@@ -105,8 +105,8 @@ impl Matcher<'_> {
 
     fn leaf(&mut self, construct: &Construct) -> Result<(), Stop> {
         let length = compare(construct, self.frame, self.outcome.position, &self.outcome.values).ok_or(Stop::NoMatch)?;
-        if let Kind::Uint { binder: Some(name), .. } = &construct.kind {
-            self.outcome.values[name.target.get()] = bits(self.frame, self.outcome.position, length);
+        if let Kind::Uint { signed, binder: Some(name), .. } = &construct.kind {
+            self.outcome.values[name.target.get()] = bound(*signed, self.frame, self.outcome.position, length);
         }
         if !matches!(construct.kind, Kind::Eod) {
             self.outcome.reading.push((construct.number, self.outcome.position));
@@ -117,7 +117,7 @@ impl Matcher<'_> {
 }
 
 // How many bits a field or eod takes at a position; None where it does not hold.
-pub fn compare(construct: &Construct, frame: &[u8], position: usize, values: &[u64]) -> Option<usize> {
+pub fn compare(construct: &Construct, frame: &[u8], position: usize, values: &[i64]) -> Option<usize> {
     let length = match &construct.kind {
         Kind::Literal(bytes) => bytes.len() * 8,
         Kind::Range(..) => 8,
@@ -130,10 +130,15 @@ pub fn compare(construct: &Construct, frame: &[u8], position: usize, values: &[u
     let holds = match &construct.kind {
         Kind::Literal(bytes) => bytes.iter().enumerate().all(|(i, &byte)| bits(frame, position + i * 8, 8) == u64::from(byte)),
         Kind::Range(from, to) => (u64::from(*from)..=u64::from(*to)).contains(&bits(frame, position, 8)),
-        Kind::Uint { set, .. } => set_contains(set, bits(frame, position, length), values),
+        Kind::Uint { signed, set, .. } => set_contains(set, value_of_pattern(*signed, length as u32, bits(frame, position, length)), values),
         _ => false,
     };
     holds.then_some(length)
+}
+
+// What a binder binds: a value of at most 62 bits.
+pub fn bound(signed: bool, frame: &[u8], from: usize, width: usize) -> i64 {
+    value_of_pattern(signed, width as u32, bits(frame, from, width)) as i64
 }
 
 // Bits of the frame as a number, the most significant first.

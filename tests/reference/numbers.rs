@@ -1,25 +1,25 @@
 // Numbers, widths and the sizes of calculations (refusal 8).
 use crate::syntax::*;
 
-pub const LARGEST_NUMBER: u128 = 4_294_967_295;
-pub const WIDEST: u128 = 32;
-pub const LARGEST_SIZE: u128 = 1 << 62;
+pub const WIDEST: u128 = 64;
+pub const WIDEST_BOUND: u128 = 62;
+pub const LARGEST_SIZE: u128 = 1 << 62; // of a number, too
 
 pub fn check(rules: &[Rule], variables: usize) -> Result<(), usize> {
     let mut faults = Vec::new();
     let mut sizes = vec![0; variables];
     // A binder stands before its uses, so its size is known at each of them.
     for construct in rules.iter().flat_map(|rule| rule.body.all()) {
-        if let Kind::Uint { width, binder, .. } = &construct.kind {
-            if !(1..=WIDEST).contains(&width.value) {
+        if let Kind::Uint { signed, width, binder, .. } = &construct.kind {
+            let widest = if binder.is_some() { WIDEST_BOUND } else { WIDEST };
+            if !(1..=widest).contains(&width.value) {
                 faults.push(width.place);
             }
             if let Some(name) = binder {
-                sizes[name.target.get()] = (1 << width.value.min(WIDEST)) - 1;
+                sizes[name.target.get()] = largest_size(*signed, width.value.clamp(1, WIDEST_BOUND));
             }
         }
         for calculation in construct.calculations() {
-            faults.extend(oversized_numbers(calculation));
             if largest_part(calculation, &sizes) > LARGEST_SIZE {
                 faults.push(calculation.place);
             }
@@ -28,11 +28,9 @@ pub fn check(rules: &[Rule], variables: usize) -> Result<(), usize> {
     faults.into_iter().min().map_or(Ok(()), Err)
 }
 
-fn oversized_numbers(calculation: &Calculation) -> impl Iterator<Item = usize> + '_ {
-    calculation.operands().filter_map(|operand| match operand.atom {
-        Atom::Number(number) if number.value > LARGEST_NUMBER => Some(number.place),
-        _ => None,
-    })
+// A variable at its widest: of a signed one its least value is the larger in size.
+fn largest_size(signed: bool, width: u128) -> u128 {
+    if signed { 1 << (width - 1) } else { (1 << width) - 1 }
 }
 
 // The largest size among the parts of a calculation as it is worked out from the left: operands, products so far, sums so far.

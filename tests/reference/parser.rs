@@ -176,7 +176,8 @@ impl Parser {
             T::Sign("(") => self.group(),
             T::Sign("[") => self.switch(),
             T::Literal(_) => self.literal_or_range(),
-            T::Name(_) if self.is_word_before_paren("uint") => self.uint(),
+            T::Name(_) if self.is_word_before_paren("uint") => self.uint(false),
+            T::Name(_) if self.is_word_before_paren("sint") => self.uint(true),
             T::Name(word) if word == "eod" => {
                 self.at += 1;
                 Ok(construct(place, Kind::Eod))
@@ -206,7 +207,7 @@ impl Parser {
         }
     }
 
-    fn uint(&mut self) -> Parsed<Construct> {
+    fn uint(&mut self, signed: bool) -> Parsed<Construct> {
         let place = self.place();
         self.name()?;
         self.open("(")?;
@@ -214,7 +215,7 @@ impl Parser {
         self.expect(",")?;
         let (binder, set) = if self.is_word_before_paren("var") { self.binder()? } else { (None, self.set()?) };
         self.close(")")?;
-        Ok(construct(place, Kind::Uint { width, binder, set }))
+        Ok(construct(place, Kind::Uint { signed, width, binder, set }))
     }
 
     fn binder(&mut self) -> Parsed<(Option<Name>, Set)> {

@@ -51,9 +51,9 @@ impl Random {
 // Bytes that mean something in some place, and some that mean nothing anywhere.
 const BYTES: &[u8] = b"()[]{}?*+-~!,:;|&=<>\"'#\\_@/. \t\r\n\x0c\x000x9aZ\x7f\x80\xff";
 
-const PHRASES: [&str; 24] = [
+const PHRASES: [&str; 27] = [
     "uint(8, var(n, ~))", "uint(", "var(", "eod", "\\[80]", "\\[]", "\"\"", "'a'~'bc'", "'z'~'a'", "{~}", "{0}", "{5~3}", "[]", "!=", "((", "!(", "--",
-    "0x", "0b12", "4294967296", "# ", "\r\n", ";x=", "sized",
+    "0x", "0b12", "4611686018427387905", "# ", "\r\n", ";x=", "sized", "sint(", "sint(8, -1)", "s",
 ];
 
 // One to four changes of any kind.

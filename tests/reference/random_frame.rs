@@ -1,5 +1,5 @@
 // Frames for a grammar: random, derived from it by random choices, or derived and then damaged.
-use crate::arithmetic::{holds, passes, set_ranges};
+use crate::arithmetic::{ends, holds, passes, pattern_of_value, set_ranges};
 use crate::bench::LONGEST_FRAME;
 use crate::grammar::Grammar;
 use crate::random::Random;
@@ -7,7 +7,7 @@ use crate::syntax::*;
 
 pub fn frame(grammar: &Grammar, random: &mut Random) -> Vec<u8> {
     let mut frame = match random.below(8) {
-        0 => (0..random.pick(&[0, 1, 2, 3, 5, 40, 256])).map(|_| random.next() as u8).collect(),
+        0 => (0..random.pick(&[0, 1, 2, 3, 5, 40, 256, LONGEST_FRAME])).map(|_| random.next() as u8).collect(),
         1..=4 => derived(grammar, random),
         _ => damaged(derived(grammar, random), random),
     };
@@ -31,7 +31,7 @@ struct Deriver<'g> {
     grammar: &'g Grammar,
     random: &'g mut Random,
     bits: Vec<bool>,
-    values: Vec<u64>,
+    values: Vec<i64>,
     fuel: usize, // ends derivations that would go on for too long
 }
 
@@ -71,7 +71,7 @@ impl Deriver<'_> {
                 let value = from + self.random.below(u64::from(to.saturating_sub(*from)) + 1) as u8;
                 self.write(u64::from(value), 8);
             }
-            Kind::Uint { width, binder, set } => self.uint(width.value as u32, binder.as_ref(), set),
+            Kind::Uint { signed, width, binder, set } => self.uint(*signed, width.value as u32, binder.as_ref(), set),
             Kind::Eod => {}
         }
     }
@@ -88,20 +88,21 @@ impl Deriver<'_> {
         }
     }
 
-    // Small values more often, since they are lengths and counts.
-    fn uint(&mut self, width: u32, binder: Option<&Name>, set: &Set) {
-        let largest = (1 << width) - 1;
-        let ranges = set_ranges(set, largest, &self.values);
-        let (from, to) = if ranges.is_empty() { (0, largest) } else { self.random.pick(&ranges) };
-        let value = match self.random.below(3) {
-            0 => from + self.random.below(to - from + 1),
-            1 => to.min(from + self.random.below(5)),
+    // Small values more often, since they are lengths and counts; also the ends of the range and what stands beside 0.
+    fn uint(&mut self, signed: bool, width: u32, binder: Option<&Name>, set: &Set) {
+        let all = ends(signed, width);
+        let ranges = set_ranges(set, all, &self.values);
+        let (from, to) = if ranges.is_empty() { all } else { self.random.pick(&ranges) };
+        let value = match self.random.below(4) {
+            0 => from + i128::from(self.random.next()) % (to - from + 1),
+            1 => to.min(from + i128::from(self.random.below(5))),
+            2 => (self.random.below(6) as i128 - 1).clamp(from, to),
             _ => self.random.pick(&[from, to]),
         };
         if let Some(name) = binder {
-            self.values[name.target.get()] = value;
+            self.values[name.target.get()] = value as i64;
         }
-        self.write(value, width);
+        self.write(pattern_of_value(width, value), width);
     }
 
     fn write(&mut self, value: u64, width: u32) {

@@ -108,17 +108,33 @@ impl Writer<'_> {
             self.put("&");
         }
         let name = self.new_variable();
-        let width = self.random.pick(&[8, 8, 8, 8, 16, 32, 4]);
-        self.put("uint (");
+        let width = match self.random.below(8) {
+            0 => self.random.pick(&[1, 2, 31, 32, 33, 40, 61, 62]),
+            1 if self.random.once_in(12) => 63 + self.random.below(3),
+            _ => self.random.pick(&[8, 8, 8, 8, 16, 32, 4]),
+        };
+        let signed = self.field_word();
         self.number(width);
         self.put(&format!(", var ( {name} ,"));
-        self.set(width as u32);
+        self.set(signed, width as u32);
         self.put(") )");
         self.variables.push(name);
-        if width == 4 {
-            self.put("& uint ( 4 , ~ )");
-        }
+        self.fill(width);
         false
+    }
+
+    // The word that begins a field; says whether it is signed.
+    fn field_word(&mut self) -> bool {
+        let signed = self.random.once_in(3);
+        self.put(if signed { "sint (" } else { "uint (" });
+        signed
+    }
+
+    // What a field of this width leaves of its last byte, so that bytes begin where bytes begin.
+    fn fill(&mut self, width: u64) {
+        if width % 8 != 0 && !self.random.once_in(20) {
+            self.put(&format!("& uint ( {} , ~ )", 8 - width % 8));
+        }
     }
 
     // A name that the rule has not bound, one in thirty apart.
@@ -240,16 +256,25 @@ impl Writer<'_> {
         }
         let width = match self.random.below(8) {
             0 => return self.leading_field(),
-            1 => return self.put("uint ( 4 , ~ ) & uint ( 4 , 1 ~ )"),
-            2 => self.random.pick(&[16, 24, 32]),
-            3 if self.random.once_in(4) => 1 + self.random.below(32),
+            1 => return self.put("uint ( 4 , ~ ) & sint ( 4 , ~ 1 )"),
+            2 => self.random.pick(&[16, 24, 32, 40, 64]),
+            3 => self.random.pick(&[1, 2, 8, 31, 32, 33, 62, 63, 64]),
+            4 if self.random.once_in(4) => 1 + self.random.below(65),
             _ => 8,
         };
-        self.put("uint (");
+        let grouped = width % 8 != 0;
+        if grouped {
+            self.put("(");
+        }
+        let signed = self.field_word();
         self.number(width);
         self.put(",");
-        self.set(width as u32);
+        self.set(signed, width as u32);
         self.put(")");
+        if grouped {
+            self.fill(width);
+            self.put(")");
+        }
     }
 
     // A field that begins with a byte of its own, one in sixty apart.
@@ -269,6 +294,7 @@ impl Writer<'_> {
                 let literal = self.literal(&bytes);
                 self.tokens.push(literal);
             }
+            4 if self.random.once_in(2) => self.leading_signed(lead),
             4 => self.put(&format!("uint ( 16 , {} ~ {} )", u32::from(lead) * 256, u32::from(lead) * 256 + 255)),
             _ => {
                 self.put("uint ( 8 ,");
@@ -276,5 +302,16 @@ impl Writer<'_> {
                 self.put(")");
             }
         }
+    }
+    // Signed and wide: the patterns that begin with this byte are those between two values.
+    fn leading_signed(&mut self, lead: u8) {
+        let width = self.random.pick(&[8, 9, 16, 32, 33, 62, 63]);
+        let hidden = width - 8;
+        let least = i64::from(lead as i8) << hidden;
+        self.put(&format!("sint ( {width} ,"));
+        self.signed(least);
+        self.put("~");
+        self.signed(least + ((1 << hidden) - 1));
+        self.put(")");
     }
 }

@@ -1,10 +1,10 @@
 // Grammars that are odd on purpose: with a token out of place, at the limits, or made of a few bits without care for conflicts.
 use crate::random::Random;
 
-const RESERVED_AND_ODD: [&str; 10] = ["uint", "var", "eod", "sized", "msb", "unknown", "n", "a", "frame", "nnnnnnnnnnnnnnnnnnnnnnnnnnnnnnnnn"];
-const NUMBERS: [&str; 12] = [
-    "0", "1", "32", "33", "0x100000000", "4294967295", "4294967296", "99999999999999999999", "0b0", "0o77777777777",
-    "340282366920938463463374607431768211457", "007",
+const RESERVED_AND_ODD: [&str; 12] = ["uint", "sint", "sint", "var", "eod", "sized", "msb", "unknown", "n", "a", "frame", "nnnnnnnnnnnnnnnnnnnnnnnnnnnnnnnnn"];
+const NUMBERS: [&str; 16] = [
+    "0", "1", "62", "63", "64", "65", "0x100000000", "4294967295", "4611686018427387904", "4611686018427387905", "0xffffffffffffffff",
+    "18446744073709551616", "0b0", "0o777777777777777777777", "340282366920938463463374607431768211457", "007",
 ];
 const SIGNS: [&str; 24] = ["=", ";", "|", "&", "(", ")", "[", "]", "{", "}", "?", "*", "+", "-", "~", "!", ",", ":", "<", ">", "!=", "<=", ">=", "@"];
 
@@ -49,7 +49,11 @@ pub(crate) fn crowded(random: &mut Random) -> Vec<String> {
         }
         _ => {
             let product = times(1 + random.index(3), &|i| ["n", "m", "k"][i % 3].into(), " * ");
-            format!("f = uint ( 32 , var ( n , ~ ) ) & uint ( 30 , var ( m , ~ ) ) & uint ( 2 , var ( k , ~ ) ) & 'x' {{ 1 - {product} }} ;")
+            let field = |random: &mut Random| random.pick(&["uint", "sint"]);
+            let (n, m, k) = (field(random), field(random), field(random));
+            let wide = 60 + random.below(5);
+            let (n_width, m_width, k_width) = random.pick(&[(32, 30, 2), (32, 31, 1), (33, 30, 3), (wide, 2, 1), (61, 1, 1)]);
+            format!("f = {n} ( {n_width} , var ( n , ~ ) ) & {m} ( {m_width} , var ( m , ~ ) ) & {k} ( {k_width} , var ( k , ~ ) ) & 'x' {{ 1 - {product} }} ;")
         }
     };
     rules.split(' ').map(String::from).collect()
@@ -70,10 +74,12 @@ fn expression(random: &mut Random, depth: usize) -> String {
     if depth == 0 {
         let width = random.pick(&[1, 1, 2, 3, 4, 4, 5, 8, 9]);
         let value = random.below(1 << width);
-        return match random.below(12) {
+        return match random.below(14) {
             0 => "eod".into(),
             1 => format!("uint ( {width} , ~ )"),
             2 => format!("uint ( {width} , {value} ~ )"),
+            12 => format!("sint ( {width} , {} )", value as i64 - (1 << (width - 1))).replace('-', "- "),
+            13 => format!("sint ( {width} , ~ {} )", value as i64 - (1 << (width - 1))).replace('-', "- "),
             3 => "'\\[5]' ~ 'z'".into(),
             _ => format!("uint ( {width} , {value} )"),
         };

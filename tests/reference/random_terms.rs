@@ -1,83 +1,103 @@
 // Random sets, counts, conditions, calculations, numbers and literals.
+use crate::arithmetic::ends;
 use crate::random_grammar::Writer;
 
 impl Writer<'_> {
-    pub fn set(&mut self, width: u32) {
+    pub fn set(&mut self, signed: bool, width: u32) {
         if self.random.once_in(3) {
             return self.put("~");
         }
-        self.set_alternative(width);
+        self.set_alternative(signed, width);
         while self.random.once_in(4) {
             self.put("|");
-            self.set_alternative(width);
+            self.set_alternative(signed, width);
         }
     }
 
     // Mostly one that leaves a value: what is taken away is a little of a lot.
-    fn set_alternative(&mut self, width: u32) {
+    fn set_alternative(&mut self, signed: bool, width: u32) {
         match self.random.below(10) {
             0 => {
-                self.much(width);
+                self.much(signed, width);
                 self.put("!");
-                self.little(width);
+                self.little(signed, width);
             }
             1 => {
-                self.much(width);
+                self.much(signed, width);
                 self.put("! (");
-                self.little(width);
+                self.little(signed, width);
                 if self.random.once_in(2) {
                     self.put("|");
-                    if self.random.once_in(6) { self.set_alternative(width) } else { self.little(width) }
+                    if self.random.once_in(6) { self.set_alternative(signed, width) } else { self.little(signed, width) }
                 }
                 self.put(")");
             }
-            _ => self.set_item(width),
+            _ => self.set_item(signed, width),
         }
     }
 
-    fn much(&mut self, width: u32) {
+    fn much(&mut self, signed: bool, width: u32) {
         match self.random.below(8) {
-            0 => self.set_item(width),
+            0 => self.set_item(signed, width),
             1 | 2 => self.put("0 ~"),
             _ => self.put("~"),
         }
     }
 
-    fn little(&mut self, width: u32) {
+    fn little(&mut self, signed: bool, width: u32) {
         if self.random.once_in(20) {
-            return self.set_item(width);
+            return self.set_item(signed, width);
         }
         let form = self.random.below(3);
-        self.set_item_of(form, width);
+        self.set_item_of(form, signed, width);
     }
 
-    fn set_item(&mut self, width: u32) {
+    fn set_item(&mut self, signed: bool, width: u32) {
         let form = self.random.below(6);
-        self.set_item_of(form, width);
+        self.set_item_of(form, signed, width);
     }
 
-    // One of two forms of a single value and four of a range. Ends are mostly small, in order and within the width; now and then below 0, beyond it or
+    // One of two forms of a single value and four of a range. Ends are mostly small, in order and within the width; now and then below it, beyond it or
     // turned round, where no value may be left.
-    fn set_item_of(&mut self, form: u64, width: u32) {
-        let limit = (1i64 << width) - 1;
+    fn set_item_of(&mut self, form: u64, signed: bool, width: u32) {
+        let (least, greatest) = ends(signed, width);
         let odd = self.random.once_in(100);
-        let below = if odd || form == 2 || form == 3 { i64::from(self.random.once_in(6)) * 9 } else { 0 };
-        let low = (self.random.below(12) as i64).min(limit) - below;
+        let low = self.low_end(form, least, greatest, odd);
         let high = match self.random.below(4) {
-            0 => limit + self.random.below(3) as i64 - 1,
-            1 => self.random.below(limit as u64 + 1) as i64,
-            _ => low.max(0) + self.random.below(6) as i64,
+            0 => greatest + self.random.below(3) as i128 - 1,
+            1 => least + i128::from(self.random.next()) % (greatest - least + 1),
+            _ => low.max(least) + self.random.below(6) as i128,
         };
-        let high = if odd { high - self.random.below(12) as i64 } else { high.max(low) };
+        let high = if odd { high - self.random.below(12) as i128 } else { high.max(low) };
         if form <= 3 {
-            self.calculation(if odd { low + high } else { low });
+            self.named(if odd { low + high } else { low });
         }
         if form >= 2 {
             self.put("~");
         }
         if (2..=4).contains(&form) && form != 3 {
-            self.calculation(high.min(u32::MAX.into()));
+            self.named(high);
         }
+    }
+
+    // Small, or at an end of the width, or beside 0.
+    fn low_end(&mut self, form: u64, least: i128, greatest: i128, odd: bool) -> i128 {
+        let below = if odd || form == 2 || form == 3 { i128::from(self.random.once_in(6)) * 9 } else { 0 };
+        let low = match self.random.below(8) {
+            0 => least,
+            1 => greatest,
+            2 => -1,
+            3 => least + 1,
+            _ => self.random.below(12) as i128 - if least < 0 { 6 } else { 0 },
+        };
+        low.clamp(least, greatest) - below
+    }
+
+    // A calculation of a value. None comes past 2^62, but now and then one is asked for.
+    fn named(&mut self, value: i128) {
+        let largest = 1 << 62;
+        let kept = if self.random.once_in(40) { value } else { value.clamp(-largest, largest) };
+        self.calculation(kept as i64);
     }
 
     // Counts decided by lookahead or by a number.
@@ -125,7 +145,8 @@ impl Writer<'_> {
     // Mostly a calculation of this value, now and then one of a variable.
     fn calculation(&mut self, value: i64) {
         let extra = self.random.below(20) as i64;
-        match self.random.below(12) {
+        let form = if value.unsigned_abs() > 1 << 61 { 12 } else { self.random.below(12) };
+        match form {
             0 => self.sum(&[(value + extra, "-"), (extra, "")]),
             1 => self.sum(&[(-extra, "+"), (value + extra, "")]),
             2 => self.sum(&[(3, "*"), (extra, "+"), (value - 3 * extra, "")]),
@@ -152,7 +173,7 @@ impl Writer<'_> {
         }
     }
 
-    fn signed(&mut self, value: i64) {
+    pub fn signed(&mut self, value: i64) {
         if value < 0 {
             self.put("-");
         }
@@ -192,7 +213,7 @@ impl Writer<'_> {
         }
         let comparator = self.random.pick(&["=", "=", "!=", "<", "<=", ">", ">="]);
         self.put(comparator);
-        let value = self.random.below(6) as i64;
+        let value = self.random.below(6) as i64 - i64::from(self.random.once_in(4)) * 4;
         self.calculation(value);
     }
 

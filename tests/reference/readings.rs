@@ -98,8 +98,9 @@ const NAMES_AND_NUMBERS: &[(u8, &str)] = &[
     (7, "a = 'x'; ^b = c{0}; c = b;"),
     (7, "a = b; ^b = 'x' & c; c = b;"),
     (8, "a = uint(^0, ~);"),
-    (8, "a = uint(^33, ~);"),
-    (8, "a = uint(8, 5 + ^4294967296);"),
+    (8, "a = uint(^65, ~);"),
+    (0, "a = uint(64, ~);"),
+    (13, "a = ^uint(8, 5 + 4294967296);"),
     (8, "a = uint(8, ^5 + 99999999999999999999);"),
     (8, "a = uint(8, 1 | ^-99999999999999999999);"),
     (0, "a = uint(31, var(x, ~)) & uint(32, var(z, ~)) & uint(8, 0*x*z*4);"),
@@ -138,7 +139,7 @@ const STRICTER: &[(u8, &str)] = &[
     (12, "a = uint(8, 300); ^b = 'y';"), // before 13, whatever the places
     (11, "^a = b & b & b & b; b = c & c & c & c; c = d & d & d & d; d = e & e & e & e; e = f & f & f & f; f = g & g & g & g; g = h & h & h & h; h = 'x' & 'y'; i = 'z';"),
     (9, "a = 'x'; b = ('y'?)^*;"), // also in a rule that is not reached
-    (8, "a = 'x'; b = uint(^33, ~);"),
+    (8, "a = 'x'; b = uint(^65, ~);"),
     (13, "a = ^uint(8, 256);"),
     (0, "a = uint(8, 255);"),
     (13, "a = ^uint(8, -1);"),
@@ -158,13 +159,55 @@ const STRICTER: &[(u8, &str)] = &[
     (13, "a = b & ^uint(8, 256); b = uint(8, 257);"), // the first in the text
 ];
 
+// Req 10.
+const WIDER: &[(u8, &str)] = &[
+    (0, "a = sint(8, ~);"),
+    (6, "a = ^sint;"), // it opens its form only before `(`
+    (6, "a = sint(8, ^sint);"),
+    (4, "a = sint(^n, ~);"),
+    (4, "a = uint(8, sint^(8, 1));"),
+    (8, "a = sint(^0, ~);"),
+    (8, "a = sint(^65, ~);"),
+    (0, "a = sint(64, ~) & uint(64, ~);"),
+    (0, "a = uint(62, var(n, ~)) & sint(62, var(m, ~));"),
+    (8, "a = uint(^63, var(n, ~));"),
+    (8, "a = sint(^63, var(n, ~));"),
+    (0, "a = uint(64, 4611686018427387904);"),
+    (8, "a = uint(64, ^4611686018427387905);"),
+    (8, "a = uint(64, ^5 + 4611686018427387905);"),
+    (8, "a = uint(64, ^-4611686018427387905);"),
+    (8, "a = uint(64, 0 * 1 | ^0 * 4611686018427387905);"),
+    (8, "a = 'x'{^0x4000000000000001};"),
+    (8, "a = [1 = ^4611686018427387904 + 1: 'x';];"),
+    (0, "a = sint(62, var(x, ~)) & sint(4, x + x);"), // of size 2^61 each
+    (8, "a = sint(62, var(x, ~)) & sint(4, ^x + x + 1);"),
+    (8, "a = uint(62, var(x, ~)) & sint(4, ^x + x);"),
+    (0, "a = uint(62, var(x, ~)) & sint(4, x + 1);"),
+    (8, "a = uint(62, var(x, ~)) & sint(4, ^x + 2);"),
+    (0, "a = sint(1, 0 | -1);"),
+    (13, "a = ^sint(1, 1);"),
+    (0, "a = sint(8, -128 | 127);"),
+    (13, "a = 'x' & ^sint(8, 128);"),
+    (13, "a = ^sint(8, var(n, ~-129));"),
+    (13, "a = ^sint(64, ~ ! (-4611686018427387904~ | ~));"),
+    (0, "a = sint(64, ~ ! (-4611686018427387904~ | 5));"), // -2^63 is left
+    (0, "a = uint(64, ~ ! 0~4611686018427387904);"),
+    (13, "a = ^uint(62, ~ ! 0~4611686018427387903);"),
+    (13, "a = ^uint(62, 4611686018427387904~);"),
+    (0, "a = uint(8, -1 + 1) | sint(8, -1);"),
+    (0, "a = sint(8, var(n, ~)) & 'x'{n};"), // a negative count is none
+    (10, "a = ^sint(8, -1) | uint(8, 255);"),
+    (0, "a = sint(4, 1) & uint(4, ~) | sint(4, -1) & uint(4, ~);"),
+    (10, "a = ^sint(9, -1) | sint(16, -1);"),
+];
+
 const HEADER: &str = "dogma_v1 utf-8\n\n";
 
 pub fn check() -> usize {
     for (number, text) in HEADERS {
         check_one(*number, text, "");
     }
-    let rules = [FORMS, NAMES_AND_NUMBERS, LOOKAHEAD, STRICTER].concat();
+    let rules = [FORMS, NAMES_AND_NUMBERS, LOOKAHEAD, STRICTER, WIDER].concat();
     for (number, rules) in &rules {
         check_one(*number, rules, HEADER);
     }
@@ -186,4 +229,10 @@ fn check_conflicts() {
     assert_eq!(refused("a = 'c' | 'c' | 'b' | 'd' | 'b';"), conflict(20, 256 + 98, Between::Branches(2, 4)));
     assert_eq!(refused("a = 'c'* & 'c';"), conflict(20, 256 + 99, Between::ContinueAndExit));
     assert_eq!(refused("a = uint(4,2) | uint(4,2) & uint(4,~)?;"), conflict(20, 18, Between::Branches(0, 1)));
+    assert_eq!(refused("a = sint(16,~-1) | sint(32,-16777216~-3);"), conflict(20, 256 + 255, Between::Branches(0, 1)));
+    // The windows of `sint(4, -3~2)`: each pattern of 4 bits clashes with it, or does not.
+    for pattern in 0..16 {
+        let expected = [0, 1, 2, 13, 14, 15].contains(&pattern).then(|| conflict(20, 16 + pattern, Between::Branches(0, 1)));
+        assert_eq!(refused(&format!("a = sint(4, -3~2) | uint(4, {pattern});")), expected.flatten(), "{pattern}");
+    }
 }

@@ -1,4 +1,4 @@
-// A second implementation of document 01, written from the papers alone and by the plainest means: trees, recursion, sets built pair by
+// A second implementation of document 01 and of the requests that have landed, written from the papers alone and by the plainest means: trees, recursion, sets built pair by
 // pair. The verified libraries are compared with it, so it shares no code and no layout with them.
 pub mod analysis; // FIRST, FOLLOW, refusals 9 and 10
 pub mod arithmetic; // calculations, sets, counts and conditions, with values

@@ -32,7 +32,7 @@ pub enum Kind {
     Use(Name),
     Literal(Vec<u8>),
     Range(u8, u8),
-    Uint { width: Number, binder: Option<Name>, set: Set },
+    Uint { signed: bool, width: Number, binder: Option<Name>, set: Set }, // a sint is signed
     Eod,
 }
 

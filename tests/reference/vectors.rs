@@ -7,7 +7,7 @@ use std::path::{Path, PathBuf};
 const FULLY_TOLD: usize = 13;
 
 // The vectors of document 01, and those that a request of document 02 adds.
-const FOLDERS: [&str; 6] = ["sheet", "base", "req02/hand", "req02/random", "req06/hand", "req06/random"];
+const FOLDERS: [&str; 8] = ["sheet", "base", "req02/hand", "req02/random", "req06/hand", "req06/random", "req10/hand", "req10/random"];
 
 // How many texts were checked. The first difference of each file is told, and any ends the program.
 pub fn check(folder: &Path) -> usize {
