@@ -16,8 +16,8 @@ OpensNoTest (test-group l o a c) = ⊥
 abbrev OpensNothing : {d : ℕ} → Tree atom d → Type 0
 OpensNothing (literal l) = Unit {0}
 OpensNothing (range a s b one one′) = Unit {0}
-OpensNothing (field l u o n m x c) = ⊥
-OpensNothing (binder l u o n m v o′ x m′ y c c′) = ⊥
+OpensNothing (field g l u o n m x c) = ⊥
+OpensNothing (binder g l u o n m v o′ x m′ y c c′) = ⊥
 OpensNothing (rule-use x other) = Unit {0}
 OpensNothing (eod s) = Unit {0}
 OpensNothing (group l o x c) = ⊥
@@ -35,8 +35,8 @@ deepest-test (test-group l o a c) = omega arith
 pub deepest : (a : Tree atom 16) → OpensNothing a
 deepest (literal l) = tt
 deepest (range a s b one one′) = tt
-deepest (field l u o n m x c) = omega arith
-deepest (binder l u o n m v o′ x m′ y c c′) = omega arith
+deepest (field g l u o n m x c) = omega arith
+deepest (binder g l u o n m v o′ x m′ y c c′) = omega arith
 deepest (rule-use x other) = tt
 deepest (eod s) = tt
 deepest (group l o x c) = omega arith

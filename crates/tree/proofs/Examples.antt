@@ -4,7 +4,7 @@ use Prim.Native.Nat.{ℕ, _<_}
 use Prim.Native.Char.{code}
 use Prim.Native.String.{String, [] as end, _∷_ as _then_}
 use mathlib.Core.Path.{_≡_, refl}
-use mathlib.Core.Bool.{true}
+use mathlib.Core.Bool.{true, false}
 use mathlib.Core.List.{List, [], _∷_}
 use borrow.Author.Tests.{ltb-true}
 use lib.Dec.{ltb}
@@ -50,7 +50,7 @@ spelling t n = spelled t n
 -- K1's rules: `frame = uint(8, var(len, 1~8)) & uint(8, ~){len};`
 unfoldable pub k1-tree : Rules
 unfolding bytes starts
-k1-tree = last-rule (rule (named 0 5 (bytes "frame")) (at 6 7) (last-branch (and-members (once (binder (below 1 refl) (at 8 12) (at 12 13) (counting 13 14 8) (at 14 15) (at 16 19) (at 19 20) (named 20 23 (bytes "len")) (at 23 24) (last-choice (item (between (sum (product (plain (number (counting 25 26 1))) no-factor) no-summand) (at 26 27) (sum (product (plain (number (counting 27 28 8))) no-factor) no-summand)))) (at 28 29) (at 29 30))) (at 31 32) (last-member (repeated (field (below 0 refl) (at 33 37) (at 37 38) (counting 38 39 8) (at 39 40) (last-choice (item (everything (at 41 42)))) (at 42 43)) (counted (at 43 44) (exactly (sum (product (plain (variable (named 44 47 (bytes "len")))) no-factor) no-summand)) (at 47 48)))))) (at 48 49))
+k1-tree = last-rule (rule (named 0 5 (bytes "frame")) (at 6 7) (last-branch (and-members (once (binder false (below 1 refl) (at 8 12) (at 12 13) (counting 13 14 8) (at 14 15) (at 16 19) (at 19 20) (named 20 23 (bytes "len")) (at 23 24) (last-choice (item (between (sum (product (plain (number (counting 25 26 1))) no-factor) no-summand) (at 26 27) (sum (product (plain (number (counting 27 28 8))) no-factor) no-summand)))) (at 28 29) (at 29 30))) (at 31 32) (last-member (repeated (field false (below 0 refl) (at 33 37) (at 37 38) (counting 38 39 8) (at 39 40) (last-choice (item (everything (at 41 42)))) (at 42 43)) (counted (at 43 44) (exactly (sum (product (plain (variable (named 44 47 (bytes "len")))) no-factor) no-summand)) (at 47 48)))))) (at 48 49))
 
 pub k1 : tokens "frame = uint(8, var(len, 1~8)) & uint(8, ~){len};" ≡ spelling k1-tree 49
 unfolding tokens spelling k1-tree
@@ -86,11 +86,20 @@ items = refl
 -- sets: `a = uint(8, ~ | 1 | 2~3 ! 2 | 4~ ! (5 | 6) | ~7);`
 unfoldable pub sets-tree : Rules
 unfolding bytes starts
-sets-tree = last-rule (rule (named 0 1 (bytes "a")) (at 2 3) (last-branch (last-member (once (field (below 0 refl) (at 4 8) (at 8 9) (counting 9 10 8) (at 10 11) (or-choices (item (everything (at 12 13))) (at 14 15) (or-choices (item (only (sum (product (plain (number (counting 16 17 1))) no-factor) no-summand))) (at 18 19) (or-choices (item-but-item (between (sum (product (plain (number (counting 20 21 2))) no-factor) no-summand) (at 21 22) (sum (product (plain (number (counting 22 23 3))) no-factor) no-summand)) (at 24 25) (only (sum (product (plain (number (counting 26 27 2))) no-factor) no-summand))) (at 28 29) (or-choices (item-but-set (below 1 refl) (from (sum (product (plain (number (counting 30 31 4))) no-factor) no-summand) (at 31 32)) (at 33 34) (at 35 36) (or-choices (item (only (sum (product (plain (number (counting 36 37 5))) no-factor) no-summand))) (at 38 39) (last-choice (item (only (sum (product (plain (number (counting 40 41 6))) no-factor) no-summand))))) (at 41 42)) (at 43 44) (last-choice (item (up-to (at 45 46) (sum (product (plain (number (counting 46 47 7))) no-factor) no-summand)))))))) (at 47 48))))) (at 48 49))
+sets-tree = last-rule (rule (named 0 1 (bytes "a")) (at 2 3) (last-branch (last-member (once (field false (below 0 refl) (at 4 8) (at 8 9) (counting 9 10 8) (at 10 11) (or-choices (item (everything (at 12 13))) (at 14 15) (or-choices (item (only (sum (product (plain (number (counting 16 17 1))) no-factor) no-summand))) (at 18 19) (or-choices (item-but-item (between (sum (product (plain (number (counting 20 21 2))) no-factor) no-summand) (at 21 22) (sum (product (plain (number (counting 22 23 3))) no-factor) no-summand)) (at 24 25) (only (sum (product (plain (number (counting 26 27 2))) no-factor) no-summand))) (at 28 29) (or-choices (item-but-set (below 1 refl) (from (sum (product (plain (number (counting 30 31 4))) no-factor) no-summand) (at 31 32)) (at 33 34) (at 35 36) (or-choices (item (only (sum (product (plain (number (counting 36 37 5))) no-factor) no-summand))) (at 38 39) (last-choice (item (only (sum (product (plain (number (counting 40 41 6))) no-factor) no-summand))))) (at 41 42)) (at 43 44) (last-choice (item (up-to (at 45 46) (sum (product (plain (number (counting 46 47 7))) no-factor) no-summand)))))))) (at 47 48))))) (at 48 49))
 
 pub sets : tokens "a = uint(8, ~ | 1 | 2~3 ! 2 | 4~ ! (5 | 6) | ~7);" ≡ spelling sets-tree 49
 unfolding tokens spelling sets-tree
 sets = refl
+
+-- signed fields: `a = sint(4, -3~2) & sint(8, var(x, ~));`
+unfoldable pub signed-tree : Rules
+unfolding bytes starts
+signed-tree = last-rule (rule (named 0 1 (bytes "a")) (at 2 3) (last-branch (and-members (once (field true (below 0 refl) (at 4 8) (at 8 9) (counting 9 10 4) (at 10 11) (last-choice (item (between (sum (product (opposite (at 12 13) (number (counting 13 14 3))) no-factor) no-summand) (at 14 15) (sum (product (plain (number (counting 15 16 2))) no-factor) no-summand)))) (at 16 17))) (at 18 19) (last-member (once (binder true (below 1 refl) (at 20 24) (at 24 25) (counting 25 26 8) (at 26 27) (at 28 31) (at 31 32) (named 32 33 (bytes "x")) (at 33 34) (last-choice (item (everything (at 35 36)))) (at 36 37) (at 37 38)))))) (at 38 39))
+
+pub signed-fields : tokens "a = sint(4, -3~2) & sint(8, var(x, ~));" ≡ spelling signed-tree 39
+unfolding tokens spelling signed-tree
+signed-fields = refl
 
 -- conditions, cases and a default: `a = [x = 1 & y != 2 & z < 3: b; (x <= 1 | y > 2) | z >= 3: b; : eod;];`
 unfoldable pub cases-tree : Rules
