@@ -55,25 +55,25 @@ module _ (P : Values → Type 0) (numbered widest : List ℕ → ℕ) (rules who
   unfoldable pub Right : List Name → List Piece → Type 0
   Right names [] = Unit {0}
   Right names (use-of-rule x ∷ more) = (is-among rules x ≡ true) × Right names more
-  Right names (width n ∷ more) = (n .value ≤ 32) × Right names more
+  Right names (width most n ∷ more) = (n .value ≤ 32) × Right names more
   Right names (formula f ∷ more) = FormulaRight widest whole names f × Right names more
-  Right names (binding x n placed ∷ more) = (is-among names x ≡ false) × BindingKeeps P numbered (binding x n placed) × Right (x ∷ names) more
+  Right names (binding x signed n placed ∷ more) = (is-among names x ≡ false) × BindingKeeps P numbered (binding x signed n placed) × Right (x ∷ names) more
 
   right-one : (names : List Name) (l m : List Piece) → Right names (l ++ m) → Right names l
   unfolding Right
   right-one names [] m h = tt
   right-one names (use-of-rule x ∷ l) m h = (h .0, right-one names l m (h .1))
-  right-one names (width n ∷ l) m h = (h .0, right-one names l m (h .1))
+  right-one names (width most n ∷ l) m h = (h .0, right-one names l m (h .1))
   right-one names (formula f ∷ l) m h = (h .0, right-one names l m (h .1))
-  right-one names (binding x n placed ∷ l) m h = (h .0, h .1, right-one (x ∷ names) l m (h .2))
+  right-one names (binding x signed n placed ∷ l) m h = (h .0, h .1, right-one (x ∷ names) l m (h .2))
 
   right-two : (names : List Name) (l m : List Piece) → Right names (l ++ m) → Right (after-bound l names) m
   unfolding Right after-bound
   right-two names [] m h = h
   right-two names (use-of-rule x ∷ l) m h = right-two names l m (h .1)
-  right-two names (width n ∷ l) m h = right-two names l m (h .1)
+  right-two names (width most n ∷ l) m h = right-two names l m (h .1)
   right-two names (formula f ∷ l) m h = right-two names l m (h .1)
-  right-two names (binding x n placed ∷ l) m h = right-two (x ∷ names) l m (h .2)
+  right-two names (binding x signed n placed ∷ l) m h = right-two (x ∷ names) l m (h .2)
 
   right-marked : (names : List Name) (m : Mark) (l : List Piece) → Right names (mark-pieces m ++ l) → Right names l
   unfolding Right

@@ -108,9 +108,9 @@ module _ (numbered : List ℕ → ℕ) where
   unfoldable pub sizes-for : Values → List Piece → List ℤ
   sizes-for v [] = map (λ (z : ℤ). pos (natAbs z)) v
   sizes-for v (use-of-rule x ∷ more) = sizes-for v more
-  sizes-for v (width n ∷ more) = sizes-for v more
+  sizes-for v (width most n ∷ more) = sizes-for v more
   sizes-for v (formula f ∷ more) = sizes-for v more
-  sizes-for v (binding x n placed ∷ more) = set (sizes-for v more) (numbered (x .letters)) (pos (2 ^ n .value - 1))
+  sizes-for v (binding x signed n placed ∷ more) = set (sizes-for v more) (numbered (x .letters)) (pos (2 ^ n .value - 1))
 
   map-many : (v : Values) → length (map (λ (z : ℤ). pos (natAbs z)) v) ≡ length v
   map-many [] = refl
@@ -120,9 +120,9 @@ module _ (numbered : List ℕ → ℕ) where
   unfolding sizes-for
   sizes-many v [] = map-many v
   sizes-many v (use-of-rule x ∷ more) = sizes-many v more
-  sizes-many v (width n ∷ more) = sizes-many v more
+  sizes-many v (width most n ∷ more) = sizes-many v more
   sizes-many v (formula f ∷ more) = sizes-many v more
-  sizes-many v (binding x n placed ∷ more) = length-set (sizes-for v more) (numbered (x .letters)) (pos (2 ^ n .value - 1)) ∙ sizes-many v more
+  sizes-many v (binding x signed n placed ∷ more) = length-set (sizes-for v more) (numbered (x .letters)) (pos (2 ^ n .value - 1)) ∙ sizes-many v more
 
   own-size : (v : Values) (k : ℕ) → Below (getD v k (pos 0)) (getD (map (λ (z : ℤ). pos (natAbs z)) v) k (pos 0))
   own-size [] k = record { size = 0; is = refl; le = omega arith }
@@ -133,9 +133,9 @@ module _ (numbered : List ℕ → ℕ) where
   unfolding sizes-for Held
   below-each v [] h k l = own-size v k
   below-each v (use-of-rule x ∷ more) h k l = below-each v more h k l
-  below-each v (width n ∷ more) h k l = below-each v more h k l
+  below-each v (width most n ∷ more) h k l = below-each v more h k l
   below-each v (formula f ∷ more) h k l = below-each v more h k l
-  below-each v (binding x n placed ∷ more) h k l =
+  below-each v (binding x signed n placed ∷ more) h k l =
       ⊎-elim
       (λ (e : eqb k (numbered (x .letters)) ≡ true).
       let q : k ≡ numbered (x .letters) = eqb-true k (numbered (x .letters)) e
@@ -161,9 +161,9 @@ module _ (b : ℕ) (whole : List Piece) where
   unfolding sizes-for Own bound-in is-among widest-in
   sizes-wide v [] o y k e l = let z : _≡_ {A = ℕ} 0 1 = cc in absurd (omega arith)
   sizes-wide v (use-of-rule x ∷ more) o y k e l = sizes-wide v more o y k e l
-  sizes-wide v (width n ∷ more) o y k e l = sizes-wide v more o y k e l
+  sizes-wide v (width most n ∷ more) o y k e l = sizes-wide v more o y k e l
   sizes-wide v (formula f ∷ more) o y k e l = sizes-wide v more o y k e l
-  sizes-wide v (binding x n placed ∷ more) o y k e l =
+  sizes-wide v (binding x signed n placed ∷ more) o y k e l =
       ⊎-elim
       (λ (c : is-same (x .letters) (y .letters) ≡ true).
       let q : x .letters ≡ y .letters = word-equal (x .letters) (y .letters) c

@@ -7,6 +7,7 @@ use mathlib.Core.List.{List, [], _∷_, map}
 use mathlib.Core.Option.{Option, none}
 use lib.ListN.{getD}
 use Rattle.basis.specs.Bits.{Bits, bitsOf, append-digits, frameBits, same}
+use Rattle.basis.specs.Patterns.{pattern-value}
 use Rattle.basis.specs.Counts.{Counts as Passes, between, exactly, atLeast, span}
 use Rattle.theory.specs.Grammar.{alternative, concatenation, repetition, switch, use-of, field, eod}
 use Rattle.text_header.specs.Spans.{span-end, starts}
@@ -22,7 +23,7 @@ use Rattle.tree_meaning.specs.Pieces.{factor-terms, summand-terms, set-p
 use Rattle.tree_meaning.specs.Places.{least}
 use Rattle.tree_meaning.specs.Counted.{constructs, terms, Totals, no-rule, with-rule, limit-faults, refusal-5}
 use Rattle.tree_meaning.specs.Names.{is-among, variable-faults, faults-after, name-faults, refusal-6}
-use Rattle.tree_meaning.specs.Sizes.{times-size, sum-size, times-largest, sum-largest, number-faults, widest-in, calculation-faults, faults-in, size-faults, refusal-8}
+use Rattle.tree_meaning.specs.Sizes.{times-size, sum-size, times-largest, sum-largest, widest-in, calculation-faults, faults-in, size-faults, refusal-8}
 use Rattle.tree_meaning.specs.Grammar.{Values, TreeNode, first-context, Construct, members, branches, case-bodies, chosen, no-default, constructs-of, body-of, variable-of, rules-constructs, tree-constructs}
 use Rattle.tree_meaning.proofs.Building.{bytes}
 
@@ -46,7 +47,7 @@ pub data Judged : Type 0 where
   judged : (rules constructs variables terms : ℕ) (five six eight : Option ℕ) → Judged
 
 unfoldable pub judgement : Rules → Judged
-unfolding totals-from bytes starts word-number pieces set-parts tests-parts factor-terms summand-terms terms-of uses-in bound-in rules-of constructs terms limit-faults least is-among variable-faults faults-after name-faults times-size sum-size times-largest sum-largest number-faults widest-in calculation-faults faults-in size-faults spell-primary spell-operand spell-factors spell-product spell-summands spell-calculation
+unfolding totals-from bytes starts word-number pieces set-parts tests-parts factor-terms summand-terms terms-of uses-in bound-in rules-of constructs terms limit-faults least is-among variable-faults faults-after name-faults times-size sum-size times-largest sum-largest widest-in calculation-faults faults-in size-faults spell-primary spell-operand spell-factors spell-product spell-summands spell-calculation
 judgement t =
     let n = totals-from no-rule (rules-of t) in judged (n .rules) (n .all-constructs) (n .variables) (n .all-terms) (refusal-5 t) (refusal-6 t) (refusal-8 t)
 
@@ -73,7 +74,7 @@ see v bits eod = ends
 
 -- all constructs of a text, at values of the variables and w bits that are n
 unfoldable pub seen : Rules → Values → (w n : ℕ) → List Seen
-unfolding bytes starts pieces set-parts tests-parts factor-terms summand-terms terms-of uses-in bound-in rules-of constructs members branches case-bodies chosen no-default constructs-of body-of variable-of rules-constructs times-value sum-value in-set is-true bitsOf append-digits frameBits same between exactly atLeast span
+unfolding bytes starts pieces set-parts tests-parts factor-terms summand-terms terms-of uses-in bound-in rules-of constructs members branches case-bodies chosen no-default constructs-of body-of variable-of rules-constructs times-value sum-value in-set is-true bitsOf append-digits pattern-value frameBits same between exactly atLeast span
 seen t v w n = map (λ (c : Construct). see v (bitsOf w n) (c .node)) (tree-constructs t)
 
 -- their places, and their marks

@@ -1,11 +1,12 @@
 -- A property of every construct of a tree, from a property of every piece of it: one walk for all such laws.
 -- Assumes nothing.
-use Prim.Native.Nat.{ℕ, suc, _+_}
+use Prim.Native.Nat.{ℕ, suc, _+_, _≤_}
 use mathlib.Core.Bool.{Bool, true, false}
 use mathlib.Core.List.{List, [], _∷_, _++_}
 use mathlib.Core.Option.{Option}
-use lib.IntN.{pos}
+use native.Mathlib.Omega.{arith}
 use lib.ListN.{length, set}
+use Rattle.basis.specs.Limits.{max-width}
 use Rattle.theory.specs.Grammar.{alternative, concatenation as sequence, switch as choice-by, eod as frame-end}
 use Rattle.tree.specs.Lexemes.{Name, Number}
 use Rattle.tree.specs.Tree.{ValueSet, Mark, Part, Tree, literal, range, field, binder, rule-use, eod, group, switch, last-case, case-default, case-cases, once, repeated, last-member, and-members, last-branch, or-branches, Rule}
@@ -44,9 +45,9 @@ module _ (R : TreeNode → Type 0) where
 pub record Follows (body variable : List ℕ → ℕ) (R : TreeNode → Type 0) (S : Piece → Type 0) : Type 0 where
   pub literals : (bytes : List ℕ) → R (literal-node bytes)
   pub ranges : (low high : ℕ) → R (range-node low high)
-  pub fields : (d : ℕ) (n : Number) (x : ValueSet d) → S (width n) → S (formula (set-parts x)) → R (uint-node variable n x (λ v k. v))
-  pub binders : (d : ℕ) (n : Number) (x : Name) (y : ValueSet d) (placed : Bool) → S (width n) → S (formula (set-parts y)) → S (binding x n placed)
-      → R (uint-node variable n y (λ v k. set v (variable (x .letters)) (pos k)))
+  pub fields : (d : ℕ) (signed : Bool) (n : Number) (x : ValueSet d) → S (width max-width n) → S (formula (set-parts x)) → R (uint-node variable signed n x (λ v k. v))
+  pub binders : (d : ℕ) (signed : Bool) (most : ℕ) (n : Number) (x : Name) (y : ValueSet d) (placed : Bool) → most ≤ max-width → S (width most n) → S (formula (set-parts y)) → S (binding x signed n placed)
+      → R (uint-node variable signed n y (λ v k. set v (variable (x .letters)) k))
   pub rule-uses : (x : Name) → S (use-of-rule x) → R (use-node (body (x .letters)))
   pub ends : R frame-end
   pub switches : (which : Context → Values → Option ℕ) (optional : Bool) (is : List ℕ) → R (choice-by which optional is)
@@ -63,8 +64,8 @@ module _ (body variable : List ℕ → ℕ) (R : TreeNode → Type 0) (S : Piece
   unfolding AllPieces AllNodes pieces constructs-of
   every top begun i (literal l) h = (f .literals (l .characters), tt)
   every top begun i (range a s b one one′) h = (f .ranges _ _, tt)
-  every top begun i (field signed depth u opens n comma x closes) h = (f .fields _ n x (h .0) (h .1 .0), tt)
-  every top begun i (binder signed depth u opens n comma v opens′ x comma′ y closes closes′) h = (f .binders _ n x y top (h .0) (h .1 .0) (h .1 .1 .0), tt)
+  every top begun i (field signed depth u opens n comma x closes) h = (f .fields _ signed n x (h .0) (h .1 .0), tt)
+  every top begun i (binder signed depth u opens n comma v opens′ x comma′ y closes closes′) h = (f .binders _ signed _ n x y top (omega arith) (h .0) (h .1 .0) (h .1 .1 .0), tt)
   every top begun i (rule-use x other) h = (f .rule-uses x (h .0), tt)
   every top begun i (eod s) h = (f .ends, tt)
   every top begun i (group depth opens x closes) h = every false false i x h

@@ -1,4 +1,4 @@
--- Where 6 is not given, every rule that is used has its body among the constructs of the text; where 8 is not, a uint has 1 to 32 bits. A literal has 8 bits a
+-- Where 6 is not given, every rule that is used has its body among the constructs of the text; where 8 is not, a uint or sint has 1 to 64 bits. A literal has 8 bits a
 -- character.
 -- Assumes nothing.
 use Prim.Native.Nat.{ℕ, _+_, _*_, _≤_, _<_}
@@ -8,6 +8,7 @@ use mathlib.Core.List.{List, [], _∷_, map}
 use mathlib.Core.Option.{none}
 use native.Mathlib.Omega.{arith}
 use lib.ListN.{length}
+use Rattle.basis.specs.Limits.{max-width}
 use Rattle.basis.specs.Bits.{Bits}
 use Rattle.theory.specs.Grammar.{alternative, concatenation as sequence, repetition, switch as choice-by, use-of, field as bits-of, eod as frame-end}
 use Rattle.tree.specs.Lexemes.{Name}
@@ -35,17 +36,17 @@ Opens end frame-end = Unit {0}
 
 abbrev UseBelow : (end : ℕ) → (body : List ℕ → ℕ) → Piece → Type 0
 UseBelow end body (use-of-rule x) = body (x .letters) < end
-UseBelow end body (width n) = Unit {0}
+UseBelow end body (width most n) = Unit {0}
 UseBelow end body (formula f) = Unit {0}
-UseBelow end body (binding x n placed) = Unit {0}
+UseBelow end body (binding x signed n placed) = Unit {0}
 
 opening-below : (end : ℕ) (body variable : List ℕ → ℕ) → Follows body variable (Opens end) (UseBelow end body)
 opening-below end body variable =
     record {
       literals = λ bytes. tt;
       ranges = λ low high. tt;
-      fields = λ d n x a b. tt;
-      binders = λ d n x y placed a b c. tt;
+      fields = λ d signed n x a b. tt;
+      binders = λ d signed most n x y placed fits a b c. tt;
       rule-uses = λ x a. a;
       ends = tt;
       switches = λ which optional is. tt;
@@ -59,9 +60,9 @@ module _ (all : List Rule) where
   unfolding NamesRight AllPieces
   uses-below variables before [] h = tt
   uses-below variables before (use-of-rule x ∷ more) h = (let k = body-in-range 0 all x (h .0) in omega (arith, k .1), uses-below variables before more (h .2))
-  uses-below variables before (width n ∷ more) h = (tt, uses-below variables before more h)
+  uses-below variables before (width most n ∷ more) h = (tt, uses-below variables before more h)
   uses-below variables before (formula f ∷ more) h = (tt, uses-below variables before more (h .1))
-  uses-below variables before (binding x n placed ∷ more) h = (tt, uses-below variables (x ∷ before) more (h .2))
+  uses-below variables before (binding x signed n placed ∷ more) h = (tt, uses-below variables (x ∷ before) more (h .2))
 
   rules-below : (earlier : List Name) (b : ℕ) (rs : List Rule) → RulesNamed (map rule-name all) earlier rs → AllRules (λ b r. UseBelow (all-constructs all) (body-of 0 all)) b rs
   unfolding RulesNamed AllRules
@@ -76,11 +77,11 @@ bodies-in-range t e =
 
 -- ---- widths
 
--- 1 to 32 bits, or 8 for each character; whatever comes next
+-- 1 to 64 bits, or 8 for each character; whatever comes next
 pub record Wide (wide : Bits → ℕ) : Type 0 where
   pub bits : ℕ
   pub always : (s : Bits) → wide s ≡ bits
-  pub right : ((1 ≤ bits) × (bits ≤ 32)) ⊎ ((k : ℕ) × (bits ≡ 8 * k))
+  pub right : ((1 ≤ bits) × (bits ≤ max-width)) ⊎ ((k : ℕ) × (bits ≡ 8 * k))
 
 abbrev pub WideNode : TreeNode → Type 0
 WideNode (alternative is) = Unit {0}
@@ -93,17 +94,17 @@ WideNode frame-end = Unit {0}
 
 abbrev WidePiece : Piece → Type 0
 WidePiece (use-of-rule x) = Unit {0}
-WidePiece (width n) = (1 ≤ n .value) × (n .value ≤ 32)
+WidePiece (width most n) = (1 ≤ n .value) × (n .value ≤ most)
 WidePiece (formula f) = Unit {0}
-WidePiece (binding x n placed) = Unit {0}
+WidePiece (binding x signed n placed) = Unit {0}
 
 widths-follow : (body variable : List ℕ → ℕ) → Follows body variable WideNode WidePiece
 widths-follow body variable =
     record {
       literals = λ bytes. record { bits = 8 * length bytes; always = λ s. refl; right = inr (length bytes, refl) };
       ranges = λ low high. record { bits = 8; always = λ s. refl; right = inl (omega arith, omega arith) };
-      fields = λ d n x a b. record { bits = n .value; always = λ s. refl; right = inl a };
-      binders = λ d n x y placed a b c. record { bits = n .value; always = λ s. refl; right = inl a };
+      fields = λ d signed n x a b. record { bits = n .value; always = λ s. refl; right = inl a };
+      binders = λ d signed most n x y placed fits a b c. record { bits = n .value; always = λ s. refl; right = inl (a .0, omega (arith, a .1, fits)) };
       rule-uses = λ x a. tt;
       ends = tt;
       switches = λ which optional is. tt;
@@ -116,9 +117,9 @@ widths-right : (widest : List ℕ → ℕ) (ps : List Piece) → PiecesFit wides
 unfolding PiecesFit AllPieces
 widths-right widest [] h = tt
 widths-right widest (use-of-rule x ∷ more) h = (tt, widths-right widest more h)
-widths-right widest (width n ∷ more) h = ((h .0, h .1), widths-right widest more (h .2))
-widths-right widest (formula f ∷ more) h = (tt, widths-right widest more (h .2))
-widths-right widest (binding x n placed ∷ more) h = (tt, widths-right widest more h)
+widths-right widest (width most n ∷ more) h = ((h .0, h .1), widths-right widest more (h .2))
+widths-right widest (formula f ∷ more) h = (tt, widths-right widest more (h .1))
+widths-right widest (binding x signed n placed ∷ more) h = (tt, widths-right widest more h)
 
 rules-wide : (b : ℕ) (rs : List Rule) → RulesFit rs → AllRules (λ b r. WidePiece) b rs
 unfolding RulesFit AllRules

@@ -1,6 +1,6 @@
 -- Values that are bound stay within their variables' widths; so, where 6 and 8 are not given, no calculation of a rule passes 2^62 at any values that a run meets.
 -- Assumes nothing.
-use Prim.Native.Nat.{ℕ, _+_, _-_, _^_, _≤_}
+use Prim.Native.Nat.{ℕ, _+_, _^_, _≤_}
 use mathlib.Core.Path.{_≡_, subst}
 use mathlib.Core.Logic.{⊎-elim}
 use mathlib.Core.Bool.{true}
@@ -9,6 +9,7 @@ use mathlib.Core.Option.{none}
 use native.Mathlib.Omega.{arith}
 use lib.IntN.{pos, natAbs}
 use lib.ListN.{length, getD}
+use Rattle.basis.specs.Patterns.{greatest-size}
 use Rattle.basis.proofs.Booleans.{picked, either-first, either-second, either-cases}
 use Rattle.text_header.proofs.Runs.{word-equal}
 use Rattle.text_tokens.specs.Names.{is-same}
@@ -26,24 +27,24 @@ use Rattle.tree_meaning.proofs.Numbers.{among-later}
 -- ---- values of a rule's variables
 
 module _ (variable : List ℕ → ℕ) where
-  -- each binder's is at most the largest number of its width
+  -- each binder's is at most the largest of its width, in size
   unfoldable pub Held : Values → List Piece → Type 0
   Held v [] = Unit {0}
   Held v (use-of-rule x ∷ more) = Held v more
-  Held v (width n ∷ more) = Held v more
+  Held v (width most n ∷ more) = Held v more
   Held v (formula f ∷ more) = Held v more
-  Held v (binding x n placed ∷ more) = (natAbs (getD v (variable (x .letters)) (pos 0)) ≤ 2 ^ n .value - 1) × Held v more
+  Held v (binding x signed n placed ∷ more) = (natAbs (getD v (variable (x .letters)) (pos 0)) ≤ greatest-size signed (n .value)) × Held v more
 
   -- so is that of each name that is bound
   pub known-within : (v : Values) (ps : List Piece) (x : Name) → Held v ps → is-among (bound-in ps) x ≡ true → natAbs (getD v (variable (x .letters)) (pos 0)) ≤ widest-in ps (x .letters)
   unfolding Held bound-in is-among widest-in
   known-within v [] x h k = let z : _≡_ {A = ℕ} 0 1 = cc in absurd (omega arith)
   known-within v (use-of-rule y ∷ more) x h k = known-within v more x h k
-  known-within v (width n ∷ more) x h k = known-within v more x h k
+  known-within v (width most n ∷ more) x h k = known-within v more x h k
   known-within v (formula f ∷ more) x h k = known-within v more x h k
-  known-within v (binding y n placed ∷ more) x h k =
+  known-within v (binding y signed n placed ∷ more) x h k =
       picked (λ (w : ℕ). natAbs (getD v (variable (x .letters)) (pos 0)) ≤ w) (is-same (y .letters) (x .letters))
-      (λ e. subst (λ (l : List ℕ). natAbs (getD v (variable l) (pos 0)) ≤ 2 ^ n .value - 1) (word-equal (y .letters) (x .letters) e) (h .0))
+      (λ e. subst (λ (l : List ℕ). natAbs (getD v (variable l) (pos 0)) ≤ greatest-size signed (n .value)) (word-equal (y .letters) (x .letters) e) (h .0))
       (λ e. known-within v more x (h .1) (among-later y (bound-in more) x e k))
 
 -- ---- calculations at such values
@@ -58,9 +59,9 @@ module _ (env : Environment) where
   unfoldable pub AllValued : List Piece → Type 0
   AllValued [] = Unit {0}
   AllValued (use-of-rule x ∷ more) = AllValued more
-  AllValued (width n ∷ more) = AllValued more
+  AllValued (width most n ∷ more) = AllValued more
   AllValued (formula f ∷ more) = Valued f × AllValued more
-  AllValued (binding x n placed ∷ more) = AllValued more
+  AllValued (binding x signed n placed ∷ more) = AllValued more
 
 module _ (env : Environment) (widest : List ℕ → ℕ) where
   -- the variable that a name is has a value within its width
@@ -87,10 +88,10 @@ module _ (env : Environment) (widest : List ℕ → ℕ) where
   unfolding bound-in is-among NamesRight PiecesFit AllValued
   pieces-valued rules variables before [] a b h k = tt
   pieces-valued rules variables before (use-of-rule x ∷ more) a b h k = pieces-valued rules variables before more a b (h .2) k
-  pieces-valued rules variables before (width n ∷ more) a b h k = pieces-valued rules variables before more a b h (k .2)
+  pieces-valued rules variables before (width most n ∷ more) a b h k = pieces-valued rules variables before more a b h (k .2)
   pieces-valued rules variables before (formula f ∷ more) a b h k =
-      (formula-valued f (terms-within before a (terms-of f) (h .0)) (k .1), pieces-valued rules variables before more a b (h .1) (k .2))
-  pieces-valued rules variables before (binding y n placed ∷ more) a b h k =
+      (formula-valued f (terms-within before a (terms-of f) (h .0)) (k .0), pieces-valued rules variables before more a b (h .1) (k .1))
+  pieces-valued rules variables before (binding y signed n placed ∷ more) a b h k =
       pieces-valued rules variables (y ∷ before) more
       (λ x e. ⊎-elim (λ f. b x (either-first (is-same (y .letters) (x .letters)) (is-among (bound-in more) x) f)) (λ f. a x f) (either-cases (is-same (y .letters) (x .letters)) (is-among before x) e))
       (λ x e. b x (either-second (is-same (y .letters) (x .letters)) (is-among (bound-in more) x) e)) (h .2) k

@@ -1,7 +1,7 @@
 -- Where 6 is not given, every field of a text's grammar leaves the variables' values within their widths, if they were so before it: what a run or a derivation
 -- meets is within them from the start on.
 -- Assumes nothing.
-use Prim.Native.Nat.{ℕ, _+_, _-_, _^_, _≤_, _<_}
+use Prim.Native.Nat.{ℕ, _+_, _≤_, _<_}
 use mathlib.Core.Path.{_≡_, subst, sym}
 use mathlib.Core.Logic.{_⊎_, inl, inr, ⊎-elim}
 use mathlib.Core.List.{List, [], _∷_}
@@ -10,7 +10,8 @@ use native.Mathlib.Omega.{arith}
 use lib.IntN.{ℤ, pos, natAbs}
 use lib.ListN.{length, set, replicate}
 use lib.Seq.{getD-set-other}
-use Rattle.basis.specs.Bits.{Bits, value as number-of}
+use Rattle.basis.specs.Bits.{Bits}
+use Rattle.basis.specs.Patterns.{pattern-value, greatest-size}
 use Rattle.theory.specs.Grammar.{alternative, concatenation as sequence, repetition, switch as choice-by, use-of, field as bits-of, eod as frame-end}
 use Rattle.tree.specs.Lexemes.{Name}
 use Rattle.tree.specs.Tree.{Rule, Rules}
@@ -38,9 +39,9 @@ Keeps P frame-end = Unit {0}
 -- so does the binding of a variable
 abbrev pub BindingKeeps : (Values → Type 0) → (variable : List ℕ → ℕ) → Piece → Type 0
 BindingKeeps P variable (use-of-rule x) = Unit {0}
-BindingKeeps P variable (width n) = Unit {0}
+BindingKeeps P variable (width most n) = Unit {0}
 BindingKeeps P variable (formula f) = Unit {0}
-BindingKeeps P variable (binding x n placed) = (v : Values) (bits : Bits) → length bits ≡ n .value → P v → P (set v (variable (x .letters)) (pos (number-of bits)))
+BindingKeeps P variable (binding x signed n placed) = (v : Values) (bits : Bits) → length bits ≡ n .value → P v → P (set v (variable (x .letters)) (pattern-value signed bits))
 
 -- no other construct changes a value
 keeping : (P : Values → Type 0) (body variable : List ℕ → ℕ) → Follows body variable (Keeps P) (BindingKeeps P variable)
@@ -48,8 +49,8 @@ keeping P body variable =
     record {
       literals = λ bytes c v bits e k. k;
       ranges = λ low high c v bits e k. k;
-      fields = λ d n x a b c v bits e k. k;
-      binders = λ d n x y placed a b keeps c v bits e k. keeps v bits e k;
+      fields = λ d signed n x a b c v bits e k. k;
+      binders = λ d signed most n x y placed fits a b keeps c v bits e k. keeps v bits e k;
       rule-uses = λ x a. tt;
       ends = tt;
       switches = λ which optional is. tt;
@@ -65,14 +66,14 @@ outside : (b : ℕ) (whole : List Piece) (v : Values) (k : ℕ) (a : ℤ) (ps : 
 unfolding Own Held
 outside b whole v k a [] far o h = tt
 outside b whole v k a (use-of-rule y ∷ more) far o h = outside b whole v k a more far o h
-outside b whole v k a (width n ∷ more) far o h = outside b whole v k a more far o h
+outside b whole v k a (width most n ∷ more) far o h = outside b whole v k a more far o h
 outside b whole v k a (formula f ∷ more) far o h = outside b whole v k a more far o h
-outside b whole v k a (binding y n placed ∷ more) far o h =
+outside b whole v k a (binding y signed n placed ∷ more) far o h =
     let i = variable-of b (bound-in whole) (y .letters) in
     let other : i ≡ k → ⊥ = λ e.
     ⊎-elim {C = ⊥} (λ f. absurd (omega (arith, e, f, variable-from b (bound-in whole) (y .letters))))
     (λ f. absurd (omega (arith, e, f, variable-under b (bound-in whole) y (o .1)))) far
-    in (subst (λ (z : ℤ). natAbs z ≤ 2 ^ n .value - 1) (sym (getD-set-other v k i a (pos 0) other)) (h .0), outside b whole v k a more far (o .2) (h .1))
+    in (subst (λ (z : ℤ). natAbs z ≤ greatest-size signed (n .value)) (sym (getD-set-other v k i a (pos 0) other)) (h .0), outside b whole v k a more far (o .2) (h .1))
 
 rules-outside : (rules earlier : List Name) (b : ℕ) (v : Values) (k : ℕ) (a : ℤ) (rs : List Rule) → k < b → RulesNamed rules earlier rs → RulesHeld b v rs → RulesHeld b (set v k a) rs
 unfolding RulesNamed RulesHeld
@@ -93,15 +94,15 @@ module _ (P : Values → Type 0) where
   unfolding Own AllPieces RulesHeld
   own-bindings rules earlier Q b r more split join stable right own [] o = tt
   own-bindings rules earlier Q b r more split join stable right own (use-of-rule x ∷ ps) o = (tt, own-bindings rules earlier Q b r more split join stable right own ps o)
-  own-bindings rules earlier Q b r more split join stable right own (width n ∷ ps) o = (tt, own-bindings rules earlier Q b r more split join stable right own ps o)
+  own-bindings rules earlier Q b r more split join stable right own (width most n ∷ ps) o = (tt, own-bindings rules earlier Q b r more split join stable right own ps o)
   own-bindings rules earlier Q b r more split join stable right own (formula f ∷ ps) o = (tt, own-bindings rules earlier Q b r more split join stable right own ps o)
-  own-bindings rules earlier Q b r more split join stable right own (binding x n placed ∷ ps) o = (
+  own-bindings rules earlier Q b r more split join stable right own (binding x signed n placed ∷ ps) o = (
     (λ v bits e p.
         let q = split v p in
         let k = variable-of b (variables-of r) (x .letters) in
-        join (set v k (pos (number-of bits))) (stable v k (pos (number-of bits)) (variable-from b (variables-of r) (x .letters)) (q .0)) (
-          stays-held b (rule-pieces r) x (n .value) (o .0) (o .1) bits e v (rule-pieces r) own (q .1 .0),
-          rules-outside rules earlier (b + length (variables-of r)) v k (pos (number-of bits)) more (variable-under b (variables-of r) x (o .1)) right (q .1 .1),
+        join (set v k (pattern-value signed bits)) (stable v k (pattern-value signed bits) (variable-from b (variables-of r) (x .letters)) (q .0)) (
+          stays-held b (rule-pieces r) x signed (n .value) (o .0) (o .1) bits e v (rule-pieces r) own (q .1 .0),
+          rules-outside rules earlier (b + length (variables-of r)) v k (pattern-value signed bits) more (variable-under b (variables-of r) x (o .1)) right (q .1 .1),
         )),
     own-bindings rules earlier Q b r more split join stable right own ps (o .2),
   )

@@ -11,6 +11,7 @@ pub mod Unreached
 pub mod ReachCases
 pub mod Valued
 pub mod ValueCases
+pub mod SignedCases
 pub mod LeastLaws
 pub mod Bounds
 pub mod Lengths

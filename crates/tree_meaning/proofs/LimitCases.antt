@@ -1,6 +1,7 @@
 -- Trees at a limit and one past it (5), made by repetition: none where no total is passed, else the place of the first rule in which one is.
 -- Assumes nothing.
 use Prim.Native.Nat.{ℕ, zero, suc, _*_}
+use mathlib.Core.Bool.{false}
 use mathlib.Core.Path.{_≡_, refl}
 use mathlib.Core.Option.{none, some}
 use lib.Dec.{lit<}
@@ -49,7 +50,7 @@ constructs-of-three = refl
 
 -- "64 variables": binders as written, of one name too
 bound : Tree atom 0
-bound = binder (lit< tt) (at 0) (at 0) (num 0 0 8) (at 0) (at 0) (at 0) (name 0 "n") (at 0) (last-choice (item (everything (at 0)))) (at 0) (at 0)
+bound = binder false (lit< tt) (at 0) (at 0) (num 0 0 8) (at 0) (at 0) (at 0) (name 0 "n") (at 0) (last-choice (item (everything (at 0)))) (at 0) (at 0)
 
 variables-64 : place-five (judgement (rules 0 1 (chain 31 bound))) ≡ none
 unfolding judgement rules ruled chain bound

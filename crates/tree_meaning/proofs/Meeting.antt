@@ -27,8 +27,8 @@ selves P body variable =
     record {
       literals = λ bytes. same-field (λ c v bits p. refl) (λ c v bits e p. p);
       ranges = λ low high. same-field (λ c v bits p. refl) (λ c v bits e p. p);
-      fields = λ d n x a b. same-field (λ c v bits p. refl) (λ c v bits e p. p);
-      binders = λ d n x y placed a b keeps. same-field (λ c v bits p. refl) (λ c v bits e p. keeps v bits e p);
+      fields = λ d signed n x a b. same-field (λ c v bits p. refl) (λ c v bits e p. p);
+      binders = λ d signed most n x y placed fits a b keeps. same-field (λ c v bits p. refl) (λ c v bits e p. keeps v bits e p);
       rule-uses = λ x a. same-use (λ c v p. p) (λ v v′ p q. q);
       ends = same-eod;
       switches = λ which optional is. same-switch (λ c v p. refl);

@@ -18,17 +18,17 @@ use Rattle.tree_meaning.proofs.Passing.{UsesRight, NamesRight, RulesNam
 unfoldable pub Unplaced : List Piece → Type 0
 Unplaced [] = Unit {0}
 Unplaced (use-of-rule x ∷ more) = Unplaced more
-Unplaced (width n ∷ more) = Unplaced more
+Unplaced (width most n ∷ more) = Unplaced more
 Unplaced (formula f ∷ more) = Unplaced more
-Unplaced (binding x n placed ∷ more) = (placed ≡ false) × Unplaced more
+Unplaced (binding x signed n placed ∷ more) = (placed ≡ false) × Unplaced more
 
 unplaced-both : (ps qs : List Piece) → Unplaced ps → Unplaced qs → Unplaced (ps ++ qs)
 unfolding Unplaced
 unplaced-both [] qs p q = q
 unplaced-both (use-of-rule x ∷ more) qs p q = unplaced-both more qs p q
-unplaced-both (width n ∷ more) qs p q = unplaced-both more qs p q
+unplaced-both (width most n ∷ more) qs p q = unplaced-both more qs p q
 unplaced-both (formula f ∷ more) qs p q = unplaced-both more qs p q
-unplaced-both (binding x n placed ∷ more) qs p q = (p .0, unplaced-both more qs (p .1) q)
+unplaced-both (binding x signed n placed ∷ more) qs p q = (p .0, unplaced-both more qs (p .1) q)
 
 unplaced-mark : (m : Mark) → Unplaced (mark-pieces m)
 unfolding Unplaced
@@ -63,43 +63,43 @@ unplaced (or-branches x s more) = unplaced-both (pieces false x) (pieces false m
 unfoldable pub Sees : List Name → List Piece → Type 0
 Sees names [] = Unit {0}
 Sees names (use-of-rule x ∷ more) = Sees names more
-Sees names (width n ∷ more) = Sees names more
+Sees names (width most n ∷ more) = Sees names more
 Sees names (formula f ∷ more) = UsesRight names (uses-in (terms-of f)) × Sees names more
-Sees names (binding x n placed ∷ more) = Sees names more
+Sees names (binding x signed n placed ∷ more) = Sees names more
 
 -- the names bound by these and before them, the last first
 unfoldable pub bound-after : List Name → List Piece → List Name
 bound-after before [] = before
 bound-after before (use-of-rule x ∷ more) = bound-after before more
-bound-after before (width n ∷ more) = bound-after before more
+bound-after before (width most n ∷ more) = bound-after before more
 bound-after before (formula f ∷ more) = bound-after before more
-bound-after before (binding x n placed ∷ more) = bound-after (x ∷ before) more
+bound-after before (binding x signed n placed ∷ more) = bound-after (x ∷ before) more
 
 module _ (rules variables : List Name) where
   right-first : (before : List Name) (ps qs : List Piece) → NamesRight rules variables before (ps ++ qs) → NamesRight rules variables before ps
   unfolding NamesRight
   right-first before [] qs h = tt
   right-first before (use-of-rule x ∷ more) qs h = (h .0, h .1, right-first before more qs (h .2))
-  right-first before (width n ∷ more) qs h = right-first before more qs h
+  right-first before (width most n ∷ more) qs h = right-first before more qs h
   right-first before (formula f ∷ more) qs h = (h .0, right-first before more qs (h .1))
-  right-first before (binding x n placed ∷ more) qs h = (h .0, h .1, right-first (x ∷ before) more qs (h .2))
+  right-first before (binding x signed n placed ∷ more) qs h = (h .0, h .1, right-first (x ∷ before) more qs (h .2))
 
   right-second : (before : List Name) (ps qs : List Piece) → NamesRight rules variables before (ps ++ qs) → NamesRight rules variables (bound-after before ps) qs
   unfolding NamesRight bound-after
   right-second before [] qs h = h
   right-second before (use-of-rule x ∷ more) qs h = right-second before more qs (h .2)
-  right-second before (width n ∷ more) qs h = right-second before more qs h
+  right-second before (width most n ∷ more) qs h = right-second before more qs h
   right-second before (formula f ∷ more) qs h = right-second before more qs (h .1)
-  right-second before (binding x n placed ∷ more) qs h = right-second (x ∷ before) more qs (h .2)
+  right-second before (binding x signed n placed ∷ more) qs h = right-second (x ∷ before) more qs (h .2)
 
   -- a part that binds nothing in its place binds nothing
   sees-before : (before : List Name) (ps : List Piece) → Unplaced ps → NamesRight rules variables before ps → Sees before ps
   unfolding NamesRight Unplaced Sees
   sees-before before [] u h = tt
   sees-before before (use-of-rule x ∷ more) u h = sees-before before more u (h .2)
-  sees-before before (width n ∷ more) u h = sees-before before more u h
+  sees-before before (width most n ∷ more) u h = sees-before before more u h
   sees-before before (formula f ∷ more) u h = (h .0, sees-before before more u (h .1))
-  sees-before before (binding x n placed ∷ more) u h = let e : true ≡ false = sym (h .1) ∙ u .0 in let z : _≡_ {A = ℕ} 0 1 = cc in absurd (omega arith)
+  sees-before before (binding x signed n placed ∷ more) u h = let e : true ≡ false = sym (h .1) ∙ u .0 in let z : _≡_ {A = ℕ} 0 1 = cc in absurd (omega arith)
 
   -- ---- members
 

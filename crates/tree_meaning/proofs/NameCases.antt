@@ -1,5 +1,6 @@
 -- Names that are right, and names that are at fault (6): each with its place.
 -- Assumes nothing.
+use mathlib.Core.Bool.{false}
 use mathlib.Core.Path.{_≡_, refl}
 use mathlib.Core.Option.{none, some}
 use lib.Dec.{lit<}

@@ -1,6 +1,6 @@
 -- What holds of a tree for which 5, 6 or 8 is not given: totals, names and sizes, piece by piece.
 -- Assumes nothing.
-use Prim.Native.Nat.{ℕ, _+_, _≤_}
+use Prim.Native.Nat.{ℕ, _+_, _*_, _^_, _≤_}
 use mathlib.Core.Path.{_≡_}
 use mathlib.Core.Bool.{true, false, not, _&&_, _||_}
 use mathlib.Core.List.{List, [], _∷_, _++_}
@@ -11,13 +11,14 @@ use lib.Dec.{leb, ltb}
 use lib.ListN.{length}
 use Rattle.basis.proofs.Booleans.{both-first, both-second, neither-first, neither-second, not-false}
 use Rattle.tree.specs.Lexemes.{Name}
-use Rattle.tree.specs.Tree.{Rule, Rules}
+use Rattle.tree.specs.Tree.{Primary, number, variable, Operand, plain, opposite, Factors, no-factor, times, Product, product, Summands, no-summand, plus, minus, Calculation, sum, Rule, Rules}
 use Rattle.tree.specs.Spelling.{spell-calculation}
-use Rattle.tree_meaning.specs.Pieces.{Term, a-number, a-use, a-sign, Component, whole-number, joined-by, terms-of, uses-in, Piece, use-of-rule, width, formula, binding, rules-of, rule-name, rule-pieces, variables-of}
+use Rattle.tree_meaning.specs.Pieces.{Term, a-number, a-use, a-sign, primary-terms, operand-terms, factor-terms, product-terms, summand-terms, calculation-terms, Component, whole-number, joined-by, terms-of, uses-in, Piece, use-of-rule, width, formula, binding, rules-of, rule-name, rule-pieces, variables-of}
 use Rattle.tree_meaning.specs.Places.{place-if, first-byte}
 use Rattle.tree_meaning.specs.Counted.{Totals, no-rule, with-rule, is-past, limit-faults, refusal-5, terms}
 use Rattle.tree_meaning.specs.Names.{is-reserved, is-among, rule-fault, use-fault, binder-fault, variable-fault, variable-faults, faults-after, name-faults, rule-names, refusal-6}
-use Rattle.tree_meaning.specs.Sizes.{wrong-width, wrong-number, number-faults, widest-in, too-large, calculation-faults, faults-in, size-faults, refusal-8}
+use Rattle.tree_meaning.specs.Sizes.{primary-size, operand-size, product-size, times-largest, product-largest, sum-largest, calculation-largest, wrong-width, widest-in, too-large, calculation-faults, faults-in, size-faults, refusal-8}
+use Rattle.tree_meaning.proofs.Bounds.{times-part}
 use Rattle.tree_meaning.proofs.LeastLaws.{no-place, no-first, no-second, no-least}
 use Rattle.tree_meaning.proofs.Lengths.{all-constructs}
 
@@ -27,19 +28,51 @@ use Rattle.tree_meaning.proofs.Lengths.{all-constructs}
 
 unfoldable pub NumbersFit : List Term → Type 0
 NumbersFit [] = Unit {0}
-NumbersFit (a-number n ∷ more) = (n .value ≤ 4294967295) × NumbersFit more
+NumbersFit (a-number n ∷ more) = (n .value ≤ 2 ^ 62) × NumbersFit more
 NumbersFit (a-use x ∷ more) = NumbersFit more
 NumbersFit (a-sign s ∷ more) = NumbersFit more
 
-numbers-fit : (ts : List Term) → number-faults ts ≡ [] → NumbersFit ts
-unfolding NumbersFit number-faults
-numbers-fit [] e = tt
-numbers-fit (a-number n ∷ more) e = (
-  ltb-false 4294967295 (n .value) (no-place (wrong-number n) (n .start) (no-first (place-if (wrong-number n) (n .start)) (number-faults more) e)),
-  numbers-fit more (no-second (place-if (wrong-number n) (n .start)) (number-faults more) e),
-)
-numbers-fit (a-use x ∷ more) e = numbers-fit more e
-numbers-fit (a-sign s ∷ more) e = numbers-fit more e
+numbers-both : (xs ys : List Term) → NumbersFit xs → NumbersFit ys → NumbersFit (xs ++ ys)
+unfolding NumbersFit
+numbers-both [] ys p q = q
+numbers-both (a-number n ∷ more) ys p q = (p .0, numbers-both more ys (p .1) q)
+numbers-both (a-use x ∷ more) ys p q = numbers-both more ys p q
+numbers-both (a-sign s ∷ more) ys p q = numbers-both more ys p q
+
+-- the numbers of a calculation are parts of it
+module _ (widest : List ℕ → ℕ) where
+  primary-numbers : (x : Primary) → primary-size widest x ≤ 2 ^ 62 → NumbersFit (primary-terms x)
+  unfolding NumbersFit
+  primary-numbers (number n) h = (h, tt)
+  primary-numbers (variable x) h = tt
+
+  operand-numbers : (x : Operand) → operand-size widest x ≤ 2 ^ 62 → NumbersFit (operand-terms x)
+  unfolding NumbersFit
+  operand-numbers (plain x) h = primary-numbers x h
+  operand-numbers (opposite s x) h = primary-numbers x h
+
+  factor-numbers : (k : ℕ) (more : Factors) → times-largest widest k more ≤ 2 ^ 62 → NumbersFit (factor-terms more)
+  unfolding NumbersFit factor-terms times-largest
+  factor-numbers k no-factor h = tt
+  factor-numbers k (times s x more) h =
+      numbers-both (operand-terms x) (factor-terms more) (operand-numbers x (omega arith)) (factor-numbers (k * operand-size widest x) more (omega arith))
+
+  product-numbers : (x : Product) → product-largest widest x ≤ 2 ^ 62 → NumbersFit (product-terms x)
+  product-numbers (product x more) h =
+      let p = times-part widest (operand-size widest x) more in
+      numbers-both (operand-terms x) (factor-terms more) (operand-numbers x (omega arith)) (factor-numbers (operand-size widest x) more h)
+
+  summand-numbers : (k : ℕ) (more : Summands) → sum-largest widest k more ≤ 2 ^ 62 → NumbersFit (summand-terms more)
+  unfolding NumbersFit summand-terms sum-largest
+  summand-numbers k no-summand h = tt
+  summand-numbers k (plus s x more) h =
+      numbers-both (product-terms x) (summand-terms more) (product-numbers x (omega arith)) (summand-numbers (k + product-size widest x) more (omega arith))
+  summand-numbers k (minus s x more) h =
+      numbers-both (product-terms x) (summand-terms more) (product-numbers x (omega arith)) (summand-numbers (k + product-size widest x) more (omega arith))
+
+  calculation-numbers : (c : Calculation) → calculation-largest widest c ≤ 2 ^ 62 → NumbersFit (calculation-terms c)
+  calculation-numbers (sum x more) h =
+      numbers-both (product-terms x) (summand-terms more) (product-numbers x (omega arith)) (summand-numbers (product-size widest x) more (omega arith))
 
 module _ (widest : List ℕ → ℕ) where
   unfoldable pub CalculationsFit : List Component → Type 0
@@ -57,30 +90,36 @@ module _ (widest : List ℕ → ℕ) where
       )
   calculations-fit (joined-by s ∷ more) e = calculations-fit more e
 
+  -- a number past 2^62 is a calculation that passes it
+  pub numbers-fit : (f : List Component) → CalculationsFit f → NumbersFit (terms-of f)
+  unfolding CalculationsFit NumbersFit terms-of
+  numbers-fit [] h = tt
+  numbers-fit (whole-number c ∷ more) h =
+      numbers-both (calculation-terms c) (terms-of more) (calculation-numbers widest c (ltb-false (2 ^ 62) (calculation-largest widest c) (h .0))) (numbers-fit more (h .1))
+  numbers-fit (joined-by s ∷ more) h = numbers-fit more h
+
   unfoldable pub PiecesFit : List Piece → Type 0
   PiecesFit [] = Unit {0}
   PiecesFit (use-of-rule x ∷ more) = PiecesFit more
-  PiecesFit (width n ∷ more) = (1 ≤ n .value) × (n .value ≤ 32) × PiecesFit more
-  PiecesFit (formula f ∷ more) = NumbersFit (terms-of f) × CalculationsFit f × PiecesFit more
-  PiecesFit (binding x n placed ∷ more) = PiecesFit more
+  PiecesFit (width most n ∷ more) = (1 ≤ n .value) × (n .value ≤ most) × PiecesFit more
+  PiecesFit (formula f ∷ more) = CalculationsFit f × PiecesFit more
+  PiecesFit (binding x signed n placed ∷ more) = PiecesFit more
 
   pieces-fit : (ps : List Piece) → faults-in widest ps ≡ [] → PiecesFit ps
   unfolding PiecesFit faults-in
   pieces-fit [] e = tt
   pieces-fit (use-of-rule x ∷ more) e = pieces-fit more e
-  pieces-fit (width n ∷ more) e =
-      let b = not-false (leb 1 (n .value) && leb (n .value) 32) (no-place (wrong-width n) (n .start) (no-first (place-if (wrong-width n) (n .start)) (faults-in widest more) e)) in (
-        leb-true 1 (n .value) (both-first (leb 1 (n .value)) (leb (n .value) 32) b),
-        leb-true (n .value) 32 (both-second (leb 1 (n .value)) (leb (n .value) 32) b),
-        pieces-fit more (no-second (place-if (wrong-width n) (n .start)) (faults-in widest more) e),
+  pieces-fit (width most n ∷ more) e =
+      let b = not-false (leb 1 (n .value) && leb (n .value) most) (no-place (wrong-width most n) (n .start) (no-first (place-if (wrong-width most n) (n .start)) (faults-in widest more) e)) in (
+        leb-true 1 (n .value) (both-first (leb 1 (n .value)) (leb (n .value) most) b),
+        leb-true (n .value) most (both-second (leb 1 (n .value)) (leb (n .value) most) b),
+        pieces-fit more (no-second (place-if (wrong-width most n) (n .start)) (faults-in widest more) e),
       )
-  pieces-fit (formula f ∷ more) e =
-      let r = no-second (number-faults (terms-of f)) (calculation-faults widest f ++ faults-in widest more) e in (
-        numbers-fit (terms-of f) (no-first (number-faults (terms-of f)) (calculation-faults widest f ++ faults-in widest more) e),
-        calculations-fit f (no-first (calculation-faults widest f) (faults-in widest more) r),
-        pieces-fit more (no-second (calculation-faults widest f) (faults-in widest more) r),
-      )
-  pieces-fit (binding x n placed ∷ more) e = pieces-fit more e
+  pieces-fit (formula f ∷ more) e = (
+    calculations-fit f (no-first (calculation-faults widest f) (faults-in widest more) e),
+    pieces-fit more (no-second (calculation-faults widest f) (faults-in widest more) e),
+  )
+  pieces-fit (binding x signed n placed ∷ more) e = pieces-fit more e
 
 -- each rule, with its own variables
 unfoldable pub RulesFit : List Rule → Type 0
@@ -116,9 +155,9 @@ module _ (rules variables : List Name) where
   unfoldable pub NamesRight : (before : List Name) → List Piece → Type 0
   NamesRight before [] = Unit {0}
   NamesRight before (use-of-rule x ∷ more) = (is-among rules x ≡ true) × (is-among variables x ≡ false) × NamesRight before more
-  NamesRight before (width n ∷ more) = NamesRight before more
+  NamesRight before (width most n ∷ more) = NamesRight before more
   NamesRight before (formula f ∷ more) = UsesRight before (uses-in (terms-of f)) × NamesRight before more
-  NamesRight before (binding x n placed ∷ more) = (is-among before x ≡ false) × (placed ≡ true) × NamesRight (x ∷ before) more
+  NamesRight before (binding x signed n placed ∷ more) = (is-among before x ≡ false) × (placed ≡ true) × NamesRight (x ∷ before) more
 
   names-right : (before : List Name) (ps : List Piece) → faults-after rules variables before ps ≡ [] → NamesRight before ps
   unfolding NamesRight faults-after
@@ -128,12 +167,12 @@ module _ (rules variables : List Name) where
       let b = no-second (place-if (use-fault rules variables x) (x .start)) (faults-after rules variables before more) e in
       let c = neither-second (is-reserved x) (not (is-among rules x) || is-among variables x) (no-place (use-fault rules variables x) (x .start) a) in
       (not-false (is-among rules x) (neither-first (not (is-among rules x)) (is-among variables x) c), neither-second (not (is-among rules x)) (is-among variables x) c, names-right before more b)
-  names-right before (width n ∷ more) e = names-right before more e
+  names-right before (width most n ∷ more) e = names-right before more e
   names-right before (formula f ∷ more) e = (
     uses-right before (uses-in (terms-of f)) (no-first (variable-faults before (uses-in (terms-of f))) (faults-after rules variables before more) e),
     names-right before more (no-second (variable-faults before (uses-in (terms-of f))) (faults-after rules variables before more) e),
   )
-  names-right before (binding x n placed ∷ more) e =
+  names-right before (binding x signed n placed ∷ more) e =
       let a = no-first (place-if (binder-fault before placed x) (x .start)) (faults-after rules variables (x ∷ before) more) e in
       let b = no-second (place-if (binder-fault before placed x) (x .start)) (faults-after rules variables (x ∷ before) more) e in
       let c = neither-second (is-reserved x) (is-among before x || not placed) (no-place (binder-fault before placed x) (x .start) a) in

@@ -1,5 +1,6 @@
 -- Numbers, widths and calculations within their limits and outside (8): each with its place.
 -- Assumes nothing.
+use mathlib.Core.Bool.{true, false}
 use mathlib.Core.Path.{_≡_, refl}
 use mathlib.Core.Option.{none, some}
 use lib.Dec.{lit<}
@@ -7,7 +8,7 @@ use Rattle.tree.specs.Tree.{number, variable, plain, opposite, no-factor, times
 use Rattle.tree_meaning.proofs.Building.{at, over, name, num, quote}
 use Rattle.tree_meaning.proofs.Computing.{tokens, written, judgement, place-eight}
 
--- `a = uint(0, ~);`: "width a number from 1 to 32"
+-- `a = uint(0, ~);`: "width a number from 1"
 unfoldable pub width-0 : Rules
 width-0 = last-rule (rule (name 0 "a") (at 2) (last-branch (last-member (once (field false (lit< tt) (over 4 8) (at 8) (num 9 10 0) (at 10) (last-choice (item (everything (at 12)))) (at 13))))) (at 14))
 
@@ -19,43 +20,91 @@ width-0-eight : place-eight (judgement width-0) ≡ some 9
 unfolding judgement width-0
 width-0-eight = refl
 
--- `a = uint(1, ~) & uint(32, ~) & uint(33, ~);`
-unfoldable pub width-33 : Rules
-width-33 = last-rule (rule (name 0 "a") (at 2) (last-branch (and-members (once (field false (lit< tt) (over 4 8) (at 8) (num 9 10 1) (at 10) (last-choice (item (everything (at 12)))) (at 13))) (at 15) (and-members (once (field false (lit< tt) (over 17 21) (at 21) (num 22 24 32) (at 24) (last-choice (item (everything (at 26)))) (at 27))) (at 29) (last-member (once (field false (lit< tt) (over 31 35) (at 35) (num 36 38 33) (at 38) (last-choice (item (everything (at 40)))) (at 41))))))) (at 42))
+-- `a = uint(1, ~) & uint(64, ~) & uint(65, ~);`: "Widths go to 64" (Req 10)
+unfoldable pub width-65 : Rules
+width-65 = last-rule (rule (name 0 "a") (at 2) (last-branch (and-members (once (field false (lit< tt) (over 4 8) (at 8) (num 9 10 1) (at 10) (last-choice (item (everything (at 12)))) (at 13))) (at 15) (and-members (once (field false (lit< tt) (over 17 21) (at 21) (num 22 24 64) (at 24) (last-choice (item (everything (at 26)))) (at 27))) (at 29) (last-member (once (field false (lit< tt) (over 31 35) (at 35) (num 36 38 65) (at 38) (last-choice (item (everything (at 40)))) (at 41))))))) (at 42))
 
-width-33-read : tokens "a = uint(1, ~) & uint(32, ~) & uint(33, ~);" ≡ written width-33 43
-unfolding tokens written width-33
-width-33-read = refl
+width-65-read : tokens "a = uint(1, ~) & uint(64, ~) & uint(65, ~);" ≡ written width-65 43
+unfolding tokens written width-65
+width-65-read = refl
 
-width-33-eight : place-eight (judgement width-33) ≡ some 36
-unfolding judgement width-33
-width-33-eight = refl
+width-65-eight : place-eight (judgement width-65) ≡ some 36
+unfolding judgement width-65
+width-65-eight = refl
 
--- `a = uint(8, 4294967295 | 4294967296);`: "Numbers: … to 4,294,967,295"
+-- `a = sint(1, ~) & sint(64, ~) & sint(65, ~);`: of a signed field too
+unfoldable pub signed-65 : Rules
+signed-65 = last-rule (rule (name 0 "a") (at 2) (last-branch (and-members (once (field true (lit< tt) (over 4 8) (at 8) (num 9 10 1) (at 10) (last-choice (item (everything (at 12)))) (at 13))) (at 15) (and-members (once (field true (lit< tt) (over 17 21) (at 21) (num 22 24 64) (at 24) (last-choice (item (everything (at 26)))) (at 27))) (at 29) (last-member (once (field true (lit< tt) (over 31 35) (at 35) (num 36 38 65) (at 38) (last-choice (item (everything (at 40)))) (at 41))))))) (at 42))
+
+signed-65-read : tokens "a = sint(1, ~) & sint(64, ~) & sint(65, ~);" ≡ written signed-65 43
+unfolding tokens written signed-65
+signed-65-read = refl
+
+signed-65-eight : place-eight (judgement signed-65) ≡ some 36
+unfolding judgement signed-65
+signed-65-eight = refl
+
+-- `a = uint(62, var(x, ~)) & uint(63, ~) & uint(63, var(y, ~));`: "A binder wider than 62 bits is refusal 8": at its width
+unfoldable pub bound-63 : Rules
+bound-63 = last-rule (rule (name 0 "a") (at 2) (last-branch (and-members (once (binder false (lit< tt) (over 4 8) (at 8) (num 9 11 62) (at 11) (over 13 16) (at 16) (name 17 "x") (at 18) (last-choice (item (everything (at 20)))) (at 21) (at 22))) (at 24) (and-members (once (field false (lit< tt) (over 26 30) (at 30) (num 31 33 63) (at 33) (last-choice (item (everything (at 35)))) (at 36))) (at 38) (last-member (once (binder false (lit< tt) (over 40 44) (at 44) (num 45 47 63) (at 47) (over 49 52) (at 52) (name 53 "y") (at 54) (last-choice (item (everything (at 56)))) (at 57) (at 58))))))) (at 59))
+
+bound-63-read : tokens "a = uint(62, var(x, ~)) & uint(63, ~) & uint(63, var(y, ~));" ≡ written bound-63 60
+unfolding tokens written bound-63
+bound-63-read = refl
+
+bound-63-eight : place-eight (judgement bound-63) ≡ some 45
+unfolding judgement bound-63
+bound-63-eight = refl
+
+-- `a = sint(62, var(x, ~)) & sint(63, ~) & sint(63, var(y, ~));`: of a signed one too
+unfoldable pub signed-bound-63 : Rules
+signed-bound-63 = last-rule (rule (name 0 "a") (at 2) (last-branch (and-members (once (binder true (lit< tt) (over 4 8) (at 8) (num 9 11 62) (at 11) (over 13 16) (at 16) (name 17 "x") (at 18) (last-choice (item (everything (at 20)))) (at 21) (at 22))) (at 24) (and-members (once (field true (lit< tt) (over 26 30) (at 30) (num 31 33 63) (at 33) (last-choice (item (everything (at 35)))) (at 36))) (at 38) (last-member (once (binder true (lit< tt) (over 40 44) (at 44) (num 45 47 63) (at 47) (over 49 52) (at 52) (name 53 "y") (at 54) (last-choice (item (everything (at 56)))) (at 57) (at 58))))))) (at 59))
+
+signed-bound-63-read : tokens "a = sint(62, var(x, ~)) & sint(63, ~) & sint(63, var(y, ~));" ≡ written signed-bound-63 60
+unfolding tokens written signed-bound-63
+signed-bound-63-read = refl
+
+signed-bound-63-eight : place-eight (judgement signed-bound-63) ≡ some 45
+unfolding judgement signed-bound-63
+signed-bound-63-eight = refl
+
+-- `a = uint(64, 4611686018427387904 | 4611686018427387905);`: "written numbers to 2^62"
 unfoldable pub numbers : Rules
-numbers = last-rule (rule (name 0 "a") (at 2) (last-branch (last-member (once (field false (lit< tt) (over 4 8) (at 8) (num 9 10 8) (at 10) (or-choices (item (only (sum (product (plain (number (num 12 22 4294967295))) no-factor) no-summand))) (at 23) (last-choice (item (only (sum (product (plain (number (num 25 35 4294967296))) no-factor) no-summand))))) (at 35))))) (at 36))
+numbers = last-rule (rule (name 0 "a") (at 2) (last-branch (last-member (once (field false (lit< tt) (over 4 8) (at 8) (num 9 11 64) (at 11) (or-choices (item (only (sum (product (plain (number (num 13 32 4611686018427387904))) no-factor) no-summand))) (at 33) (last-choice (item (only (sum (product (plain (number (num 35 54 4611686018427387905))) no-factor) no-summand))))) (at 54))))) (at 55))
 
-numbers-read : tokens "a = uint(8, 4294967295 | 4294967296);" ≡ written numbers 37
+numbers-read : tokens "a = uint(64, 4611686018427387904 | 4611686018427387905);" ≡ written numbers 56
 unfolding tokens written numbers
 numbers-read = refl
 
-numbers-eight : place-eight (judgement numbers) ≡ some 25
+numbers-eight : place-eight (judgement numbers) ≡ some 35
 unfolding judgement numbers
 numbers-eight = refl
 
--- `a = "x" & uint(8, 5 + 4294967296);`: at the number
-unfoldable pub at-number : Rules
-at-number = last-rule (rule (name 0 "a") (at 2) (last-branch (and-members (once (literal (quote 4 7 "x"))) (at 8) (last-member (once (field false (lit< tt) (over 10 14) (at 14) (num 15 16 8) (at 16) (last-choice (item (only (sum (product (plain (number (num 18 19 5))) no-factor) (plus (at 20) (product (plain (number (num 22 32 4294967296))) no-factor) no-summand))))) (at 32)))))) (at 33))
+-- `a = "x" & uint(8, 5 + 4611686018427387905);`: a number past it is part of a calculation that passes it: at the calculation's first byte
+unfoldable pub past-number : Rules
+past-number = last-rule (rule (name 0 "a") (at 2) (last-branch (and-members (once (literal (quote 4 7 "x"))) (at 8) (last-member (once (field false (lit< tt) (over 10 14) (at 14) (num 15 16 8) (at 16) (last-choice (item (only (sum (product (plain (number (num 18 19 5))) no-factor) (plus (at 20) (product (plain (number (num 22 41 4611686018427387905))) no-factor) no-summand))))) (at 41)))))) (at 42))
 
-at-number-read : tokens "a = \"x\" & uint(8, 5 + 4294967296);" ≡ written at-number 34
-unfolding tokens written at-number
-at-number-read = refl
+past-number-read : tokens "a = \"x\" & uint(8, 5 + 4611686018427387905);" ≡ written past-number 43
+unfolding tokens written past-number
+past-number-read = refl
 
-at-number-eight : place-eight (judgement at-number) ≡ some 22
-unfolding judgement at-number
-at-number-eight = refl
+past-number-eight : place-eight (judgement past-number) ≡ some 18
+unfolding judgement past-number
+past-number-eight = refl
 
--- `a = "x" & uint(8, 5 + 99999999999999999999);`: at the calculation, whose size passes 2^62 too and which comes first
+-- `a = "x" & uint(8, -4611686018427387905);`: at the minus
+unfoldable pub past-below : Rules
+past-below = last-rule (rule (name 0 "a") (at 2) (last-branch (and-members (once (literal (quote 4 7 "x"))) (at 8) (last-member (once (field false (lit< tt) (over 10 14) (at 14) (num 15 16 8) (at 16) (last-choice (item (only (sum (product (opposite (at 18) (number (num 19 38 4611686018427387905))) no-factor) no-summand)))) (at 38)))))) (at 39))
+
+past-below-read : tokens "a = \"x\" & uint(8, -4611686018427387905);" ≡ written past-below 40
+unfolding tokens written past-below
+past-below-read = refl
+
+past-below-eight : place-eight (judgement past-below) ≡ some 18
+unfolding judgement past-below
+past-below-eight = refl
+
+-- `a = "x" & uint(8, 5 + 99999999999999999999);`: however long the number is
 unfoldable pub at-calculation : Rules
 at-calculation = last-rule (rule (name 0 "a") (at 2) (last-branch (and-members (once (literal (quote 4 7 "x"))) (at 8) (last-member (once (field false (lit< tt) (over 10 14) (at 14) (num 15 16 8) (at 16) (last-choice (item (only (sum (product (plain (number (num 18 19 5))) no-factor) (plus (at 20) (product (plain (number (num 22 42 99999999999999999999))) no-factor) no-summand))))) (at 42)))))) (at 43))
 
@@ -163,7 +212,7 @@ a-difference-eight : place-eight (judgement a-difference) ≡ some 30
 unfolding judgement a-difference
 a-difference-eight = refl
 
--- `a = uint(8, 0 * 4611686018427387905);`: one factor, which is a number out of its limits as well
+-- `a = uint(8, 0 * 4611686018427387905);`: one factor
 unfoldable pub a-factor : Rules
 a-factor = last-rule (rule (name 0 "a") (at 2) (last-branch (last-member (once (field false (lit< tt) (over 4 8) (at 8) (num 9 10 8) (at 10) (last-choice (item (only (sum (product (plain (number (num 12 13 0))) (times (at 14) (plain (number (num 16 35 4611686018427387905))) no-factor)) no-summand)))) (at 35))))) (at 36))
 
@@ -199,14 +248,50 @@ each-width-eight : place-eight (judgement each-width) ≡ none
 unfolding judgement each-width
 each-width-eight = refl
 
--- `a = uint(8, 1 ! (3 | 4294967296)) & "x"{4294967296};`: in a set in parentheses; the smaller of two
+-- `a = uint(8, 1 ! (3 | 4611686018427387905)) & "x"{4611686018427387905};`: in a set in parentheses; the smaller of two
 unfoldable pub in-sets : Rules
-in-sets = last-rule (rule (name 0 "a") (at 2) (last-branch (and-members (once (field false (lit< tt) (over 4 8) (at 8) (num 9 10 8) (at 10) (last-choice (item-but-set (lit< tt) (only (sum (product (plain (number (num 12 13 1))) no-factor) no-summand)) (at 14) (at 16) (or-choices (item (only (sum (product (plain (number (num 17 18 3))) no-factor) no-summand))) (at 19) (last-choice (item (only (sum (product (plain (number (num 21 31 4294967296))) no-factor) no-summand))))) (at 31))) (at 32))) (at 34) (last-member (repeated (literal (quote 36 39 "x")) (counted (at 39) (exactly (sum (product (plain (number (num 40 50 4294967296))) no-factor) no-summand)) (at 50)))))) (at 51))
+in-sets = last-rule (rule (name 0 "a") (at 2) (last-branch (and-members (once (field false (lit< tt) (over 4 8) (at 8) (num 9 10 8) (at 10) (last-choice (item-but-set (lit< tt) (only (sum (product (plain (number (num 12 13 1))) no-factor) no-summand)) (at 14) (at 16) (or-choices (item (only (sum (product (plain (number (num 17 18 3))) no-factor) no-summand))) (at 19) (last-choice (item (only (sum (product (plain (number (num 21 40 4611686018427387905))) no-factor) no-summand))))) (at 40))) (at 41))) (at 43) (last-member (repeated (literal (quote 45 48 "x")) (counted (at 48) (exactly (sum (product (plain (number (num 49 68 4611686018427387905))) no-factor) no-summand)) (at 68)))))) (at 69))
 
-in-sets-read : tokens "a = uint(8, 1 ! (3 | 4294967296)) & \"x\"{4294967296};" ≡ written in-sets 52
+in-sets-read : tokens "a = uint(8, 1 ! (3 | 4611686018427387905)) & \"x\"{4611686018427387905};" ≡ written in-sets 70
 unfolding tokens written in-sets
 in-sets-read = refl
 
 in-sets-eight : place-eight (judgement in-sets) ≡ some 21
 unfolding judgement in-sets
 in-sets-eight = refl
+
+-- `a = sint(62, var(x, ~)) & sint(4, x + x);`: a signed variable's size is 2^(width - 1): twice 2^61 is no more than 2^62
+unfoldable pub signed-most : Rules
+signed-most = last-rule (rule (name 0 "a") (at 2) (last-branch (and-members (once (binder true (lit< tt) (over 4 8) (at 8) (num 9 11 62) (at 11) (over 13 16) (at 16) (name 17 "x") (at 18) (last-choice (item (everything (at 20)))) (at 21) (at 22))) (at 24) (last-member (once (field true (lit< tt) (over 26 30) (at 30) (num 31 32 4) (at 32) (last-choice (item (only (sum (product (plain (variable (name 34 "x"))) no-factor) (plus (at 36) (product (plain (variable (name 38 "x"))) no-factor) no-summand))))) (at 39)))))) (at 40))
+
+signed-most-read : tokens "a = sint(62, var(x, ~)) & sint(4, x + x);" ≡ written signed-most 41
+unfolding tokens written signed-most
+signed-most-read = refl
+
+signed-most-eight : place-eight (judgement signed-most) ≡ none
+unfolding judgement signed-most
+signed-most-eight = refl
+
+-- `a = sint(62, var(x, ~)) & sint(4, x + x + 1);`: one more
+unfoldable pub signed-more : Rules
+signed-more = last-rule (rule (name 0 "a") (at 2) (last-branch (and-members (once (binder true (lit< tt) (over 4 8) (at 8) (num 9 11 62) (at 11) (over 13 16) (at 16) (name 17 "x") (at 18) (last-choice (item (everything (at 20)))) (at 21) (at 22))) (at 24) (last-member (once (field true (lit< tt) (over 26 30) (at 30) (num 31 32 4) (at 32) (last-choice (item (only (sum (product (plain (variable (name 34 "x"))) no-factor) (plus (at 36) (product (plain (variable (name 38 "x"))) no-factor) (plus (at 40) (product (plain (number (num 42 43 1))) no-factor) no-summand)))))) (at 43)))))) (at 44))
+
+signed-more-read : tokens "a = sint(62, var(x, ~)) & sint(4, x + x + 1);" ≡ written signed-more 45
+unfolding tokens written signed-more
+signed-more-read = refl
+
+signed-more-eight : place-eight (judgement signed-more) ≡ some 34
+unfolding judgement signed-more
+signed-more-eight = refl
+
+-- `a = uint(62, var(x, ~)) & sint(4, x + x);`: of an unsigned one it is 2^width - 1
+unfoldable pub unsigned-more : Rules
+unsigned-more = last-rule (rule (name 0 "a") (at 2) (last-branch (and-members (once (binder false (lit< tt) (over 4 8) (at 8) (num 9 11 62) (at 11) (over 13 16) (at 16) (name 17 "x") (at 18) (last-choice (item (everything (at 20)))) (at 21) (at 22))) (at 24) (last-member (once (field true (lit< tt) (over 26 30) (at 30) (num 31 32 4) (at 32) (last-choice (item (only (sum (product (plain (variable (name 34 "x"))) no-factor) (plus (at 36) (product (plain (variable (name 38 "x"))) no-factor) no-summand))))) (at 39)))))) (at 40))
+
+unsigned-more-read : tokens "a = uint(62, var(x, ~)) & sint(4, x + x);" ≡ written unsigned-more 41
+unfolding tokens written unsigned-more
+unsigned-more-read = refl
+
+unsigned-more-eight : place-eight (judgement unsigned-more) ≡ some 34
+unfolding judgement unsigned-more
+unsigned-more-eight = refl

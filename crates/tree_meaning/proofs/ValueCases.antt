@@ -2,14 +2,14 @@
 -- Assumes nothing.
 use Prim.Native.Nat.{ℕ}
 use mathlib.Core.Path.{_≡_, refl, sym}
-use mathlib.Core.Bool.{false≢true}
-use native.Mathlib.Omega.{arith}
+use mathlib.Core.Bool.{true, false, false≢true}
 use lib.Dec.{lit<}
+use Rattle.basis.specs.Bits.{bitsOf}
 use Rattle.tree.specs.Tree.{number, variable, plain, opposite, no-factor, product, no-summand, sum, everything, only, between, item, item-but-item, last-choice, or-choices, literal, range, field, binder, once, last-member, and-members, last-branch, rule, Rules, last-rule}
 use Rattle.tree_meaning.specs.Rows.{IsEmpty, NoValues}
 use Rattle.tree_meaning.proofs.Building.{bytes, at, over, name, num, quote}
 use Rattle.tree_meaning.proofs.Computing.{tokens, written, seen, placed}
-use Rattle.tree_meaning.proofs.Valued.{none-below, none-of, AllValued, all-valued, first-empty}
+use Rattle.tree_meaning.proofs.Valued.{none-among, none-of, AllValued, all-valued, first-empty}
 
 -- `a = "x" & uint(4, -1 | 16);`: "Values below 0 or above the width drop out"
 unfoldable pub outside : Rules
@@ -21,7 +21,7 @@ outside-read = refl
 
 -- at the uint
 outside-13 : NoValues outside 10
-unfolding seen placed none-below AllValued outside
+unfolding seen placed none-among AllValued outside
 outside-13 = first-empty outside 2 (refl, none-of _ _ refl) (λ e. e, (λ e. e, tt))
 
 -- `a = uint(4, 15 | 16);`: 15 is left
@@ -34,7 +34,7 @@ one-left-read = refl
 
 one-left-13 : (i : ℕ) → IsEmpty one-left i → ⊥
 unfolding seen AllValued one-left
-one-left-13 = all-valued one-left (λ e. false≢true (sym (e .1 15 (omega arith))), tt)
+one-left-13 = all-valued one-left (λ e. false≢true (sym (e .1 (bitsOf 4 15) refl)), tt)
 
 -- `a = uint(8, ~!~);`
 unfoldable pub all-taken-out : Rules
@@ -57,8 +57,8 @@ unfolding tokens written empty-binder
 empty-binder-read = refl
 
 empty-binder-13 : NoValues empty-binder 17
-unfolding seen placed none-below AllValued empty-binder
-empty-binder-13 = first-empty empty-binder 2 (refl, none-of _ _ refl) (λ e. e, (λ e. false≢true (sym (e .1 0 (omega arith))), tt))
+unfolding seen placed none-among AllValued empty-binder
+empty-binder-13 = first-empty empty-binder 2 (refl, none-of _ _ refl) (λ e. e, (λ e. false≢true (sym (e .1 (bitsOf 8 0) refl)), tt))
 
 -- `a = uint(4, var(n, ~)) & uint(4, n ! n);`: "One variable … anywhere in the set excuses it"
 unfoldable pub excused : Rules
@@ -70,7 +70,31 @@ excused-read = refl
 
 excused-13 : (i : ℕ) → IsEmpty excused i → ⊥
 unfolding seen AllValued excused
-excused-13 = all-valued excused (λ e. e, (λ e. false≢true (sym (e .1 0 (omega arith))), (λ e. false≢true (sym (e .0)), tt)))
+excused-13 = all-valued excused (λ e. e, (λ e. false≢true (sym (e .1 (bitsOf 4 0) refl)), (λ e. false≢true (sym (e .0)), tt)))
+
+-- `a = "x" & sint(8, 128 | -129);`: what is no value of the width drops out
+unfoldable pub signed-outside : Rules
+signed-outside = last-rule (rule (name 0 "a") (at 2) (last-branch (and-members (once (literal (quote 4 7 "x"))) (at 8) (last-member (once (field true (lit< tt) (over 10 14) (at 14) (num 15 16 8) (at 16) (or-choices (item (only (sum (product (plain (number (num 18 21 128))) no-factor) no-summand))) (at 22) (last-choice (item (only (sum (product (opposite (at 24) (number (num 25 28 129))) no-factor) no-summand))))) (at 28)))))) (at 29))
+
+signed-outside-read : tokens "a = \"x\" & sint(8, 128 | -129);" ≡ written signed-outside 30
+unfolding tokens written signed-outside
+signed-outside-read = refl
+
+signed-outside-13 : NoValues signed-outside 10
+unfolding seen placed none-among AllValued signed-outside
+signed-outside-13 = first-empty signed-outside 2 (refl, none-of _ _ refl) (λ e. e, (λ e. e, tt))
+
+-- `a = sint(8, -128) & sint(8, 127);`: the least and the greatest value of the width
+unfoldable pub signed-ends : Rules
+signed-ends = last-rule (rule (name 0 "a") (at 2) (last-branch (and-members (once (field true (lit< tt) (over 4 8) (at 8) (num 9 10 8) (at 10) (last-choice (item (only (sum (product (opposite (at 12) (number (num 13 16 128))) no-factor) no-summand)))) (at 16))) (at 18) (last-member (once (field true (lit< tt) (over 20 24) (at 24) (num 25 26 8) (at 26) (last-choice (item (only (sum (product (plain (number (num 28 31 127))) no-factor) no-summand)))) (at 31)))))) (at 32))
+
+signed-ends-read : tokens "a = sint(8, -128) & sint(8, 127);" ≡ written signed-ends 33
+unfolding tokens written signed-ends
+signed-ends-read = refl
+
+signed-ends-13 : (i : ℕ) → IsEmpty signed-ends i → ⊥
+unfolding seen AllValued signed-ends
+signed-ends-13 = all-valued signed-ends (λ e. e, (λ e. false≢true (sym (e .1 (bitsOf 8 128) refl)), (λ e. false≢true (sym (e .1 (bitsOf 8 127) refl)), tt)))
 
 -- `a = 'b'~'a';`: "Empty ranges of characters … are admitted"
 unfoldable pub empty-range : Rules

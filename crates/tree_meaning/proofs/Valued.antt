@@ -1,32 +1,31 @@
--- Laws of 13: which uints have no value left, by trying the values of their width, and which have one.
+-- Laws of 13: which uints have no value left, by trying the patterns of their width, and which have one.
 -- Assumes nothing.
 use Prim.Native.Nat.{ℕ, zero, suc, _<_}
-use mathlib.Core.Path.{_≡_, refl, subst}
+use mathlib.Core.Path.{_≡_, refl}
 use mathlib.Core.Bool.{Bool, true, false, not, _&&_}
 use mathlib.Core.List.{List, [], _∷_}
 use native.Mathlib.Omega.{arith}
-use native.Mathlib.Decide.{decLt}
-use lib.ListN.{getD, take}
+use lib.ListN.{length, getD, take}
+use Rattle.basis.specs.Bits.{Bits}
 use Rattle.basis.proofs.Booleans.{both-first, both-second, not-true}
 use Rattle.theory.specs.Grammar.{alternative}
 use Rattle.tree.specs.Tree.{Rules}
 use Rattle.tree_meaning.specs.Grammar.{Construct, plain-at, tree-constructs, construct-at, NoValue}
 use Rattle.tree_meaning.specs.Rows.{IsEmpty, NoValues}
 
--- ---- no number below n passes a test
+-- ---- no pattern of n bits passes a test
 
-unfoldable pub none-below : ℕ → (ℕ → Bool) → Bool
-none-below zero f = true
-none-below (suc n) f = not (f n) && none-below n f
+unfoldable pub none-among : ℕ → (Bits → Bool) → Bool
+none-among zero f = not (f [])
+none-among (suc n) f = none-among n (λ s. f (true ∷ s)) && none-among n (λ s. f (false ∷ s))
 
-pub none-of : (n : ℕ) (f : ℕ → Bool) → none-below n f ≡ true → (v : ℕ) → v < n → f v ≡ false
-unfolding none-below
-none-of zero f e v l = absurd (omega arith)
-none-of (suc n) f e v l =
-    elim (decLt v n) [
-      | yes m ↦ none-of n f (both-second (not (f n)) (none-below n f) e) v m
-      | no m ↦ subst (λ (k : ℕ). f k ≡ false) (let z : n ≡ v = omega arith in z) (not-true (f n) (both-first (not (f n)) (none-below n f) e))
-    ]
+pub none-of : (n : ℕ) (f : Bits → Bool) → none-among n f ≡ true → (s : Bits) → length s ≡ n → f s ≡ false
+unfolding none-among
+none-of zero f e [] l = not-true (f []) e
+none-of zero f e (b ∷ s) l = absurd (omega (arith, l))
+none-of (suc n) f e [] l = absurd (omega (arith, l))
+none-of (suc n) f e (true ∷ s) l = none-of n (λ s. f (true ∷ s)) (both-first (none-among n (λ s. f (true ∷ s))) (none-among n (λ s. f (false ∷ s))) e) s (omega (arith, l))
+none-of (suc n) f e (false ∷ s) l = none-of n (λ s. f (false ∷ s)) (both-second (none-among n (λ s. f (true ∷ s))) (none-among n (λ s. f (false ∷ s))) e) s (omega (arith, l))
 
 -- ---- each uint has a value, or a variable
 

@@ -42,9 +42,9 @@ rule-constructs r = constructs false (rule-body r)
 unfoldable pub terms : List Piece → ℕ
 terms [] = 0
 terms (use-of-rule x ∷ more) = terms more
-terms (width n ∷ more) = terms more
+terms (width most n ∷ more) = terms more
 terms (formula f ∷ more) = length (terms-of f) + terms more
-terms (binding x n placed ∷ more) = terms more
+terms (binding x signed n placed ∷ more) = terms more
 
 -- ---- totals from the first rule on
 

@@ -50,9 +50,9 @@ module _ (rules variables : List Name) where
   unfoldable pub faults-after : (before : List Name) → List Piece → List ℕ
   faults-after before [] = []
   faults-after before (use-of-rule x ∷ more) = place-if (use-fault rules variables x) (x .start) ++ faults-after before more
-  faults-after before (width n ∷ more) = faults-after before more
+  faults-after before (width most n ∷ more) = faults-after before more
   faults-after before (formula f ∷ more) = variable-faults before (uses-in (terms-of f)) ++ faults-after before more
-  faults-after before (binding x n placed ∷ more) = place-if (binder-fault before placed x) (x .start) ++ faults-after (x ∷ before) more
+  faults-after before (binding x signed n placed ∷ more) = place-if (binder-fault before placed x) (x .start) ++ faults-after (x ∷ before) more
 
 -- in each of these rules, of all, after rules of these names
 unfoldable pub name-faults : (rules earlier : List Name) → List Rule → List ℕ

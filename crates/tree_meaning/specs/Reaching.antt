@@ -12,9 +12,9 @@ use Rattle.tree_meaning.specs.Pieces.{Piece, use-of-rule, width, formula
 unfoldable pub used-in : List Piece → List (List ℕ)
 used-in [] = []
 used-in (use-of-rule x ∷ more) = x .letters ∷ used-in more
-used-in (width n ∷ more) = used-in more
+used-in (width most n ∷ more) = used-in more
 used-in (formula f ∷ more) = used-in more
-used-in (binding x n placed ∷ more) = used-in more
+used-in (binding x signed n placed ∷ more) = used-in more
 
 -- a rule of the one name has a use of the other
 pub record Uses (t : Rules) (x y : List ℕ) : Type 0 where

@@ -13,23 +13,23 @@ use Rattle.tree_sizes.proofs.Hits.{either, Hits, hits-two, hits-both}
 -- numbers that are too large
 abbrev pub numbers-of : Piece → List ℕ
 numbers-of (use-of-rule x) = []
-numbers-of (width n) = []
+numbers-of (width most n) = []
 numbers-of (formula f) = number-faults (terms-of f)
-numbers-of (binding x n placed) = []
+numbers-of (binding x signed n placed) = []
 
 -- a width that is wrong
 abbrev pub widths-of : Piece → List ℕ
 widths-of (use-of-rule x) = []
-widths-of (width n) = place-if (wrong-width n) (n .start)
+widths-of (width most n) = place-if (wrong-width n) (n .start)
 widths-of (formula f) = []
-widths-of (binding x n placed) = []
+widths-of (binding x signed n placed) = []
 
 -- calculations that are too large
 abbrev pub sizes-of : (List ℕ → ℕ) → Piece → List ℕ
 sizes-of widest (use-of-rule x) = []
-sizes-of widest (width n) = []
+sizes-of widest (width most n) = []
 sizes-of widest (formula f) = calculation-faults widest f
-sizes-of widest (binding x n placed) = []
+sizes-of widest (binding x signed n placed) = []
 
 -- of all these pieces
 unfoldable pub gathered : (Piece → List ℕ) → List Piece → List ℕ
@@ -74,7 +74,7 @@ pub three-parts : (p : ℕ) (widest : List ℕ → ℕ) (l : List Piece) → Hit
 unfolding faults-in gathered Hits
 three-parts p widest [] = (λ h. absurd h, λ h. ⊎-elim (λ (z : ⊥). absurd z) (λ r. ⊎-elim (λ (z : ⊥). absurd z) (λ (z : ⊥). absurd z) r) h)
 three-parts p widest (use-of-rule x ∷ l) = three-parts p widest l
-three-parts p widest (width n ∷ l) =
+three-parts p widest (width most n ∷ l) =
     let F = place-if (wrong-width n) (n .start) in
     Iff·trans (hits-two p F (faults-in widest l)) (Iff·trans (either Iff·rfl (three-parts p widest l)) (Iff·trans in-second (either Iff·rfl (either (Iff·symm (hits-two p F (gathered widths-of l))) Iff·rfl))))
 three-parts p widest (formula f ∷ l) =
@@ -83,7 +83,7 @@ three-parts p widest (formula f ∷ l) =
     Iff·trans (hits-two p F (G ++ faults-in widest l))
     (Iff·trans (either Iff·rfl (Iff·trans (hits-two p G (faults-in widest l)) (Iff·trans (either Iff·rfl (three-parts p widest l)) in-third)))
     (Iff·trans in-first (Iff·trans (either (Iff·symm (hits-two p F (gathered numbers-of l))) Iff·rfl) (either Iff·rfl (either Iff·rfl (Iff·symm (hits-two p G (gathered (sizes-of widest) l))))))))
-three-parts p widest (binding x n placed ∷ l) = three-parts p widest l
+three-parts p widest (binding x signed n placed ∷ l) = three-parts p widest l
 
 -- ---- of rules
 

@@ -32,27 +32,27 @@ module _ (p : ℕ) (ws : List ℕ) (numbered widest : List ℕ → ℕ) where
   unfoldable pub Ready : List Name → List Piece → Type 0
   Ready names [] = Unit {0}
   Ready names (use-of-rule x ∷ more) = Ready names more
-  Ready names (width n ∷ more) = (n .start ≤ p → (1 ≤ n .value) × (n .value ≤ 32)) × Ready names more
+  Ready names (width most n ∷ more) = (n .start ≤ p → (1 ≤ n .value) × (n .value ≤ 32)) × Ready names more
   Ready names (formula f ∷ more) = UsesRight names (uses-in (terms-of f)) × Ready names more
-  Ready names (binding x n placed ∷ more) = Bound ws numbered widest x n × Ready (x ∷ names) more
+  Ready names (binding x signed n placed ∷ more) = Bound ws numbered widest x n × Ready (x ∷ names) more
 
   -- of the first pieces
   pub ready-one : (names : List Name) (l m : List Piece) → Ready names (l ++ m) → Ready names l
   unfolding Ready
   ready-one names [] m h = tt
   ready-one names (use-of-rule x ∷ l) m h = ready-one names l m h
-  ready-one names (width n ∷ l) m h = (h .0, ready-one names l m (h .1))
+  ready-one names (width most n ∷ l) m h = (h .0, ready-one names l m (h .1))
   ready-one names (formula f ∷ l) m h = (h .0, ready-one names l m (h .1))
-  ready-one names (binding x n placed ∷ l) m h = (h .0, ready-one (x ∷ names) l m (h .1))
+  ready-one names (binding x signed n placed ∷ l) m h = (h .0, ready-one (x ∷ names) l m (h .1))
 
   -- of those after them
   pub ready-two : (names : List Name) (l m : List Piece) → Ready names (l ++ m) → Ready (after-bound l names) m
   unfolding Ready after-bound
   ready-two names [] m h = h
   ready-two names (use-of-rule x ∷ l) m h = ready-two names l m h
-  ready-two names (width n ∷ l) m h = ready-two names l m (h .1)
+  ready-two names (width most n ∷ l) m h = ready-two names l m (h .1)
   ready-two names (formula f ∷ l) m h = ready-two names l m (h .1)
-  ready-two names (binding x n placed ∷ l) m h = ready-two (x ∷ names) l m (h .1)
+  ready-two names (binding x signed n placed ∷ l) m h = ready-two (x ∷ names) l m (h .1)
 
   -- of those after a mark
   pub ready-marked : (names : List Name) (m : Mark) (l : List Piece) → Ready names (mark-pieces m ++ l) → Ready names l
@@ -94,9 +94,9 @@ pub after-append : (l m : List Piece) (names : List Name) → after-bound (l ++ 
 unfolding after-bound
 after-append [] m names = refl
 after-append (use-of-rule x ∷ l) m names = after-append l m names
-after-append (width n ∷ l) m names = after-append l m names
+after-append (width most n ∷ l) m names = after-append l m names
 after-append (formula f ∷ l) m names = after-append l m names
-after-append (binding x n placed ∷ l) m names = after-append l m (x ∷ names)
+after-append (binding x signed n placed ∷ l) m names = after-append l m (x ∷ names)
 
 -- a mark binds none
 pub after-mark : (m : Mark) (l : List Piece) (names : List Name) → after-bound (mark-pieces m ++ l) names ≡ after-bound l names

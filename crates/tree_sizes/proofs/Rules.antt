@@ -69,10 +69,10 @@ module _ (p : ℕ) (ws : List ℕ) (numbered : List ℕ → ℕ) (rules variable
   unfolding Ready NamesRight Own gathered
   ready-from names [] h o n = tt
   ready-from names (use-of-rule x ∷ ps) h o n = ready-from names ps (h .2) o n
-  ready-from names (width v ∷ ps) h o n =
+  ready-from names (width most v ∷ ps) h o n =
       let F = place-if (wrong-width v) (v .start) in (right-width p v (λ z. n (hits-left p F (gathered widths-of ps) z)), ready-from names ps h o (λ z. n (hits-right p F (gathered widths-of ps) z)))
   ready-from names (formula f ∷ ps) h o n = (h .0, ready-from names ps (h .1) o n)
-  ready-from names (binding x v placed ∷ ps) h o n =
+  ready-from names (binding x signed v placed ∷ ps) h o n =
       let s = sized x (o .1) in (record { few = s .0; sized = s .1; own = o .0 }, ready-from (x ∷ names) ps (h .2) (o .2) n)
 
 -- ---- one rule

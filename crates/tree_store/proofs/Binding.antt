@@ -44,9 +44,9 @@ same-here a b = ap₂ is-same (a .letters-are) (b .letters-are)
 unfoldable pub after-bound : List Piece → List Name → List Name
 after-bound [] names = names
 after-bound (use-of-rule x ∷ more) names = after-bound more names
-after-bound (width n ∷ more) names = after-bound more names
+after-bound (width most n ∷ more) names = after-bound more names
 after-bound (formula f ∷ more) names = after-bound more names
-after-bound (binding x n placed ∷ more) names = after-bound more (x ∷ names)
+after-bound (binding x signed n placed ∷ more) names = after-bound more (x ∷ names)
 
 among-after : (l : List Piece) (names : List Name) (y : Name) → is-among (after-bound l names) y ≡ (is-among names y || is-among (bound-in l) y)
 unfolding after-bound bound-in is-among
@@ -56,9 +56,9 @@ among-after [] names y = or-false (is-among names y)
     or-false true = refl
     or-false false = refl
 among-after (use-of-rule x ∷ more) names y = among-after more names y
-among-after (width n ∷ more) names y = among-after more names y
+among-after (width most n ∷ more) names y = among-after more names y
 among-after (formula f ∷ more) names y = among-after more names y
-among-after (binding x n placed ∷ more) names y = among-after more (x ∷ names) y ∙ turned (is-same (x .letters) (y .letters)) (is-among names y) (is-among (bound-in more) y)
+among-after (binding x signed n placed ∷ more) names y = among-after more (x ∷ names) y ∙ turned (is-same (x .letters) (y .letters)) (is-among names y) (is-among (bound-in more) y)
   where
     turned : (a b c : Bool) → ((a || b) || c) ≡ (b || (a || c))
     turned true true c = refl
@@ -129,7 +129,7 @@ or-no true = refl
 or-no false = refl
 
 bound-binder : {xs ns : List ℕ} {i size place a c e : ℕ} (d : ℕ) {x : Name} {n : Number} {top : Bool} {f : List Component} → Here xs x → LikeAt ns i (a-node 8 size place a (x .start) c e (way-bound d) ∷ [])
-    → Bound xs ns i (a-node 8 size place a (x .start) c e (way-bound d) ∷ []) (width n ∷ formula f ∷ binding x n top ∷ [])
+    → Bound xs ns i (a-node 8 size place a (x .start) c e (way-bound d) ∷ []) (width most n ∷ formula f ∷ binding x n top ∷ [])
 unfolding any-of is-among bound-in
 bound-binder {xs} {ns} {i} d {x = x} k h =
     record {

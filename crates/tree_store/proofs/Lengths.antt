@@ -197,17 +197,17 @@ pub pieces-append : (l m : List Piece) → terms (l ++ m) ≡ terms l + terms m
 unfolding terms
 pieces-append [] m = omega arith
 pieces-append (use-of-rule x ∷ l) m = pieces-append l m
-pieces-append (width n ∷ l) m = pieces-append l m
+pieces-append (width most n ∷ l) m = pieces-append l m
 pieces-append (formula f ∷ l) m = omega (arith, pieces-append l m)
-pieces-append (binding x n placed ∷ l) m = pieces-append l m
+pieces-append (binding x signed n placed ∷ l) m = pieces-append l m
 
 pub bound-append : (l m : List Piece) → bound-in (l ++ m) ≡ bound-in l ++ bound-in m
 unfolding bound-in
 bound-append [] m = refl
 bound-append (use-of-rule x ∷ l) m = bound-append l m
-bound-append (width n ∷ l) m = bound-append l m
+bound-append (width most n ∷ l) m = bound-append l m
 bound-append (formula f ∷ l) m = bound-append l m
-bound-append (binding x n placed ∷ l) m = ap {B = List Name} (λ r. x ∷ r) (bound-append l m)
+bound-append (binding x signed n placed ∷ l) m = ap {B = List Name} (λ r. x ∷ r) (bound-append l m)
 
 mark-terms : (m : Mark) → length (mark-rows m) ≡ terms (mark-pieces m)
 unfolding mark-rows terms

@@ -99,11 +99,11 @@ faults-append rules variables names [] m = refl
 faults-append rules variables names (use-of-rule x ∷ l) m =
     ap (λ (q : List ℕ). listed-if (wrong-use rules variables x) (x .start) ++ q) (faults-append rules variables names l m)
     ∙ sym (append-assoc (listed-if (wrong-use rules variables x) (x .start)) (faults-after rules variables names l) (faults-after rules variables (after-bound l names) m))
-faults-append rules variables names (width n ∷ l) m = faults-append rules variables names l m
+faults-append rules variables names (width most n ∷ l) m = faults-append rules variables names l m
 faults-append rules variables names (formula f ∷ l) m =
     ap (λ (q : List ℕ). variable-faults names (uses-of f) ++ q) (faults-append rules variables names l m)
     ∙ sym (append-assoc (variable-faults names (uses-of f)) (faults-after rules variables names l) (faults-after rules variables (after-bound l names) m))
-faults-append rules variables names (binding x n placed ∷ l) m =
+faults-append rules variables names (binding x signed n placed ∷ l) m =
     ap (λ (q : List ℕ). listed-if (wrong-binder names placed x) (x .start) ++ q) (faults-append rules variables (x ∷ names) l m)
     ∙ sym (append-assoc (listed-if (wrong-binder names placed x) (x .start)) (faults-after rules variables (x ∷ names) l) (faults-after rules variables (after-bound l (x ∷ names)) m))
 
@@ -238,12 +238,12 @@ module _ (xs ns ts rs : List ℕ) (r a e : ℕ) where
         at-fault = λ k. place-if (reserved-here h k || (not (known .ruled x h k) || known .varied x h k)) (x .start)
 
     field-right : {i t : ℕ} {names : List Name} {u v : ℕ} {n : Number} {f : List Component} (A : List TermRow) → Before xs ns a i names → TermsAt ts t A → UsesAre xs A (uses-of f)
-        → Right i (a-node 8 1 u v 0 t (t + length A) 0 ∷ []) names (width n ∷ formula f ∷ [])
+        → Right i (a-node 8 1 u v 0 t (t + length A) 0 ∷ []) names (width most n ∷ formula f ∷ [])
     unfolding rows-place least-of faults-after
     field-right {i} {t} A b k us = record { low = low-as (own-min (listed i t (t + length A)) nowhere (omega arith)) (low-both (list-low t A b k us) low-none) }
 
     binder-right : {on top : Bool} {d i t : ℕ} {names : List Name} {u v : ℕ} {x : Name} {n : Number} {f : List Component} (A : List TermRow) → Here xs x → Spot ns a atom on top d i 1 → Before xs ns a i names → TermsAt ts t A
-        → UsesAre xs A (uses-of f) → Right i (a-node 8 1 u v (x .start) t (t + length A) (way-bound (d + 1 + 1)) ∷ []) names (width n ∷ formula f ∷ binding x n top ∷ [])
+        → UsesAre xs A (uses-of f) → Right i (a-node 8 1 u v (x .start) t (t + length A) (way-bound (d + 1 + 1)) ∷ []) names (width most n ∷ formula f ∷ binding x n top ∷ [])
     unfolding rows-place least-of faults-after
     binder-right {on} {top} {d} {i} {t} {names} {u} {v} {x} A h s b k us =
         record {

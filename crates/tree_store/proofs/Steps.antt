@@ -27,9 +27,9 @@ pub data InStep (xs : List ℕ) : List NodeRow → List Piece → Type 0 where
   a-formula : {M : List NodeRow} {f : List Component} {l : List Piece} → InStep xs M l → InStep xs M (formula f ∷ l)
   a-use : {r : NodeRow} {M : List NodeRow} {x : Name} {l : List Piece} → r .kind ≡ 5 → r .place ≡ x .start → Here xs x → InStep xs M l → InStep xs (r ∷ M) (use-of-rule x ∷ l)
   a-field : {r : NodeRow} {M : List NodeRow} {n : Number} {f : List Component} {l : List Piece} → r .kind ≡ 8 → row-binds r ≡ false → r .first ≡ n .start → number-value xs (n .start) ≡ n .value → InStep xs M l
-      → InStep xs (r ∷ M) (width n ∷ formula f ∷ l)
+      → InStep xs (r ∷ M) (width most n ∷ formula f ∷ l)
   a-binder : {r : NodeRow} {M : List NodeRow} {n : Number} {f : List Component} {x : Name} {placed : Bool} {l : List Piece} → r .kind ≡ 8 → row-binds r ≡ true → r .first ≡ n .start → number-value xs (n .start) ≡ n .value
-      → r .second ≡ x .start → Here xs x → InStep xs M l → InStep xs (r ∷ M) (width n ∷ formula f ∷ binding x n placed ∷ l)
+      → r .second ≡ x .start → Here xs x → InStep xs M l → InStep xs (r ∷ M) (width most n ∷ formula f ∷ binding x n placed ∷ l)
   another : {r : NodeRow} {M : List NodeRow} {l : List Piece} → eqb (r .kind) 5 ≡ false → eqb (r .kind) 8 ≡ false → InStep xs M l → InStep xs (r ∷ M) l
 
 step-two : {xs : List ℕ} {M L : List NodeRow} {l m : List Piece} → InStep xs M l → InStep xs L m → InStep xs (M ++ L) (l ++ m)
