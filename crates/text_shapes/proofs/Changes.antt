@@ -1,20 +1,24 @@
 -- What each production does to what is read: one store at most. A term or node that is stored has the words of its kind, where a sign's tag is one
 -- of a sign, and the symbols of a text's rules have no other.
 -- Assumes nothing.
-use Prim.Native.Nat.{ℕ, _≤_}
-use mathlib.Core.Path.{_≡_, refl}
+use Prim.Native.Nat.{ℕ, _^_, _≤_, _<_}
+use mathlib.Core.Path.{_≡_, refl, sym, subst}
 use mathlib.Core.Logic.{inl}
 use mathlib.Core.Bool.{Bool, true, false, _&&_}
 use mathlib.Core.List.{List, [], _∷_}
 use native.Mathlib.Omega.{arith}
 use borrow.Author.Tests.{le-leb, ne-eqb}
-use Rattle.basis.proofs.Booleans.{both-first, both-second}
+use lib.Dec.{eqb}
+use Rattle.basis.proofs.Booleans.{picked, both-first, both-second}
 use Rattle.text_header.specs.Bytes.{within}
 use Rattle.text_header.proofs.Tests.{within-low, within-high}
+use Rattle.text_tokens.specs.Tokens.{token-of}
+use Rattle.text_parsing.specs.Terminals.{code-of, seen, terminal-of}
+use Rattle.text_parsing.specs.declared.Terminal.{Terminal}
 use Rattle.text_parsing.specs.Symbols.{Symbol, want, sign, paren, primary, operand, factors, summands, calculation, item, item-tail, bound, exception, excluded, alternative, alternatives, value-set, counts, counts-tail, test, comparison, condition, joined, chain, atom, factor, concatenation, expression, marked, counts-end, members, branches, character-tail, last-character, width, field-set, bound-name, field-end, colon, case-end, cases, switch-end, rules, rule-end}
 use Rattle.text_store.specs.Store.{State, nodes-of, terms-of, add, single, insert, condition-on, bind, close-rule}
 use Rattle.text_parsing.specs.Form.{chained}
-use Rattle.text_productions.specs.Phrases.{Production, terminal, signed, opened, number, variable, negated, plain, no-factor, times, no-summand, plus, minus, sum, open-item, value-item, to-bound, alone, some-bound, no-bound, no-exception, except, except-set, except-item, set-alternative, no-alternative, or-alternative, set, counts-to, counts-from, counts-exact, counts-range, test-group, test-compare, compare, tests, one-test, all-of, any-of, no-link, link, literal-atom, character-atom, field-atom, eod-atom, use-atom, group-atom, switch-atom, an-item, one-member, one-branch, no-mark, a-mark, counted-mark, counted as counted-end, and-member, last-member, or-branch, last-branch, to-character, one-character, range, field-width, binding, not-binding, binder, field, a-case, case-done, no-default, default, further-case, switched, no-rule, a-rule, ruled}
+use Rattle.text_productions.specs.Phrases.{Seen, Production, terminal, signed, opened, number, variable, negated, plain, no-factor, times, no-summand, plus, minus, sum, open-item, value-item, to-bound, alone, some-bound, no-bound, no-exception, except, except-set, except-item, set-alternative, no-alternative, or-alternative, set, counts-to, counts-from, counts-exact, counts-range, test-group, test-compare, compare, tests, one-test, all-of, any-of, no-link, link, literal-atom, character-atom, field-atom, eod-atom, use-atom, group-atom, switch-atom, an-item, one-member, one-branch, no-mark, a-mark, counted-mark, counted as counted-end, and-member, last-member, or-branch, last-branch, to-character, one-character, range, field-width, binding, not-binding, binder, field, a-case, case-done, no-default, default, further-case, switched, no-rule, a-rule, ruled}
 use Rattle.text_shapes.specs.Stored.{OwnList, of-field, of-counts, no-list, TermWords, a-number, a-use, a-sign}
 use Rattle.text_store.proofs.StoreLaws.{ten}
 
@@ -75,6 +79,21 @@ sign-words tag p o f =
     let h : tag ≤ 31 = within-high 3 tag 31 f in
     a-sign (rw (ne-eqb tag 2 (omega arith), ne-eqb tag 34 (omega arith))) (omega arith) refl
 
+-- the value of a terminal is a number's, cut where it passes 2^62, or 0
+abbrev Small : Terminal → Type 0
+Small s = s .value < 2 ^ 63
+
+value-small : (xs : List ℕ) (code start end : ℕ) → Small (seen xs code start end)
+unfolding seen
+value-small xs code start end =
+    picked Small (eqb code 1) (λ z. omega arith)
+    (λ z. picked Small (eqb code 2) (λ z. omega arith)
+    (λ z. picked Small (eqb code 3) (λ z. omega arith) (λ z. omega arith)))
+
+number-small : {xs : List ℕ} {s : Terminal} → Seen xs s → s .value < 2 ^ 63
+unfolding terminal-of
+number-small {xs} {s} h = subst Small (sym (h .seen)) (value-small xs (code-of (token-of xs (h .at) .kind)) (token-of xs (h .at) .start) (token-of xs (h .at) .end))
+
 -- ---- stores
 
 pub data Change (xs : List ℕ) (k : Symbol) (a b : State) : Type 0 where
@@ -95,7 +114,7 @@ pub changed : {xs : List ℕ} {k : Symbol} {a b : State} {qs : List Symbol} → 
 changed terminal = (same refl, λ f. refl)
 changed (signed {tag = g} {p = p} {o = o} e) = (term g 0 p o (λ f. sign-words g p o f) e, λ f. refl)
 changed (opened x0) = (same refl, λ f. refl)
-changed (number {o = o} {s = s} x0 x1 e) = (term 1 (s .value) (s .start) o (λ f. a-number (inl refl)) e, λ f. refl)
+changed (number {o = o} {s = s} x0 x1 e) = (term 1 (s .value) (s .start) o (λ f. a-number (inl refl) (number-small x0)) e, λ f. refl)
 changed (variable {o = o} {s = s} x0 x1 e) = (term 2 0 (s .start) o (λ f. a-use (inl refl) refl (record { terminal = s; seen = x0; name = x1; place = refl })) e, λ f. refl)
 changed negated = (same refl, λ f. refl)
 changed plain = (same refl, λ f. refl)

@@ -79,7 +79,7 @@ module _ (ns : List ℕ) (all : Lists ns) where
 -- ---- terms
 
 term-moved : {xs ts us : List ℕ} {j k : ℕ} → ((w : ℕ) → w < 3 → term-word us j w ≡ term-word ts k w) → TermWords xs ts k → TermWords xs us j
-term-moved e (a-number a) = a-number (rw (e at-tag (omega arith)) a)
+term-moved e (a-number a b) = a-number (rw (e at-tag (omega arith)) a) (rw (e at-value (omega arith)) b)
 term-moved e (a-use a b c) = a-use (rw (e at-tag (omega arith)) a) (e at-value (omega arith) ∙ b) (rw (e at-term (omega arith)) c)
 term-moved e (a-sign a b c) = a-sign (rw (e at-tag (omega arith)) a) (rw (e at-tag (omega arith)) b) (e at-value (omega arith) ∙ c)
 
@@ -102,8 +102,8 @@ small-marked w h = picked (λ (m : ℕ). m < 64) (ltb w 32) (λ z. omega (arith,
 
 -- a number stays a number, a use a use and a sign a sign
 marked-words : {xs ts us : List ℕ} {k : ℕ} → term-tag us k ≡ marked-tag (term-tag ts k) → ((w : ℕ) → 1 ≤ w → w < 3 → term-word us k w ≡ term-word ts k w) → TermWords xs ts k → TermWords xs us k
-marked-words e f (a-number (inl a)) = a-number (inr (e ∙ rw a))
-marked-words e f (a-number (inr a)) = a-number (inr (e ∙ rw a))
+marked-words e f (a-number (inl a) b) = a-number (inr (e ∙ rw a)) (rw (f at-value (omega arith) (omega arith)) b)
+marked-words e f (a-number (inr a) b) = a-number (inr (e ∙ rw a)) (rw (f at-value (omega arith) (omega arith)) b)
 marked-words e f (a-use (inl a) b c) = a-use (inr (e ∙ rw a)) (f at-value (omega arith) (omega arith) ∙ b) (rw (f at-term (omega arith) (omega arith)) c)
 marked-words e f (a-use (inr a) b c) = a-use (inr (e ∙ rw a)) (f at-value (omega arith) (omega arith) ∙ b) (rw (f at-term (omega arith) (omega arith)) c)
 marked-words {ts = ts} {k = k} e f (a-sign a b c) =
