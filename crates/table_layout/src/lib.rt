@@ -362,8 +362,26 @@ pub fn attributes_of(construct: Construct) -> Attributes
 {
     match construct {
         Construct::Missing => row(0, Below::Nothing, OwnList::None, 64, 0, 0, 0, false),
-        Construct::Alternative { size } => row(size, Below::Branches, OwnList::None, 64, 0, 0, 0, false),
-        Construct::Concatenation { size } => row(size, Below::Members, OwnList::None, 64, 0, 0, 0, false),
+        Construct::Alternative { size } => row(
+            size,
+            Below::Branches,
+            OwnList::None,
+            64,
+            0,
+            0,
+            0,
+            false,
+        ),
+        Construct::Concatenation { size } => row(
+            size,
+            Below::Members,
+            OwnList::None,
+            64,
+            0,
+            0,
+            0,
+            false,
+        ),
         Construct::Repetition { size, passes } => {
             row(
                 size,
@@ -378,8 +396,26 @@ pub fn attributes_of(construct: Construct) -> Attributes
         }
         Construct::Switch { size } => row(size, Below::Cases, OwnList::None, 64, 0, 0, 0, false),
         Construct::Use { rule } => row(1, Below::Rule, OwnList::None, rule, 0, 0, 0, false),
-        Construct::Literal { length } => row(1, Below::Nothing, OwnList::None, 64, length, 0, 0, false),
-        Construct::Range { low: _, high: _ } => row(1, Below::Nothing, OwnList::None, 64, 0, 0, 0, false),
+        Construct::Literal { length } => row(
+            1,
+            Below::Nothing,
+            OwnList::None,
+            64,
+            length,
+            0,
+            0,
+            false,
+        ),
+        Construct::Range { low: _, high: _ } => row(
+            1,
+            Below::Nothing,
+            OwnList::None,
+            64,
+            0,
+            0,
+            0,
+            false,
+        ),
         Construct::Uint {
             signed,
             width,

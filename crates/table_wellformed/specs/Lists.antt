@@ -97,12 +97,17 @@ abbrev pub condition-formed : List ℕ → ℕ → Bool
 condition-formed ws i =
     cond (ltb (construct-word ws i 6) (construct-word ws i 7)) (list-formed Kind.Condition ws (construct-word ws i 6) (construct-word ws i 7)) true
 
--- ---- a term's three words: a number and a variable's use have a low word, nothing has a high one ("to 4,294,967,295")
+-- ---- a term's three words: a number has a low and a high word (Req 10: numbers to 2^62), a variable's use a low one
 
 -- the tags of a number and of a variable's use, also where they are an item `a` of a set
 abbrev pub has-low : ℕ → Bool
 has-low tag = limited 1 tag 2 || limited 33 tag 34
 
+-- the tags of a number
+abbrev pub has-high : ℕ → Bool
+has-high tag = eqb tag 1 || eqb tag 33
+
 -- what a term's tag gives no meaning to is 0
 abbrev pub term-laid : List ℕ → ℕ → Bool
-term-laid ws t = (has-low (word ws (terms-at + 3 * t)) || eqb (word ws (terms-at + 3 * t + 1)) 0) && eqb (word ws (terms-at + 3 * t + 2)) 0
+term-laid ws t =
+    (has-low (word ws (terms-at + 3 * t)) || eqb (word ws (terms-at + 3 * t + 1)) 0) && (has-high (word ws (terms-at + 3 * t)) || eqb (word ws (terms-at + 3 * t + 2)) 0)

@@ -103,6 +103,7 @@ fn kind(table: &[u32], i: usize, construct: Construct) -> bool
         Construct::Literal { length: _ } => operands_zero(table, i, 3),
         Construct::Range { low: _, high: _ } => operands_zero(table, i, 4),
         Construct::Uint {
+            signed: _,
             width: _,
             start,
             end,

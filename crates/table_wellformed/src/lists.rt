@@ -23,7 +23,7 @@ ghost use Rattle.basis.specs.Limits.{table-words};
 ghost use Rattle.table_layout.specs.Places.{term-count};
 ghost use Rattle.table_layout.specs.Held.{term-words};
 ghost use Rattle.table_wellformed.specs.Checks.{from-to};
-ghost use Rattle.table_wellformed.specs.Lists.{list-start, list-end, own-start, own-end, begins as beginsOf, after as afterOf, lists-begin, after-lists, lists-laid, formed as formedOf, list-formed, counts-formed, condition-formed, has-low, term-laid};
+ghost use Rattle.table_wellformed.specs.Lists.{list-start, list-end, own-start, own-end, begins as beginsOf, after as afterOf, lists-begin, after-lists, lists-laid, formed as formedOf, list-formed, counts-formed, condition-formed, has-low, has-high, term-laid};
 
 fn list_start(own: OwnList) -> usize
     ensures { λ r. ⌜ r ≡ list-start own ⌝ }
@@ -172,14 +172,21 @@ fn low_used(tag: usize) -> bool
     either(limited(1, tag, 2), limited(33, tag, 34))
 }
 
+fn high_used(tag: usize) -> bool
+    ensures { λ r. ⌜ r ≡ has-high tag ⌝ }
+{
+    either(tag == 1, tag == 33)
+}
+
 fn term(table: &[u32], t: usize) -> bool
     requires { ⌜ t ≤ 4294967296 ⌝ }
     ensures { λ r. ⌜ r ≡ term-laid (now (table .entry)) t ⌝ }
 {
     let at = TERMS_AT + 3 * t;
+    let tag = word(table, at);
     both(
-        either(low_used(word(table, at)), word(table, at + 1) == 0),
-        word(table, at + 2) == 0,
+        either(low_used(tag), word(table, at + 1) == 0),
+        either(high_used(tag), word(table, at + 2) == 0),
     )
 }
 

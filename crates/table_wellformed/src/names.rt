@@ -26,12 +26,19 @@ ghost use lib.ListN.{length};
 ghost use lib.Dec.{ltb};
 ghost use Rattle.basis.specs.Limits.{table-words};
 ghost use Rattle.table_wellformed.specs.Checks.{size-at};
-ghost use Rattle.table_wellformed.specs.Rules.{next-variable, binder-of, named-back, variable-laid, member-laid, binders-from, has-members, is-concatenation, members-at, binders-laid, visible as visibleOf, operation-named, term-named, list-named, construct-named, uses-laid, names-laid};
+ghost use Rattle.table_wellformed.specs.Rules.{next-variable, binder-of, named-back, sign-word, variable-laid, member-laid, binders-from, has-members, is-concatenation, members-at, binders-laid, visible as visibleOf, operation-named, term-named, list-named, construct-named, uses-laid, names-laid};
 
 fn binder(construct: Construct) -> usize
     ensures { λ r. ⌜ r ≡ binder-of construct ⌝ }
 {
     attributes_of(construct).binder
+}
+
+// 1 of a sint, else 0.
+fn sign(construct: Construct) -> usize
+    ensures { λ r. ⌜ r ≡ sign-word construct ⌝ }
+{
+    choose(attributes_of(construct).signed, 1, 0)
 }
 
 // Whether the variable of construct i's binder names i.
@@ -59,8 +66,11 @@ fn variable(table: &[u32], x: usize, j: usize) -> bool
             variable_word(table, x, 0) == j,
         ),
         both(
-            variable_word(table, x, 1) == construct_word(table, j, 2),
-            zeros(table, at + 2, at + 4),
+            both(
+                variable_word(table, x, 1) == construct_word(table, j, 2),
+                variable_word(table, x, 2) == sign(construct_at(table, j)),
+            ),
+            zeros(table, at + 3, at + 4),
         ),
     )
 }

@@ -23,17 +23,23 @@ word-requires-2 c κs = search needs
 either-requires : tie.Need-either-requires
 either-requires c κs = search needs
 
+high-used-requires : tie.Need-high-used-requires
+high-used-requires c κs = search needs
+
 add-word-2 : tie.Need-add-word-2
 add-word-2 c = search needs
 
 word-requires-3 : tie.Need-word-requires-3
 word-requires-3 c κs = search needs
 
+either-requires-2 : tie.Need-either-requires-2
+either-requires-2 c κs = search needs
+
 both-requires : tie.Need-both-requires
 both-requires c κs = search needs
 
 returns : tie.Need-returns
-returns c = simp (c .both .ensures, c .before .word3 .ensures .0, c .before .before .either .ensures, c .before .before .before .word2 .ensures .0, c .before .before .before .before .low-used .ensures, c .before .before .before .before .before .word .ensures .0)
+returns c = simp (c .both .ensures, c .before .either2 .ensures, c .before .before .word3 .ensures .0, c .before .before .before .high-used .ensures, c .before .before .before .before .either .ensures, c .before .before .before .before .before .word2 .ensures .0, c .before .before .before .before .before .before .low-used .ensures, c .before .before .before .before .before .before .before .word .ensures .0)
 
 pub term-spec : {M : Type 1} → statement M
 term-spec =
@@ -46,7 +52,9 @@ term-spec =
     add-word
     word-requires-2
     either-requires
+    high-used-requires
     add-word-2
     word-requires-3
+    either-requires-2
     both-requires
     returns)

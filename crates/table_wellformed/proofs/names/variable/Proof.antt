@@ -29,6 +29,18 @@ variable-word-requires-2 c κs = search needs
 construct-word-requires : tie.Need-construct-word-requires
 construct-word-requires c κs = search needs
 
+variable-word-requires-3 : tie.Need-variable-word-requires-3
+variable-word-requires-3 c κs = search needs
+
+construct-at-requires-2 : tie.Need-construct-at-requires-2
+construct-at-requires-2 c κs = search needs
+
+sign-requires : tie.Need-sign-requires
+sign-requires c κs = search needs
+
+both-requires-2 : tie.Need-both-requires-2
+both-requires-2 c κs = search needs
+
 add-zeros : tie.Need-add-zeros
 add-zeros c = search needs
 
@@ -38,14 +50,14 @@ add-zeros-2 c = search needs
 zeros-requires : tie.Need-zeros-requires
 zeros-requires c κs = search needs
 
-both-requires-2 : tie.Need-both-requires-2
-both-requires-2 c κs = search needs
-
 both-requires-3 : tie.Need-both-requires-3
 both-requires-3 c κs = search needs
 
+both-requires-4 : tie.Need-both-requires-4
+both-requires-4 c κs = search needs
+
 returns : tie.Need-returns
-returns c = simp (c .both3 .ensures, c .before .both2 .ensures, c .before .before .zeros .ensures, c .before .before .before .construct-word .ensures .0, c .before .before .before .before .variable-word2 .ensures .0, c .before .before .before .before .before .both .ensures, c .before .before .before .before .before .before .variable-word .ensures .0, c .before .before .before .before .before .before .before .binder .ensures, c .before .before .before .before .before .before .before .before .construct-at .ensures)
+returns c = simp (c .both4 .ensures, c .before .both3 .ensures, c .before .before .zeros .ensures, c .before .before .before .both2 .ensures, c .before .before .before .before .sign .ensures, c .before .before .before .before .before .construct-at2 .ensures, c .before .before .before .before .before .before .variable-word3 .ensures .0, c .before .before .before .before .before .before .before .construct-word .ensures .0, c .before .before .before .before .before .before .before .before .variable-word2 .ensures .0, c .before .before .before .before .before .before .before .before .before .both .ensures, c .before .before .before .before .before .before .before .before .before .before .variable-word .ensures .0, c .before .before .before .before .before .before .before .before .before .before .before .binder .ensures, c .before .before .before .before .before .before .before .before .before .before .before .before .construct-at .ensures)
 
 pub variable-spec : {M : Type 1} → statement M
 variable-spec =
@@ -60,9 +72,13 @@ variable-spec =
     both-requires
     variable-word-requires-2
     construct-word-requires
+    variable-word-requires-3
+    construct-at-requires-2
+    sign-requires
+    both-requires-2
     add-zeros
     add-zeros-2
     zeros-requires
-    both-requires-2
     both-requires-3
+    both-requires-4
     returns)
