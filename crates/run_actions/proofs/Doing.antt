@@ -10,10 +10,8 @@ use mathlib.Core.List.{List}
 use lib.Dec.{leb, ltb, eqb}
 use lib.IntN.{ℤ, pos}
 use lib.ListN.{take, drop}
-use lib.Pow.{pow-mono}
-use Rattle.basis.specs.Limits.{max-constructs, max-variables, max-width}
+use Rattle.basis.specs.Limits.{max-constructs, max-variables}
 use Rattle.basis.specs.Bits.{value, frameBits}
-use Rattle.basis.proofs.Frames.{value-take-less}
 use Rattle.basis.proofs.Booleans.{both-true, which, picked-true}
 use Rattle.term_evaluation.specs.Meaning.{membership}
 use Rattle.term_evaluation.specs.declared.Counted.{Counted}
@@ -24,7 +22,7 @@ use Rattle.table_layout.specs.Held.{terms-of, size-of, opening}
 use Rattle.table_layout.specs.declared.Construct.{Construct}
 use Rattle.run_actions.specs.Stored.{stored, prediction-at, follow-at}
 use Rattle.table_layout.proofs.Bounds.{Fine, fine}
-use Rattle.run_actions.specs.Acts.{in-table, whole-in-table, terms-in-table, binder-in-table, known-values, enter, open-rule, ahead-at, bits-of, walk, by-branch, branch-act, case-test, by-case, case-act, members-act, by-lookahead, choice-act, turn-act, counted, literal-holds, literal-act, range-act, by-set, bits-act, construct-act, actOf, part-count, Doable}
+use Rattle.run_actions.specs.Acts.{in-table, whole-in-table, terms-in-table, binder-in-table, known-values, enter, open-rule, ahead-at, bits-of, walk, by-branch, branch-act, case-test, by-case, case-act, members-act, by-lookahead, choice-act, turn-act, counted, literal-holds, literal-act, range-act, by-set, kept, number-at, bits-act, construct-act, actOf, part-count, Doable}
 use Rattle.run_actions.specs.declared.Act.{Act}
 
 -- a walk gives what its end, a missing part and each visit give
@@ -143,27 +141,27 @@ module _ (ws fs : List ℕ) (vs : List ℤ) (p : ℕ) where
 
   literal-good : (i n : ℕ) → 1 ≤ n → Good (literal-act ws fs p i n)
   literal-good i n some =
-      picked-true Good (leb (p + 8 * n) (bits-of fs)) (cond (literal-holds ws fs p i 0 n) (Act.Take (8 * n) 0 0) Act.Fail) Act.Fail
-      (λ e. picked-true Good (literal-holds ws fs p i 0 n) (Act.Take (8 * n) 0 0) Act.Fail (λ h. (leb-true (p + 8 * n) (bits-of fs) e, omega arith, omega arith, omega arith)) tt) tt
+      picked-true Good (leb (p + 8 * n) (bits-of fs)) (cond (literal-holds ws fs p i 0 n) (Act.Take (8 * n) 0 (pos 0)) Act.Fail) Act.Fail
+      (λ e. picked-true Good (literal-holds ws fs p i 0 n) (Act.Take (8 * n) 0 (pos 0)) Act.Fail (λ h. (leb-true (p + 8 * n) (bits-of fs) e, omega arith, omega arith)) tt) tt
 
   range-good : (low high : ℕ) → Good (range-act fs p low high)
   range-good low high =
       let v = value (take 8 (drop p (frameBits fs))) in
-      picked-true Good (leb (p + 8) (bits-of fs)) (cond (leb low v && leb v high) (Act.Take 8 0 0) Act.Fail) Act.Fail
-      (λ e. picked-true Good (leb low v && leb v high) (Act.Take 8 0 0) Act.Fail (λ h. (leb-true (p + 8) (bits-of fs) e, omega arith, omega arith, omega arith)) tt) tt
+      picked-true Good (leb (p + 8) (bits-of fs)) (cond (leb low v && leb v high) (Act.Take 8 0 (pos 0)) Act.Fail) Act.Fail
+      (λ e. picked-true Good (leb low v && leb v high) (Act.Take 8 0 (pos 0)) Act.Fail (λ h. (leb-true (p + 8) (bits-of fs) e, omega arith, omega arith)) tt) tt
 
-  set-good : (t : Tested) (width binder n : ℕ) → p + width ≤ bits-of fs → binder ≤ max-variables → n < 4294967296 → 1 ≤ width → Good (by-set t width binder n)
-  set-good Tested.Yes width binder n a b c d = (a, b, c, d)
-  set-good Tested.No width binder n a b c d = tt
-  set-good Tested.Malformed width binder n a b c d = tt
-  set-good Tested.Overflow width binder n a b c d = tt
+  set-good : (t : Tested) (width binder : ℕ) (n : ℤ) → p + width ≤ bits-of fs → binder ≤ max-variables → 1 ≤ width → Good (by-set t width binder n)
+  set-good Tested.Yes width binder n a b d = (a, b, d)
+  set-good Tested.No width binder n a b d = tt
+  set-good Tested.Malformed width binder n a b d = tt
+  set-good Tested.Overflow width binder n a b d = tt
 
-  uint-good : (width start end binder : ℕ) → width ≤ max-width → binder ≤ max-variables → 1 ≤ width → Good (bits-act ws fs vs p width start end binder)
-  uint-good width start end binder l m some =
-      let v = value (take width (drop p (frameBits fs))) in
-      let small : v < 4294967296 = (let a = value-take-less width (drop p (frameBits fs)) in let z : 2 ^ width ≤ 2 ^ 32 = pow-mono {j = 32} l in omega arith) in
-      picked-true Good (leb (p + width) (bits-of fs)) (by-set (membership vs (pos v) start (terms-of ws start end)) width binder v) Act.Fail
-      (λ e. set-good (membership vs (pos v) start (terms-of ws start end)) width binder v (leb-true (p + width) (bits-of fs) e) m small some) tt
+  uint-good : (signed : Bool) (width start end binder : ℕ) → binder ≤ max-variables → 1 ≤ width → Good (bits-act ws fs vs p signed width start end binder)
+  uint-good signed width start end binder m some =
+      let v : ℤ = number-at fs p signed width in
+      let t : Tested = membership vs v start (terms-of ws start end) in
+      picked-true Good (leb (p + width) (bits-of fs)) (by-set t width binder (kept binder v)) Act.Fail
+      (λ e. set-good t width binder (kept binder v) (leb-true (p + width) (bits-of fs) e) m some) tt
 
   open-good : (rule : ℕ) → Good (open-rule ws rule)
   open-good rule = picked-true Good (ltb rule (rule-count ws)) (enter ws (rule-word ws rule 0)) Act.Broken (λ e. enter-good (rule-word ws rule 0)) tt
@@ -178,7 +176,7 @@ module _ (ws fs : List ℕ) (vs : List ℤ) (p : ℕ) where
   construct-good i k (Construct.Literal n) f l = literal-good i n (f .1)
   construct-good i k (Construct.Range low high) f l = range-good low high
   construct-good i k (Construct.Uint signed width start end binder) f l =
-      picked-true Good (terms-in-table ws end && binder-in-table ws binder) (bits-act ws fs vs p width start end binder) Act.Broken (λ e. uint-good width start end binder (f .2) (f .5) (f .1)) tt
+      picked-true Good (terms-in-table ws end && binder-in-table ws binder) (bits-act ws fs vs p signed width start end binder) Act.Broken (λ e. uint-good signed width start end binder (f .5) (f .1)) tt
   construct-good i k Construct.Eod f l = picked-true Good (eqb p (bits-of fs)) Act.Leave Act.Fail (λ e. tt) tt
 
 pub doable : (ws fs : List ℕ) (vs : List ℤ) (p i k : ℕ) → Doable ws fs p (actOf ws fs vs p i k)

@@ -2,4 +2,5 @@
 pub mod Walks
 pub mod Parts
 pub mod Literals
+pub mod Wholes
 pub mod Doing

@@ -3,16 +3,16 @@ use basis::MAX_CONSTRUCTS;
 use table_layout::CONSTRUCTS_AT;
 ghost use mathlib.Core.Path.{_≡_};
 ghost use Prim.Native.Nat.{ℕ, _+_, _*_, _^_, _≤_, _<_};
-ghost use lib.IntN.{pos};
 ghost use lib.ListN.{length, take, drop};
-ghost use Rattle.basis.specs.Limits.{max-rules, max-constructs, max-literal-bytes, max-width, table-words, max-frame-bytes};
+ghost use Rattle.basis.specs.Limits.{max-rules, max-constructs, max-literal-bytes, max-width, max-bound-width, table-words, max-frame-bytes};
 ghost use Rattle.basis.specs.Bits.{value, frameBits};
 ghost use Rattle.table_layout.specs.Constructs.{constructAt};
 ghost use Rattle.term_evaluation.specs.Meaning.{membership};
+ghost use Rattle.term_evaluation.specs.Patterns.{clamped};
 ghost use Rattle.table_layout.specs.Held.{opening, term-words, terms-of, size-of, literal-byte};
 ghost use Rattle.table_layout.proofs.Bounds.{Fine};
 ghost use Rattle.run_actions.specs.Stored.{stored as storedOf};
-ghost use Rattle.run_actions.specs.Acts.{in-table, known-values, enter as enterOf, open-rule, ahead-at, branch-act, case-test, case-act, members-act, choice-act, turn-act, counted as countedOf, literal-holds, literal-act, by-set, range-act, bits-act, uint-act, end-act, construct-act, actOf};
+ghost use Rattle.run_actions.specs.Acts.{in-table, known-values, enter as enterOf, open-rule, ahead-at, branch-act, case-test, case-act, members-act, choice-act, turn-act, counted as countedOf, literal-holds, literal-act, by-set, range-act, kept as keptOf, number-at, bits-act, uint-act, end-act, construct-act, actOf};
 use table_layout::Construct;
 use table_layout::LITERALS_AT;
 use table_layout::OPENING;
@@ -50,7 +50,7 @@ pub enum Act {
     Take {
         width: usize,
         binder: usize,
-        value: u64,
+        value: i64,
     },
 }
 
@@ -316,19 +316,20 @@ fn range(frame: &[u8], p: usize, low: usize, high: usize) -> Act
     Act::Fail
 }
 
-// A uint whose set and variable the table has.
+// A uint or a sint whose set and variable the table has.
 fn uint(
     table: &[u32],
     frame: &[u8],
     values: &[i64],
     p: usize,
+    signed: bool,
     width: usize,
     start: usize,
     end: usize,
     binder: usize,
 ) -> Act
-    requires { ⌜ (table-words ≤ length (now table)) × (p ≤ 8 * length (now frame)) × (length (now frame) ≤ max-frame-bytes) × (width ≤ max-width) ⌝ }
-    ensures { λ r. ⌜ r ≡ uint-act (now (table .entry)) (now (frame .entry)) (now (values .entry)) p width start end binder ⌝ }
+    requires { ⌜ (table-words ≤ length (now table)) × (p ≤ 8 * length (now frame)) × (length (now frame) ≤ max-frame-bytes) × (width ≤ max-width) × (0 < binder → width ≤ max-bound-width) ⌝ }
+    ensures { λ r. ⌜ r ≡ uint-act (now (table .entry)) (now (frame .entry)) (now (values .entry)) p signed width start end binder ⌝ }
 {
     if table_layout::word(table, 4) < end {
         return Act::Broken;
@@ -336,50 +337,60 @@ fn uint(
     if table_layout::word(table, 3) < binder {
         return Act::Broken;
     }
-    bits(table, frame, values, p, width, start, end, binder)
+    bits(table, frame, values, p, signed, width, start, end, binder)
 }
 
+// A binder has at most 62 bits, so what it binds is the number itself.
 fn bits(
     table: &[u32],
     frame: &[u8],
     values: &[i64],
     p: usize,
+    signed: bool,
     width: usize,
     start: usize,
     end: usize,
     binder: usize,
 ) -> Act
-    requires { ⌜ (table-words ≤ length (now table)) × (p ≤ 8 * length (now frame)) × (length (now frame) ≤ max-frame-bytes) × (width ≤ max-width) ⌝ }
-    ensures { λ r. ⌜ r ≡ bits-act (now (table .entry)) (now (frame .entry)) (now (values .entry)) p width start end binder ⌝ }
+    requires { ⌜ (table-words ≤ length (now table)) × (p ≤ 8 * length (now frame)) × (length (now frame) ≤ max-frame-bytes) × (width ≤ max-width) × (0 < binder → width ≤ max-bound-width) ⌝ }
+    ensures { λ r. ⌜ r ≡ bits-act (now (table .entry)) (now (frame .entry)) (now (values .entry)) p signed width start end binder ⌝ }
 {
     if p + width <= 8 * frame.len() {
-        let value = run_frame::bits(frame, p, width);
-        return by_set(
-            set_holds(table, values, start, end, value),
-            width,
-            binder,
-            value,
-        );
+        let number = number_at(frame, p, signed, width);
+        let tested = set_holds(table, values, start, end, number);
+        return by_set(tested, width, binder, kept(binder, number));
     }
     Act::Fail
 }
 
-// Whether a field's value is in the set of these terms.
-fn set_holds(table: &[u32], values: &[i64], start: usize, end: usize, value: u64) -> Tested
-    requires { ⌜ (table-words ≤ length (now table)) × (value < 4294967296) ⌝ }
-    ensures { λ r. ⌜ r ≡ membership (now (values .entry)) (pos value) start (terms-of (now (table .entry)) start end) ⌝ }
+// The number that so many bits from bit p on are; of one past 2^62 what stands for it in every set.
+fn number_at(frame: &[u8], p: usize, signed: bool, width: usize) -> i64
+    requires { ⌜ (p + width ≤ 8 * length (now frame)) × (length (now frame) ≤ max-frame-bytes) × (width ≤ max-width) ⌝ }
+    ensures { λ r. ⌜ r ≡ clamped (number-at (now (frame .entry)) p signed width) ⌝ }
 {
-    term_evaluation::contains(terms(table), start, end, values, whole(value))
+    let pattern = run_frame::bits(frame, p, width);
+    term_evaluation::patterns::value_of(pattern, width as u32, signed)
 }
 
-pub fn whole(n: u64) -> i64
-    requires { ⌜ n < 4294967296 ⌝ }
-    ensures { λ r. ⌜ r ≡ pos n ⌝ }
+// Whether a number is in the set of these terms.
+fn set_holds(table: &[u32], values: &[i64], start: usize, end: usize, number: i64) -> Tested
+    requires { ⌜ table-words ≤ length (now table) ⌝ }
+    ensures { λ r. ⌜ r ≡ membership (now (values .entry)) number start (terms-of (now (table .entry)) start end) ⌝ }
 {
-    term_integers::signed(n)
+    term_evaluation::contains(terms(table), start, end, values, number)
 }
 
-fn by_set(tested: Tested, width: usize, binder: usize, value: u64) -> Act
+// What is bound: 0 where nothing is.
+fn kept(binder: usize, number: i64) -> i64
+    ensures { λ r. ⌜ r ≡ keptOf binder number ⌝ }
+{
+    if 0 < binder {
+        return number;
+    }
+    0
+}
+
+fn by_set(tested: Tested, width: usize, binder: usize, value: i64) -> Act
     ensures { λ r. ⌜ r ≡ by-set tested width binder value ⌝ }
 {
     match tested {
@@ -450,11 +461,12 @@ fn of_construct(
         Construct::Literal { length } => literal(table, frame, p, i, length),
         Construct::Range { low, high } => range(frame, p, low, high),
         Construct::Uint {
+            signed,
             width,
             start,
             end,
             binder,
-        } => uint(table, frame, values, p, width, start, end, binder),
+        } => uint(table, frame, values, p, signed, width, start, end, binder),
         Construct::Eod => end(frame, p),
     }
 }

@@ -1,6 +1,8 @@
-use mathlib.Core.Path.{sym, ap}
+use mathlib.Core.Path.{sym, ap, _∙_}
 use Rattle.term_evaluation.specs.declared.Tested.{Tested}
+use Rattle.term_integers.proofs.Laws.{back}
 use Rattle.run_actions.specs.Acts.{by-set}
+use Rattle.run_actions.specs.declared.Act.{Act}
 use borrow.Author.Needs.{needs}
 use Rattle.run_actions.proofs.by_set.Statement.{statement}
 use Rattle.run_actions.proofs.by_set.Tie as tie
@@ -25,7 +27,10 @@ enum-told-4 c = search needs
 
 -- src/lib.rt:307:1
 returns : tie.Need-returns
-returns c = sym (ap (λ (t : Tested). by-set t (c .before .before .args .width) (c .before .before .args .binder) (c .before .before .args .value)) (c .enum-told .given .1))
+returns c =
+    let a = c .before .before .args in
+    ap (Act.Take (a .width) (a .binder)) (back (a .value) (c .before .before .fits .value .sfits))
+    ∙ sym (ap (λ (t : Tested). by-set t (a .width) (a .binder) (a .value)) (c .enum-told .given .1))
 
 -- src/lib.rt:307:1
 returns-2 : tie.Need-returns-2

@@ -97,7 +97,7 @@ enum-known-construct-8 c = search needs
 
 -- src/lib.rt:370:58
 uint-requires : tie.Need-uint-requires
-uint-requires c κs = (omega arith, omega arith, omega arith, subst (Fine (c .before .before .before .before .before .args .i)) (c .before .construct8 .given .1) (c .before .before .before .before .before .pre .4) .2)
+uint-requires c κs = (let f = subst (Fine (c .before .before .before .before .before .args .i)) (c .before .construct8 .given .1) (c .before .before .before .before .before .pre .4) in (omega arith, omega arith, omega arith, f .2, f .6))
 
 -- src/lib.rt:371:27
 enum-told-2 : tie.Need-enum-told-2
