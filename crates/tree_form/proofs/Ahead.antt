@@ -3,7 +3,7 @@
 use Prim.Native.Nat.{ℕ, _≤_}
 use mathlib.Core.Path.{_≡_, refl, sym, ap, _∙_}
 use mathlib.Core.Logic.{⊎-elim}
-use mathlib.Core.Bool.{Bool, true, false, cond}
+use mathlib.Core.Bool.{Bool, true, false, cond, _||_}
 use mathlib.Core.List.{List, [], _∷_}
 use native.Mathlib.Omega.{arith}
 use borrow.Author.Tests.{eqb-true, leb-true}
@@ -36,7 +36,7 @@ off : (A B : Consumed) (t : Bool) → t ≡ false → faulty (elim t [ true ↦ 
 off A B true e = let z : _≡_ {A = ℕ} 0 1 = cc in absurd (omega arith)
 off A B false e = refl
 
--- `uint` and `var` before `(` cannot stand where a plain name cannot
+-- `uint`, `sint` and `var` before `(` cannot stand where a plain name cannot
 same : (a b z : ℕ) (st : State) (ks : List Symbol) → Ground ks → (faulty (consume (terminal 6 a b z) st ks) ≡ faulty (consume (terminal 1 a b z) st ks)) × (faulty (consume (terminal 8 a b z) st ks) ≡ faulty (consume (terminal 1 a b z) st ks))
 unfolding consume primary-begins operand-begins item-begins test-begins atom-begins
 same a b z st [] g = (refl, refl)
@@ -101,7 +101,7 @@ pub ahead : (x : Lexeme) (m n : Bool) (st : State) (ks : List Symbol) → Ground
 ahead (sign kind s) m n st ks g e = e
 ahead (word x) m n st ks g e =
     faulty-is (consume (seen-with (word x) (code (word x) n)) st ks)
-    (by-next (λ (c : ℕ). faulty (consume (terminal c (x .start) (x .end) 0) st ks)) (same (x .start) (x .end) 0 st ks g .0) (same (x .start) (x .end) 0 st ks g .1) (eqb (reserved-of (x .letters)) 12) (eqb (reserved-of (x .letters)) 9) (eqb (reserved-of (x .letters)) 10) n m
+    (by-next (λ (c : ℕ). faulty (consume (terminal c (x .start) (x .end) 0) st ks)) (same (x .start) (x .end) 0 st ks g .0) (same (x .start) (x .end) 0 st ks g .1) (eqb (reserved-of (x .letters)) 12 || eqb (reserved-of (x .letters)) 13) (eqb (reserved-of (x .letters)) 9) (eqb (reserved-of (x .letters)) 10) n m
     ∙ ap faulty e)
 ahead (numeral x) m n st ks g e = e
 ahead (quoted l) m n st ks g e = e

@@ -12,7 +12,7 @@ use Rattle.text_parsing.specs.Terminals.{name-code, literal-code, seen, termina
 use Rattle.text_store.specs.Store.{State, state, put-term, put-single, put-words, over, room, put-node, put-condition, put-rule}
 use Rattle.text_parsing.specs.Form.{Outcome, right, refused, primary-begins, operand-begins, item-begins, test-begins, atom-begins, consume, run}
 use Rattle.tree.specs.Lexemes.{lexemes}
-use Rattle.tree.proofs.Examples.{bytes, tokens, spelling, k1-tree, k1}
+use Rattle.tree.proofs.Examples.{bytes, tokens, spelling, k1-tree, k1, signed-tree, signed-fields}
 use Rattle.tree_form.specs.Spelled.{answer}
 use Rattle.tree_form.specs.Form.{FirstFault}
 use Rattle.tree_form.specs.Stored.{stored}
@@ -32,6 +32,11 @@ reads text = answer (bytes text) nothing
 k1-right : (st : State) → answer (bytes "frame = uint(8, var(len, 1~8)) & uint(8, ~){len};") st ≡ right (stored k1-tree st)
 unfolding tokens spelling
 k1-right st = complete (bytes "frame = uint(8, var(len, 1~8)) & uint(8, ~){len};") k1-tree 49 st k1
+
+-- signed fields are read as theirs
+signed-right : (st : State) → answer (bytes "a = sint(4, -3~2) & sint(8, var(x, ~));") st ≡ right (stored signed-tree st)
+unfolding tokens spelling
+signed-right st = complete (bytes "a = sint(4, -3~2) & sint(8, var(x, ~));") signed-tree 39 st signed-fields
 
 -- `uint` sixteen deep can stand, and its `(` cannot
 deep : reads "a = ((((((((((((((((uint(8, ~)))))))))))))))));" ≡ refused 24

@@ -21,7 +21,7 @@ use Rattle.tree.specs.Spelling.{spell-factors, spell-summands, spell}
 use Rattle.tree_form.specs.Stored.{store-operand, store-factors, store-summands, store}
 use Rattle.tree_form.proofs.Classified.{code, seen-with}
 use Rattle.tree_form.proofs.Rests.{no-upper, an-upper, alone, reaches, no-exception, excluded-item, excluded-set, no-choice, more-choices, no-link, link, not-joined, by-and, by-or, no-mark, a-mark, no-member, more-members, no-branch, more-branches, no-character, to-character, plain-set, bound-set, no-case, default, more-cases, no-rule, more-rules, kind-of, spell-marked, spell-members, spell-branches, spell-field, store-marked, store-members, store-branches, Rests, spell-all, store-all, Ground, Room, opened}
-use Rattle.tree_form.proofs.Words.{sign-in, name-in, number-in, literal-in, is-sign, is-number, is-end, is-literal, is-character, is-single, is-eod, is-uint, is-var, is-name, is-other}
+use Rattle.tree_form.proofs.Words.{sign-in, signed-in, name-in, number-in, literal-in, is-sign, is-number, is-end, is-literal, is-character, is-single, is-eod, is-uint, is-var, is-name, is-other}
 use Rattle.tree_form.proofs.Parts.{first-place, operand-place, atom-place, factor-place, concatenation-place, opened-item, opened-item-spells, opened-item-stores, item-from, item-from-spells, item-from-stores, excepted, excepted-spells, excepted-stores, choice-from, choice-from-spells, choice-from-stores, chosen, chosen-spells, chosen-stores, counts-from, counts-from-spells, counts-from-stores, all-from, all-from-spells, all-from-stores, any-from, any-from-spells, any-from-stores, tests-from, tests-from-spells, tests-from-stores, factor-from, factor-from-spells, factor-from-stores, members-from, members-from-spells, members-from-stores, members-from-on, branches-from, branches-from-spells, branches-from-stores, branches-from-on, character-from, character-from-spells, character-from-stores, field-from, field-from-spells, field-from-stores, closing, cases-from, cases-from-spells, cases-from-stores, rules-from, rules-from-spells, rules-from-stores}
 
 -- ---- the shortest rest of each part; its tokens stand nowhere, its name is `a`
@@ -354,9 +354,9 @@ module _ (x : Lexeme) (next : Bool) (c : ℕ) (e : code x next ≡ c) where
 
   unfoldable pub field-leads : (d : ℕ) (st : State) (ks : List Symbol) → Ground ks → eqb c 6 ≡ true → Leads x st (Symbol.atom d ∷ ks) (go st (Symbol.paren d ∷ Symbol.width (d + 1) (place-of x) ∷ ks))
   field-leads d st ks g t =
-      goes {ks′ = Symbol.paren d ∷ Symbol.width (d + 1) (place-of x) ∷ ks} (λ r. (field-from (r .0 .0) (sign-in x) (r .0 .1) (r .1 .0 .0) (r .1 .0 .1) (r .1 .0 .2), r .1 .1))
-      (λ r. field-from-spells (r .0 .0) (sign-in x) (r .0 .1) (r .1 .0 .0) (r .1 .0 .1) (r .1 .0 .2) (spell-all ks (r .1 .1)) ∙ ap (λ (z : Lexeme). z ∷ sign Kind.OpenParen (r .0 .1) ∷ numeral (r .1 .0 .0) ∷ sign Kind.Comma (r .1 .0 .1) ∷ spell-field (r .1 .0 .2) (spell-all ks (r .1 .1))) (sym (is-uint x next c e t)))
-      (λ r. ap (store-all ks (r .1 .1)) (field-from-stores (r .0 .0) (sign-in x) (r .0 .1) (r .1 .0 .0) (r .1 .0 .1) (r .1 .0 .2) st))
+      goes {ks′ = Symbol.paren d ∷ Symbol.width (d + 1) (place-of x) ∷ ks} (λ r. (field-from (signed-in x) (r .0 .0) (sign-in x) (r .0 .1) (r .1 .0 .0) (r .1 .0 .1) (r .1 .0 .2), r .1 .1))
+      (λ r. field-from-spells (signed-in x) (r .0 .0) (sign-in x) (r .0 .1) (r .1 .0 .0) (r .1 .0 .1) (r .1 .0 .2) (spell-all ks (r .1 .1)) ∙ ap (λ (z : Lexeme). z ∷ sign Kind.OpenParen (r .0 .1) ∷ numeral (r .1 .0 .0) ∷ sign Kind.Comma (r .1 .0 .1) ∷ spell-field (r .1 .0 .2) (spell-all ks (r .1 .1))) (sym (is-uint x next c e t)))
+      (λ r. ap (store-all ks (r .1 .1)) (field-from-stores (signed-in x) (r .0 .0) (sign-in x) (r .0 .1) (r .1 .0 .0) (r .1 .0 .1) (r .1 .0 .2) st))
       g (λ m. ⊎-elim (λ l. inl (ltb-true d 16 l, m)) (λ l. inr (use-instead d ks g t m, too-deep (Symbol.width (d + 1) (place-of x) ∷ ks) d l)) (which (ltb d 16))) (subst Going (sym (is-uint x next c e t)) tt)
 
   unfoldable pub switch-leads : (d : ℕ) (st : State) (ks : List Symbol) → Ground ks → eqb c 91 ≡ true → d < 16 → Leads x st (Symbol.atom d ∷ ks) (go st (Symbol.condition (d + 1) ∷ Symbol.colon (d + 1) (terms-of st) ∷ Symbol.cases (d + 1) (place-of x) (nodes-of st) ∷ ks))

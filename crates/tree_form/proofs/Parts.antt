@@ -9,7 +9,7 @@ use Rattle.text_store.specs.Store.{State, nodes-of, add, insert}
 use Rattle.text_parsing.specs.Form.{chained}
 use Rattle.tree.specs.Lexemes.{Sign, Number, Literal, Lexeme, sign, numeral, quoted, place-of}
 use Rattle.tree.specs.Tree.{Primary, number, variable, Operand, plain, opposite, Calculation, Item, everything, only, between, from, up-to, whole, choice, Choices, item, item-but-item, item-but-set, last-choice, or-choices, Counts, exactly, at-least, span, tests, test, conjuncts, disjuncts, Tests, compare, test-group, one-test, all-of, any-of, last-conjunct, and-conjuncts, last-disjunct, or-disjuncts, Single, expression, concatenation, factor, atom, cases, Tree, literal, range, field, binder, rule-use, eod, group, switch, last-case, case-default, case-cases, once, repeated, last-member, and-members, last-branch, or-branches, Rule, last-rule, and-rules}
-use Rattle.tree.specs.Spelling.{uint-word, spelled-as, spell-primary, spell-operand, spell-calculation, spell-item, spell-set, spell-counts, spell-tests, spell-mark, spell, spell-rule}
+use Rattle.tree.specs.Spelling.{field-word, spelled-as, spell-primary, spell-operand, spell-calculation, spell-item, spell-set, spell-counts, spell-tests, spell-mark, spell, spell-rule}
 use Rattle.tree_form.specs.Stored.{start-of-primary, start-of-operand, store-calculation, store-item, store-set, store-counts, store-tests, start-of, store-case, store, store-rule}
 use Rattle.tree_form.proofs.Rests.{Upper, no-upper, an-upper, Reach, alone, reaches, Exception, no-exception, but-item, but-set, Excluded, excluded-item, excluded-set, MoreChoices, no-choice, more-choices, Links, no-link, link, Joined, not-joined, by-and, by-or, Marked, no-mark, a-mark, MoreMembers, no-member, more-members, MoreBranches, no-branch, more-branches, ToCharacter, no-character, to-character, FieldSet, plain-set, bound-set, MoreCases, no-case, default, more-cases, MoreRules, no-rule, more-rules, spell-upper, spell-reach, spell-exception, spell-excluded, spell-choices, spell-links, spell-joined, spell-marked, spell-members, spell-branches, spell-character, spell-field, spell-cases, spell-more-rules, store-upper, store-item-reach, store-counts-reach, store-exception, store-excluded, store-choices, store-links, store-joined, store-marked, store-members, store-branches, store-character, store-fields, store-cases, store-more-rules, opened}
 
@@ -275,19 +275,19 @@ unfolding opened
 character-from-stores d l one no-character st = refl
 character-from-stores d l one (to-character s b one′) st = refl
 
-abbrev pub field-from : {d : ℕ} → d < 16 → Sign → Sign → Number → Sign → FieldSet (d + 1) → Tree atom d
-field-from l u o n m (plain-set x c) = field l u o n m x c
-field-from l u o n m (bound-set l′ v o′ x m′ y c c′) = binder l′ u o n m v o′ x m′ y c c′
+abbrev pub field-from : {d : ℕ} → (signed : Bool) → d < 16 → Sign → Sign → Number → Sign → FieldSet (d + 1) → Tree atom d
+field-from signed l u o n m (plain-set x c) = field signed l u o n m x c
+field-from signed l u o n m (bound-set l′ v o′ x m′ y c c′) = binder signed l′ u o n m v o′ x m′ y c c′
 
-pub field-from-spells : {d : ℕ} (l : d < 16) (u o : Sign) (n : Number) (m : Sign) (x : FieldSet (d + 1)) (w : List Lexeme) → spell (field-from l u o n m x) w ≡ spelled-as uint-word u ∷ sign Kind.OpenParen o ∷ numeral n ∷ sign Kind.Comma m ∷ spell-field x w
+pub field-from-spells : {d : ℕ} (signed : Bool) (l : d < 16) (u o : Sign) (n : Number) (m : Sign) (x : FieldSet (d + 1)) (w : List Lexeme) → spell (field-from signed l u o n m x) w ≡ spelled-as (field-word signed) u ∷ sign Kind.OpenParen o ∷ numeral n ∷ sign Kind.Comma m ∷ spell-field x w
 unfolding opened
-field-from-spells l u o n m (plain-set x c) w = refl
-field-from-spells l u o n m (bound-set l′ v o′ x m′ y c c′) w = refl
+field-from-spells signed l u o n m (plain-set x c) w = refl
+field-from-spells signed l u o n m (bound-set l′ v o′ x m′ y c c′) w = refl
 
-pub field-from-stores : {d : ℕ} (l : d < 16) (u o : Sign) (n : Number) (m : Sign) (x : FieldSet (d + 1)) (st : State) → store (field-from l u o n m x) false st ≡ store-fields x (u .start) (n .start) st
+pub field-from-stores : {d : ℕ} (signed : Bool) (l : d < 16) (u o : Sign) (n : Number) (m : Sign) (x : FieldSet (d + 1)) (st : State) → store (field-from signed l u o n m x) false st ≡ store-fields x (u .start) (n .start) st
 unfolding opened
-field-from-stores l u o n m (plain-set x c) st = refl
-field-from-stores l u o n m (bound-set l′ v o′ x m′ y c c′) st = refl
+field-from-stores signed l u o n m (plain-set x c) st = refl
+field-from-stores signed l u o n m (bound-set l′ v o′ x m′ y c c′) st = refl
 
 -- the cases of a switch, and its closing bracket
 abbrev pub closing : {d : ℕ} → MoreCases d → Sign

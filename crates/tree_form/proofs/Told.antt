@@ -14,7 +14,7 @@ use Rattle.text_store.specs.Store.{State, nodes-of, terms-of}
 use Rattle.text_parsing.specs.Symbols.{Symbol}
 use Rattle.tree.specs.Lexemes.{Sign, Name, Number, Literal, Lexeme, sign, word, numeral, quoted, finish}
 use Rattle.tree.specs.Tree.{whole, Choices, tests, Tests, Mark, optional, any-number, one-or-more, counted, eod-word, Single, Part, expression, concatenation, factor, atom, cases, Tree, literal, range, field, binder, rule-use, eod, group, switch, last-case, case-default, case-cases, once, repeated, last-member, and-members, last-branch, or-branches, rule, Rules, last-rule, and-rules}
-use Rattle.tree.specs.Spelling.{uint-word, var-word, spelled-as, spell-set, spell-mark, spell, spell-rule, spell-rules, spelled}
+use Rattle.tree.specs.Spelling.{field-word, var-word, spelled-as, spell-set, spell-mark, spell, spell-rule, spell-rules, spelled}
 use Rattle.tree_form.proofs.Classified.{code, opens}
 use Rattle.tree_form.proofs.Rests.{no-mark, a-mark, MoreMembers, no-member, more-members, MoreBranches, no-branch, more-branches, to-character, FieldSet, plain-set, bound-set, MoreCases, no-case, default, more-cases, MoreRules, no-rule, more-rules, Rests, Ground}
 use Rattle.tree_form.proofs.Words.{is-single, is-other, plain-name, word-has}
@@ -89,9 +89,10 @@ reads-width : (d p : ℕ) (n : Number) (m : Sign) (x : FieldSet d) {w : List Lex
 unfolding reading
 reads-width d p n m x h = record { read = λ st. onward _ (reads-comma m h .read _) }
 
-reads-uint : (d : ℕ) (l : d < 16) (u o : Sign) (n : Number) (m : Sign) (x : FieldSet (d + 1)) {w : List Lexeme} {ks : List Symbol} {g : Ground ks} {r : Rests ks} → Reads (sign Kind.OpenParen o ∷ w) (Symbol.paren d ∷ Symbol.width (d + 1) (u .start) ∷ ks) g ((l, o), ((n, m, x), r)) → Reads (spelled-as uint-word u ∷ sign Kind.OpenParen o ∷ w) (Symbol.atom d ∷ ks) g (field-from l u o n m x, r)
+reads-uint : (signed : Bool) (d : ℕ) (l : d < 16) (u o : Sign) (n : Number) (m : Sign) (x : FieldSet (d + 1)) {w : List Lexeme} {ks : List Symbol} {g : Ground ks} {r : Rests ks} → Reads (sign Kind.OpenParen o ∷ w) (Symbol.paren d ∷ Symbol.width (d + 1) (u .start) ∷ ks) g ((l, o), ((n, m, x), r)) → Reads (spelled-as (field-word signed) u ∷ sign Kind.OpenParen o ∷ w) (Symbol.atom d ∷ ks) g (field-from signed l u o n m x, r)
 unfolding reading word-number starts
-reads-uint d l u o n m x h = record { read = λ st. onward _ (h .read _) }
+reads-uint true d l u o n m x h = record { read = λ st. onward _ (h .read _) }
+reads-uint false d l u o n m x h = record { read = λ st. onward _ (h .read _) }
 
 reads-bound-name : (d p v : ℕ) (x : Name) (m : Sign) (y : Choices whole d) (c c′ : Sign) {w : List Lexeme} {ks : List Symbol} {g : Ground ks} {r : Rests ks} → Reads w ks g r → Reads (word x ∷ sign Kind.Comma m ∷ spell-set y (sign Kind.CloseParen c ∷ sign Kind.CloseParen c′ ∷ w)) (Symbol.bound-name d p v ∷ ks) g ((x, m, y, c, c′), r)
 unfolding reading
@@ -228,16 +229,16 @@ reads-tree : {p : Part} {d : ℕ} (a : Tree p d) → TreeReads p d a
 unfolding spell
 reads-tree (literal {d} l) = λ w ks g r f h. reads-literal d l (f .0) h
 reads-tree (range {d} a s b one one′) = λ w ks g r f h. reads-range d a s b one one′ (reads-to-character (a .start) s b one′ (reads-last-character (a .start) b one′ h))
-reads-tree (field {d} l u o n m x c) =
+reads-tree (field {d} signed l u o n m x c) =
     λ w ks g r f h.
-    reads-uint d l u o n m (plain-set x c)
+    reads-uint signed d l u o n m (plain-set x c)
     (reads-paren d l o
     (reads-width (d + 1) (u .start) n m (plain-set x c)
     (begin-field-set (d + 1) (u .start) (n .start) (spell-set x (sign Kind.CloseParen c ∷ w)) (set-not-var x (sign Kind.CloseParen c ∷ w) refl) (λ t. reads-field-set (d + 1) (u .start) (n .start) 0 0 t x c h))))
-reads-tree (binder {d} l u o n m v o′ x m′ y c c′) =
+reads-tree (binder {d} signed l u o n m v o′ x m′ y c c′) =
     λ w ks g r f h.
     let k : d < 16 = omega arith
-    in reads-uint d k u o n m (bound-set l v o′ x m′ y c c′)
+    in reads-uint signed d k u o n m (bound-set l v o′ x m′ y c c′)
     (reads-paren d k o (reads-width (d + 1) (u .start) n m (bound-set l v o′ x m′ y c c′) (reads-var (d + 1) (u .start) (n .start) l v o′ x m′ y c c′ h)))
 reads-tree (rule-use {d} x other) = λ w ks g r f h. reads-use d x other (f .1) h
 reads-tree (eod {d} s) = λ w ks g r f h. reads-eod d s h

@@ -2,7 +2,7 @@
 -- Assumes nothing.
 use Prim.Native.Nat.{ℕ, _+_, _<_}
 use mathlib.Core.Path.{_≡_, refl, ap, subst, _∙_}
-use mathlib.Core.Bool.{Bool, true, false}
+use mathlib.Core.Bool.{Bool, true, false, _||_}
 use mathlib.Core.List.{List, _∷_}
 use native.Mathlib.Omega.{arith}
 use borrow.Author.Tests.{ltb-true, lt-ltb}
@@ -75,7 +75,7 @@ cases-not k a b c d e f h (case-cases t s x i y) w = tests-not k a b c d e f h t
 word-not-var : (x : Name) (next : Bool) → next ≡ false → eqb (code (word x) next) 8 ≡ false
 word-not-var x true f = let z : _≡_ {A = ℕ} 0 1 = cc in absurd (omega arith)
 word-not-var x false f =
-    picked (λ (v : ℕ). eqb v 8 ≡ false) (eqb (reserved-of (x .letters)) 12) (λ e. refl)
+    picked (λ (v : ℕ). eqb v 8 ≡ false) (eqb (reserved-of (x .letters)) 12 || eqb (reserved-of (x .letters)) 13) (λ e. refl)
     (λ e₁. picked (λ (v : ℕ). eqb v 8 ≡ false) (eqb (reserved-of (x .letters)) 9) (λ e. refl)
     (λ e₂. picked (λ (v : ℕ). eqb v 8 ≡ false) (eqb (reserved-of (x .letters)) 10) (λ e. refl) (λ e. refl)))
 
