@@ -128,8 +128,8 @@ or-no : (b : Bool) → b ≡ (b || false)
 or-no true = refl
 or-no false = refl
 
-bound-binder : {xs ns : List ℕ} {i size place a c e : ℕ} (d : ℕ) {x : Name} {n : Number} {top : Bool} {f : List Component} → Here xs x → LikeAt ns i (a-node 8 size place a (x .start) c e (way-bound d) ∷ [])
-    → Bound xs ns i (a-node 8 size place a (x .start) c e (way-bound d) ∷ []) (width most n ∷ formula f ∷ binding x n top ∷ [])
+bound-binder : {xs ns : List ℕ} {i size place a c e : ℕ} (d : ℕ) {x : Name} {signed : Bool} {most : ℕ} {n : Number} {top : Bool} {f : List Component} → Here xs x → LikeAt ns i (a-node 8 size place a (x .start) c e (way-bound d) ∷ [])
+    → Bound xs ns i (a-node 8 size place a (x .start) c e (way-bound d) ∷ []) (width most n ∷ formula f ∷ binding x signed n top ∷ [])
 unfolding any-of is-among bound-in
 bound-binder {xs} {ns} {i} d {x = x} k h =
     record {

@@ -14,5 +14,6 @@ pub mod Spots
 pub mod Binding
 pub mod Naming
 pub mod Names
+pub mod Flags
 pub mod Steps
 pub mod Places

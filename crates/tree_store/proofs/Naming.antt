@@ -237,15 +237,15 @@ module _ (xs ns ts rs : List ℕ) (r a e : ℕ) where
         at-fault : place-if (use-fault xs ns rs r a e (x .start)) (x .start) ≡ place-if (wrong-use rules variables x) (x .start)
         at-fault = λ k. place-if (reserved-here h k || (not (known .ruled x h k) || known .varied x h k)) (x .start)
 
-    field-right : {i t : ℕ} {names : List Name} {u v : ℕ} {n : Number} {f : List Component} (A : List TermRow) → Before xs ns a i names → TermsAt ts t A → UsesAre xs A (uses-of f)
+    field-right : {i t : ℕ} {names : List Name} {u v most : ℕ} {n : Number} {f : List Component} (A : List TermRow) → Before xs ns a i names → TermsAt ts t A → UsesAre xs A (uses-of f)
         → Right i (a-node 8 1 u v 0 t (t + length A) 0 ∷ []) names (width most n ∷ formula f ∷ [])
     unfolding rows-place least-of faults-after
     field-right {i} {t} A b k us = record { low = low-as (own-min (listed i t (t + length A)) nowhere (omega arith)) (low-both (list-low t A b k us) low-none) }
 
-    binder-right : {on top : Bool} {d i t : ℕ} {names : List Name} {u v : ℕ} {x : Name} {n : Number} {f : List Component} (A : List TermRow) → Here xs x → Spot ns a atom on top d i 1 → Before xs ns a i names → TermsAt ts t A
-        → UsesAre xs A (uses-of f) → Right i (a-node 8 1 u v (x .start) t (t + length A) (way-bound (d + 1 + 1)) ∷ []) names (width most n ∷ formula f ∷ binding x n top ∷ [])
+    binder-right : {on top : Bool} {d i t : ℕ} {names : List Name} {u v most : ℕ} {x : Name} {signed : Bool} {n : Number} {f : List Component} (A : List TermRow) → Here xs x → Spot ns a atom on top d i 1 → Before xs ns a i names → TermsAt ts t A
+        → UsesAre xs A (uses-of f) → Right i (a-node 8 1 u v (x .start) t (t + length A) (way-bound (d + 1 + 1)) ∷ []) names (width most n ∷ formula f ∷ binding x signed n top ∷ [])
     unfolding rows-place least-of faults-after
-    binder-right {on} {top} {d} {i} {t} {names} {u} {v} {x} A h s b k us =
+    binder-right {on} {top} {d} {i} {t} {names} {u} {v} {x = x} A h s b k us =
         record {
           low =
               low-as (binder-min (listed i t (t + length A)) (place-if (wrong-binder names top x) (x .start)) ∙ ap (λ (n : ℕ). min (min n (min nowhere (listed i t (t + length A)))) nowhere) (sym at-fault))

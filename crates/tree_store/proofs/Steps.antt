@@ -5,7 +5,8 @@ use mathlib.Core.Path.{_≡_, refl}
 use mathlib.Core.Bool.{Bool, true, false, cond, not, _&&_}
 use mathlib.Core.List.{List, [], _∷_, _++_}
 use lib.Dec.{eqb}
-use lib.ListN.{length}
+use lib.ListN.{length, getD}
+use Rattle.basis.specs.Limits.{max-width, max-bound-width}
 use Rattle.text_tokens.specs.declared.Kind.{Kind}
 use Rattle.text_tokens.specs.Numbers.{number-value}
 use Rattle.tree.specs.Lexemes.{Name, Number, Lexeme, sign}
@@ -15,6 +16,7 @@ use Rattle.tree_form.specs.Stored.{how-bound as way-bound}
 use Rattle.tree_meaning.specs.Pieces.{Component, Piece, use-of-rule, width, formula, binding, mark-pieces, pieces}
 use Rattle.tree_store.proofs.Rows.{NodeRow, on-first, tests-rows, term-rows, mark-row, node-rows}
 use Rattle.tree_store.proofs.Standing.{Standing, past, shown, after-tests, after-tree}
+use Rattle.tree_store.proofs.Flags.{flagged}
 use Rattle.tree_store.proofs.Uses.{Here, here}
 
 -- a uint that binds
@@ -27,9 +29,9 @@ pub data InStep (xs : List ℕ) : List NodeRow → List Piece → Type 0 where
   a-formula : {M : List NodeRow} {f : List Component} {l : List Piece} → InStep xs M l → InStep xs M (formula f ∷ l)
   a-use : {r : NodeRow} {M : List NodeRow} {x : Name} {l : List Piece} → r .kind ≡ 5 → r .place ≡ x .start → Here xs x → InStep xs M l → InStep xs (r ∷ M) (use-of-rule x ∷ l)
   a-field : {r : NodeRow} {M : List NodeRow} {n : Number} {f : List Component} {l : List Piece} → r .kind ≡ 8 → row-binds r ≡ false → r .first ≡ n .start → number-value xs (n .start) ≡ n .value → InStep xs M l
-      → InStep xs (r ∷ M) (width most n ∷ formula f ∷ l)
-  a-binder : {r : NodeRow} {M : List NodeRow} {n : Number} {f : List Component} {x : Name} {placed : Bool} {l : List Piece} → r .kind ≡ 8 → row-binds r ≡ true → r .first ≡ n .start → number-value xs (n .start) ≡ n .value
-      → r .second ≡ x .start → Here xs x → InStep xs M l → InStep xs (r ∷ M) (width most n ∷ formula f ∷ binding x n placed ∷ l)
+      → InStep xs (r ∷ M) (width max-width n ∷ formula f ∷ l)
+  a-binder : {r : NodeRow} {M : List NodeRow} {n : Number} {f : List Component} {x : Name} {signed placed : Bool} {l : List Piece} → r .kind ≡ 8 → row-binds r ≡ true → r .first ≡ n .start → number-value xs (n .start) ≡ n .value
+      → eqb (getD xs (r .place) 0) 115 ≡ signed → r .second ≡ x .start → Here xs x → InStep xs M l → InStep xs (r ∷ M) (width max-bound-width n ∷ formula f ∷ binding x signed n placed ∷ l)
   another : {r : NodeRow} {M : List NodeRow} {l : List Piece} → eqb (r .kind) 5 ≡ false → eqb (r .kind) 8 ≡ false → InStep xs M l → InStep xs (r ∷ M) l
 
 step-two : {xs : List ℕ} {M L : List NodeRow} {l m : List Piece} → InStep xs M l → InStep xs L m → InStep xs (M ++ L) (l ++ m)
@@ -37,7 +39,7 @@ step-two no-step b = b
 step-two (a-formula a) b = a-formula (step-two a b)
 step-two (a-use e f h a) b = a-use e f h (step-two a b)
 step-two (a-field e q f v a) b = a-field e q f v (step-two a b)
-step-two (a-binder e q f v g h a) b = a-binder e q f v g h (step-two a b)
+step-two (a-binder e q f v o g h a) b = a-binder e q f v o g h (step-two a b)
 step-two (another e q a) b = another e q (step-two a b)
 
 step-cased : {xs : List ℕ} (f g : ℕ) {M : List NodeRow} {l : List Piece} → InStep xs M l → InStep xs (on-first f g M) l
@@ -45,7 +47,7 @@ step-cased f g no-step = no-step
 step-cased f g (a-formula a) = a-formula (step-cased f g a)
 step-cased f g (a-use e o h a) = a-use e o h a
 step-cased f g (a-field e q o v a) = a-field e q o v a
-step-cased f g (a-binder e q o v s h a) = a-binder e q o v s h a
+step-cased f g (a-binder e q o v i s h a) = a-binder e q o v i s h a
 step-cased f g (another e q a) = another e q a
 
 step-mark : {xs : List ℕ} (m : Mark) (size p t : ℕ) {M : List NodeRow} {l : List Piece} → InStep xs M l → InStep xs (mark-row m size p t ∷ M) (mark-pieces m ++ l)
@@ -67,7 +69,7 @@ in-step on top (literal l) t w s = another refl refl no-step
 in-step on top (range a g b one one′) t w s = another refl refl no-step
 in-step on top (field signed depth u opens n comma x closes) t w s = a-field refl refl refl (shown (past (past s))) no-step
 in-step on top (binder {d} signed depth u opens n comma v opens′ x comma′ y closes closes′) t w s =
-    a-binder refl (bound-so (d + 1 + 1)) refl (shown (past (past s))) refl (here (past (past (past (past (past (past s))))))) no-step
+    a-binder refl (bound-so (d + 1 + 1)) refl (shown (past (past s))) (flagged signed s) refl (here (past (past (past (past (past (past s))))))) no-step
 in-step on top (rule-use x other) t w s = a-use refl refl (here s) no-step
 in-step on top (eod g) t w s = another refl refl no-step
 in-step on top (group depth opens x closes) t w s = in-step false false x t (sign Kind.CloseParen closes ∷ w) (past s)
