@@ -57,7 +57,7 @@ fn matching(name: &str, text: &[u8]) {
     assert_eq!(calls::admit(&Guarded::new(text), &mut table).number, 0);
     let mut random = Random::new(1);
     let frames: Vec<Vec<u8>> = (0..10_000).map(|_| frame(name, &mut random)).collect();
-    let mut reading = Guarded::new(&[0; 4096]);
+    let mut reading = Guarded::new(&[0; 16384]);
     let mut run = Guarded::new(&[0; RUN_BYTES]);
     let lent: Vec<Guarded<u8>> = frames.iter().take(500).map(|frame| Guarded::new(frame)).collect();
     let mut opened = run.values().to_vec();
@@ -117,9 +117,12 @@ fn largest() {
     let wide = |i: u64| format!("{}~{}", i * 33554432, i * 33554432 + 99);
     let texts = [
         ("512 items of 32 bits", one_uint(32, 512, |i| format!("{}", i * 3))),
+        ("512 items of 64 bits", one_uint(64, 512, |i| format!("{}", i * 9007199254740993))),
+        ("341 negative items of 64 bits", one_uint(64, 341, |i| format!("-{}", i * 13510798882111489)).replace("uint", "sint")),
         ("512 items of 16 bits", one_uint(16, 512, |i| format!("{}", i * 127))),
         ("512 items of 8 bits", one_uint(8, 512, |i| format!("{}", i % 256))),
         ("256 ranges of 32 bits", one_uint(32, 256, |i| format!("{}~{}", i * 16777216 + 7, i * 16777216 + 9))),
+        ("170 negative ranges of 64 bits", one_uint(64, 170, |i| format!("-{}~-{}", i * 27021597764222976 + 9, i * 27021597764222976 + 7)).replace("uint", "sint")),
         ("256 items taken away", taken_away(32, 256, |i| i.to_string(), |i| i.to_string())),
         ("256 items of 8 bits taken away", taken_away(8, 256, |i| i.to_string(), |i| i.to_string())),
         ("170 items up to a number, taken away", taken_away(16, 170, |i| format!("~{i}"), |i| format!("~{}", i + 1))),
@@ -161,7 +164,7 @@ fn slowest_step() {
     let text = format!("dogma_v1 utf-8\n\na = uint(8,0{})*;", "*0".repeat(511));
     let frame = Guarded::new(&[0; 256]);
     let mut table = Guarded::new(&[0; TABLE_WORDS]);
-    let mut reading = Guarded::new(&[0; 4096]);
+    let mut reading = Guarded::new(&[0; 16384]);
     let mut run = Guarded::new(&[0; RUN_BYTES]);
     assert_eq!(calls::admit(&Guarded::new(text.as_bytes()), &mut table).number, 0);
     let mut fields = || {

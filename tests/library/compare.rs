@@ -1,6 +1,7 @@
 // The library against the reference on random and damaged texts, frames and grants.
 use crate::calls::{self, RUN_BYTES, TABLE_WORDS};
 use crate::guarded::Guarded;
+use reference::bench::LONGEST_FRAME;
 use reference::grammar::{admit, Between, Grammar, Refusal};
 use reference::matcher::{self, Verdict};
 use reference::random::{damage, noise, Random};
@@ -91,7 +92,7 @@ fn check_frame(grammar: &Grammar, table: &Guarded<u32>, frame: &[u8], random: &m
     let mut reading = Guarded::new(&first);
     let mut run = Guarded::new(&[7u8; RUN_BYTES]);
     let opened = calls::open(table, &lent, &reading, &mut run);
-    if frame.len() > 256 {
+    if frame.len() > LONGEST_FRAME {
         return same("opening", opened, 21).map(|()| 0);
     }
     same("opening", opened, 0)?;
@@ -120,7 +121,7 @@ fn check_fields(table: &Guarded<u32>, frame: &Guarded<u8>, run: &Guarded<u8>, re
     for k in 0..calls::fields(run) {
         let (number, [construct, first, width, value]) = calls::field(table, frame, reading, k);
         same("field", (number, construct, first), (0, u64::from(reading.values()[2 * k]), at))?;
-        let bits = if width > 32 { 0..0 } else { at..at + width };
+        let bits = if width > 64 { 0..0 } else { at..at + width };
         same("its value", value, bits.fold(0, |n, bit| 2 * n + u64::from(frame.values()[bit as usize / 8] >> (7 - bit % 8) & 1)))?;
         at += width;
     }
@@ -137,7 +138,7 @@ fn check_run(grammar: &Grammar, frame: &[u8], granted: u64, run: &Guarded<u8>, r
     same("reading", &reading.values()[..written.len()], &written[..])?;
     same("words beyond", &reading.values()[written.len()..], &first[written.len()..])?;
     for (k, &value) in expected.values.iter().enumerate() {
-        same("value", calls::value(run, k), value as i64)?;
+        same("value", calls::value(run, k), value)?;
     }
     Ok(())
 }

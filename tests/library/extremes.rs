@@ -1,6 +1,6 @@
 // Texts at the ends of what may arrive: all of one byte, as long as a text may be and one byte longer, nested without end, names and numbers
 // without end; and tables that are too short for any text.
-use crate::calls::{self, TABLE_WORDS};
+use crate::calls::{self, RUN_BYTES, TABLE_WORDS};
 use crate::compare::{check, same, Tally};
 use crate::guarded::Guarded;
 use reference::grammar::LONGEST_TEXT;
@@ -21,6 +21,9 @@ pub fn report() {
         }
     }
     if let Err(why) = short_tables() {
+        panic!("{why}");
+    }
+    if let Err(why) = longest_frames() {
         panic!("{why}");
     }
     println!("library: {} texts at the ends, admitted and refused by number from 0: {:?}", texts.len(), tally.refused);
@@ -62,6 +65,26 @@ fn short_tables() -> Result<(), String> {
             let answer = calls::admit(&Guarded::new(text), &mut table);
             same("number and place", (answer.number, answer.words[0]), (1, 0))?;
             same("short table", table.values(), &before[..])?;
+        }
+    }
+    Ok(())
+}
+
+// A frame of 1,024 bytes and two words for each of its bits are enough; a byte more is 21, before 22, and a word less is 22.
+fn longest_frames() -> Result<(), String> {
+    let mut table = Guarded::new(&[0; TABLE_WORDS]);
+    same("admission", calls::admit(&Guarded::new(b"dogma_v1 utf-8\n\na = sint(1, ~)*;"), &mut table).number, 0)?;
+    for (bytes, words, number) in [(1024, 16384, 0), (1024, 16383, 22), (1025, 16400, 21), (1025, 0, 21), (1023, 16368, 0), (1023, 16367, 22)] {
+        let (frame, mut reading) = (Guarded::new(&vec![0xa5; bytes]), Guarded::new(&vec![9; words]));
+        let mut run = Guarded::new(&[0; RUN_BYTES]);
+        same("opening", calls::open(&table, &frame, &reading, &mut run), number)?;
+        if number == 0 {
+            calls::grant(&table, &frame, &mut reading, &mut run, u64::MAX);
+            same("verdict and fields", (calls::verdict(&run), calls::fields(&run)), (1, 8 * bytes))?;
+            same("the last words", &reading.values()[words - 2..], &[1, 8 * bytes as u32 - 1])?;
+        }
+        if number == 21 {
+            same("grant", calls::grant(&table, &frame, &mut reading, &mut run, 1), (21, 0))?;
         }
     }
     Ok(())

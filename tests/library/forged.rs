@@ -73,7 +73,7 @@ pub fn report(seed: u64, runs: u64) {
         let mut random = Random::new(seed + k);
         let (table, frame) = tables(&mut random);
         let mut run = Guarded::new(&[0; RUN_BYTES]);
-        let words = [0, 16 * frame.length, 16 * frame.length + 2, 4096][random.index(4)];
+        let words = [0, 16 * frame.length, 16 * frame.length + 2, 16384][random.index(4)];
         let reading = Guarded::new(&vec![9; words]);
         let opened = calls::open(&table, &frame, &reading, &mut run);
         *numbers.entry(("open", opened)).or_insert(0) += 1;
@@ -98,7 +98,7 @@ fn field_as_told(case: &Case, random: &mut Random) -> usize {
     let bits = 8 * case.frame.length as u64;
     let reading: Vec<u32> = (0..words).map(|at| if at % 2 == 0 { random.below(9) as u32 } else { random.below(bits + 4) as u32 }).collect();
     let k = [random.index(4), usize::MAX - random.index(3), usize::MAX / 2 + random.index(3)][[0, 0, 0, 0, 1, 2][random.index(6)]];
-    let long = Guarded::new(&[7; 257]);
+    let long = Guarded::new(&[7; 1025]);
     let frame = if random.once_in(9) { &long } else { &case.frame };
     let (number, told) = calls::field(&case.table, frame, &Guarded::new(&reading), k);
     let words = Words { table: &case.table.values()[..case.table.length.min(TABLE_WORDS)], frame: frame.values() };

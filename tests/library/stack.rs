@@ -83,7 +83,7 @@ pub fn report(folder: &Path) {
 // An opening on a damaged table, and a grant to a damaged run.
 fn forged_calls(random: &mut Random, [_, open, grant, access]: &mut [Stack; 4]) {
     let (table, frame) = forged::tables(random);
-    let mut reading = Guarded::new(&[0; 4096]);
+    let mut reading = Guarded::new(&[0; 16384]);
     let mut run = Guarded::new(&[0; RUN_BYTES]);
     let mut opened = 0;
     open.run(|| opened = calls::open(&table, &frame, &reading, &mut run));
@@ -103,8 +103,8 @@ fn calls_on(text: &[u8], random: &mut Random, [admit, open, grant, access]: &mut
         Err(_) => vec![vec![1; 3]],
     };
     for frame in frames {
-        let frame = Guarded::new(&frame[..frame.len().min(256)]);
-        let mut reading = Guarded::new(&[0; 4096]);
+        let frame = Guarded::new(&frame[..frame.len().min(1024)]);
+        let mut reading = Guarded::new(&[0; 16384]);
         let mut run = Guarded::new(&[0; RUN_BYTES]);
         open.run(|| _ = calls::open(&table, &frame, &reading, &mut run));
         grant.run(|| _ = calls::grant(&table, &frame, &mut reading, &mut run, u64::MAX));
@@ -114,7 +114,7 @@ fn calls_on(text: &[u8], random: &mut Random, [admit, open, grant, access]: &mut
 }
 
 fn vectors(folder: &Path) -> Vec<Vec<u8>> {
-    let paths = ["sheet", "base", "req06/hand"].iter().flat_map(|part| grammars(&folder.join(part)));
+    let paths = ["sheet", "base", "req06/hand", "req10/hand"].iter().flat_map(|part| grammars(&folder.join(part)));
     paths.map(|path| std::fs::read(path).expect("a text")).collect()
 }
 
@@ -147,6 +147,7 @@ fn large() -> Vec<Vec<u8>> {
         format!("a = {};", ["'x'"; 255].join("&")),
         format!("a = uint(32, {});", (0..512).map(|i| format!("{}", i * 3)).collect::<Vec<_>>().join("|")),
         format!("a = uint(32, {});", (0..127).map(|i| format!("{0}~{1}!{0}~{1}|", i * 33554432u64, i * 33554432u64 + 99)).collect::<String>() + "7"),
+        format!("a = sint(64, {});", (1..342).map(|i| format!("-{}", i * 13510798882111488u64)).collect::<Vec<_>>().join("|")),
         format!("r0 = r1; {chain} r63 = uint(1, ~);"),
     ];
     bodies.iter().map(|body| format!("dogma_v1 utf-8\n\n{body}").into_bytes()).collect()

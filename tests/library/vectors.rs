@@ -5,7 +5,8 @@ use reference::bench::frames;
 use std::fs;
 use std::path::{Path, PathBuf};
 
-const READING_WORDS: usize = 4096;
+const READING_WORDS: usize = 16384;
+const FOLDERS: [&str; 8] = ["sheet", "base", "req02/hand", "req02/random", "req06/hand", "req06/random", "req10/hand", "req10/random"];
 
 pub fn grammars(folder: &Path) -> Vec<PathBuf> {
     let entries = fs::read_dir(folder).expect("the vectors' folder");
@@ -15,7 +16,7 @@ pub fn grammars(folder: &Path) -> Vec<PathBuf> {
 }
 
 pub fn check(folder: &Path) -> usize {
-    let texts: Vec<PathBuf> = ["sheet", "base", "req02/hand", "req02/random", "req06/hand", "req06/random"].iter().flat_map(|part| grammars(&folder.join(part))).collect();
+    let texts: Vec<PathBuf> = FOLDERS.iter().flat_map(|part| grammars(&folder.join(part))).collect();
     for path in &texts {
         let text = fs::read(path).expect("a text");
         let lines = fs::read(path.with_extension("frames")).expect("its frames");

@@ -5,6 +5,7 @@ use crate::words_terms::{condition, counts, member, Broken};
 
 const OPENING: usize = 256; // the opening use of the start rule
 const UNDECIDED: u32 = 0;
+const LONGEST_FRAME: usize = 1024;
 
 #[derive(Debug, Clone)]
 pub struct Run {
@@ -53,7 +54,7 @@ enum Kind {
     Use(usize),
     Literal(usize),
     Range(usize, usize),
-    Uint { width: usize, start: usize, end: usize, binder: usize },
+    Uint { signed: bool, width: usize, start: usize, end: usize, binder: usize },
     Eod,
 }
 
@@ -64,7 +65,7 @@ enum Act {
     Members(Vec<usize>),
     Again,
     Leave,
-    Take { width: usize, binder: usize, value: u64 },
+    Take { width: usize, binder: usize, value: i128 },
 }
 
 pub struct Words<'a> {
@@ -83,7 +84,7 @@ impl Words<'_> {
 
     // The refusal's number, or 0 and the steps taken.
     pub fn grant(&self, reading: &mut [u32], run: &mut Run, steps: u64) -> (usize, u64) {
-        if self.frame.len() > 256 {
+        if self.frame.len() > LONGEST_FRAME {
             return (21, 0);
         }
         if !self.fits(reading.len(), run) {
@@ -159,6 +160,7 @@ impl Words<'_> {
         let [kind, size, a, b, c, d] = std::array::from_fn(|k| self.word(at + k));
         let listed = b <= c && c <= 1024;
         let inner = size >= 2 && i + size <= 256;
+        let widest = if d > 0 { 62 } else { 64 };
         let found = match kind {
             1 if inner => Kind::Alternative,
             2 if inner => Kind::Concatenation,
@@ -167,7 +169,7 @@ impl Words<'_> {
             5 if size == 1 && a < 64 => Kind::Use(a),
             6 if size == 1 && (1..=32).contains(&a) => Kind::Literal(a),
             7 if size == 1 && a < 128 && b < 128 => Kind::Range(a, b),
-            8 if size == 1 && (1..=32).contains(&a) && listed && d <= 64 => Kind::Uint { width: a, start: b, end: c, binder: d },
+            8 | 12 if size == 1 && a >= 1 && a <= widest && listed && d <= 64 => Kind::Uint { signed: kind == 12, width: a, start: b, end: c, binder: d },
             9 if size == 1 => Kind::Eod,
             _ => return None,
         };
@@ -214,7 +216,7 @@ impl Words<'_> {
                 let holds = position + 8 <= self.bits() && (low as u64..=high as u64).contains(&self.number(position, 8));
                 Ok(taken(holds, 8))
             }
-            Kind::Uint { width, start, end, binder } => {
+            Kind::Uint { signed, width, start, end, binder } => {
                 let terms = self.terms(start, end)?;
                 if binder > self.word(3) {
                     return Err(Broken);
@@ -222,7 +224,8 @@ impl Words<'_> {
                 if position + width > self.bits() {
                     return Ok(Act::Fail);
                 }
-                let value = self.number(position, width);
+                let pattern = i128::from(self.number(position, width));
+                let value = if signed && pattern >> (width - 1) == 1 { pattern - (1 << width) } else { pattern };
                 Ok(if member(terms, self.known(run), value)? { Act::Take { width, binder, value } } else { Act::Fail })
             }
             _ => Ok(if position == self.bits() { Act::Leave } else { Act::Fail }),
@@ -231,7 +234,7 @@ impl Words<'_> {
 
     // What songrafter_field answers: a number, and the four words where it is 0.
     pub fn told(&self, reading: &[u32], k: usize) -> Result<[u64; 4], usize> {
-        if self.frame.len() > 256 {
+        if self.frame.len() > LONGEST_FRAME {
             return Err(21);
         }
         let first = k.checked_mul(2).ok_or(22usize)?;
@@ -249,7 +252,7 @@ impl Words<'_> {
         if position + width > self.bits() {
             return Err(24);
         }
-        let value = if width > 32 { 0 } else { self.number(position, width) };
+        let value = if width > 64 { 0 } else { self.number(position, width) };
         Ok([construct as u64, position as u64, width as u64, value])
     }
 

@@ -71,8 +71,8 @@ fn stacks(values: &[i64]) -> Stacks<'_> {
 }
 
 // Whether a value is in a set. 32 more in the tag of a calculation's last term makes it an item.
-pub fn member(terms: &[u32], values: &[i64], value: u64) -> Result<bool, Broken> {
-    let (mut s, v) = (stacks(values), i128::from(value));
+pub fn member(terms: &[u32], values: &[i64], v: i128) -> Result<bool, Broken> {
+    let mut s = stacks(values);
     for term in terms.chunks(3) {
         match term[0] {
             0..=6 => s.operate(term[0], term[1], term[2])?,
