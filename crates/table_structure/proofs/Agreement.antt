@@ -43,9 +43,9 @@ module _ {ws : List ℕ} (l : Laid ws) (r i : ℕ) (h : r < rule-count ws) (low 
   own-list c e = rw e at (own-reads l r i h low high)
 
   pub set-agrees : (signed : Bool) (width start end binder : ℕ) → constructAt ws i ≡ Construct.Uint signed width start end binder
-      → (v v′ : Values) → Agreeing (Visible ws r i) v v′ → (n : ℕ) → in-set ws start end v n ≡ in-set ws start end v′ n
-  set-agrees width start end binder e v v′ a n =
-      ap isYes (membership-same (Visible ws r i) v v′ (agree-same a) (term-words ws) (pos n) start end (own-list (Construct.Uint signed width start end binder) e))
+      → (v v′ : Values) → Agreeing (Visible ws r i) v v′ → (n : ℤ) → in-set ws start end v n ≡ in-set ws start end v′ n
+  set-agrees signed width start end binder e v v′ a n =
+      ap isYes (membership-same (Visible ws r i) v v′ (agree-same a) (term-words ws) n start end (own-list (Construct.Uint signed width start end binder) e))
 
   pub passes-agree : (size : ℕ) (p : Passes) → constructAt ws i ≡ Construct.Repetition size p
       → (v v′ : Values) → Agreeing (Visible ws r i) v v′ → passes-allowed ws p v ≡ passes-allowed ws p v′
@@ -76,12 +76,12 @@ case-agrees ws v v′ (x ∷ bs) a =
 
 -- ---- what a binder does to the values
 
-pub bound-length : (binder : ℕ) (v : Values) (n : ℕ) → length (bound binder v n) ≡ length v
+pub bound-length : (binder : ℕ) (v : Values) (n : ℤ) → length (bound binder v n) ≡ length v
 bound-length zero v n = refl
-bound-length (suc x) v n = length-set v x (pos n)
+bound-length (suc x) v n = length-set v x n
 
-pub bound-other : (x : ℕ) (v : Values) (n y : ℕ) → (y ≡ x → ⊥) → getD (bound (suc x) v n) y (pos 0) ≡ getD v y (pos 0)
-bound-other x v n y h = getD-set-other v x y (pos n) (pos 0) h
+pub bound-other : (x : ℕ) (v : Values) (n : ℤ) (y : ℕ) → (y ≡ x → ⊥) → getD (bound (suc x) v n) y (pos 0) ≡ getD v y (pos 0)
+bound-other x v n y h = getD-set-other v x y n (pos 0) h
 
-pub bound-own : (x : ℕ) (v : Values) (n : ℕ) → x < length v → getD (bound (suc x) v n) x (pos 0) ≡ pos n
-bound-own x v n h = getD-set-same v x (pos n) (pos 0) h
+pub bound-own : (x : ℕ) (v : Values) (n : ℤ) → x < length v → getD (bound (suc x) v n) x (pos 0) ≡ n
+bound-own x v n h = getD-set-same v x n (pos 0) h

@@ -22,7 +22,7 @@ use Rattle.table_wellformed.specs.Checks.{all-zero, size-at, walk}
 use Rattle.term_words.specs.declared.Kind.{Kind}
 use Rattle.table_wellformed.specs.Lists.{own-start, own-end, list-formed}
 use Rattle.table_wellformed.specs.Laid.{kind-laid}
-use Rattle.table_wellformed.specs.Rules.{body, rule-end, binder-of, named-back, variable-laid, binds, member-laid, next-variable, is-concatenation, members-at, visible, operation-named, term-named, list-named, construct-named}
+use Rattle.table_wellformed.specs.Rules.{body, rule-end, binder-of, named-back, sign-word, variable-laid, binds, member-laid, next-variable, is-concatenation, members-at, visible, operation-named, term-named, list-named, construct-named}
 use Rattle.table_wellformed.proofs.Walks.{one-step, at-once}
 use Rattle.table_structure.proofs.Facts.{Laid, each, lt-of-ne}
 use Rattle.table_structure.proofs.Tiles.{Tiles, none, more}
@@ -35,24 +35,29 @@ pub record Bound (ws : List ℕ) (js : List ℕ) (x : ℕ) : Type 0 where
   pub listed : variable-word ws x 0 ∈ js
   pub binder : binder-of (constructAt ws (variable-word ws x 0)) ≡ x + 1
   pub width : variable-word ws x 1 ≡ construct-word ws (variable-word ws x 0) 2
-  pub unused : all-zero ws (variables-at + 4 * x + 2) (variables-at + 4 * x + 4) ≡ true
+  pub sign : variable-word ws x 2 ≡ sign-word (constructAt ws (variable-word ws x 0))
+  pub unused : all-zero ws (variables-at + 4 * x + 3) (variables-at + 4 * x + 4) ≡ true
 
 later : {ws : List ℕ} {j : ℕ} {js : List ℕ} {x : ℕ} → Bound ws js x → Bound ws (j ∷ js) x
-later b = record { listed = List·Memᴰ·tail (b .listed); binder = b .binder; width = b .width; unused = b .unused }
+later b = record { listed = List·Memᴰ·tail (b .listed); binder = b .binder; width = b .width; sign = b .sign; unused = b .unused }
 
 here : (ws : List ℕ) (j : ℕ) (js : List ℕ) (x : ℕ) → variable-laid ws x j ≡ true → Bound ws (j ∷ js) x
 here ws j js x v =
     let B : Bool = eqb (binder-of (constructAt ws j)) (x + 1)
     in let P : Bool = eqb (variable-word ws x 0) j
     in let W : Bool = eqb (variable-word ws x 1) (construct-word ws j 2)
-    in let Z : Bool = all-zero ws (variables-at + 4 * x + 2) (variables-at + 4 * x + 4)
-    in let front : (B && P) ≡ true = both-first (B && P) (W && Z) v
+    in let S : Bool = eqb (variable-word ws x 2) (sign-word (constructAt ws j))
+    in let Z : Bool = all-zero ws (variables-at + 4 * x + 3) (variables-at + 4 * x + 4)
+    in let front : (B && P) ≡ true = both-first (B && P) ((W && S) && Z) v
+    in let back : ((W && S) && Z) ≡ true = both-second (B && P) ((W && S) && Z) v
+    in let words : (W && S) ≡ true = both-first (W && S) Z back
     in let place : variable-word ws x 0 ≡ j = eqb-true (variable-word ws x 0) j (both-second B P front)
     in record {
       listed = List·Memᴰ·head place;
       binder = ap (λ (k : ℕ). binder-of (constructAt ws k)) place ∙ eqb-true (binder-of (constructAt ws j)) (x + 1) (both-first B P front);
-      width = eqb-true (variable-word ws x 1) (construct-word ws j 2) (both-first W Z (both-second (B && P) (W && Z) v)) ∙ sym (ap (λ (k : ℕ). construct-word ws k 2) place);
-      unused = both-second W Z (both-second (B && P) (W && Z) v);
+      width = eqb-true (variable-word ws x 1) (construct-word ws j 2) (both-first W S words) ∙ sym (ap (λ (k : ℕ). construct-word ws k 2) place);
+      sign = eqb-true (variable-word ws x 2) (sign-word (constructAt ws j)) (both-second W S words) ∙ sym (ap (λ (k : ℕ). sign-word (constructAt ws k)) place);
+      unused = both-second (W && S) Z back;
     }
 
 module _ (ws : List ℕ) (end last : ℕ) where
@@ -202,7 +207,7 @@ pub record VariableOf (ws : List ℕ) (x : ℕ) : Type 0 where
 back : (ws : List ℕ) (k : ℕ) {c : Construct} → Operands c → kind-laid ws k c ≡ true → 0 < binder-of c → (binder-of c ≤ variable-count ws) × (variable-word ws (binder-of c - 1) 0 ≡ k)
 back ws k (counts size start end) h b = absurd (omega arith)
 back ws k (characters length) h b = absurd (omega arith)
-back ws k (set width start end binder) h b =
+back ws k (set signed width start end binder) h b =
     let N : Bool = leb binder (variable-count ws)
     in let P : Bool = eqb (variable-word ws (binder - 1) 0) k
     in let some : eqb binder 0 ≡ false = ne-eqb binder 0 (λ e. omega arith)

@@ -12,6 +12,7 @@ use lib.Dec.{ltb, eqb}
 use lib.IntN.{ℤ, pos, negsuc}
 use lib.ListN.{length, take}
 use Rattle.basis.specs.Bits.{Bits, value}
+use Rattle.basis.specs.Patterns.{pattern-value}
 use Rattle.basis.specs.Counts.{Allows, exactly}
 use Rattle.basis.proofs.Booleans.{which, picked}
 use Rattle.term_words.specs.Words.{termAt, terms}
@@ -50,11 +51,11 @@ StaticOf (field w admits static binds) =
 StaticOf eod = Unit {0}
 
 -- "a set with a variable counting as `~`"
-set-static : (ws : List ℕ) (start end : ℕ) (v : Values) (n : ℕ) → in-set ws start end v n ≡ true → in-static-set ws start end n ≡ true
+set-static : (ws : List ℕ) (start end : ℕ) (v : Values) (n : ℤ) → in-set ws start end v n ≡ true → in-static-set ws start end n ≡ true
 set-static ws start end v n e =
     elim (which (hasVariable (terms-of ws start end))) [
       | inl t ↦ rw t
-      | inr t ↦ rw t (ap isYes (membership-constant [] v (pos n) start (terms (term-words ws) start end) t) ∙ e)
+      | inr t ↦ rw t (ap isYes (membership-constant [] v n start (terms (term-words ws) start end) t) ∙ e)
     ]
 
 -- "counts with a variable allowing all"
@@ -149,7 +150,7 @@ construct-static ws i (Construct.Literal n) f =
     (λ c v bits e. e, λ s r l. refl, λ s. let e : length (literal-bytes ws i 0 n) ≡ n = literal-long ws i 0 n in omega (arith, f .1))
 construct-static ws i (Construct.Range low high) f = (λ c v bits e. e, λ s r l. refl, λ s. omega arith)
 construct-static ws i (Construct.Uint signed width start end binder) f =
-    (λ c v bits e. set-static ws start end v (value bits) e, λ s r l. refl, λ s. f .1)
+    (λ c v bits e. set-static ws start end v (pattern-value signed bits) e, λ s r l. refl, λ s. f .1)
 construct-static ws i Construct.Eod f = tt
 
 node-static : (ws : List ℕ) (i : ℕ) → StaticOf (held ws .node i)
