@@ -8,9 +8,9 @@ use native.Mathlib.Omega.{arith}
 use native.Mathlib.Numerals.{add-one}
 use borrow.Author.Tests.{eqb-true, eqb-false, ltb-true, ltb-false}
 use lib.Dec.{eqb, ltb}
-use lib.IntN.{pos}
+use lib.IntN.{ℤ, pos}
 use lib.ListN.{length, getD, List·getD-eq-default}
-use Rattle.basis.specs.Bits.{value}
+use Rattle.basis.specs.Patterns.{pattern-value}
 use Rattle.basis.proofs.Booleans.{which}
 use Rattle.theory.specs.Grammar.{_∈_}
 use Rattle.theory.specs.Scope.{Agree, Scoped}
@@ -35,7 +35,7 @@ use Rattle.table_scope.proofs.Levels.{Stands, stands-within, member-sta
 length-same : (v v′ : Values) → value-of v 0 ≡ value-of v′ 0 → length v ≡ length v′
 length-same v v′ e = cc
 
-own-same : (x : ℕ) (v v′ : Values) (n : ℕ) → length v ≡ length v′ → getD (bound (suc x) v n) x (pos 0) ≡ getD (bound (suc x) v′ n) x (pos 0)
+own-same : (x : ℕ) (v v′ : Values) (n : ℤ) → length v ≡ length v′ → getD (bound (suc x) v n) x (pos 0) ≡ getD (bound (suc x) v′ n) x (pos 0)
 own-same x v v′ n e =
     elim (which (ltb x (length v))) [
       | inl t ↦ let h : x < length v = ltb-true x (length v) t in bound-own x v n h ∙ sym (bound-own x v′ n (omega arith))
@@ -45,7 +45,7 @@ own-same x v v′ n e =
     ]
 
 -- of two sets of values that agree on xs, a binder's own too
-after-binder : (xs : List ℕ) (b : ℕ) (v v′ : Values) (n : ℕ) → length v ≡ length v′ → Agree store first-context xs v v′ → Agree store first-context (xs ++ bound-by b) (bound b v n) (bound b v′ n)
+after-binder : (xs : List ℕ) (b : ℕ) (v v′ : Values) (n : ℤ) → length v ≡ length v′ → Agree store first-context xs v v′ → Agree store first-context (xs ++ bound-by b) (bound b v n) (bound b v′ n)
 after-binder xs zero v v′ n e a x m = elim (List·Memᴰ·append-cases xs m) [ inl k ↦ a x k | inr k ↦ absurd (List·Memᴰ·not-nil k) ]
 after-binder xs (suc y) v v′ n e a zero m = ap pos (bound-length (suc y) v n ∙ e ∙ sym (bound-length (suc y) v′ n))
 after-binder xs (suc y) v v′ n e a (suc x) m =
@@ -59,7 +59,7 @@ after-binder xs (suc y) v v′ n e a (suc x) m =
     ]
 
 -- other values stay
-others-stay : (b : ℕ) (v : Values) (n x : ℕ) → (x ∈ bound-by b → ⊥) → value-of (bound b v n) x ≡ value-of v x
+others-stay : (b : ℕ) (v : Values) (n : ℤ) (x : ℕ) → (x ∈ bound-by b → ⊥) → value-of (bound b v n) x ≡ value-of v x
 others-stay zero v n x h = refl
 others-stay (suc y) v n zero h = ap pos (bound-length (suc y) v n)
 others-stay (suc y) v n (suc x) h = bound-other y v n x (λ e. h (List·Memᴰ·head (ap suc e)))
@@ -133,9 +133,9 @@ module _ {ws : List ℕ} (l : Laid ws) (r i : ℕ) (s : Stands ws r i) (whole : 
   scoped-by (Construct.Uint signed width start end binder) e =
       let own : bound-at ws i ≡ bound-by binder = own-of ws i (Construct.Uint signed width start end binder) e
       in (
-        λ c v v′ bits a. set-agrees l r i (s .exists) (s .begins) (s .ends) width start end binder e v v′ (agreeing l r i s v v′ a) (value bits),
-        λ c v v′ bits a. rw own (after-binder (seen-at ws i) binder v v′ (value bits) (agreeing l r i s v v′ a .lengths) a),
-        λ c v bits x h. others-stay binder v (value bits) x (λ m. h x (rw own m) refl),
+        λ c v v′ bits a. set-agrees l r i (s .exists) (s .begins) (s .ends) signed width start end binder e v v′ (agreeing l r i s v v′ a) (pattern-value signed bits),
+        λ c v v′ bits a. rw own (after-binder (seen-at ws i) binder v v′ (pattern-value signed bits) (agreeing l r i s v v′ a .lengths) a),
+        λ c v bits x h. others-stay binder v (pattern-value signed bits) x (λ m. h x (rw own m) refl),
         λ c v v′ bits p. refl,
       )
   scoped-by Construct.Eod e = own-of ws i Construct.Eod e

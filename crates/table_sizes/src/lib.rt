@@ -1,11 +1,11 @@
 // Refusal 8 over a table's words: which lists of terms have sizes that may pass 2^62, with every variable at its widest.
+use basis::MAX_BOUND_WIDTH;
 use basis::MAX_VARIABLES;
-use basis::MAX_WIDTH;
 ghost use mathlib.Core.Path.{_≡_};
 ghost use mathlib.Core.Bool.{true};
-ghost use Prim.Native.Nat.{ℕ, _≤_, _<_};
+ghost use Prim.Native.Nat.{ℕ, _-_, _≤_, _<_, min};
 ghost use lib.ListN.{length};
-ghost use Rattle.basis.specs.Limits.{table-words};
+ghost use Rattle.basis.specs.Limits.{table-words, max-bound-width};
 ghost use Rattle.table_layout.specs.Places.{construct-count};
 ghost use Rattle.table_layout.specs.Constructs.{constructAt};
 ghost use Rattle.table_sizes.specs.Measures.{largest as largestOf, widest as widestOf, condition-size, list-size, own-size, exceeds as exceedsOf, oversized as oversizedOf, LeastOf};
@@ -24,14 +24,34 @@ use term_sizes::measure;
 use term_sizes::measure_counts;
 use term_words::Kind;
 
-// The largest number of a width.
-fn largest(width: usize) -> i64
-    ensures { λ r. ⌜ r ≡ largestOf width ⌝ }
+// A width within the limit of a binder.
+fn bound_width(width: usize) -> u64
+    ensures { λ r. ⌜ r ≡ min max-bound-width width ⌝ }
 {
-    if width < MAX_WIDTH {
-        return signed(power(width as u64) - 1);
+    if width < MAX_BOUND_WIDTH {
+        return width as u64;
     }
-    signed(4294967295)
+    MAX_BOUND_WIDTH as u64
+}
+
+fn one_less(width: u64) -> u64
+    ensures { λ r. ⌜ r ≡ (width - 1) ⌝ }
+{
+    if width < 1 {
+        return 0;
+    }
+    width - 1
+}
+
+// The size of the value of a width that is farthest from 0.
+fn largest(width: usize, sign: usize) -> i64
+    ensures { λ r. ⌜ r ≡ largestOf width sign ⌝ }
+{
+    let most = bound_width(width);
+    if 0 < sign {
+        return signed(power(one_less(most)));
+    }
+    signed(power(most) - 1)
 }
 
 // The size of each variable.
@@ -45,7 +65,7 @@ pub fn widest(table: &[u32]) -> Extents
     let mut sizes = [0i64; MAX_VARIABLES];
     let mut x = 0;
     while x < MAX_VARIABLES {
-        sizes[x] = largest(variable_word(table, x, 1));
+        sizes[x] = largest(variable_word(table, x, 1), variable_word(table, x, 2));
         x += 1;
     }
     Extents { sizes }

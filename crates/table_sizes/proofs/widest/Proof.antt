@@ -2,7 +2,7 @@
 use Prim.Native.Nat.{_-_}
 use Rattle.basis.specs.Limits.{max-variables}
 use Rattle.table_sizes.specs.Measures.{largest}
-use mathlib.Core.Path.{ap, _∙_}
+use mathlib.Core.Path.{ap₂, _∙_}
 use native.Mathlib.Omega.{arith}
 use Rattle.table_sizes.proofs.WidestLaws.{Widening, widening-none, widening-more, widening-done}
 use borrow.Author.Needs.{needs}
@@ -21,6 +21,9 @@ loop-holds c = widening-none (c .before .args .table .now)
 variable-word-requires : tie.Need-variable-word-requires Inv-loop μ-loop
 variable-word-requires c κs = search needs
 
+variable-word-requires-2 : tie.Need-variable-word-requires-2 Inv-loop μ-loop
+variable-word-requires-2 c κs = search needs
+
 largest-requires : tie.Need-largest-requires Inv-loop μ-loop
 largest-requires c κs = search needs
 
@@ -34,10 +37,10 @@ add-x : tie.Need-add-x Inv-loop μ-loop
 add-x c = search needs
 
 loop-less : tie.Need-loop-less Inv-loop μ-loop
-loop-less c = omega (arith, c .before .before .loop-test .taken)
+loop-less c = omega (arith, c .before .before .before .loop-test .taken)
 
 loop-again : tie.Need-loop-again Inv-loop μ-loop
-loop-again c = widening-more (c .before .before .before .before .before .args .table .now) (c .before .before .before .loop .x) (c .before .before .before .loop .sizes) (c .largest .result) (c .before .before .before .loop .inv) (c .before .before .loop-test .taken) (c .largest .ensures ∙ ap largest (c .before .variable-word .ensures .0))
+loop-again c = widening-more (c .before .before .before .before .before .before .args .table .now) (c .before .before .before .before .loop .x) (c .before .before .before .before .loop .sizes) (c .largest .result) (c .before .before .before .before .loop .inv) (c .before .before .before .loop-test .taken) (c .largest .ensures ∙ ap₂ largest (c .before .before .variable-word .ensures .0) (c .before .variable-word2 .ensures .0))
 
 returns : tie.Need-returns Inv-loop μ-loop
 returns c = widening-done (c .before .before .before .args .table .now) (c .before .loop .x) (c .before .loop .sizes) (c .before .loop .inv) (c .loop-test .left)
@@ -50,6 +53,7 @@ widest-spec =
     μ-loop
     loop-holds
     variable-word-requires
+    variable-word-requires-2
     largest-requires
     mul-sizes
     array-set-from-sizes
