@@ -1,33 +1,26 @@
 -- Members put below each other, one at a time; a value bound.
 -- Assumes nothing.
-use Prim.Native.Nat.{ℕ, zero, suc, _+_, _-_, _^_, _≤_, _<_}
+use Prim.Native.Nat.{ℕ, zero, suc, _+_, _-_, _≤_, _<_}
 use native.Mathlib.Omega.{arith}
 use borrow.Author.Tests.{eq-eqb, ne-eqb}
 use mathlib.Core.Path.{_≡_, refl, _∙_, ap}
 use mathlib.Core.Bool.{Bool, cond}
 use mathlib.Core.List.{List}
-use lib.IntN.{ℤ, pos}
+use lib.IntN.{ℤ}
 use lib.ListN.{set}
-use mir.Syntax.{w64}
-use mir.Val.{toZ, ofZ}
-use Rattle.term_integers.proofs.Laws.{back}
 use Rattle.table_layout.specs.Constructs.{constructAt}
 use Rattle.table_layout.specs.Held.{size-of}
 use Rattle.run_actions.specs.Acts.{walk}
 use Rattle.run_actions.proofs.Walks.{walk-end, walk-missing, walk-part, walk-first}
 use Rattle.run_steps.specs.Steps.{put, placed, bind}
 
-pub bind-one : (b n : ℕ) (vs : List ℤ) → 0 < b → bind b n vs ≡ set vs (b - 1) (pos n)
+pub bind-one : (b : ℕ) (n : ℤ) (vs : List ℤ) → 0 < b → bind b n vs ≡ set vs (b - 1) n
 bind-one zero n vs l = absurd (omega arith)
-bind-one (suc x) n vs l = ap (λ (k : ℕ). set vs k (pos n)) (let e : x ≡ suc x - 1 = omega arith in e)
+bind-one (suc x) n vs l = ap (λ (k : ℕ). set vs k n) (let e : x ≡ suc x - 1 = omega arith in e)
 
-pub bind-none : (b n : ℕ) (vs : List ℤ) → b ≤ 0 → bind b n vs ≡ vs
+pub bind-none : (b : ℕ) (n : ℤ) (vs : List ℤ) → b ≤ 0 → bind b n vs ≡ vs
 bind-none zero n vs l = refl
 bind-none (suc x) n vs l = absurd (omega arith)
-
--- a value that is stored reads back
-pub whole-back : (z : ℤ) (n : ℕ) → z ≡ pos n → n < 2 ^ 63 → toZ w64 (ofZ w64 z) ≡ pos n
-whole-back z n e l = ap (λ (x : ℤ). toZ w64 (ofZ w64 x)) e ∙ back (pos n) l
 
 abbrev Put : Type 0
 Put = ℕ → List ℕ → List ℕ

@@ -88,7 +88,7 @@ module _ (ws fs : List ℕ) where
         (f .0, (let z : h .count + 1 ≤ max-entries = omega arith in z), f .2, length-set cs (h .count) b ∙ f .3, length-set (set ps (h .count - 1) (k + 1)) (h .count) 0 ∙ (length-set ps (h .count - 1) (k + 1) ∙ f .4)))
         f
 
-    take-fits : (i width binder n : ℕ) → h .position + width ≤ bits-of fs → Fits fs (take-done fs cs ps vs rs h i width binder n)
+    take-fits : (i width binder : ℕ) (n : ℤ) → h .position + width ≤ bits-of fs → Fits fs (take-done fs cs ps vs rs h i width binder n)
     take-fits i width binder n w =
         picked-true (Fits fs) (leb (2 * h .captures + 2) (length rs))
         (whole cs ps (bind binder n vs) (set (set rs (2 * h .captures) i) (2 * h .captures + 1) (h .position)) (taken fs h (h .count - 1) (h .position + width) (h .captures + 1)))

@@ -6,7 +6,7 @@ use mathlib.Core.Bool.{Bool, false, cond, _&&_}
 use mathlib.Core.Path.{_≡_}
 use mathlib.Core.List.{List}
 use lib.Dec.{leb, ltb, eqb}
-use lib.IntN.{ℤ, pos}
+use lib.IntN.{ℤ}
 use lib.ListN.{length, getD, set}
 use Rattle.table_layout.specs.Held.{opening}
 use Rattle.basis.specs.Limits.{max-weight, max-entries}
@@ -62,9 +62,9 @@ unfolding walk
 placed what ws start end at xs = walk {A = ℕ → List ℕ → List ℕ} (put what) (λ k ys. ys) (λ k ys. ys) (end - start) ws start end at xs
 
 -- a binder is 1 + its variable; 0 binds none
-abbrev pub bind : ℕ → ℕ → List ℤ → List ℤ
+abbrev pub bind : ℕ → ℤ → List ℤ → List ℤ
 bind zero n vs = vs
-bind (suc x) n vs = set vs x (pos n)
+bind (suc x) n vs = set vs x n
 
 -- What is done. "List or reading without room" is broken.
 
@@ -83,7 +83,7 @@ again-done fs cs ps vs rs h k b =
     (whole cs ps vs rs (break h))
 
 -- "where they hold, all but eod write two words in the reading: construct number, first bit"; i is the first entry's construct
-abbrev pub take-done : List ℕ → List ℕ → List ℕ → List ℤ → List ℕ → Head → ℕ → ℕ → ℕ → ℕ → Whole
+abbrev pub take-done : List ℕ → List ℕ → List ℕ → List ℤ → List ℕ → Head → ℕ → ℕ → ℕ → ℤ → Whole
 take-done fs cs ps vs rs h i width binder n =
     cond (leb (2 * h .captures + 2) (length rs))
     (whole cs ps (bind binder n vs) (set (set rs (2 * h .captures) i) (2 * h .captures + 1) (h .position)) (taken fs h (h .count - 1) (h .position + width) (h .captures + 1)))
@@ -108,7 +108,7 @@ abbrev pub AgainDone : List ℕ → List ℕ → List ℕ → Head → ℕ → �
 AgainDone fs cs ps h k b cs′ ps′ h′ = (vs : List ℤ) (rs : List ℕ) → whole cs′ ps′ vs rs h′ ≡ again-done fs cs ps vs rs h k b
 
 -- of those that a field writes
-abbrev pub TakeDone : List ℕ → List ℤ → List ℕ → Head → ℕ → ℕ → ℕ → ℕ → List ℤ → List ℕ → Head → Type 0
+abbrev pub TakeDone : List ℕ → List ℤ → List ℕ → Head → ℕ → ℕ → ℕ → ℤ → List ℤ → List ℕ → Head → Type 0
 TakeDone fs vs rs h i width binder n vs′ rs′ h′ = (cs ps : List ℕ) → whole cs ps vs′ rs′ h′ ≡ take-done fs cs ps vs rs h i width binder n
 
 -- "condition 3's bound": weight × (bits + 1), from the table's weight word, which past 65,535 is against the layout

@@ -126,12 +126,12 @@ fn record(reading: &mut [u32], captures: usize, construct: usize, position: usiz
     reading[2 * captures + 1] = position as u32;
 }
 
-fn bind(values: &mut [i64; MAX_VARIABLES], binder: usize, value: u64)
-    requires { ⌜ (binder ≤ max-variables) × (value < 4294967296) ⌝ }
+fn bind(values: &mut [i64; MAX_VARIABLES], binder: usize, value: i64)
+    requires { ⌜ binder ≤ max-variables ⌝ }
     ensures { λ r. ⌜ now (values .exit) ≡ bindOf binder value (now (values .entry)) ⌝ }
 {
     if 0 < binder {
-        values[binder - 1] = run_actions::whole(value);
+        values[binder - 1] = value;
     }
 }
 
@@ -223,9 +223,9 @@ fn do_take(
     i: usize,
     width: usize,
     binder: usize,
-    value: u64,
+    value: i64,
 ) -> Head
-    requires { ⌜ (length (now frame) ≤ max-frame-bytes) × (head .steps < 18446744073709551615) × (0 < head .count) × (2 * head .captures ≤ length (now reading)) × (i < 4294967296) × (head .position + width ≤ 8 * length (now frame)) × (binder ≤ max-variables) × (value < 4294967296) ⌝ }
+    requires { ⌜ (length (now frame) ≤ max-frame-bytes) × (head .steps < 18446744073709551615) × (0 < head .count) × (2 * head .captures ≤ length (now reading)) × (i < 4294967296) × (head .position + width ≤ 8 * length (now frame)) × (binder ≤ max-variables) ⌝ }
     ensures { λ r. ⌜ TakeDone (now (frame .entry)) (now (values .entry)) (now (reading .entry)) head i width binder value (now (values .exit)) (now (reading .exit)) r ⌝ }
 {
     let captures = head.captures;

@@ -1,7 +1,9 @@
 use borrow.Author.Needs.{needs}
-use mathlib.Core.Path.{subst}
+use mathlib.Core.Path.{subst, ap, _∙_}
+use Rattle.term_integers.proofs.Laws.{back}
 use native.Mathlib.Omega.{arith}
 use Rattle.run_actions.specs.Acts.{Doable}
+use Rattle.run_steps.specs.Steps.{take-done}
 use Rattle.run_steps.proofs.do_act.Statement.{statement}
 use Rattle.run_steps.proofs.do_act.Tie as tie
 use Rattle.run_steps.proofs.do_act.Reads as reads
@@ -76,7 +78,7 @@ enum-known-act-4 c = search needs
 
 -- src/lib.rt:254:13
 do-take-requires : tie.Need-do-take-requires
-do-take-requires c κs = (let d = subst (Doable _ _ _) (c .before .before .before .act4 .given .1) (c .before .before .before .before .before .before .before .before .pre .8) in (omega arith, omega arith, omega arith, omega arith, omega arith, d .0, d .1, d .2))
+do-take-requires c κs = (let d = subst (Doable _ _ _) (c .before .before .before .act4 .given .1) (c .before .before .before .before .before .before .before .before .pre .8) in (omega arith, omega arith, omega arith, omega arith, omega arith, d .0, d .1))
 
 -- src/lib.rt:223:1
 returns : tie.Need-returns
@@ -108,7 +110,12 @@ same-length c = search needs
 
 -- src/lib.rt:223:1
 returns-7 : tie.Need-returns-7
-returns-7 c = simp (c .before .before .before .before .before .before .act4 .given .1) (c .before .before .do-take .ensures _ _)
+returns-7 c =
+    let b = c .before .before .before .before .before in
+    let a = b .before .before .before .before .before .before .args in
+    let t = b .before .act4 .given .0 in
+    let done = ap (take-done (a .frame .now) (a .constructs .now) (a .passes .now) (a .values .now) (a .reading .now) (a .head) (a .i) (t .0) (t .1 .0)) (back (t .1 .1 .0) (b .known-told4 .given .1 .1 .0 .1)) in
+    simp (b .before .act4 .given .1) (c .before .before .do-take .ensures (a .constructs .now) (a .passes .now) ∙ done)
 
 pub do-act-spec : {M : Type 1} → statement M
 do-act-spec =

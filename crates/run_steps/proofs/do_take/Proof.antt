@@ -1,4 +1,8 @@
+use mathlib.Core.Path.{ap, _∙_}
+use lib.IntN.{ℤ}
 use borrow.Author.Tests.{le-leb, lt-leb}
+use Rattle.term_integers.proofs.Laws.{back}
+use Rattle.run_steps.specs.Steps.{bind}
 use borrow.Author.Needs.{needs}
 use Rattle.run_steps.proofs.do_take.Statement.{statement}
 use Rattle.run_steps.proofs.do_take.Tie as tie
@@ -47,7 +51,11 @@ same-length c = search needs
 
 -- src/lib.rt:184:9
 returns : tie.Need-returns
-returns c = λ cs ps. simp (le-leb _ _ (c .before .before .before .before .before .before .before .if1 .taken), c .before .bind .ensures, c .before .before .before .before .before .«record» .ensures, c .taken .ensures)
+returns c =
+    λ cs ps.
+    let b = c .before .before .before .before .before .before .before .before .before .before in
+    let bound = c .before .bind .ensures ∙ ap (λ (z : ℤ). bind (b .args .binder) z (b .args .values .now)) (back (b .args .value) (b .fits .value .sfits)) in
+    simp (le-leb _ _ (c .before .before .before .before .before .before .before .if1 .taken), bound, c .before .before .before .before .before .«record» .ensures, c .taken .ensures)
 
 -- src/lib.rt:186:5
 broken-requires : tie.Need-broken-requires
