@@ -10,7 +10,7 @@ use Rattle.basis.specs.Limits.{table-words}
 use Rattle.text_store.specs.Words.{kind-of, node-size}
 use Rattle.text_encoding.specs.Lists.{flat, written}
 use Rattle.text_encoding.specs.Numbers.{condition-length, condition-start}
-use Rattle.text_encoding.specs.Encoded.{header-words, rule-words, variable-words, start-word, end-word, operands, construct-words, lists-words, literal-words, encoded}
+use Rattle.text_encoding.specs.Encoded.{header-words, rule-words, variable-words, start-word, end-word, operands, kind-word, construct-words, lists-words, literal-words, encoded}
 use Rattle.text_encoding.proofs.Writing.{written-next}
 use Rattle.text_encoding.proofs.Sizes.{operands-length}
 
@@ -20,12 +20,12 @@ operands-written xs ns rs r i k kind ws w e f = f ∙ ap (λ (n : ℕ). written 
 
 -- a construct: what it is, its operands, its condition
 pub construct-written : (xs ns rs : List ℕ) (r i k : ℕ) (ws w v u : List ℕ)
-    → w ≡ written ws k (kind-of ns i ∷ node-size ns i ∷ [])
+    → w ≡ written ws k (kind-word xs ns i ∷ node-size ns i ∷ [])
     → v ≡ written w (k + 2) (operands xs ns rs r i (kind-of ns i))
     → u ≡ written v (k + 6) (start-word (condition-start ns i) (condition-length ns i) ∷ end-word (condition-start ns i) (condition-length ns i) ∷ [])
     → u ≡ written ws k (construct-words xs ns rs r i)
 construct-written xs ns rs r i k ws w v u e f g =
-    let head : List ℕ = kind-of ns i ∷ node-size ns i ∷ [] in
+    let head : List ℕ = kind-word xs ns i ∷ node-size ns i ∷ [] in
     let own : List ℕ = operands xs ns rs r i (kind-of ns i) in
     let last : List ℕ = start-word (condition-start ns i) (condition-length ns i) ∷ end-word (condition-start ns i) (condition-length ns i) ∷ [] in
     let l : length own ≡ 4 = operands-length xs ns rs r i (kind-of ns i) in

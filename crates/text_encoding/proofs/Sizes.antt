@@ -8,7 +8,7 @@ use native.Mathlib.Omega.{arith}
 use lib.Dec.{eqb}
 use lib.ListN.{length, length-append}
 use Rattle.text_store.specs.Words.{kind-of, own-from, condition-from, is-binder, term-tag, is-use}
-use Rattle.text_encoding.specs.Numbers.{first-at, binds-one, condition-length, own-length, lists-length, condition-start, width-of}
+use Rattle.text_encoding.specs.Numbers.{first-at, binds-one, condition-length, own-length, lists-length, condition-start, width-of, is-signed}
 use Rattle.text_encoding.specs.Encoded.{start-word, end-word, variable-words, operands, construct-words, term-words, list-words, lists-words, literal-words}
 use Rattle.text_encoding.proofs.Writing.{flat-length}
 
@@ -23,7 +23,7 @@ maybe-length true xs = omega arith
 maybe-length false xs = omega arith
 
 pub variable-length : (xs ns : List ℕ) (i : ℕ) → length (variable-words xs ns i) ≡ 4 * binds-one ns i
-variable-length xs ns i = maybe-length (is-binder ns i) (i ∷ width-of xs ns i ∷ 0 ∷ 0 ∷ [])
+variable-length xs ns i = maybe-length (is-binder ns i) (i ∷ width-of xs ns i ∷ cond (is-signed xs ns i) 1 0 ∷ 0 ∷ [])
 
 pub operands-length : (xs ns rs : List ℕ) (r i kind : ℕ) → length (operands xs ns rs r i kind) ≡ 4
 operands-length xs ns rs r i kind =

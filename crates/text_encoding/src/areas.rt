@@ -7,6 +7,7 @@ use crate::numbers::condition_length;
 use crate::numbers::first_at;
 use crate::numbers::less;
 use crate::numbers::own_length;
+use crate::numbers::signed;
 use crate::numbers::width;
 use crate::put::put_four;
 use crate::put::put_three;
@@ -20,6 +21,7 @@ use text_store::words::binder;
 use text_store::words::node_word;
 use text_store::words::rule_word;
 ghost use mathlib.Core.Path.{_≡_};
+ghost use mathlib.Core.Bool.{cond};
 ghost use mathlib.Core.List.{List};
 ghost use Prim.Native.Nat.{ℕ, _+_, _*_, _≤_, _<_};
 ghost use lib.ListN.{length, replicate};
@@ -27,7 +29,7 @@ ghost use Rattle.table_layout.specs.Places.{rules-at, variables-at, constructs-
 ghost use Rattle.text_store.specs.Words.{nodes-room, terms-room, rules-room};
 ghost use Rattle.basis.specs.Limits.{max-rules, max-constructs, max-terms, table-words};
 ghost use Rattle.text_encoding.specs.Lists.{flat, written};
-ghost use Rattle.text_encoding.specs.Numbers.{binders-before as binders-beforeOf, condition-start};
+ghost use Rattle.text_encoding.specs.Numbers.{binders-before as binders-beforeOf, is-signed, condition-start};
 ghost use Rattle.text_encoding.specs.Encoded.{header-words, rule-words, variable-words, construct-words, two-lists, lists-words, literal-words, encoded};
 
 // Where the terms of construct n begin: how many there are before it.
@@ -79,13 +81,31 @@ fn put_rules(nodes: &[usize], rules: &[usize], r: usize, table: &mut [u32])
     }
 }
 
+// 1 of a sint, else 0.
+fn sign_word(text: &[u8], nodes: &[usize], i: usize) -> usize
+    requires { ⌜ length (now nodes) ≡ nodes-room ⌝ }
+    ensures { λ r. ⌜ r ≡ cond (is-signed (now (text .entry)) (now (nodes .entry)) i) 1 0 ⌝ }
+{
+    if signed(text, nodes, i) {
+        return 1;
+    }
+    0
+}
+
 // The variable that node i binds, if it binds one, as variable x. Answers the number of the next.
 fn put_variable(text: &[u8], nodes: &[usize], i: usize, x: usize, table: &mut [u32]) -> usize
     requires { ⌜ (length (now nodes) ≡ nodes-room) × (i < max-constructs) × (x ≡ binders-beforeOf (now nodes) i) ⌝ }
     ensures { λ r. ⌜ (now (table .exit) ≡ written (now (table .entry)) (variables-at + 4 * x) (variable-words (now (text .entry)) (now (nodes .entry)) i)) × (r ≡ binders-beforeOf (now (nodes .entry)) (i + 1)) ⌝ }
 {
     if binder(nodes, i) {
-        put_four(table, VARIABLES_AT + 4 * x, i, width(text, nodes, i), 0, 0);
+        put_four(
+            table,
+            VARIABLES_AT + 4 * x,
+            i,
+            width(text, nodes, i),
+            sign_word(text, nodes, i),
+            0,
+        );
         return x + 1;
     }
     x

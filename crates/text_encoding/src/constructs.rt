@@ -3,6 +3,7 @@ use crate::numbers::binders_before;
 use crate::numbers::condition_length;
 use crate::numbers::own_length;
 use crate::numbers::rule_number;
+use crate::numbers::signed;
 use crate::numbers::variable_number;
 use crate::numbers::width;
 use crate::put::put_four;
@@ -38,7 +39,7 @@ ghost use Rattle.text_literals.specs.Literals.{characters-at};
 ghost use Rattle.text_store.specs.Words.{kind-of, is-binder, nodes-room, terms-room, rules-room};
 ghost use Rattle.text_encoding.specs.Lists.{flat, written};
 ghost use Rattle.text_encoding.specs.Numbers.{binders-before as binders-beforeOf, condition-start, own-start, condition-length as condition-lengthOf};
-ghost use Rattle.text_encoding.specs.Encoded.{start-word, end-word, operands as operandsOf, construct-words, term-words, list-words, packed as packedOf, literal-words};
+ghost use Rattle.text_encoding.specs.Encoded.{start-word, end-word, operands as operandsOf, kind-word, construct-words, term-words, list-words, packed as packedOf, literal-words};
 
 fn start_word(start: usize, n: usize) -> usize
     ensures { λ r. ⌜ r ≡ start-word start n ⌝ }
@@ -167,6 +168,20 @@ fn operands(
     put_four(table, k, 0, 0, 0, 0);
 }
 
+// What construct i is: a sint is kind 12.
+fn kind_word(text: &[u8], nodes: &[usize], i: usize) -> usize
+    requires { ⌜ length (now nodes) ≡ nodes-room ⌝ }
+    ensures { λ r. ⌜ r ≡ kind-word (now (text .entry)) (now (nodes .entry)) i ⌝ }
+{
+    let kind = node_word(nodes, i, KIND);
+    if kind == 8 {
+        if signed(text, nodes, i) {
+            return 12;
+        }
+    }
+    kind
+}
+
 // Construct i, whose lists begin at term `start`.
 pub fn construct(
     text: &[u8],
@@ -185,7 +200,7 @@ pub fn construct(
     put_two(
         table,
         k,
-        node_word(nodes, i, KIND),
+        kind_word(text, nodes, i),
         node_word(nodes, i, SIZE),
     );
     operands(text, nodes, rules, count, i, start + n, k + 2, table);

@@ -1,4 +1,5 @@
 // Numbers of rules, variables and terms.
+use text_header::spans::byte_at;
 use text_names::counting::min;
 use text_names::names::binds;
 use text_names::names::same;
@@ -8,6 +9,7 @@ use text_store::FIRST_NODE;
 use text_store::NAMED_AT;
 use text_store::OWN_END;
 use text_store::OWN_FROM;
+use text_store::PLACE;
 use text_store::WIDTH_PLACE;
 use text_store::words::binder;
 use text_store::words::node_word;
@@ -18,7 +20,7 @@ ghost use Prim.Native.Nat.{ℕ, _+_, _-_, _≤_, _<_};
 ghost use lib.ListN.{length};
 ghost use Rattle.text_store.specs.Words.{nodes-room, rules-room};
 ghost use Rattle.text_encoding.specs.Lists.{sum};
-ghost use Rattle.text_encoding.specs.Numbers.{rule-of, first-at as first-atOf, binds-one, binders-before as binders-beforeOf, binder-of, variable-of, width-of, condition-length as condition-lengthOf, own-length as own-lengthOf};
+ghost use Rattle.text_encoding.specs.Numbers.{rule-of, first-at as first-atOf, binds-one, binders-before as binders-beforeOf, binder-of, variable-of, width-of, is-signed, condition-length as condition-lengthOf, own-length as own-lengthOf};
 
 // n without m, 0 where m is more.
 pub fn less(n: usize, m: usize) -> usize
@@ -108,16 +110,24 @@ pub fn variable_number(text: &[u8], nodes: &[usize], a: usize, i: usize, p: usiz
     binders_before(nodes, binder_of(text, nodes, a, i, p))
 }
 
-// A uint's width, at most 33.
+// A uint's width, at most 65.
 pub fn width(text: &[u8], nodes: &[usize], i: usize) -> usize
     requires { ⌜ length (now nodes) ≡ nodes-room ⌝ }
     ensures { λ r. ⌜ r ≡ width-of (now (text .entry)) (now (nodes .entry)) i ⌝ }
 {
     let p = node_word(nodes, i, WIDTH_PLACE);
     if p < text.len() {
-        return min(33, number_at(text, p) as usize);
+        return min(65, number_at(text, p) as usize);
     }
     0
+}
+
+// It is a sint and no uint.
+pub fn signed(text: &[u8], nodes: &[usize], i: usize) -> bool
+    requires { ⌜ length (now nodes) ≡ nodes-room ⌝ }
+    ensures { λ r. ⌜ r ≡ is-signed (now (text .entry)) (now (nodes .entry)) i ⌝ }
+{
+    byte_at(text, node_word(nodes, i, PLACE)) == 115
 }
 
 pub fn condition_length(nodes: &[usize], i: usize) -> usize

@@ -17,11 +17,11 @@ add-k c = search needs
 condition-length-requires : tie.Need-condition-length-requires
 condition-length-requires c κs = search needs
 
+kind-word-requires : tie.Need-kind-word-requires
+kind-word-requires c κs = search needs
+
 node-word-requires : tie.Need-node-word-requires
 node-word-requires c κs = search needs
-
-node-word-requires-2 : tie.Need-node-word-requires-2
-node-word-requires-2 c κs = search needs
 
 put-two-requires : tie.Need-put-two-requires
 put-two-requires c κs = search needs
@@ -51,7 +51,7 @@ same-length : tie.Need-same-length
 same-length c = search needs
 
 returns : tie.Need-returns
-returns c = construct-written (c .before .before .before .before .before .before .before .before .before .before .before .before .before .before .before .before .before .before .before .before .before .args .text .now) (c .before .before .before .before .before .before .before .before .before .before .before .before .before .before .before .before .before .before .before .before .before .args .nodes .now) (c .before .before .before .before .before .before .before .before .before .before .before .before .before .before .before .before .before .before .before .before .before .args .rules .now) (c .before .before .before .before .before .before .before .before .before .before .before .before .before .before .before .before .before .before .before .before .before .args .count) (c .before .before .before .before .before .before .before .before .before .before .before .before .before .before .before .before .before .before .before .before .before .args .i) (constructs-at + 8 * c .before .before .before .before .before .before .before .before .before .before .before .before .before .before .before .before .before .before .before .before .before .args .i) (c .before .before .before .before .before .before .before .before .before .before .before .before .before .before .before .before .before .before .before .before .before .args .table .now) (c .before .before .before .before .before .before .before .before .before .before .before .before .put-two .last .0) (c .before .before .before .before .before .before .before .before .operands .last .1 .1 .1 .1 .1 .1 .1 .0) (c .before .before .put-two2 .last .0) (simp (c .before .before .before .before .before .before .before .before .before .before .before .before .put-two .ensures, c .before .before .before .before .before .before .before .before .before .before .before .before .before .before .node-word .ensures, c .before .before .before .before .before .before .before .before .before .before .before .before .before .node-word2 .ensures)) (c .before .before .before .before .before .before .before .before .operands .ensures) (simp (c .before .before .put-two2 .ensures, c .before .before .before .end-word .ensures, c .before .before .before .before .start-word .ensures, c .before .before .before .before .before .before .before .before .before .before .before .before .before .before .before .before .condition-length .ensures, c .before .before .before .before .before .before .before .before .before .before .before .before .before .before .before .before .before .before .before .before .before .pre .3))
+returns c = construct-written (c .before .before .before .before .before .before .before .before .before .before .before .before .before .before .before .before .before .before .before .before .before .args .text .now) (c .before .before .before .before .before .before .before .before .before .before .before .before .before .before .before .before .before .before .before .before .before .args .nodes .now) (c .before .before .before .before .before .before .before .before .before .before .before .before .before .before .before .before .before .before .before .before .before .args .rules .now) (c .before .before .before .before .before .before .before .before .before .before .before .before .before .before .before .before .before .before .before .before .before .args .count) (c .before .before .before .before .before .before .before .before .before .before .before .before .before .before .before .before .before .before .before .before .before .args .i) (constructs-at + 8 * c .before .before .before .before .before .before .before .before .before .before .before .before .before .before .before .before .before .before .before .before .before .args .i) (c .before .before .before .before .before .before .before .before .before .before .before .before .before .before .before .before .before .before .before .before .before .args .table .now) (c .before .before .before .before .before .before .before .before .before .before .before .before .put-two .last .0) (c .before .before .before .before .before .before .before .before .operands .last .1 .1 .1 .1 .1 .1 .1 .0) (c .before .before .put-two2 .last .0) (simp (c .before .before .before .before .before .before .before .before .before .before .before .before .put-two .ensures, c .before .before .before .before .before .before .before .before .before .before .before .before .before .before .kind-word .ensures, c .before .before .before .before .before .before .before .before .before .before .before .before .before .node-word .ensures)) (c .before .before .before .before .before .before .before .before .operands .ensures) (simp (c .before .before .put-two2 .ensures, c .before .before .before .end-word .ensures, c .before .before .before .before .start-word .ensures, c .before .before .before .before .before .before .before .before .before .before .before .before .before .before .before .before .condition-length .ensures, c .before .before .before .before .before .before .before .before .before .before .before .before .before .before .before .before .before .before .before .before .before .pre .3))
 
 pub construct-spec : {M : Type 1} → statement M
 construct-spec =
@@ -60,8 +60,8 @@ construct-spec =
     mul-k
     add-k
     condition-length-requires
+    kind-word-requires
     node-word-requires
-    node-word-requires-2
     put-two-requires
     add-operands
     add-operands-2
