@@ -26,15 +26,15 @@ extern "C" {
 
 /* This header's version, as text and as a number: major * 1000000 + minor * 1000 + patch. songrafter_version() is the
  * archive's: the two are the same where header and archive belong together. */
-#define SONGRAFTER_VERSION "0.2.0"
-#define SONGRAFTER_VERSION_NUMBER 2000u
+#define SONGRAFTER_VERSION "0.3.0"
+#define SONGRAFTER_VERSION_NUMBER 3000u
 
 /* Sizes of what the caller lends. */
 #define SONGRAFTER_TEXT_BYTES 8192u     /* the longest grammar */
 #define SONGRAFTER_TABLE_WORDS 16384u   /* a table, in uint32_t */
 #define SONGRAFTER_ANSWER_WORDS 5u      /* an answer of songrafter_admit, in uint64_t */
-#define SONGRAFTER_FRAME_BYTES 256u     /* the longest frame */
-#define SONGRAFTER_READING_WORDS 4096u  /* room that is enough for every frame, in uint32_t: two words for each bit */
+#define SONGRAFTER_FRAME_BYTES 1024u    /* the longest frame */
+#define SONGRAFTER_READING_WORDS 16384u /* room that is enough for every frame, in uint32_t: two words for each bit */
 #define SONGRAFTER_FIELD_WORDS 4u       /* what songrafter_field tells of a field, in uint64_t */
 #define SONGRAFTER_RUN_BYTES 2596u      /* a saved run */
 #define SONGRAFTER_VARIABLES 64u        /* values of a run */
@@ -62,8 +62,8 @@ enum songrafter_refusal {
     SONGRAFTER_CLASH = 10,         /* the next 8 bits do not tell which of two ways to go */
     SONGRAFTER_WEIGHT = 11,        /* weight over 65,535 */
     SONGRAFTER_UNREACHED = 12,     /* a rule is not reached from the start rule */
-    SONGRAFTER_NO_VALUE = 13,      /* a uint's set has no variable and no value left */
-    SONGRAFTER_FRAME_LONG = 21,    /* frame over 256 bytes */
+    SONGRAFTER_NO_VALUE = 13,      /* a uint's or sint's set has no variable and no value left */
+    SONGRAFTER_FRAME_LONG = 21,    /* frame over 1,024 bytes */
     SONGRAFTER_READING_SMALL = 22, /* reading under two words for each frame bit */
     SONGRAFTER_TABLE_UNSOUND = 23, /* table not sound */
     SONGRAFTER_RUN_UNFIT = 24      /* saved run doesn't fit, or is not 2,596 bytes */
@@ -82,8 +82,9 @@ enum songrafter_run_verdict {
 enum songrafter_field_word {
     SONGRAFTER_FIELD_CONSTRUCT = 0, /* which field of the grammar: its construct number */
     SONGRAFTER_FIELD_FIRST_BIT = 1, /* bits of the frame before it */
-    SONGRAFTER_FIELD_WIDTH = 2,     /* its bits: 1 to 32 of a uint, 8 of a range, 8 for each character of a literal */
-    SONGRAFTER_FIELD_VALUE = 3      /* the number that they are, most significant bit first; 0 where they are over 32 */
+    SONGRAFTER_FIELD_WIDTH = 2,     /* its bits: 1 to 64 of a uint or sint, 8 of a range, 8 for each literal's character */
+    SONGRAFTER_FIELD_VALUE = 3      /* the number that they are, most significant bit first and without a sign; 0 where
+                                       they are over 64 */
 };
 
 /* The archive's version number. */
@@ -118,14 +119,15 @@ size_t songrafter_grant(const uint32_t *table, size_t table_len, const uint8_t *
 /* Of field k of a reading, from 0: its construct, first bit, width and value; what fits of the four is written into
  * `field`, at the places that enum songrafter_field_word names. Answers 0, or the first of these numbers, and then
  * writes nothing:
- *   21 where the frame is over 256 bytes;
+ *   21 where the frame is over 1,024 bytes;
  *   22 where the reading ends before its words 2k and 2k + 1;
  *   23 where the table is shorter than 16,384 words, or its construct of that number is no field;
  *   24 where not all of the field's bits lie in the frame.
  * A run's fields are those with k below songrafter_fields(run): where the run is one of which a verdict means something,
  * none of them is refused, and they lie one after the other from the frame's first bit up to songrafter_position(run).
  * What the reading holds behind them is the caller's own.
- * The value of a literal of more than 4 characters is told as 0: its bits are in the frame, from its first bit on. */
+ * The value of a literal of more than 8 characters is told as 0: its bits are in the frame, from its first bit on. The
+ * value of a sint is told as its bits are; songrafter_signed gives it its sign. */
 size_t songrafter_field(const uint32_t *table, size_t table_len, const uint8_t *frame, size_t frame_len,
                         const uint32_t *reading, size_t reading_len, size_t k, uint64_t *field, size_t field_len);
 
@@ -133,12 +135,12 @@ size_t songrafter_field(const uint32_t *table, size_t table_len, const uint8_t *
  * read), and the value of variable k (0 from 64 on).
  *
  * Variables are numbered from 0 in the order in which the text binds them, through all its rules. A value is as last
- * bound: that of the last field so far that bound it, 0 where none did. `names GRAMMAR` prints the numbers of
- * variables and fields as a C header.
+ * bound, with its sign: that of the last field so far that bound it, 0 where none did. `names GRAMMAR` prints the
+ * numbers of variables and fields as a C header.
  *
  * They say what stands in the bytes, whatever that is; a slice that is not 2,596 bytes is read as a closed run. Of a run
  * that comes from outside ask songrafter_grant for 0 steps first: it answers 24 where the run does not fit table, frame
- * and reading (21 for a frame over 256 bytes), and only where it answers 0 is it sure that the fields lie within the
+ * and reading (21 for a frame over 1,024 bytes), and only where it answers 0 is it sure that the fields lie within the
  * reading (a loop up to songrafter_fields over a forged run may read past it; songrafter_field does not). What fields
  * and values mean is as songrafter_grant says of a verdict. */
 uint32_t songrafter_verdict(const uint8_t *run, size_t run_len);
@@ -146,6 +148,14 @@ uint64_t songrafter_steps(const uint8_t *run, size_t run_len);
 uint64_t songrafter_fields(const uint8_t *run, size_t run_len);
 uint64_t songrafter_position(const uint8_t *run, size_t run_len);
 int64_t songrafter_value(const uint8_t *run, size_t run_len, size_t k);
+
+/* The value of a sint, from its value and its width as songrafter_field tells them: its first bit counts negative. */
+static inline int64_t songrafter_signed(uint64_t value, uint64_t width) {
+    if (width == 0 || width > 64) return 0;
+    if (value >> (width - 1) == 0) return (int64_t)value;
+    /* what is missing up to -1, which no width makes too large */
+    return -(int64_t)((UINT64_MAX >> (64 - width)) ^ value) - 1;
+}
 
 /* A sentence for a number of refusal, and a word for a verdict. */
 static inline const char *songrafter_refusal_text(size_t number) {
@@ -164,7 +174,7 @@ static inline const char *songrafter_refusal_text(size_t number) {
     case SONGRAFTER_WEIGHT: return "the grammar is too heavy: its weight is over 65,535";
     case SONGRAFTER_UNREACHED: return "a rule is not reached from the start rule";
     case SONGRAFTER_NO_VALUE: return "a field has no value";
-    case SONGRAFTER_FRAME_LONG: return "the frame is over 256 bytes";
+    case SONGRAFTER_FRAME_LONG: return "the frame is over 1,024 bytes";
     case SONGRAFTER_READING_SMALL: return "the reading has too few words";
     case SONGRAFTER_TABLE_UNSOUND: return "the table is not sound, or has no such field";
     case SONGRAFTER_RUN_UNFIT: return "the saved run or the field does not fit the table, the frame and the reading";

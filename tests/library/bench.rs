@@ -117,7 +117,7 @@ fn largest() {
     let wide = |i: u64| format!("{}~{}", i * 33554432, i * 33554432 + 99);
     let texts = [
         ("512 items of 32 bits", one_uint(32, 512, |i| format!("{}", i * 3))),
-        ("512 items of 64 bits", one_uint(64, 512, |i| format!("{}", i * 9007199254740993))),
+        ("512 items of 64 bits", one_uint(64, 512, |i| format!("{}", i * 90071992547))),
         ("341 negative items of 64 bits", one_uint(64, 341, |i| format!("-{}", i * 13510798882111489)).replace("uint", "sint")),
         ("512 items of 16 bits", one_uint(16, 512, |i| format!("{}", i * 127))),
         ("512 items of 8 bits", one_uint(8, 512, |i| format!("{}", i % 256))),

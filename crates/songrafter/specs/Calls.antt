@@ -86,4 +86,4 @@ pub record TellsField (table frame reading : List ℕ) (k : ℕ) (field field′
 -- ---- the version: major × 1,000,000 + minor × 1,000 + patch
 
 abbrev pub version : ℕ
-version = 2000
+version = 3000

@@ -244,12 +244,12 @@ pub extern "C" fn songrafter_field(
     tell_field(field, found)
 }
 
-// The version of include/songrafter.h that this is: 0.2.0.
+// The version of include/songrafter.h that this is: 0.3.0.
 #[no_mangle]
 pub extern "C" fn songrafter_version() -> u32
     ensures { λ r. ⌜ r ≡ version ⌝ }
 {
-    2000
+    3000
 }
 
 // Of a saved run, or of a closed one where the slice is none: verdict, steps taken, fields recorded, position, value of a variable.
