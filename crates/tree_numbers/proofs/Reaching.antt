@@ -70,7 +70,7 @@ use-there {a = a} (a-use {x = x} e p g s) (node-then h more) (List·Memᴰ·head
     record { at = a; from = omega arith; upto = omega arith; is-use = h .kind-is ∙ e; name = x; name-here = g; place = h .place-is ∙ p; letters = sym q }
 use-there (a-use e p g s) (node-then h more) (List·Memᴰ·tail m) = later (use-there s more m)
 use-there (a-field e b f v s) (node-then h more) m = later (use-there s more m)
-use-there (a-binder e b f v z g s) (node-then h more) m = later (use-there s more m)
+use-there (a-binder e b f v w z g s) (node-then h more) m = later (use-there s more m)
 use-there (another e b s) (node-then h more) m = later (use-there s more m)
 
 record UseBack (xs ns : List ℕ) (l : List Piece) (at : ℕ) : Type 0 where
@@ -91,7 +91,7 @@ use-back {xs} {ns} {a} (a-field {l = l} e b y v s) (node-then h more) at f g k =
     compared at a (λ w. absurd (omega arith))
     (λ (w : at ≡ a). let z : 5 ≡ 8 = sym k ∙ ap (kind-of ns) w ∙ h .kind-is ∙ e in absurd (omega arith))
     (λ w. let u : UseBack xs ns l at = use-back s more at (omega arith) (omega arith) k in record { name = u .name; name-here = u .name-here; place = u .place; used = u .used })
-use-back {xs} {ns} {a} (a-binder {l = l} e b y v q z s) (node-then h more) at f g k =
+use-back {xs} {ns} {a} (a-binder {l = l} e b y v w q z s) (node-then h more) at f g k =
     compared at a (λ w. absurd (omega arith))
     (λ (w : at ≡ a). let z : 5 ≡ 8 = sym k ∙ ap (kind-of ns) w ∙ h .kind-is ∙ e in absurd (omega arith))
     (λ w. let u : UseBack xs ns l at = use-back s more at (omega arith) (omega arith) k in record { name = u .name; name-here = u .name-here; place = u .place; used = u .used })

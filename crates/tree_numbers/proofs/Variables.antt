@@ -96,7 +96,7 @@ bound-many no-step no-nodes = refl
 bound-many (a-formula s) h = bound-many s h
 bound-many (a-use {r = r} e p g s) (node-then h more) = omega (arith, counts-none h (use-binds-none r e), bound-many s more)
 bound-many (a-field e b f v s) (node-then h more) = omega (arith, counts-none h b, bound-many s more)
-bound-many (a-binder e b f v z g s) (node-then h more) = omega (arith, counts-one h b, bound-many s more)
+bound-many (a-binder e b f v w z g s) (node-then h more) = omega (arith, counts-one h b, bound-many s more)
 bound-many (another {r = r} e b s) (node-then h more) = omega (arith, counts-none h (other-binds-none r b), bound-many s more)
 
 -- those before the nodes of a rule, and after them
@@ -122,7 +122,7 @@ number-at b y (a-formula s) h k e = number-at b y s h k e
 number-at {xs} {M = M} b y (a-use {r = r} {M = L} d p g s) (node-then h more) k e = past-none xs b (length L) (y .start) h (use-binds-none r d) ∙ number-at b y s more k e
 number-at {xs} b y (a-field {M = L} d q f v s) (node-then h more) k e = past-none xs b (length L) (y .start) h q ∙ number-at b y s more k e
 number-at {xs} b y (another {r = r} {M = L} d q s) (node-then h more) k e = past-none xs b (length L) (y .start) h (other-binds-none r q) ∙ number-at b y s more k e
-number-at {xs} {ns} {a} b y (a-binder {M = L} {x = x} {l = l} d q f v z g s) (node-then h more) k e =
+number-at {xs} {ns} {a} b y (a-binder {M = L} {x = x} {l = l} d q f v w z g s) (node-then h more) k e =
     ⊎-elim
     (λ (c : is-same (x .letters) (y .letters) ≡ true). found c)
     (λ (c : is-same (x .letters) (y .letters) ≡ false). onward c (number-at (suc b) y s more k (ap (λ (m : Bool). m || is-among (bound-in l) y) (sym c) ∙ e)))
@@ -159,7 +159,7 @@ among-bound {xs} {ns} {a} y (a-use {r = r} {M = L} d p g s) (node-then h more) k
     any-suc (length L) a (binds xs ns (y .start)) ∙ ap (λ (b : Bool). b || any-of (length L) (a + 1) (binds xs ns (y .start))) (binds-none h xs (y .start) (use-binds-none r d)) ∙ among-bound y s more k
 among-bound {xs} {ns} {a} y (a-field {M = L} d q f v s) (node-then h more) k =
     any-suc (length L) a (binds xs ns (y .start)) ∙ ap (λ (b : Bool). b || any-of (length L) (a + 1) (binds xs ns (y .start))) (binds-none h xs (y .start) q) ∙ among-bound y s more k
-among-bound {xs} {ns} {a} y (a-binder {M = L} d q f v z g s) (node-then h more) k =
+among-bound {xs} {ns} {a} y (a-binder {M = L} d q f v w z g s) (node-then h more) k =
     any-suc (length L) a (binds xs ns (y .start)) ∙ ap₂ _||_ (binds-here h q z g k) (among-bound y s more k)
 among-bound {xs} {ns} {a} y (another {r = r} {M = L} d q s) (node-then h more) k =
     any-suc (length L) a (binds xs ns (y .start)) ∙ ap (λ (b : Bool). b || any-of (length L) (a + 1) (binds xs ns (y .start))) (binds-none h xs (y .start) (other-binds-none r q)) ∙ among-bound y s more k
