@@ -13,8 +13,8 @@ use Rattle.table_layout.specs.Constructs.{constructAt}
 use Rattle.table_layout.specs.declared.Construct.{Construct}
 use Rattle.run_fields.specs.declared.Answer.{Answer}
 
--- how many bits a field has: a literal "8 bits a character", "a range of one-character literals" 8, `uint(width, set)` its width; what is no
--- field has none
+-- how many bits a field has: a literal "8 bits a character", "a range of one-character literals" 8, `uint(width, set)` and `sint(width, set)` their width; what
+-- is no field has none
 abbrev pub field-width : Construct → ℕ
 field-width Construct.Missing = 0
 field-width (Construct.Alternative size) = 0
@@ -27,7 +27,8 @@ field-width (Construct.Range low high) = 8
 field-width (Construct.Uint signed width start end binder) = width
 field-width Construct.Eod = 0
 
--- the number that the w bits from bit p on are, "most significant bit first"; 0 for more than 32 bits, which only a literal has
+-- the number without a sign that the w bits from bit p on are, "most significant bit first", of a signed field too; 0 for more than 64 bits, which only a
+-- literal has
 abbrev pub field-value : List ℕ → (p w : ℕ) → ℕ
 field-value fs p w = cond (leb w max-width) (value (take w (drop p (frameBits fs)))) 0
 

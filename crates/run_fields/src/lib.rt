@@ -20,7 +20,7 @@ pub enum Answer {
     NoField,
     // Not all of the field's bits lie in the frame.
     Outside,
-    // The value is 0 where the field has more than 32 bits.
+    // The value is the bits as a number without a sign, a signed field's too, and 0 where there are more than 64.
     Found {
         construct: usize,
         first: usize,
@@ -44,6 +44,7 @@ fn width_of(construct: Construct) -> usize
         Construct::Literal { length } => 8 * length,
         Construct::Range { low: _, high: _ } => 8,
         Construct::Uint {
+            signed: _,
             width,
             start: _,
             end: _,

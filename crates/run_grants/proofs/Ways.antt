@@ -22,7 +22,7 @@ module _ (fs : List ℕ) (P : Whole → Type 0) (cs ps : List ℕ) (vs : List �
     pub broke : P (whole cs ps vs rs (break h))
     pub failed : P (whole cs ps vs rs (fail h))
     pub moved : (cs′ ps′ : List ℕ) (n : ℕ) → P (whole cs′ ps′ vs rs (taken fs h n (h .position) (h .captures)))
-    pub took : (i width binder n : ℕ) → h .position + width ≤ bits-of fs → 1 ≤ width
+    pub took : (i width binder : ℕ) (n : ℤ) → h .position + width ≤ bits-of fs → 1 ≤ width
         → P (whole cs ps (bind binder n vs) (set (set rs (2 * h .captures) i) (2 * h .captures + 1) (h .position)) (taken fs h (h .count - 1) (h .position + width) (h .captures + 1)))
 
   module _ (w : Ways) (ws : List ℕ) where
@@ -43,7 +43,7 @@ module _ (fs : List ℕ) (P : Whole → Type 0) (cs ps : List ℕ) (vs : List �
     effected i k (Act.Take width binder n) d =
         picked-true P (leb (2 * h .captures + 2) (length rs))
         (whole cs ps (bind binder n vs) (set (set rs (2 * h .captures) i) (2 * h .captures + 1) (h .position)) (taken fs h (h .count - 1) (h .position + width) (h .captures + 1)))
-        (whole cs ps vs rs (break h)) (λ e. w .took i width binder n (d .0) (d .3)) (w .broke)
+        (whole cs ps vs rs (break h)) (λ e. w .took i width binder n (d .0) (d .2)) (w .broke)
 
     pub stepped : P (step-of ws fs (whole cs ps vs rs h))
     stepped =

@@ -29,7 +29,7 @@ pub struct Run {
 
 // What a grant is answered.
 pub enum Answer {
-    // Refused: the frame is over 256 bytes.
+    // Refused: the frame is over 1,024 bytes.
     LongFrame,
     // Refused: the saved run doesn't fit.
     Unfit,
