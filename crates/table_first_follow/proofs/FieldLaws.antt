@@ -10,7 +10,7 @@ use native.Mathlib.Decide.{ℕ-discrete, decLt}
 use native.Mathlib.Nat.{add-zero}
 use borrow.Author.Tests.{le-leb, leb-true}
 use lib.Dec.{leb}
-use lib.IntN.{pos}
+use lib.IntN.{ℤ}
 use lib.ListN.{length}
 use lib.Seq.{take-at}
 use lib.Pow.{pow-mono}
@@ -19,7 +19,6 @@ use Rattle.basis.specs.Limits.{max-constructs}
 use Rattle.basis.specs.Bits.{Bits, bitsOf, value, frameBits, same}
 use Rattle.basis.specs.Lookahead.{lookahead, number}
 use Rattle.basis.specs.Patterns.{pattern-value}
-use Rattle.basis.proofs.PatternLaws.{unsigned-value}
 use Rattle.basis.proofs.Frames.{frame-length}
 use Rattle.basis.proofs.Strings.{same-refl, same-true}
 use Rattle.basis.proofs.Numbers.{number-value, number-lt, number-injective, number-bitsOf}
@@ -138,20 +137,19 @@ yes-same Tested.Malformed = refl
 yes-same Tested.Overflow = refl
 
 module _ (ws : List ℕ) (start end : ℕ) where
-  static-admits : (n : ℕ) → in-static-set ws start end n ≡ admits start (terms-of ws start end) (pos n)
+  static-admits : (n : ℤ) → in-static-set ws start end n ≡ admits start (terms-of ws start end) n
   unfolding admits holds
-  static-admits n = ap (cond (hasVariable (terms-of ws start end)) true) (yes-same (membership [] (pos n) start (terms-of ws start end)))
+  static-admits n = ap (cond (hasVariable (terms-of ws start end)) true) (yes-same (membership [] n start (terms-of ws start end)))
 
-  module _ (width : ℕ) where
-    pub uint-strings : (x : Bits) → Named (Led width false (term-words ws) start end) x ↔ Leading (λ bits. width) (λ bits. in-static-set ws start end (value bits)) x
+  module _ (signed : Bool) (width : ℕ) where
+    pub uint-strings : (x : Bits) → Named (Led width signed (term-words ws) start end) x ↔ Leading (λ bits. width) (λ bits. in-static-set ws start end (pattern-value signed bits)) x
     uint-strings x = (to, back)
       where
-        to : Named (Led width false (term-words ws) start end) x → Leading (λ bits. width) (λ bits. in-static-set ws start end (value bits)) x
+        to : Named (Led width signed (term-words ws) start end) x → Leading (λ bits. width) (λ bits. in-static-set ws start end (pattern-value signed bits)) x
         to (l, (v, k)) =
-            let e : admits start (terms-of ws start end) (pos (value (bitsOf width v))) ≡ true = ap (admits start (terms-of ws start end)) (sym (unsigned-value (bitsOf width v))) ∙ k .member in
-            (bitsOf width v, length-bitsOf width v, static-admits (value (bitsOf width v)) ∙ e, number-injective x (lookahead (bitsOf width v)) (sym (k .leading)))
+            (bitsOf width v, length-bitsOf width v, static-admits (pattern-value signed (bitsOf width v)) ∙ k .member, number-injective x (lookahead (bitsOf width v)) (sym (k .leading)))
 
-        back : Leading (λ bits. width) (λ bits. in-static-set ws start end (value bits)) x → Named (Led width false (term-words ws) start end) x
+        back : Leading (λ bits. width) (λ bits. in-static-set ws start end (pattern-value signed bits)) x → Named (Led width signed (term-words ws) start end) x
         back (bits, l, t, p) =
             let b : bitsOf width (value bits) ≡ bits = ap (λ (w : ℕ). bitsOf w (value bits)) (sym l) ∙ bitsOf-value bits in (
               subst (λ (s : Bits). length s ≤ 8) (sym p) (lookahead-length bits),
@@ -159,7 +157,7 @@ module _ (ws : List ℕ) (start end : ℕ) where
                 value bits,
                 record {
                   less = subst (λ (w : ℕ). value bits < 2 ^ w) l (value-less bits);
-                  member = ap (λ (s : Bits). admits start (terms-of ws start end) (pattern-value false s)) b ∙ ap (admits start (terms-of ws start end)) (unsigned-value bits) ∙ sym (static-admits (value bits)) ∙ t;
+                  member = ap (λ (s : Bits). admits start (terms-of ws start end) (pattern-value signed s)) b ∙ sym (static-admits (pattern-value signed bits)) ∙ t;
                   leading = ap (λ (s : Bits). number (lookahead s)) b ∙ ap number (sym p);
                 },
               ),
@@ -206,12 +204,12 @@ module _ (ws : List ℕ) (i : ℕ) (h : i < sets-held) (r : Construct) (e : r �
   seed-range low high p l s = seed-placed (Construct.Range low high) p (is-map out (Numbered (256 + low) (257 + high) Any) (Seeded (node-of ws i (Construct.Range low high))) (range-strings low high l) s)
 
   pub seed-uint : (signed : Bool) (width start end binder : ℕ) → r ≡ Construct.Uint signed width start end binder
-      → Is out (Named (Led width false (term-words ws) start end)) → Right
+      → Is out (Named (Led width signed (term-words ws) start end)) → Right
   unfolding node-of
-  seed-uint width start end binder p s =
+  seed-uint signed width start end binder p s =
       seed-placed (Construct.Uint signed width start end binder) p
-      (is-map out (Named (Led width false (term-words ws) start end)) (Seeded (node-of ws i (Construct.Uint signed width start end binder)))
-      (uint-strings ws start end width) s)
+      (is-map out (Named (Led width signed (term-words ws) start end)) (Seeded (node-of ws i (Construct.Uint signed width start end binder)))
+      (uint-strings ws start end signed width) s)
 
   -- a switch without a default has the empty string
   empty-string : (optional : Bool) (x : Bits) → Neutral optional x ↔ ((optional ≡ true) × (x ≡ []))

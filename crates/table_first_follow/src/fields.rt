@@ -1,6 +1,6 @@
 // What constructs have in FIRST without their parts: it is worked out once, before the rounds.
 ghost use mathlib.Core.Path.{_≡_};
-ghost use mathlib.Core.Bool.{Bool, false};
+ghost use mathlib.Core.Bool.{Bool};
 ghost use mathlib.Core.List.{List};
 ghost use Prim.Native.Nat.{ℕ, _+_, _-_, _^_, _≤_, _<_};
 ghost use Rattle.table_first_follow.specs.Sets.{sets-held};
@@ -72,11 +72,11 @@ fn leading(words: &[u32], start: usize, end: usize, width: u32, signed: bool) ->
     Set { words: out }
 }
 
-fn uint(table: &[u32], width: usize, start: usize, end: usize) -> Set
+fn uint(table: &[u32], signed: bool, width: usize, start: usize, end: usize) -> Set
     requires { ⌜ width ≤ max-width ⌝ }
-    ensures { λ r. ⌜ Is (r .words) (Named (Led width false (termWords (now (table .entry))) start end)) ⌝ }
+    ensures { λ r. ⌜ Is (r .words) (Named (Led width signed (termWords (now (table .entry))) start end)) ⌝ }
 {
-    leading(term_words(table), start, end, width as u32, false)
+    leading(term_words(table), start, end, width as u32, signed)
 }
 
 // The strings of construct i, if it is a field or eod; the empty one, if it is a switch without a default.
@@ -96,11 +96,12 @@ pub fn seed(table: &[u32], i: usize) -> Set
         }
         Construct::Range { low, high } => numbered(256 + low, 257 + high),
         Construct::Uint {
+            signed,
             width,
             start,
             end,
             binder: _,
-        } => uint(table, width, start, end),
+        } => uint(table, signed, width, start, end),
         Construct::Eod => lookahead::single(1),
     }
 }

@@ -102,13 +102,13 @@ add-numbered-2 c =
 numbered-requires : tie.Need-numbered-requires
 numbered-requires c κs = search needs
 
-enum-known-width : tie.Need-enum-known-width
-enum-known-width c = search needs
+enum-known-signed : tie.Need-enum-known-signed
+enum-known-signed c = search needs
 
 uint-requires : tie.Need-uint-requires
 uint-requires c κs =
     let a = c .before .before .before .before .before .args in
-    fine-as (a .table .now) (a .i) (c .before .before .before .construct-at .result) (c .before .before .before .construct-at .ensures) (Construct.Uint (c .before .width .given .0 .0) (c .before .width .given .0 .1 .0) (c .before .width .given .0 .1 .1 .0) (c .before .width .given .0 .1 .1 .1 .0)) (c .before .width .given .1) .2
+    fine-as (a .table .now) (a .i) (c .before .before .before .construct-at .result) (c .before .before .before .construct-at .ensures) (Construct.Uint (c .before .signed .given .0 .0) (c .before .signed .given .0 .1 .0) (c .before .signed .given .0 .1 .1 .0) (c .before .signed .given .0 .1 .1 .1 .0) (c .before .signed .given .0 .1 .1 .1 .1 .0)) (c .before .signed .given .1) .2
 
 enum-told-7 : tie.Need-enum-told-7
 enum-told-7 c = search needs
@@ -166,7 +166,7 @@ returns-8 c =
 returns-9 : tie.Need-returns-9
 returns-9 c =
     let a = c .before .before .before .before .before .before .args in
-    seed-uint (a .table .now) (a .i) (c .before .before .before .before .before .before .pre) (c .before .before .before .before .construct-at .result) (c .before .before .before .before .construct-at .ensures) (c .uint .result .words) (c .before .before .width .given .0 .0) (c .before .before .width .given .0 .1 .0) (c .before .before .width .given .0 .1 .1 .0) (c .before .before .width .given .0 .1 .1 .1 .0) (c .before .before .width .given .1) (c .uint .ensures)
+    seed-uint (a .table .now) (a .i) (c .before .before .before .before .before .before .pre) (c .before .before .before .before .construct-at .result) (c .before .before .before .before .construct-at .ensures) (c .uint .result .words) (c .before .before .signed .given .0 .0) (c .before .before .signed .given .0 .1 .0) (c .before .before .signed .given .0 .1 .1 .0) (c .before .before .signed .given .0 .1 .1 .1 .0) (c .before .before .signed .given .0 .1 .1 .1 .1 .0) (c .before .before .signed .given .1) (c .uint .ensures)
 
 returns-10 : tie.Need-returns-10
 returns-10 c =
@@ -203,7 +203,7 @@ seed-spec =
     add-numbered
     add-numbered-2
     numbered-requires
-    enum-known-width
+    enum-known-signed
     uint-requires
     enum-told-7
     single-requires-2

@@ -1,6 +1,5 @@
 -- `table_first_follow::fields::uint` meets its contract. Assumes nothing.
 use borrow.Author.Needs.{needs}
-use mathlib.Core.Bool.{false}
 use mathlib.Core.List.{List}
 use mathlib.Core.Path.{subst}
 use Prim.Native.Nat.{ℕ}
@@ -21,7 +20,7 @@ leading-requires c κs = search needs
 returns : tie.Need-returns
 returns c =
     let a = c .before .before .before .args in
-    subst (λ (words : List ℕ). Is (c .leading .result .words) (Named (Led (a .width) false words (a .start) (a .end)))) (c .before .term-words .ensures) (c .leading .ensures)
+    subst (λ (words : List ℕ). Is (c .leading .result .words) (Named (Led (a .width) (a .signed) words (a .start) (a .end)))) (c .before .term-words .ensures) (c .leading .ensures)
 
 pub uint-spec : {M : Type 1} → statement M
 uint-spec = tie.close (tie.spec term-words-requires cast-leading leading-requires returns)
