@@ -1,19 +1,19 @@
--- Refusal 13: a uint has no variable and no value left exactly where its FIRST set is empty.
+-- Refusal 13: a uint or sint has no variable and no value left exactly where its FIRST set is empty.
 -- Assumes nothing.
-use Prim.Native.Nat.{ℕ, _^_, _<_}
+use Prim.Native.Nat.{ℕ, _<_}
 use mathlib.Core.Path.{_≡_, refl, sym, subst, ap, _∙_}
-use mathlib.Core.Bool.{true, false, false≢true}
+use mathlib.Core.Bool.{Bool, true, false, false≢true}
 use mathlib.Core.Logic.{inl, inr, _↔_}
 use mathlib.Core.List.{List, []}
 use native.Mathlib.Omega.{arith}
-use native.Mathlib.Nat.{mod-eq-of-lt}
+use lib.IntN.{ℤ}
 use lib.ListN.{length}
-use lib.Pow.{pow-pos}
 use Rattle.basis.specs.Limits.{max-constructs}
-use Rattle.basis.specs.Bits.{Bits, bitsOf, value}
+use Rattle.basis.specs.Bits.{Bits, bitsOf}
+use Rattle.basis.specs.Patterns.{pattern-value}
 use Rattle.basis.specs.Lookahead.{lookahead}
 use Rattle.basis.proofs.Booleans.{which}
-use Rattle.basis.proofs.Values.{length-bitsOf, value-bitsOf, value-less}
+use Rattle.basis.proofs.Values.{length-bitsOf}
 use Rattle.term_evaluation.specs.Variables.{hasVariable}
 use Rattle.theory.specs.Derivation.{construct}
 use Rattle.theory.specs.Lookahead.{First}
@@ -34,49 +34,49 @@ use Rattle.table_judge.specs.Judged.{Valueless}
 module _ (ws first : List ℕ) (fs : FirstSets ws first) (i : ℕ) (h : i < max-constructs) where
   -- the windows of a uint, both ways
   module _ (signed : Bool) (width start end binder : ℕ) (e : constructAt ws i ≡ Construct.Uint signed width start end binder) where
-    node-is : held ws .node i ≡ uint-node ws width start end binder
+    node-is : held ws .node i ≡ uint-node ws signed width start end binder
     unfolding node-of
     node-is = node-inside ws i h ∙ ap (node-of ws i) e
 
-    pattern-of : (x : Bits) → strings first i x → (bits : Bits) × (length bits ≡ width) × (in-static-set ws start end (value bits) ≡ true) × (x ≡ lookahead bits)
+    pattern-of : (x : Bits) → strings first i x → (bits : Bits) × (length bits ≡ width) × (in-static-set ws start end (pattern-value signed bits) ≡ true) × (x ≡ lookahead bits)
     pattern-of x s = first-by (held ws) (subst (λ (n : HeldNode). First (held ws) (construct i n) x) node-is (fs i (omega arith) .strings x .0 s))
 
-    window-of : (v : ℕ) → v < 2 ^ width → in-static-set ws start end v ≡ true → strings first i (lookahead (bitsOf width v))
-    window-of v l t =
-        fs i (omega arith) .strings (lookahead (bitsOf width v)) .1
-        (subst (λ (n : HeldNode). First (held ws) (construct i n) (lookahead (bitsOf width v))) (sym node-is)
-        (First.of-field (bitsOf width v) (length-bitsOf width v) (ap (in-static-set ws start end) (value-bitsOf width v ∙ mod-eq-of-lt l) ∙ t) refl))
+    window-of : (s : Bits) → length s ≡ width → in-static-set ws start end (pattern-value signed s) ≡ true → strings first i (lookahead s)
+    window-of s l t =
+        fs i (omega arith) .strings (lookahead s) .1
+        (subst (λ (n : HeldNode). First (held ws) (construct i n) (lookahead s)) (sym node-is) (First.of-field s l t refl))
 
-    with-variable : (v : ℕ) → hasVariable (terms-of ws start end) ≡ true → in-static-set ws start end v ≡ true
+    with-variable : (v : ℤ) → hasVariable (terms-of ws start end) ≡ true → in-static-set ws start end v ≡ true
     with-variable v t = rw t refl
 
-    without : (v : ℕ) → hasVariable (terms-of ws start end) ≡ false → in-static-set ws start end v ≡ in-set ws start end [] v
+    without : (v : ℤ) → hasVariable (terms-of ws start end) ≡ false → in-static-set ws start end v ≡ in-set ws start end [] v
     without v t = rw t refl
 
     no-windows : ((x : Bits) → strings first i x → ⊥) → Valueless ws i
     no-windows none =
+        let some-pattern : Bits = bitsOf width 0 in
         let free : hasVariable (terms-of ws start end) ≡ false =
-        elim (which (hasVariable (terms-of ws start end))) [ inl t ↦ absurd (none _ (window-of 0 (pow-pos width) (with-variable 0 t))) | inr t ↦ t ] in
+        elim (which (hasVariable (terms-of ws start end))) [ inl t ↦ absurd (none _ (window-of some-pattern (length-bitsOf width 0) (with-variable (pattern-value signed some-pattern) t))) | inr t ↦ t ] in
         record {
+          signed = signed;
           width = width;
           start = start;
           end = end;
           binder = binder;
           is-uint = e;
           no-variable = free;
-          none-left = λ v l. elim (which (in-set ws start end [] v)) [ inl t ↦ absurd (none _ (window-of v l (without v free ∙ t))) | inr t ↦ t ];
+          none-left = λ s l. elim (which (in-set ws start end [] (pattern-value signed s))) [ inl t ↦ absurd (none _ (window-of s l (without (pattern-value signed s) free ∙ t))) | inr t ↦ t ];
         }
 
   windowless : Valueless ws i → (x : Bits) → strings first i x → ⊥
   windowless n x s =
-      let b = pattern-of (n .width) (n .start) (n .end) (n .binder) (n .is-uint) x s in
-      let l : value (b .0) < 2 ^ n .width = subst (λ (w : ℕ). value (b .0) < 2 ^ w) (b .1) (value-less (b .0)) in
-      false≢true (sym (n .none-left (value (b .0)) l) ∙ sym (without (n .width) (n .start) (n .end) (n .binder) (n .is-uint) (value (b .0)) (n .no-variable)) ∙ b .2)
+      let b = pattern-of (n .signed) (n .width) (n .start) (n .end) (n .binder) (n .is-uint) x s in
+      false≢true (sym (n .none-left (b .0) (b .1)) ∙ sym (without (n .signed) (n .width) (n .start) (n .end) (n .binder) (n .is-uint) (pattern-value (n .signed) (b .0)) (n .no-variable)) ∙ b .2)
 
   by-operands : {c : Construct} → Operands c → constructAt ws i ≡ c → NoValueAt (strings first) i c ↔ Valueless ws i
   by-operands (Operands.counts size start end) e = ((λ z. absurd z), (λ n. let q = sym e ∙ n .is-uint in let z : _≡_ {A = ℕ} 0 1 = cc in omega arith))
   by-operands (Operands.characters length) e = ((λ z. absurd z), (λ n. let q = sym e ∙ n .is-uint in let z : _≡_ {A = ℕ} 0 1 = cc in omega arith))
-  by-operands (Operands.set width start end binder) e = (no-windows width start end binder e, windowless)
+  by-operands (Operands.set signed width start end binder) e = (no-windows signed width start end binder e, windowless)
   by-operands {c} (Operands.plain p) e =
       rw (p .own) ((λ z. absurd z), (λ n. let q = sym (p .own) ∙ ap (λ (d : Construct). attributes-of d .own) (sym e ∙ n .is-uint) in let z : _≡_ {A = ℕ} 0 1 = cc in omega arith))
 
