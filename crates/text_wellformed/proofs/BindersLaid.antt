@@ -10,7 +10,7 @@ use borrow.Author.Tests.{lt-ltb, eq-eqb, eqb-true, ne-eqb}
 use lib.Dec.{eqb, ltb}
 use Rattle.basis.specs.Limits.{max-variables}
 use Rattle.basis.proofs.Booleans.{which}
-use Rattle.table_layout.specs.Places.{word, construct-word, variables-at}
+use Rattle.table_layout.specs.Places.{word, variable-word, construct-word, variables-at}
 use Rattle.table_layout.specs.Held.{size-of}
 use Rattle.table_layout.specs.Constructs.{constructAt}
 use Rattle.table_wellformed.specs.Checks.{all-zero, size-at, walk}
@@ -21,13 +21,12 @@ use Rattle.text_shapes.specs.NodeShapes.{tree, forest, Holds, literal-tree, ran
 use Rattle.text_shapes.proofs.Moving.{extent}
 use Rattle.text_store.specs.Words.{kind-of, is-binder, first-node, last-node}
 use Rattle.text_encoding.specs.Lists.{narrow}
-use Rattle.text_encoding.specs.Numbers.{binders-before, width-of}
+use Rattle.text_encoding.specs.Numbers.{binders-before, width-of, is-signed}
 use Rattle.text_wellformed.specs.Context.{Readable, Words, Nodes}
 use Rattle.text_wellformed.specs.Meant.{Known}
-use Rattle.text_wellformed.proofs.Counting.{here-or-after}
 use Rattle.text_wellformed.proofs.Tests.{from-to-all}
 use Rattle.text_wellformed.proofs.NoFaults.{binders-next}
-use Rattle.text_wellformed.proofs.NodesMeant.{binder-meant, concatenation-meant, size-meant}
+use Rattle.text_wellformed.proofs.NodesMeant.{binder-meant, signed-meant, concatenation-meant, size-meant}
 use Rattle.text_wellformed.proofs.RuleWords.{rule, rule-grows, body-is, first-variable, nodes-end, variables-end, variable-is, variable-names}
 use Rattle.text_wellformed.proofs.BindersPlaced.{binder-kind, tree-binders, top}
 
@@ -54,6 +53,10 @@ neither : (a b : Bool) → b ≡ false → (a && b) ≡ false
 neither true b e = e
 neither false b e = refl
 
+narrow-sign : (signed : Bool) → narrow (cond signed 1 0) ≡ cond signed 1 0
+narrow-sign true = refl
+narrow-sign false = refl
+
 module _ {xs ns ts rs : List ℕ} {n t b r : ℕ} {ws : List ℕ} (W : Words xs ns ts rs n r ws) (K : Known xs ns rs n r ws) (N : Nodes xs ns ts n t) (R : Readable xs ns ts rs n t b r) (few-binders : binders-before ns n ≤ max-variables) where
   -- ---- one member
 
@@ -63,18 +66,20 @@ module _ {xs ns ts rs : List ℕ} {n t b r : ℕ} {ws : List ℕ} (W : Words xs 
   width-at : (j : ℕ) → j < n → is-binder ns j ≡ true → construct-word ws j 2 ≡ narrow (width-of xs ns j)
   width-at j h e = let k : kind-of ns j ≡ 8 = binder-kind ns j e in W .construct-at j 2 h (omega arith) ∙ rw k refl
 
-  variable-rest : (j : ℕ) → j < n → is-binder ns j ≡ true → all-zero ws (variables-at + 4 * binders-before ns j + 2) (variables-at + 4 * binders-before ns j + 4) ≡ true
+  sign-at : (j : ℕ) → j < n → is-binder ns j ≡ true → Rules.sign-word (constructAt ws j) ≡ cond (is-signed xs ns j) 1 0
+  sign-at j h e = ap Rules.sign-word (K j h) ∙ ap (λ (s : Bool). cond s 1 0) (signed-meant xs ns rs r j (binder-kind ns j e))
+
+  variable-sign : (j : ℕ) → j < n → is-binder ns j ≡ true → variable-word ws (binders-before ns j) 2 ≡ cond (is-signed xs ns j) 1 0
+  variable-sign j h e = variable-is W R few-binders j 2 h e (omega arith) ∙ narrow-sign (is-signed xs ns j)
+
+  variable-rest : (j : ℕ) → j < n → is-binder ns j ≡ true → all-zero ws (variables-at + 4 * binders-before ns j + 3) (variables-at + 4 * binders-before ns j + 4) ≡ true
   variable-rest j h e =
-      from-to-all (variables-at + 4 * binders-before ns j + 2) (variables-at + 4 * binders-before ns j + 4) (λ q. eqb (word ws q) 0)
-      (λ q l m.
-      ⊎-elim (λ (z : variables-at + 4 * binders-before ns j + 2 ≡ q). eq-eqb (word ws q) 0 (ap (word ws) (sym z) ∙ variable-is W R few-binders j 2 h e (omega arith)))
-      (λ (y : variables-at + 4 * binders-before ns j + 2 + 1 ≤ q).
-      let z : variables-at + 4 * binders-before ns j + 3 ≡ q = omega arith in eq-eqb (word ws q) 0 (ap (word ws) (sym z) ∙ variable-is W R few-binders j 3 h e (omega arith)))
-      (here-or-after l))
+      from-to-all (variables-at + 4 * binders-before ns j + 3) (variables-at + 4 * binders-before ns j + 4) (λ q. eqb (word ws q) 0)
+      (λ q l m. let z : variables-at + 4 * binders-before ns j + 3 ≡ q = omega arith in eq-eqb (word ws q) 0 (ap (word ws) (sym z) ∙ variable-is W R few-binders j 3 h e (omega arith)))
 
   binder-laid : (j : ℕ) → j < n → is-binder ns j ≡ true → variable-laid ws (binders-before ns j) j ≡ true
   binder-laid j h e =
-      rw (binder-at j h true e, eq-eqb (binders-before ns j + 1) (binders-before ns j + 1) refl, variable-names W R few-binders j h e, eq-eqb j j refl, variable-is W R few-binders j 1 h e (omega arith), width-at j h e, eq-eqb (narrow (width-of xs ns j)) (narrow (width-of xs ns j)) refl)
+      rw (binder-at j h true e, eq-eqb (binders-before ns j + 1) (binders-before ns j + 1) refl, variable-names W R few-binders j h e, eq-eqb j j refl, variable-is W R few-binders j 1 h e (omega arith), width-at j h e, eq-eqb (narrow (width-of xs ns j)) (narrow (width-of xs ns j)) refl, variable-sign j h e, sign-at j h e, eq-eqb (cond (is-signed xs ns j) 1 0) (cond (is-signed xs ns j) 1 0) refl)
       (variable-rest j h e)
 
   binds-at : (j : ℕ) → j < n → (t : Bool) → is-binder ns j ≡ t → Rules.binds ws j ≡ t

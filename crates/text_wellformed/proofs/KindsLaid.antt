@@ -24,7 +24,7 @@ use Rattle.table_wellformed.proofs.Every.{every-turn, every-end}
 use Rattle.text_wellformed.proofs.NoFaults.{use-below}
 use Rattle.text_shapes.specs.NodeShapes.{NameAt, LiteralAt, CharacterAt, Unconditioned, Marked, Shape, tree, forest, cases, Holds, literal-tree, range-tree, use-tree, eod-tree, uint-tree, marked-tree, counted-tree, chain-tree, switch-tree, no-trees, more-trees}
 use Rattle.text_store.specs.Words.{kind-of, node-size, place-of, node-mark, last-place, is-binder}
-use Rattle.text_encoding.specs.Numbers.{rule-of, binders-before, width-of, own-length, own-start}
+use Rattle.text_encoding.specs.Numbers.{rule-of, binders-before, width-of, is-signed, own-length, own-start}
 use Rattle.text_wellformed.specs.Context.{Readable, Words, TreeAt, Quiet}
 use Rattle.text_wellformed.specs.Meant.{passes-meant, meant, Formed, NamedBack}
 use Rattle.text_wellformed.proofs.NodeFacts.{ordered, tree-below, tree-size, forest-below, nodes}
@@ -158,7 +158,7 @@ module _ {xs ns ts rs ws : List ℕ} {n t b r : ℕ} (known-text : Readable xs n
     uint-kind k formed named =
         let back : named-back ws i (cond (is-binder ns i) (binders-before ns i + 1) 0) ≡ true =
         picked (λ (m : ℕ). named-back ws i m ≡ true) (is-binder ns i) (λ z. named i inside z) (λ z. refl) in
-        laid-as (Construct.Uint (width-of xs ns i) (own-start ns i) (own-start ns i + own-length ns i) (cond (is-binder ns i) (binders-before ns i + 1) 0)) (rw k)
+        laid-as (Construct.Uint (is-signed xs ns i) (width-of xs ns i) (own-start ns i) (own-start ns i + own-length ns i) (cond (is-binder ns i) (binders-before ns i + 1) 0)) (rw k)
         (both-pass back (formed .set i inside k))
 
   -- ---- any node

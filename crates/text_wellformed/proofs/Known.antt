@@ -3,22 +3,22 @@
 use Prim.Native.Nat.{ℕ, zero, suc, _+_, _-_, _≤_, _<_}
 use mathlib.Core.Path.{_≡_, refl, sym, _∙_}
 use mathlib.Core.Logic.{_⊎_, inl, inr, ⊎-elim}
-use mathlib.Core.Bool.{true}
+use mathlib.Core.Bool.{Bool, true, false, cond}
 use mathlib.Core.List.{List}
 use native.Mathlib.Omega.{arith}
 use borrow.Author.Tests.{lt-ltb, le-leb}
 use lib.Dec.{leb, ltb}
 use lib.ListN.{length, getD}
-use Rattle.basis.specs.Limits.{max-rules, max-constructs, max-variables, max-terms, max-literal-bytes, max-width}
+use Rattle.basis.specs.Limits.{max-rules, max-constructs, max-variables, max-terms, max-literal-bytes}
 use Rattle.text_literals.specs.Literals.{characters-at}
 use Rattle.text_literals.proofs.Sizes.{character-small}
-use Rattle.table_layout.specs.Constructs.{constructOf, constructAt}
+use Rattle.table_layout.specs.Constructs.{widest-for, constructOf, constructAt}
 use Rattle.table_layout.specs.declared.Construct.{Construct}
 use Rattle.table_layout.specs.declared.Passes.{Passes}
 use Rattle.text_wellformed.proofs.NoFaults.{use-below}
 use Rattle.text_shapes.specs.NodeShapes.{Headed, NameAt, LiteralAt, CharacterAt, Marked, tree, Holds, literal-tree, range-tree, use-tree, eod-tree, uint-tree, marked-tree, counted-tree, chain-tree, switch-tree}
 use Rattle.text_store.specs.Words.{kind-of, node-size, place-of, node-mark, last-place}
-use Rattle.text_encoding.specs.Numbers.{rule-of, width-of, own-length, own-start}
+use Rattle.text_encoding.specs.Numbers.{rule-of, width-of, is-signed, own-length, own-start}
 use Rattle.text_wellformed.specs.Context.{Readable, Words, TreeAt, Quiet}
 use Rattle.text_wellformed.specs.Meant.{passes-meant, meant, Known}
 use Rattle.text_wellformed.proofs.NodeFacts.{tree-below, forest-below, cases-below, nodes}
@@ -81,9 +81,10 @@ module _ (i : ℕ) where
   unfolding constructOf
   range-of low high h k = rw (lt-ltb low 128 h, lt-ltb high 128 k)
 
-  uint-of : (signed : Bool) (width start end binder : ℕ) → 1 ≤ width → width ≤ max-width → start ≤ end → end ≤ max-terms → binder ≤ max-variables → constructOf i 8 1 width start end binder ≡ Construct.Uint signed width start end binder
+  uint-of : (signed : Bool) (width start end binder : ℕ) → 1 ≤ width → width ≤ widest-for binder → start ≤ end → end ≤ max-terms → binder ≤ max-variables → constructOf i (cond signed 12 8) 1 width start end binder ≡ Construct.Uint signed width start end binder
   unfolding constructOf
-  uint-of width start end binder h k l m v = rw (le-leb 1 width h, le-leb width max-width k, le-leb start end l, le-leb end max-terms m, le-leb binder max-variables v)
+  uint-of true width start end binder h k l m v = rw (le-leb 1 width h, le-leb width (widest-for binder) k, le-leb start end l, le-leb end max-terms m, le-leb binder max-variables v)
+  uint-of false width start end binder h k l m v = rw (le-leb 1 width h, le-leb width (widest-for binder) k, le-leb start end l, le-leb end max-terms m, le-leb binder max-variables v)
 
   eod-of : constructOf i 9 1 0 0 0 0 ≡ Construct.Eod
   unfolding constructOf
@@ -185,7 +186,7 @@ module _ {xs ns ts rs ws : List ℕ} {n t b r : ℕ} (known-text : Readable xs n
       unfolding meant
       uint-says k l =
           said (uint-coded known-text words i h 1 single (omega arith) quiet k l)
-          (uint-of i (width-of xs ns i) (own-start ns i) (own-start ns i + own-length ns i) (binder-word known-text i h) (known-text .widths i h k .0) (known-text .widths i h k .1) (omega arith) (list-end known-text i h quiet) (binder-limit known-text i h))
+          (uint-of i (is-signed xs ns i) (width-of xs ns i) (own-start ns i) (own-start ns i + own-length ns i) (binder-word known-text i h) (known-text .widths i h k .0) (known-text .widths i h k .1) (omega arith) (list-end known-text i h quiet) (binder-limit known-text i h))
           (rw k)
 
       eod-says : kind-of ns i ≡ 9 → constructAt ws i ≡ meant xs ns rs r i

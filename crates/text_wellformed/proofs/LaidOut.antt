@@ -90,7 +90,7 @@ module _ {xs ns ts rs : List ℕ} {n t b r : ℕ} (text : Readable xs ns ts rs n
       both-pass (both-pass (rest-laid words-by-place) (rules-are-laid text words-by-place quiet))
       (both-pass
       (from-to-all 0 (construct-count (encoded xs ns ts rs n r)) (construct-laid (encoded xs ns ts rs n r)) (λ i a l. construct-passes i (omega (arith, words-by-place .constructs-are))))
-      (both-pass (lists-stand words-by-place constructs-known few-terms quiet) (terms-stand words-by-place (nodes text) quiet (text .numbers) (signs-of stored (text .terms-limit)))))
+      (both-pass (lists-stand words-by-place constructs-known few-terms quiet) (terms-stand words-by-place (nodes text) quiet (signs-of stored (text .terms-limit)))))
 
   pub laid-out : laid (encoded xs ns ts rs n r) ≡ true
   unfolding laid

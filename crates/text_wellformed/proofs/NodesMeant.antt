@@ -1,4 +1,4 @@
--- Of the construct that a node is in the table: its size, its binder, whether it is a concatenation, its own list of terms.
+-- Of the construct that a node is in the table: its size, its binder, whether it is signed, whether it is a concatenation, its own list of terms.
 -- Assumes nothing.
 use Prim.Native.Nat.{ℕ, _+_, _-_, _≤_}
 use mathlib.Core.Path.{_≡_, refl, _∙_}
@@ -9,7 +9,7 @@ use native.Mathlib.Omega.{arith}
 use borrow.Author.Tests.{eqb-true, eqb-false}
 use lib.Dec.{eqb}
 use Rattle.basis.proofs.Booleans.{which, picked}
-use Rattle.table_layout.specs.Attributes.{counts-list}
+use Rattle.table_layout.specs.Attributes.{counts-list, attributes-of}
 use Rattle.table_layout.specs.Held.{size-of}
 use Rattle.table_layout.specs.declared.Construct.{Construct}
 use Rattle.table_layout.specs.declared.Passes.{Passes}
@@ -17,7 +17,7 @@ use Rattle.table_wellformed.specs.Lists
 use Rattle.table_wellformed.specs.Rules
 use Rattle.text_shapes.specs.NodeShapes.{tree, Holds, literal-tree, range-tree, use-tree, eod-tree, uint-tree, marked-tree, counted-tree, chain-tree, switch-tree}
 use Rattle.text_store.specs.Words.{kind-of, node-size, node-mark, is-binder}
-use Rattle.text_encoding.specs.Numbers.{binders-before, own-length, own-start}
+use Rattle.text_encoding.specs.Numbers.{binders-before, is-signed, own-length, own-start}
 use Rattle.text_wellformed.specs.Meant.{passes-meant, meant}
 
 abbrev Unbound : Construct → Type 0
@@ -34,6 +34,10 @@ module _ (xs ns rs : List ℕ) (r i : ℕ) where
       (λ (e : eqb (kind-of ns i) 8 ≡ false).
       rw e (picked Unbound (eqb (kind-of ns i) 1) (λ e. refl) (λ e. picked Unbound (eqb (kind-of ns i) 2) (λ e. refl) (λ e. picked Unbound (eqb (kind-of ns i) 3) (λ e. refl) (λ e. picked Unbound (eqb (kind-of ns i) 4) (λ e. refl) (λ e. picked Unbound (eqb (kind-of ns i) 5) (λ e. refl) (λ e. picked Unbound (eqb (kind-of ns i) 6) (λ e. refl) (λ e. picked Unbound (eqb (kind-of ns i) 7) (λ e. refl) (λ e. refl)))))))))
       (which (eqb (kind-of ns i) 8))
+
+  pub signed-meant : kind-of ns i ≡ 8 → attributes-of (meant xs ns rs r i) .signed ≡ is-signed xs ns i
+  unfolding meant
+  signed-meant e = rw e refl
 
   pub concatenation-meant : Rules.is-concatenation (meant xs ns rs r i) ≡ eqb (kind-of ns i) 2
   unfolding meant

@@ -16,7 +16,7 @@ use Rattle.table_wellformed.specs.Rules.{body, rule-end}
 use Rattle.text_shapes.proofs.Moving.{extent}
 use Rattle.text_store.specs.Words.{is-binder, first-node, last-node}
 use Rattle.text_encoding.specs.Lists.{narrow}
-use Rattle.text_encoding.specs.Numbers.{binders-before, width-of}
+use Rattle.text_encoding.specs.Numbers.{binders-before, width-of, is-signed}
 use Rattle.text_wellformed.specs.Context.{Readable, Words}
 use Rattle.text_wellformed.specs.Meant.{NamedBack}
 use Rattle.text_wellformed.proofs.NoFaults.{binders-mono, binders-next}
@@ -59,8 +59,8 @@ module _ {xs ns ts rs : List ℕ} {n t b r : ℕ} {ws : List ℕ} (W : Words xs 
 
   -- ---- a variable
 
-  pub variable-is : (i j : ℕ) → i < n → is-binder ns i ≡ true → j < 4 → variable-word ws (binders-before ns i) j ≡ narrow (getD (i ∷ width-of xs ns i ∷ 0 ∷ 0 ∷ []) j 0)
-  variable-is i j h e l = W .variable-at i j h e l ∙ ap (λ (b : Bool). narrow (getD (cond b (i ∷ width-of xs ns i ∷ 0 ∷ 0 ∷ []) []) j 0)) e
+  pub variable-is : (i j : ℕ) → i < n → is-binder ns i ≡ true → j < 4 → variable-word ws (binders-before ns i) j ≡ narrow (getD (i ∷ width-of xs ns i ∷ cond (is-signed xs ns i) 1 0 ∷ 0 ∷ []) j 0)
+  variable-is i j h e l = W .variable-at i j h e l ∙ ap (λ (b : Bool). narrow (getD (cond b (i ∷ width-of xs ns i ∷ cond (is-signed xs ns i) 1 0 ∷ 0 ∷ []) []) j 0)) e
 
   -- it names its construct
   pub variable-names : (i : ℕ) → i < n → is-binder ns i ≡ true → variable-word ws (binders-before ns i) 0 ≡ i

@@ -67,7 +67,7 @@ Other n = literal-like n ≡ false
 name-other : (xs : List ℕ) (start end : ℕ) → Other (name-code xs start end)
 unfolding name-code
 name-other xs start end =
-    picked Other (eqb (reserved-of (name-of xs start end)) 12) (λ e. picked Other (opens-at xs end) (λ e. refl) (λ e. refl))
+    picked Other (eqb (reserved-of (name-of xs start end)) 12 || eqb (reserved-of (name-of xs start end)) 13) (λ e. picked Other (opens-at xs end) (λ e. refl) (λ e. refl))
     (λ e. picked Other (eqb (reserved-of (name-of xs start end)) 9) (λ e. picked Other (opens-at xs end) (λ e. refl) (λ e. refl))
     (λ e. picked Other (eqb (reserved-of (name-of xs start end)) 10) (λ e. refl) (λ e. refl)))
 

@@ -1,6 +1,6 @@
 -- A term of a tree is neither bad nor of an unknown sign, so that its tag is small: its three words say it again, a variable under another number.
 -- Assumes nothing.
-use Prim.Native.Nat.{ℕ, _+_, _*_, _-_, _/_, _%_, _≤_, _<_}
+use Prim.Native.Nat.{ℕ, _+_, _*_, _-_, _/_, _%_, _^_, _≤_, _<_}
 use mathlib.Core.Path.{_≡_, refl, ap, subst}
 use mathlib.Core.Logic.{_⊎_, inl, inr, ⊎-elim}
 use mathlib.Core.Bool.{Bool, true, false, cond}
@@ -110,8 +110,8 @@ tag-small tag low high k = go (decLe 64 tag)
     go (yes h) = absurd (subst KnownTerm (large-term tag low high h) k)
     go (no h) = lt-of-not-le h
 
--- a number of one word is both of its words
-number-back : (value : ℕ) → value < 4294967296 → value % 4294967296 + 4294967296 * (value / 4294967296 % 4294967296) ≡ value + 4294967296 * 0
+-- a number is both of its words
+number-back : (value : ℕ) → value < 2 ^ 63 → value % 4294967296 + 4294967296 * (value / 4294967296 % 4294967296) ≡ value + 4294967296 * 0
 number-back value h = omega arith
 
 -- the table's words of a term with these words; v is the variable's number
@@ -152,7 +152,7 @@ module _ (g : ℕ → ℕ) where
       let w : v % 4294967296 ≡ g place = omega arith
       in ⊎-elim (λ d. let z : tag ≡ 2 = eqb-true tag 2 d in rw z (ap (λ (k : ℕ). Term.Part (Operation.Variable k)) w)) (λ d. let z : tag ≡ 34 = eqb-true tag 34 d in rw z (ap (λ (k : ℕ). Term.Single (Operation.Variable k)) w)) (either-cases (eqb tag 2) (eqb tag 34) e)
 
-  number-term : (tag value : ℕ) → (tag ≡ 1) ⊎ (tag ≡ 33) → value < 4294967296 → termOf (narrow tag) (narrow value) (narrow (value / 4294967296)) ≡ rename-term g (termOf tag value 0)
+  number-term : (tag value : ℕ) → (tag ≡ 1) ⊎ (tag ≡ 33) → value < 2 ^ 63 → termOf (narrow tag) (narrow value) (narrow (value / 4294967296)) ≡ rename-term g (termOf tag value 0)
   unfolding termOf
   number-term tag value (inl z) h = rw z (ap (λ (n : ℕ). Term.Part (Operation.Number n)) (number-back value h))
   number-term tag value (inr z) h = rw z (ap (λ (n : ℕ). Term.Single (Operation.Number n)) (number-back value h))
@@ -162,7 +162,7 @@ module _ (g : ℕ → ℕ) where
       let q : narrow tag ≡ tag = omega arith
       in rw q (term-other tag value 0 (narrow value) (narrow (value / 4294967296)) a (neither-first (eqb tag 2) (eqb tag 34) e) b (neither-second (eqb tag 2) (eqb tag 34) e))
 
-  pub term-back : (used : Bool) (tag value place v : ℕ) → is-use tag ≡ used → KnownTerm (termOf tag (cond used place value) 0) → ((tag ≡ 1) ⊎ (tag ≡ 33) → value < 4294967296) → (used ≡ true → (v ≡ g place) × (v < 4294967296))
+  pub term-back : (used : Bool) (tag value place v : ℕ) → is-use tag ≡ used → KnownTerm (termOf tag (cond used place value) 0) → ((tag ≡ 1) ⊎ (tag ≡ 33) → value < 2 ^ 63) → (used ≡ true → (v ≡ g place) × (v < 4294967296))
       → shown-term (shown-words used tag value v) ≡ rename-term g (termOf tag (cond used place value) 0)
   term-back true tag value place v e k small named = use-back tag place v e (named refl .0) (named refl .1)
   term-back false tag value place v e k small named =

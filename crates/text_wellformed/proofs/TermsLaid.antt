@@ -1,8 +1,8 @@
--- The three words of each term: only numbers and variables' uses have a low word, and none has a high one.
+-- The three words of each term: only numbers and variables' uses have a low word, and only numbers a high one.
 -- Assumes nothing.
 use Prim.Native.Nat.{ℕ, _+_, _*_, _-_, _/_, _≤_, _<_}
 use mathlib.Core.Path.{_≡_, refl, sym, ap, _∙_}
-use mathlib.Core.Logic.{_⊎_, inl, inr}
+use mathlib.Core.Logic.{inl, inr}
 use mathlib.Core.Bool.{true, false, _&&_, _||_, false≢true}
 use mathlib.Core.List.{List, [], _∷_}
 use native.Mathlib.Omega.{arith}
@@ -13,7 +13,7 @@ use lib.ListN.{getD}
 use Rattle.basis.proofs.Booleans.{which, picked, either-second, both-pass}
 use Rattle.table_layout.specs.Places.{word, term-count, terms-at}
 use Rattle.table_wellformed.specs.Checks.{from-to}
-use Rattle.table_wellformed.specs.Lists.{has-low, term-laid}
+use Rattle.table_wellformed.specs.Lists.{has-low, has-high, term-laid}
 use Rattle.text_wellformed.proofs.Tests.{from-to-all}
 use Rattle.text_shapes.specs.NodeShapes.{tree, Holds, literal-tree, range-tree, use-tree, eod-tree, uint-tree, marked-tree, counted-tree, chain-tree, switch-tree}
 use Rattle.text_store.specs.Words.{kind-of, node-mark, own-from, condition-from, term-tag, term-value, term-at, is-use}
@@ -23,10 +23,7 @@ use Rattle.text_encoding.specs.Encoded.{term-words}
 use Rattle.text_wellformed.specs.Context.{Words, Nodes, ConditionAt, without, with-one, Quiet, QuietAt}
 use Rattle.text_wellformed.proofs.Areas.{find}
 
--- numbers are words of 32 bits, and a sign has no value
-abbrev pub Numbers : List ℕ → ℕ → Type 0
-Numbers ts t = (k : ℕ) → k < t → (term-tag ts k ≡ 1) ⊎ (term-tag ts k ≡ 33) → term-value ts k < 4294967296
-
+-- a sign has no value
 abbrev pub Signs : List ℕ → ℕ → Type 0
 Signs ts t = (k : ℕ) → k < t → (term-tag ts k ≡ 1 → ⊥) → (term-tag ts k ≡ 2 → ⊥) → (term-tag ts k ≡ 33 → ⊥) → (term-tag ts k ≡ 34 → ⊥) → term-value ts k ≡ 0
 
@@ -34,13 +31,13 @@ Signs ts t = (k : ℕ) → k < t → (term-tag ts k ≡ 1 → ⊥) → (term-tag
 
 -- three numbers, as words, are a term's
 abbrev Passes : List ℕ → Type 0
-Passes l = ((has-low (narrow (getD l 0 0)) || eqb (narrow (getD l 1 0)) 0) && eqb (narrow (getD l 2 0)) 0) ≡ true
+Passes l = ((has-low (narrow (getD l 0 0)) || eqb (narrow (getD l 1 0)) 0) && (has-high (narrow (getD l 0 0)) || eqb (narrow (getD l 2 0)) 0)) ≡ true
 
 low-passes : (tag low high : ℕ) → has-low (narrow tag) ≡ true → high ≡ 0 → Passes (tag ∷ low ∷ high ∷ [])
-low-passes tag low high e f = rw (e, f)
+low-passes tag low high e f = rw (e, f) (either-second (has-high (narrow tag)) true refl)
 
 zero-passes : (tag low high : ℕ) → low ≡ 0 → high ≡ 0 → Passes (tag ∷ low ∷ high ∷ [])
-zero-passes tag low high e f = rw (e, f) (both-pass (either-second (has-low (narrow tag)) true refl) refl)
+zero-passes tag low high e f = rw (e, f) (both-pass (either-second (has-low (narrow tag)) true refl) (either-second (has-high (narrow tag)) true refl))
 
 use-low : (tag : ℕ) → is-use tag ≡ true → has-low (narrow tag) ≡ true
 use-low tag u =
@@ -49,26 +46,26 @@ use-low tag u =
       | inr e ↦ let z : tag ≡ 34 = eqb-true tag 34 (rw e at u) in rw z
     ]
 
-module _ (xs ns ts : List ℕ) (t : ℕ) (numbers : Numbers ts t) (signs : Signs ts t) (a i k : ℕ) (h : k < t) where
+module _ (xs ns ts : List ℕ) (t : ℕ) (signs : Signs ts t) (a i k : ℕ) (h : k < t) where
   abbrev tag : ℕ
   tag = term-tag ts k
 
   no-use : (m : ℕ) → is-use m ≡ true → is-use tag ≡ false → tag ≡ m → ⊥
   no-use m e f z = false≢true (sym f ∙ ap is-use z ∙ e)
 
-  -- a number has no high word
-  number-passes : (m : ℕ) → (tag ≡ 1) ⊎ (tag ≡ 33) → tag ≡ m → has-low (narrow m) ≡ true → Passes (tag ∷ term-value ts k ∷ term-value ts k / 4294967296 ∷ [])
-  number-passes m o z e = low-passes tag (term-value ts k) (term-value ts k / 4294967296) (rw z e) (omega (arith, numbers k h o))
+  -- a number has both words
+  number-passes : (m : ℕ) → tag ≡ m → has-low (narrow m) ≡ true → has-high (narrow m) ≡ true → Passes (tag ∷ term-value ts k ∷ term-value ts k / 4294967296 ∷ [])
+  number-passes m z e f = rw (z, e, f)
 
   term-passes : Passes (term-words xs ns ts a i k)
   term-passes =
       picked Passes (is-use tag) (λ u. low-passes tag (variable-of xs ns a i (term-at ts k)) 0 (use-low tag u) refl)
       (λ u.
       elim (which (eqb tag 1)) [
-        | inl e ↦ let z : tag ≡ 1 = eqb-true tag 1 e in number-passes 1 (inl z) z refl
+        | inl e ↦ let z : tag ≡ 1 = eqb-true tag 1 e in number-passes 1 z refl refl
         | inr e ↦
             elim (which (eqb tag 33)) [
-              | inl f ↦ let z : tag ≡ 33 = eqb-true tag 33 f in number-passes 33 (inr z) z refl
+              | inl f ↦ let z : tag ≡ 33 = eqb-true tag 33 f in number-passes 33 z refl refl
               | inr f ↦
                   let none : term-value ts k ≡ 0 = signs k h (eqb-false tag 1 e) (no-use 2 refl u) (eqb-false tag 33 f) (no-use 34 refl u) in
                   zero-passes tag (term-value ts k) (term-value ts k / 4294967296) none (omega arith)
@@ -102,12 +99,12 @@ module _ (xs ns ts : List ℕ) (m : ℕ) where
 -- ---- each term of the table is one of those of a construct
 
 module _ {xs ns ts rs : List ℕ} {n r t : ℕ} {ws : List ℕ} (w : Words xs ns ts rs n r ws) (nodes : Nodes xs ns ts n t) (quiet : Quiet ns n)
-    (numbers : Numbers ts t) (signs : Signs ts t) where
+    (signs : Signs ts t) where
   -- term q of the table is term k of those read, of construct i
   copied : (q i k : ℕ) → k < t → ((j : ℕ) → j < 3 → word ws (terms-at + 3 * q + j) ≡ narrow (getD (term-words xs ns ts (first-at rs r i) i k) j 0)) → term-laid ws q ≡ true
   copied q i k h e =
       let z : terms-at + 3 * q ≡ terms-at + 3 * q + 0 = omega arith in
-      rw (e 1 (omega arith), e 2 (omega arith), z, e 0 (omega arith)) (term-passes xs ns ts t numbers signs (first-at rs r i) i k h)
+      rw (e 1 (omega arith), e 2 (omega arith), z, e 0 (omega arith)) (term-passes xs ns ts t signs (first-at rs r i) i k h)
 
   in-condition : (q i m : ℕ) → i < n → m < condition-length ns i → q ≡ condition-start ns i + m → term-laid ws q ≡ true
   in-condition q i m h l e =

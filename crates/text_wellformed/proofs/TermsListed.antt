@@ -1,6 +1,6 @@
 -- A list of the table's terms is the list that was read, each variable under its number.
 -- Assumes nothing.
-use Prim.Native.Nat.{ℕ, zero, suc, _+_, _*_, _-_, _/_, min, _≤_, _<_}
+use Prim.Native.Nat.{ℕ, zero, suc, _+_, _*_, _-_, _/_, _^_, min, _≤_, _<_}
 use mathlib.Core.Path.{_≡_, refl, sym, ap, ap₂, subst, _∙_}
 use mathlib.Core.Logic.{_⊎_}
 use mathlib.Core.Bool.{true}
@@ -43,7 +43,7 @@ pub record Listed (xs ns ts ws : List ℕ) (a i s f n : ℕ) : Type 0 where
   pub many : length ws ≡ table-words
   pub fits : s + n ≤ max-terms
   pub at : (m j : ℕ) → m < n → j < 3 → word ws (terms-at + 3 * (s + m) + j) ≡ narrow (getD (term-words xs ns ts a i (f + m)) j 0)
-  pub numbers : (m : ℕ) → m < n → (term-tag ts (f + m) ≡ 1) ⊎ (term-tag ts (f + m) ≡ 33) → term-value ts (f + m) < 4294967296
+  pub numbers : (m : ℕ) → m < n → (term-tag ts (f + m) ≡ 1) ⊎ (term-tag ts (f + m) ≡ 33) → term-value ts (f + m) < 2 ^ 63
   pub small : (m : ℕ) → m < n → is-use (term-tag ts (f + m)) ≡ true → variable-of xs ns a i (term-at ts (f + m)) < max-variables
 
 -- the number of a variable, cut where a name is no variable's

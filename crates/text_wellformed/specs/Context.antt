@@ -1,4 +1,4 @@
--- What is known of a text that has passed 5 and 6 and the widths and numbers of 8, and of the words that are encoded from it.
+-- What is known of a text that has passed 5 and 6 and the widths of 8, and of the words that are encoded from it.
 -- Assumes nothing.
 use Prim.Native.Nat.{ℕ, _+_, _*_, _^_, _≤_, _<_}
 use mathlib.Core.Path.{_≡_}
@@ -17,7 +17,7 @@ use Rattle.text_encoding.specs.Lists.{narrow}
 use Rattle.text_encoding.specs.Numbers.{first-at, binders-before, width-of, condition-length, own-length, condition-start, own-start}
 use Rattle.text_encoding.specs.Encoded.{rule-words, variable-words, construct-words, term-words, literal-words}
 
--- what is read: shaped as its form has it, within 5's limits, with the names that 6 asks for and the widths and numbers that 8 does
+-- what is read: shaped as its form has it, within 5's limits, with the names that 6 asks for and the widths that 8 does; 2^62 + 1 stands for a number that is more
 pub record Readable (xs ns ts rs : List ℕ) (n t b r : ℕ) : Type 0 where
   pub rules : Rules xs ns ts rs r n t b 0 0 0 0
   pub some : 1 ≤ r
