@@ -24,7 +24,7 @@ use Rattle.tree_meaning.specs.Pieces.{Term, a-number, a-use, a-sign, Component,
 use Rattle.tree_meaning.specs.Names.{is-among}
 use Rattle.tree_meaning.specs.Values.{in-set, is-true}
 use Rattle.tree_meaning.specs.Grammar.{Values, values-at, has-variable}
-use Rattle.tree_meaning.proofs.Passing.{NumbersFit, CalculationsFit, UsesRight}
+use Rattle.tree_meaning.proofs.Passing.{NumbersFit, CalculationsFit, numbers-fit, UsesRight}
 use Rattle.tree_terms.specs.Terms.{set-tree, counts-tree}
 use Rattle.tree_store.proofs.Rows.{TermRow, set-rows, counts-rows, tests-rows}
 use Rattle.tree_store.proofs.Uses.{Here, UsesAre, no-more, used, other}
@@ -53,7 +53,6 @@ pub record Measured (numbered widest : List ℕ → ℕ) (whole : List Name) (v 
 
 -- a formula where 6 and 8 are not given, after variables of these names
 pub record FormulaRight (widest : List ℕ → ℕ) (whole names : List Name) (f : List Component) : Type 0 where
-  pub numbers : NumbersFit (terms-of f)
   pub small : CalculationsFit widest f
   pub bound : UsesRight names (uses-in (terms-of f))
   pub owned : UsesRight whole (uses-in (terms-of f))
@@ -80,15 +79,15 @@ module _ {P : Values → Type 0} {xs ns rs : List ℕ} {r : ℕ} {body numbered 
       set-list : own-list xs ns ts rs r i ≡ setTerms (set-tree numbered none x)
       set-list =
           own-is xs ns ts rs r i numbered t (set-rows x []) from upto rows
-          ∙ set-listed (number-here xs ns ts rs r i numbered) numbered x (resolved (terms-of (set-parts x)) (right .numbers) (right .bound) (uses-here uses))
+          ∙ set-listed (number-here xs ns ts rs r i numbered) numbered x (resolved (terms-of (set-parts x)) (numbers-fit widest (set-parts x) (right .small)) (right .bound) (uses-here uses))
 
-      pub set-same : (v : Values) → P v → (k : ℕ) → in-list (own-list xs ns ts rs r i) v k ≡ in-set (values-at numbered v) x (pos k)
+      pub set-same : (v : Values) → P v → (k : ℤ) → in-list (own-list xs ns ts rs r i) v k ≡ in-set (values-at numbered v) x k
       set-same v p k =
           let m = rule .measured v p
           in ap (λ (l : List WordTerm). in-list l v k) set-list
           ∙ set-answers numbered widest x v (m .sizes) (m .inside) (all-wide numbered widest (m .sizes) whole (m .wide) (m .known) (terms-of (set-parts x)) (right .owned)) (all-known numbered widest (m .sizes) whole (m .wide) (m .known) (terms-of (set-parts x)) (right .owned)) (right .small) k
 
-      pub set-first : (k : ℕ) → in-static-set (own-list xs ns ts rs r i) k ≡ cond (has-variable (set-parts x)) true (in-set (values-at numbered []) x (pos k))
+      pub set-first : (k : ℤ) → in-static-set (own-list xs ns ts rs r i) k ≡ cond (has-variable (set-parts x)) true (in-set (values-at numbered []) x k)
       set-first k = ap (λ (l : List WordTerm). in-static-set l k) set-list ∙ set-static numbered widest x (right .small) k
 
     -- ---- counts
@@ -97,7 +96,7 @@ module _ {P : Values → Type 0} {xs ns rs : List ℕ} {r : ℕ} {body numbered 
         → own-list xs ns ts rs r i ≡ repeatTerms (counts-tree numbered x)
     counts-list x t from upto rows right uses =
         own-is xs ns ts rs r i numbered t (counts-rows x) from upto rows
-        ∙ counts-listed (number-here xs ns ts rs r i numbered) numbered x (resolved (terms-of (counts-parts x)) (right .numbers) (right .bound) (uses-here uses))
+        ∙ counts-listed (number-here xs ns ts rs r i numbered) numbered x (resolved (terms-of (counts-parts x)) (numbers-fit widest (counts-parts x) (right .small)) (right .bound) (uses-here uses))
 
     -- ---- a condition
 
@@ -105,5 +104,5 @@ module _ {P : Values → Type 0} {xs ns rs : List ℕ} {r : ℕ} {body numbered 
         → UsesAre xs (tests-rows x []) (uses-in (terms-of (tests-parts x))) → (v : Values) → P v → list-true xs ns ts rs r v i ≡ is-true (values-at numbered v) x
     condition-same x t from upto rows right uses v p =
         let m = rule .measured v p
-        in ap (λ (l : List WordTerm). isYes (condition v 0 l)) (condition-is xs ns ts rs r i numbered t (tests-rows x []) from upto rows ∙ condition-listed (number-here xs ns ts rs r i numbered) numbered x (resolved (terms-of (tests-parts x)) (right .numbers) (right .bound) (uses-here uses)))
+        in ap (λ (l : List WordTerm). isYes (condition v 0 l)) (condition-is xs ns ts rs r i numbered t (tests-rows x []) from upto rows ∙ condition-listed (number-here xs ns ts rs r i numbered) numbered x (resolved (terms-of (tests-parts x)) (numbers-fit widest (tests-parts x) (right .small)) (right .bound) (uses-here uses)))
         ∙ condition-answers numbered widest x v (m .sizes) (m .inside) (all-wide numbered widest (m .sizes) whole (m .wide) (m .known) (terms-of (tests-parts x)) (right .owned)) (all-known numbered widest (m .sizes) whole (m .wide) (m .known) (terms-of (tests-parts x)) (right .owned)) (right .small)

@@ -7,15 +7,16 @@ use mathlib.Core.List.{List, []}
 use mathlib.Core.Option.{Option, none, some}
 use native.Mathlib.Omega.{arith}
 use lib.Dec.{leb}
-use lib.IntN.{pos}
+use lib.IntN.{ℤ, pos}
 use lib.ListN.{length, getD, set}
 use Rattle.basis.specs.Bits.{Bits, value}
+use Rattle.basis.specs.Patterns.{pattern-value}
 use Rattle.theory.specs.Grammar.{alternative, concatenation, repetition, switch, field, eod}
 use mathlib.Core.Bool.{_&&_}
 use Rattle.table_layout.specs.Held.{range-node as held-range}
 use Rattle.text_literals.specs.Literals.{characters-at}
 use Rattle.text_store.specs.Words.{kind-of, place-of, node-mark, last-place, is-binder, first-node}
-use Rattle.text_encoding.specs.Numbers.{rule-of, binders-before, width-of}
+use Rattle.text_encoding.specs.Numbers.{rule-of, binders-before, width-of, is-signed}
 use Rattle.text_meaning.specs.Meaning.{parts-of, own-list, counts-in, static-counts, passes, is-fixed, in-set as in-list, in-static-set, first-true, no-default, meant-node}
 use Rattle.tree.specs.Lexemes.{Number}
 use Rattle.tree.specs.Tree.{ValueSet, Mark}
@@ -76,18 +77,18 @@ module _ (P : Values → Type 0) (xs ns ts rs : List ℕ) (r i : ℕ) where
 
   -- ---- a uint, a repetition, a switch: what their lists of terms say is what the tree's formulas say
 
-  pub uint-means : (variable : List ℕ → ℕ) {d : ℕ} (n : Number) (x : ValueSet d) (binds : Values → ℕ → Values) → kind-of ns i ≡ 8 → width-of xs ns i ≡ n .value
-      → ((v : Values) → P v → (k : ℕ) → in-list (own-list xs ns ts rs r i) v k ≡ in-set (values-at variable v) x (pos k))
-      → ((k : ℕ) → in-static-set (own-list xs ns ts rs r i) k ≡ cond (has-variable (set-parts x)) true (in-set (values-at variable []) x (pos k)))
-      → ((v : Values) (k : ℕ) → cond (is-binder ns i) (set v (binders-before ns i) (pos k)) v ≡ binds v k) → ((v : Values) (bits : Bits) → length bits ≡ n .value → P v → P (binds v (value bits)))
-      → Means (uint-node variable n x binds)
+  pub uint-means : (variable : List ℕ → ℕ) {d : ℕ} (signed : Bool) (n : Number) (x : ValueSet d) (binds : Values → ℤ → Values) → kind-of ns i ≡ 8 → is-signed xs ns i ≡ signed → width-of xs ns i ≡ n .value
+      → ((v : Values) → P v → (k : ℤ) → in-list (own-list xs ns ts rs r i) v k ≡ in-set (values-at variable v) x k)
+      → ((k : ℤ) → in-static-set (own-list xs ns ts rs r i) k ≡ cond (has-variable (set-parts x)) true (in-set (values-at variable []) x k))
+      → ((v : Values) (k : ℤ) → cond (is-binder ns i) (set v (binders-before ns i) k) v ≡ binds v k) → ((v : Values) (bits : Bits) → length bits ≡ n .value → P v → P (binds v (pattern-value signed bits)))
+      → Means (uint-node variable signed n x binds)
   unfolding meant-node
-  uint-means variable n x binds k wide same static bound keeps =
+  uint-means variable signed n x binds k sign wide same static bound keeps =
       let list = own-list xs ns ts rs r i
-      in let m : TreeNode = field (λ bits. n .value) (λ c v bits. in-list list v (value bits)) (λ bits. cond (has-variable (set-parts x)) true (in-set (values-at variable []) x (pos (value bits)))) (λ c v bits. binds v (value bits))
-      in let q : meant-node xs ns ts rs r i ≡ field (λ bits. width-of xs ns i) (λ c v bits. in-list list v (value bits)) (λ bits. in-static-set list (value bits)) (λ c v bits. cond (is-binder ns i) (set v (binders-before ns i) (pos (value bits))) v) = rw k refl
-      in let z : _≡_ {A = TreeNode} (field (λ bits. width-of xs ns i) (λ c v bits. in-list list v (value bits)) (λ bits. in-static-set list (value bits)) (λ c v bits. cond (is-binder ns i) (set v (binders-before ns i) (pos (value bits))) v)) m = λ t. field (λ bits. wide t) (λ c v bits. in-list list v (value bits)) (λ bits. static (value bits) t) (λ c v bits. bound v (value bits) t)
-      in told m (uint-node variable n x binds) (q ∙ z) (same-field (λ c v bits p. same v p (value bits)) (λ c v bits l p. keeps v bits l p))
+      in let m : TreeNode = field (λ bits. n .value) (λ c v bits. in-list list v (pattern-value signed bits)) (λ bits. cond (has-variable (set-parts x)) true (in-set (values-at variable []) x (pattern-value signed bits))) (λ c v bits. binds v (pattern-value signed bits))
+      in let q : meant-node xs ns ts rs r i ≡ field (λ bits. width-of xs ns i) (λ c v bits. in-list list v (pattern-value (is-signed xs ns i) bits)) (λ bits. in-static-set list (pattern-value (is-signed xs ns i) bits)) (λ c v bits. cond (is-binder ns i) (set v (binders-before ns i) (pattern-value (is-signed xs ns i) bits)) v) = rw k refl
+      in let z : _≡_ {A = TreeNode} (field (λ bits. width-of xs ns i) (λ c v bits. in-list list v (pattern-value (is-signed xs ns i) bits)) (λ bits. in-static-set list (pattern-value (is-signed xs ns i) bits)) (λ c v bits. cond (is-binder ns i) (set v (binders-before ns i) (pattern-value (is-signed xs ns i) bits)) v)) m = λ t. field (λ bits. wide t) (λ c v bits. in-list list v (pattern-value (sign t) bits)) (λ bits. static (pattern-value (sign t) bits) t) (λ c v bits. bound v (pattern-value (sign t) bits) t)
+      in told m (uint-node variable signed n x binds) (q ∙ z) (same-field (λ c v bits p. same v p (pattern-value signed bits)) (λ c v bits l p. keeps v bits l p))
 
   pub repetition-means : (variable : List ℕ → ℕ) (m : Mark) → kind-of ns i ≡ 3 → ((v : Values) → P v → passes (node-mark ns i) (counts-in (own-list xs ns ts rs r i) v) ≡ mark-passes variable m v)
       → passes (node-mark ns i) (static-counts (own-list xs ns ts rs r i)) ≡ mark-static variable m → is-fixed (node-mark ns i) (own-list xs ns ts rs r i) ≡ mark-exact variable m → Means (repetition-node variable m (suc i))
@@ -110,14 +111,15 @@ module _ (P : Values → Type 0) (xs ns ts rs : List ℕ) (r i : ℕ) where
       in let y : _≡_ {A = TreeNode} (switch (λ c v. first-true xs ns ts rs r v is) (no-default ns is) is) n = λ t. switch (λ c v. first-true xs ns ts rs r v is) (o t) is
       in told n (switch (λ c v. chosen v) optional is) (q ∙ z ∙ y) (same-switch (λ c v p. same v p))
 
--- node i is a uint exactly where the construct is one; of its width then, and with the same values in its set, all of them where a variable stands in it
+-- node i is a uint exactly where the construct is one; of its width and sign then, and with the same values in its set, all of them where a variable stands in it
 module _ (xs ns ts rs : List ℕ) (r i : ℕ) where
   abbrev pub SameUint : Option Uint → Type 0
   SameUint none = kind-of ns i ≡ 8 → ⊥
   SameUint (some u) =
       (kind-of ns i ≡ 8)
       × (width-of xs ns i ≡ u .width .value)
-      × ((k : ℕ) → in-static-set (own-list xs ns ts rs r i) k ≡ cond (has-variable (set-parts (u .values))) true (in-set (λ x. pos 0) (u .values) (pos k)))
+      × ((k : ℤ) → in-static-set (own-list xs ns ts rs r i) k ≡ cond (has-variable (set-parts (u .values))) true (in-set (λ x. pos 0) (u .values) k))
+      × (is-signed xs ns i ≡ u .signed)
 
   pub no-uint : (k : ℕ) → kind-of ns i ≡ k → (k ≡ 8 → ⊥) → SameUint none
   no-uint k e n z = n (sym e ∙ z)

@@ -30,7 +30,7 @@ module _ (P : Values → Type 0) (numbered widest : List ℕ → ℕ) (rules var
   right-from names [] f g h k l = tt
   right-from names (use-of-rule x ∷ ps) f g h k l = (h .0, right-from names ps f g (h .2) k (l .1))
   right-from names (width most n ∷ ps) f g h k l = (k .1, right-from names ps f g h (k .2) (l .1))
-  right-from names (formula c ∷ ps) f g h k l = (record { numbers = k .0; small = k .1; bound = h .0; owned = uses-more names whole (uses-in (terms-of c)) f (h .0) }, right-from names ps f g (h .1) (k .2) (l .1))
+  right-from names (formula c ∷ ps) f g h k l = (record { small = k .0; bound = h .0; owned = uses-more names whole (uses-in (terms-of c)) f (h .0) }, right-from names ps f g (h .1) (k .1) (l .1))
   right-from names (binding x signed n placed ∷ ps) f g h k l = (
     h .0,
     l .0,

@@ -8,15 +8,15 @@ use mathlib.Core.Option.{Option, none, some}
 use native.Mathlib.Omega.{arith}
 use borrow.Author.Tests.{eq-eqb}
 use lib.Dec.{eqb}
-use lib.IntN.{pos}
 use lib.ListN.{length, getD, set}
 use Rattle.text_header.proofs.Runs.{word-self}
+use Rattle.basis.specs.Limits.{max-width}
 use Rattle.text_tokens.specs.Numbers.{number-value, capped}
 use Rattle.text_tokens.specs.declared.Kind.{Kind}
 use Rattle.text_literals.specs.Literals.{characters-at}
 use Rattle.text_store.specs.Words.{node-mark, is-binder, condition-from, condition-end, first-node}
 use Rattle.text_names.specs.Names.{binds, same-name}
-use Rattle.text_encoding.specs.Numbers.{rule-of, binders-before, width-of}
+use Rattle.text_encoding.specs.Numbers.{rule-of, binders-before, width-of, is-signed}
 use Rattle.term_words.specs.declared.Term.{Term as WordTerm}
 use Rattle.text_meaning.specs.Meaning.{own-list, counts-in, static-counts, passes, is-fixed, is-default, is-true as list-true, first-true}
 use Rattle.text_meaning.specs.Claims.{is-exact as is-exact-tree}
@@ -37,6 +37,7 @@ use Rattle.tree_store.proofs.Lengths.{length-first, nodes-counted, some-node}
 use Rattle.tree_store.proofs.Standing.{Standing, past, shown, after-tests, after-tree}
 use Rattle.tree_store.proofs.Uses.{Here, here, no-more, set-uses, counts-uses, tests-uses}
 use Rattle.tree_store.proofs.Spots.{Like}
+use Rattle.tree_store.proofs.Flags.{flagged}
 use Rattle.tree_store.proofs.Binding.{same-here, after-bound, Quiet, mark-quiet, bound-rows, Before, before-node, before-more}
 use Rattle.tree_store.proofs.Rowed.{NodesAt, nodes-left, nodes-right}
 use Rattle.tree_grammar.proofs.Parts.{member-parts, branch-parts, case-parts}
@@ -55,7 +56,7 @@ module _ (P : Values → Type 0) (numbered widest : List ℕ → ℕ) (rules who
   unfoldable pub Right : List Name → List Piece → Type 0
   Right names [] = Unit {0}
   Right names (use-of-rule x ∷ more) = (is-among rules x ≡ true) × Right names more
-  Right names (width most n ∷ more) = (n .value ≤ 32) × Right names more
+  Right names (width most n ∷ more) = (n .value ≤ most) × Right names more
   Right names (formula f ∷ more) = FormulaRight widest whole names f × Right names more
   Right names (binding x signed n placed ∷ more) = (is-among names x ≡ false) × BindingKeeps P numbered (binding x signed n placed) × Right (x ∷ names) more
 
@@ -116,9 +117,9 @@ exact-same numbered (at-most s b) = refl
 exact-same numbered (span a s b) = refl
 
 module _ {P : Values → Type 0} {xs ns rs : List ℕ} {r : ℕ} {body numbered widest : List ℕ → ℕ} {rules whole : List Name} {a end : ℕ} (rule : InRule P xs ns rs r body numbered widest rules whole a end) (ts : List ℕ) where
-  width-is : (i p n : ℕ) → node-mark ns i ≡ p → number-value xs p ≡ n → n ≤ 32 → width-of xs ns i ≡ n
+  width-is : (i p n : ℕ) → node-mark ns i ≡ p → number-value xs p ≡ n → n ≤ max-width → width-of xs ns i ≡ n
   width-is i p n e f l =
-      ap (λ (k : ℕ). min 33 (capped (number-value xs k))) e ∙ ap (λ (k : ℕ). min 33 (capped k)) f ∙ (let z : min 33 (capped n) ≡ n = omega arith in z)
+      ap (λ (k : ℕ). min 65 (capped (number-value xs k))) e ∙ ap (λ (k : ℕ). min 65 (capped k)) f ∙ (let z : min 65 (capped n) ≡ n = omega arith in z)
 
   -- ---- a repetition's mark
 
@@ -228,27 +229,29 @@ module _ {P : Values → Type 0} {xs ns rs : List ℕ} {r : ℕ} {body numbered 
       let uses = set-uses x (sign Kind.CloseParen closes ∷ w) no-more (past (past (past (past s))))
       in let below : i < end = omega arith
       in let wide : width-of xs ns i ≡ n .value = width-is i (n .start) (n .value) (h .first-is) (shown (past (past s))) (ok .0)
+      in let sign : is-signed xs ns i ≡ signed = ap (λ (k : ℕ). eqb (getD xs k 0) 115) (h .place-is) ∙ flagged signed s
       in let static = set-first rule ts i names b below x t (h .own-from-is) (h .own-end-is) rows (ok .1 .0) uses
       in let free : is-binder ns i ≡ false = ap₂ (λ (k j : ℕ). eqb k 8 && not (eqb j 0)) (h .kind-is) (h .how-is)
       in (
-        uint-means P xs ns ts rs r i numbered n x (λ v k. v) (h .kind-is) wide (set-same rule ts i names b below x t (h .own-from-is) (h .own-end-is) rows (ok .1 .0) uses) static
-            (λ v k. ap (λ (c : Bool). cond c (set v (binders-before ns i) (pos k)) v) free) (λ v bits l p. p),
-        (h .kind-is, wide, static),
+        uint-means P xs ns ts rs r i numbered signed n x (λ v k. v) (h .kind-is) sign wide (set-same rule ts i names b below x t (h .own-from-is) (h .own-end-is) rows (ok .1 .0) uses) static
+            (λ v k. ap (λ (c : Bool). cond c (set v (binders-before ns i) k) v) free) (λ v bits l p. p),
+        (h .kind-is, wide, static, sign),
         tt,
       )
   walk top begun (binder {d} signed depth u opens n comma v opens′ x comma′ y closes closes′) i t names w (first-then h more) rows s b e ok =
       let uses = set-uses y (sign Kind.CloseParen closes ∷ sign Kind.CloseParen closes′ ∷ w) no-more (past (past (past (past (past (past (past (past s))))))))
       in let below : i < end = omega arith
-      in let wide : width-of xs ns i ≡ n .value = width-is i (n .start) (n .value) (h .first-is) (shown (past (past s))) (ok .0)
+      in let wide : width-of xs ns i ≡ n .value = width-is i (n .start) (n .value) (h .first-is) (shown (past (past s))) (omega (arith, ok .0))
+      in let sign : is-signed xs ns i ≡ signed = ap (λ (k : ℕ). eqb (getD xs k 0) 115) (h .place-is) ∙ flagged signed s
       in let static = set-first rule ts i names b below y t (h .own-from-is) (h .own-end-is) rows (ok .1 .0) uses
       in let name : Here xs x = here (past (past (past (past (past (past s))))))
       in let bound : is-binder ns i ≡ true = ap₂ (λ (k j : ℕ). eqb k 8 && not (eqb j 0)) (h .kind-is) (h .how-is) ∙ bound-so (d + 1 + 1)
       in let this : binds xs ns (x .start) i ≡ true = ap₂ (λ (c : Bool) (k : ℕ). c && same-name xs k (x .start)) bound (h .second-is) ∙ same-here name name ∙ word-self (x .letters)
       in let number : binders-before ns i ≡ numbered (x .letters) = rule .binders i x name (b .begins) below (b .before x name ∙ ok .1 .1 .0) this
       in (
-        uint-means P xs ns ts rs r i numbered n y (λ v k. set v (numbered (x .letters)) (pos k)) (h .kind-is) wide (set-same rule ts i names b below y t (h .own-from-is) (h .own-end-is) rows (ok .1 .0) uses) static
-            (λ v k. ap₂ (λ (c : Bool) (j : ℕ). cond c (set v j (pos k)) v) bound number) (λ v bits l p. ok .1 .1 .1 v bits l p),
-        (h .kind-is, wide, static),
+        uint-means P xs ns ts rs r i numbered signed n y (λ v k. set v (numbered (x .letters)) k) (h .kind-is) sign wide (set-same rule ts i names b below y t (h .own-from-is) (h .own-end-is) rows (ok .1 .0) uses) static
+            (λ v k. ap₂ (λ (c : Bool) (j : ℕ). cond c (set v j k) v) bound number) (λ v bits l p. ok .1 .1 .1 v bits l p),
+        (h .kind-is, wide, static, sign),
         tt,
       )
   walk top begun (rule-use x other) i t names w (first-then h more) rows s b e ok =

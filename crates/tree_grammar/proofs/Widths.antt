@@ -1,7 +1,7 @@
 -- Sizes of the variables for values within the widths of a rule: where 8 is not given, the terms of the rule's sets and conditions answer at such values what
 -- its tree says.
 -- Assumes nothing.
-use Prim.Native.Nat.{ℕ, zero, suc, _-_, _^_, _≤_, _<_}
+use Prim.Native.Nat.{ℕ, zero, suc, _≤_, _<_}
 use mathlib.Core.Path.{_≡_, refl, sym, ap, _∙_, subst}
 use mathlib.Core.Logic.{⊎-elim}
 use mathlib.Core.Bool.{Bool, true, false, cond}
@@ -13,6 +13,7 @@ use lib.Dec.{eqb}
 use lib.IntN.{ℤ, pos, natAbs}
 use lib.ListN.{length, getD, set, length-set}
 use lib.Seq.{getD-set-same, getD-set-other}
+use Rattle.basis.specs.Patterns.{greatest-size}
 use Rattle.basis.proofs.Booleans.{which}
 use Rattle.text_header.proofs.Runs.{word-equal, word-self}
 use Rattle.text_tokens.specs.Names.{is-same}
@@ -82,27 +83,27 @@ pub no-values : Inside [] []
 no-values = record { same = refl; each = λ k h. absurd (omega arith) }
 
 module _ (numbered widest : List ℕ → ℕ) where
-  pub set-answers : {d : ℕ} (x : ValueSet d) (v w : List ℤ) → Inside v w → AsWide numbered widest w (terms-of (set-parts x)) → Known numbered (length w) (terms-of (set-parts x)) → CalculationsFit widest (set-parts x) → (k : ℕ)
-      → in-list (setTerms (set-tree numbered none x)) v k ≡ in-set (values-at numbered v) x (pos k)
-  set-answers x v w i a n c k = ap isYes (set-worked numbered widest v w i x a n c (pos k) 0) ∙ answered (in-set (values-at numbered v) x (pos k))
+  pub set-answers : {d : ℕ} (x : ValueSet d) (v w : List ℤ) → Inside v w → AsWide numbered widest w (terms-of (set-parts x)) → Known numbered (length w) (terms-of (set-parts x)) → CalculationsFit widest (set-parts x) → (k : ℤ)
+      → in-list (setTerms (set-tree numbered none x)) v k ≡ in-set (values-at numbered v) x k
+  set-answers x v w i a n c k = ap isYes (set-worked numbered widest v w i x a n c k 0) ∙ answered (in-set (values-at numbered v) x k)
 
   -- where no values are known
-  pub set-static : {d : ℕ} (x : ValueSet d) → CalculationsFit widest (set-parts x) → (k : ℕ)
-      → in-static-set (setTerms (set-tree numbered none x)) k ≡ cond (has-variable (set-parts x)) true (in-set (values-at numbered []) x (pos k))
+  pub set-static : {d : ℕ} (x : ValueSet d) → CalculationsFit widest (set-parts x) → (k : ℤ)
+      → in-static-set (setTerms (set-tree numbered none x)) k ≡ cond (has-variable (set-parts x)) true (in-set (values-at numbered []) x k)
   set-static x c k =
       ⊎-elim
-      (λ (e : has-variable (set-parts x) ≡ true). (λ t. cond ((set-variable numbered x ∙ e) t) true (in-list (setTerms (set-tree numbered none x)) [] k)) ∙ sym (λ t. cond (e t) true (in-set (values-at numbered []) x (pos k))))
+      (λ (e : has-variable (set-parts x) ≡ true). (λ t. cond ((set-variable numbered x ∙ e) t) true (in-list (setTerms (set-tree numbered none x)) [] k)) ∙ sym (λ t. cond (e t) true (in-set (values-at numbered []) x k)))
       (λ (e : has-variable (set-parts x) ≡ false).
       (λ t. cond ((set-variable numbered x ∙ e) t) true (in-list (setTerms (set-tree numbered none x)) [] k))
       ∙ set-answers x [] [] no-values (none-wide numbered widest [] (terms-of (set-parts x)) e) (none-known numbered 0 (terms-of (set-parts x)) e) c k
-      ∙ sym (λ t. cond (e t) true (in-set (values-at numbered []) x (pos k))))
+      ∙ sym (λ t. cond (e t) true (in-set (values-at numbered []) x k)))
       (which (has-variable (set-parts x)))
 
   pub condition-answers : {d : ℕ} (x : Condition d) (v w : List ℤ) → Inside v w → AsWide numbered widest w (terms-of (tests-parts x)) → Known numbered (length w) (terms-of (tests-parts x)) → CalculationsFit widest (tests-parts x)
       → isYes (condition v 0 (conditionTerms (tests-tree numbered tt x))) ≡ is-true (values-at numbered v) x
   condition-answers x v w i a n c = ap isYes (condition-worked numbered widest v w i x a n c 0) ∙ answered (is-true (values-at numbered v) x)
 
--- ---- the sizes: a variable of the rule has the largest number of its width, another the size of its value
+-- ---- the sizes: a variable of the rule has the greatest size of its width, another the size of its value
 
 module _ (numbered : List ℕ → ℕ) where
   unfoldable pub sizes-for : Values → List Piece → List ℤ
@@ -110,7 +111,7 @@ module _ (numbered : List ℕ → ℕ) where
   sizes-for v (use-of-rule x ∷ more) = sizes-for v more
   sizes-for v (width most n ∷ more) = sizes-for v more
   sizes-for v (formula f ∷ more) = sizes-for v more
-  sizes-for v (binding x signed n placed ∷ more) = set (sizes-for v more) (numbered (x .letters)) (pos (2 ^ n .value - 1))
+  sizes-for v (binding x signed n placed ∷ more) = set (sizes-for v more) (numbered (x .letters)) (pos (greatest-size signed (n .value)))
 
   map-many : (v : Values) → length (map (λ (z : ℤ). pos (natAbs z)) v) ≡ length v
   map-many [] = refl
@@ -122,7 +123,7 @@ module _ (numbered : List ℕ → ℕ) where
   sizes-many v (use-of-rule x ∷ more) = sizes-many v more
   sizes-many v (width most n ∷ more) = sizes-many v more
   sizes-many v (formula f ∷ more) = sizes-many v more
-  sizes-many v (binding x signed n placed ∷ more) = length-set (sizes-for v more) (numbered (x .letters)) (pos (2 ^ n .value - 1)) ∙ sizes-many v more
+  sizes-many v (binding x signed n placed ∷ more) = length-set (sizes-for v more) (numbered (x .letters)) (pos (greatest-size signed (n .value))) ∙ sizes-many v more
 
   own-size : (v : Values) (k : ℕ) → Below (getD v k (pos 0)) (getD (map (λ (z : ℤ). pos (natAbs z)) v) k (pos 0))
   own-size [] k = record { size = 0; is = refl; le = omega arith }
@@ -140,18 +141,18 @@ module _ (numbered : List ℕ → ℕ) where
       (λ (e : eqb k (numbered (x .letters)) ≡ true).
       let q : k ≡ numbered (x .letters) = eqb-true k (numbered (x .letters)) e
       in record {
-        size = 2 ^ n .value - 1;
-        is = ap (λ (j : ℕ). getD (set (sizes-for v more) (numbered (x .letters)) (pos (2 ^ n .value - 1))) j (pos 0)) q ∙ getD-set-same (sizes-for v more) (numbered (x .letters)) (pos (2 ^ n .value - 1)) (pos 0) (omega (arith, sizes-many v more));
-        le = subst (λ (j : ℕ). natAbs (getD v j (pos 0)) ≤ 2 ^ n .value - 1) (sym q) (h .0);
+        size = greatest-size signed (n .value);
+        is = ap (λ (j : ℕ). getD (set (sizes-for v more) (numbered (x .letters)) (pos (greatest-size signed (n .value)))) j (pos 0)) q ∙ getD-set-same (sizes-for v more) (numbered (x .letters)) (pos (greatest-size signed (n .value))) (pos 0) (omega (arith, sizes-many v more));
+        le = subst (λ (j : ℕ). natAbs (getD v j (pos 0)) ≤ greatest-size signed (n .value)) (sym q) (h .0);
       })
       (λ (e : eqb k (numbered (x .letters)) ≡ false).
-      subst (λ (z : ℤ). Below (getD v k (pos 0)) z) (sym (getD-set-other (sizes-for v more) (numbered (x .letters)) k (pos (2 ^ n .value - 1)) (pos 0) (eqb-false k (numbered (x .letters)) e))) (below-each v more (h .1) k l))
+      subst (λ (z : ℤ). Below (getD v k (pos 0)) z) (sym (getD-set-other (sizes-for v more) (numbered (x .letters)) k (pos (greatest-size signed (n .value))) (pos 0) (eqb-false k (numbered (x .letters)) e))) (below-each v more (h .1) k l))
       (which (eqb k (numbered (x .letters))))
 
   pub sizes-inside : (v : Values) (ps : List Piece) → Held numbered v ps → Inside v (sizes-for v ps)
   sizes-inside v ps h = record { same = sym (sizes-many v ps); each = λ k l. below-each v ps h k (omega (arith, sizes-many v ps)) }
 
--- each variable of the rule has its width's largest number there
+-- each variable of the rule has its width's greatest size there
 module _ (b : ℕ) (whole : List Piece) where
   abbrev number : List ℕ → ℕ
   number = variable-of b (bound-in whole)
@@ -167,12 +168,12 @@ module _ (b : ℕ) (whole : List Piece) where
       ⊎-elim
       (λ (c : is-same (x .letters) (y .letters) ≡ true).
       let q : x .letters ≡ y .letters = word-equal (x .letters) (y .letters) c
-      in ap (λ (j : List ℕ). getD (set (sizes-for number v more) (number (x .letters)) (pos (2 ^ n .value - 1))) (number j) (pos 0)) (sym q)
-      ∙ getD-set-same (sizes-for number v more) (number (x .letters)) (pos (2 ^ n .value - 1)) (pos 0) (omega (arith, sizes-many number v more, ap number q))
-      ∙ sym (ap (λ (j : Bool). pos (cond j (2 ^ n .value - 1) (widest-in more (y .letters)))) c))
+      in ap (λ (j : List ℕ). getD (set (sizes-for number v more) (number (x .letters)) (pos (greatest-size signed (n .value)))) (number j) (pos 0)) (sym q)
+      ∙ getD-set-same (sizes-for number v more) (number (x .letters)) (pos (greatest-size signed (n .value))) (pos 0) (omega (arith, sizes-many number v more, ap number q))
+      ∙ sym (ap (λ (j : Bool). pos (cond j (greatest-size signed (n .value)) (widest-in more (y .letters)))) c))
       (λ (c : is-same (x .letters) (y .letters) ≡ false).
-      getD-set-other (sizes-for number v more) (number (x .letters)) (number (y .letters)) (pos (2 ^ n .value - 1)) (pos 0)
+      getD-set-other (sizes-for number v more) (number (x .letters)) (number (y .letters)) (pos (greatest-size signed (n .value))) (pos 0)
       (λ q. let z : _≡_ {A = Bool} true false = sym (word-self (x .letters)) ∙ ap (is-same (x .letters)) (one-name b (bound-in whole) x y (o .1) k (sym q)) ∙ c in let u : _≡_ {A = ℕ} 0 1 = cc in absurd (omega arith))
       ∙ sizes-wide v more (o .2) y k (among-later x (bound-in more) y c e) l
-      ∙ sym (ap (λ (j : Bool). pos (cond j (2 ^ n .value - 1) (widest-in more (y .letters)))) c))
+      ∙ sym (ap (λ (j : Bool). pos (cond j (greatest-size signed (n .value)) (widest-in more (y .letters)))) c))
       (which (is-same (x .letters) (y .letters)))
