@@ -10,11 +10,11 @@ use native.Mathlib.Omega.{arith}
 use native.Mathlib.Numerals.{add-one}
 use borrow.Author.Tests.{lt-ltb, eq-eqb, ne-eqb, ltb-true, ltb-false}
 use lib.Dec.{eqb, ltb}
-use lib.IntN.{pos}
+use lib.IntN.{ℤ}
 use lib.ListN.{length, getD, drop, set}
 use lib.Seq.{drop-cons, drop-length}
 use Rattle.basis.specs.Limits.{max-literal-bytes}
-use Rattle.basis.specs.Bits.{value}
+use Rattle.basis.specs.Patterns.{pattern-value}
 use Rattle.basis.specs.Counts.{Counts}
 use Rattle.basis.proofs.Booleans.{which}
 use Rattle.text_literals.specs.Literals.{characters-at}
@@ -34,7 +34,7 @@ use Rattle.text_shapes.specs.NodeShapes.{NameAt, Marked, Conditioned, Unconditi
 use Rattle.text_shapes.specs.Stored.{Stored}
 use Rattle.text_shapes.specs.Placed.{Placed}
 use Rattle.text_store.specs.Words.{kind-of, node-size, place-of, node-mark, how-bound, condition-from, condition-end}
-use Rattle.text_encoding.specs.Numbers.{rule-of, binders-before, width-of, condition-length, own-length, condition-start, own-start}
+use Rattle.text_encoding.specs.Numbers.{rule-of, binders-before, width-of, is-signed, condition-length, own-length, condition-start, own-start}
 use Rattle.text_encoding.specs.Encoded.{encoded}
 use Rattle.text_wellformed.specs.Context.{Readable, TreeAt, ConditionAt, without, with-one}
 use Rattle.text_wellformed.specs.Meant.{passes-meant, meant}
@@ -59,7 +59,7 @@ powers (suc (suc (suc zero))) h = refl
 powers (suc (suc (suc (suc q)))) h = absurd (omega arith)
 
 -- a binder sets its variable
-binder-bound : (binds : Bool) (k : ℕ) (v : Values) (n : ℕ) → bound (cond binds (k + 1) 0) v n ≡ cond binds (set v k (pos n)) v
+binder-bound : (binds : Bool) (k : ℕ) (v : Values) (n : ℤ) → bound (cond binds (k + 1) 0) v n ≡ cond binds (set v k n) v
 binder-bound true k v n = rw add-one refl
 binder-bound false k v n = refl
 
@@ -85,14 +85,14 @@ module _ (ws : List ℕ) (i s e : ℕ) (list : List Term) where
       let end : termAt (term-words ws) (e - 1) ≡ last-of list = last-at (term-words ws) s e l ∙ ap last-of is in
       λ t. repetition (λ c v. allowed (at v t)) (cond (hasVariable (is t)) (Counts.from 0) (allowed (at [] t))) (isExact (formOf (end t))) (i + 1)
 
-  -- a uint
-  uint-same : (width k : ℕ) (binds : Bool) → terms (term-words ws) s e ≡ list
-      → node-of ws i (Construct.Uint width s e (cond binds (k + 1) 0)) ≡ Meaning.uint-node width list binds k
+  -- a uint or sint
+  uint-same : (signed : Bool) (width k : ℕ) (binds : Bool) → terms (term-words ws) s e ≡ list
+      → node-of ws i (Construct.Uint signed width s e (cond binds (k + 1) 0)) ≡ Meaning.uint-node signed width list binds k
   unfolding node-of
-  uint-same width k binds is =
-      let at : (v : Values) (n : ℕ) → membership v (pos n) s (terms (term-words ws) s e) ≡ membership v (pos n) 0 list =
-      λ v n. same-membership v (pos n) s 0 (terms (term-words ws) s e) ∙ ap (membership v (pos n) 0) is in
-      λ t. field (λ bits. width) (λ c v bits. isYes (at v (value bits) t)) (λ bits. cond (hasVariable (is t)) true (isYes (at [] (value bits) t))) (λ c v bits. binder-bound binds k v (value bits) t)
+  uint-same signed width k binds is =
+      let at : (v : Values) (n : ℤ) → membership v n s (terms (term-words ws) s e) ≡ membership v n 0 list =
+      λ v n. same-membership v n s 0 (terms (term-words ws) s e) ∙ ap (membership v n 0) is in
+      λ t. field (λ bits. width) (λ c v bits. isYes (at v (pattern-value signed bits) t)) (λ bits. cond (hasVariable (is t)) true (isYes (at [] (pattern-value signed bits) t))) (λ c v bits. binder-bound binds k v (pattern-value signed bits) t)
 
 -- the bytes from byte k on are the characters from there on
 bytes-same : (ws : List ℕ) (i : ℕ) (list : List ℕ) → ((k : ℕ) → k < length list → literal-byte ws i k ≡ getD list k 0) → (n k : ℕ) → k + n ≡ length list → literal-bytes ws i k n ≡ drop k list
@@ -264,7 +264,7 @@ module _ {xs ns ts rs : List ℕ} {n t b r : ℕ} (text : Readable xs ns ts rs n
     unfolding Held meant meant-node
     uint-held k =
         rw k
-        (uint-same ws i (own-start ns i) (own-start ns i + own-length ns i) (own-list xs ns ts rs r i) (width-of xs ns i) (binders-before ns i) (not (eqb (how-bound ns i) 0))
+        (uint-same ws i (own-start ns i) (own-start ns i + own-length ns i) (own-list xs ns ts rs r i) (is-signed xs ns i) (width-of xs ns i) (binders-before ns i) (not (eqb (how-bound ns i) 0))
         (own-held text stored places i h (own-of-set text i h k)))
 
     eod-held : kind-of ns i ≡ 9 → Held

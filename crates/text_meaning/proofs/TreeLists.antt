@@ -7,7 +7,7 @@ use mathlib.Core.Bool.{Bool, true, false, cond}
 use mathlib.Core.List.{List, [], _∷_, _++_}
 use mathlib.Core.Option.{none}
 use native.Mathlib.Omega.{arith}
-use lib.IntN.{ℤ, pos}
+use lib.IntN.{ℤ}
 use lib.ListN.{length, length-append}
 use lib.Seq.{getD-append-add}
 use Rattle.basis.specs.Limits.{max-variables}
@@ -57,15 +57,15 @@ passes kind list v f formed = list-passes v (f .widest) (f .inside) kind 0 list 
 -- ---- a set, and a condition: `tree` is the tree, `small` the same with the variables cut at 63
 
 module _ (list : List Term) (tree small : ValueSet) (is : list ≡ setTerms tree) (cut : list ≡ setTerms small) (room : SetRoom max-variables small 0) where
-  pub set-has : (v : Values) → ListFits Kind.Set list v → (n : ℕ) → in-set list v n ≡ has v tree (pos n)
+  pub set-has : (v : Values) → ListFits Kind.Set list v → (n : ℤ) → in-set list v n ≡ has v tree n
   set-has v f n =
       let p : sizes Kind.Set (f .widest) 0 list ≡ Sized.Passes =
       passes Kind.Set list v f (λ w l z. set-formed w 0 small (rw l room) (sym (ap (sizes Kind.Set w 0) cut) ∙ z)) in
-      ap isYes (ap (membership v (pos n) 0) is ∙ set-means v (f .widest) (f .inside) tree (pos n) 0 (sym (ap (sizes Kind.Set (f .widest) 0) is) ∙ p)) ∙ answered (has v tree (pos n))
+      ap isYes (ap (membership v n 0) is ∙ set-means v (f .widest) (f .inside) tree n 0 (sym (ap (sizes Kind.Set (f .widest) 0) is) ∙ p)) ∙ answered (has v tree n)
 
-  pub set-first : (v : Values) → ListFits Kind.Set list v → (n : ℕ) → in-static-set list n ≡ cond (hasVariable list) true (has v tree (pos n))
+  pub set-first : (v : Values) → ListFits Kind.Set list v → (n : ℤ) → in-static-set list n ≡ cond (hasVariable list) true (has v tree n)
   set-first v f n =
-      ⊎-elim (λ (e : hasVariable list ≡ true). rw e refl) (λ (e : hasVariable list ≡ false). rw e (ap isYes (membership-constant [] v (pos n) 0 list e) ∙ set-has v f n)) (which (hasVariable list))
+      ⊎-elim (λ (e : hasVariable list ≡ true). rw e refl) (λ (e : hasVariable list ≡ false). rw e (ap isYes (membership-constant [] v n 0 list e) ∙ set-has v f n)) (which (hasVariable list))
 
 pub condition-has : (list : List Term) (tree small : Condition) → list ≡ conditionTerms tree → list ≡ conditionTerms small → ConditionRoom max-variables small 0 → (v : Values) → ListFits Kind.Condition list v → isYes (condition v 0 list) ≡ true-at v tree
 condition-has list tree small is cut room v f =

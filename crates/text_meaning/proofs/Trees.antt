@@ -9,7 +9,7 @@ use native.Mathlib.Omega.{arith}
 use native.Mathlib.Decide.{decLt}
 use borrow.Author.Tests.{lt-ltb, eq-eqb, ne-eqb}
 use lib.ListN.{length}
-use Rattle.basis.specs.Bits.{value}
+use Rattle.basis.specs.Patterns.{pattern-value}
 use Rattle.term_words.specs.declared.Kind.{Kind}
 use Rattle.term_words.specs.declared.Term.{Term}
 use Rattle.term_evaluation.specs.Counts.{formOf}
@@ -24,7 +24,7 @@ use Rattle.text_shapes.specs.Stored.{Stored}
 use Rattle.text_shapes.specs.Placed.{Placed}
 use Rattle.text_shapes.proofs.ShapeLaws.{set-renamed, condition-renamed, repeats-renamed}
 use Rattle.text_store.specs.Words.{kind-of, node-size, node-mark, own-from, own-end, condition-from, condition-end, is-binder}
-use Rattle.text_encoding.specs.Numbers.{first-at, binders-before, variable-of, width-of, own-length, own-start}
+use Rattle.text_encoding.specs.Numbers.{first-at, binders-before, variable-of, width-of, is-signed, own-length, own-start}
 use Rattle.text_encoding.specs.Encoded.{encoded}
 use Rattle.text_wellformed.specs.Context.{Readable, TreeAt, ConditionAt, without, with-one}
 use Rattle.text_wellformed.proofs.NodeFacts.{nodes, tree-below, tree-size}
@@ -72,7 +72,7 @@ module _ {xs ns ts rs : List ℕ} {n t b r : ℕ} (text : Readable xs ns ts rs n
     own-cut : OwnShape ns ts t i → own-list xs ns ts rs r i ≡ map (rename-term cut) (read-terms ts (own-from ns i) (own-end ns i - own-from ns i))
     own-cut o = sym (own-held text stored places i h o) ∙ own-under text stored places i h cut (λ p l. omega arith) o
 
-    uint-means : kind-of ns i ≡ 8 → UintMeans (grammar-of xs ns ts rs n r .node i) (width-of xs ns i) (own-list xs ns ts rs r i) (is-binder ns i) (binders-before ns i)
+    uint-means : kind-of ns i ≡ 8 → UintMeans (grammar-of xs ns ts rs n r .node i) (is-signed xs ns i) (width-of xs ns i) (own-list xs ns ts rs r i) (is-binder ns i) (binders-before ns i)
     unfolding meant-node
     uint-means k =
         let list : List Term = own-list xs ns ts rs r i in
@@ -81,15 +81,15 @@ module _ {xs ns ts rs : List ℕ} {n t b r : ℕ} (text : Readable xs ns ts rs n
         let small : ValueSet = renamed-set cut (x .tree) in
         let is : list ≡ setTerms tree = ap (map (rename-term own)) (x .is) ∙ sym (set-renamed own (x .tree)) in
         let is-cut : list ≡ setTerms small = own-cut (own-of-set text i h k) ∙ ap (map (rename-term cut)) (x .is) ∙ sym (set-renamed cut (x .tree)) in
-        let node-is : meant-node xs ns ts rs r i ≡ uint-node (width-of xs ns i) list (is-binder ns i) (binders-before ns i) = rw k refl in
+        let node-is : meant-node xs ns ts rs r i ≡ uint-node (is-signed xs ns i) (width-of xs ns i) list (is-binder ns i) (binders-before ns i) = rw k refl in
         record {
-          admits = λ c v bits. in-set list v (value bits);
-          static = λ bits. in-static-set list (value bits);
+          admits = λ c v bits. in-set list v (pattern-value (is-signed xs ns i) bits);
+          static = λ bits. in-static-set list (pattern-value (is-signed xs ns i) bits);
           node-is = node-below i h ∙ node-is;
           tree = tree;
           list-is = is;
-          admitted = λ c v bits f. set-has list tree small is is-cut (x .room cut (λ p. omega arith)) v f (value bits);
-          at-first = λ v bits f. set-first list tree small is is-cut (x .room cut (λ p. omega arith)) v f (value bits);
+          admitted = λ c v bits f. set-has list tree small is is-cut (x .room cut (λ p. omega arith)) v f (pattern-value (is-signed xs ns i) bits);
+          at-first = λ v bits f. set-first list tree small is is-cut (x .room cut (λ p. omega arith)) v f (pattern-value (is-signed xs ns i) bits);
         }
 
     counts-mean : kind-of ns i ≡ 3 → node-mark ns i ≡ 4 → CountsMean (grammar-of xs ns ts rs n r .node i) (own-list xs ns ts rs r i) (i + 1)
