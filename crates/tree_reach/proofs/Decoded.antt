@@ -8,7 +8,7 @@ use borrow.Author.Tests.{lt-ltb, eqb-true}
 use lib.Dec.{leb, ltb, eqb}
 use Rattle.basis.proofs.Booleans.{picked}
 use Rattle.table_layout.specs.Places.{construct-word}
-use Rattle.table_layout.specs.Constructs.{branches, listed, constructOf, constructAt}
+use Rattle.table_layout.specs.Constructs.{branches, listed, widest-for, constructOf, constructAt}
 use Rattle.table_layout.specs.declared.Construct.{Construct}
 
 -- of a use: its kind is 5, and its first operand the rule
@@ -20,7 +20,7 @@ UseOf kind a (Construct.Repetition size passes) = Unit {0}
 UseOf kind a (Construct.Switch size) = Unit {0}
 UseOf kind a (Construct.Literal length) = Unit {0}
 UseOf kind a (Construct.Range low high) = Unit {0}
-UseOf kind a (Construct.Uint w s e b) = Unit {0}
+UseOf kind a (Construct.Uint g w s e b) = Unit {0}
 UseOf kind a Construct.Eod = Unit {0}
 UseOf kind a Construct.Missing = Unit {0}
 
@@ -38,8 +38,9 @@ use-of i kind size a b c d =
     (λ z. picked P (eqb kind 5) (λ (e : eqb kind 5 ≡ true). picked P (ltb a 64) (λ z. (eqb-true kind 5 e, refl)) (λ z. tt))
     (λ z. picked P (eqb kind 6) (λ z. picked P (leb 1 a && leb a 32) (λ z. tt) (λ z. tt))
     (λ z. picked P (eqb kind 7) (λ z. picked P (ltb a 128 && ltb b 128) (λ z. tt) (λ z. tt))
-    (λ z. picked P (eqb kind 8) (λ z. picked P ((leb 1 a && leb a 32) && (listed b c && leb d 64)) (λ z. tt) (λ z. tt))
-    (λ z. picked P (eqb kind 9) (λ z. tt) (λ z. tt)))))) (λ z. tt))
+    (λ z. picked P (eqb kind 8) (λ z. picked P ((leb 1 a && leb a (widest-for d)) && (listed b c && leb d 64)) (λ z. tt) (λ z. tt))
+    (λ z. picked P (eqb kind 9) (λ z. tt)
+    (λ z. picked P (eqb kind 12) (λ z. picked P ((leb 1 a && leb a (widest-for d)) && (listed b c && leb d 64)) (λ z. tt) (λ z. tt)) (λ z. tt))))))) (λ z. tt))
   where
     P : Construct → Type 0
     P x = UseOf kind a x

@@ -3,14 +3,14 @@
 use Prim.Native.Nat.{ℕ, zero, suc, _+_, _≤_, _<_, min}
 use mathlib.Core.Path.{_≡_, refl, sym, ap, subst, _∙_}
 use mathlib.Core.Logic.{⊎-elim}
-use mathlib.Core.Bool.{Bool, true, false}
+use mathlib.Core.Bool.{Bool, true, false, cond, _&&_}
 use mathlib.Core.List.{List, [], _∷_}
 use mathlib.Core.Option.{none}
 use native.Mathlib.Omega.{arith}
 use borrow.Author.Tests.{ltb-true, ltb-false}
-use lib.Dec.{ltb}
+use lib.Dec.{ltb, eqb}
 use lib.ListN.{length}
-use Rattle.basis.proofs.Booleans.{which}
+use Rattle.basis.proofs.Booleans.{which, picked}
 use Rattle.table_layout.specs.Places.{construct-word}
 use Rattle.table_layout.specs.Constructs.{constructAt}
 use Rattle.table_layout.specs.declared.Construct.{Construct}
@@ -18,8 +18,8 @@ use Rattle.table_reach.specs.Reaching.{body-of, rule-end, Uses, Reaches, direct
 use Rattle.text_store.specs.Store.{State, blank, node-words, term-words, rule-words, nodes-of, rules-of}
 use Rattle.text_store.specs.Words.{kind-of, node-size, place-of, named-at, first-node, last-node}
 use Rattle.text_encoding.specs.Lists.{narrow, first-of}
-use Rattle.text_encoding.specs.Numbers.{rule-of}
-use Rattle.text_encoding.specs.Encoded.{encoded}
+use Rattle.text_encoding.specs.Numbers.{rule-of, is-signed}
+use Rattle.text_encoding.specs.Encoded.{kind-word, encoded}
 use Rattle.text_names.specs.Names.{same-name}
 use Rattle.text_wellformed.specs.Context.{Words}
 use Rattle.text_wellformed.proofs.EncodedWords.{encoded-words}
@@ -96,6 +96,20 @@ unfolding first-of
 first-upto zero i f = omega arith
 first-upto (suc n) i f = ⊎-elim (λ (z : f i ≡ true). omega (arith, first-here n i f z)) (λ (z : f i ≡ false). omega (arith, first-later n i f z, first-upto n (i + 1) f)) (which (f i))
 
+-- ---- a use's kind is 5 in the table too, where a sint's is 12
+
+abbrev coded : ℕ → Bool → ℕ
+coded kind signed = cond (eqb kind 8 && signed) 12 kind
+
+kind-small : (kind : ℕ) (signed : Bool) → kind < 10 → coded kind signed < 4294967296
+kind-small kind signed h = picked (λ (k : ℕ). k < 4294967296) (eqb kind 8 && signed) (λ e. omega arith) (λ e. omega (arith, h))
+
+kind-use : (kind : ℕ) (signed : Bool) → kind ≡ 5 → coded kind signed ≡ 5
+kind-use kind signed e = ap (λ (k : ℕ). coded k signed) e
+
+use-kind : (kind : ℕ) (signed : Bool) → coded kind signed ≡ 5 → kind ≡ 5
+use-kind kind signed = picked (λ (k : ℕ). k ≡ 5 → kind ≡ 5) (eqb kind 8 && signed) (λ e f. absurd (omega (arith, f))) (λ e f. f)
+
 -- ---- the table of a tree within the limits
 
 module _ (xs ns ts rs : List ℕ) (r : ℕ) (t : Rules) (w : Rowed t ns ts rs r) (l : Limited t) where
@@ -149,8 +163,8 @@ module _ (xs ns ts rs : List ℕ) (r : ℕ) (t : Rules) (w : Rowed t ns ts rs r)
   rule-small p = omega (arith, first-upto r 0 (λ j. same-name xs (named-at rs j) p))
 
   module _ (i : ℕ) (h : i < length (tree-nodes t)) where
-    kind-word : construct-word (encoded xs ns ts rs (length (tree-nodes t)) r) i 0 ≡ kind-of ns i
-    kind-word = construct-is words i h 0 (kind-of ns i) (omega arith) refl (omega (arith, known i h .small))
+    kind-is : construct-word (encoded xs ns ts rs (length (tree-nodes t)) r) i 0 ≡ kind-word xs ns i
+    kind-is = construct-is words i h 0 (kind-word xs ns i) (omega arith) refl (kind-small (kind-of ns i) (is-signed xs ns i) (known i h .small))
 
     rule-word-is : kind-of ns i ≡ 5 → construct-word (encoded xs ns ts rs (length (tree-nodes t)) r) i 2 ≡ rule-of xs rs r (place-of ns i)
     rule-word-is e = construct-is words i h 2 (rule-of xs rs r (place-of ns i)) (omega arith) (rw e refl) (omega (arith, rule-small (place-of ns i), few-rules))
@@ -161,11 +175,11 @@ module _ (xs ns ts rs : List ℕ) (r : ℕ) (t : Rules) (w : Rowed t ns ts rs r)
     decoded-back : (q : ℕ) → constructAt (encoded xs ns ts rs (length (tree-nodes t)) r) i ≡ Construct.Use q → (kind-of ns i ≡ 5) × (rule-of xs rs r (place-of ns i) ≡ q)
     decoded-back q e =
         let b : (construct-word (encoded xs ns ts rs (length (tree-nodes t)) r) i 0 ≡ 5) × (construct-word (encoded xs ns ts rs (length (tree-nodes t)) r) i 2 ≡ q) = use-back (encoded xs ns ts rs (length (tree-nodes t)) r) i q e
-        in let k : kind-of ns i ≡ 5 = sym kind-word ∙ b .0
+        in let k : kind-of ns i ≡ 5 = use-kind (kind-of ns i) (is-signed xs ns i) (sym kind-is ∙ b .0)
         in (k, sym (rule-word-is k) ∙ b .1)
 
     decoded : (q : ℕ) → kind-of ns i ≡ 5 → rule-of xs rs r (place-of ns i) ≡ q → q < r → constructAt (encoded xs ns ts rs (length (tree-nodes t)) r) i ≡ Construct.Use q
-    decoded q e f g = use-forth (encoded xs ns ts rs (length (tree-nodes t)) r) i q (omega (arith, few-nodes)) (kind-word ∙ e) (size-word e) (rule-word-is e ∙ f) (omega (arith, few-rules))
+    decoded q e f g = use-forth (encoded xs ns ts rs (length (tree-nodes t)) r) i q (omega (arith, few-nodes)) (kind-is ∙ kind-use (kind-of ns i) (is-signed xs ns i) e) (size-word e) (rule-word-is e ∙ f) (omega (arith, few-rules))
 
   -- ---- reaching
 
