@@ -8,7 +8,7 @@ use mathlib.Core.Bool.{Bool, true, false, cond}
 use mathlib.Core.List.{List, [], _∷_}
 use mathlib.Core.Option.{none, some}
 use lib.Dec.{leb, ltb}
-use lib.IntN.{ℤ}
+use lib.IntN.{ℤ, pos}
 use Rattle.basis.proofs.Booleans.{which}
 use Rattle.term_evaluation.specs.Meaning.{condition}
 use Rattle.term_evaluation.specs.Counts.{counts}
@@ -130,6 +130,6 @@ pub tested-yes : (t : Bool) → isYes (tested t) ≡ t
 tested-yes true = refl
 tested-yes false = refl
 
-pub tested-set : (t : Bool) (w : ℕ) → cond t (Act.Take w 0 0) Act.Fail ≡ by-set (tested t) w 0 0
+pub tested-set : (t : Bool) (w : ℕ) → cond t (Act.Take w 0 (pos 0)) Act.Fail ≡ by-set (tested t) w 0 (pos 0)
 tested-set true w = refl
 tested-set false w = refl

@@ -1,6 +1,6 @@
 -- What is decided for the first entry is what the theory's machine does with it, for each kind of construct.
 -- Assumes nothing.
-use Prim.Native.Nat.{ℕ, suc, _+_, _*_, _-_, _≤_, _<_}
+use Prim.Native.Nat.{ℕ, zero, suc, _+_, _*_, _-_, _≤_, _<_}
 use native.Mathlib.Omega.{arith}
 use borrow.Author.Tests.{leb-true, leb-false, le-leb, lt-leb, eq-eqb, ne-eqb}
 use mathlib.Core.Path.{_≡_, refl, sym, _∙_, ap, subst}
@@ -12,6 +12,7 @@ use lib.Dec.{ltb, leb, eqb}
 use lib.IntN.{ℤ, pos}
 use lib.ListN.{length, take, drop, length-drop}
 use Rattle.basis.specs.Bits.{Bits, value, frameBits, same}
+use Rattle.basis.specs.Patterns.{pattern-value}
 use Rattle.basis.specs.Counts.{Counts, within}
 use Rattle.basis.proofs.Frames.{frame-length}
 use Rattle.basis.proofs.Booleans.{which}
@@ -26,7 +27,7 @@ use Rattle.table_layout.specs.Held.{Context, first-context, Values, HeldNode, t
 use Rattle.table_layout.specs.declared.Construct.{Construct}
 use Rattle.table_layout.specs.declared.Passes.{Passes}
 use Rattle.run_actions.specs.Stored.{stored, prediction-at, follow-at, tests-of}
-use Rattle.run_actions.specs.Acts.{in-table, whole-in-table, terms-in-table, binder-in-table, known-values, enter, open-rule, ahead-at, bits-of, branch-act, case-act, members-act, turn-act, counted, literal-holds, literal-act, range-act, by-set, bits-act, end-act, construct-act, actOf}
+use Rattle.run_actions.specs.Acts.{in-table, whole-in-table, terms-in-table, binder-in-table, known-values, enter, open-rule, ahead-at, bits-of, branch-act, case-act, members-act, turn-act, counted, literal-holds, literal-act, range-act, kept, by-set, number-at, bits-act, end-act, construct-act, actOf}
 use Rattle.run_actions.specs.declared.Act.{Act}
 use Rattle.run_refinement.specs.Runs.{HeldEntry, HeldState}
 use Rattle.run_refinement.proofs.Answers.{branch-chosen, case-chosen, no-case-taken, turned, turn-turned, counted-allowed, tested, tested-yes, tested-set}
@@ -43,6 +44,11 @@ Membered ws (Act.Members start end n) = (js : List ℕ) × Row ws end start js �
 Membered ws (Act.Again b) = Unit {0}
 Membered ws Act.Leave = Unit {0}
 Membered ws (Act.Take width binder n) = Unit {0}
+
+-- what is not bound may be anything
+kept-bound : (binder : ℕ) (v : Values) (n : ℤ) → bound binder v (kept binder n) ≡ bound binder v n
+kept-bound zero v n = refl
+kept-bound (suc x) v n = refl
 
 module _ (ws fs : List ℕ) (vs : List ℤ) (p i k : ℕ) (others : List HeldEntry) (rc : List Capture) where
   abbrev rest : Bits
@@ -130,7 +136,7 @@ module _ (ws fs : List ℕ) (vs : List ℤ) (p i k : ℕ) (others : List HeldEnt
       does-guarded (use-node ws r) (ltb r (rule-count ws)) (enter ws b) (does-guarded (use-node ws r) (in-table ws b) (Act.Enter b) (λ h. record { agrees = refl; members = tt }))
 
   -- a field: so many bits are left, and they are right
-  does-set : (w binder n : ℕ) (admits : Context → Values → Bits → Bool) (static : Bits → Bool) (binds : Context → Values → Bits → Values) (t : Tested)
+  does-set : (w binder : ℕ) (n : ℤ) (admits : Context → Values → Bits → Bool) (static : Bits → Bool) (binds : Context → Values → Bits → Values) (t : Tested)
       → leb w (length rest) ≡ true → isYes t ≡ admits first-context vs (take w rest) → bound binder vs n ≡ binds first-context vs (take w rest) → Definite (by-set t w binder n)
       → Does (field (λ bits. w) admits static binds) (by-set t w binder n)
   unfolding act
@@ -153,7 +159,7 @@ module _ (ws fs : List ℕ) (vs : List ℤ) (p i k : ℕ) (others : List HeldEnt
     rest-length : length rest ≡ bits-of fs - p
     rest-length = length-drop p (frameBits fs) ∙ ap (_- p) (frame-length fs)
 
-    does-field : (w binder n : ℕ) (admits : Context → Values → Bits → Bool) (static : Bits → Bool) (binds : Context → Values → Bits → Values) (t : Tested)
+    does-field : (w binder : ℕ) (n : ℤ) (admits : Context → Values → Bits → Bool) (static : Bits → Bool) (binds : Context → Values → Bits → Values) (t : Tested)
         → isYes t ≡ admits first-context vs (take w rest) → bound binder vs n ≡ binds first-context vs (take w rest) → Definite (cond (leb (p + w) (bits-of fs)) (by-set t w binder n) Act.Fail)
         → Does (field (λ bits. w) admits static binds) (cond (leb (p + w) (bits-of fs)) (by-set t w binder n) Act.Fail)
     does-field w binder n admits static binds t y b s =
@@ -174,17 +180,17 @@ module _ (ws fs : List ℕ) (vs : List ℤ) (p i k : ℕ) (others : List HeldEnt
         let t : Bool = literal-holds ws fs p i 0 n in
         let z : p + 8 * 0 ≡ p = omega arith in
         let e : isYes (tested t) ≡ same (take (8 * n) rest) (frameBits bytes) = tested-yes t ∙ ap (λ (q : ℕ). same (take (8 * n) (drop q (frameBits fs))) (frameBits bytes)) z in
-        let q : literal-act ws fs p i n ≡ cond (leb (p + 8 * n) (bits-of fs)) (by-set (tested t) (8 * n) 0 0) Act.Fail = ap (λ (a : Act). cond (leb (p + 8 * n) (bits-of fs)) a Act.Fail) (tested-set t (8 * n)) in
+        let q : literal-act ws fs p i n ≡ cond (leb (p + 8 * n) (bits-of fs)) (by-set (tested t) (8 * n) 0 (pos 0)) Act.Fail = ap (λ (a : Act). cond (leb (p + 8 * n) (bits-of fs)) a Act.Fail) (tested-set t (8 * n)) in
         subst (λ (m : ℕ). Does (field (λ bits. 8 * m) (λ c v bits. same bits (frameBits bytes)) (λ bits. same bits (frameBits bytes)) (λ c v bits. v)) (literal-act ws fs p i n)) (sym (literal-long ws i 0 n))
-        (rw q (does-field (8 * n) 0 0 (λ c v bits. same bits (frameBits bytes)) (λ bits. same bits (frameBits bytes)) (λ c v bits. v) (tested t) e refl (rw q at s)))
+        (rw q (does-field (8 * n) 0 (pos 0) (λ c v bits. same bits (frameBits bytes)) (λ bits. same bits (frameBits bytes)) (λ c v bits. v) (tested t) e refl (rw q at s)))
 
     does-range : (low high : ℕ) → Definite (range-act fs p low high) → Does (range-node low high) (range-act fs p low high)
     does-range low high s =
         let v : ℕ = value (take 8 rest) in
         let t : Bool = leb low v && leb v high in
-        let q : range-act fs p low high ≡ cond (leb (p + 8) (bits-of fs)) (by-set (tested t) 8 0 0) Act.Fail = ap (λ (a : Act). cond (leb (p + 8) (bits-of fs)) a Act.Fail) (tested-set t 8) in
+        let q : range-act fs p low high ≡ cond (leb (p + 8) (bits-of fs)) (by-set (tested t) 8 0 (pos 0)) Act.Fail = ap (λ (a : Act). cond (leb (p + 8) (bits-of fs)) a Act.Fail) (tested-set t 8) in
         rw q
-        (does-field 8 0 0 (λ c v bits. leb low (value bits) && leb (value bits) high) (λ bits. leb low (value bits) && leb (value bits) high) (λ c v bits. v) (tested t) (tested-yes t) refl
+        (does-field 8 0 (pos 0) (λ c v bits. leb low (value bits) && leb (value bits) high) (λ bits. leb low (value bits) && leb (value bits) high) (λ c v bits. v) (tested t) (tested-yes t) refl
         (rw q at s))
 
     does-end : (s : Bits) → rest ≡ s → Does eod (end-act fs p)
@@ -209,9 +215,9 @@ module _ (ws fs : List ℕ) (vs : List ℤ) (p i k : ℕ) (others : List HeldEnt
     does-construct (Construct.Literal n) s = does-literal n s
     does-construct (Construct.Range low high) s = does-range low high s
     does-construct (Construct.Uint signed width start end binder) s =
-        let n : ℕ = value (take width rest) in
-        does-guarded (uint-node ws width start end binder) (terms-in-table ws end && binder-in-table ws binder) (bits-act ws fs vs p width start end binder)
-        (does-field width binder n (λ c v bits. in-set ws start end v (value bits)) _ (λ c v bits. bound binder v (value bits)) (membership vs (pos n) start (terms-of ws start end)) refl refl) s
+        let n : ℤ = number-at fs p signed width in
+        does-guarded (uint-node ws signed width start end binder) (terms-in-table ws end && binder-in-table ws binder) (bits-act ws fs vs p signed width start end binder)
+        (does-field width binder (kept binder n) (λ c v bits. in-set ws start end v (pattern-value signed bits)) _ (λ c v bits. bound binder v (pattern-value signed bits)) (membership vs n start (terms-of ws start end)) refl (kept-bound binder vs n)) s
     does-construct Construct.Eod s = does-end rest refl
 
     -- the opening use too

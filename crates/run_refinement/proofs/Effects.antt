@@ -51,7 +51,7 @@ abbrev pub after : HeldState → ℕ → Option HeldState → HeldRun
 after σ n none = run σ (suc n) unmatched
 after σ n (some τ) = run τ (suc n) (verdict τ)
 
-bind-bound : (b n : ℕ) (vs : List ℤ) → bind b n vs ≡ bound b vs n
+bind-bound : (b : ℕ) (n : ℤ) (vs : List ℤ) → bind b n vs ≡ bound b vs n
 bind-bound zero n vs = refl
 bind-bound (suc x) n vs = refl
 
@@ -132,7 +132,7 @@ module _ (ws fs cs ps : List ℕ) (vs : List ℤ) (rs : List ℕ) (h : Head) (f 
           ∙ ap₂ (λ (x : ℕ) (es : List HeldEntry). entry i first-context x ∷ es) (getD-set-same ps (n - 1) (k + 1) 0 (omega (arith, f .1, f .4)) ∙ add-one k)
           (pending-alike (n - 1) cs cs (set ps (n - 1) (k + 1)) ps (λ j l. refl) (alike-set (n - 1) ps (n - 1) (k + 1) (omega arith)))
 
-  does-take : (width binder v : ℕ) → h .position + width ≤ bits-of fs → Unbroken (take-done fs cs ps vs rs h i width binder v)
+  does-take : (width binder : ℕ) (v : ℤ) → h .position + width ≤ bits-of fs → Unbroken (take-done fs cs ps vs rs h i width binder v)
       → run-of fs (take-done fs cs ps vs rs h i width binder v) ≡ after σ (h .steps) (act-done (Act.Take width binder v))
   does-take width binder v w u =
       let c : ℕ = h .captures in

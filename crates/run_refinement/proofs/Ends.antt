@@ -119,4 +119,4 @@ module _ {ws : List ℕ} {widest : List ℤ} {weight rooms : Context → ℕ →
   counts-end n start end e = (rw e at (ends .own)) (some-counts widest ws start end (counts-answer r i n start end h e))
 
   pub set-ends : (signed : Bool) (width start end binder : ℕ) → constructAt ws i ≡ Construct.Uint signed width start end binder → end ≤ term-count ws
-  set-ends width start end binder e = (rw e at (ends .own)) (some-set widest ws start end (set-answers r i width start end binder h e))
+  set-ends signed width start end binder e = (rw e at (ends .own)) (some-set widest ws start end (set-answers r i signed width start end binder h e))

@@ -38,7 +38,7 @@ use Rattle.run_refinement.proofs.Never.{step-steady, step-unbroken}
 abbrev pub opening-head : Head
 opening-head = record { position = 0; count = 1; captures = 0; steps = 0; verdict = 0 }
 
--- what an opening gives: the arrays' first words, a frame of at most 256 bytes, and two words for each of its bits in the reading, which may
+-- what an opening gives: the arrays' first words, a frame of at most 1,024 bytes, and two words for each of its bits in the reading, which may
 -- be any words
 pub record Opening (fs cs ps rs : List ℕ) : Type 0 where
   pub short : length fs ≤ max-frame-bytes

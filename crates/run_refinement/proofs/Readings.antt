@@ -59,7 +59,7 @@ module _ (ws fs cs ps : List ℕ) (vs : List ℤ) (rs : List ℕ) (h : Head) whe
   stays : (cs′ ps′ : List ℕ) (vs′ : List ℤ) (h′ : Head) → h .captures ≡ h′ .captures → Recorded w (whole cs′ ps′ vs′ rs h′)
   stays cs′ ps′ vs′ h′ e = same-reading cs ps cs′ ps′ vs vs′ rs h h′ e
 
-  take-records : (i width binder n : ℕ) → Recorded w (take-done fs cs ps vs rs h i width binder n)
+  take-records : (i width binder : ℕ) (n : ℤ) → Recorded w (take-done fs cs ps vs rs h i width binder n)
   take-records i width binder n =
       let c : ℕ = h .captures in
       either-way (Recorded w) (leb (2 * c + 2) (length rs))

@@ -1,15 +1,16 @@
 -- What must hold of words so that no run from an opening breaks; and that then every list of terms comes to an answer.
 -- Assumes nothing.
-use Prim.Native.Nat.{ℕ, _+_, _-_, _^_, _≤_, _<_, min}
+use Prim.Native.Nat.{ℕ, _+_, _≤_, _<_, min}
 use native.Mathlib.Omega.{arith}
 use borrow.Author.Tests.{lt-ltb}
 use mathlib.Core.Path.{_≡_, sym, _∙_}
 use mathlib.Core.Bool.{Bool, true, false, _&&_}
 use mathlib.Core.List.{List}
-use lib.Dec.{eqb}
+use lib.Dec.{eqb, ltb}
 use lib.IntN.{ℤ, pos}
 use lib.ListN.{length, getD, length-replicate, getD-replicate}
-use Rattle.basis.specs.Limits.{max-variables, max-width, max-entries}
+use Rattle.basis.specs.Limits.{max-variables, max-bound-width, max-entries}
+use Rattle.basis.specs.Patterns.{greatest-size}
 use Rattle.basis.proofs.Booleans.{both-first, both-second}
 use Rattle.term_words.specs.declared.Kind.{Kind}
 use Rattle.term_evaluation.specs.declared.Counted.{Counted}
@@ -31,13 +32,17 @@ use Rattle.table_wellformed.specs.Laid.{operands-zero, second-part, construct-e
 use Rattle.table_structure.proofs.Facts.{Laid}
 use Rattle.run_actions.specs.Stored.{tests-of}
 
+-- the size of a variable at its widest, by its width and its sign
+abbrev pub variable-size : List ℕ → ℕ → ℕ
+variable-size ws x = greatest-size (ltb 0 (variable-word ws x 2)) (min max-bound-width (variable-word ws x 1))
+
 -- `widest` has the size of each variable, `weight` and `rooms` the weight and the room of each construct
 pub record Reliable (ws : List ℕ) (widest : List ℤ) (weight rooms : Context → ℕ → ℕ) : Type 0 where
   -- laid out as docs/TABLE.md says (`table_wellformed`): constructs below the count are there, and so is all that they lead to
   pub laid : Laid ws
-  -- refusal 8, "variables at their widest": 64 sizes, each the largest value of the variable's width
+  -- refusal 8, "variables at their widest": 64 sizes, each that of the variable's value that is farthest from 0
   pub variables : length widest ≡ max-variables
-  pub each-widest : (x : ℕ) → x < max-variables → getD widest x (pos 0) ≡ pos (2 ^ min max-width (variable-word ws x 1) - 1)
+  pub each-widest : (x : ℕ) → x < max-variables → getD widest x (pos 0) ≡ pos (variable-size ws x)
   -- refusal 8: no list of terms has a size past 2^62 (that none is malformed is in `laid`)
   pub conditions-within : (i : ℕ) → i < construct-count ws → construct-word ws i 6 < construct-word ws i 7
       → (at : ℕ) → sizes Kind.Condition widest (construct-word ws i 6) (terms-of ws (construct-word ws i 6) (construct-word ws i 7)) ≡ Sized.Exceeds at → ⊥
@@ -66,7 +71,7 @@ module _ {ws : List ℕ} {widest : List ℤ} {weight rooms : Context → ℕ →
         each =
             λ k l.
             let m : k < max-variables = omega (arith, r .variables) in
-            rw (getD-replicate max-variables k (pos 0) (pos 0) m) record { size = 2 ^ min max-width (variable-word ws k 1) - 1; is = r .each-widest k m; le = omega arith };
+            rw (getD-replicate max-variables k (pos 0) (pos 0) m) record { size = variable-size ws k; is = r .each-widest k m; le = omega arith };
       }
 
   -- so every list comes to an answer
@@ -85,7 +90,7 @@ module _ {ws : List ℕ} {widest : List ℤ} {weight rooms : Context → ℕ →
       counts-passes zero-values widest zero-inside (term-words ws) start end (formed-not _ f) (r .counts-within i n start end h e)
 
   pub set-answers : (i : ℕ) (signed : Bool) (width start end binder : ℕ) → i < construct-count ws → constructAt ws i ≡ Construct.Uint signed width start end binder → sizes Kind.Set widest start (terms-of ws start end) ≡ Sized.Passes
-  set-answers i width start end binder h e =
+  set-answers i signed width start end binder h e =
       let k : (named-back ws i binder && list-formed Kind.Set ws start end) ≡ true = rw e at (r .laid .kind i h) in
       let f : list-formed Kind.Set ws start end ≡ true = both-second (named-back ws i binder) (list-formed Kind.Set ws start end) k in
-      list-passes zero-values widest zero-inside Kind.Set start (terms-of ws start end) (formed-not _ f) (r .sets-within i width start end binder h e)
+      list-passes zero-values widest zero-inside Kind.Set start (terms-of ws start end) (formed-not _ f) (r .sets-within i signed width start end binder h e)

@@ -1,19 +1,19 @@
 -- Over reliable words every act is safe: it is not broken, and leads to constructs that are there and to values within their sizes.
 -- Assumes nothing.
-use Prim.Native.Nat.{ℕ, zero, suc, _+_, _*_, _-_, _^_, _≤_, _<_, min}
+use Prim.Native.Nat.{ℕ, zero, suc, _+_, _*_, _-_, _≤_, _<_, min}
 use native.Mathlib.Omega.{arith}
 use borrow.Author.Tests.{le-leb, lt-ltb, eq-eqb, ne-eqb, ltb-true}
-use mathlib.Core.Path.{_≡_, refl, _∙_, ap, subst}
+use mathlib.Core.Path.{_≡_, refl, _∙_, ap, ap₂, subst}
 use mathlib.Core.Logic.{_⊎_, inl, inr}
 use mathlib.Core.Bool.{Bool, true, false, _&&_}
 use mathlib.Core.List.{List}
 use lib.Dec.{leb, ltb, eqb}
-use lib.IntN.{ℤ, pos}
+use lib.IntN.{ℤ, pos, natAbs}
 use lib.ListN.{take, drop, getD}
-use Rattle.basis.specs.Limits.{max-constructs, max-width}
+use Rattle.basis.specs.Limits.{max-constructs, max-bound-width}
 use Rattle.basis.specs.Bits.{value, frameBits}
 use Rattle.basis.specs.Counts.{Counts, from, within}
-use Rattle.basis.proofs.Frames.{value-take-less}
+use Rattle.basis.specs.Patterns.{greatest-size}
 use Rattle.basis.proofs.Booleans.{which, either-way}
 use Rattle.term_evaluation.specs.Meaning.{membership}
 use Rattle.term_evaluation.specs.Counts.{counts, shown}
@@ -33,18 +33,18 @@ use Rattle.table_structure.proofs.RuleLaws.{rule-of, rule-within}
 use Rattle.table_structure.proofs.Owners.{rule-holds}
 use Rattle.table_structure.proofs.NodeFacts.{present, use-names, body-exists}
 use Rattle.run_actions.specs.Stored.{stored, prediction-at, follow-at}
-use Rattle.run_actions.specs.Acts.{known-values, enter, open-rule, ahead-at, bits-of, walk, by-branch, branch-act, case-test, by-case, case-act, members-act, by-lookahead, choice-act, turn-act, counted, literal-holds, by-set, construct-act, actOf}
+use Rattle.run_actions.specs.Acts.{known-values, enter, open-rule, ahead-at, bits-of, walk, by-branch, branch-act, case-test, by-case, case-act, members-act, by-lookahead, choice-act, turn-act, counted, literal-holds, kept, by-set, number-at, construct-act, actOf}
 use Rattle.run_actions.specs.declared.Act.{Act}
 use Rattle.run_refinement.proofs.Walks.{Definite}
-use Rattle.run_refinement.proofs.Widths.{binder-width}
+use Rattle.run_refinement.proofs.Widths.{binder-width, read-within}
 use Rattle.run_refinement.proofs.Reliable.{Reliable, condition-answers, counts-answer, set-answers}
 use Rattle.run_refinement.proofs.Ends.{condition-ends, counts-end, set-ends}
 use Rattle.run_refinement.proofs.Values.{condition-known, set-known, counts-known}
 
--- a binder's values: 1 + a variable whose size is at least the largest value of this width; 0 binds none
-abbrev pub Binds : List ℤ → ℕ → ℕ → Type 0
+-- a binder's values: 1 + a variable whose size is at least that of the value; 0 binds none
+abbrev pub Binds : List ℤ → ℕ → ℤ → Type 0
 Binds widest zero n = Unit {0}
-Binds widest (suc x) n = (s : ℕ) × (getD widest x (pos 0) ≡ pos s) × (n ≤ s)
+Binds widest (suc x) n = (s : ℕ) × (getD widest x (pos 0) ≡ pos s) × (natAbs n ≤ s)
 
 -- an act that is not broken and leads to constructs that are there, and to values within their sizes
 abbrev pub Safe : List ℕ → List ℤ → Act → Type 0
@@ -101,17 +101,19 @@ module _ (ws : List ℕ) (widest : List ℤ) {weight rooms : Context → ℕ →
   ends i n h e = omega (arith, rule-holds (r .laid) i h, rule-within (r .laid) (rule-of (r .laid) i h .rule) (rule-of (r .laid) i h .exists))
 
   -- a value that a binder gives is within its variable's size
-  binds-within : (i : ℕ) (signed : Bool) (width start end binder : ℕ) (n : ℕ) → i < construct-count ws → constructAt ws i ≡ Construct.Uint signed width start end binder → n < 2 ^ width → width ≤ max-width → Binds widest binder n
-  binds-within i width start end zero n h e l w = tt
-  binds-within i width start end (suc x) n h e l w =
-      let b = binder-width (r .laid) i width start end x h e in
-      let m : min max-width (variable-word ws x 1) ≡ width = omega (arith, b .width-is) in
-      (2 ^ width - 1, r .each-widest x (b .known) ∙ ap (λ (k : ℕ). pos (2 ^ k - 1)) m, (let z : n ≤ 2 ^ width - 1 = omega arith in z))
+  binds-within : (i : ℕ) (signed : Bool) (width start end binder : ℕ) → i < construct-count ws → constructAt ws i ≡ Construct.Uint signed width start end binder → (0 < binder → width ≤ max-bound-width)
+      → Binds widest binder (kept binder (number-at fs p signed width))
+  binds-within i signed width start end zero h e w = tt
+  binds-within i signed width start end (suc x) h e w =
+      let b = binder-width (r .laid) i signed width start end x h e in
+      let l : width ≤ max-bound-width = w (omega arith) in
+      let m : min max-bound-width (variable-word ws x 1) ≡ width = omega (arith, b .width-is) in
+      (greatest-size signed width, r .each-widest x (b .known) ∙ ap₂ (λ (s : Bool) (k : ℕ). pos (greatest-size s k)) (b .sign-is) m, read-within signed width (drop p (frameBits fs)))
 
   -- a binder is one of the table's variables
   binder-counted : (i : ℕ) (signed : Bool) (width start end binder : ℕ) → i < construct-count ws → constructAt ws i ≡ Construct.Uint signed width start end binder → binder ≤ variable-count ws
-  binder-counted i width start end zero h e = omega arith
-  binder-counted i width start end (suc x) h e = binder-width (r .laid) i width start end x h e .counted
+  binder-counted i signed width start end zero h e = omega arith
+  binder-counted i signed width start end (suc x) h e = binder-width (r .laid) i signed width start end x h e .counted
 
   enter-safe : (b : ℕ) → b < construct-count ws → Good (enter ws b)
   enter-safe b l = rw (lt-ltb b max-constructs (omega (arith, r .laid .counts .constructs)), lt-ltb b (construct-count ws) l) l
@@ -167,7 +169,7 @@ module _ (ws : List ℕ) (widest : List ℤ) {weight rooms : Context → ℕ →
   counts-shown i n Passes.Some h e = (from 1, refl)
   counts-shown i n (Passes.Counted start end) h e = rw (le-leb end (term-count ws) (counts-end r i h n start end e), counts-known (r .laid) vs i h n start end e) (counts-pass vs widest inside (term-words ws) start end (counts-answer r i n start end h e))
 
-  set-safe : (t : Tested) (width binder n : ℕ) → (t ≡ Tested.No) ⊎ (t ≡ Tested.Yes) → Binds widest binder n → Good (by-set t width binder n)
+  set-safe : (t : Tested) (width binder : ℕ) (n : ℤ) → (t ≡ Tested.No) ⊎ (t ≡ Tested.Yes) → Binds widest binder n → Good (by-set t width binder n)
   set-safe t width binder n (inl e) b = rw e tt
   set-safe t width binder n (inr e) b = rw e b
 
@@ -187,13 +189,12 @@ module _ (ws : List ℕ) (widest : List ℤ) {weight rooms : Context → ℕ →
       let v = value (take 8 (drop p (frameBits fs))) in
       either-way Good (leb (p + 8) (bits-of fs)) (either-way Good (leb low v && leb v high) tt tt) tt
   construct-safe i k (Construct.Uint signed width start end binder) h e =
-      let v = value (take width (drop p (frameBits fs))) in
-      let l : v < 2 ^ width = value-take-less width (drop p (frameBits fs)) in
-      let t : Tested = membership us (pos v) start (terms-of ws start end) in
-      rw (le-leb end (term-count ws) (set-ends r i h width start end binder e), le-leb binder (variable-count ws) (binder-counted i width start end binder h e))
+      let v : ℤ = number-at fs p signed width in
+      let t : Tested = membership us v start (terms-of ws start end) in
+      rw (le-leb end (term-count ws) (set-ends r i h signed width start end binder e), le-leb binder (variable-count ws) (binder-counted i signed width start end binder h e))
       (either-way Good (leb (p + width) (bits-of fs))
-      (set-safe t width binder v (rw (set-known (r .laid) vs i h width start end binder e (pos v)) (set-passes vs widest inside (pos v) start (terms-of ws start end) (set-answers r i width start end binder h e)))
-      (binds-within i width start end binder v h e l ((rw e at (fine ws i)) .2)))
+      (set-safe t width binder (kept binder v) (rw (set-known (r .laid) vs i h signed width start end binder e v) (set-passes vs widest inside v start (terms-of ws start end) (set-answers r i signed width start end binder h e)))
+      (binds-within i signed width start end binder h e ((rw e at (fine ws i)) .6)))
       tt)
   construct-safe i k Construct.Eod h e = either-way Good (eqb p (bits-of fs)) tt tt
 

@@ -47,18 +47,18 @@ there-members (Row.past l) h es t = t
 there-members (Row.part l z e r) h es t = (inr (omega arith), there-members r h es t)
 
 -- a value that is bound is within its size
-bound-inside : (widest vs : List ℤ) (binder n : ℕ) → Inside vs widest → Binds widest binder n → Inside (bound binder vs n) widest
+bound-inside : (widest vs : List ℤ) (binder : ℕ) (n : ℤ) → Inside vs widest → Binds widest binder n → Inside (bound binder vs n) widest
 bound-inside widest vs zero n h b = h
 bound-inside widest vs (suc x) n h b =
     record {
-      same = length-set vs x (pos n) ∙ h .same;
-      each = λ k l. elim (which (eqb k x)) [ inl t ↦ own k l (eqb-true k x t) | inr t ↦ rw (getD-set-other vs x k (pos n) (pos 0) (eqb-false k x t)) (h .each k l) ];
+      same = length-set vs x n ∙ h .same;
+      each = λ k l. elim (which (eqb k x)) [ inl t ↦ own k l (eqb-true k x t) | inr t ↦ rw (getD-set-other vs x k n (pos 0) (eqb-false k x t)) (h .each k l) ];
     }
   where
-    here : x < length vs → Below (getD (set vs x (pos n)) x (pos 0)) (getD widest x (pos 0))
-    here l = rw (getD-set-same vs x (pos n) (pos 0) l) record { size = b .0; is = b .1; le = b .2 }
+    here : x < length vs → Below (getD (set vs x n) x (pos 0)) (getD widest x (pos 0))
+    here l = rw (getD-set-same vs x n (pos 0) l) record { size = b .0; is = b .1; le = b .2 }
 
-    own : (k : ℕ) → k < length widest → k ≡ x → Below (getD (set vs x (pos n)) k (pos 0)) (getD widest k (pos 0))
+    own : (k : ℕ) → k < length widest → k ≡ x → Below (getD (set vs x n) k (pos 0)) (getD widest k (pos 0))
     own k l e = rw e (here (let z : x < length vs = omega (arith, h .same) in z))
 
 -- a state whose list is empty is decided

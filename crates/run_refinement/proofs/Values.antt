@@ -10,9 +10,8 @@ use mathlib.Core.Bool.{Bool, true, false, cond, _&&_}
 use mathlib.Core.List.{List, [], _∷_}
 use lib.Dec.{leb, ltb, eqb}
 use lib.IntN.{ℤ, pos}
-use lib.ListN.{length, take, drop, length-take}
+use lib.ListN.{length, take, length-take}
 use lib.Seq.{getD-take}
-use Rattle.basis.specs.Bits.{value, frameBits}
 use Rattle.basis.proofs.Booleans.{which}
 use Rattle.term_words.specs.Words.{termAt, terms}
 use Rattle.term_words.specs.Steps.{variableOf, operateOf, afterOf, operated, stepOf}
@@ -39,7 +38,7 @@ use Rattle.table_structure.proofs.Facts.{Laid}
 use Rattle.table_structure.proofs.RuleLaws.{RuleOf, rule-of, rule-fact, next-begins, last-ends}
 use Rattle.term_evaluation.proofs.Reading.{Same, membership-same, condition-same, counts-same}
 use Rattle.table_structure.proofs.Binding.{Visible, condition-reads, own-reads}
-use Rattle.run_actions.specs.Acts.{terms-in-table, binder-in-table, known-values, ahead-at, bits-of, walk, case-test, by-case, turn-act, counted, by-set, uint-act, construct-act}
+use Rattle.run_actions.specs.Acts.{terms-in-table, binder-in-table, known-values, ahead-at, bits-of, walk, case-test, by-case, turn-act, counted, kept, by-set, number-at, uint-act, construct-act}
 use Rattle.run_actions.specs.declared.Act.{Act}
 use Rattle.run_refinement.proofs.Walks.{Definite}
 
@@ -226,11 +225,11 @@ module _ (ws fs : List ℕ) (vs : List ℤ) (p i k : ℕ) where
       by true h = h
       by false h = inr refl
 
-  uint-same : (width start end binder : ℕ) → Definite (uint-act ws fs us p width start end binder) → uint-act ws fs us p width start end binder ≡ uint-act ws fs vs p width start end binder
-  uint-same width start end binder = by (terms-in-table ws end && binder-in-table ws binder) (leb (p + width) (bits-of fs)) (membership-fewer n vs (pos v) start (terms-of ws start end))
+  uint-same : (signed : Bool) (width start end binder : ℕ) → Definite (uint-act ws fs us p signed width start end binder) → uint-act ws fs us p signed width start end binder ≡ uint-act ws fs vs p signed width start end binder
+  uint-same signed width start end binder = by (terms-in-table ws end && binder-in-table ws binder) (leb (p + width) (bits-of fs)) (membership-fewer n vs (number-at fs p signed width) start (terms-of ws start end))
     where
-      v : ℕ
-      v = value (take width (drop p (frameBits fs)))
+      v : ℤ
+      v = kept binder (number-at fs p signed width)
 
       by : (a b : Bool) {x y : Tested} → Fewer Tested.Malformed x y → Definite (cond a (cond b (by-set x width binder v) Act.Fail) Act.Broken)
           → cond a (cond b (by-set x width binder v) Act.Fail) Act.Broken ≡ cond a (cond b (by-set y width binder v) Act.Fail) Act.Broken
@@ -248,7 +247,7 @@ module _ (ws fs : List ℕ) (vs : List ℤ) (p i k : ℕ) where
   act-same (Construct.Use rule) s = refl
   act-same (Construct.Literal m) s = refl
   act-same (Construct.Range low high) s = refl
-  act-same (Construct.Uint signed width start end binder) s = uint-same width start end binder s
+  act-same (Construct.Uint signed width start end binder) s = uint-same signed width start end binder s
   act-same Construct.Eod s = refl
 
 -- ---- over laid out words
@@ -275,7 +274,7 @@ module _ {ws : List ℕ} (l : Laid ws) where
         condition-same (Visible ws (o .rule) i) (known-values ws vs) vs visible-same (term-words ws) (construct-word ws i 6) (construct-word ws i 7) (condition-reads l (o .rule) i (o .exists) (o .begins) (o .ends))
 
     pub set-known : (signed : Bool) (width start end binder : ℕ) → constructAt ws i ≡ Construct.Uint signed width start end binder → (v : ℤ) → membership (known-values ws vs) v start (terms-of ws start end) ≡ membership vs v start (terms-of ws start end)
-    set-known width start end binder e v = membership-same (Visible ws (o .rule) i) (known-values ws vs) vs visible-same (term-words ws) v start end (rw e at (own-reads l (o .rule) i (o .exists) (o .begins) (o .ends)))
+    set-known signed width start end binder e v = membership-same (Visible ws (o .rule) i) (known-values ws vs) vs visible-same (term-words ws) v start end (rw e at (own-reads l (o .rule) i (o .exists) (o .begins) (o .ends)))
 
     pub counts-known : (size start end : ℕ) → constructAt ws i ≡ Construct.Repetition size (Passes.Counted start end) → counts (known-values ws vs) (term-words ws) start end ≡ counts vs (term-words ws) start end
     counts-known size start end e = counts-same (Visible ws (o .rule) i) (known-values ws vs) vs visible-same (term-words ws) start end (rw e at (own-reads l (o .rule) i (o .exists) (o .begins) (o .ends)))
