@@ -62,4 +62,7 @@ pub fn words_changed() {
     let mut table10 = [0u32; TABLE_WORDS];
     case_tables::k10(&mut table10);
     show(b"K10:", &mut table10);
+    let mut table64 = [0u32; TABLE_WORDS];
+    case_tables::wide(&mut table64);
+    show(b"wide:", &mut table64);
 }

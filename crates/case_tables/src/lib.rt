@@ -61,6 +61,11 @@ fn term(table: &mut [u32; TABLE_WORDS], t: u8, tag: u32, low: u32) {
     put(table, at + 1, low);
 }
 
+// The high half of a number.
+fn high(table: &mut [u32; TABLE_WORDS], t: u8, half: u32) {
+    put(table, 2626 + 3 * (t as usize), half);
+}
+
 // Variable 0.
 fn variable(table: &mut [u32; TABLE_WORDS], construct: u32, width: u32) {
     put(table, 320, construct);
@@ -272,4 +277,33 @@ pub fn valueless(table: &mut [u32; TABLE_WORDS]) {
     construct(table, 0, 8, 1);
     operands(table, 0, 4, 0, 1, 0);
     term(table, 0, 33, 16);
+}
+
+// `frame = sint(8, var(d, -2~2)) & uint(64, 4294967296 + d~);`
+pub fn wide(table: &mut [u32; TABLE_WORDS]) {
+    header(table, 3, 1, 8, 4);
+    variable(table, 1, 8);
+    put(table, 322, 1);
+    construct(table, 0, 2, 3);
+    construct(table, 1, 12, 1);
+    operands(table, 1, 8, 0, 4, 1);
+    construct(table, 2, 8, 1);
+    operands(table, 2, 64, 4, 8, 0);
+    term(table, 0, 1, 2);
+    term(table, 1, 6, 0);
+    term(table, 2, 1, 2);
+    term(table, 3, 8, 0);
+    term(table, 4, 1, 0);
+    high(table, 4, 1);
+    term(table, 5, 2, 0);
+    term(table, 6, 3, 0);
+    term(table, 7, 9, 0);
+}
+
+// `frame = sint(4, 8);`: 4 bits have no 8 where the first counts −8.
+pub fn valueless_sint(table: &mut [u32; TABLE_WORDS]) {
+    header(table, 1, 0, 1, 1);
+    construct(table, 0, 12, 1);
+    operands(table, 0, 4, 0, 1, 0);
+    term(table, 0, 33, 8);
 }
