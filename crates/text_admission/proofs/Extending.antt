@@ -1,28 +1,28 @@
 -- Refusal 8: where nothing is found nothing is outside its limits, and what is found stands in the text.
 -- Assumes nothing.
 use Prim.Native.Nat.{ℕ, zero, suc, _+_, _-_, _≤_, _<_, min}
-use mathlib.Core.Path.{_≡_, refl, sym, _∙_}
-use mathlib.Core.Logic.{_⊎_, inl, inr, ⊎-elim}
-use mathlib.Core.Bool.{Bool, true, false, not, _&&_, _||_}
+use mathlib.Core.Path.{_≡_, refl, sym, subst, _∙_}
+use mathlib.Core.Logic.{_⊎_, inr, ⊎-elim}
+use mathlib.Core.Bool.{Bool, true, false, cond, not, _&&_, _||_}
 use mathlib.Core.List.{List}
 use native.Mathlib.Omega.{arith}
-use borrow.Author.Tests.{eq-eqb, eqb-true, ltb-false, not-false}
-use lib.Dec.{leb, ltb, eqb}
+use borrow.Author.Tests.{eq-eqb, eqb-true, lt-ltb, not-false}
+use lib.Dec.{leb, eqb}
 use lib.ListN.{length}
-use Rattle.basis.specs.Limits.{max-text-bytes, max-width}
-use Rattle.basis.proofs.Booleans.{both-rest, either-pass, both-first}
+use Rattle.basis.specs.Limits.{max-text-bytes, max-width, max-bound-width}
+use Rattle.basis.proofs.Booleans.{both-rest, both-first}
 use Rattle.term_sizes.specs.declared.Sized.{Sized}
-use Rattle.table_layout.specs.Constructs.{constructAt}
+use Rattle.table_layout.specs.Constructs.{widest-for, constructAt}
 use Rattle.table_sizes.specs.Measures.{condition-size, own-size, exceeds, oversized}
 use Rattle.text_store.proofs.Numbers.{at-term, at-origin}
 use Rattle.text_header.proofs.Tests.{within-low, within-high}
 use Rattle.text_shapes.specs.NodeShapes.{tree, Holds, literal-tree, range-tree, use-tree, eod-tree, uint-tree, marked-tree, counted-tree, chain-tree, switch-tree}
-use Rattle.text_store.specs.Words.{term-word, kind-of, width-place, own-from, condition-from, term-tag, term-value, term-at, term-origin}
-use Rattle.text_encoding.specs.Numbers.{width-of, condition-start, own-start}
+use Rattle.text_store.specs.Words.{term-word, kind-of, width-place, own-from, condition-from, is-binder, term-origin}
+use Rattle.text_encoding.specs.Numbers.{binders-before, width-of, condition-start, own-start}
 use Rattle.text_wellformed.specs.Context.{Nodes}
 use Rattle.text_wellformed.proofs.Sums.{side}
 use Rattle.text_wellformed.proofs.Standing.{number-inside}
-use Rattle.text_admission.specs.Extents.{lesser, found-if, least-found, width-found, number-found, origin-after, list-found, node-found, refusal-8}
+use Rattle.text_admission.specs.Extents.{lesser, found-if, least-found, most-of, width-found, origin-after, list-found, node-found, refusal-8}
 use Rattle.text_admission.specs.declared.Found.{Found}
 
 never : {A : Type 0} → true ≡ false → A
@@ -58,27 +58,21 @@ either-off : (a b : Bool) → a ≡ false → b ≡ false → (a || b) ≡ true 
 either-off true b p q e = never p
 either-off false b p q e = never (sym e ∙ q)
 
-module _ (xs ns ts ws : List ℕ) (n t : ℕ) (e : refusal-8 xs ns ts ws n t ≡ Found.Nothing) where
-  parts : (least-found t 0 (number-found ts) ≡ Found.Nothing) × (least-found n 0 (node-found xs ns ts ws) ≡ Found.Nothing)
-  parts = lesser-none (least-found t 0 (number-found ts)) (least-found n 0 (node-found xs ns ts ws)) e
+-- the widest is what the decoder asks of the binder's word
+bound-widest : (binds : Bool) (x : ℕ) → cond binds max-bound-width max-width ≡ widest-for (cond binds (x + 1) 0)
+bound-widest true x = rw (lt-ltb 0 (x + 1) (omega arith)) refl
+bound-widest false x = refl
 
-  pub numbers-right : (k : ℕ) → k < t → (term-tag ts k ≡ 1) ⊎ (term-tag ts k ≡ 33) → term-value ts k < 4294967296
-  numbers-right k h z =
-      let f : number-found ts k ≡ Found.Nothing = least-none t 0 (number-found ts) (parts .0) k (omega arith) (omega arith) in
-      let g : ((eqb (term-tag ts k) 1 || eqb (term-tag ts k) 33) && ltb 4294967295 (term-value ts k)) ≡ false = if-none _ (term-at ts k) f in
-      let y : (eqb (term-tag ts k) 1 || eqb (term-tag ts k) 33) ≡ true = either-pass _ _ (⊎-elim (λ q. inl (eq-eqb (term-tag ts k) 1 q)) (λ q. inr (eq-eqb (term-tag ts k) 33 q)) z) in
-      let w : ltb 4294967295 (term-value ts k) ≡ false = both-rest _ _ y g in
-      omega (arith, ltb-false 4294967295 (term-value ts k) w)
-
+module _ (xs ns ts ws : List ℕ) (n : ℕ) (e : refusal-8 xs ns ts ws n ≡ Found.Nothing) where
   node-none : (i : ℕ) → i < n → node-found xs ns ts ws i ≡ Found.Nothing
-  node-none i h = least-none n 0 (node-found xs ns ts ws) (parts .1) i (omega arith) (omega arith)
+  node-none i h = least-none n 0 (node-found xs ns ts ws) e i (omega arith) (omega arith)
 
-  pub widths-right : (i : ℕ) → i < n → kind-of ns i ≡ 8 → (1 ≤ width-of xs ns i) × (width-of xs ns i ≤ max-width)
+  pub widths-right : (i : ℕ) → i < n → kind-of ns i ≡ 8 → (1 ≤ width-of xs ns i) × (width-of xs ns i ≤ widest-for (cond (is-binder ns i) (binders-before ns i + 1) 0))
   widths-right i h z =
       let f : width-found xs ns i ≡ Found.Nothing = lesser-none (width-found xs ns i) _ (node-none i h) .0 in
-      let g : (eqb (kind-of ns i) 8 && not (leb 1 (width-of xs ns i) && leb (width-of xs ns i) max-width)) ≡ false = if-none _ (width-place ns i) f in
-      let w : (leb 1 (width-of xs ns i) && leb (width-of xs ns i) max-width) ≡ true = not-false _ (both-rest _ _ (eq-eqb (kind-of ns i) 8 z) g) in
-      (within-low 1 (width-of xs ns i) max-width w, within-high 1 (width-of xs ns i) max-width w)
+      let g : (eqb (kind-of ns i) 8 && not (leb 1 (width-of xs ns i) && leb (width-of xs ns i) (most-of ns i))) ≡ false = if-none _ (width-place ns i) f in
+      let w : (leb 1 (width-of xs ns i) && leb (width-of xs ns i) (most-of ns i)) ≡ true = not-false _ (both-rest _ _ (eq-eqb (kind-of ns i) 8 z) g) in
+      (within-low 1 (width-of xs ns i) (most-of ns i) w, subst (λ (m : ℕ). width-of xs ns i ≤ m) (bound-widest (is-binder ns i) (binders-before ns i)) (within-high 1 (width-of xs ns i) (most-of ns i) w))
 
   pub sizes-right : (i : ℕ) → i < n → oversized ws i ≡ true → ⊥
   sizes-right i h z =
@@ -126,7 +120,7 @@ width-inside (switch-tree x a b) z = absurd (omega (arith, x .kind-is, z))
 module _ (xs ns ts ws : List ℕ) (n t : ℕ) (nodes : Nodes xs ns ts n t) (h : length xs ≤ max-text-bytes) (terms : (k w : ℕ) → (w ≡ at-term) ⊎ (w ≡ at-origin) → term-word ts k w ≤ max-text-bytes) where
   -- a width that is wrong
   abbrev wrong : ℕ → Bool
-  wrong i = not (leb 1 (width-of xs ns i) && leb (width-of xs ns i) max-width)
+  wrong i = not (leb 1 (width-of xs ns i) && leb (width-of xs ns i) (most-of ns i))
 
   node-inside : (i : ℕ) → i < n → Inside (node-found xs ns ts ws i)
   node-inside i l =
@@ -139,8 +133,5 @@ module _ (xs ns ts ws : List ℕ) (n t : ℕ) (nodes : Nodes xs ns ts n t) (h : 
       (lesser-inside (list-found ts (condition-from ns i) (condition-start ns i) (condition-size ws i)) (list-found ts (own-from ns i) (own-start ns i) (own-size ws (constructAt ws i)))
       (list-inside ts (condition-from ns i) (condition-start ns i) (condition-size ws i) (λ k. terms k at-origin (inr refl))) (list-inside ts (own-from ns i) (own-start ns i) (own-size ws (constructAt ws i)) (λ k. terms k at-origin (inr refl))))
 
-  pub found-inside : Inside (refusal-8 xs ns ts ws n t)
-  found-inside =
-      lesser-inside (least-found t 0 (number-found ts)) (least-found n 0 (node-found xs ns ts ws))
-      (least-inside t 0 (number-found ts) (λ j a b. if-inside ((eqb (term-tag ts j) 1 || eqb (term-tag ts j) 33) && ltb 4294967295 (term-value ts j)) (term-at ts j) (λ z. terms j at-term (inl refl))))
-      (least-inside n 0 (node-found xs ns ts ws) (λ j a b. node-inside j (omega arith)))
+  pub found-inside : Inside (refusal-8 xs ns ts ws n)
+  found-inside = least-inside n 0 (node-found xs ns ts ws) (λ j a b. node-inside j (omega arith))

@@ -19,11 +19,12 @@ use Rattle.table_fill.specs.Completed.{Completed}
 use Rattle.text_store.specs.Store.{State, state, nodes-of}
 use Rattle.text_wellformed.specs.Context.{Readable}
 use Rattle.text_wellformed.proofs.LaidOut.{words-by-place, laid-out}
+use Rattle.text_wellformed.proofs.StoredFacts.{numbers-of}
 use Rattle.text_admission.specs.Admitted.{words-of, Bounded}
 use Rattle.text_admission.specs.Late.{Marks, Late, LatePass, empty-body, overweight, unreached, no-value, Within}
 use Rattle.text_admission.specs.declared.Admission.{Admission}
 use Rattle.text_admission.proofs.Facts.{Facts, facts}
-use Rattle.text_admission.proofs.Extending.{numbers-right, widths-right, sizes-right}
+use Rattle.text_admission.proofs.Extending.{widths-right, sizes-right}
 
 pub readable : (xs ns ts rs : List ℕ) (n t b r : ℕ) → Bounded xs (state ns ts rs n t b r) → Facts xs (state ns ts rs n t b r) → length xs ≤ max-text-bytes → Readable xs ns ts rs n t b r
 readable xs ns ts rs n t b r p f h =
@@ -39,8 +40,8 @@ readable xs ns ts rs n t b r p f h =
       rules-limit = f .rules-limit;
       short = h;
       named = p .passed .passed .none;
-      widths = widths-right xs ns ts (words-of xs (state ns ts rs n t b r)) n t (p .none);
-      numbers = numbers-right xs ns ts (words-of xs (state ns ts rs n t b r)) n t (p .none);
+      widths = widths-right xs ns ts (words-of xs (state ns ts rs n t b r)) n (p .none);
+      numbers = numbers-of (f .shape .stored) (f .terms-limit);
     }
 
 pub count-is : (xs : List ℕ) (st : State) → Bounded xs st → length xs ≤ max-text-bytes → construct-count (words-of xs st) ≡ nodes-of st
@@ -53,7 +54,7 @@ passed-8 xs (state ns ts rs n t b r) p h =
     let f = facts xs (state ns ts rs n t b r) (p .passed .passed .passed) h in
     record {
       passed = record { laid-out = laid-out (readable xs ns ts rs n t b r p f h) (f .shape .stored) (f .basics .places); acyclic = p .passed .none };
-      sized = λ i l z. sizes-right xs ns ts (words-of xs (state ns ts rs n t b r)) n t (p .none) i (omega (arith, count-is xs (state ns ts rs n t b r) p h)) z;
+      sized = λ i l z. sizes-right xs ns ts (words-of xs (state ns ts rs n t b r)) n (p .none) i (omega (arith, count-is xs (state ns ts rs n t b r) p h)) z;
     }
 
 -- ---- the judgement's answers

@@ -48,7 +48,7 @@ abbrev pub fault-6 : List ℕ → State → ℕ
 fault-6 xs st = refusal-6 xs (node-words st) (term-words st) (rule-words st) (rules-of st)
 
 abbrev pub fault-8 : List ℕ → State → Found
-fault-8 xs st = refusal-8 xs (node-words st) (term-words st) (words-of xs st) (nodes-of st) (terms-of st)
+fault-8 xs st = refusal-8 xs (node-words st) (term-words st) (words-of xs st) (nodes-of st)
 
 -- What is read passes, up to 4 here, and each below asks for the one before it: so "1 to 11 are tried in order".
 pub record Right (xs : List ℕ) (st : State) : Type 0 where

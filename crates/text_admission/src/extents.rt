@@ -1,5 +1,6 @@
-// Refusal 8: the least place of a width, a number or a calculation outside its limits.
+// Refusal 8: the least place of a width or a calculation outside its limits.
 use crate::Found;
+use basis::MAX_BOUND_WIDTH;
 use basis::MAX_TERMS;
 use basis::MAX_VARIABLES;
 use basis::MAX_WIDTH;
@@ -8,16 +9,13 @@ use text_encoding::numbers::condition_length;
 use text_encoding::numbers::own_length;
 use text_encoding::numbers::width;
 use text_header::bytes::both;
-use text_header::bytes::either;
 use text_names::counting::min;
 use text_store::CONDITION_FROM;
 use text_store::KIND;
 use text_store::ORIGIN;
 use text_store::OWN_FROM;
-use text_store::TAG;
-use text_store::TERM_PLACE;
-use text_store::VALUE;
 use text_store::WIDTH_PLACE;
+use text_store::words::binder;
 use text_store::words::node_word;
 use text_store::words::not;
 use text_store::words::term_word;
@@ -29,7 +27,7 @@ ghost use Rattle.table_layout.specs.Constructs.{constructAt};
 ghost use Rattle.table_sizes.specs.Measures.{widest as widestOf, condition-size, own-size};
 ghost use Rattle.text_store.specs.Words.{node-word, nodes-room, terms-room};
 ghost use Rattle.text_encoding.specs.Numbers.{condition-start, own-start};
-ghost use Rattle.text_admission.specs.Extents.{lesser as lesserOf, found-if, least-found, width-found, number-found, origin-after, list-found, node-found, refusal-8};
+ghost use Rattle.text_admission.specs.Extents.{lesser as lesserOf, found-if, least-found, most-of, width-found, origin-after, list-found, node-found, refusal-8};
 
 fn lesser(a: Found, b: Found) -> Found
     ensures { λ r. ⌜ r ≡ lesserOf a b ⌝ }
@@ -52,31 +50,29 @@ fn found_if(fault: bool, p: usize) -> Found
     Found::Nothing
 }
 
+// The widest that a uint or sint may be.
+fn most(nodes: &[usize], i: usize) -> usize
+    requires { ⌜ length (now nodes) ≡ nodes-room ⌝ }
+    ensures { λ r. ⌜ r ≡ most-of (now (nodes .entry)) i ⌝ }
+{
+    if binder(nodes, i) {
+        return MAX_BOUND_WIDTH;
+    }
+    MAX_WIDTH
+}
+
 fn width_found(text: &[u8], nodes: &[usize], i: usize) -> Found
     requires { ⌜ length (now nodes) ≡ nodes-room ⌝ }
     ensures { λ r. ⌜ r ≡ width-found (now (text .entry)) (now (nodes .entry)) i ⌝ }
 {
     let w = width(text, nodes, i);
+    let m = most(nodes, i);
     found_if(
         both(
             node_word(nodes, i, KIND) == 8,
-            not(both(1 <= w, w <= MAX_WIDTH)),
+            not(both(1 <= w, w <= m)),
         ),
         node_word(nodes, i, WIDTH_PLACE),
-    )
-}
-
-fn number_found(terms: &[usize], k: usize) -> Found
-    requires { ⌜ length (now terms) ≡ terms-room ⌝ }
-    ensures { λ r. ⌜ r ≡ number-found (now (terms .entry)) k ⌝ }
-{
-    let tag = term_word(terms, k, TAG);
-    found_if(
-        both(
-            either(tag == 1, tag == 33),
-            4294967295 < term_word(terms, k, VALUE),
-        ),
-        term_word(terms, k, TERM_PLACE),
     )
 }
 
@@ -133,19 +129,6 @@ fn node_found(
     lesser(width_found(text, nodes, i), lesser(tested, own))
 }
 
-fn numbers_found(terms: &[usize], t: usize) -> Found
-    requires { ⌜ length (now terms) ≡ terms-room ⌝ }
-    ensures { λ r. ⌜ r ≡ least-found t 0 (number-found (now (terms .entry))) ⌝ }
-{
-    let mut least = Found::Nothing;
-    let mut k = 0;
-    while k < t {
-        least = lesser(least, number_found(terms, k));
-        k += 1;
-    }
-    least
-}
-
 fn nodes_found(
     text: &[u8],
     nodes: &[usize],
@@ -173,13 +156,11 @@ pub fn first_oversized(
     nodes: &[usize],
     terms: &[usize],
     n: usize,
-    t: usize,
     table: &[u32],
 ) -> Found
     requires { ⌜ (length (now nodes) ≡ nodes-room) × (length (now terms) ≡ terms-room) × (table-words ≤ length (now table)) × (n ≤ max-constructs) × (condition-start (now nodes) n ≤ max-terms) ⌝ }
-    ensures { λ r. ⌜ r ≡ refusal-8 (now (text .entry)) (now (nodes .entry)) (now (terms .entry)) (now (table .entry)) n t ⌝ }
+    ensures { λ r. ⌜ r ≡ refusal-8 (now (text .entry)) (now (nodes .entry)) (now (terms .entry)) (now (table .entry)) n ⌝ }
 {
     let widest = table_sizes::widest(table).sizes;
-    let numbers = numbers_found(terms, t);
-    lesser(numbers, nodes_found(text, nodes, terms, n, table, &widest))
+    nodes_found(text, nodes, terms, n, table, &widest)
 }

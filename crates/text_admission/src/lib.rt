@@ -155,7 +155,7 @@ fn admit_words(
     requires { ⌜ NotRecursive (now text) (state-at c (now nodes) (now terms) (now rules)) × (now words ≡ words-of (now text) (state-at c (now nodes) (now terms) (now rules))) × (length (now text) ≤ max-text-bytes) × (base ≤ max-text-bytes) × (table-words ≤ length (now table)) ⌝ }
     ensures { λ r. ⌜ AnsweredRules (now (text .entry)) base (now (table .entry)) (now (table .exit)) r ⌝ }
 {
-    match extents::first_oversized(text, nodes, terms, c.nodes, c.terms, words) {
+    match extents::first_oversized(text, nodes, terms, c.nodes, words) {
         Found::At(p) => refused(8, base, p),
         Found::Nothing => {
             let answer = judged(nodes, rules, base, words);

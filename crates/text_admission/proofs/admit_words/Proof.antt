@@ -29,7 +29,7 @@ enum-known-p c = search needs
 
 -- src/lib.rt:162:25
 refused-requires : tie.Need-refused-requires
-refused-requires c κs = (c .before .before .before .before .before .before .before .before .before .before .before .pre .3, place-8 (c .before .before .before .before .before .before .before .before .before .before .before .args .text .now) (state-at (c .before .before .before .before .before .before .before .before .before .before .before .args .c) (c .before .before .before .before .before .before .before .before .before .before .before .args .nodes .now) (c .before .before .before .before .before .before .before .before .before .before .before .args .terms .now) (c .before .before .before .before .before .before .before .before .before .before .before .args .rules .now)) (c .before .before .before .before .before .before .before .before .before .before .before .pre .2) (c .before .before .before .before .before .before .before .before .before .before .before .pre .0) _ (sym (c .before .before .before .first-oversized .ensures ∙ ap (λ (w : List ℕ). refusal-8 (c .before .before .before .before .before .before .before .before .before .before .before .args .text .now) (c .before .before .before .before .before .before .before .before .before .before .before .args .nodes .now) (c .before .before .before .before .before .before .before .before .before .before .before .args .terms .now) w (c .before .before .before .before .before .before .before .before .before .before .before .args .c .nodes) (c .before .before .before .before .before .before .before .before .before .before .before .args .c .terms)) (c .before .before .before .before .before .before .before .before .before .before .before .pre .1)) ∙ c .before .p .given .1))
+refused-requires c κs = (c .before .before .before .before .before .before .before .before .before .before .before .pre .3, place-8 (c .before .before .before .before .before .before .before .before .before .before .before .args .text .now) (state-at (c .before .before .before .before .before .before .before .before .before .before .before .args .c) (c .before .before .before .before .before .before .before .before .before .before .before .args .nodes .now) (c .before .before .before .before .before .before .before .before .before .before .before .args .terms .now) (c .before .before .before .before .before .before .before .before .before .before .before .args .rules .now)) (c .before .before .before .before .before .before .before .before .before .before .before .pre .2) (c .before .before .before .before .before .before .before .before .before .before .before .pre .0) _ (sym (c .before .before .before .first-oversized .ensures ∙ ap (λ (w : List ℕ). refusal-8 (c .before .before .before .before .before .before .before .before .before .before .before .args .text .now) (c .before .before .before .before .before .before .before .before .before .before .before .args .nodes .now) (c .before .before .before .before .before .before .before .before .before .before .before .args .terms .now) w (c .before .before .before .before .before .before .before .before .before .before .before .args .c .nodes)) (c .before .before .before .before .before .before .before .before .before .before .before .pre .1)) ∙ c .before .p .given .1))
 
 -- src/lib.rt:164:53
 enum-told : tie.Need-enum-told
@@ -37,7 +37,7 @@ enum-told c = search needs
 
 -- src/lib.rt:164:17
 judged-requires : tie.Need-judged-requires
-judged-requires c κs = let q = judgeable (c .before .before .before .before .before .before .before .before .before .before .before .args .text .now) (state-at (c .before .before .before .before .before .before .before .before .before .before .before .args .c) (c .before .before .before .before .before .before .before .before .before .before .before .args .nodes .now) (c .before .before .before .before .before .before .before .before .before .before .before .args .terms .now) (c .before .before .before .before .before .before .before .before .before .before .before .args .rules .now)) (c .before .before .before .before .before .before .before .before .before .before .before .pre .2) (c .before .before .before .before .before .before .before .before .before .before .before .args .words .now) (c .before .before .before .before .before .before .before .before .before .before .before .pre .1) (bounded (c .before .before .before .before .before .before .before .before .before .before .before .args .text .now) (state-at (c .before .before .before .before .before .before .before .before .before .before .before .args .c) (c .before .before .before .before .before .before .before .before .before .before .before .args .nodes .now) (c .before .before .before .before .before .before .before .before .before .before .before .args .terms .now) (c .before .before .before .before .before .before .before .before .before .before .before .args .rules .now)) (c .before .before .before .before .before .before .before .before .before .before .before .pre .2) (c .before .before .before .before .before .before .before .before .before .before .before .pre .0) (sym (c .before .before .before .first-oversized .ensures ∙ ap (λ (w : List ℕ). refusal-8 (c .before .before .before .before .before .before .before .before .before .before .before .args .text .now) (c .before .before .before .before .before .before .before .before .before .before .before .args .nodes .now) (c .before .before .before .before .before .before .before .before .before .before .before .args .terms .now) w (c .before .before .before .before .before .before .before .before .before .before .before .args .c .nodes) (c .before .before .before .before .before .before .before .before .before .before .before .args .c .terms)) (c .before .before .before .before .before .before .before .before .before .before .before .pre .1)) ∙ c .before .enum-told .given .1)) in (q .0, q .1, q .2, c .before .before .before .before .before .before .before .before .before .before .before .pre .3, q .3)
+judged-requires c κs = let q = judgeable (c .before .before .before .before .before .before .before .before .before .before .before .args .text .now) (state-at (c .before .before .before .before .before .before .before .before .before .before .before .args .c) (c .before .before .before .before .before .before .before .before .before .before .before .args .nodes .now) (c .before .before .before .before .before .before .before .before .before .before .before .args .terms .now) (c .before .before .before .before .before .before .before .before .before .before .before .args .rules .now)) (c .before .before .before .before .before .before .before .before .before .before .before .pre .2) (c .before .before .before .before .before .before .before .before .before .before .before .args .words .now) (c .before .before .before .before .before .before .before .before .before .before .before .pre .1) (bounded (c .before .before .before .before .before .before .before .before .before .before .before .args .text .now) (state-at (c .before .before .before .before .before .before .before .before .before .before .before .args .c) (c .before .before .before .before .before .before .before .before .before .before .before .args .nodes .now) (c .before .before .before .before .before .before .before .before .before .before .before .args .terms .now) (c .before .before .before .before .before .before .before .before .before .before .before .args .rules .now)) (c .before .before .before .before .before .before .before .before .before .before .before .pre .2) (c .before .before .before .before .before .before .before .before .before .before .before .pre .0) (sym (c .before .before .before .first-oversized .ensures ∙ ap (λ (w : List ℕ). refusal-8 (c .before .before .before .before .before .before .before .before .before .before .before .args .text .now) (c .before .before .before .before .before .before .before .before .before .before .before .args .nodes .now) (c .before .before .before .before .before .before .before .before .before .before .before .args .terms .now) w (c .before .before .before .before .before .before .before .before .before .before .before .args .c .nodes)) (c .before .before .before .before .before .before .before .before .before .before .before .pre .1)) ∙ c .before .enum-told .given .1)) in (q .0, q .1, q .2, c .before .before .before .before .before .before .before .before .before .before .before .pre .3, q .3)
 
 -- src/lib.rt:165:13
 handed-over-requires : tie.Need-handed-over-requires
@@ -49,7 +49,7 @@ same-length c = search needs
 
 -- src/lib.rt:148:1
 returns : tie.Need-returns
-returns c = subst (AnsweredRules (c .before .before .before .before .before .before .before .before .before .before .before .before .args .text .now) (c .before .before .before .before .before .before .before .before .before .before .before .before .args .base) (c .before .before .before .before .before .before .before .before .before .before .before .before .args .table .now) (c .before .before .before .before .before .before .before .before .before .before .before .before .args .table .now)) (sym (c .refused .ensures)) (by-size (c .before .before .before .before .before .before .before .before .before .before .before .before .pre .0) (sym (c .before .before .before .before .first-oversized .ensures ∙ ap (λ (w : List ℕ). refusal-8 (c .before .before .before .before .before .before .before .before .before .before .before .before .args .text .now) (c .before .before .before .before .before .before .before .before .before .before .before .before .args .nodes .now) (c .before .before .before .before .before .before .before .before .before .before .before .before .args .terms .now) w (c .before .before .before .before .before .before .before .before .before .before .before .before .args .c .nodes) (c .before .before .before .before .before .before .before .before .before .before .before .before .args .c .terms)) (c .before .before .before .before .before .before .before .before .before .before .before .before .pre .1)) ∙ c .before .before .p .given .1) refl, refl)
+returns c = subst (AnsweredRules (c .before .before .before .before .before .before .before .before .before .before .before .before .args .text .now) (c .before .before .before .before .before .before .before .before .before .before .before .before .args .base) (c .before .before .before .before .before .before .before .before .before .before .before .before .args .table .now) (c .before .before .before .before .before .before .before .before .before .before .before .before .args .table .now)) (sym (c .refused .ensures)) (by-size (c .before .before .before .before .before .before .before .before .before .before .before .before .pre .0) (sym (c .before .before .before .before .first-oversized .ensures ∙ ap (λ (w : List ℕ). refusal-8 (c .before .before .before .before .before .before .before .before .before .before .before .before .args .text .now) (c .before .before .before .before .before .before .before .before .before .before .before .before .args .nodes .now) (c .before .before .before .before .before .before .before .before .before .before .before .before .args .terms .now) w (c .before .before .before .before .before .before .before .before .before .before .before .before .args .c .nodes)) (c .before .before .before .before .before .before .before .before .before .before .before .before .pre .1)) ∙ c .before .before .p .given .1) refl, refl)
 
 -- src/lib.rt:148:1
 same-length-2 : tie.Need-same-length-2
@@ -61,7 +61,7 @@ same-length-3 c = search needs
 
 -- src/lib.rt:148:1
 returns-2 : tie.Need-returns-2
-returns-2 c = answered (c .before .before .before .before .before .before .before .before .before .before .before .before .before .before .before .before .before .before .before .args .text .now) (state-at (c .before .before .before .before .before .before .before .before .before .before .before .before .before .before .before .before .before .before .before .args .c) (c .before .before .before .before .before .before .before .before .before .before .before .before .before .before .before .before .before .before .before .args .nodes .now) (c .before .before .before .before .before .before .before .before .before .before .before .before .before .before .before .before .before .before .before .args .terms .now) (c .before .before .before .before .before .before .before .before .before .before .before .before .before .before .before .before .before .before .before .args .rules .now)) (c .before .before .before .before .before .before .before .before .before .before .before .before .before .before .before .before .before .before .before .args .base) (bounded (c .before .before .before .before .before .before .before .before .before .before .before .before .before .before .before .before .before .before .before .args .text .now) (state-at (c .before .before .before .before .before .before .before .before .before .before .before .before .before .before .before .before .before .before .before .args .c) (c .before .before .before .before .before .before .before .before .before .before .before .before .before .before .before .before .before .before .before .args .nodes .now) (c .before .before .before .before .before .before .before .before .before .before .before .before .before .before .before .before .before .before .before .args .terms .now) (c .before .before .before .before .before .before .before .before .before .before .before .before .before .before .before .before .before .before .before .args .rules .now)) (c .before .before .before .before .before .before .before .before .before .before .before .before .before .before .before .before .before .before .before .pre .2) (c .before .before .before .before .before .before .before .before .before .before .before .before .before .before .before .before .before .before .before .pre .0) (sym (c .before .before .before .before .before .before .before .before .before .before .before .first-oversized .ensures ∙ ap (λ (w : List ℕ). refusal-8 (c .before .before .before .before .before .before .before .before .before .before .before .before .before .before .before .before .before .before .before .args .text .now) (c .before .before .before .before .before .before .before .before .before .before .before .before .before .before .before .before .before .before .before .args .nodes .now) (c .before .before .before .before .before .before .before .before .before .before .before .before .before .before .before .before .before .before .before .args .terms .now) w (c .before .before .before .before .before .before .before .before .before .before .before .before .before .before .before .before .before .before .before .args .c .nodes) (c .before .before .before .before .before .before .before .before .before .before .before .before .before .before .before .before .before .before .before .args .c .terms)) (c .before .before .before .before .before .before .before .before .before .before .before .before .before .before .before .before .before .before .before .pre .1)) ∙ c .before .before .before .before .before .before .before .before .before .enum-told .given .1)) (c .before .before .before .before .before .before .before .before .before .before .before .before .before .before .before .before .before .before .before .pre .2) (c .before .before .before .before .before .before .before .before .before .before .before .before .before .before .before .before .before .before .before .args .words .now) (c .before .before .before .before .before .before .before .judged .last .1 .1 .1 .0) (c .before .before .before .before .before .before .before .before .before .before .before .before .before .before .before .before .before .before .before .args .table .now) (c .before .before .handed-over .last .1 .1 .0) (c .before .before .before .before .before .before .before .judged .result) (c .before .before .handed-over .result) (c .before .before .before .before .before .before .before .before .before .before .before .before .before .before .before .before .before .before .before .pre .1) (c .before .before .before .before .before .before .before .judged .ensures) (c .before .before .handed-over .ensures .0) (c .before .before .handed-over .ensures .1)
+returns-2 c = answered (c .before .before .before .before .before .before .before .before .before .before .before .before .before .before .before .before .before .before .before .args .text .now) (state-at (c .before .before .before .before .before .before .before .before .before .before .before .before .before .before .before .before .before .before .before .args .c) (c .before .before .before .before .before .before .before .before .before .before .before .before .before .before .before .before .before .before .before .args .nodes .now) (c .before .before .before .before .before .before .before .before .before .before .before .before .before .before .before .before .before .before .before .args .terms .now) (c .before .before .before .before .before .before .before .before .before .before .before .before .before .before .before .before .before .before .before .args .rules .now)) (c .before .before .before .before .before .before .before .before .before .before .before .before .before .before .before .before .before .before .before .args .base) (bounded (c .before .before .before .before .before .before .before .before .before .before .before .before .before .before .before .before .before .before .before .args .text .now) (state-at (c .before .before .before .before .before .before .before .before .before .before .before .before .before .before .before .before .before .before .before .args .c) (c .before .before .before .before .before .before .before .before .before .before .before .before .before .before .before .before .before .before .before .args .nodes .now) (c .before .before .before .before .before .before .before .before .before .before .before .before .before .before .before .before .before .before .before .args .terms .now) (c .before .before .before .before .before .before .before .before .before .before .before .before .before .before .before .before .before .before .before .args .rules .now)) (c .before .before .before .before .before .before .before .before .before .before .before .before .before .before .before .before .before .before .before .pre .2) (c .before .before .before .before .before .before .before .before .before .before .before .before .before .before .before .before .before .before .before .pre .0) (sym (c .before .before .before .before .before .before .before .before .before .before .before .first-oversized .ensures ∙ ap (λ (w : List ℕ). refusal-8 (c .before .before .before .before .before .before .before .before .before .before .before .before .before .before .before .before .before .before .before .args .text .now) (c .before .before .before .before .before .before .before .before .before .before .before .before .before .before .before .before .before .before .before .args .nodes .now) (c .before .before .before .before .before .before .before .before .before .before .before .before .before .before .before .before .before .before .before .args .terms .now) w (c .before .before .before .before .before .before .before .before .before .before .before .before .before .before .before .before .before .before .before .args .c .nodes)) (c .before .before .before .before .before .before .before .before .before .before .before .before .before .before .before .before .before .before .before .pre .1)) ∙ c .before .before .before .before .before .before .before .before .before .enum-told .given .1)) (c .before .before .before .before .before .before .before .before .before .before .before .before .before .before .before .before .before .before .before .pre .2) (c .before .before .before .before .before .before .before .before .before .before .before .before .before .before .before .before .before .before .before .args .words .now) (c .before .before .before .before .before .before .before .judged .last .1 .1 .1 .0) (c .before .before .before .before .before .before .before .before .before .before .before .before .before .before .before .before .before .before .before .args .table .now) (c .before .before .handed-over .last .1 .1 .0) (c .before .before .before .before .before .before .before .judged .result) (c .before .before .handed-over .result) (c .before .before .before .before .before .before .before .before .before .before .before .before .before .before .before .before .before .before .before .pre .1) (c .before .before .before .before .before .before .before .judged .ensures) (c .before .before .handed-over .ensures .0) (c .before .before .handed-over .ensures .1)
 
 pub admit-words-spec : {M : Type 1} → statement M
 admit-words-spec =

@@ -6,6 +6,9 @@ use Rattle.text_admission.proofs.extents.width_found.Tie as tie
 width-requires : tie.Need-width-requires
 width-requires c κs = search needs
 
+most-requires : tie.Need-most-requires
+most-requires c κs = search needs
+
 node-word-requires : tie.Need-node-word-requires
 node-word-requires c κs = search needs
 
@@ -25,13 +28,14 @@ found-if-requires : tie.Need-found-if-requires
 found-if-requires c κs = search needs
 
 returns : tie.Need-returns
-returns c = simp (c .found-if .ensures, c .before .node-word2 .ensures, c .before .before .both2 .ensures, c .before .before .before .not .ensures, c .before .before .before .before .both .ensures, c .before .before .before .before .before .node-word .ensures, c .before .before .before .before .before .before .width .ensures)
+returns c = simp (c .found-if .ensures, c .before .node-word2 .ensures, c .before .before .both2 .ensures, c .before .before .before .not .ensures, c .before .before .before .before .both .ensures, c .before .before .before .before .before .node-word .ensures, c .before .before .before .before .before .before .most .ensures, c .before .before .before .before .before .before .before .width .ensures)
 
 pub width-found-spec : {M : Type 1} → statement M
 width-found-spec =
     tie.close
     (tie.spec
     width-requires
+    most-requires
     node-word-requires
     both-requires
     not-requires
