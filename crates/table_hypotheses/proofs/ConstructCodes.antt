@@ -2,17 +2,17 @@
 -- Assumes nothing.
 use Prim.Native.Nat.{ℕ, zero, suc, _+_, _*_, _≤_, _<_}
 use mathlib.Core.Path.{_≡_, refl, sym, _∙_}
-use mathlib.Core.Bool.{true, false, _&&_}
+use mathlib.Core.Bool.{Bool, true, false, _&&_}
 use mathlib.Core.List.{List, [], _∷_}
 use native.Mathlib.Omega.{arith}
 use native.Mathlib.Decide.{decLt}
 use borrow.Author.Tests.{leb-true, eqb-true, eqb-false}
 use lib.Dec.{leb, ltb, eqb}
 use lib.ListN.{length, getD, List·getD-eq-default}
-use Rattle.basis.specs.Limits.{max-rules, max-constructs, max-variables, max-literal-bytes, max-width}
+use Rattle.basis.specs.Limits.{max-rules, max-constructs, max-variables, max-literal-bytes}
 use Rattle.basis.proofs.Booleans.{both-first, both-second, picked}
 use Rattle.table_layout.specs.Places.{word, constructs-at, rule-count, construct-word}
-use Rattle.table_layout.specs.Constructs.{branches, listed, repetitionOf, innerOf, leafOf, constructOf, constructAt}
+use Rattle.table_layout.specs.Constructs.{branches, listed, repetitionOf, innerOf, widest-for, uintOf, leafOf, constructOf, constructAt}
 use Rattle.table_layout.specs.declared.Construct.{Construct}
 use Rattle.table_layout.specs.declared.Passes.{Passes}
 use Rattle.table_wellformed.specs.Lists.{counts-formed}
@@ -32,8 +32,14 @@ code (Construct.Switch size) = 4 ∷ size ∷ []
 code (Construct.Use rule) = 5 ∷ 1 ∷ rule ∷ []
 code (Construct.Literal length) = 6 ∷ 1 ∷ length ∷ []
 code (Construct.Range low high) = 7 ∷ 1 ∷ low ∷ high ∷ []
-code (Construct.Uint signed width start end binder) = 8 ∷ 1 ∷ width ∷ start ∷ end ∷ binder ∷ []
+code (Construct.Uint false width start end binder) = 8 ∷ 1 ∷ width ∷ start ∷ end ∷ binder ∷ []
+code (Construct.Uint true width start end binder) = 12 ∷ 1 ∷ width ∷ start ∷ end ∷ binder ∷ []
 code Construct.Eod = 9 ∷ 1 ∷ []
+
+-- the kind of a uint, and of a sint
+abbrev uint-kind : Bool → ℕ
+uint-kind false = 8
+uint-kind true = 12
 
 -- what holds of 0 to 5
 pub one-of-six : (P : ℕ → Type 0) → P 0 → P 1 → P 2 → P 3 → P 4 → P 5 → (k : ℕ) → k < 6 → P k
@@ -77,14 +83,18 @@ module _ (i kind size a b c d : ℕ) where
       let past : (n : ℕ) → n ≤ kind → eqb kind n ≡ false → n + 1 ≤ kind = λ n l e. lt-of-ne n kind l (λ s. eqb-false kind n e (sym s)) in
       (omega (arith, past 3 (past 2 (past 1 low one) two) three), (refl, tt)))))
 
+  uint-says : (signed : Bool) → kind ≡ uint-kind signed → size ≡ 1 → Says (uintOf signed a b c d)
+  uint-says false k s = picked Says ((leb 1 a && leb a (widest-for d)) && (listed b c && leb d max-variables)) (λ t. (k, (s, (refl, (refl, (refl, (refl, tt))))))) (λ t. tt)
+  uint-says true k s = picked Says ((leb 1 a && leb a (widest-for d)) && (listed b c && leb d max-variables)) (λ t. (k, (s, (refl, (refl, (refl, (refl, tt))))))) (λ t. tt)
+
   leaf-says : size ≡ 1 → Says (leafOf kind a b c d)
   leaf-says s =
       picked Says (eqb kind 5) (λ e. picked Says (ltb a max-rules) (λ t. (eqb-true kind 5 e, (s, (refl, tt)))) (λ t. tt)) (λ e.
       picked Says (eqb kind 6) (λ e. picked Says (leb 1 a && leb a max-literal-bytes) (λ t. (eqb-true kind 6 e, (s, (refl, tt)))) (λ t. tt)) (λ e.
       picked Says (eqb kind 7) (λ e. picked Says (ltb a 128 && ltb b 128) (λ t. (eqb-true kind 7 e, (s, (refl, (refl, tt))))) (λ t. tt)) (λ e.
-      picked Says (eqb kind 8)
-      (λ e. picked Says ((leb 1 a && leb a max-width) && (listed b c && leb d max-variables)) (λ t. (eqb-true kind 8 e, (s, (refl, (refl, (refl, (refl, tt))))))) (λ t. tt))
-      (λ e. picked Says (eqb kind 9) (λ e. (eqb-true kind 9 e, (s, tt))) (λ t. tt)))))
+      picked Says (eqb kind 8) (λ e. uint-says false (eqb-true kind 8 e) s) (λ e.
+      picked Says (eqb kind 9) (λ e. (eqb-true kind 9 e, (s, tt))) (λ e.
+      picked Says (eqb kind 12) (λ e. uint-says true (eqb-true kind 12 e) s) (λ t. tt))))))
 
   says : Says (constructOf i kind size a b c d)
   unfolding constructOf
@@ -130,7 +140,8 @@ module _ (ws : List ℕ) (i : ℕ) where
   zero-past (Construct.Use rule) h k = zeros-from 3 (both-second (ltb rule (rule-count ws)) (operands-zero ws i 3) h) k
   zero-past (Construct.Literal n) h k = zeros-from 3 h k
   zero-past (Construct.Range low high) h k = zeros-from 4 h k
-  zero-past (Construct.Uint signed width start end binder) h k = λ low high. absurd (omega arith)
+  zero-past (Construct.Uint false width start end binder) h k = λ low high. absurd (omega arith)
+  zero-past (Construct.Uint true width start end binder) h k = λ low high. absurd (omega arith)
   zero-past Construct.Eod h k = zeros-from 2 h k
 
   pub coded : kind-laid ws i (constructAt ws i) ≡ true → (k : ℕ) → k < 6 → construct-word ws i k ≡ getD (code (constructAt ws i)) k 0

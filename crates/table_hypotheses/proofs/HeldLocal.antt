@@ -13,7 +13,7 @@ use lib.IntN.{pos}
 use lib.ListN.{length, drop, replicate, length-take, length-drop}
 use lib.Seq.{ext-getD, getD-take, getD-drop}
 use Rattle.basis.specs.Limits.{max-rules, max-constructs, max-variables, max-terms, max-literal-bytes}
-use Rattle.basis.specs.Bits.{value}
+use Rattle.basis.specs.Patterns.{pattern-value}
 use Rattle.basis.specs.Counts.{zero-or-more}
 use Rattle.basis.proofs.Booleans.{which}
 use Rattle.term_words.specs.Words.{termAt, terms}
@@ -151,9 +151,9 @@ module _ {ws ws′ : List ℕ} (a : Alike ws ws′) where
   node-same i (Construct.Range low high) f = refl
   node-same i (Construct.Uint signed width start end binder) f =
       ap (λ (w : List ℕ).
-      field (λ bits. width) (λ c v bits. isYes (membership v (pos (value bits)) start (terms w start end)))
-      (λ bits. cond (hasVariable (terms w start end)) true (isYes (membership [] (pos (value bits)) start (terms w start end))))
-      (λ c v bits. bound binder v (value bits))) terms-same
+      field (λ bits. width) (λ c v bits. isYes (membership v (pattern-value signed bits) start (terms w start end)))
+      (λ bits. cond (hasVariable (terms w start end)) true (isYes (membership [] (pattern-value signed bits) start (terms w start end))))
+      (λ c v bits. bound binder v (pattern-value signed bits))) terms-same
   node-same i Construct.Eod f = refl
 
   pub held-local : held ws ≡ held ws′

@@ -68,7 +68,7 @@ module _ {ws ws′ : List ℕ} (g : SameGrammar ws ws′) (l : Laid ws) (l′ : 
   inside (Operands.counts size start end) e k b = absurd (omega arith)
   inside (Operands.characters n) e k b =
       sym (byte-of ws i 0 k n k b (omega arith)) ∙ ap (λ (xs : List ℕ). getD xs k 0) (g .literal i n h e) ∙ byte-of ws′ i 0 k n k b (omega arith)
-  inside (Operands.set width start end binder) e k b = absurd (omega arith)
+  inside (Operands.set signed width start end binder) e k b = absurd (omega arith)
   inside (Operands.plain p) e k b = absurd (omega (arith, p .length))
 
   same-byte : (k : ℕ) → k < max-literal-bytes → literal-byte ws i k ≡ literal-byte ws′ i k

@@ -12,17 +12,20 @@ use lib.Dec.{eqb}
 use lib.ListN.{getD}
 use Rattle.basis.proofs.Booleans.{both-first, both-second}
 use Rattle.table_layout.specs.Places.{word, table-words, rules-at, variables-at, constructs-at, terms-at, literals-at, sets-at, rule-count, construct-count, variable-count, term-count, rule-word, variable-word, construct-word}
+use Rattle.table_layout.specs.Constructs.{constructAt}
 use Rattle.table_layout.specs.declared.Construct.{Construct}
 use Rattle.table_wellformed.specs.Checks.{all-zero}
+use Rattle.table_wellformed.specs.Rules.{sign-word}
 use Rattle.table_structure.proofs.Facts.{Laid, each, lt-of-ne}
 use Rattle.table_structure.proofs.RuleLaws.{rule-fact}
-use Rattle.table_structure.proofs.Binding.{variable-of, bound-in}
+use Rattle.table_structure.proofs.NodeFacts.{missing-past}
+use Rattle.table_structure.proofs.Binding.{Bound, members-of, variable-of, bound-in}
 use Rattle.table_judge.specs.Sound.{Sound}
 use Rattle.table_hypotheses.specs.OneTable.{Alike, SameGrammar, OneTable}
 use Rattle.table_hypotheses.proofs.Hypothesis.{laid-of-sound}
 use Rattle.table_hypotheses.proofs.SameSets.{alike-equal}
 use Rattle.table_hypotheses.proofs.ConstructCodes.{code, one-of-six, coded}
-use Rattle.table_hypotheses.proofs.TermCodes.{tag-of, low-of}
+use Rattle.table_hypotheses.proofs.TermCodes.{tag-of, low-of, high-of}
 use Rattle.table_hypotheses.proofs.TermLists.{tag-said, low-said, high-said}
 use Rattle.table_hypotheses.proofs.LiteralCodes.{same-literal}
 
@@ -58,11 +61,12 @@ rest-of {ws} l =
       literals = both-first Y S (both-second (C && T) (Y && S) back);
     }
 
--- a variable's last two words
-variable-unused : {ws : List ℕ} → Laid ws → (x k : ℕ) → x < variable-count ws → 2 ≤ k → k < 4 → variable-word ws x k ≡ 0
-variable-unused {ws} l x k h low high =
-    let r = variable-of l x h in
-    zero-at ws (variables-at + 4 * x + 2) (variables-at + 4 * x + 4) (bound-in l (r .rule) x (r .exists) (r .begins) (r .ends) .unused) (variables-at + 4 * x + k) (omega arith) (omega arith)
+-- a variable's last two words: its binder's sign, and none
+bound-by : {ws : List ℕ} (l : Laid ws) (x : ℕ) (h : x < variable-count ws) → Bound ws (members-of ws (variable-of l x h .rule)) x
+bound-by l x h = let r = variable-of l x h in bound-in l (r .rule) x (r .exists) (r .begins) (r .ends)
+
+variable-unused : {ws : List ℕ} → Laid ws → (x : ℕ) → x < variable-count ws → variable-word ws x 3 ≡ 0
+variable-unused {ws} l x h = zero-at ws (variables-at + 4 * x + 3) (variables-at + 4 * x + 4) (bound-by l x h .unused) (variables-at + 4 * x + 3) (omega arith) (omega arith)
 
 -- ---- word by word
 
@@ -100,12 +104,21 @@ module _ {ws ws′ : List ℕ} (s : Sound ws) (s′ : Sound ws′) (fits : (k : 
       one-of-six (λ k. k < 4 → rule-word ws r k ≡ rule-word ws′ r k) (λ b. g .rule r h .0) (λ b. g .rule r h .1) (λ b. g .rule r h .2)
       (λ b. rule-fact l r h .unused ∙ sym (rule-fact l′ r (omega (arith, g .rules)) .unused)) (λ b. absurd (omega arith)) (λ b. absurd (omega arith))
 
+  -- past the counts none of both has a construct
+  each-construct : (i : ℕ) → constructAt ws i ≡ constructAt ws′ i
+  each-construct i =
+      elim (decLt i (construct-count ws)) [
+        | yes h ↦ g .construct i h
+        | no h ↦ missing-past l i (omega arith) ∙ sym (missing-past l′ i (omega (arith, g .constructs)))
+      ]
+
   variable-word-same : (x : ℕ) → x < variable-count ws → (k : ℕ) → k < 6 → k < 4 → variable-word ws x k ≡ variable-word ws′ x k
   variable-word-same x h =
-      let unused : (k : ℕ) → 2 ≤ k → k < 4 → variable-word ws x k ≡ variable-word ws′ x k =
-      λ k low high. variable-unused l x k h low high ∙ sym (variable-unused l′ x k (omega (arith, g .variables)) low high) in
+      let h′ : x < variable-count ws′ = omega (arith, g .variables) in
+      let signs : sign-word (constructAt ws (variable-word ws x 0)) ≡ sign-word (constructAt ws′ (variable-word ws′ x 0)) =
+      ap sign-word (each-construct (variable-word ws x 0)) ∙ ap (λ (i : ℕ). sign-word (constructAt ws′ i)) (g .variable x h .0) in
       one-of-six (λ k. k < 4 → variable-word ws x k ≡ variable-word ws′ x k) (λ b. g .variable x h .0) (λ b. g .variable x h .1)
-      (λ b. unused 2 (omega arith) b) (λ b. unused 3 (omega arith) b) (λ b. absurd (omega arith)) (λ b. absurd (omega arith))
+      (λ b. bound-by l x h .sign ∙ signs ∙ sym (bound-by l′ x h′ .sign)) (λ b. variable-unused l x h ∙ sym (variable-unused l′ x h′)) (λ b. absurd (omega arith)) (λ b. absurd (omega arith))
 
   construct-word-same : (i : ℕ) → i < construct-count ws → (k : ℕ) → k < 8 → construct-word ws i k ≡ construct-word ws′ i k
   construct-word-same i h k b =
@@ -126,10 +139,10 @@ module _ {ws ws′ : List ℕ} (s : Sound ws) (s′ : Sound ws′) (fits : (k : 
   term-word-same : (j : ℕ) → j < term-count ws → (k : ℕ) → k < 6 → k < 3 → Same (terms-at + 3 * j + k)
   term-word-same j h =
       let there : j < term-count ws′ = omega (arith, g .terms) in
-      let tag : Same (terms-at + 3 * j) = tag-said s j h ∙ ap tag-of (g .term j h) ∙ sym (tag-said s′ j there) in
+      let tag : Same (terms-at + 3 * j) = tag-said s fits j h ∙ ap tag-of (g .term j h) ∙ sym (tag-said s′ fits′ j there) in
       let first : terms-at + 3 * j ≡ terms-at + 3 * j + 0 = omega arith in
       one-of-six (λ k. k < 3 → Same (terms-at + 3 * j + k)) (λ b. subst Same first tag)
-      (λ b. low-said s j h ∙ ap low-of (g .term j h) ∙ sym (low-said s′ j there)) (λ b. high-said s j h ∙ sym (high-said s′ j there))
+      (λ b. low-said s fits j h ∙ ap low-of (g .term j h) ∙ sym (low-said s′ fits′ j there)) (λ b. high-said s fits j h ∙ ap high-of (g .term j h) ∙ sym (high-said s′ fits′ j there))
       (λ b. absurd (omega arith)) (λ b. absurd (omega arith)) (λ b. absurd (omega arith))
 
   below-sets : (k : ℕ) → k < sets-at → (k ≡ 5 → ⊥) → Same k

@@ -7,8 +7,8 @@ use mathlib.Core.Bool.{cond, _||_}
 use mathlib.Core.List.{List, [], _∷_}
 use native.Mathlib.Omega.{arith}
 use lib.Dec.{ltb}
-use lib.IntN.{pos}
 use Rattle.basis.specs.Limits.{max-constructs, max-variables}
+use Rattle.basis.specs.Patterns.{pattern-value}
 use Rattle.term_words.specs.Words.{terms}
 use Rattle.term_words.specs.declared.Kind.{Kind}
 use Rattle.term_evaluation.specs.Meaning.{membership}
@@ -70,7 +70,7 @@ module _ {ws ws′ : List ℕ} (a : Alike ws ws′) where
   widest-same : (n x : ℕ) → x + n ≤ max-variables → widest-from n ws x ≡ widest-from n ws′ x
   unfolding widest-from
   widest-same zero x h = refl
-  widest-same (suc n) x h = λ t. largest (variable-words a x 1 (omega arith) (omega arith) t) ∷ widest-same n (x + 1) (omega arith) t
+  widest-same (suc n) x h = λ t. largest (variable-words a x 1 (omega arith) (omega arith) t) (variable-words a x 2 (omega arith) (omega arith) t) ∷ widest-same n (x + 1) (omega arith) t
 
   pub widest-local : widest ws ≡ widest ws′
   widest-local = widest-same max-variables 0 (omega arith)
@@ -109,13 +109,14 @@ module _ {ws ws′ : List ℕ} (a : Alike ws ws′) where
   valued-local none i n =
       none i
       (record {
+        signed = n .signed;
         width = n .width;
         start = n .start;
         end = n .end;
         binder = n .binder;
         is-uint = constructs-same a i ∙ n .is-uint;
         no-variable = ap (λ (w : List ℕ). hasVariable (terms w (n .start) (n .end))) (terms-same a) ∙ n .no-variable;
-        none-left = λ v h. ap (λ (w : List ℕ). isYes (membership [] (pos v) (n .start) (terms w (n .start) (n .end)))) (terms-same a) ∙ n .none-left v h;
+        none-left = λ v h. ap (λ (w : List ℕ). isYes (membership [] (pattern-value (n .signed) v) (n .start) (terms w (n .start) (n .end)))) (terms-same a) ∙ n .none-left v h;
       })
 
   -- ---- 5 to 10

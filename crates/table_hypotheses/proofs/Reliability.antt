@@ -33,10 +33,10 @@ use Rattle.table_hypotheses.proofs.Hypothesis.{laid-of-sound, hypothese
 
 -- ---- refusal 8
 
-widest-each : (n : ℕ) (ws : List ℕ) (x k y : ℕ) → k < n → x + k ≡ y → getD (widest-from n ws x) k (pos 0) ≡ largest (variable-word ws y 1)
+widest-each : (n : ℕ) (ws : List ℕ) (x k y : ℕ) → k < n → x + k ≡ y → getD (widest-from n ws x) k (pos 0) ≡ largest (variable-word ws y 1) (variable-word ws y 2)
 unfolding widest-from
 widest-each zero ws x k y h e = absurd (omega arith)
-widest-each (suc n) ws x zero y h e = ap (λ (z : ℕ). largest (variable-word ws z 1)) (let f : x ≡ y = omega arith in f)
+widest-each (suc n) ws x zero y h e = ap (λ (z : ℕ). largest (variable-word ws z 1) (variable-word ws z 2)) (let f : x ≡ y = omega arith in f)
 widest-each (suc n) ws x (suc k) y h e = widest-each n ws (x + 1) k y (omega arith) (omega arith)
 
 module _ (ws : List ℕ) (within : (i : ℕ) → i < construct-count ws → oversized ws i ≡ true → ⊥) where
@@ -83,7 +83,7 @@ module _ {ws : List ℕ} (s : Sound ws) where
         each-widest = λ x h. widest-each max-variables ws 0 x x h (omega arith);
         conditions-within = condition-within ws (s .passed .passed .passed .sized);
         counts-within = λ i n start end h e. own-within ws (s .passed .passed .passed .sized) i h (Construct.Repetition n (Passes.Counted start end)) e;
-        sets-within = λ i width start end binder h e. own-within ws (s .passed .passed .passed .sized) i h (Construct.Uint signed width start end binder) e;
+        sets-within = λ i signed width start end binder h e. own-within ws (s .passed .passed .passed .sized) i h (Construct.Uint signed width start end binder) e;
         weighs = outweighs;
         weight-stored = omega (arith, weight-stored);
         has-room = housed;

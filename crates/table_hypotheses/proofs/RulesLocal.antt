@@ -20,8 +20,8 @@ use Rattle.table_layout.specs.Held.{term-words}
 use Rattle.table_layout.specs.declared.Construct.{Construct}
 use Rattle.table_wellformed.specs.Checks.{limited, from-to, all-zero, size-at}
 use Rattle.table_wellformed.specs.Parts.{unconditioned}
-use Rattle.table_wellformed.specs.Lists.{own-start, own-end, begins, after, lists-begin, after-lists, lists-from, lists-laid, has-low, term-laid}
-use Rattle.table_wellformed.specs.Rules.{body, rule-end, rule-laid, binder-of, variable-laid, member-laid, next-variable, binders-from, is-concatenation, binders-laid, visible, operation-named, term-named, list-named, construct-named, uses-laid}
+use Rattle.table_wellformed.specs.Lists.{own-start, own-end, begins, after, lists-begin, after-lists, lists-from, lists-laid, has-low, has-high, term-laid}
+use Rattle.table_wellformed.specs.Rules.{body, rule-end, rule-laid, binder-of, sign-word, variable-laid, member-laid, next-variable, binders-from, is-concatenation, binders-laid, visible, operation-named, term-named, list-named, construct-named, uses-laid}
 use Rattle.table_wellformed.specs.Laid.{headed, construct-laid, placed, laid}
 use Rattle.table_layout.proofs.Bounds.{bounds}
 use Rattle.table_structure.proofs.Facts.{Laid, facts}
@@ -72,7 +72,7 @@ module _ {ws ws′ : List ℕ} (a : Alike ws ws′) where
       let tag : word ws (terms-at + 3 * k) ≡ word ws′ (terms-at + 3 * k) = a .same (terms-at + 3 * k) (omega arith) (λ e. omega arith) in
       let low : word ws (terms-at + 3 * k + 1) ≡ word ws′ (terms-at + 3 * k + 1) = a .same (terms-at + 3 * k + 1) (omega arith) (λ e. omega arith) in
       let high : word ws (terms-at + 3 * k + 2) ≡ word ws′ (terms-at + 3 * k + 2) = a .same (terms-at + 3 * k + 2) (omega arith) (λ e. omega arith) in
-      λ t. (has-low (tag t) || eqb (low t) 0) && eqb (high t) 0
+      λ t. (has-low (tag t) || eqb (low t) 0) && (has-high (tag t) || eqb (high t) 0)
 
   -- ---- binders
 
@@ -83,8 +83,9 @@ module _ {ws ws′ : List ℕ} (a : Alike ws ws′) where
             let small = binder-small ws j x (eqb-true (binder-of (constructAt ws j)) (x + 1) s) in
             let place = variable-words a x 0 (small .1) (omega arith) in
             let width = variable-words a x 1 (small .1) (omega arith) in
-            let zeros = zeros-same a (variables-at + 4 * x + 2) (variables-at + 4 * x + 4) (omega arith) (omega (arith, small .1)) in
-            λ t. (eqb (binder-of (constructs-same a j t)) (x + 1) && eqb (place t) j) && (eqb (width t) (construct-words a j 2 (small .0) (omega arith) t) && zeros t)
+            let sign = variable-words a x 2 (small .1) (omega arith) in
+            let zeros = zeros-same a (variables-at + 4 * x + 3) (variables-at + 4 * x + 4) (omega arith) (omega (arith, small .1)) in
+            λ t. (eqb (binder-of (constructs-same a j t)) (x + 1) && eqb (place t) j) && ((eqb (width t) (construct-words a j 2 (small .0) (omega arith) t) && eqb (sign t) (sign-word (constructs-same a j t))) && zeros t)
         | inr s ↦ rw (s, ap (λ (c : Construct). eqb (binder-of c) (x + 1)) (sym (constructs-same a j)) ∙ s) refl
       ]
 

@@ -1,6 +1,6 @@
 -- Every term of a sound table stands in a list, so its words are those of the term.
 -- Assumes nothing.
-use Prim.Native.Nat.{ℕ, zero, suc, _+_, _*_, _/_, _≤_, _<_}
+use Prim.Native.Nat.{ℕ, zero, suc, _+_, _*_, _/_, _^_, _≤_, _<_}
 use mathlib.Core.Path.{_≡_, refl, subst, ap, _∙_}
 use mathlib.Core.Logic.{_⊎_, inl, inr}
 use mathlib.Core.Bool.{Bool, true, false, _||_}
@@ -20,7 +20,7 @@ use Rattle.table_layout.specs.Held.{term-words}
 use Rattle.table_layout.specs.declared.Construct.{Construct}
 use Rattle.table_layout.specs.declared.OwnList.{OwnList}
 use Rattle.table_layout.proofs.Views.{Operands, operands}
-use Rattle.table_wellformed.specs.Lists.{list-end, own-start, own-end, begins, after, after-condition, lists-begin, after-lists, lists-from, has-low}
+use Rattle.table_wellformed.specs.Lists.{list-end, own-start, own-end, begins, after, after-condition, lists-begin, after-lists, lists-from, has-low, has-high}
 use Rattle.table_weights.proofs.Heights.{weight-at}
 use Rattle.table_weights.proofs.Rooms.{rooms}
 use Rattle.table_sizes.specs.Measures.{widest}
@@ -28,7 +28,7 @@ use Rattle.run_refinement.proofs.Reliable.{Reliable, condition-answers, counts-
 use Rattle.table_judge.specs.Sound.{Sound}
 use Rattle.table_hypotheses.proofs.Hypothesis.{laid-of-sound}
 use Rattle.table_hypotheses.proofs.Reliability.{reliable}
-use Rattle.table_hypotheses.proofs.TermCodes.{tag-of, low-of, term-says}
+use Rattle.table_hypotheses.proofs.TermCodes.{tag-of, low-of, high-of, term-says}
 use Rattle.table_hypotheses.proofs.KnownTerms.{list-known, counts-known}
 use Rattle.term_words.proofs.KnownTerms.{KnownTerm}
 
@@ -80,8 +80,8 @@ module _ {ws : List ℕ} (s : Sound ws) where
   own-known i h (Operands.counts size start end) e j low high =
       counts-known (widest ws) (term-words ws) start end (omega arith) (counts-answer sure i size start end h e) j low high
   own-known i h (Operands.characters n) e j low high = absurd (omega arith)
-  own-known i h (Operands.set width start end binder) e j low high =
-      list-known _ (widest ws) (term-words ws) start end (set-answers sure i width start end binder h e) j low high
+  own-known i h (Operands.set signed width start end binder) e j low high =
+      list-known _ (widest ws) (term-words ws) start end (set-answers sure i signed width start end binder h e) j low high
   own-known i h (Operands.plain p) e j low high =
       let l : j < 0 = subst (λ (o : OwnList). j < list-end o) (p .own) high in absurd (omega arith)
 
@@ -91,7 +91,7 @@ module _ {ws : List ℕ} (s : Sound ws) where
 
   -- ---- the three words of a term
 
-  module _ (j : ℕ) (h : j < term-count ws) where
+  module _ (fits : (k : ℕ) → word ws k < 2 ^ 32) (j : ℕ) (h : j < term-count ws) where
     abbrev tag : ℕ
     tag = word ws (terms-at + 3 * j)
 
@@ -107,21 +107,19 @@ module _ {ws : List ℕ} (s : Sound ws) where
     few : j < max-terms
     few = omega (arith, laid-of-sound s .counts .terms)
 
-    no-high : high ≡ 0
-    no-high = eqb-true high 0 (both-second (has-low tag || eqb low 0) (eqb high 0) (laid-of-sound s .term j h))
-
-    decoded : termAt (term-words ws) j ≡ termOf tag low 0
+    decoded : termAt (term-words ws) j ≡ termOf tag low high
     unfolding termAt
     decoded =
         let n : length (term-words ws) ≡ (3 * max-terms) = length-take (3 * max-terms) (drop terms-at ws) ∙ omega (arith, length-drop terms-at ws, laid-of-sound s .long) in
         let t : ltb j (length (term-words ws) / 3) ≡ true = lt-ltb j (length (term-words ws) / 3) (omega (arith, few)) in
         rw (t, read (j * 3) (terms-at + 3 * j) (omega (arith, few)) (omega arith), read (j * 3 + 1) (terms-at + 3 * j + 1) (omega (arith, few)) (omega arith), read (j * 3 + 2) (terms-at + 3 * j + 2) (omega (arith, few)) (omega arith))
-        (ap (termOf tag low) no-high)
 
-    said : (tag ≡ tag-of (termAt (term-words ws) j)) × (low ≡ low-of (termAt (term-words ws) j))
+    said : (tag ≡ tag-of (termAt (term-words ws) j)) × (low ≡ low-of (termAt (term-words ws) j)) × (high ≡ high-of (termAt (term-words ws) j))
     said =
+        let L : Bool = has-low tag || eqb low 0 in
+        let H : Bool = has-high tag || eqb high 0 in
         rw decoded
-        (term-says tag low (both-first (has-low tag || eqb low 0) (eqb high 0) (laid-of-sound s .term j h)) (subst KnownTerm decoded (term-known j h)))
+        (term-says tag low high (fits (terms-at + 3 * j + 1)) (both-first L H (laid-of-sound s .term j h)) (both-second L H (laid-of-sound s .term j h)) (subst KnownTerm decoded (term-known j h)))
 
     pub tag-said : word ws (terms-at + 3 * j) ≡ tag-of (termAt (term-words ws) j)
     tag-said = said .0
@@ -129,5 +127,5 @@ module _ {ws : List ℕ} (s : Sound ws) where
     pub low-said : word ws (terms-at + 3 * j + 1) ≡ low-of (termAt (term-words ws) j)
     low-said = said .1
 
-    pub high-said : word ws (terms-at + 3 * j + 2) ≡ 0
-    high-said = no-high
+    pub high-said : word ws (terms-at + 3 * j + 2) ≡ high-of (termAt (term-words ws) j)
+    high-said = said .2
