@@ -1,26 +1,19 @@
--- The faults of a rule's pieces in three parts: its numbers, its widths and its calculations.
+-- The faults of a rule's pieces in two parts: its widths and its calculations.
 -- Assumes nothing.
 use Prim.Native.Nat.{ℕ}
 use mathlib.Core.Path.{_≡_, refl, sym, ap, subst, _∙_}
 use mathlib.Core.Logic.{_⊎_, inl, inr, ⊎-elim, _↔_, Iff·rfl, Iff·symm, Iff·trans}
 use mathlib.Core.List.{List, [], _∷_, _++_, append-assoc}
 use Rattle.tree.specs.Tree.{Rule}
-use Rattle.tree_meaning.specs.Pieces.{terms-of, Piece, use-of-rule, width, formula, binding, rule-pieces}
+use Rattle.tree_meaning.specs.Pieces.{Piece, use-of-rule, width, formula, binding, rule-pieces}
 use Rattle.tree_meaning.specs.Places.{place-if}
-use Rattle.tree_meaning.specs.Sizes.{wrong-width, number-faults, widest-in, calculation-faults, faults-in, size-faults}
+use Rattle.tree_meaning.specs.Sizes.{wrong-width, widest-in, calculation-faults, faults-in, size-faults}
 use Rattle.tree_sizes.proofs.Hits.{either, Hits, hits-two, hits-both}
-
--- numbers that are too large
-abbrev pub numbers-of : Piece → List ℕ
-numbers-of (use-of-rule x) = []
-numbers-of (width most n) = []
-numbers-of (formula f) = number-faults (terms-of f)
-numbers-of (binding x signed n placed) = []
 
 -- a width that is wrong
 abbrev pub widths-of : Piece → List ℕ
 widths-of (use-of-rule x) = []
-widths-of (width most n) = place-if (wrong-width n) (n .start)
+widths-of (width most n) = place-if (wrong-width most n) (n .start)
 widths-of (formula f) = []
 widths-of (binding x signed n placed) = []
 
@@ -45,45 +38,36 @@ gathered-append f (x ∷ l) m = ap (λ (k : List ℕ). f x ++ k) (gathered-appen
 pub gathered-both : {A B : Type 0} (p : ℕ) (f : Piece → List ℕ) (l m : List Piece) → A ↔ Hits p (gathered f l) → B ↔ Hits p (gathered f m) → (A ⊎ B) ↔ Hits p (gathered f (l ++ m))
 gathered-both {A} {B} p f l m a b = subst (λ (k : List ℕ). (A ⊎ B) ↔ Hits p k) (sym (gathered-append f l m)) (hits-both p (gathered f l) (gathered f m) a b)
 
--- three parts
-abbrev pub Three : ℕ → (List ℕ → ℕ) → List Piece → Type 0
-Three p widest l = Hits p (gathered numbers-of l) ⊎ (Hits p (gathered widths-of l) ⊎ Hits p (gathered (sizes-of widest) l))
+-- two parts
+abbrev pub Two : ℕ → (List ℕ → ℕ) → List Piece → Type 0
+Two p widest l = Hits p (gathered widths-of l) ⊎ Hits p (gathered (sizes-of widest) l)
 
 -- one more fault in one of the parts, or in the rest
-module _ {X N W C : Type 0} where
-  in-first : (X ⊎ (N ⊎ (W ⊎ C))) ↔ ((X ⊎ N) ⊎ (W ⊎ C))
+module _ {X W C : Type 0} where
+  in-first : (X ⊎ (W ⊎ C)) ↔ ((X ⊎ W) ⊎ C)
   in-first = (
-    λ h. ⊎-elim (λ x. inl (inl x)) (λ r. ⊎-elim (λ n. inl (inr n)) (λ s. inr s) r) h,
-    λ h. ⊎-elim (λ r. ⊎-elim (λ x. inl x) (λ n. inr (inl n)) r) (λ s. inr (inr s)) h,
+    λ h. ⊎-elim (λ x. inl (inl x)) (λ r. ⊎-elim (λ u. inl (inr u)) (λ u. inr u) r) h,
+    λ h. ⊎-elim (λ r. ⊎-elim (λ x. inl x) (λ u. inr (inl u)) r) (λ u. inr (inr u)) h,
   )
 
-  in-second : (X ⊎ (N ⊎ (W ⊎ C))) ↔ (N ⊎ ((X ⊎ W) ⊎ C))
+  in-second : (X ⊎ (W ⊎ C)) ↔ (W ⊎ (X ⊎ C))
   in-second = (
-    λ h. ⊎-elim (λ x. inr (inl (inl x))) (λ r. ⊎-elim (λ n. inl n) (λ s. ⊎-elim (λ u. inr (inl (inr u))) (λ u. inr (inr u)) s) r) h,
-    λ h. ⊎-elim (λ n. inr (inl n)) (λ r. ⊎-elim (λ s. ⊎-elim (λ x. inl x) (λ u. inr (inr (inl u))) s) (λ u. inr (inr (inr u))) r) h,
+    λ h. ⊎-elim (λ x. inr (inl x)) (λ r. ⊎-elim (λ u. inl u) (λ u. inr (inr u)) r) h,
+    λ h. ⊎-elim (λ u. inr (inl u)) (λ r. ⊎-elim (λ x. inl x) (λ u. inr (inr u)) r) h,
   )
 
-  in-third : (X ⊎ (N ⊎ (W ⊎ C))) ↔ (N ⊎ (W ⊎ (X ⊎ C)))
-  in-third = (
-    λ h. ⊎-elim (λ x. inr (inr (inl x))) (λ r. ⊎-elim (λ n. inl n) (λ s. ⊎-elim (λ u. inr (inl u)) (λ u. inr (inr (inr u))) s) r) h,
-    λ h. ⊎-elim (λ n. inr (inl n)) (λ r. ⊎-elim (λ u. inr (inr (inl u))) (λ s. ⊎-elim (λ x. inl x) (λ u. inr (inr (inr u))) s) r) h,
-  )
-
--- the faults of pieces are those of the three parts
-pub three-parts : (p : ℕ) (widest : List ℕ → ℕ) (l : List Piece) → Hits p (faults-in widest l) ↔ Three p widest l
+-- the faults of pieces are those of the two parts
+pub two-parts : (p : ℕ) (widest : List ℕ → ℕ) (l : List Piece) → Hits p (faults-in widest l) ↔ Two p widest l
 unfolding faults-in gathered Hits
-three-parts p widest [] = (λ h. absurd h, λ h. ⊎-elim (λ (z : ⊥). absurd z) (λ r. ⊎-elim (λ (z : ⊥). absurd z) (λ (z : ⊥). absurd z) r) h)
-three-parts p widest (use-of-rule x ∷ l) = three-parts p widest l
-three-parts p widest (width most n ∷ l) =
-    let F = place-if (wrong-width n) (n .start) in
-    Iff·trans (hits-two p F (faults-in widest l)) (Iff·trans (either Iff·rfl (three-parts p widest l)) (Iff·trans in-second (either Iff·rfl (either (Iff·symm (hits-two p F (gathered widths-of l))) Iff·rfl))))
-three-parts p widest (formula f ∷ l) =
-    let F = number-faults (terms-of f) in
+two-parts p widest [] = (λ h. absurd h, λ h. ⊎-elim (λ (z : ⊥). absurd z) (λ (z : ⊥). absurd z) h)
+two-parts p widest (use-of-rule x ∷ l) = two-parts p widest l
+two-parts p widest (width most n ∷ l) =
+    let F = place-if (wrong-width most n) (n .start) in
+    Iff·trans (hits-two p F (faults-in widest l)) (Iff·trans (either Iff·rfl (two-parts p widest l)) (Iff·trans in-first (either (Iff·symm (hits-two p F (gathered widths-of l))) Iff·rfl)))
+two-parts p widest (formula f ∷ l) =
     let G = calculation-faults widest f in
-    Iff·trans (hits-two p F (G ++ faults-in widest l))
-    (Iff·trans (either Iff·rfl (Iff·trans (hits-two p G (faults-in widest l)) (Iff·trans (either Iff·rfl (three-parts p widest l)) in-third)))
-    (Iff·trans in-first (Iff·trans (either (Iff·symm (hits-two p F (gathered numbers-of l))) Iff·rfl) (either Iff·rfl (either Iff·rfl (Iff·symm (hits-two p G (gathered (sizes-of widest) l))))))))
-three-parts p widest (binding x signed n placed ∷ l) = three-parts p widest l
+    Iff·trans (hits-two p G (faults-in widest l)) (Iff·trans (either Iff·rfl (two-parts p widest l)) (Iff·trans in-second (either Iff·rfl (Iff·symm (hits-two p G (gathered (sizes-of widest) l))))))
+two-parts p widest (binding x signed n placed ∷ l) = two-parts p widest l
 
 -- ---- of rules
 
@@ -91,10 +75,6 @@ three-parts p widest (binding x signed n placed ∷ l) = three-parts p widest l
 unfoldable pub of-rules : (Rule → List ℕ) → List Rule → List ℕ
 of-rules f [] = []
 of-rules f (r ∷ l) = f r ++ of-rules f l
-
--- its numbers
-abbrev pub rule-numbers : Rule → List ℕ
-rule-numbers r = gathered numbers-of (rule-pieces r)
 
 -- its widths
 abbrev pub rule-widths : Rule → List ℕ
@@ -104,23 +84,17 @@ rule-widths r = gathered widths-of (rule-pieces r)
 abbrev pub rule-sizes : Rule → List ℕ
 rule-sizes r = gathered (sizes-of (widest-in (rule-pieces r))) (rule-pieces r)
 
--- the tree's faults are those of the three parts
-pub rules-parts : (p : ℕ) (l : List Rule) → Hits p (size-faults l) ↔ (Hits p (of-rules rule-numbers l) ⊎ (Hits p (of-rules rule-widths l) ⊎ Hits p (of-rules rule-sizes l)))
+-- the tree's faults are those of the two parts
+pub rules-parts : (p : ℕ) (l : List Rule) → Hits p (size-faults l) ↔ (Hits p (of-rules rule-widths l) ⊎ Hits p (of-rules rule-sizes l))
 unfolding size-faults of-rules Hits
-rules-parts p [] = (λ h. absurd h, λ h. ⊎-elim (λ (z : ⊥). absurd z) (λ r. ⊎-elim (λ (z : ⊥). absurd z) (λ (z : ⊥). absurd z) r) h)
+rules-parts p [] = (λ h. absurd h, λ h. ⊎-elim (λ (z : ⊥). absurd z) (λ (z : ⊥). absurd z) h)
 rules-parts p (r ∷ l) =
     let F = faults-in (widest-in (rule-pieces r)) (rule-pieces r) in
-    let t = three-parts p (widest-in (rule-pieces r)) (rule-pieces r) in
+    let t = two-parts p (widest-in (rule-pieces r)) (rule-pieces r) in
     let m = rules-parts p l in
-    let a = hits-two p (rule-numbers r) (of-rules rule-numbers l) in
     let b = hits-two p (rule-widths r) (of-rules rule-widths l) in
     let c = hits-two p (rule-sizes r) (of-rules rule-sizes l) in (
-      λ h. ⊎-elim
-          (λ x. ⊎-elim (λ y. inl (a .1 (inl y))) (λ y. ⊎-elim (λ z. inr (inl (b .1 (inl z)))) (λ z. inr (inr (c .1 (inl z)))) y) (t .0 x))
-          (λ x. ⊎-elim (λ y. inl (a .1 (inr y))) (λ y. ⊎-elim (λ z. inr (inl (b .1 (inr z)))) (λ z. inr (inr (c .1 (inr z)))) y) (m .0 x))
-          (hits-two p F (size-faults l) .0 h),
+      λ h. ⊎-elim (λ x. ⊎-elim (λ z. inl (b .1 (inl z))) (λ z. inr (c .1 (inl z))) (t .0 x)) (λ x. ⊎-elim (λ z. inl (b .1 (inr z))) (λ z. inr (c .1 (inr z))) (m .0 x)) (hits-two p F (size-faults l) .0 h),
       λ h. hits-two p F (size-faults l) .1
-          (⊎-elim (λ x. ⊎-elim (λ y. inl (t .1 (inl y))) (λ y. inr (m .1 (inl y))) (a .0 x))
-          (λ x. ⊎-elim (λ y. ⊎-elim (λ z. inl (t .1 (inr (inl z)))) (λ z. inr (m .1 (inr (inl z)))) (b .0 y)) (λ y. ⊎-elim (λ z. inl (t .1 (inr (inr z)))) (λ z. inr (m .1 (inr (inr z)))) (c .0 y)) x)
-          h),
+          (⊎-elim (λ y. ⊎-elim (λ z. inl (t .1 (inl z))) (λ z. inr (m .1 (inl z))) (b .0 y)) (λ y. ⊎-elim (λ z. inl (t .1 (inr z))) (λ z. inr (m .1 (inr z))) (c .0 y)) h),
     )

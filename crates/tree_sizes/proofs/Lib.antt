@@ -9,7 +9,7 @@ pub mod TestLists
 pub mod Founds
 pub mod Rising
 pub mod Gathered
-pub mod Numbers
+pub mod WrongWidths
 pub mod Tables
 pub mod Widths
 pub mod Agreeing

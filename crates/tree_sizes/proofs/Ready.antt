@@ -1,6 +1,6 @@
 -- What is known of a rule's pieces while its calculations are looked at: 6 is not given, and the widths up to p are right.
 -- Assumes nothing.
-use Prim.Native.Nat.{ℕ, _-_, _^_, _≤_, _<_}
+use Prim.Native.Nat.{ℕ, _≤_, _<_}
 use mathlib.Core.Path.{_≡_, refl, sym, ap, subst, _∙_}
 use mathlib.Core.Logic.{⊎-elim}
 use mathlib.Core.Bool.{Bool, true, false, _||_}
@@ -8,7 +8,7 @@ use mathlib.Core.List.{List, [], _∷_, _++_}
 use native.Mathlib.Omega.{arith}
 use lib.IntN.{pos}
 use lib.ListN.{getD}
-use lib.Pow.{pow-mono}
+use Rattle.basis.specs.Limits.{max-bound-width}
 use Rattle.basis.proofs.Booleans.{which}
 use Rattle.text_header.proofs.Runs.{word-equal}
 use Rattle.text_tokens.specs.Names.{is-same}
@@ -21,18 +21,18 @@ use Rattle.tree_meaning.proofs.Passing.{UsesRight}
 use Rattle.tree_store.proofs.Binding.{after-bound}
 use Rattle.tree_sizes.proofs.NodeLists.{cut, Settled}
 
--- a variable of this width: its number and its size in the table
+-- a variable of this width: its number and its size in the table, which is its own where the width is right
 pub record Bound (ws : List ℕ) (numbered widest : List ℕ → ℕ) (x : Name) (n : Number) : Type 0 where
   pub few : numbered (x .letters) < 64
-  pub sized : getD (table-widest ws) (numbered (x .letters)) (pos 0) ≡ pos (cut widest (x .letters))
-  pub own : widest (x .letters) ≡ 2 ^ n .value - 1
+  pub sized : getD (table-widest ws) (numbered (x .letters)) (pos 0) ≡ pos (cut ws numbered (x .letters))
+  pub own : n .value ≤ max-bound-width → cut ws numbered (x .letters) ≡ widest (x .letters)
 
 module _ (p : ℕ) (ws : List ℕ) (numbered widest : List ℕ → ℕ) where
   -- of pieces after variables of these names
   unfoldable pub Ready : List Name → List Piece → Type 0
   Ready names [] = Unit {0}
   Ready names (use-of-rule x ∷ more) = Ready names more
-  Ready names (width most n ∷ more) = (n .start ≤ p → (1 ≤ n .value) × (n .value ≤ 32)) × Ready names more
+  Ready names (width most n ∷ more) = (n .start ≤ p → (1 ≤ n .value) × (n .value ≤ most)) × Ready names more
   Ready names (formula f ∷ more) = UsesRight names (uses-in (terms-of f)) × Ready names more
   Ready names (binding x signed n placed ∷ more) = Bound ws numbered widest x n × Ready (x ∷ names) more
 
@@ -74,18 +74,16 @@ module _ (p : ℕ) (ws : List ℕ) (numbered widest : List ℕ → ℕ) where
   settled-on q m names l s y e = let h = s y e in (h .0, h .1, λ z. h .2 (omega arith))
 
   -- one more, whose width stands before q and is right if it stands up to p
-  pub settled-more : (q : ℕ) (names : List Name) (x : Name) (n : Number) → Bound ws numbered widest x n → n .start ≤ q → (n .start ≤ p → (1 ≤ n .value) × (n .value ≤ 32)) → Settled p ws numbered widest q names → Settled p ws numbered widest q (x ∷ names)
+  pub settled-more : (q : ℕ) (names : List Name) (x : Name) (n : Number) → Bound ws numbered widest x n → n .start ≤ q → (n .start ≤ p → (1 ≤ n .value) × (n .value ≤ max-bound-width)) → Settled p ws numbered widest q names → Settled p ws numbered widest q (x ∷ names)
   unfolding is-among
   settled-more q names x n b l right s y e =
       ⊎-elim
       (λ (c : is-same (x .letters) (y .letters) ≡ true).
-      subst (λ (k : List ℕ). (numbered k < 64) × (getD (table-widest ws) (numbered k) (pos 0) ≡ pos (cut widest k)) × (q ≤ p → widest k ≤ 4294967295)) (word-equal (x .letters) (y .letters) c) (b .few, b .sized, small))
+      subst (λ (k : List ℕ). (numbered k < 64) × (getD (table-widest ws) (numbered k) (pos 0) ≡ pos (cut ws numbered k)) × (q ≤ p → cut ws numbered k ≡ widest k)) (word-equal (x .letters) (y .letters) c) (b .few, b .sized, small))
       (λ (c : is-same (x .letters) (y .letters) ≡ false). s y (sym (ap (λ (o : Bool). o || is-among names y) c) ∙ e)) (which (is-same (x .letters) (y .letters)))
     where
-      small : q ≤ p → widest (x .letters) ≤ 4294967295
-      small z =
-          let v = right (omega (arith, l, z)) in
-          let o : 2 ^ n .value ≤ 2 ^ 32 = pow-mono {j = 32} (v .1) in omega (arith, b .own, o)
+      small : q ≤ p → cut ws numbered (x .letters) ≡ widest (x .letters)
+      small z = b .own (right (omega (arith, l, z)) .1)
 
 -- ---- names that pieces bind
 

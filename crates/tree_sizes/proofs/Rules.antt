@@ -1,6 +1,6 @@
 -- A rule of a text: what refusal 8 finds in its nodes' lists up to p is what the tree says, where its widths up to p are right.
 -- Assumes nothing.
-use Prim.Native.Nat.{ℕ, suc, _+_, _≤_, _<_}
+use Prim.Native.Nat.{ℕ, suc, _+_, _≤_, _<_, min}
 use mathlib.Core.Path.{_≡_, refl, sym, ap, subst, _∙_}
 use mathlib.Core.Logic.{⊎-elim, _↔_}
 use mathlib.Core.Bool.{Bool, true, false, not, _&&_}
@@ -8,8 +8,10 @@ use mathlib.Core.List.{List, [], _∷_, _++_}
 use native.Mathlib.Omega.{arith}
 use borrow.Author.Tests.{leb-true}
 use lib.Dec.{leb}
-use lib.IntN.{pos}
+use lib.IntN.{pos, natAbs}
 use lib.ListN.{length, getD, length-append}
+use Rattle.basis.specs.Limits.{max-bound-width}
+use Rattle.basis.specs.Patterns.{greatest-size}
 use Rattle.basis.proofs.Booleans.{which, both-first, both-second}
 use Rattle.text_tokens.specs.declared.Kind.{Kind}
 use Rattle.text_store.specs.Words.{first-node, last-node}
@@ -42,7 +44,7 @@ use Rattle.tree_grammar.proofs.Lists.{RowsAt, rows-left, rows-right}
 use Rattle.tree_grammar.proofs.Firsts.{whole-first}
 use Rattle.tree_sizes.proofs.Hits.{Hits, hits-left, hits-right, hits-if, hits-both}
 use Rattle.tree_sizes.proofs.Gathered.{widths-of, gathered, of-rules, rule-widths, rule-sizes}
-use Rattle.tree_sizes.proofs.Widths.{variable-size}
+use Rattle.tree_sizes.proofs.Widths.{cut-in, OwnCut, all-cut, variable-size}
 use Rattle.tree_sizes.proofs.NodeLists.{Ruled, cut}
 use Rattle.tree_sizes.proofs.Ready.{Ready, settled-none}
 use Rattle.tree_sizes.proofs.Nodes.{NodesHit, nodes-two}
@@ -51,29 +53,32 @@ use Rattle.tree_sizes.proofs.Walk.{bare, walk}
 -- ---- its pieces
 
 -- a width up to p that is not wrong
-right-width : (p : ℕ) (n : Number) → (Hits p (place-if (wrong-width n) (n .start)) → ⊥) → n .start ≤ p → (1 ≤ n .value) × (n .value ≤ 32)
-right-width p n h l =
-    ⊎-elim (λ (e : wrong-width n ≡ true). absurd (h (hits-if p (wrong-width n) (n .start) .1 (e, l))))
-    (λ (e : wrong-width n ≡ false).
-    let b : (leb 1 (n .value) && leb (n .value) 32) ≡ true = not-not (leb 1 (n .value) && leb (n .value) 32) e in
-    (leb-true 1 (n .value) (both-first (leb 1 (n .value)) (leb (n .value) 32) b), leb-true (n .value) 32 (both-second (leb 1 (n .value)) (leb (n .value) 32) b)))
-    (which (wrong-width n))
+right-width : (p most : ℕ) (n : Number) → (Hits p (place-if (wrong-width most n) (n .start)) → ⊥) → n .start ≤ p → (1 ≤ n .value) × (n .value ≤ most)
+right-width p most n h l =
+    ⊎-elim (λ (e : wrong-width most n ≡ true). absurd (h (hits-if p (wrong-width most n) (n .start) .1 (e, l))))
+    (λ (e : wrong-width most n ≡ false).
+    let b : (leb 1 (n .value) && leb (n .value) most) ≡ true = not-not (leb 1 (n .value) && leb (n .value) most) e in
+    (leb-true 1 (n .value) (both-first (leb 1 (n .value)) (leb (n .value) most) b), leb-true (n .value) most (both-second (leb 1 (n .value)) (leb (n .value) most) b)))
+    (which (wrong-width most n))
   where
     not-not : (b : Bool) → not b ≡ false → b ≡ true
     not-not true e = refl
     not-not false e = sym e
 
 module _ (p : ℕ) (ws : List ℕ) (numbered : List ℕ → ℕ) (rules variables : List Name) (whole : List Piece)
-    (sized : (y : Name) → is-among (bound-in whole) y ≡ true → (numbered (y .letters) < 64) × (getD (table-widest ws) (numbered (y .letters)) (pos 0) ≡ pos (cut (widest-in whole) (y .letters)))) where
-  ready-from : (names : List Name) (ps : List Piece) → NamesRight rules variables names ps → Own whole ps → (Hits p (gathered widths-of ps) → ⊥) → Ready p ws numbered (widest-in whole) names ps
-  unfolding Ready NamesRight Own gathered
-  ready-from names [] h o n = tt
-  ready-from names (use-of-rule x ∷ ps) h o n = ready-from names ps (h .2) o n
-  ready-from names (width most v ∷ ps) h o n =
-      let F = place-if (wrong-width v) (v .start) in (right-width p v (λ z. n (hits-left p F (gathered widths-of ps) z)), ready-from names ps h o (λ z. n (hits-right p F (gathered widths-of ps) z)))
-  ready-from names (formula f ∷ ps) h o n = (h .0, ready-from names ps (h .1) o n)
-  ready-from names (binding x signed v placed ∷ ps) h o n =
-      let s = sized x (o .1) in (record { few = s .0; sized = s .1; own = o .0 }, ready-from (x ∷ names) ps (h .2) (o .2) n)
+    (sized : (y : Name) → is-among (bound-in whole) y ≡ true → (numbered (y .letters) < 64) × (getD (table-widest ws) (numbered (y .letters)) (pos 0) ≡ pos (cut-in whole (y .letters)))) where
+  ready-from : (names : List Name) (ps : List Piece) → NamesRight rules variables names ps → Own whole ps → OwnCut whole ps → (Hits p (gathered widths-of ps) → ⊥) → Ready p ws numbered (widest-in whole) names ps
+  unfolding Ready NamesRight Own OwnCut gathered
+  ready-from names [] h o c n = tt
+  ready-from names (use-of-rule x ∷ ps) h o c n = ready-from names ps (h .2) o c n
+  ready-from names (width most v ∷ ps) h o c n =
+      let F = place-if (wrong-width most v) (v .start) in (right-width p most v (λ z. n (hits-left p F (gathered widths-of ps) z)), ready-from names ps h o c (λ z. n (hits-right p F (gathered widths-of ps) z)))
+  ready-from names (formula f ∷ ps) h o c n = (h .0, ready-from names ps (h .1) o c n)
+  ready-from names (binding x signed v placed ∷ ps) h o c n =
+      let s = sized x (o .1) in
+      let e : cut ws numbered (x .letters) ≡ cut-in whole (x .letters) = ap natAbs (s .1) in
+      let f : v .value ≤ max-bound-width → min max-bound-width (v .value) ≡ v .value = λ l. omega arith in
+      (record { few = s .0; sized = s .1 ∙ ap pos (sym e); own = λ l. e ∙ c .0 ∙ ap (greatest-size signed) (f l) ∙ sym (o .0) }, ready-from (x ∷ names) ps (h .2) (o .2) (c .1) n)
 
 -- ---- one rule
 
@@ -93,7 +98,7 @@ module _ (p : ℕ) {all : Rules} {xs ns ts rs ws : List ℕ} {n r : ℕ} (known 
       let M = node-rows false (rule-body x) t in
       let e = bare p ruled (widest-in (rule-pieces x)) a M (omega (arith, inside, many, some-node false (rule-body x) t)) nodes (plain false (rule-body x) t) in
       let f = walk p ruled (widest-in (rule-pieces x)) true false (rule-body x) a t [] rest (whole-first M nodes) rows st before-none (omega arith)
-      (ready-from p ws numbered (rule-names all) (variables-of x) (rule-pieces x) sized [] (rule-pieces x) named (all-own (rule-names all) (variables-of x) (rule-pieces x) named) right) (settled-none p ws numbered (widest-in (rule-pieces x)) q) in
+      (ready-from p ws numbered (rule-names all) (variables-of x) (rule-pieces x) sized [] (rule-pieces x) named (all-own (rule-names all) (variables-of x) (rule-pieces x) named) (all-cut (rule-names all) (variables-of x) (rule-pieces x) named) right) (settled-none p ws numbered (widest-in (rule-pieces x)) q) in
       (λ z. f .same .0 (e .0 z), λ z. e .1 (f .same .1 z))
     where
       numbered : List ℕ → ℕ
@@ -118,7 +123,7 @@ module _ (p : ℕ) {all : Rules} {xs ns ts rs ws : List ℕ} {n r : ℕ} (known 
                 ∙ variable-number b i y step nodes g bound (omega (arith, many)) e;
           }
 
-      sized : (y : Name) → is-among (bound-in (rule-pieces x)) y ≡ true → (numbered (y .letters) < 64) × (getD (table-widest ws) (numbered (y .letters)) (pos 0) ≡ pos (cut (widest-in (rule-pieces x)) (y .letters)))
+      sized : (y : Name) → is-among (bound-in (rule-pieces x)) y ≡ true → (numbered (y .letters) < 64) × (getD (table-widest ws) (numbered (y .letters)) (pos 0) ≡ pos (cut-in (rule-pieces x) (y .letters)))
       sized y e = (omega (arith, variable-under b (variables-of x) y e, few), variable-size (known .words) b y step nodes (omega (arith, many, inside)) bound few e)
 
   -- ---- all rules

@@ -9,11 +9,11 @@ use mathlib.Core.Option.{Option, none, some}
 use native.Mathlib.Omega.{arith}
 use lib.ListN.{length, length-append}
 use Rattle.text_tokens.specs.declared.Kind.{Kind}
-use Rattle.text_store.specs.Store.{State, blank, node-words, term-words, rule-words, nodes-of, terms-of, rules-of}
+use Rattle.text_store.specs.Store.{State, blank, node-words, term-words, rule-words, nodes-of, rules-of}
 use Rattle.text_encoding.specs.Lists.{sum}
 use Rattle.text_encoding.specs.Numbers.{binders-before, condition-start}
 use Rattle.text_wellformed.proofs.EncodedWords.{encoded-words}
-use Rattle.text_admission.specs.Extents.{lesser, least-found, width-found, number-found, node-found}
+use Rattle.text_admission.specs.Extents.{lesser, least-found, width-found, node-found}
 use Rattle.text_admission.specs.Admitted.{words-of, fault-8}
 use Rattle.text_admission.specs.declared.Found.{Found}
 use Rattle.tree.specs.Lexemes.{Lexeme, sign, finish}
@@ -25,24 +25,24 @@ use Rattle.tree_meaning.specs.Counted.{Totals, no-rule, with-rule, refusal-5}
 use Rattle.tree_meaning.specs.Names.{refusal-6}
 use Rattle.tree_meaning.specs.Sizes.{size-faults, refusal-8}
 use Rattle.tree_meaning.proofs.Passing as Pass
-use Rattle.tree_store.proofs.Rows.{NodeRow, node-rows, term-rows, rules-nodes, tree-nodes, tree-terms, tree-totals}
+use Rattle.tree_store.proofs.Rows.{NodeRow, node-rows, term-rows, rules-nodes, tree-nodes, tree-totals}
 use Rattle.tree_store.proofs.Lengths.{nodes-counted, terms-counted}
 use Rattle.tree_store.proofs.Limits.{Limited, limited, rows-many}
 use Rattle.tree_store.proofs.Standing.{Standing, past, after-tree, SpelledBy, spelled-stand}
 use Rattle.tree_store.proofs.Steps.{in-step}
-use Rattle.tree_store.proofs.Storing.{totalled-tree, nodes-read, terms-read}
+use Rattle.tree_store.proofs.Storing.{totalled-tree, nodes-read}
 use Rattle.tree_store.proofs.Rowed.{NodesAt, nodes-left, nodes-right, Rowed, rowed}
 use Rattle.tree_numbers.proofs.Rules.{At}
 use Rattle.tree_numbers.proofs.Sums.{terms-together, binders-together}
 use Rattle.tree_grammar.proofs.Lists.{text-rows}
 use Rattle.tree_sizes.proofs.Hits.{either, Hit, hit-two, Among, among-none, among-next, among-two, among-either, hit-least, Hits, hits-both, hits-dec, as-found, found-least}
-use Rattle.tree_sizes.proofs.Gathered.{of-rules, rule-numbers, rule-widths, rule-sizes, rules-parts}
-use Rattle.tree_sizes.proofs.Numbers.{numbers-found, rules-numbers, widths-found}
+use Rattle.tree_sizes.proofs.Gathered.{of-rules, rule-widths, rule-sizes, rules-parts}
+use Rattle.tree_sizes.proofs.WrongWidths.{widths-found}
 use Rattle.tree_sizes.proofs.NodeLists.{condition-at, own-at}
 use Rattle.tree_sizes.proofs.Nodes.{NodesHit}
 use Rattle.tree_sizes.proofs.Rules.{Known, rules-hit}
 
--- ---- numbers that are looked at, one after the other
+-- ---- nodes that are looked at, one after the other
 
 module _ (p : ℕ) where
   -- the lists of nodes
@@ -116,9 +116,6 @@ module _ {xs : List ℕ} {t : Rules} (spelled : SpelledBy xs t) (five : refusal-
   many-nodes : nodes-of st ≡ length (tree-nodes t)
   many-nodes = nodes-read t ∙ (let q : min (tree-totals t .all-constructs) 257 ≡ tree-totals t .all-constructs = omega (arith, small .few-constructs) in q) ∙ sym (totalled-tree t .in-nodes)
 
-  many-terms : terms-of st ≡ length (tree-terms t)
-  many-terms = terms-read t ∙ (let q : min (tree-totals t .all-terms) 1025 ≡ tree-totals t .all-terms = omega (arith, small .few-terms) in q) ∙ sym (totalled-tree t .in-terms)
-
   few-nodes : nodes-of st ≤ 256
   few-nodes = omega (arith, many-nodes, totalled-tree t .in-nodes, small .few-constructs)
 
@@ -137,12 +134,6 @@ module _ {xs : List ℕ} {t : Rules} (spelled : SpelledBy xs t) (five : refusal-
   module _ (p : ℕ) where
     as-many : {n m i : ℕ} {f : ℕ → Found} → n ≡ m → Among p n i f ↔ Among p m i f
     as-many {i = i} {f = f} e = (λ h. subst (λ (k : ℕ). Among p k i f) e h, λ h. subst (λ (k : ℕ). Among p k i f) (sym e) h)
-
-    -- numbers
-    numbers-same : Hit p (least-found (terms-of st) 0 (number-found ts)) ↔ Hits p (of-rules rule-numbers (rules-in t))
-    numbers-same =
-        Iff·trans (hit-least p (terms-of st) 0 (number-found ts))
-        (Iff·trans (as-many many-terms) (Iff·trans (numbers-found p (tree-terms t) (text-rows t small)) (rules-numbers p (rules-in t))))
 
     -- widths
     widths-same : Among p (nodes-of st) 0 (width-found xs ns) ↔ Hits p (of-rules rule-widths (rules-in t))
@@ -164,17 +155,14 @@ module _ {xs : List ℕ} {t : Rules} (spelled : SpelledBy xs t) (five : refusal-
     same-hits : Hit p (fault-8 xs st) ↔ Hits p (size-faults (rules-in t))
     same-hits = by (hits-dec p (of-rules rule-widths (rules-in t)))
       where
-        both : Hit p (fault-8 xs st) ↔ (Hit p (least-found (terms-of st) 0 (number-found ts)) ⊎ Hit p (least-found (nodes-of st) 0 (node-found xs ns ts ws)))
-        both = hit-two p (least-found (terms-of st) 0 (number-found ts)) (least-found (nodes-of st) 0 (node-found xs ns ts ws))
-
-        parts : Hits p (size-faults (rules-in t)) ↔ (Hits p (of-rules rule-numbers (rules-in t)) ⊎ (Hits p (of-rules rule-widths (rules-in t)) ⊎ Hits p (of-rules rule-sizes (rules-in t))))
+        parts : Hits p (size-faults (rules-in t)) ↔ (Hits p (of-rules rule-widths (rules-in t)) ⊎ Hits p (of-rules rule-sizes (rules-in t)))
         parts = rules-parts p (rules-in t)
 
         by : Hits p (of-rules rule-widths (rules-in t)) ⊎ (Hits p (of-rules rule-widths (rules-in t)) → ⊥) → Hit p (fault-8 xs st) ↔ Hits p (size-faults (rules-in t))
-        by (inl wrong) = (λ h. parts .1 (inr (inl wrong)), λ h. both .1 (inr (nodes-found .1 (inl (widths-same .1 wrong)))))
+        by (inl wrong) = (λ h. parts .1 (inl wrong), λ h. nodes-found .1 (inl (widths-same .1 wrong)))
         by (inr right) = (
-          λ h. parts .1 (⊎-elim (λ x. inl (numbers-same .0 x)) (λ x. inr (⊎-elim (λ y. inl (widths-same .0 y)) (λ y. inr (lists-same right .0 y)) (nodes-found .0 x))) (both .0 h)),
-          λ h. both .1 (⊎-elim (λ x. inl (numbers-same .1 x)) (λ x. inr (nodes-found .1 (⊎-elim (λ y. inl (widths-same .1 y)) (λ y. inr (lists-same right .1 y)) x))) (parts .0 h)),
+          λ h. parts .1 (⊎-elim (λ y. inl (widths-same .0 y)) (λ y. inr (lists-same right .0 y)) (nodes-found .0 h)),
+          λ h. nodes-found .1 (⊎-elim (λ y. inl (widths-same .1 y)) (λ y. inr (lists-same right .1 y)) (parts .0 h)),
         )
 
   -- what is found is the tree's refusal

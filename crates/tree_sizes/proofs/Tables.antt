@@ -10,6 +10,7 @@ use borrow.Author.Tests.{lt-ltb, le-ltb, le-leb, eqb-true, ne-eqb}
 use lib.Dec.{leb, ltb, eqb}
 use lib.IntN.{ℤ}
 use lib.ListN.{length, getD}
+use Rattle.basis.specs.Limits.{max-width, max-bound-width}
 use Rattle.basis.proofs.Booleans.{picked, picked as chosen}
 use Rattle.term_words.specs.Words.{termOf, termAt}
 use Rattle.term_words.specs.declared.Kind.{Kind}
@@ -18,7 +19,7 @@ use Rattle.term_words.specs.declared.Term.{Term as WordTerm}
 use Rattle.term_sizes.specs.Sizes.{sizes, countSizes}
 use Rattle.term_sizes.specs.declared.Sized.{Sized}
 use Rattle.table_layout.specs.Places.{construct-word}
-use Rattle.table_layout.specs.Constructs.{branches, listed, constructOf, constructAt}
+use Rattle.table_layout.specs.Constructs.{branches, listed, widest-for, constructOf, constructAt}
 use Rattle.table_layout.specs.Attributes.{attributes-of}
 use Rattle.table_layout.specs.Held
 use Rattle.table_layout.specs.declared.Construct.{Construct}
@@ -26,7 +27,7 @@ use Rattle.table_layout.specs.declared.OwnList.{OwnList}
 use Rattle.table_sizes.specs.Measures.{widest, condition-size, list-size, own-size}
 use Rattle.text_store.specs.Words.{kind-of, node-size, node-mark, is-binder, own-from, condition-from, is-use, term-tag, term-value, term-at}
 use Rattle.text_shapes.specs.TermShapes.{rename-term}
-use Rattle.text_encoding.specs.Numbers.{first-at, variable-of, binds-one, binders-before, width-of, condition-length, own-length, lists-length, condition-start, own-start}
+use Rattle.text_encoding.specs.Numbers.{first-at, variable-of, binds-one, binders-before, width-of, is-signed, condition-length, own-length, lists-length, condition-start, own-start}
 use Rattle.text_encoding.specs.Encoded.{term-words, start-word, end-word, operands}
 use Rattle.text_wellformed.specs.Context.{Words}
 use Rattle.text_wellformed.proofs.Sums.{total-last, sum-below}
@@ -91,9 +92,9 @@ module _ (g : ℕ → ℕ) where
 
 module _ (i : ℕ) where
   -- none, but of a uint and of counts in braces
-  no-own : (kind size a b c d : ℕ) → eqb kind 8 ≡ false → (eqb kind 3 ≡ true → eqb a 4 ≡ false) → attributes-of (constructOf i kind size a b c d) .own ≡ OwnList.None
+  no-own : (kind size a b c d : ℕ) → eqb kind 8 ≡ false → kind < 10 → (eqb kind 3 ≡ true → eqb a 4 ≡ false) → attributes-of (constructOf i kind size a b c d) .own ≡ OwnList.None
   unfolding constructOf
-  no-own kind size a b c d u v =
+  no-own kind size a b c d u few v =
       picked P (leb 1 kind && leb kind 4)
       (λ z. picked P (branches i size)
       (λ z. picked P (eqb kind 1) (λ z. refl)
@@ -107,7 +108,8 @@ module _ (i : ℕ) where
       (λ z. picked P (eqb kind 6) (λ z. picked P (leb 1 a && leb a 32) (λ z. refl) (λ z. refl))
       (λ z. picked P (eqb kind 7) (λ z. picked P (ltb a 128 && ltb b 128) (λ z. refl) (λ z. refl))
       (λ z. picked P (eqb kind 8) (λ (e : eqb kind 8 ≡ true). absurd (clash (eqb kind 8) e u))
-      (λ z. picked P (eqb kind 9) (λ z. refl) (λ z. refl)))))) (λ z. refl))
+      (λ z. picked P (eqb kind 9) (λ z. refl)
+      (λ z. picked P (eqb kind 12) (λ (e : eqb kind 12 ≡ true). absurd (omega (arith, eqb-true kind 12 e, few))) (λ z. refl))))))) (λ z. refl))
     where
       P : Construct → Type 0
       P x = attributes-of x .own ≡ OwnList.None
@@ -115,14 +117,17 @@ module _ (i : ℕ) where
       clash : (x : Bool) → x ≡ true → x ≡ false → ⊥
       clash x p q = let z : true ≡ false = sym p ∙ q in let w : _≡_ {A = ℕ} 0 1 = cc in omega arith
 
-  uint-own : (w s e b : ℕ) → 1 ≤ w → w ≤ 32 → s ≤ e → e ≤ 1024 → b ≤ 64 → attributes-of (constructOf i 8 1 w s e b) .own ≡ OwnList.Set s e
+  -- a uint's, and a sint's
+  uint-own : (signed : Bool) (w s e b : ℕ) → 1 ≤ w → w ≤ widest-for b → s ≤ e → e ≤ 1024 → b ≤ 64 → attributes-of (constructOf i (cond signed 12 8) 1 w s e b) .own ≡ OwnList.Set s e
   unfolding constructOf
-  uint-own w s e b p q r t u = rw (le-leb 1 w p, le-leb w 32 q, le-leb s e r, le-leb e 1024 t, le-leb b 64 u) refl
+  uint-own true w s e b p q r t u = rw (le-leb 1 w p, le-leb w (widest-for b) q, le-leb s e r, le-leb e 1024 t, le-leb b 64 u) refl
+  uint-own false w s e b p q r t u = rw (le-leb 1 w p, le-leb w (widest-for b) q, le-leb s e r, le-leb e 1024 t, le-leb b 64 u) refl
 
   -- a wrong width leaves no construct
-  wrong-own : (w s e b : ℕ) → (leb 1 w && leb w 32) ≡ false → attributes-of (constructOf i 8 1 w s e b) .own ≡ OwnList.None
+  wrong-own : (signed : Bool) (w s e b : ℕ) → (leb 1 w && leb w (widest-for b)) ≡ false → attributes-of (constructOf i (cond signed 12 8) 1 w s e b) .own ≡ OwnList.None
   unfolding constructOf
-  wrong-own w s e b p = rw p refl
+  wrong-own true w s e b p = rw p refl
+  wrong-own false w s e b p = rw p refl
 
   counts-own : (size s e d : ℕ) → 2 ≤ size → i + size ≤ 256 → s ≤ e → e ≤ 1024 → attributes-of (constructOf i 3 size 4 s e d) .own ≡ OwnList.Counts s e
   unfolding constructOf
@@ -148,6 +153,14 @@ module _ (xs ns rs : List ℕ) (r i kind a b : ℕ) where
 -- the variable that a name at p is, in node i
 abbrev pub number-at : (xs ns rs : List ℕ) → (r i p : ℕ) → ℕ
 number-at xs ns rs r i p = variable-of xs ns (first-at rs r i) i p
+
+-- the most that the width of node i may be, as the table has it
+abbrev pub most-at : List ℕ → ℕ → ℕ
+most-at ns i = widest-for (cond (is-binder ns i) (binders-before ns i + 1) 0)
+
+pub most-bound : (ns : List ℕ) (i : ℕ) (binds : Bool) → is-binder ns i ≡ binds → most-at ns i ≡ cond binds max-bound-width max-width
+most-bound ns i true e = ap (λ (c : Bool). widest-for (cond c (binders-before ns i + 1) 0)) e ∙ ap (λ (c : Bool). cond c max-bound-width max-width) (lt-ltb 0 (binders-before ns i + 1) (omega arith))
+most-bound ns i false e = ap (λ (c : Bool). widest-for (cond c (binders-before ns i + 1) 0)) e
 
 -- ---- node i of a text
 
@@ -187,9 +200,9 @@ module _ {xs ns ts rs ws : List ℕ} {n r : ℕ} (words : Words xs ns ts rs n r 
   -- it has none
   pub no-list : eqb (kind-of ns i) 8 ≡ false → kind-of ns i < 10 → (kind-of ns i ≡ 3 → node-mark ns i < 4) → own-size ws (constructAt ws i) ≡ Sized.Passes
   no-list e k m =
-      let p = construct-is words i h 0 (kind-of ns i) (omega arith) refl (omega arith) in
+      let p = construct-is words i h 0 (kind-of ns i) (omega arith) (ap (λ (c : Bool). cond (c && is-signed xs ns i) 12 (kind-of ns i)) e) (omega arith) in
       own-by (kind-of ns i) (construct-word ws i 1) (construct-word ws i 2) (construct-word ws i 3) (construct-word ws i 4) (construct-word ws i 5) p refl refl refl refl refl OwnList.None
-      (no-own i (kind-of ns i) (construct-word ws i 1) (construct-word ws i 2) (construct-word ws i 3) (construct-word ws i 4) (construct-word ws i 5) e
+      (no-own i (kind-of ns i) (construct-word ws i 1) (construct-word ws i 2) (construct-word ws i 3) (construct-word ws i 4) (construct-word ws i 5) e k
       (λ z.
       let y : kind-of ns i ≡ 3 = eqb-true (kind-of ns i) 3 z in
       let u : construct-word ws i 2 ≡ node-mark ns i = construct-is words i h 2 (node-mark ns i) (omega arith) (rw y refl) (omega (arith, m y)) in
@@ -211,26 +224,26 @@ module _ {xs ns ts rs ws : List ℕ} {n r : ℕ} (words : Words xs ns ts rs n r 
         (λ e. omega arith)
 
     module _ (k : kind-of ns i ≡ 8) (size : node-size ns i ≡ 1) where
-      uint-words : (o : OwnList) → attributes-of (constructOf i 8 1 (width-of xs ns i) (own-start ns i) (own-start ns i + own-length ns i) (cond (is-binder ns i) (binders-before ns i + 1) 0)) .own ≡ o → own-size ws (constructAt ws i) ≡ list-size ws o
+      uint-words : (o : OwnList) → attributes-of (constructOf i (cond (is-signed xs ns i) 12 8) 1 (width-of xs ns i) (own-start ns i) (own-start ns i + own-length ns i) (cond (is-binder ns i) (binders-before ns i + 1) 0)) .own ≡ o → own-size ws (constructAt ws i) ≡ list-size ws o
       uint-words o e =
-          own-by 8 1 (width-of xs ns i) (own-start ns i) (own-start ns i + own-length ns i) (cond (is-binder ns i) (binders-before ns i + 1) 0)
-          (construct-is words i h 0 8 (omega arith) k (omega arith)) (construct-is words i h 1 1 (omega arith) size (omega arith)) (construct-is words i h 2 (width-of xs ns i) (omega arith) (rw k refl) (omega arith))
+          own-by (cond (is-signed xs ns i) 12 8) 1 (width-of xs ns i) (own-start ns i) (own-start ns i + own-length ns i) (cond (is-binder ns i) (binders-before ns i + 1) 0)
+          (construct-is words i h 0 (cond (is-signed xs ns i) 12 8) (omega arith) (rw k refl) (picked (λ (m : ℕ). m < 4294967296) (is-signed xs ns i) (λ e. omega arith) (λ e. omega arith))) (construct-is words i h 1 1 (omega arith) size (omega arith)) (construct-is words i h 2 (width-of xs ns i) (omega arith) (rw k refl) (omega arith))
           (construct-is words i h 3 (own-start ns i) (omega arith) (rw k start-is) (omega (arith, list-end))) (construct-is words i h 4 (own-start ns i + own-length ns i) (omega arith) (rw k end-is) (omega (arith, list-end)))
           (construct-is words i h 5 (cond (is-binder ns i) (binders-before ns i + 1) 0) (omega arith) (rw k refl) (omega (arith, binder-most))) o e
 
       -- a uint's set is looked at
-      pub set-list : 1 ≤ width-of xs ns i → width-of xs ns i ≤ 32 → own-size ws (constructAt ws i) ≡ sizes Kind.Set (widest ws) (own-start ns i) (Held.terms-of ws (own-start ns i) (own-start ns i + own-length ns i))
+      pub set-list : 1 ≤ width-of xs ns i → width-of xs ns i ≤ most-at ns i → own-size ws (constructAt ws i) ≡ sizes Kind.Set (widest ws) (own-start ns i) (Held.terms-of ws (own-start ns i) (own-start ns i + own-length ns i))
       set-list p q =
-          uint-words (OwnList.Set (own-start ns i) (own-start ns i + own-length ns i)) (uint-own i (width-of xs ns i) (own-start ns i) (own-start ns i + own-length ns i) (cond (is-binder ns i) (binders-before ns i + 1) 0) p q (omega arith) list-end binder-most)
+          uint-words (OwnList.Set (own-start ns i) (own-start ns i + own-length ns i)) (uint-own i (is-signed xs ns i) (width-of xs ns i) (own-start ns i) (own-start ns i + own-length ns i) (cond (is-binder ns i) (binders-before ns i + 1) 0) p q (omega arith) list-end binder-most)
 
       -- but where its width is wrong
-      pub wrong-list : (leb 1 (width-of xs ns i) && leb (width-of xs ns i) 32) ≡ false → own-size ws (constructAt ws i) ≡ Sized.Passes
-      wrong-list p = uint-words OwnList.None (wrong-own i (width-of xs ns i) (own-start ns i) (own-start ns i + own-length ns i) (cond (is-binder ns i) (binders-before ns i + 1) 0) p)
+      pub wrong-list : (leb 1 (width-of xs ns i) && leb (width-of xs ns i) (most-at ns i)) ≡ false → own-size ws (constructAt ws i) ≡ Sized.Passes
+      wrong-list p = uint-words OwnList.None (wrong-own i (is-signed xs ns i) (width-of xs ns i) (own-start ns i) (own-start ns i + own-length ns i) (cond (is-binder ns i) (binders-before ns i + 1) 0) p)
 
     -- counts in braces are looked at
     pub counts-list : kind-of ns i ≡ 3 → node-mark ns i ≡ 4 → 2 ≤ node-size ns i → i + node-size ns i ≤ n → own-size ws (constructAt ws i) ≡ countSizes (widest ws) (Held.term-words ws) (own-start ns i) (own-start ns i + own-length ns i)
     counts-list k m two inside =
-        own-by 3 (node-size ns i) 4 (own-start ns i) (own-start ns i + own-length ns i) 0 (construct-is words i h 0 3 (omega arith) k (omega arith)) (construct-is words i h 1 (node-size ns i) (omega arith) refl (omega arith))
+        own-by 3 (node-size ns i) 4 (own-start ns i) (own-start ns i + own-length ns i) 0 (construct-is words i h 0 3 (omega arith) (rw k refl) (omega arith)) (construct-is words i h 1 (node-size ns i) (omega arith) refl (omega arith))
         (construct-is words i h 2 4 (omega arith) (rw k m) (omega arith)) (construct-is words i h 3 (own-start ns i) (omega arith) (rw k start-is) (omega (arith, list-end)))
         (construct-is words i h 4 (own-start ns i + own-length ns i) (omega arith) (rw k end-is) (omega (arith, list-end))) (construct-is words i h 5 0 (omega arith) (rw k refl) (omega arith))
         (OwnList.Counts (own-start ns i) (own-start ns i + own-length ns i)) (counts-own i (node-size ns i) (own-start ns i) (own-start ns i + own-length ns i) 0 two (omega arith) (omega arith) list-end)

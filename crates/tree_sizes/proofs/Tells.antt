@@ -1,9 +1,9 @@
--- The rows of a formula tell its terms, in their order: its numbers, the uses of variables, and signs. What follows for the numbers that are too large.
+-- The rows of a formula tell its terms, in their order: its numbers, the uses of variables, and signs.
 -- Assumes nothing.
 use Prim.Native.Nat.{ℕ, _/_}
 use mathlib.Core.Path.{_≡_, refl, sym, ap, subst}
 use mathlib.Core.Logic.{_⊎_, inl, inr}
-use mathlib.Core.Bool.{false, _||_}
+use mathlib.Core.Bool.{false}
 use mathlib.Core.List.{List, [], _∷_, _++_, append-nil}
 use lib.Dec.{eqb}
 use Rattle.text_tokens.specs.Numbers.{capped}
@@ -19,10 +19,9 @@ use Rattle.tree_meaning.specs.Pieces.{Term, a-number, a-use, a-sign, primary-te
 use Rattle.tree_store.proofs.Uses.{terms-append}
 use Rattle.tree_store.proofs.Rows.{TermRow, a-term, last-marked, primary-rows, operand-rows, factors-rows, product-rows, summands-rows, calculation-rows, item-rows, set-rows, counts-rows, tests-rows}
 
--- a tag of a sign: neither a number's nor a use's, and the table's words of it say it again
+-- a tag of a sign: no use's, and the table's words of it say it again
 pub record SignTag (tag : ℕ) : Type 0 where
   pub no-use : is-use tag ≡ false
-  pub no-number : (eqb tag 1 || eqb tag 33) ≡ false
   pub shown : (g : ℕ → ℕ) → shown-term (tag ∷ 0 ∷ 0 / 4294967296 ∷ []) ≡ rename-term g (termOf tag 0 0)
 
 -- these rows have these terms
@@ -56,18 +55,18 @@ pub data Arithmetic (tag : ℕ) : Type 0 where
 
 arithmetic-sign : {tag : ℕ} → Arithmetic tag → SignTag tag
 unfolding termOf
-arithmetic-sign (adding e) = subst SignTag (sym e) (record { no-use = refl; no-number = refl; shown = λ g. refl })
-arithmetic-sign (subtracting e) = subst SignTag (sym e) (record { no-use = refl; no-number = refl; shown = λ g. refl })
-arithmetic-sign (multiplying e) = subst SignTag (sym e) (record { no-use = refl; no-number = refl; shown = λ g. refl })
-arithmetic-sign (negating e) = subst SignTag (sym e) (record { no-use = refl; no-number = refl; shown = λ g. refl })
+arithmetic-sign (adding e) = subst SignTag (sym e) (record { no-use = refl; shown = λ g. refl })
+arithmetic-sign (subtracting e) = subst SignTag (sym e) (record { no-use = refl; shown = λ g. refl })
+arithmetic-sign (multiplying e) = subst SignTag (sym e) (record { no-use = refl; shown = λ g. refl })
+arithmetic-sign (negating e) = subst SignTag (sym e) (record { no-use = refl; shown = λ g. refl })
 
 -- the same as the last of an item
 marked-sign : {tag : ℕ} → Arithmetic tag → SignTag (marked-tag tag)
 unfolding termOf
-marked-sign (adding e) = subst SignTag (sym (ap marked-tag e)) (record { no-use = refl; no-number = refl; shown = λ g. refl })
-marked-sign (subtracting e) = subst SignTag (sym (ap marked-tag e)) (record { no-use = refl; no-number = refl; shown = λ g. refl })
-marked-sign (multiplying e) = subst SignTag (sym (ap marked-tag e)) (record { no-use = refl; no-number = refl; shown = λ g. refl })
-marked-sign (negating e) = subst SignTag (sym (ap marked-tag e)) (record { no-use = refl; no-number = refl; shown = λ g. refl })
+marked-sign (adding e) = subst SignTag (sym (ap marked-tag e)) (record { no-use = refl; shown = λ g. refl })
+marked-sign (subtracting e) = subst SignTag (sym (ap marked-tag e)) (record { no-use = refl; shown = λ g. refl })
+marked-sign (multiplying e) = subst SignTag (sym (ap marked-tag e)) (record { no-use = refl; shown = λ g. refl })
+marked-sign (negating e) = subst SignTag (sym (ap marked-tag e)) (record { no-use = refl; shown = λ g. refl })
 
 -- rows of a calculation
 pub data Reckons : List TermRow → List Term → Type 0 where
@@ -146,40 +145,40 @@ calculation-tells x = counted-tells (calculation-counts x)
 -- the signs of sets and conditions
 sign-all : SignTag 7
 unfolding termOf
-sign-all = record { no-use = refl; no-number = refl; shown = λ g. refl }
+sign-all = record { no-use = refl; shown = λ g. refl }
 
 sign-range : SignTag 8
 unfolding termOf
-sign-range = record { no-use = refl; no-number = refl; shown = λ g. refl }
+sign-range = record { no-use = refl; shown = λ g. refl }
 
 sign-from : SignTag 9
 unfolding termOf
-sign-from = record { no-use = refl; no-number = refl; shown = λ g. refl }
+sign-from = record { no-use = refl; shown = λ g. refl }
 
 sign-up-to : SignTag 10
 unfolding termOf
-sign-up-to = record { no-use = refl; no-number = refl; shown = λ g. refl }
+sign-up-to = record { no-use = refl; shown = λ g. refl }
 
 sign-or : SignTag 11
 unfolding termOf
-sign-or = record { no-use = refl; no-number = refl; shown = λ g. refl }
+sign-or = record { no-use = refl; shown = λ g. refl }
 
 sign-except : SignTag 12
 unfolding termOf
-sign-except = record { no-use = refl; no-number = refl; shown = λ g. refl }
+sign-except = record { no-use = refl; shown = λ g. refl }
 
 sign-and : SignTag 13
 unfolding termOf
-sign-and = record { no-use = refl; no-number = refl; shown = λ g. refl }
+sign-and = record { no-use = refl; shown = λ g. refl }
 
 comparison-tag : (c : Comparison) → SignTag (tag-of c)
 unfolding termOf
-comparison-tag equal = record { no-use = refl; no-number = refl; shown = λ g. refl }
-comparison-tag unequal = record { no-use = refl; no-number = refl; shown = λ g. refl }
-comparison-tag less = record { no-use = refl; no-number = refl; shown = λ g. refl }
-comparison-tag at-most-as = record { no-use = refl; no-number = refl; shown = λ g. refl }
-comparison-tag greater = record { no-use = refl; no-number = refl; shown = λ g. refl }
-comparison-tag at-least-as = record { no-use = refl; no-number = refl; shown = λ g. refl }
+comparison-tag equal = record { no-use = refl; shown = λ g. refl }
+comparison-tag unequal = record { no-use = refl; shown = λ g. refl }
+comparison-tag less = record { no-use = refl; shown = λ g. refl }
+comparison-tag at-most-as = record { no-use = refl; shown = λ g. refl }
+comparison-tag greater = record { no-use = refl; shown = λ g. refl }
+comparison-tag at-least-as = record { no-use = refl; shown = λ g. refl }
 
 -- a calculation, and what comes after it
 first-tells : (a : Calculation) {B : List TermRow} (m : List Component) → Tells B (terms-of m) → Tells (calculation-rows a ++ B) (terms-of (whole-number a ∷ m))

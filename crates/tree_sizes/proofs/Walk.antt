@@ -1,9 +1,9 @@
 -- What refusal 8 finds in the lists of a rule's nodes, up to a place p, is what the tree says of the rule's formulas: one walk over the rule's tree.
 -- Assumes nothing.
 use Prim.Native.Nat.{ℕ, suc, _+_, _≤_, _<_}
-use mathlib.Core.Path.{_≡_, refl, sym, ap, subst, _∙_}
+use mathlib.Core.Path.{_≡_, refl, sym, ap, ap₂, subst, _∙_}
 use mathlib.Core.Logic.{_⊎_, inl, ⊎-elim, _↔_, Iff·rfl, Iff·trans}
-use mathlib.Core.Bool.{Bool, true, false}
+use mathlib.Core.Bool.{Bool, true, false, cond, not, _&&_}
 use mathlib.Core.List.{List, [], _∷_, _++_}
 use native.Mathlib.Omega.{arith}
 use lib.Dec.{eqb}
@@ -133,6 +133,14 @@ module _ (p : ℕ) {xs ns ts rs ws : List ℕ} {n r : ℕ} {numbered : List ℕ 
   moved : (i j : ℕ) (L : List NodeRow) → i ≡ j → NodesHit p ns ts ws i L ↔ NodesHit p ns ts ws j L
   moved i j L e = (λ h. subst (λ (k : ℕ). NodesHit p ns ts ws k L) e h, λ h. subst (λ (k : ℕ). NodesHit p ns ts ws k L) (sym e) h)
 
+  -- a node binds, by its words
+  abbrev binds-by : ℕ → ℕ → Bool
+  binds-by kind how = eqb kind 8 && not (eqb how 0)
+
+  bound-so : (c : Bool) → binds-by 8 (cond c 1 2) ≡ true
+  bound-so true = refl
+  bound-so false = refl
+
   -- ---- the walk
 
   -- every part of a rule's tree
@@ -146,17 +154,17 @@ module _ (p : ℕ) {xs ns ts rs ws : List ℕ} {n r : ℕ} {numbered : List ℕ 
       let set = past (st .1) in
       let on = settled-on p ws numbered widest m (k .start) names (st .0) settled in
       record {
-        same = alone (calculation-faults widest (set-parts x)) (set-hit p rule widest i names b (omega arith) (k .start) on x t k (sign Kind.CloseParen closes ∷ w) (h .own-from-is) (h .own-end-is) rows set (ok .1 .0) (h .kind-is) (h .size-is) (h .first-is) (shown (past (past s))) (omega arith) (ok .0));
+        same = alone (calculation-faults widest (set-parts x)) (set-hit p rule widest i names b (omega arith) (k .start) on x t k (sign Kind.CloseParen closes ∷ w) (h .own-from-is) (h .own-end-is) rows set (ok .1 .0) false (ap₂ binds-by (h .kind-is) (h .how-is)) (h .kind-is) (h .size-is) (h .first-is) (shown (past (past s))) (omega arith) (ok .0));
         mid = k .start;
         left = past (after-set x set);
         settled = on;
       }
-  walk top begun (binder signed depth u opens k comma v opens′ x comma′ y closes closes′) i t names w {m} (first-then h more) rows s b e ok settled =
+  walk top begun (binder {d} signed depth u opens k comma v opens′ x comma′ y closes closes′) i t names w {m} (first-then h more) rows s b e ok settled =
       let st = after-token (past (past s)) in
       let set = past (past (past (past (past (st .1))))) in
       let on = settled-on p ws numbered widest m (k .start) names (st .0) settled in
       record {
-        same = alone (calculation-faults widest (set-parts y)) (set-hit p rule widest i names b (omega arith) (k .start) on y t k (sign Kind.CloseParen closes ∷ sign Kind.CloseParen closes′ ∷ w) (h .own-from-is) (h .own-end-is) rows set (ok .1 .0) (h .kind-is) (h .size-is) (h .first-is) (shown (past (past s))) (omega arith) (ok .0));
+        same = alone (calculation-faults widest (set-parts y)) (set-hit p rule widest i names b (omega arith) (k .start) on y t k (sign Kind.CloseParen closes ∷ sign Kind.CloseParen closes′ ∷ w) (h .own-from-is) (h .own-end-is) rows set (ok .1 .0) true (ap₂ binds-by (h .kind-is) (h .how-is) ∙ bound-so (eqb (d + 1 + 1) 2)) (h .kind-is) (h .size-is) (h .first-is) (shown (past (past s))) (omega arith) (ok .0));
         mid = k .start;
         left = past (past (after-set y set));
         settled = settled-more p ws numbered widest (k .start) names x k (ok .1 .1 .0) (omega arith) (ok .0) on;
