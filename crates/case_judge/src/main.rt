@@ -128,6 +128,16 @@ fn show_strict(table: &mut [u32; TABLE_WORDS]) {
     clear(table);
     case_tables::valueless(table);
     show(b"valueless:", table);
+    clear(table);
+    case_tables::valueless_sint(table);
+    show(b"valueless sint:", table);
+}
+
+// 64 bits, a sign and a number past 32 bits.
+fn show_wide(table: &mut [u32; TABLE_WORDS]) {
+    clear(table);
+    case_tables::wide(table);
+    show(b"wide:", table);
 }
 
 fn main() {
@@ -163,4 +173,5 @@ fn main() {
     case_tables::heavy(&mut table);
     show(b"heavy:", &mut table);
     show_strict(&mut table);
+    show_wide(&mut table);
 }
