@@ -173,7 +173,7 @@ pub fn empty_body(table: &[u32], first: &[u64], i: usize) -> bool
     may_be_empty(first, i, below)
 }
 
-// A uint has no value left exactly where no window begins with one.
+// A uint or sint has no value left exactly where no window begins with one.
 fn none_left(first: &[u64], i: usize, own: OwnList) -> bool
     requires { ⌜ length (now first) ≡ family-words ⌝ }
     ensures { λ r. ⌜ Decides r (NoValueIn (strings (now (first .entry))) i own) ⌝ }
@@ -185,7 +185,7 @@ fn none_left(first: &[u64], i: usize, own: OwnList) -> bool
     }
 }
 
-// Whether construct i is a uint whose set has no variable and no value left.
+// Whether construct i is a uint or sint whose set has no variable and no value left.
 pub fn no_value(table: &[u32], first: &[u64], i: usize) -> bool
     requires { ⌜ length (now first) ≡ family-words ⌝ }
     ensures { λ r. ⌜ Decides r (NoValueAt (strings (now (first .entry))) i (constructAt (now (table .entry)) i)) ⌝ }

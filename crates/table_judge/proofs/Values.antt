@@ -32,7 +32,7 @@ use Rattle.table_conflicts.specs.Clashes.{NoValueAt}
 use Rattle.table_judge.specs.Judged.{Valueless}
 
 module _ (ws first : List ℕ) (fs : FirstSets ws first) (i : ℕ) (h : i < max-constructs) where
-  -- the windows of a uint, both ways
+  -- the windows of a uint or sint, both ways
   module _ (signed : Bool) (width start end binder : ℕ) (e : constructAt ws i ≡ Construct.Uint signed width start end binder) where
     node-is : held ws .node i ≡ uint-node ws signed width start end binder
     unfolding node-of

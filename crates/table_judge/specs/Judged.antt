@@ -1,4 +1,4 @@
--- The judgement over a table's words: "1 to 11 are tried in order", then 12 and 13 (Req 06). 5 and 6, and 8's limits of widths and numbers, are what the layout asks (`laid`).
+-- The judgement over a table's words: "1 to 11 are tried in order", then 12 and 13 (Req 06). 5 and 6, and 8's limits of widths, are what the layout asks (`laid`).
 -- Assumes nothing.
 use Prim.Native.Nat.{ℕ, _≤_, _<_}
 use mathlib.Core.Path.{_≡_}

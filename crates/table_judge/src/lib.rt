@@ -17,7 +17,7 @@ use table_reach::Recursion;
 pub mod sound;
 
 // What is wrong with words that pass 5 to 8, by the papers' numbers: a repeated body that may be empty (9), a conflict (10), a weight over
-// 65,535 (11), a rule that the start rule does not reach (12), a uint without a value left (13); or that they pass, with the weight.
+// 65,535 (11), a rule that the start rule does not reach (12), a uint or sint without a value left (13); or that they pass, with the weight.
 pub enum Judgement {
     EmptyBody { construct: usize },
     Conflict { construct: usize, clash: Clash },
@@ -62,7 +62,7 @@ fn is_clash(clash: Clash) -> bool
     }
 }
 
-// 13: the first uint that has no value left
+// 13: the first uint or sint that has no value left
 fn judge_values(table: &[u32], first: &[u64], weight: usize) -> Judgement
     requires { ⌜ Passed12 (now table) weight × (length (now first) ≡ family-words) × FirstSets (now table) (now first) ⌝ }
     ensures { λ r. ⌜ Judged (now (table .entry)) r ⌝ }

@@ -1,4 +1,4 @@
--- `table_judge::judge_values` meets its contract. The invariant: no construct below i is a uint without a value left. Assumes nothing.
+-- `table_judge::judge_values` meets its contract. The invariant: no construct below i is a uint or sint without a value left. Assumes nothing.
 use Prim.Native.Nat.{ℕ, _-_, _≤_, _<_}
 use mathlib.Core.Path.{sym, _∙_}
 use mathlib.Core.Bool.{false≢true}
