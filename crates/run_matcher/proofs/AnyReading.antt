@@ -60,7 +60,7 @@ module _ (ws fs cs ps : List ℕ) (vs : List ℤ) (h : Head) (rs rs′ : List �
   effect-alike r r′ i k (Act.Again b) d = picked (ltb (h .count) max-entries && ltb k (bits-of fs + 1)) _ _ _ _ refl refl
   effect-alike r r′ i k Act.Leave d = refl
   effect-alike r r′ i k (Act.Take width binder n) d =
-      rw (le-leb (2 * h .captures + 2) (length rs) (omega (arith, d .0, d .3)), le-leb (2 * h .captures + 2) (length rs′) (omega (arith, d .0, d .3))) refl
+      rw (le-leb (2 * h .captures + 2) (length rs) (omega (arith, d .0, d .2)), le-leb (2 * h .captures + 2) (length rs′) (omega (arith, d .0, d .2))) refl
 
   step-alike : Room rs → Room rs′ → Alike (step-of ws fs (whole cs ps vs rs h)) (step-of ws fs (whole cs ps vs rs′ h))
   unfolding step-of

@@ -15,7 +15,7 @@ use Rattle.run_grants.proofs.Grants.{refusal-told}
 use Rattle.run_matcher.specs.Conditions.{Kept, other, run-kept, handed, call, TurnedAway}
 
 module _ (ws fs table frame : List ℕ) (reading : Option (List ℕ)) (n : ℕ) (k : Kept) where
-  -- a frame over 256 bytes
+  -- a frame over 1,024 bytes
   pub long-frame : max-frame-bytes < length frame → TurnedAway (other table frame reading n) (call ws fs k (other table frame reading n))
   long-frame l = inl (refusal-told (table-of table) frame (handed k reading) (run-kept k) n ∙ simp (lt-leb (length frame) max-frame-bytes l))
 

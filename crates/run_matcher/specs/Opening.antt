@@ -29,7 +29,7 @@ run-given Answer.LongFrame = closed-run
 run-given Answer.SmallReading = closed-run
 run-given Answer.Opened = opened-run
 
--- When each is answered. 23: "table not sound"; 21: "frame over 256 bytes"; 22: "reading room under two u32 words for each frame bit". Exactly
+-- When each is answered. 23: "table not sound"; 21: "frame over 1,024 bytes"; 22: "reading room under two u32 words for each frame bit". Exactly
 -- one of the four holds (`answer-once`).
 abbrev pub Answered : List ℕ → List ℕ → List ℕ → Answer → Type 0
 Answered ws fs rs Answer.Unsound = SoundTable ws → ⊥

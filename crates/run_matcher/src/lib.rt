@@ -8,7 +8,7 @@ use run_grants::Run;
 pub enum Answer {
     // Refused: the table is not sound.
     Unsound,
-    // Refused: the frame is over 256 bytes.
+    // Refused: the frame is over 1,024 bytes.
     LongFrame,
     // Refused: the reading has under two words for each bit of the frame.
     SmallReading,

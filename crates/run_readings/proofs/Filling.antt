@@ -50,7 +50,7 @@ module _ (ts ws fs : List ℕ) (same : (i : ℕ) → constructAt ts i ≡ constr
   Filling (whole cs ps vs rs h) = Filled ws fs rs (h .captures) (h .position)
 
   module _ (cs ps : List ℕ) (vs : List ℤ) (rs : List ℕ) (h : Head) (f : Filling (whole cs ps vs rs h)) where
-    take-filling : (i width binder n : ℕ) → field-width (constructAt ts i) ≡ width → h .position + width ≤ bits-of fs → 1 ≤ width → Filling (take-done fs cs ps vs rs h i width binder n)
+    take-filling : (i width binder : ℕ) (n : ℤ) → field-width (constructAt ts i) ≡ width → h .position + width ≤ bits-of fs → 1 ≤ width → Filling (take-done fs cs ps vs rs h i width binder n)
     take-filling i width binder n e inside some = by (leb (2 * h .captures + 2) (length rs)) (λ t. leb-true (2 * h .captures + 2) (length rs) t)
       where
         c : ℕ
@@ -87,7 +87,7 @@ module _ (ts ws fs : List ℕ) (same : (i : ℕ) → constructAt ts i ≡ constr
     effect-filling i k (Act.Members start end n) d w = either-way Filling (leb (h .count + n) (max-entries + 1)) f f
     effect-filling i k (Act.Again b) d w = either-way Filling (ltb (h .count) max-entries && ltb k (bits-of fs + 1)) f f
     effect-filling i k Act.Leave d w = f
-    effect-filling i k (Act.Take width binder n) d w = take-filling i width binder n w (d .0) (d .3)
+    effect-filling i k (Act.Take width binder n) d w = take-filling i width binder n w (d .0) (d .2)
 
   step-filling : (x : Whole) → Filling x → Filling (step-of ts fs x)
   step-filling (whole cs ps vs rs h) f =

@@ -5,7 +5,7 @@ use mathlib.Core.Path.{_≡_, refl}
 use mathlib.Core.Bool.{Bool, true, false, cond, _&&_}
 use mathlib.Core.List.{List}
 use lib.Dec.{leb, ltb, eqb}
-use lib.IntN.{ℤ, pos}
+use lib.IntN.{ℤ}
 use lib.ListN.{take, drop}
 use Rattle.basis.specs.Bits.{value, frameBits}
 use Rattle.basis.proofs.Booleans.{either-way}
@@ -17,7 +17,7 @@ use Rattle.table_layout.specs.Constructs.{constructAt}
 use Rattle.table_layout.specs.Held.{terms-of, opening}
 use Rattle.table_layout.specs.declared.Construct.{Construct}
 use Rattle.run_actions.specs.Stored.{stored, prediction-at, follow-at}
-use Rattle.run_actions.specs.Acts.{in-table, whole-in-table, terms-in-table, binder-in-table, known-values, enter, open-rule, ahead-at, bits-of, by-branch, branch-act, case-test, by-case, case-act, members-act, by-lookahead, choice-act, turn-act, counted, literal-holds, by-set, construct-act, actOf}
+use Rattle.run_actions.specs.Acts.{in-table, whole-in-table, terms-in-table, binder-in-table, known-values, enter, open-rule, ahead-at, bits-of, by-branch, branch-act, case-test, by-case, case-act, members-act, by-lookahead, choice-act, turn-act, counted, literal-holds, kept, by-set, number-at, construct-act, actOf}
 use Rattle.run_actions.specs.declared.Act.{Act}
 use Rattle.run_actions.proofs.Doing.{walk-keeps}
 use Rattle.run_fields.specs.Fields.{field-width}
@@ -72,7 +72,7 @@ module _ (w : ℕ) (ws fs : List ℕ) (vs : List ℤ) (p : ℕ) where
   turn-wide n i k Counted.Malformed = tt
   turn-wide n i k Counted.Overflow = tt
 
-set-wide : (w binder n : ℕ) (t : Tested) → Wide w (by-set t w binder n)
+set-wide : (w binder : ℕ) (n : ℤ) (t : Tested) → Wide w (by-set t w binder n)
 set-wide w binder n Tested.Yes = refl
 set-wide w binder n Tested.No = tt
 set-wide w binder n Tested.Malformed = tt
@@ -92,9 +92,9 @@ construct-wide ws fs vs p i k (Construct.Range low high) =
     let v = value (take 8 (drop p (frameBits fs))) in
     either-way (Wide 8) (leb (p + 8) (bits-of fs)) (either-way (Wide 8) (leb low v && leb v high) refl tt) tt
 construct-wide ws fs vs p i k (Construct.Uint signed width start end binder) =
-    let v = value (take width (drop p (frameBits fs))) in
+    let v : ℤ = number-at fs p signed width in
     either-way (Wide width) (terms-in-table ws end && binder-in-table ws binder)
-    (either-way (Wide width) (leb (p + width) (bits-of fs)) (set-wide width binder v (membership vs (pos v) start (terms-of ws start end))) tt)
+    (either-way (Wide width) (leb (p + width) (bits-of fs)) (set-wide width binder (kept binder v) (membership vs v start (terms-of ws start end))) tt)
     tt
 construct-wide ws fs vs p i k Construct.Eod = either-way (Wide 0) (eqb p (bits-of fs)) tt tt
 
