@@ -1,4 +1,5 @@
--- Lines of hexadecimal: "frames from standard input, each a line of hexadecimal; over 512 characters is 21, tried before 20".
+-- Lines of hexadecimal: "frames from standard input, each a line of hexadecimal; over 512 characters is 21, tried before 20";
+-- "the bench program's line length (2,048 characters)" (Req 10).
 -- Assumes nothing.
 use Prim.Native.Nat.{ℕ, _+_, _*_, _/_, _%_}
 use mathlib.Core.Bool.{Bool, cond, _&&_}
@@ -11,7 +12,7 @@ use Rattle.text_header.specs.Spans.{span-end}
 use Rattle.text_header.specs.declared.Class.{Class}
 use Rattle.bench_hexadecimal.specs.declared.Line.{Line}
 
--- "over 512 characters is 21": two for each byte of a frame
+-- over 2,048 characters is 21: two for each byte of a frame
 abbrev pub max-line : ℕ
 max-line = 2 * max-frame-bytes
 
@@ -19,7 +20,7 @@ max-line = 2 * max-frame-bytes
 unfoldable pub is-frame : List ℕ → Bool
 is-frame line = eqb (length line % 2) 0 && eqb (span-end (Class.Digit 16) 0 line) (length line)
 
--- what a line without its end is: "frame over 256 bytes" first, then "a line not an even number of hex digits"; a frame with its number of bytes
+-- what a line without its end is: a frame over 1,024 bytes first, then "a line not an even number of hex digits"; a frame with its number of bytes
 unfoldable pub line-of : List ℕ → Line
 line-of line = cond (ltb max-line (length line)) Line.TooLong (cond (is-frame line) (Line.Frame (length line / 2)) Line.NoFrame)
 

@@ -25,7 +25,7 @@ fn field_at(grammar: &[u8], table: &[u32], construct: usize, at: usize) {
     say(b"\n");
 }
 
-// A literal, a range or a uint.
+// A literal, a range, a uint or a sint.
 fn is_field(kind: usize) -> bool
     ensures { λ r. ⌜ r ≡ is-field kind ⌝ }
 {
@@ -68,20 +68,20 @@ fn constructs(grammar: &[u8]) -> usize {
     }
 }
 
-// The bound on the steps of a run is the weight times one more than the frame's bits: 2,049 for 256 bytes.
+// The bound on the steps of a run is the weight times one more than the frame's bits: 8,193 for 1,024 bytes.
 fn steps(weight: usize) -> usize
     ensures { λ r. ⌜ r ≡ bound-of weight ⌝ }
 {
     if weight <= 65535 {
-        return weight * 2049;
+        return weight * 8193;
     }
     0
 }
 
 fn bound(weight: usize) {
-    number(b"A frame of 256 bytes takes at most ", steps(weight));
+    number(b"A frame of 1024 bytes takes at most ", steps(weight));
     number(b" steps (", weight);
-    say(b" x 2049).\n");
+    say(b" x 8193).\n");
 }
 
 pub fn admitted(grammar: &[u8], weight: usize) {

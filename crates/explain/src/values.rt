@@ -1,4 +1,4 @@
-// Refusal 13: uints with no value left. The first in full, the others by their places.
+// Refusal 13: uints and sints with no value left. The first in full, the others by their places.
 use report_listing::places::part_at;
 use report_listing::places::place_of;
 use report_listing::sets;
@@ -8,10 +8,11 @@ use report_wording::writing::say;
 use table_layout::Construct;
 use table_layout::construct_at;
 
-// Construct i is a uint whose set of strings is empty; with a variable it has all.
+// Construct i is a uint or sint whose set of strings is empty; with a variable it has all.
 fn is_empty(table: &[u32], first: &[u64], i: usize) -> bool {
     match construct_at(table, i) {
         Construct::Uint {
+            signed: _,
             width: _,
             start: _,
             end: _,

@@ -21,7 +21,7 @@ fn warned(grammar: &[u8], at: usize, part: Part, sentence: &[u8]) {
     say(sentence);
 }
 
-// A range whose set of strings is empty (a uint's is refused).
+// A range whose set of strings is empty (a uint's or sint's is refused).
 fn field(grammar: &[u8], table: &[u32], first: &[u64], i: usize) {
     if 0 < width_of(table, i) {
         if lookahead::is_empty(set_at(first, i)) {

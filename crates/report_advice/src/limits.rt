@@ -10,7 +10,7 @@ pub fn rules() {
 pub fn constructs() {
     say(b"In this rule the 257th construct comes, and at most 256 are allowed.\n");
     say(b"Constructs are alternatives, concatenations, repetitions, switches, uses\n");
-    say(b"of rules, literals, ranges, uint, eod.\n");
+    say(b"of rules, literals, ranges, uint, sint, eod.\n");
     say(b"What to change: write what stands in several places as a rule, and\n");
     say(b"use it there; write \"AB\" for \"A\" & \"B\", and uint(8, 1 | 2) for\n");
     say(b"uint(8, 1) | uint(8, 2).\n");

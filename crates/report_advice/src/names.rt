@@ -4,8 +4,8 @@ use report_wording::writing::say;
 pub fn reserved() {
     say(b" is a reserved word and cannot be a name.\n");
     say(b"What to change: choose another name, here and wherever it is used.\n");
-    say(b"(A field is written uint(8, ~), its variable var(name, set) inside\n");
-    say(b"of uint, the frame's end eod.)\n");
+    say(b"(A field is written uint(8, ~), or sint(8, ~) with a sign, its variable\n");
+    say(b"var(name, set) inside of it, the frame's end eod.)\n");
 }
 
 pub fn double() {

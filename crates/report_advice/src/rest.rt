@@ -15,25 +15,93 @@ pub fn change_recursive(grammar: &[u8], at: usize) {
     say(b".\n");
 }
 
-fn large_number() {
-    say(b"This number is too large: a number is at most 4294967295.\n");
-    say(b"What to change: write a smaller number.\n");
+fn large_number(grammar: &[u8], at: usize) {
+    say(b"In this calculation the number ");
+    token(grammar, at);
+    say(b" is too large:\na number is at most 4611686018427387904 (2^62).\n");
+    say(b"What to change: write a smaller number. Larger values of a field have no\n");
+    say(b"number of their own: 4611686018427387904~ has all from there on.\n");
 }
 
 fn width() {
-    say(b"The width of a uint is a number of bits from 1 to 32.\n");
+    say(b"The width of a uint or sint is a number of bits from 1 to 64, and where\n");
+    say(b"its value is bound to a variable at most 62.\n");
     say(b"What to change: write such a width. A wider field is two, and the frames\n");
-    say(b"stay as they are meant: 64 bits are uint(32, ~) & uint(32, ~).\n");
+    say(b"stay as they are meant: 128 bits are uint(64, ~) & uint(64, ~).\n");
+}
+
+fn bound_width() {
+    say(b"A field whose value is bound to a variable has at most 62 bits, so that\n");
+    say(b"the variable can be calculated with; other fields have up to 64.\n");
+    say(b"What to change: where nothing uses the variable, leave it out: uint(64, ~).\n");
+    say(b"Else make two fields of it, of which the second is bound. The frames stay\n");
+    say(b"the same where the first bits are 0: uint(2, 0) & uint(62, var(n, ~)) for\n");
+    say(b"uint(64, var(n, ~)).\n");
 }
 
 fn calculation() {
     say(b"This calculation can become too large: with every variable at the largest\n");
     say(b"value that its width allows, whatever its set, no part of it may pass 2^62\n");
     say(b"(about 4.6 times 10^18).\n");
-    say(b"What to change: multiply smaller numbers, or bind the variable by a uint of\n");
+    say(b"What to change: multiply smaller numbers, or bind the variable by a field of\n");
     say(b"fewer bits. The frames stay the same where the bits in front are a field of\n");
     say(b"their own: uint(16, 0) & uint(16, var(n, ~)) for uint(32, var(n, 0~65535)).\n");
     say(b"Else they may change.\n");
+}
+
+// A number, a name, or a sign of a calculation.
+fn belongs(code: usize) -> bool {
+    match code {
+        1 => true,
+        2 => true,
+        42 => true,
+        43 => true,
+        45 => true,
+        _ => false,
+    }
+}
+
+fn is_large(code: usize, value: usize) -> bool {
+    if code == 2 {
+        return 4611686018427387904 < value;
+    }
+    false
+}
+
+// The first number past 2^62 of the calculation at a place; the text's length where it has none.
+fn large_in(grammar: &[u8], at: usize) -> usize {
+    let mut here = at;
+    let mut tokens: usize = 0;
+    while tokens < 8192 {
+        let terminal = look(grammar, here);
+        if is_large(terminal.code, terminal.value) {
+            return terminal.start;
+        }
+        if !belongs(terminal.code) {
+            return grammar.len();
+        }
+        here = terminal.end;
+        tokens += 1;
+    }
+    grammar.len()
+}
+
+fn calculated(grammar: &[u8], at: usize) {
+    let large = large_in(grammar, at);
+    if large < grammar.len() {
+        large_number(grammar, large);
+        return;
+    }
+    calculation();
+}
+
+// A width of 63 or 64 bits is wrong only where it is bound.
+fn wide(bits: usize) {
+    match bits {
+        63 => bound_width(),
+        64 => bound_width(),
+        _ => width(),
+    }
 }
 
 // 8: only a width is followed by a comma.
@@ -41,14 +109,10 @@ pub fn extent(grammar: &[u8], at: usize) {
     let terminal = look(grammar, at);
     let next = look(grammar, terminal.end).code;
     if next == 44 {
-        width();
+        wide(terminal.value);
         return;
     }
-    if 4294967295 < terminal.value {
-        large_number();
-        return;
-    }
-    calculation();
+    calculated(grammar, at);
 }
 
 // `free`: by a count with a variable.

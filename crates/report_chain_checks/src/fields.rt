@@ -29,6 +29,7 @@ pub fn is_field(table: &[u32], i: usize) -> bool
         Construct::Literal { length: _ } => true,
         Construct::Range { low: _, high: _ } => true,
         Construct::Uint {
+            signed: _,
             width: _,
             start: _,
             end: _,

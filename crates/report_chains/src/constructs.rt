@@ -160,6 +160,7 @@ pub fn construct(
         Construct::Literal { length } => field(steps, chain, i, bytes(length)),
         Construct::Range { low: _, high: _ } => field(steps, chain, i, 8),
         Construct::Uint {
+            signed: _,
             width,
             start: _,
             end: _,

@@ -17,6 +17,7 @@ use table_layout::size_of;
 fn is_number_field(table: &[u32], i: usize) -> bool {
     match construct_at(table, i) {
         Construct::Uint {
+            signed: _,
             width: _,
             start: _,
             end: _,

@@ -38,11 +38,19 @@ pub fn part(grammar: &[u8], construct: usize) {
     }
 }
 
+// A field whose bits are all that there is to be told of it: of a sint the value is told too.
+fn is_told(table: &[u32], construct: usize) -> bool {
+    if report_measures::lengths::is_signed(table, construct) {
+        return false;
+    }
+    !report_measures::counts::varies(table, construct)
+}
+
 // A branch that is a field needs no further word.
 fn is_plain(table: &[u32], construct: usize, count: usize) -> bool {
     if count == 1 {
         if 0 < report_measures::lengths::width_of(table, construct) {
-            return !report_measures::counts::varies(table, construct);
+            return is_told(table, construct);
         }
     }
     false

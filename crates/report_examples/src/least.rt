@@ -1,4 +1,5 @@
-// The least value of each field, and how few bits each construct can take. 4096 is no value, and 100000 more bits than any example has.
+// A value of each field, and how few bits each construct can take. A value from 0 up is its own number, 4096 is none, and 4097 + n is -1 - n, whose bits
+// are those of n turned round. 100000 is more bits than any example has.
 use report_measures::counts::counts_of;
 use report_measures::counts::term_words;
 use report_measures::lengths::after;
@@ -11,9 +12,9 @@ use table_layout::construct_at;
 use term_evaluation::Tested;
 ghost use Prim.Native.Nat.{_≤_};
 
-fn is_in(words: &[u32], start: usize, end: usize, v: u32) -> bool {
+fn is_in(words: &[u32], start: usize, end: usize, v: i64) -> bool {
     let none = [0i64; 1];
-    match term_evaluation::contains(words, start, end, &none[0..0], v as i64) {
+    match term_evaluation::contains(words, start, end, &none[0..0], v) {
         Tested::Yes => true,
         _ => false,
     }
@@ -22,6 +23,7 @@ fn is_in(words: &[u32], start: usize, end: usize, v: u32) -> bool {
 // Values of a field of some bits that are tried.
 fn values_of(width: usize) -> u32 {
     match width {
+        0 => 1,
         1 => 2,
         2 => 4,
         3 => 8,
@@ -40,12 +42,41 @@ fn values_of(width: usize) -> u32 {
 fn least_in(words: &[u32], start: usize, end: usize, limit: u32) -> usize {
     let mut v: u32 = 0;
     while v < limit {
-        if is_in(words, start, end, v) {
+        if is_in(words, start, end, v as i64) {
             return v as usize;
         }
         v += 1;
     }
     4096
+}
+
+// The number that stands for -1 - n.
+fn number_below(n: u32) -> usize {
+    if n < 4096 {
+        return 4097 + n as usize;
+    }
+    4096
+}
+
+// The value below 0 that is next to it.
+fn greatest_below(words: &[u32], start: usize, end: usize, limit: u32) -> usize {
+    let mut n: u32 = 0;
+    while n < limit {
+        if is_in(words, start, end, -1 - n as i64) {
+            return number_below(n);
+        }
+        n += 1;
+    }
+    4096
+}
+
+// Of a signed field half of the patterns are values below 0.
+fn with_sign(words: &[u32], start: usize, end: usize, limit: u32) -> usize {
+    let value = least_in(words, start, end, limit);
+    if value < 4096 {
+        return value;
+    }
+    greatest_below(words, start, end, limit)
 }
 
 fn in_range(low: usize, high: usize) -> usize {
@@ -55,10 +86,20 @@ fn in_range(low: usize, high: usize) -> usize {
     4096
 }
 
-fn in_set(table: &[u32], width: usize, start: usize, end: usize) -> usize {
+fn less_one(n: usize) -> usize {
+    if 0 < n {
+        return n - 1;
+    }
+    0
+}
+
+fn in_set(table: &[u32], signed: bool, width: usize, start: usize, end: usize) -> usize {
     let words = term_words(table);
     if term_evaluation::variables::has_variable(words, start, end) {
         return 4096;
+    }
+    if signed {
+        return with_sign(words, start, end, values_of(less_one(width)));
     }
     least_in(words, start, end, values_of(width))
 }
@@ -67,11 +108,12 @@ fn value_of(table: &[u32], i: usize) -> usize {
     match construct_at(table, i) {
         Construct::Range { low, high } => in_range(low, high),
         Construct::Uint {
+            signed,
             width,
             start,
             end,
             binder: _,
-        } => in_set(table, width, start, end),
+        } => in_set(table, signed, width, start, end),
         _ => 0,
     }
 }
@@ -179,10 +221,10 @@ fn times(bits: usize, n: usize) -> usize {
 }
 
 fn fixed(value: usize, bits: usize) -> usize {
-    if value < 4096 {
-        return bits;
+    if value == 4096 {
+        return 100000;
     }
-    100000
+    bits
 }
 
 fn bytes(length: usize) -> usize {
@@ -203,6 +245,7 @@ fn bits_of(table: &[u32], values: &[usize], least: &[usize], i: usize) -> usize 
         Construct::Literal { length } => bytes(length),
         Construct::Range { low: _, high: _ } => fixed(number_at(values, i), 8),
         Construct::Uint {
+            signed: _,
             width,
             start: _,
             end: _,

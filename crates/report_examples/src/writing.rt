@@ -89,10 +89,32 @@ fn number(out: &mut [usize], start: Written, value: usize, width: usize) -> Writ
     w
 }
 
+fn turned_round(bit: usize) -> usize {
+    if bit == 0 {
+        return 1;
+    }
+    0
+}
+
+// The bits of -1 - n in two's complement.
+fn number_below(out: &mut [usize], start: Written, n: usize, width: usize) -> Written {
+    let mut w = start;
+    let mut k = width;
+    while 0 < k {
+        k -= 1;
+        w = bit(out, w, turned_round(n / power(k) % 2));
+    }
+    w
+}
+
+// A value as `least` numbers it.
 fn field(values: &[usize], out: &mut [usize], w: Written, i: usize, width: usize) -> Written {
     let value = number_at(values, i);
     if value < 4096 {
         return number(out, w, value, width);
+    }
+    if 4096 < value {
+        return number_below(out, w, value - 4097, width);
     }
     failed(w)
 }
@@ -177,6 +199,7 @@ fn construct(
         Construct::Literal { length } => literal(table, out, w, i, length),
         Construct::Range { low: _, high: _ } => field(values, out, w, i, 8),
         Construct::Uint {
+            signed: _,
             width,
             start: _,
             end: _,

@@ -2,7 +2,8 @@
 use report_wording::writing::say;
 
 fn item() {
-    say(b"Here must come an item: a literal, a rule's name, uint(..), eod, ( or [.\n");
+    say(b"Here must come an item: a literal, a rule's name, uint(..), sint(..), eod,\n");
+    say(b"( or [.\n");
 }
 
 fn close(kind: usize) {

@@ -90,7 +90,7 @@ fn repetition() {
 }
 
 fn deep() {
-    say(b"Parentheses and brackets, those of uint and var too, go at most 16\n");
+    say(b"Parentheses and brackets, those of uint, sint and var too, go at most 16\n");
     say(b"deep. This is the 17th.\n");
     say(b"What to change: write what stands in them as a rule of its own.\n");
 }
@@ -105,9 +105,9 @@ fn field(code: usize, last: usize) {
     if both(code == 41, last == 2) {
         say(b"A comma and a set are missing here.\n");
     }
-    say(b"A field is written uint(width, set): the width is one number from 1\n");
-    say(b"to 32, then come a comma and a set, as in\n");
-    say(b"    uint(8, 0~9 | 20)     uint(8, ~)     uint(8, var(n, 1~8))\n");
+    say(b"A field is written uint(width, set), or sint(width, set) with a sign: the\n");
+    say(b"width is one number from 1 to 64, then come a comma and a set, as in\n");
+    say(b"    uint(8, 0~9 | 20)     sint(8, -1)     uint(8, var(n, 1~8))\n");
     say(b"What to change: write the field so.\n");
 }
 
@@ -140,7 +140,7 @@ fn mixed() {
 }
 
 fn number() {
-    say(b"A number stands only in a uint, in counts {..} and in conditions.\n");
+    say(b"A number stands only in a uint or sint, in counts {..} and in conditions.\n");
     say(b"What to change: write the text in quotes, as in \"5\" (byte 35), or a\n");
     say(b"field, as in uint(8, 5) (byte 05).\n");
 }
@@ -152,9 +152,9 @@ fn item() {
 }
 
 fn call() {
-    say(b"No ( comes after a name. Only uint(..) is written so, and var(..)\n");
-    say(b"right after the comma of a uint.\n");
-    say(b"What to change: is uint or var misspelt? Or is & (then) or | (or)\n");
+    say(b"No ( comes after a name. Only uint(..) and sint(..) are written so, and\n");
+    say(b"var(..) right after their comma.\n");
+    say(b"What to change: is uint, sint or var misspelt? Or is & (then) or | (or)\n");
     say(b"missing in front of the ( ?\n");
 }
 
@@ -212,7 +212,7 @@ fn ranging(code: usize, last: usize) -> bool
     )
 }
 
-// `uint(`, or `uint(` and a width.
+// `uint(`, or `uint(` and a width; `sint(` has the same code.
 fn in_field(third: usize, second: usize, last: usize) -> bool
     ensures { λ r. ⌜ r ≡ in-field third second last ⌝ }
 {

@@ -1,9 +1,11 @@
 // How bits come about: the fields that spell them, in order, each with its line and column.
 use crate::places::definition;
 use crate::places::place_of;
+use crate::signs;
 use report_chains::strings::bits;
 use report_measures::counts::varies;
 use report_measures::lengths::is_literal;
+use report_measures::lengths::is_signed;
 use report_measures::lengths::width_of;
 use report_measures::words::number_at;
 use report_wording::lines;
@@ -41,7 +43,7 @@ fn counts_note(grammar: &[u8], at: usize) {
     say(b")\n");
 }
 
-// A literal has its bits in every frame, a range or a uint in some.
+// A literal has its bits in every frame, another field in some.
 fn verb(literal: bool, part: bool) {
     if literal {
         if part {
@@ -58,9 +60,17 @@ fn verb(literal: bool, part: bool) {
     }
 }
 
+// What the bits are of a sint's values.
+fn sign_of(table: &[u32], i: usize, value: usize) {
+    if is_signed(table, i) {
+        signs::told(value, bits(value), width_of(table, i));
+    }
+}
+
 fn bits_of(table: &[u32], i: usize, value: usize) {
     verb(is_literal(table, i), bits(value) < width_of(table, i));
     binary(value, bits(value));
+    sign_of(table, i, value);
     say(b"\n");
 }
 

@@ -2,3 +2,4 @@
 pub mod chains;
 pub mod places;
 pub mod sets;
+mod signs;

@@ -89,6 +89,7 @@ pub fn varies(table: &[u32], i: usize) -> bool {
     match construct_at(table, i) {
         Construct::Repetition { size: _, passes } => passes_vary(table, passes),
         Construct::Uint {
+            signed: _,
             width: _,
             start,
             end,

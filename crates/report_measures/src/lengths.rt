@@ -181,6 +181,7 @@ fn length_of(table: &[u32], lengths: &[usize], i: usize) -> usize {
         Construct::Literal { length: _ } => 1,
         Construct::Range { low: _, high: _ } => 1,
         Construct::Uint {
+            signed: _,
             width,
             start: _,
             end: _,
@@ -197,12 +198,18 @@ pub fn is_literal(table: &[u32], i: usize) -> bool {
     }
 }
 
+// Whether a field's value has a sign.
+pub fn is_signed(table: &[u32], i: usize) -> bool {
+    table_layout::attributes_of(construct_at(table, i)).signed
+}
+
 // How many bits a field has.
 pub fn width_of(table: &[u32], i: usize) -> usize {
     match construct_at(table, i) {
         Construct::Literal { length } => bytes(length),
         Construct::Range { low: _, high: _ } => 8,
         Construct::Uint {
+            signed: _,
             width,
             start: _,
             end: _,

@@ -6,7 +6,7 @@ use table_layout::Construct;
 use table_layout::construct_at;
 use table_layout::word;
 
-// Where the rule's name stands; where the variable's does, 0 where none is bound; the kind (6 literal, 7 range, 8 uint); which of the rule's fields
+// Where the rule's name stands; where the variable's does, 0 where none is bound; the kind (6 literal, 7 range, 8 uint, 12 sint); which of the rule's fields
 // of that kind without a variable it is, from 1.
 pub struct Named {
     pub rule: usize,
@@ -15,17 +15,26 @@ pub struct Named {
     pub ordinal: usize,
 }
 
+// The kind of a field of whole numbers.
+fn kind_by(signed: bool) -> usize {
+    if signed {
+        return 12;
+    }
+    8
+}
+
 // The kind of a field; 0 for what is none.
 pub fn kind_of(table: &[u32], i: usize) -> usize {
     match construct_at(table, i) {
         Construct::Literal { length: _ } => 6,
         Construct::Range { low: _, high: _ } => 7,
         Construct::Uint {
+            signed,
             width: _,
             start: _,
             end: _,
             binder: _,
-        } => 8,
+        } => kind_by(signed),
         _ => 0,
     }
 }

@@ -31,7 +31,7 @@ pub fn rules(grammar: &[u8], rules: &mut [usize]) {
     }
 }
 
-// The name that the uint at `at` binds: behind `uint ( width , var (`.
+// The name that the uint or sint at `at` binds: behind `uint ( width , var (`.
 pub fn bound(grammar: &[u8], at: usize) -> usize {
     let mut here = at;
     let mut n: usize = 0;

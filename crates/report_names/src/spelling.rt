@@ -93,6 +93,7 @@ fn by_kind(kind: usize, n: usize, k: usize) -> u8 {
     match kind {
         6 => numbered(b"LITERAL_", n, k),
         7 => numbered(b"RANGE_", n, k),
+        12 => numbered(b"SINT_", n, k),
         _ => numbered(b"UINT_", n, k),
     }
 }

@@ -1,7 +1,7 @@
 // Which brackets are open at a place of the rules, and where the token before it ends.
 use text_parsing::terminals::look;
 
-// The brackets that are open, the innermost as the last digit to base 8: 1 a group, 2 that of uint, 3 that of var, 4 a switch before the colon of a
+// The brackets that are open, the innermost as the last digit to base 8: 1 a group, 2 that of uint or sint, 3 that of var, 4 a switch before the colon of a
 // case, 5 a switch after it, 6 counts, 7 parentheses in a set or a condition. `end` is the end of the last token, `code` its code.
 pub struct Brackets {
     pub kinds: usize,
