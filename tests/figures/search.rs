@@ -46,15 +46,21 @@ fn nested(depth: usize, body: &str, counts: &str) -> String {
 fn set(kind: u8, items: usize, order: u8) -> String {
     let numbers = if order % 3 == 0 { (0..items).collect() } else { shuffled(items, order) };
     let listed = |item: &dyn Fn(usize) -> String| numbers.iter().map(|&i| item(i * 3)).collect::<Vec<_>>().join("|");
-    match kind % 7 {
+    match kind % 8 {
         0 => listed(&|i| format!("{i}")),
         1 => listed(&|i| format!("{i}!{i}")),
         2 => listed(&|i| format!("{}~{}!{}~{}", i * 999, i * 999 + 99, i * 999, i * 999 + 99)),
         3 => listed(&|i| format!("~{i}!~{}", i + 1)),
+        7 => listed(&|i| format!("-{i}")),
         4 => format!("1!({})", listed(&|i| format!("{}", i + 3))),
         5 => listed(&|i| format!("{}~{}", i * 9999 + 7, i * 9999 + 9)),
         _ => listed(&|i| format!("{i}!~{}", i + 1)),
     }
+}
+
+// The word and the width of a field, up to the comma: one of 128.
+fn field(gene: u8) -> String {
+    format!("{}({},", if gene & 64 == 0 { "uint" } else { "sint" }, 1 + gene % 64)
 }
 
 fn member(kind: u8, genes: &Genes) -> String {
@@ -67,7 +73,7 @@ fn member(kind: u8, genes: &Genes) -> String {
         4 => "\"x\"".into(),
         5 => "(uint(8,1)|uint(8,2))".into(),
         6 => format!("uint(8,{}){counts}", genes[7]),
-        7 => format!("uint({},{})", 1 + genes[8] % 32, set(genes[9], usize::from(genes[10]) % 8 + 1, genes[11])),
+        7 => format!("{}{})", field(genes[8]), set(genes[9], usize::from(genes[10]) % 8 + 1, genes[11])),
         8 => nested(usize::from(genes[6]) % 15, "uint(8,7)", counts),
         _ => format!("uint(16,~){counts}"),
     }
@@ -78,7 +84,7 @@ fn text(genes: &Genes) -> String {
     let header = "dogma_v1 utf-8\n\n";
     if genes[0] % 4 == 0 {
         let items = usize::from(genes[1]) * 2 + 1;
-        return format!("{header}a=uint({},{});", 1 + genes[2] % 32, set(genes[3], items, genes[4]));
+        return format!("{header}a={}{});", field(genes[2]), set(genes[3], items, genes[4]));
     }
     let rules = usize::from(genes[1]) % 64 + 1;
     let members = |rule: usize| if rule == 0 || genes[2] % 8 == 0 { usize::from(genes[3]) } else { usize::from(genes[16 + rule]) % 3 };
