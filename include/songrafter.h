@@ -83,8 +83,8 @@ enum songrafter_field_word {
     SONGRAFTER_FIELD_CONSTRUCT = 0, /* which field of the grammar: its construct number */
     SONGRAFTER_FIELD_FIRST_BIT = 1, /* bits of the frame before it */
     SONGRAFTER_FIELD_WIDTH = 2,     /* its bits: 1 to 64 of a uint or sint, 8 of a range, 8 for each literal's character */
-    SONGRAFTER_FIELD_VALUE = 3      /* the number that they are, most significant bit first and without a sign; 0 where
-                                       they are over 64 */
+    SONGRAFTER_FIELD_VALUE = 3      /* the number that they are, most significant bit first, a sint's in two's complement of
+                                       64 bits; 0 where they are over 64 */
 };
 
 /* The archive's version number. */
@@ -127,7 +127,7 @@ size_t songrafter_grant(const uint32_t *table, size_t table_len, const uint8_t *
  * none of them is refused, and they lie one after the other from the frame's first bit up to songrafter_position(run).
  * What the reading holds behind them is the caller's own.
  * The value of a literal of more than 8 characters is told as 0: its bits are in the frame, from its first bit on. The
- * value of a sint is told as its bits are; songrafter_signed gives it its sign. */
+ * value of a sint is in two's complement of 64 bits, so that of it as an int64_t has its sign. */
 size_t songrafter_field(const uint32_t *table, size_t table_len, const uint8_t *frame, size_t frame_len,
                         const uint32_t *reading, size_t reading_len, size_t k, uint64_t *field, size_t field_len);
 
@@ -148,14 +148,6 @@ uint64_t songrafter_steps(const uint8_t *run, size_t run_len);
 uint64_t songrafter_fields(const uint8_t *run, size_t run_len);
 uint64_t songrafter_position(const uint8_t *run, size_t run_len);
 int64_t songrafter_value(const uint8_t *run, size_t run_len, size_t k);
-
-/* The value of a sint, from its value and its width as songrafter_field tells them: its first bit counts negative. */
-static inline int64_t songrafter_signed(uint64_t value, uint64_t width) {
-    if (width == 0 || width > 64) return 0;
-    if (value >> (width - 1) == 0) return (int64_t)value;
-    /* what is missing up to -1, which no width makes too large */
-    return -(int64_t)((UINT64_MAX >> (64 - width)) ^ value) - 1;
-}
 
 /* A sentence for a number of refusal, and a word for a verdict. */
 static inline const char *songrafter_refusal_text(size_t number) {

@@ -1,15 +1,18 @@
 -- What two words of a reading name: "all but eod write two words in the reading: construct number, first bit". `ws` are the table's words,
 -- `fs` the frame's bytes, `rs` the reading's words. Any of them are answered.
 -- Assumes nothing.
-use Prim.Native.Nat.{ℕ, _+_, _*_}
+use Prim.Native.Nat.{ℕ, suc, _+_, _*_, _-_, _^_}
 use mathlib.Core.List.{List, [], _∷_}
-use mathlib.Core.Bool.{cond}
+use mathlib.Core.Bool.{Bool, cond}
 use lib.Dec.{leb, ltb, eqb}
+use lib.IntN.{ℤ, pos, negsuc}
 use lib.ListN.{length, take, drop}
 use Rattle.basis.specs.Limits.{max-width, max-frame-bytes, table-words}
-use Rattle.basis.specs.Bits.{value, frameBits}
+use Rattle.basis.specs.Bits.{frameBits}
+use Rattle.basis.specs.Patterns.{pattern-value}
 use Rattle.table_layout.specs.Places.{word}
 use Rattle.table_layout.specs.Constructs.{constructAt}
+use Rattle.table_layout.specs.Attributes.{attributes-of}
 use Rattle.table_layout.specs.declared.Construct.{Construct}
 use Rattle.run_fields.specs.declared.Answer.{Answer}
 
@@ -27,18 +30,27 @@ field-width (Construct.Range low high) = 8
 field-width (Construct.Uint signed width start end binder) = width
 field-width Construct.Eod = 0
 
--- the number without a sign that the w bits from bit p on are, "most significant bit first", of a signed field too; 0 for more than 64 bits, which only a
--- literal has
-abbrev pub field-value : List ℕ → (p w : ℕ) → ℕ
-field-value fs p w = cond (leb w max-width) (value (take w (drop p (frameBits fs)))) 0
+-- it is a sint
+abbrev pub field-signed : Construct → Bool
+field-signed c = attributes-of c .signed
+
+-- a whole number in 64 bits: "a signed value in two's complement of 64 bits" (Req 10, of a list of values)
+abbrev pub in-64-bits : ℤ → ℕ
+in-64-bits (pos n) = n
+in-64-bits (negsuc n) = 2 ^ 64 - suc n
+
+-- the number that the w bits from bit p on are, "most significant bit first"; 0 for more than 64 bits, which only a literal has
+abbrev pub field-value : List ℕ → Bool → (p w : ℕ) → ℕ
+field-value fs signed p w = cond (leb w max-width) (in-64-bits (pattern-value signed (take w (drop p (frameBits fs))))) 0
 
 -- a field of construct i with w bits from bit p on
-abbrev pub field-in : List ℕ → (i p w : ℕ) → Answer
-field-in fs i p w = cond (eqb w 0) Answer.NoField (cond (leb (p + w) (8 * length fs)) (Answer.Found i p w (field-value fs p w)) Answer.Outside)
+abbrev pub field-in : List ℕ → Bool → (i p w : ℕ) → Answer
+field-in fs signed i p w =
+    cond (eqb w 0) Answer.NoField (cond (leb (p + w) (8 * length fs)) (Answer.Found i p w (field-value fs signed p w)) Answer.Outside)
 
 -- construct i of the table at bit p
 abbrev pub field-at : (ws fs : List ℕ) → (i p : ℕ) → Answer
-field-at ws fs i p = cond (ltb (length ws) table-words) Answer.NoField (field-in fs i p (field-width (constructAt ws i)))
+field-at ws fs i p = cond (ltb (length ws) table-words) Answer.NoField (field-in fs (field-signed (constructAt ws i)) i p (field-width (constructAt ws i)))
 
 -- field k: the words 2k and 2k + 1 of the reading
 abbrev pub field-of : (ws fs rs : List ℕ) → (k : ℕ) → Answer

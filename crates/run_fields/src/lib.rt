@@ -3,12 +3,15 @@ use basis::MAX_FRAME_BYTES;
 use basis::MAX_WIDTH;
 use basis::TABLE_WORDS;
 use table_layout::Construct;
+use term_evaluation::patterns::offset_of;
 ghost use mathlib.Core.Path.{_≡_};
-ghost use Prim.Native.Nat.{_+_, _*_, _≤_, _<_};
+ghost use Prim.Native.Nat.{_+_, _*_, _^_, _≤_, _<_};
 ghost use lib.ListN.{length};
 ghost use Rattle.basis.specs.Limits.{max-frame-bytes};
+ghost use Rattle.basis.specs.Bits.{bitsOf};
+ghost use Rattle.basis.specs.Patterns.{pattern-value};
 ghost use Rattle.table_layout.specs.Constructs.{constructAt};
-ghost use Rattle.run_fields.specs.Fields.{field-width, field-value, field-in, field-at, field-of};
+ghost use Rattle.run_fields.specs.Fields.{field-width, field-signed, in-64-bits, field-value, field-in, field-at, field-of};
 
 // What two words of a reading name.
 pub enum Answer {
@@ -20,7 +23,7 @@ pub enum Answer {
     NoField,
     // Not all of the field's bits lie in the frame.
     Outside,
-    // The value is the bits as a number without a sign, a signed field's too, and 0 where there are more than 64.
+    // The value of a sint is in two's complement of 64 bits; of more than 64 bits it is 0.
     Found {
         construct: usize,
         first: usize,
@@ -61,20 +64,43 @@ fn width_at(table: &[u32], i: usize) -> usize
     width_of(table_layout::construct_at(table, i))
 }
 
-fn value_at(frame: &[u8], p: usize, w: usize) -> usize
+// Whether construct i is a sint.
+fn signed_at(table: &[u32], i: usize) -> bool
+    ensures { λ r. ⌜ r ≡ field-signed (constructAt (now (table .entry)) i) ⌝ }
+{
+    table_layout::attributes_of(table_layout::construct_at(table, i)).signed
+}
+
+// The value of w bits in 64 bits.
+fn extended(pattern: u64, w: usize, signed: bool) -> u64
+    requires { ⌜ (w ≤ 64) × (pattern < 2 ^ w) ⌝ }
+    ensures { λ r. ⌜ r ≡ in-64-bits (pattern-value signed (bitsOf w pattern)) ⌝ }
+{
+    let half = offset_of(w as u32, signed);
+    if pattern < half {
+        return pattern;
+    }
+    if 0 < half {
+        return 18446744073709551615 - (half - 1 - (pattern - half));
+    }
+    pattern
+}
+
+fn value_at(frame: &[u8], signed: bool, p: usize, w: usize) -> usize
     requires { ⌜ (p + w ≤ 8 * length (now frame)) × (length (now frame) ≤ max-frame-bytes) ⌝ }
-    ensures { λ r. ⌜ r ≡ field-value (now (frame .entry)) p w ⌝ }
+    ensures { λ r. ⌜ r ≡ field-value (now (frame .entry)) signed p w ⌝ }
 {
     if w <= MAX_WIDTH {
-        return run_frame::bits(frame, p, w) as usize;
+        let pattern = run_frame::bits(frame, p, w);
+        return extended(pattern, w, signed) as usize;
     }
     0
 }
 
 // The field of construct i, with w bits from bit p on.
-fn in_frame(frame: &[u8], i: usize, p: usize, w: usize) -> Answer
+fn in_frame(frame: &[u8], signed: bool, i: usize, p: usize, w: usize) -> Answer
     requires { ⌜ (p < 4294967296) × (w ≤ 256) × (length (now frame) ≤ max-frame-bytes) ⌝ }
-    ensures { λ r. ⌜ r ≡ field-in (now (frame .entry)) i p w ⌝ }
+    ensures { λ r. ⌜ r ≡ field-in (now (frame .entry)) signed i p w ⌝ }
 {
     if w == 0 {
         return Answer::NoField;
@@ -84,7 +110,7 @@ fn in_frame(frame: &[u8], i: usize, p: usize, w: usize) -> Answer
             construct: i,
             first: p,
             width: w,
-            value: value_at(frame, p, w),
+            value: value_at(frame, signed, p, w),
         };
     }
     Answer::Outside
@@ -97,7 +123,8 @@ fn at(table: &[u32], frame: &[u8], i: usize, p: usize) -> Answer
     if table.len() < TABLE_WORDS {
         return Answer::NoField;
     }
-    in_frame(frame, i, p, width_at(table, i))
+    let signed = signed_at(table, i);
+    in_frame(frame, signed, i, p, width_at(table, i))
 }
 
 // Field k of a reading.

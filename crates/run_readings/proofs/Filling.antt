@@ -22,7 +22,7 @@ use Rattle.run_actions.proofs.Doing.{doable}
 use Rattle.run_steps.specs.Steps.{Whole, whole, break, bind, taken, take-done, effect, step-of, steps-of}
 use Rattle.run_steps.specs.declared.Head.{Head}
 use Rattle.run_steps.proofs.Running.{step-by}
-use Rattle.run_fields.specs.Fields.{field-width, field-value, field-at, field-of, number-of}
+use Rattle.run_fields.specs.Fields.{field-width, field-signed, field-value, field-at, field-of, number-of}
 use Rattle.run_fields.specs.declared.Answer.{Answer}
 use Rattle.run_readings.specs.Told.{Filled, no-field, one-more}
 use Rattle.run_readings.proofs.Widths.{Wide, act-wide}
@@ -31,7 +31,7 @@ use Rattle.run_readings.proofs.Widths.{Wide, act-wide}
 module _ (ts ws fs : List ℕ) (same : (i : ℕ) → constructAt ts i ≡ constructAt ws i) (long : table-words ≤ length ws) (short : length fs ≤ max-frame-bytes) where
   -- two words that name a field of w bits within the frame
   found : (rs : List ℕ) (k i p w : ℕ) → 2 * k + 2 ≤ length rs → word rs (2 * k) ≡ i → word rs (2 * k + 1) ≡ p → field-width (constructAt ws i) ≡ w → 1 ≤ w → p + w ≤ bits-of fs
-      → field-of ws fs rs k ≡ Answer.Found i p w (field-value fs p w)
+      → field-of ws fs rs k ≡ Answer.Found i p w (field-value fs (field-signed (constructAt ws i)) p w)
   found rs k i p w there a b e some inside =
       simp (le-ltb max-frame-bytes (length fs) short, le-leb (2 * k + 2) (length rs) there, a, b, le-ltb (length ws) table-words long, e, ne-eqb w 0 (λ z. omega arith), le-leb (p + w) (8 * length fs) inside)
 
@@ -75,9 +75,9 @@ module _ (ts ws fs : List ℕ) (same : (i : ℕ) → constructAt ts i ≡ constr
             let first : word rs₂ (2 * c) ≡ i = getD-set-other rs₁ (2 * c + 1) (2 * c) p 0 (omega arith) ∙ getD-set-same rs (2 * c) i 0 (omega arith) in
             let second : word rs₂ (2 * c + 1) ≡ p = getD-set-same rs₁ (2 * c + 1) p 0 (let z = length-set rs (2 * c) i in omega arith) in
             let before : Filled ws fs rs₂ c p = filled-local rs rs₂ kept (λ j m. sym (getD-set-other rs₁ (2 * c + 1) j p 0 (omega arith) ∙ getD-set-other rs (2 * c) j i 0 (omega arith))) f in
-            let told : field-of ws fs rs₂ c ≡ Answer.Found i p width (field-value fs p width) =
+            let told : field-of ws fs rs₂ c ≡ Answer.Found i p width (field-value fs (field-signed (constructAt ws i)) p width) =
             found rs₂ c i p width (let z = kept in omega arith) first second (let z = same i in subst (λ x. field-width x ≡ width) z e) some inside in
-            subst (λ (m : ℕ). Filled ws fs rs₂ m (p + width)) (sym (add-one c)) (one-more i width (field-value fs p width) before told some refl)
+            subst (λ (m : ℕ). Filled ws fs rs₂ m (p + width)) (sym (add-one c)) (one-more i width (field-value fs (field-signed (constructAt ws i)) p width) before told some refl)
         by false room = f
 
     effect-filling : (i k : ℕ) (a : Act) → Doable ts fs (h .position) a → Wide (field-width (constructAt ts i)) a → Filling (effect ts fs i k cs ps vs rs h a)

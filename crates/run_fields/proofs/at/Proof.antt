@@ -11,7 +11,9 @@ use Rattle.run_fields.proofs.width_at.Reads as width-at-reads
 returns : tie.Need-returns
 returns c = simp (lt-ltb _ _ (c .if1 .taken))
 
--- src/lib.rt:99:27
+signed-at-requires : tie.Need-signed-at-requires
+signed-at-requires c κs = search needs
+
 width-at-requires : tie.Need-width-at-requires
 width-at-requires c κs = search needs
 
@@ -21,7 +23,7 @@ in-frame-requires c κs = search needs
 
 -- src/lib.rt:92:1
 returns-2 : tie.Need-returns-2
-returns-2 c = simp (le-ltb _ _ (c .before .before .if1 .left), ← (c .before .width-at .ensures .0)) (c .in-frame .ensures)
+returns-2 c = simp (le-ltb _ _ (c .before .before .before .if1 .left), ← (c .before .width-at .ensures .0), ← (c .before .before .signed-at .ensures)) (c .in-frame .ensures)
 
 pub at-spec : {M : Type 1} → statement M
-at-spec = tie.close (tie.spec returns width-at-requires in-frame-requires returns-2)
+at-spec = tie.close (tie.spec returns signed-at-requires width-at-requires in-frame-requires returns-2)
