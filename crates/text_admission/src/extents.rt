@@ -68,10 +68,7 @@ fn width_found(text: &[u8], nodes: &[usize], i: usize) -> Found
     let w = width(text, nodes, i);
     let m = most(nodes, i);
     found_if(
-        both(
-            node_word(nodes, i, KIND) == 8,
-            not(both(1 <= w, w <= m)),
-        ),
+        both(node_word(nodes, i, KIND) == 8, not(both(1 <= w, w <= m))),
         node_word(nodes, i, WIDTH_PLACE),
     )
 }
