@@ -122,7 +122,10 @@ fn check_fields(table: &Guarded<u32>, frame: &Guarded<u8>, run: &Guarded<u8>, re
         let (number, [construct, first, width, value]) = calls::field(table, frame, reading, k);
         same("field", (number, construct, first), (0, u64::from(reading.values()[2 * k]), at))?;
         let bits = if width > 64 { 0..0 } else { at..at + width };
-        same("its value", value, bits.fold(0, |n, bit| 2 * n + u64::from(frame.values()[bit as usize / 8] >> (7 - bit % 8) & 1)))?;
+        let number = bits.fold(0, |n, bit| 2 * n + u64::from(frame.values()[bit as usize / 8] >> (7 - bit % 8) & 1));
+        // a sint (kind 12) in two's complement of 64 bits
+        let negative = table.values()[576 + 8 * construct as usize] == 12 && number >> (width - 1) == 1;
+        same("its value", value, if negative && width < 64 { number.wrapping_sub(1 << width) } else { number })?;
         at += width;
     }
     same("the end of the last field", at, calls::position(run) as u64)

@@ -243,16 +243,19 @@ impl Words<'_> {
         if self.table.len() < TABLE_WORDS {
             return Err(23);
         }
-        let width = match self.construct(construct) {
-            Some((Kind::Literal(length), _)) => 8 * length,
-            Some((Kind::Range(_, _), _)) => 8,
-            Some((Kind::Uint { width, .. }, _)) => width,
+        let (signed, width) = match self.construct(construct) {
+            Some((Kind::Literal(length), _)) => (false, 8 * length),
+            Some((Kind::Range(_, _), _)) => (false, 8),
+            Some((Kind::Uint { signed, width, .. }, _)) => (signed, width),
             _ => return Err(23),
         };
         if position + width > self.bits() {
             return Err(24);
         }
-        let value = if width > 64 { 0 } else { self.number(position, width) };
+        let number = if width > 64 { 0 } else { self.number(position, width) };
+        // a sint's in two's complement of 64 bits
+        let negative = signed && width < 64 && number >> (width - 1) == 1;
+        let value = if negative { number.wrapping_sub(1 << width) } else { number };
         Ok([construct as u64, position as u64, width as u64, value])
     }
 
