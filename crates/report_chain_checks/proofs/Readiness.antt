@@ -99,4 +99,4 @@ module _ (ws : List ℕ) where
 
     pub of-uint : (signed : Bool) (width start end binder : ℕ) → constructAt ws i ≡ Construct.Uint signed width start end binder → IsField (held ws .node i)
     unfolding node-of
-    of-uint width start end binder e = kind (Construct.Uint signed width start end binder) e (is-field _ _ _ _)
+    of-uint signed width start end binder e = kind (Construct.Uint signed width start end binder) e (is-field _ _ _ _)

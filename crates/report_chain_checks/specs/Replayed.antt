@@ -39,7 +39,7 @@ counts-at ws (Construct.Switch size) = Counts.none
 counts-at ws (Construct.Use rule) = Counts.none
 counts-at ws (Construct.Literal length) = Counts.none
 counts-at ws (Construct.Range low high) = Counts.none
-counts-at ws (Construct.Uint width start end binder) = Counts.none
+counts-at ws (Construct.Uint signed width start end binder) = Counts.none
 counts-at ws Construct.Eod = Counts.none
 
 -- how many passes n stand for: 8 for the least number from 8 on

@@ -12,7 +12,16 @@ use table_layout::construct_at;
 use term_evaluation::Tested;
 ghost use Prim.Native.Nat.{_≤_};
 
-fn is_in(words: &[u32], start: usize, end: usize, v: i64) -> bool {
+fn is_in(words: &[u32], start: usize, end: usize, v: u32) -> bool {
+    holds(words, start, end, v as i64)
+}
+
+// Whether -1 - n is in the set.
+fn is_in_below(words: &[u32], start: usize, end: usize, n: u32) -> bool {
+    holds(words, start, end, -1 - n as i64)
+}
+
+fn holds(words: &[u32], start: usize, end: usize, v: i64) -> bool {
     let none = [0i64; 1];
     match term_evaluation::contains(words, start, end, &none[0..0], v) {
         Tested::Yes => true,
@@ -42,7 +51,7 @@ fn values_of(width: usize) -> u32 {
 fn least_in(words: &[u32], start: usize, end: usize, limit: u32) -> usize {
     let mut v: u32 = 0;
     while v < limit {
-        if is_in(words, start, end, v as i64) {
+        if is_in(words, start, end, v) {
             return v as usize;
         }
         v += 1;
@@ -62,7 +71,7 @@ fn number_below(n: u32) -> usize {
 fn greatest_below(words: &[u32], start: usize, end: usize, limit: u32) -> usize {
     let mut n: u32 = 0;
     while n < limit {
-        if is_in(words, start, end, -1 - n as i64) {
+        if is_in_below(words, start, end, n) {
             return number_below(n);
         }
         n += 1;

@@ -25,7 +25,7 @@ returns-2 : tie.Need-returns-2
 returns-2 c = λ e. of-range (c .before .before .before .before .args .table .now) (c .before .before .before .before .args .i) (c .before .before .before .before .pre) _ _ (sym (c .before .before .construct-at .ensures) ∙ c .enum-told2 .given .1)
 
 returns-3 : tie.Need-returns-3
-returns-3 c = λ e. of-uint (c .before .before .before .before .args .table .now) (c .before .before .before .before .args .i) (c .before .before .before .before .pre) _ _ _ _ (sym (c .before .before .construct-at .ensures) ∙ c .enum-told3 .given .1)
+returns-3 c = λ e. of-uint (c .before .before .before .before .args .table .now) (c .before .before .before .before .args .i) (c .before .before .before .before .pre) _ _ _ _ _ (sym (c .before .before .construct-at .ensures) ∙ c .enum-told3 .given .1)
 
 returns-4 : tie.Need-returns-4
 returns-4 c = λ e. absurd (false≢true e)
