@@ -26,6 +26,9 @@ pub fn report() {
     if let Err(why) = longest_frames() {
         panic!("{why}");
     }
+    if let Err(why) = changed_words() {
+        panic!("{why}");
+    }
     println!("library: {} texts at the ends, admitted and refused by number from 0: {:?}", texts.len(), tally.refused);
 }
 
@@ -86,6 +89,39 @@ fn longest_frames() -> Result<(), String> {
         if number == 21 {
             same("grant", calls::grant(&table, &frame, &mut reading, &mut run, 1), (21, 0))?;
         }
+    }
+    Ok(())
+}
+
+// Tables with one word or two changed: signs, widths and numbers that no admission writes are 23. In `a` construct 1 is the uint that binds variable 0, construct 2
+// the sint that binds variable 1; term 0 is `~`, term 2 the use of `x`, term 3 the number.
+fn changed_words() -> Result<(), String> {
+    let (variable, construct, term) = (|x: usize| 320 + 4 * x, |i: usize| 576 + 8 * i, |t: usize| 2624 + 3 * t);
+    let mut table = Guarded::new(&[0; TABLE_WORDS]);
+    let text = b"dogma_v1 utf-8\n\na = uint(62, var(x, ~)) & sint(62, var(y, ~)) & uint(64, x | 4294967296~);";
+    same("admission", calls::admit(&Guarded::new(text), &mut table).number, 0)?;
+    let admitted = table.values().to_vec();
+    let changes: [&[(usize, u32)]; 10] = [
+        &[(variable(0) + 2, 1)],
+        &[(variable(1) + 2, 0)],
+        &[(variable(1) + 2, 2)],
+        &[(construct(1), 12)],
+        &[(construct(1) + 2, 63), (variable(0) + 1, 63)],
+        &[(construct(2) + 2, 63), (variable(1) + 1, 63)],
+        &[(construct(3) + 2, 65)],
+        &[(term(2) + 2, 1)],
+        &[(term(3) + 1, 1), (term(3) + 2, 0x4000_0000)],
+        &[(term(0) + 2, 1)],
+    ];
+    let (frame, reading) = (Guarded::new(&[0; 24]), Guarded::new(&[9; 384]));
+    let open = |words: &[u32]| calls::open(&Guarded::new(words), &frame, &reading, &mut Guarded::new(&[0; RUN_BYTES]));
+    same("as admitted", open(&admitted), 0)?;
+    for change in changes {
+        let mut words = admitted.clone();
+        for &(at, word) in change {
+            words[at] = word;
+        }
+        same("23", (change, open(&words)), (change, 23))?;
     }
     Ok(())
 }
