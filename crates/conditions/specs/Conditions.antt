@@ -116,7 +116,7 @@ pub record Exact (g : Grammar Context Values) (fs rs : List ℕ) (k : Kept) : Ty
 pub record Condition2 : Type 0 where
   -- by the first row of document 01's table of numbers that fits, 0 where none does
   pub admitting : (text old new : List ℕ) (answer : Admission) → Promised text old new answer → Exactly text old answer
-  -- a run is opened on its table exactly where the frame is not over 256 bytes and the reading has room
+  -- a run is opened on its table exactly where the frame is not over 1,024 bytes and the reading has room
   pub opened : (text table : List ℕ) (weight : ℕ) → HasTable text table weight → (fs rs : List ℕ) (answer : Answer) → Answered table fs rs answer
       → (answer ≡ Answer.Opened) ↔ ((length fs ≤ max-frame-bytes) × (2 * bits-of fs ≤ length rs))
   -- of every text that is admitted, every frame and reading on which its table opens a run, and every list of grants

@@ -157,7 +157,7 @@ passing-K6 =
       weighs = λ w e. weigh-starred (w first-context opening) (w first-context 0) (w first-context 1) (w first-context 2) (w first-context 3) (e first-context opening) (e first-context 0) (e first-context 1) (e first-context 2) (e first-context 3);
       light = omega arith;
       reached = one-rule-reached _;
-      valued = all-valued trees.K6 (λ e. e, (λ e. e, (λ e. false≢true (sym (e .1 1 (omega arith))), (λ e. false≢true (sym (e .1 2 (omega arith))), tt))));
+      valued = all-valued trees.K6 (λ e. e, (λ e. e, (λ e. false≢true (sym (e .1 (bitsOf 4 1) refl)), (λ e. false≢true (sym (e .1 (bitsOf 4 2) refl)), tt))));
     }
 
 -- ---- what a run looks up, if the table's sets are the grammar's

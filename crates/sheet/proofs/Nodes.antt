@@ -7,7 +7,7 @@ use mathlib.Core.Bool.{false≢true}
 use mathlib.Core.List.{[], _∷_}
 use native.Mathlib.Omega.{arith}
 use Rattle.basis.specs.Limits.{max-weight}
-use Rattle.basis.specs.Bits.{Bits}
+use Rattle.basis.specs.Bits.{Bits, bitsOf}
 use Rattle.theory.specs.Lookahead.{Conflict, EmptyBody}
 use Rattle.theory.specs.Weight.{Weighs, weigh, sum, largest}
 use Rattle.tree.specs.Tree.{Rules}
@@ -49,7 +49,7 @@ passing-G =
       weighs = λ w e. weigh-counted (w first-context opening) (w first-context 0) (w first-context 1) (w first-context 2) (w first-context 3) (e first-context opening) (e first-context 0) (e first-context 1) (e first-context 2) (e first-context 3);
       light = omega arith;
       reached = one-rule-reached _;
-      valued = all-valued trees.G (λ e. e, (λ e. false≢true (sym (e .1 1 (omega arith))), (λ e. e, (λ e. false≢true (sym (e .1 0 (omega arith))), tt))));
+      valued = all-valued trees.G (λ e. e, (λ e. false≢true (sym (e .1 (bitsOf 8 1) refl)), (λ e. e, (λ e. false≢true (sym (e .1 (bitsOf 8 0) refl)), tt))));
     }
 
 pub passing-K9 : Passing K9 trees.K9 6
@@ -63,7 +63,7 @@ passing-K9 =
       weighs = λ w e. weigh-counted (w first-context opening) (w first-context 0) (w first-context 1) (w first-context 2) (w first-context 3) (e first-context opening) (e first-context 0) (e first-context 1) (e first-context 2) (e first-context 3);
       light = omega arith;
       reached = one-rule-reached _;
-      valued = all-valued trees.K9 (λ e. e, (λ e. false≢true (sym (e .1 0 (omega arith))), (λ e. e, (λ e. false≢true (sym (e .1 0 (omega arith))), tt))));
+      valued = all-valued trees.K9 (λ e. e, (λ e. false≢true (sym (e .1 (bitsOf 8 0) refl)), (λ e. e, (λ e. false≢true (sym (e .1 (bitsOf 8 0) refl)), tt))));
     }
 
 weigh-switched : (a b c d e f : ℕ) → a ≡ 1 + b → b ≡ 1 + (c + (d + 0)) → c ≡ 1 → d ≡ 1 + largest (λ (k : ℕ). k) (e ∷ f ∷ []) → e ≡ 1 → f ≡ 1 → a ≡ 5
@@ -81,5 +81,5 @@ passing-K10 =
       weighs = λ w e. weigh-switched (w first-context opening) (w first-context 0) (w first-context 1) (w first-context 2) (w first-context 3) (w first-context 4) (e first-context opening) (e first-context 0) (e first-context 1) (e first-context 2) (e first-context 3) (e first-context 4);
       light = omega arith;
       reached = one-rule-reached _;
-      valued = all-valued trees.K10 (λ e. e, (λ e. false≢true (sym (e .1 0 (omega arith))), (λ e. e, (λ e. e, (λ e. false≢true (sym (e .1 0 (omega arith))), tt)))));
+      valued = all-valued trees.K10 (λ e. e, (λ e. false≢true (sym (e .1 (bitsOf 8 0) refl)), (λ e. e, (λ e. e, (λ e. false≢true (sym (e .1 (bitsOf 16 0) refl)), tt)))));
     }
