@@ -10,15 +10,29 @@ use table_layout::Construct;
 use table_layout::Passes;
 use table_layout::construct_at;
 use term_evaluation::Tested;
+use term_integers::Checked;
 ghost use Prim.Native.Nat.{_≤_};
 
 fn is_in(words: &[u32], start: usize, end: usize, v: u32) -> bool {
     holds(words, start, end, v as i64)
 }
 
+fn kept(result: Checked) -> i64 {
+    match result {
+        Checked::Exact(n) => n,
+        Checked::Overflow => 0,
+    }
+}
+
+// -1 - n
+fn below(n: u32) -> i64 {
+    let opposite = kept(term_integers::negate(n as i64));
+    kept(term_integers::add(opposite, -1))
+}
+
 // Whether -1 - n is in the set.
 fn is_in_below(words: &[u32], start: usize, end: usize, n: u32) -> bool {
-    holds(words, start, end, -1 - n as i64)
+    holds(words, start, end, below(n))
 }
 
 fn holds(words: &[u32], start: usize, end: usize, v: i64) -> bool {
