@@ -1,6 +1,7 @@
 // Runs of the bench sheet's tables over their frames, by grants of 2^64 - 1, of 1, and of 0 and 3 in turn; then saved runs, tables, frames
 // and readings of which each is refused or broken for another reason; then forged runs and tables, which end alike by one grant and by many.
 use crate::opening::LONG_FRAME;
+use crate::opening::LONG_READING;
 use crate::printing::number;
 use crate::printing::show_verdict;
 use crate::printing::text;
@@ -184,9 +185,9 @@ fn short_reading(table: &[u32; TABLE_WORDS]) {
 
 fn long_frame(table: &[u32; TABLE_WORDS]) {
     let frame = [0u8; LONG_FRAME];
-    let mut reading = [0u32; 4112];
+    let mut reading = [0u32; LONG_READING];
     resumed(
-        b"257 bytes of frame",
+        b"1,025 bytes of frame",
         &table[..],
         &frame,
         &mut reading,

@@ -2,13 +2,16 @@
 use crate::printing::number;
 use crate::printing::show_verdict;
 use crate::printing::text;
+use crate::printing::whole;
 use basis::MAX_FRAME_BYTES;
 use basis::TABLE_WORDS;
 use run_grants::Run;
 use run_matcher::Answer;
 
-// A frame of one byte too many.
+// A frame of one byte too many, and a reading with room for it.
 pub const LONG_FRAME: usize = MAX_FRAME_BYTES + 1;
+
+pub const LONG_READING: usize = 16 * LONG_FRAME;
 
 fn show_answer(answer: Answer) {
     match answer {
@@ -99,11 +102,18 @@ fn sheet_g() {
         &[2, 65, 66],
         512,
     );
+    long_frames(&table);
+}
+
+// A frame at the limit, which only the reading is too small for, and one past it.
+fn long_frames(table: &[u32; TABLE_WORDS]) {
+    let longest = [65u8; MAX_FRAME_BYTES];
+    row(b"frame of 1,024 bytes", table, TABLE_WORDS, &longest, 0);
     let long = [65u8; LONG_FRAME];
-    row(b"frame of 257 bytes", &table, TABLE_WORDS, &long, 0);
+    row(b"frame of 1,025 bytes", table, TABLE_WORDS, &long, 0);
     row(
-        b"frame of 257 bytes, table of 16,383 words",
-        &table,
+        b"frame of 1,025 bytes, table of 16,383 words",
+        table,
         16383,
         &long,
         0,
@@ -135,8 +145,50 @@ fn sheet_9_10() {
     row(b"K10 03", &table10, TABLE_WORDS, &[3], 512);
 }
 
+// A run to its end, and what it bound.
+fn bound(name: &[u8], table: &[u32; TABLE_WORDS], frame: &[u8]) {
+    let mut reading = [0u32; 144];
+    let opening = run_matcher::open(&table[..], frame, &reading);
+    let run = opening.run;
+    let granted = run_grants::advance(&table[..], frame, &mut reading, run, 18446744073709551615);
+    let after = granted.run;
+    text(name);
+    show_run(after);
+    text(b", value ");
+    whole(after.values[0]);
+    text(b"\n");
+}
+
+// `frame = sint(8, var(d, -2~2)) & uint(64, 4294967296 + d~);`
+fn signed() {
+    let mut table = [0u32; TABLE_WORDS];
+    case_tables::wide(&mut table);
+    complete(&mut table);
+    bound(
+        b"-1 and 2^32 - 1",
+        &table,
+        &[255, 0, 0, 0, 0, 255, 255, 255, 255],
+    );
+    bound(
+        b"-1 and 2^32 - 2",
+        &table,
+        &[255, 0, 0, 0, 0, 255, 255, 255, 254],
+    );
+    bound(
+        b"2 and 2^64 - 1",
+        &table,
+        &[2, 255, 255, 255, 255, 255, 255, 255, 255],
+    );
+    bound(
+        b"-3 and 2^64 - 1",
+        &table,
+        &[253, 255, 255, 255, 255, 255, 255, 255, 255],
+    );
+}
+
 pub fn openings() {
     sheet_g();
     sheet_5_6();
     sheet_9_10();
+    signed();
 }

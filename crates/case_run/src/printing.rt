@@ -9,6 +9,14 @@ pub fn number(n: u64) {
     io::print_decimal(STDOUT_FILENO, n);
 }
 
+// A whole number with its sign.
+pub fn whole(z: i64) {
+    if z < 0 {
+        text(b"-");
+    }
+    number(term_integers::magnitude(z));
+}
+
 pub fn show_verdict(v: u32) {
     match v {
         0 => text(b"undecided"),
