@@ -19,9 +19,9 @@ use Rattle.theory.specs.Derivation.{construct, members}
 use Rattle.theory.specs.Lookahead.{First, Follow}
 use Rattle.table_first_follow.specs.Rounds.{strings}
 use Rattle.table_first_follow.specs.Sets.{FirstSets, FollowSets}
-use Rattle.report_chains.specs.Chains.{Step, after, Spells}
+use Rattle.report_chain_meaning.specs.Chains.{Step, after, Spells}
 use Rattle.report_chains.specs.Strings.{string, Begun}
-use Rattle.report_chains.proofs.Finding.{FoundAfter, found, found-after, then-after}
+use Rattle.report_chain_meaning.proofs.Finding.{FoundAfter, found, found-after, then-after}
 use Rattle.report_chain_checks.specs.Replayed.{row, stack, past-eight, least-count, counts-at, FirstOf, FollowOf, IsField, is-field, Pattern, pattern, BeginsWith, begins-with}
 use Rattle.report_chain_checks.proofs.Widths.{string-number, number-string, front-of, begins-twice, cut-begins}
 use Rattle.basis.specs.Lookahead.{number}

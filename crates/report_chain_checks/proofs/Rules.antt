@@ -19,7 +19,7 @@ use Rattle.table_layout.specs.declared.Passes.{Passes}
 use Rattle.table_first_follow.specs.Parts.{siblings}
 use Rattle.table_first_follow.proofs.HeldLaws.{node-inside}
 use Rattle.table_first_follow.proofs.PartLaws.{parts-siblings, siblings-first, siblings-next}
-use Rattle.report_chains.specs.Chains.{Step, enters, repeats, ends, leaves, goes-on, passes-over, Rest, after, Spells, listed}
+use Rattle.report_chain_meaning.specs.Chains.{Step, enters, repeats, ends, leaves, goes-on, passes-over, Rest, after, Spells, listed}
 use Rattle.report_chain_checks.specs.Replayed.{stack, Longer, Made, Moved}
 
 in-middle : (before : List ℕ) (b : ℕ) (more : List ℕ) → b ∈ before ++ b ∷ more

@@ -15,9 +15,9 @@ use Rattle.basis.proofs.Numbers.{number-append, number-value}
 use Rattle.table_layout.specs.Held.{held, node-of, use-node, opening, Context, Values}
 use Rattle.table_layout.specs.Places.{rule-word}
 use Rattle.table_first_follow.proofs.HeldLaws.{node-opening}
-use Rattle.report_chains.specs.Chains.{Step, takes, leaves, frame-end, Rest, after, Spells, listed, Lists}
+use Rattle.report_chain_meaning.specs.Chains.{Step, takes, leaves, frame-end, Rest, after, Spells, listed, Lists}
 use Rattle.report_chains.specs.Strings.{width-of, string}
-use Rattle.report_chains.proofs.Finding.{FoundAfter}
+use Rattle.report_chain_meaning.proofs.Finding.{FoundAfter}
 use Rattle.report_chain_checks.specs.Replayed.{stack, rest-of, Longer, Made, Moved, Read, Tail, FirstOf, FollowOf, Pattern, pattern, BeginsWith, begins-with}
 use Rattle.report_chain_checks.specs.Told.{steps-of, told}
 use Rattle.report_chain_checks.specs.declared.Place.{Place}

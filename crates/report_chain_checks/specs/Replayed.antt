@@ -16,7 +16,7 @@ use Rattle.table_layout.specs.declared.Construct.{Construct}
 use Rattle.theory.specs.Grammar.{Node, field}
 use Rattle.theory.specs.Derivation.{members}
 use Rattle.theory.specs.Lookahead.{First, Follow}
-use Rattle.report_chains.specs.Chains.{Step, Rest, nothing, after, Spells, listed}
+use Rattle.report_chain_meaning.specs.Chains.{Step, Rest, nothing, after, Spells, listed}
 use Rattle.report_chain_checks.specs.declared.Place.{Place}
 
 -- more than any depth of the stack: the answer where what was read is no chain

@@ -8,7 +8,7 @@ use lib.Dec.{eqb}
 use lib.ListN.{length, getD}
 use Rattle.table_layout.specs.Held.{opening}
 use Rattle.table_first_follow.specs.Sets.{FirstSets, FollowSets, family-words}
-use Rattle.report_chains.specs.Chains.{Step, takes, enters, repeats, ends, leaves, goes-on, frame-end, passes-over}
+use Rattle.report_chain_meaning.specs.Chains.{Step, takes, enters, repeats, ends, leaves, goes-on, frame-end, passes-over}
 use Rattle.report_chains.specs.Strings.{string}
 
 -- the steps of one entry. The frame's end comes after the start rule, whose opening use it leaves; tags from 9 on say which branch, member or owner is gone to, and are no step

@@ -15,7 +15,7 @@ ghost use lib.ListN.{length, getD};
 ghost use Rattle.basis.specs.Limits.{max-constructs};
 ghost use Rattle.table_layout.specs.Held.{held};
 ghost use Rattle.table_first_follow.specs.Sets.{FirstSets, FollowSets, family-words};
-ghost use Rattle.report_chains.specs.Chains.{Yields, YieldsAfter, YieldsAlone};
+ghost use Rattle.report_chain_meaning.specs.Chains.{Yields, YieldsAfter, YieldsAlone};
 ghost use Rattle.report_chains.specs.Strings.{string};
 ghost use Rattle.report_chain_checks.specs.Told.{told, FirstFamily, Families};
 ghost use Rattle.report_chain_checks.specs.Replayed.{no-depth, Tail};

@@ -14,7 +14,7 @@ ghost use mathlib.Core.List.{List, [], _∷_};
 ghost use Prim.Native.Nat.{ℕ, _<_};
 ghost use Rattle.basis.specs.Limits.{max-constructs};
 ghost use Rattle.table_layout.specs.Places.{rule-word as ruleWord};
-ghost use Rattle.report_chains.specs.Chains.{enters, repeats, ends, passes-over};
+ghost use Rattle.report_chain_meaning.specs.Chains.{enters, repeats, ends, passes-over};
 ghost use Rattle.report_chain_checks.specs.Told.{steps-of as stepsOf};
 ghost use Rattle.report_chain_checks.specs.Replayed.{no-depth, stack, MadeAt};
 

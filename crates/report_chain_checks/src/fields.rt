@@ -17,7 +17,7 @@ ghost use Rattle.basis.specs.Lookahead.{number};
 ghost use Rattle.table_layout.specs.Held.{held};
 ghost use Rattle.table_first_follow.specs.Rounds.{strings};
 ghost use Rattle.table_first_follow.specs.Sets.{FirstSets, family-words};
-ghost use Rattle.report_chains.specs.Chains.{takes};
+ghost use Rattle.report_chain_meaning.specs.Chains.{takes};
 ghost use Rattle.report_chains.specs.Strings.{string, width-of as widthOf};
 ghost use Rattle.report_chain_checks.specs.Replayed.{IsField, Read};
 

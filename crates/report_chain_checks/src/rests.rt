@@ -16,7 +16,7 @@ ghost use Rattle.table_layout.specs.Constructs.{constructAt};
 ghost use Rattle.table_layout.specs.Held.{size-of as sizeOf};
 ghost use Rattle.table_first_follow.specs.Parts.{siblings};
 ghost use Rattle.theory.specs.Grammar.{_∈_};
-ghost use Rattle.report_chains.specs.Chains.{leaves, goes-on, after};
+ghost use Rattle.report_chain_meaning.specs.Chains.{leaves, goes-on, after};
 ghost use Rattle.report_chain_checks.specs.Told.{steps-of as stepsOf};
 ghost use Rattle.report_chain_checks.specs.Replayed.{stack, rest-of as restOf, Moved, MovedTo};
 

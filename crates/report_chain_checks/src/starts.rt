@@ -20,7 +20,7 @@ ghost use Rattle.table_first_follow.specs.Rounds.{strings};
 ghost use Rattle.table_first_follow.specs.Sets.{FirstSets, FollowSets, family-words};
 ghost use Rattle.theory.specs.Derivation.{members, construct};
 ghost use Rattle.theory.specs.Lookahead.{First, Follow};
-ghost use Rattle.report_chains.specs.Chains.{takes, leaves, frame-end};
+ghost use Rattle.report_chain_meaning.specs.Chains.{takes, leaves, frame-end};
 ghost use Rattle.report_chains.specs.Strings.{string, width-of as widthOf, Begun};
 ghost use Rattle.report_chain_checks.specs.Replayed.{no-depth, row as rowOf, stack, rest-of as restOf, Tail, IsField, FirstOf, FollowOf, BeginsWith};
 

@@ -10,7 +10,7 @@ use Rattle.basis.proofs.Joins.{join-front, join-back, join-assoc, lookahead-app
 use Rattle.theory.specs.Grammar.{Grammar, Node}
 use Rattle.theory.specs.Derivation.{construct, members, passes}
 use Rattle.theory.specs.Lookahead.{First, Follow}
-use Rattle.report_chains.specs.Chains.{Step, Rest, nothing, after, Spells}
+use Rattle.report_chain_meaning.specs.Chains.{Step, Rest, nothing, after, Spells}
 
 -- a window is cut already
 pub cut-once : (s : Bits) → lookahead (lookahead s) ≡ lookahead s

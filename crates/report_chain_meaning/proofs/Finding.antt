@@ -11,7 +11,7 @@ use Rattle.theory.specs.Grammar.{Grammar}
 use Rattle.theory.specs.Derivation.{Shape, construct, members, passes}
 use Rattle.theory.specs.Lookahead.{First, Follow}
 use Rattle.theory.proofs.FirstTheorem.{Known}
-use Rattle.report_chains.specs.Chains.{Step, takes, enters, repeats, ends, leaves, goes-on, frame-end, passes-over, Rest, after, Spells}
+use Rattle.report_chain_meaning.specs.Chains.{Step, takes, enters, repeats, ends, leaves, goes-on, frame-end, passes-over, Rest, after, Spells}
 
 module _ {Context Values : Type 0} (g : Grammar Context Values) where
   -- some chain spells these bits

@@ -10,10 +10,10 @@ use Rattle.theory.specs.Grammar.{Grammar}
 use Rattle.theory.specs.Derivation.{Shape, construct, members}
 use Rattle.theory.specs.Lookahead.{First, Follow, Predicted, Conflict}
 use Rattle.theory.proofs.Prediction.{continue-predicted}
-use Rattle.report_chains.specs.Chains.{Step, Rest, nothing, after, Spells, listed, Lists, Yields, YieldsAfter, YieldsAlone, fields, Explained}
-use Rattle.report_chains.proofs.Reading.{cut-once, Read, reads}
-use Rattle.report_chains.proofs.Finding.{Found, found, FoundAfter, found-after, then-after}
-use Rattle.report_chains.proofs.Listing.{fields-listed, fields-spell}
+use Rattle.report_chain_meaning.specs.Chains.{Step, Rest, nothing, after, Spells, listed, Lists, Yields, YieldsAfter, YieldsAlone, fields, Explained}
+use Rattle.report_chain_meaning.proofs.Reading.{cut-once, Read, reads}
+use Rattle.report_chain_meaning.proofs.Finding.{Found, found, FoundAfter, found-after, then-after}
+use Rattle.report_chain_meaning.proofs.Listing.{fields-listed, fields-spell}
 
 module _ {Context Values : Type 0} (g : Grammar Context Values) where
   -- a first window and a follow window are cut already

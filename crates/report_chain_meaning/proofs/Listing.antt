@@ -7,7 +7,7 @@ use native.Mathlib.Nat.{zero-sub, sub-zero, suc-sub-suc}
 use lib.ListN.{length, take}
 use Rattle.basis.specs.Bits.{Bits}
 use Rattle.theory.specs.Grammar.{Grammar}
-use Rattle.report_chains.specs.Chains.{Step, takes, enters, repeats, ends, leaves, goes-on, frame-end, passes-over, Rest, Spells, wanted, listed, fields}
+use Rattle.report_chain_meaning.specs.Chains.{Step, takes, enters, repeats, ends, leaves, goes-on, frame-end, passes-over, Rest, Spells, wanted, listed, fields}
 
 take-parts : (n : ℕ) (a b : Bits) → take n (a ++ b) ≡ take n a ++ take (n - length a) b
 take-parts zero [] b = refl
