@@ -1,7 +1,7 @@
 // Refusal 6: a name that is unknown, double, reserved, misplaced or of the wrong kind.
+use report_faults::Fault;
 use report_listing::places::fault_from;
 use report_listing::places::part_at;
-use report_places::Fault;
 use report_places::Located;
 use report_places::Query;
 use report_places::locate;
