@@ -1,6 +1,6 @@
 use borrow.Author.Needs.{needs}
-use Rattle.report_form.proofs.form.ranging.Statement.{statement}
-use Rattle.report_form.proofs.form.ranging.Tie as tie
+use Rattle.report_codes.proofs.ranging.Statement.{statement}
+use Rattle.report_codes.proofs.ranging.Tie as tie
 
 literal-code-requires : tie.Need-literal-code-requires
 literal-code-requires c κs = search needs

@@ -1,6 +1,6 @@
 use borrow.Author.Needs.{needs}
-use Rattle.report_form.proofs.form.in_field.Statement.{statement}
-use Rattle.report_form.proofs.form.in_field.Tie as tie
+use Rattle.report_codes.proofs.in_field.Statement.{statement}
+use Rattle.report_codes.proofs.in_field.Tie as tie
 
 both-requires : tie.Need-both-requires
 both-requires c κs = search needs

@@ -1,6 +1,6 @@
 use borrow.Author.Needs.{needs}
-use Rattle.report_form.proofs.form.in_set.Statement.{statement}
-use Rattle.report_form.proofs.form.in_set.Tie as tie
+use Rattle.report_codes.proofs.in_set.Statement.{statement}
+use Rattle.report_codes.proofs.in_set.Tie as tie
 
 either-requires : tie.Need-either-requires
 either-requires c κs = search needs

@@ -1,7 +1,7 @@
-use Rattle.report_form.specs.Codes.{is-literal}
+use Rattle.report_codes.specs.Codes.{is-literal}
 use borrow.Author.Needs.{needs}
-use Rattle.report_form.proofs.form.literal_code.Statement.{statement}
-use Rattle.report_form.proofs.form.literal_code.Tie as tie
+use Rattle.report_codes.proofs.literal_code.Statement.{statement}
+use Rattle.report_codes.proofs.literal_code.Tie as tie
 
 either-requires : tie.Need-either-requires
 either-requires c κs = search needs
