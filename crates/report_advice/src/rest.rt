@@ -1,5 +1,5 @@
 // Refusals 1, 7, 8, 9 and 11.
-use report_wording::quoting::token;
+use report_quoting::quoting::token;
 use report_wording::writing::say;
 use text_parsing::terminals::look;
 

@@ -1,5 +1,5 @@
 // Refusal 12: what to say of a rule that is not reached, after its name and the start rule's are said.
-use report_wording::quoting::token;
+use report_quoting::quoting::token;
 use report_wording::writing::say;
 
 pub fn nothing_uses() {

@@ -9,7 +9,7 @@ use report_examples::prefix::up_to;
 use report_listing::chains::tag_at;
 use report_listing::chains::value_at;
 use report_measures::words::number_at;
-use report_wording::windows::binary;
+use report_quoting::windows::binary;
 use report_wording::writing::hexadecimal;
 use report_wording::writing::number;
 use report_wording::writing::say;

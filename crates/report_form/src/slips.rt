@@ -1,5 +1,5 @@
 // Refusal 4: slips that are often made, by name.
-use report_wording::openings::open_before;
+use report_quoting::openings::open_before;
 use report_wording::lines;
 use report_wording::writing::say;
 use text_header::bytes::both;
