@@ -9,7 +9,7 @@ use report_quoting::quoting::Part;
 use report_quoting::quoting::end_of;
 use report_wording::writing::say;
 use text_parsing::terminals::look;
-ghost use Rattle.report_chain_checks.specs.Told.{FirstFamily};
+ghost use Rattle.report_chain_steps.specs.Told.{FirstFamily};
 
 // The place of a repetition's sign.
 fn mark_of(grammar: &[u8], construct: usize) -> usize {

@@ -15,7 +15,7 @@ use report_wording::writing::number;
 use report_wording::writing::say;
 use table_conflicts::Clash;
 ghost use Prim.Native.Nat.{_<_};
-ghost use Rattle.report_chain_checks.specs.Told.{Families};
+ghost use Rattle.report_chain_steps.specs.Told.{Families};
 
 fn has(steps: &[usize], count: usize, tag: usize) -> bool {
     let mut k: usize = 0;
