@@ -1,9 +1,9 @@
 use Rattle.admission.proofs.Promised.{promised}
 use borrow.Author.Needs.{needs}
-use Rattle.admission.proofs.admit.Statement.{statement}
-use Rattle.admission.proofs.admit.Tie as tie
-use Rattle.admission.proofs.admit.Reads as reads
-use Rattle.admission.proofs.admit.Lts as lts
+use Rattle.admission_call.proofs.admit.Statement.{statement}
+use Rattle.admission_call.proofs.admit.Tie as tie
+use Rattle.admission_call.proofs.admit.Reads as reads
+use Rattle.admission_call.proofs.admit.Lts as lts
 use Rattle.text_admission.proofs.answer.Reads as answer-reads
 
 -- src/lib.rt:9:5
