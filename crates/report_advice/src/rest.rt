@@ -8,32 +8,40 @@ pub fn recursive() {
 }
 
 pub fn change_recursive(grammar: &[u8], at: usize) {
-    say(b"What to change: take one of these uses away. What comes again and again\n");
-    say(b"is written with *, + or {n}: \"A\"+ for a rule that is \"A\" and then itself\n");
-    say(b"or nothing. Nothing may lead back to the rule ");
+    say(
+        b"What to change: take one of these uses away. What comes again and again\n\
+        is written with *, + or {n}: \"A\"+ for a rule that is \"A\" and then itself\n\
+        or nothing. Nothing may lead back to the rule ",
+    );
     token(grammar, at);
     say(b".\n");
 }
 
 fn large_number() {
-    say(b"This number is too large: a number is at most 4294967295.\n");
-    say(b"What to change: write a smaller number.\n");
+    say(
+        b"This number is too large: a number is at most 4294967295.\n\
+        What to change: write a smaller number.\n",
+    );
 }
 
 fn width() {
-    say(b"The width of a uint is a number of bits from 1 to 32.\n");
-    say(b"What to change: write such a width. A wider field is two, and the frames\n");
-    say(b"stay as they are meant: 64 bits are uint(32, ~) & uint(32, ~).\n");
+    say(
+        b"The width of a uint is a number of bits from 1 to 32.\n\
+        What to change: write such a width. A wider field is two, and the frames\n\
+        stay as they are meant: 64 bits are uint(32, ~) & uint(32, ~).\n",
+    );
 }
 
 fn calculation() {
-    say(b"This calculation can become too large: with every variable at the largest\n");
-    say(b"value that its width allows, whatever its set, no part of it may pass 2^62\n");
-    say(b"(about 4.6 times 10^18).\n");
-    say(b"What to change: multiply smaller numbers, or bind the variable by a uint of\n");
-    say(b"fewer bits. The frames stay the same where the bits in front are a field of\n");
-    say(b"their own: uint(16, 0) & uint(16, var(n, ~)) for uint(32, var(n, 0~65535)).\n");
-    say(b"Else they may change.\n");
+    say(
+        b"This calculation can become too large: with every variable at the largest\n\
+        value that its width allows, whatever its set, no part of it may pass 2^62\n\
+        (about 4.6 times 10^18).\n\
+        What to change: multiply smaller numbers, or bind the variable by a uint of\n\
+        fewer bits. The frames stay the same where the bits in front are a field of\n\
+        their own: uint(16, 0) & uint(16, var(n, ~)) for uint(32, var(n, 0~65535)).\n\
+        Else they may change.\n",
+    );
 }
 
 // 8: only a width is followed by a comma.
@@ -54,42 +62,59 @@ pub fn extent(grammar: &[u8], at: usize) {
 // `free`: by a count with a variable.
 pub fn empty_body(free: bool) {
     if free {
-        say(b"What this sign repeats is taken to be possibly empty; the check does not\n");
-        say(b"know the values of variables. This is how:\n");
+        say(
+            b"What this sign repeats is taken to be possibly empty; the check does not\n\
+            know the values of variables. This is how:\n",
+        );
     } else {
-        say(b"What this sign repeats can take no bits at all, so nobody could say\n");
-        say(b"how many passes there were. This is how:\n");
+        say(
+            b"What this sign repeats can take no bits at all, so nobody could say\n\
+            how many passes there were. This is how:\n",
+        );
     }
 }
 
 pub fn change_empty_body(free: bool) {
-    say(b"What to change: let each pass take at least one bit. A ?, * or {0~..}\n");
-    say(b"around the whole of what is repeated can go: (\"A\"?)* and (\"A\"?)+ match\n");
-    say(b"what \"A\"* matches. ");
+    say(
+        b"What to change: let each pass take at least one bit. A ?, * or {0~..}\n\
+        around the whole of what is repeated can go: (\"A\"?)* and (\"A\"?)+ match\n\
+        what \"A\"* matches. ",
+    );
     if free {
-        say(b"Where n is never 0, (\"A\" & \"A\"{n - 1})* matches what\n");
-        say(b"(\"A\"{n})* would match. ");
+        say(
+            b"Where n is never 0, (\"A\" & \"A\"{n - 1})* matches what\n\
+            (\"A\"{n})* would match. ",
+        );
     }
-    say(b"Else take this sign away, or let a pass begin with a\n");
-    say(b"field that is always there: both may change the frames. eod cannot be\n");
-    say(b"repeated, and a switch only with a default.\n");
+    say(
+        b"Else take this sign away, or let a pass begin with a\n\
+        field that is always there: both may change the frames. eod cannot be\n\
+        repeated, and a switch only with a default.\n",
+    );
 }
 
 pub fn weight() {
-    say(b",\nand at most 65535 is allowed, so that no frame takes too many steps. A\n");
-    say(b"field weighs 1; a use of a rule 1 more than the rule; a concatenation 1\n");
-    say(b"more than its members together; an alternative or a switch 1 more than\n");
-    say(b"its heaviest branch; a repetition twice what is repeated, and 1.\n");
-    say(b"The heaviest rules:\n");
+    say(
+        b",\n\
+        and at most 65535 is allowed, so that no frame takes too many steps. A\n\
+        field weighs 1; a use of a rule 1 more than the rule; a concatenation 1\n\
+        more than its members together; an alternative or a switch 1 more than\n\
+        its heaviest branch; a repetition twice what is repeated, and 1.\n\
+        The heaviest rules:\n",
+    );
 }
 
 pub fn change_weight() {
-    say(b"What to change: put fewer repetitions inside of each other, and use\n");
-    say(b"heavy rules in fewer places.\n");
+    say(
+        b"What to change: put fewer repetitions inside of each other, and use\n\
+        heavy rules in fewer places.\n",
+    );
 }
 
 pub fn table() {
-    say(b"The room for the table is too small. This is a fault of the program,\n");
-    say(b"and not of the grammar.\n");
-    say(b"What to change: nothing in the grammar. Lend at least 16384 words.\n");
+    say(
+        b"The room for the table is too small. This is a fault of the program,\n\
+        and not of the grammar.\n\
+        What to change: nothing in the grammar. Lend at least 16384 words.\n",
+    );
 }
