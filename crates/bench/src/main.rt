@@ -262,7 +262,7 @@ fn frames(table: &[u32; TABLE_WORDS], weight: usize)
 fn admit_text(bytes: &[u8], table: &mut [u32; TABLE_WORDS]) -> Admission
     ensures { λ r. ⌜ Light r ⌝ }
 {
-    admission::admit(bytes, &mut table[..])
+    admission_call::admit(bytes, &mut table[..])
 }
 
 // Of a longer text so many bytes are enough to refuse it.

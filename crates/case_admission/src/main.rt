@@ -48,7 +48,7 @@ fn show(answer: Admission) {
 }
 
 fn admit(text: &[u8], table: &mut [u32; TABLE_WORDS]) {
-    show(admission::admit(text, &mut table[..]));
+    show(admission_call::admit(text, &mut table[..]));
 }
 
 // The text that is the bytes from `start` to `end`, where they are there.

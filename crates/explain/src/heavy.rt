@@ -6,8 +6,8 @@ use report_measures::structure::body_of;
 use report_measures::weights::next_heaviest;
 use report_measures::weights::weights;
 use report_measures::words::number_at;
+use report_quoting::quoting::token;
 use report_wording::lines;
-use report_wording::quoting::token;
 use report_wording::writing::number;
 use report_wording::writing::say;
 

@@ -59,7 +59,7 @@ fn answered(grammar: &[u8], answer: Admission) {
 
 fn explained(grammar: &[u8]) {
     let mut table = [0u32; 16384];
-    let answer = admission::admit(grammar, &mut table);
+    let answer = admission_call::admit(grammar, &mut table);
     answered(grammar, answer);
 }
 

@@ -3,8 +3,8 @@ use report_listing::places::place_of;
 use report_listing::sets;
 use report_measures::cycles::cycle;
 use report_measures::words::number_at;
+use report_quoting::quoting::token;
 use report_wording::lines;
-use report_wording::quoting::token;
 use report_wording::writing::say;
 use table_reach::Recursion;
 

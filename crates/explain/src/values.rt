@@ -3,7 +3,7 @@ use report_listing::places::part_at;
 use report_listing::places::place_of;
 use report_listing::sets;
 use report_measures::words::set_at;
-use report_wording::quoting::Part;
+use report_quoting::quoting::Part;
 use report_wording::writing::say;
 use table_layout::Construct;
 use table_layout::construct_at;

@@ -6,9 +6,9 @@ use report_measures::cases::always_before;
 use report_measures::cases::never_holds;
 use report_measures::lengths::width_of;
 use report_measures::words::set_at;
+use report_quoting::quoting::Part;
+use report_quoting::quoting::quote;
 use report_wording::lines;
-use report_wording::quoting::Part;
-use report_wording::quoting::quote;
 use report_wording::writing::say;
 
 fn warned(grammar: &[u8], at: usize, part: Part, sentence: &[u8]) {

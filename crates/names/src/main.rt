@@ -58,7 +58,7 @@ fn answered(grammar: &[u8], prefix: &[u8], table: &[u32], answer: Admission) {
 
 fn named(grammar: &[u8], prefix: &[u8]) {
     let mut table = [0u32; 16384];
-    let answer = admission::admit(grammar, &mut table);
+    let answer = admission_call::admit(grammar, &mut table);
     answered(grammar, prefix, &table, answer);
 }
 

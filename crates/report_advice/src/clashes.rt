@@ -2,42 +2,50 @@
 use report_wording::writing::say;
 
 pub fn ends() {
-    say(b"What to change: let only one of the two match where the frame has\n");
-    say(b"nothing left. eod matches there, and so does what can be empty: ?, *\n");
-    say(b"and {0~..}.\n");
+    say(
+        b"What to change: let only one of the two match where the frame has\n\
+        nothing left. eod matches there, and so does what can be empty: ?, *\n\
+        and {0~..}.\n",
+    );
 }
 
 // The branches with what they begin with in front, printed after it.
 pub fn in_front(count: usize) {
     if count == 2 {
-        say(b"What to change: put what both begin with in front of the two, once.\n");
-        say(b"The frames stay the same. In place of the two branches write\n    ");
+        say(
+            b"What to change: put what both begin with in front of the two, once.\n\
+            The frames stay the same. In place of the two branches write\n    ",
+        );
         return;
     }
-    say(b"What to change: put what they all begin with in front of them, once.\n");
-    say(b"The frames stay the same. In place of these branches write\n    ");
+    say(
+        b"What to change: put what they all begin with in front of them, once.\n\
+        The frames stay the same. In place of these branches write\n    ",
+    );
 }
 
 // One branch is what both begin with.
 pub fn optional() {
-    say(b"What to change: put what both begin with in front of the two, once, and let\n");
-    say(b"the rest be left out. The frames stay the same. In place of the two branches\n");
-    say(b"write\n    ");
+    say(
+        b"What to change: put what both begin with in front of the two, once, and let\n\
+        the rest be left out. The frames stay the same. In place of the two branches\n\
+        write\n    ",
+    );
 }
 
 // The same, but what comes after begins as the rest does.
 pub fn rest_follows() {
-    say(b"What to change: one branch is what both begin with. To put it in front and\n");
-    say(b"let the rest be left out, as \"A\" & \"B\"? for \"AB\" | \"A\", does not help here:\n");
-    say(b"what comes after the alternative can begin as the rest does, so that would\n");
-    say(b"clash too. One of these:\n");
-    say(b"  - Bring what comes after into the branches, and put in front what they then\n");
     say(
-        b"    all begin with: \"AB\" & (\"C\" | \"BC\") for (\"A\" | \"AB\") & \"BC\". The frames\n",
+        b"What to change: one branch is what both begin with. To put it in front and\n\
+        let the rest be left out, as \"A\" & \"B\"? for \"AB\" | \"A\", does not help here:\n\
+        what comes after the alternative can begin as the rest does, so that would\n\
+        clash too. One of these:\n  \
+        - Bring what comes after into the branches, and put in front what they then\n    \
+        all begin with: \"AB\" & (\"C\" | \"BC\") for (\"A\" | \"AB\") & \"BC\". The frames\n    \
+        stay the same.\n  \
+        - Else the frames may have to change: the branches must differ in the next 8\n    \
+        bits.\n",
     );
-    say(b"    stay the same.\n");
-    say(b"  - Else the frames may have to change: the branches must differ in the next 8\n");
-    say(b"    bits.\n");
 }
 
 // Only the first two were written anew.
@@ -51,35 +59,41 @@ pub fn mends(count: usize) {
 }
 
 fn switch() {
-    say(b"  - Where a field in front says which of the two comes, bind that field where\n");
-    say(b"    it stands, in the same rule and outside of parentheses, and write the\n");
-    say(b"    switch in place of the alternative. The frames stay the same:\n");
-    say(b"    uint(8, var(kind, ~)) & [kind = 1: \"AB\"; kind = 2: \"AC\";]\n");
+    say(
+        b"  - Where a field in front says which of the two comes, bind that field where\n    \
+        it stands, in the same rule and outside of parentheses, and write the\n    \
+        switch in place of the alternative. The frames stay the same:\n    \
+        uint(8, var(kind, ~)) & [kind = 1: \"AB\"; kind = 2: \"AC\";]\n",
+    );
 }
 
 // `in_front`: a field may stand in front.
 pub fn begins(in_front: bool) {
-    say(b"What to change, one of these:\n");
-    say(b"  - Put what both begin with in front of the two, once. The frames stay the\n");
     say(
-        b"    same: \"A\" & (\"B\" | \"C\") for \"AB\" | \"AC\", \"A\" & \"B\"? for \"AB\" | \"A\".\n",
+        b"What to change, one of these:\n  \
+        - Put what both begin with in front of the two, once. The frames stay the\n    \
+        same: \"A\" & (\"B\" | \"C\") for \"AB\" | \"AC\", \"A\" & \"B\"? for \"AB\" | \"A\".\n",
     );
     if in_front {
         switch();
     }
-    say(b"  - Where both match the same, take one out; where two sets overlap, take the\n");
-    say(b"    shared values out of one: 'n'~'z' for 'm'~'z'.\n");
-    say(b"  - Else the frames may have to change: the two must differ in the next 8 bits.\n");
+    say(
+        b"  - Where both match the same, take one out; where two sets overlap, take the\n    \
+        shared values out of one: 'n'~'z' for 'm'~'z'.\n  \
+        - Else the frames may have to change: the two must differ in the next 8 bits.\n",
+    );
 }
 
 pub fn passes() {
-    say(b"What to change, one of these:\n");
-    say(b"  - Where a field in front says how many passes come, bind it and use it:\n");
-    say(b"    uint(8, var(n, ~)) & \"A\"{n}. If the number never varies, write {4}. The\n");
-    say(b"    frames stay the same.\n");
-    say(b"  - Else look for one repetition that says both: '0'~'9'{4~6} for\n");
-    say(b"    '0'~'9'{2~4} & '0'~'9'{2}. Or take the shared values out of the pass:\n");
-    say(b"    uint(8, ~!0x2e)* & \".\" for uint(8, ~)* & \".\". That may change the frames.\n");
-    say(b"  - Or let what comes after the repetition begin with bits that no pass\n");
-    say(b"    begins with, such as an end mark. That changes the frames.\n");
+    say(
+        b"What to change, one of these:\n  \
+        - Where a field in front says how many passes come, bind it and use it:\n    \
+        uint(8, var(n, ~)) & \"A\"{n}. If the number never varies, write {4}. The\n    \
+        frames stay the same.\n  \
+        - Else look for one repetition that says both: '0'~'9'{4~6} for\n    \
+        '0'~'9'{2~4} & '0'~'9'{2}. Or take the shared values out of the pass:\n    \
+        uint(8, ~!0x2e)* & \".\" for uint(8, ~)* & \".\". That may change the frames.\n  \
+        - Or let what comes after the repetition begin with bits that no pass\n    \
+        begins with, such as an end mark. That changes the frames.\n",
+    );
 }

@@ -2,10 +2,12 @@
 use report_wording::writing::say;
 
 pub fn reserved() {
-    say(b" is a reserved word and cannot be a name.\n");
-    say(b"What to change: choose another name, here and wherever it is used.\n");
-    say(b"(A field is written uint(8, ~), or sint(8, ~) with a sign, its variable\n");
-    say(b"var(name, set) inside of it, the frame's end eod.)\n");
+    say(
+        b" is a reserved word and cannot be a name.\n\
+        What to change: choose another name, here and wherever it is used.\n\
+        (A field is written uint(8, ~), or sint(8, ~) with a sign, its variable\n\
+        var(name, set) inside of it, the frame's end eod.)\n",
+    );
 }
 
 pub fn double() {
@@ -21,9 +23,11 @@ pub fn no_rule() {
 }
 
 pub fn change_no_rule() {
-    say(b"What to change: write the rule's name as the rule itself has it, in\n");
-    say(b"the same letter case; or add a rule of this name:\n");
-    say(b"    name = expression ;\n");
+    say(
+        b"What to change: write the rule's name as the rule itself has it, in\n\
+        the same letter case; or add a rule of this name:\n    \
+        name = expression ;\n",
+    );
 }
 
 pub fn variable() {
@@ -31,9 +35,11 @@ pub fn variable() {
 }
 
 pub fn change_variable() {
-    say(b"What to change: a variable's value is used in a set, a count or a\n");
-    say(b"condition, as in \"A\"{n}. If a rule of the same name is meant, give\n");
-    say(b"the variable another name: it hides the rule.\n");
+    say(
+        b"What to change: a variable's value is used in a set, a count or a\n\
+        condition, as in \"A\"{n}. If a rule of the same name is meant, give\n\
+        the variable another name: it hides the rule.\n",
+    );
 }
 
 pub fn twice() {
@@ -45,12 +51,14 @@ pub fn change_twice() {
 }
 
 pub fn misplaced() {
-    say(b" cannot be bound here.\n");
-    say(b"What to change: a field with var(..) must be a member of the rule\n");
-    say(b"itself, outside of alternatives, parentheses, repetitions and\n");
-    say(b"switches. What binds a variable can be a rule of its own, as in\n");
-    say(b"    frame = card | mailer;\n");
-    say(b"    mailer = \"M\" & uint(8, var(n, ~)) & uint(8, ~){n};\n");
+    say(
+        b" cannot be bound here.\n\
+        What to change: a field with var(..) must be a member of the rule\n\
+        itself, outside of alternatives, parentheses, repetitions and\n\
+        switches. What binds a variable can be a rule of its own, as in\n    \
+        frame = card | mailer;\n    \
+        mailer = \"M\" & uint(8, var(n, ~)) & uint(8, ~){n};\n",
+    );
 }
 
 pub fn later() {
@@ -58,9 +66,11 @@ pub fn later() {
 }
 
 pub fn change_later() {
-    say(b"What to change: use it in a member that comes after the field that\n");
-    say(b"binds it. The field's own set cannot use it. To put the field elsewhere\n");
-    say(b"may change the frames.\n");
+    say(
+        b"What to change: use it in a member that comes after the field that\n\
+        binds it. The field's own set cannot use it. To put the field elsewhere\n\
+        may change the frames.\n",
+    );
 }
 
 pub fn rule() {
@@ -72,8 +82,10 @@ pub fn elsewhere() {
 }
 
 pub fn change_elsewhere() {
-    say(b"What to change: a variable can be used only in the rule that binds\n");
-    say(b"it. Bring the field that binds it and what uses it into one rule.\n");
+    say(
+        b"What to change: a variable can be used only in the rule that binds\n\
+        it. Bring the field that binds it and what uses it into one rule.\n",
+    );
 }
 
 // What is wrong with a further name, in a few words: faults by their numbers.
@@ -97,7 +109,9 @@ pub fn no_variable() {
 }
 
 pub fn change_unbound() {
-    say(b"What to change: write the variable's name as var(..) has it, in the\n");
-    say(b"same letter case; or bind it in an earlier member of this rule, as in\n");
-    say(b"    uint(8, var(n, ~)) & \"A\"{n}\n");
+    say(
+        b"What to change: write the variable's name as var(..) has it, in the\n\
+        same letter case; or bind it in an earlier member of this rule, as in\n    \
+        uint(8, var(n, ~)) & \"A\"{n}\n",
+    );
 }

@@ -1,5 +1,5 @@
 // Refusals 1, 7, 8, 9 and 11.
-use report_wording::quoting::token;
+use report_quoting::quoting::token;
 use report_wording::writing::say;
 use text_parsing::terminals::look;
 
@@ -8,9 +8,11 @@ pub fn recursive() {
 }
 
 pub fn change_recursive(grammar: &[u8], at: usize) {
-    say(b"What to change: take one of these uses away. What comes again and again\n");
-    say(b"is written with *, + or {n}: \"A\"+ for a rule that is \"A\" and then itself\n");
-    say(b"or nothing. Nothing may lead back to the rule ");
+    say(
+        b"What to change: take one of these uses away. What comes again and again\n\
+        is written with *, + or {n}: \"A\"+ for a rule that is \"A\" and then itself\n\
+        or nothing. Nothing may lead back to the rule ",
+    );
     token(grammar, at);
     say(b".\n");
 }
@@ -18,35 +20,44 @@ pub fn change_recursive(grammar: &[u8], at: usize) {
 fn large_number(grammar: &[u8], at: usize) {
     say(b"In this calculation the number ");
     token(grammar, at);
-    say(b" is too large:\na number is at most 4611686018427387904 (2^62).\n");
-    say(b"What to change: write a smaller number. Larger values of a field have no\n");
-    say(b"number of their own: 4611686018427387904~ has all from there on.\n");
+    say(
+        b" is too large:\n\
+        a number is at most 4611686018427387904 (2^62).\n\
+        What to change: write a smaller number. Larger values of a field have no\n\
+        number of their own: 4611686018427387904~ has all from there on.\n",
+    );
 }
 
 fn width() {
-    say(b"The width of a uint or sint is a number of bits from 1 to 64, and where\n");
-    say(b"its value is bound to a variable at most 62.\n");
-    say(b"What to change: write such a width. A wider field is two, and the frames\n");
-    say(b"stay as they are meant: 128 bits are uint(64, ~) & uint(64, ~).\n");
+    say(
+        b"The width of a uint or sint is a number of bits from 1 to 64, and where\n\
+        its value is bound to a variable at most 62.\n\
+        What to change: write such a width. A wider field is two, and the frames\n\
+        stay as they are meant: 128 bits are uint(64, ~) & uint(64, ~).\n",
+    );
 }
 
 fn bound_width() {
-    say(b"A field whose value is bound to a variable has at most 62 bits, so that\n");
-    say(b"the variable can be calculated with; other fields have up to 64.\n");
-    say(b"What to change: where nothing uses the variable, leave it out: uint(64, ~).\n");
-    say(b"Else make two fields of it, of which the second is bound. The frames stay\n");
-    say(b"the same where the first bits are 0: uint(2, 0) & uint(62, var(n, ~)) for\n");
-    say(b"uint(64, var(n, ~)).\n");
+    say(
+        b"A field whose value is bound to a variable has at most 62 bits, so that\n\
+        the variable can be calculated with; other fields have up to 64.\n\
+        What to change: where nothing uses the variable, leave it out: uint(64, ~).\n\
+        Else make two fields of it, of which the second is bound. The frames stay\n\
+        the same where the first bits are 0: uint(2, 0) & uint(62, var(n, ~)) for\n\
+        uint(64, var(n, ~)).\n",
+    );
 }
 
 fn calculation() {
-    say(b"This calculation can become too large: with every variable at the largest\n");
-    say(b"value that its width allows, whatever its set, no part of it may pass 2^62\n");
-    say(b"(about 4.6 times 10^18).\n");
-    say(b"What to change: multiply smaller numbers, or bind the variable by a field of\n");
-    say(b"fewer bits. The frames stay the same where the bits in front are a field of\n");
-    say(b"their own: uint(16, 0) & uint(16, var(n, ~)) for uint(32, var(n, 0~65535)).\n");
-    say(b"Else they may change.\n");
+    say(
+        b"This calculation can become too large: with every variable at the largest\n\
+        value that its width allows, whatever its set, no part of it may pass 2^62\n\
+        (about 4.6 times 10^18).\n\
+        What to change: multiply smaller numbers, or bind the variable by a field of\n\
+        fewer bits. The frames stay the same where the bits in front are a field of\n\
+        their own: uint(16, 0) & uint(16, var(n, ~)) for uint(32, var(n, 0~65535)).\n\
+        Else they may change.\n",
+    );
 }
 
 // A number, a name, or a sign of a calculation.
@@ -118,42 +129,59 @@ pub fn extent(grammar: &[u8], at: usize) {
 // `free`: by a count with a variable.
 pub fn empty_body(free: bool) {
     if free {
-        say(b"What this sign repeats is taken to be possibly empty; the check does not\n");
-        say(b"know the values of variables. This is how:\n");
+        say(
+            b"What this sign repeats is taken to be possibly empty; the check does not\n\
+            know the values of variables. This is how:\n",
+        );
     } else {
-        say(b"What this sign repeats can take no bits at all, so nobody could say\n");
-        say(b"how many passes there were. This is how:\n");
+        say(
+            b"What this sign repeats can take no bits at all, so nobody could say\n\
+            how many passes there were. This is how:\n",
+        );
     }
 }
 
 pub fn change_empty_body(free: bool) {
-    say(b"What to change: let each pass take at least one bit. A ?, * or {0~..}\n");
-    say(b"around the whole of what is repeated can go: (\"A\"?)* and (\"A\"?)+ match\n");
-    say(b"what \"A\"* matches. ");
+    say(
+        b"What to change: let each pass take at least one bit. A ?, * or {0~..}\n\
+        around the whole of what is repeated can go: (\"A\"?)* and (\"A\"?)+ match\n\
+        what \"A\"* matches. ",
+    );
     if free {
-        say(b"Where n is never 0, (\"A\" & \"A\"{n - 1})* matches what\n");
-        say(b"(\"A\"{n})* would match. ");
+        say(
+            b"Where n is never 0, (\"A\" & \"A\"{n - 1})* matches what\n\
+            (\"A\"{n})* would match. ",
+        );
     }
-    say(b"Else take this sign away, or let a pass begin with a\n");
-    say(b"field that is always there: both may change the frames. eod cannot be\n");
-    say(b"repeated, and a switch only with a default.\n");
+    say(
+        b"Else take this sign away, or let a pass begin with a\n\
+        field that is always there: both may change the frames. eod cannot be\n\
+        repeated, and a switch only with a default.\n",
+    );
 }
 
 pub fn weight() {
-    say(b",\nand at most 65535 is allowed, so that no frame takes too many steps. A\n");
-    say(b"field weighs 1; a use of a rule 1 more than the rule; a concatenation 1\n");
-    say(b"more than its members together; an alternative or a switch 1 more than\n");
-    say(b"its heaviest branch; a repetition twice what is repeated, and 1.\n");
-    say(b"The heaviest rules:\n");
+    say(
+        b",\n\
+        and at most 65535 is allowed, so that no frame takes too many steps. A\n\
+        field weighs 1; a use of a rule 1 more than the rule; a concatenation 1\n\
+        more than its members together; an alternative or a switch 1 more than\n\
+        its heaviest branch; a repetition twice what is repeated, and 1.\n\
+        The heaviest rules:\n",
+    );
 }
 
 pub fn change_weight() {
-    say(b"What to change: put fewer repetitions inside of each other, and use\n");
-    say(b"heavy rules in fewer places.\n");
+    say(
+        b"What to change: put fewer repetitions inside of each other, and use\n\
+        heavy rules in fewer places.\n",
+    );
 }
 
 pub fn table() {
-    say(b"The room for the table is too small. This is a fault of the program,\n");
-    say(b"and not of the grammar.\n");
-    say(b"What to change: nothing in the grammar. Lend at least 16384 words.\n");
+    say(
+        b"The room for the table is too small. This is a fault of the program,\n\
+        and not of the grammar.\n\
+        What to change: nothing in the grammar. Lend at least 16384 words.\n",
+    );
 }

@@ -1,15 +1,19 @@
 // Refusal 12: what to say of a rule that is not reached, after its name and the start rule's are said.
-use report_wording::quoting::token;
+use report_quoting::quoting::token;
 use report_wording::writing::say;
 
 pub fn nothing_uses() {
-    say(b": nothing uses it.\n");
-    say(b"No frame has anything of it. Often a name is misspelt where it was to be used.\n");
+    say(
+        b": nothing uses it.\n\
+        No frame has anything of it. Often a name is misspelt where it was to be used.\n",
+    );
 }
 
 pub fn used_in_vain() {
-    say(b": only\n");
-    say(b"rules use it that are not reached themselves:\n");
+    say(
+        b": only\n\
+        rules use it that are not reached themselves:\n",
+    );
 }
 
 // A rule that is used has nearly the name at a place; its uses follow.
@@ -25,13 +29,17 @@ pub fn hidden() {
 
 pub fn change(used: bool) {
     if used {
-        say(b"What to change: use it, or one of the rules that use it, in a rule that is\n");
-        say(b"reached; or take away every rule that is not reached, and the frames stay the\n");
-        say(b"same.\n");
+        say(
+            b"What to change: use it, or one of the rules that use it, in a rule that is\n\
+            reached; or take away every rule that is not reached, and the frames stay the\n\
+            same.\n",
+        );
         return;
     }
-    say(b"What to change: use it in a rule that is reached; or take it away, and the\n");
-    say(b"frames stay the same.\n");
+    say(
+        b"What to change: use it in a rule that is reached; or take it away, and the\n\
+        frames stay the same.\n",
+    );
 }
 
 // A few words on a further rule.

@@ -1,11 +1,11 @@
 // Chains that are found, and listed only where they were read again and are chains.
-use crate::Place;
-use crate::fields::failed;
 use crate::replay::replayed;
 use crate::starts::at_end;
 use crate::starts::at_field;
 use crate::starts::at_nothing;
-use crate::words::number_at;
+use report_chain_steps::Place;
+use report_chain_steps::fields::failed;
+use report_chain_steps::words::number_at;
 use report_chains::machine;
 ghost use mathlib.Core.Bool.{true};
 ghost use mathlib.Core.Path.{_≡_};
@@ -15,10 +15,10 @@ ghost use lib.ListN.{length, getD};
 ghost use Rattle.basis.specs.Limits.{max-constructs};
 ghost use Rattle.table_layout.specs.Held.{held};
 ghost use Rattle.table_first_follow.specs.Sets.{FirstSets, FollowSets, family-words};
-ghost use Rattle.report_chains.specs.Chains.{Yields, YieldsAfter, YieldsAlone};
+ghost use Rattle.report_chain_meaning.specs.Chains.{Yields, YieldsAfter, YieldsAlone};
 ghost use Rattle.report_chains.specs.Strings.{string};
-ghost use Rattle.report_chain_checks.specs.Told.{told, FirstFamily, Families};
-ghost use Rattle.report_chain_checks.specs.Replayed.{no-depth, Tail};
+ghost use Rattle.report_chain_steps.specs.Told.{told, FirstFamily, Families};
+ghost use Rattle.report_chain_steps.specs.Replayed.{no-depth, Tail};
 
 // At the last entry.
 fn at_last(

@@ -1,18 +1,18 @@
 // The entries of a list, from the last to the first.
-use crate::NO_DEPTH;
-use crate::Place;
-use crate::constructs::made;
-use crate::fields::field;
 use crate::rests::moved;
-use crate::stack::put;
-use crate::words::number_at;
+use report_chain_steps::NO_DEPTH;
+use report_chain_steps::Place;
+use report_chain_steps::constructs::made;
+use report_chain_steps::fields::field;
+use report_chain_steps::stack::put;
+use report_chain_steps::words::number_at;
 ghost use mathlib.Core.Path.{_≡_};
 ghost use mathlib.Core.List.{List};
 ghost use Prim.Native.Nat.{ℕ, _+_, _*_, _<_, _≤_};
 ghost use lib.ListN.{length, getD};
 ghost use Rattle.table_first_follow.specs.Sets.{FirstSets, family-words};
-ghost use Rattle.report_chain_checks.specs.Told.{steps-of as stepsOf, told};
-ghost use Rattle.report_chain_checks.specs.Replayed.{no-depth, Read, Tail};
+ghost use Rattle.report_chain_steps.specs.Told.{steps-of as stepsOf, told};
+ghost use Rattle.report_chain_steps.specs.Replayed.{no-depth, Read, Tail};
 
 // Construct i in place of what it is made of.
 fn put_made(table: &[u32], items: &mut [usize], at: Place, tag: usize, i: usize, v: usize) -> Place

@@ -1,9 +1,9 @@
 // What follows a construct, by what follows its owner. The answer is 1 + the construct that is followed now, or 0.
-use crate::constructs::body_of;
-use crate::parts::below_parts;
-use crate::parts::end_of;
-use crate::parts::has_part;
-use crate::stack::below_copies;
+use report_chain_steps::constructs::body_of;
+use report_chain_steps::parts::below_parts;
+use report_chain_steps::parts::end_of;
+use report_chain_steps::parts::has_part;
+use report_chain_steps::stack::below_copies;
 use table_first_follow::parts::size_at;
 use table_layout::Construct;
 use table_layout::construct_at;
@@ -16,9 +16,9 @@ ghost use Rattle.table_layout.specs.Constructs.{constructAt};
 ghost use Rattle.table_layout.specs.Held.{size-of as sizeOf};
 ghost use Rattle.table_first_follow.specs.Parts.{siblings};
 ghost use Rattle.theory.specs.Grammar.{_∈_};
-ghost use Rattle.report_chains.specs.Chains.{leaves, goes-on, after};
-ghost use Rattle.report_chain_checks.specs.Told.{steps-of as stepsOf};
-ghost use Rattle.report_chain_checks.specs.Replayed.{stack, rest-of as restOf, Moved, MovedTo};
+ghost use Rattle.report_chain_meaning.specs.Chains.{leaves, goes-on, after};
+ghost use Rattle.report_chain_steps.specs.Told.{steps-of as stepsOf};
+ghost use Rattle.report_chain_steps.specs.Replayed.{stack, rest-of as restOf, Moved, MovedTo};
 
 // Out of the rule that construct p uses.
 fn after_rule(table: &[u32], items: &[usize], depth: usize, p: usize) -> usize

@@ -1,10 +1,10 @@
 // Where a list ends: at the field that takes the eighth bit, at the frame's end, or after the last construct.
-use crate::Place;
-use crate::constructs::body_of;
-use crate::fields::failed;
-use crate::fields::is_field;
-use crate::stack::put;
-use crate::words::number_at;
+use report_chain_steps::Place;
+use report_chain_steps::constructs::body_of;
+use report_chain_steps::fields::failed;
+use report_chain_steps::fields::is_field;
+use report_chain_steps::stack::put;
+use report_chain_steps::words::number_at;
 use report_chains::strings::bits;
 use report_chains::strings::some_begins;
 use table_first_follow::parts::set_of;
@@ -20,9 +20,9 @@ ghost use Rattle.table_first_follow.specs.Rounds.{strings};
 ghost use Rattle.table_first_follow.specs.Sets.{FirstSets, FollowSets, family-words};
 ghost use Rattle.theory.specs.Derivation.{members, construct};
 ghost use Rattle.theory.specs.Lookahead.{First, Follow};
-ghost use Rattle.report_chains.specs.Chains.{takes, leaves, frame-end};
+ghost use Rattle.report_chain_meaning.specs.Chains.{takes, leaves, frame-end};
 ghost use Rattle.report_chains.specs.Strings.{string, width-of as widthOf, Begun};
-ghost use Rattle.report_chain_checks.specs.Replayed.{no-depth, row as rowOf, stack, rest-of as restOf, Tail, IsField, FirstOf, FollowOf, BeginsWith};
+ghost use Rattle.report_chain_steps.specs.Replayed.{no-depth, row as rowOf, stack, rest-of as restOf, Tail, IsField, FirstOf, FollowOf, BeginsWith};
 
 // Whether set i of a family has a string.
 fn has_some(family: &[u64], i: usize) -> bool

@@ -1,3 +1,2 @@
--- What a chain is, and the numbers of strings.
-pub mod Chains
+-- The numbers of strings.
 pub mod Strings

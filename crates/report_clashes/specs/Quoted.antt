@@ -3,7 +3,7 @@
 use Prim.Native.Nat.{ℕ}
 use mathlib.Core.Bool.{cond}
 use lib.Dec.{eqb}
-use Rattle.report_wording.specs.declared.quoting.Part.{Part}
+use Rattle.report_quoting.specs.declared.quoting.Part.{Part}
 
 -- an alternative that is a branch stands in parentheses, so all of it is quoted
 unfoldable pub part-of : ℕ → Part

@@ -5,11 +5,11 @@ use report_listing::chains;
 use report_listing::places::part_at;
 use report_listing::places::place_of;
 use report_listing::sets;
-use report_wording::quoting::Part;
-use report_wording::quoting::end_of;
+use report_quoting::quoting::Part;
+use report_quoting::quoting::end_of;
 use report_wording::writing::say;
 use text_parsing::terminals::look;
-ghost use Rattle.report_chain_checks.specs.Told.{FirstFamily};
+ghost use Rattle.report_chain_steps.specs.Told.{FirstFamily};
 
 // The place of a repetition's sign.
 fn mark_of(grammar: &[u8], construct: usize) -> usize {

@@ -9,13 +9,13 @@ use report_examples::prefix::up_to;
 use report_listing::chains::tag_at;
 use report_listing::chains::value_at;
 use report_measures::words::number_at;
-use report_wording::windows::binary;
+use report_quoting::windows::binary;
 use report_wording::writing::hexadecimal;
 use report_wording::writing::number;
 use report_wording::writing::say;
 use table_conflicts::Clash;
 ghost use Prim.Native.Nat.{_<_};
-ghost use Rattle.report_chain_checks.specs.Told.{Families};
+ghost use Rattle.report_chain_steps.specs.Told.{Families};
 
 fn has(steps: &[usize], count: usize, tag: usize) -> bool {
     let mut k: usize = 0;

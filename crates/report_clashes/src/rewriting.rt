@@ -5,7 +5,7 @@ use report_measures::lengths::is_literal;
 use report_measures::literals::character;
 use report_measures::words::number_at;
 use report_measures::words::put_number;
-use report_wording::prefixes;
+use report_quoting::prefixes;
 use table_layout::Construct;
 use table_layout::construct_at;
 

@@ -7,13 +7,13 @@ use report_measures::starts;
 use report_places::Located;
 use report_places::Query;
 use report_places::locate;
-use report_wording::quoting::Part;
-use report_wording::windows;
+use report_quoting::quoting::Part;
+use report_quoting::windows;
 use report_wording::writing::say;
 use table_conflicts::Clash;
 use text_header::bytes::either;
 ghost use mathlib.Core.Path.{_≡_};
-ghost use Rattle.report_chain_checks.specs.Told.{Families};
+ghost use Rattle.report_chain_steps.specs.Told.{Families};
 ghost use Rattle.report_clashes.specs.Quoted.{part-of};
 
 // An alternative that is a branch stands in parentheses.

@@ -73,8 +73,10 @@ fn counts(last: usize) {
         value();
         return;
     }
-    say(b"Counts are written {4}, {2~4}, {2~} or {~4}, with numbers, variables\n");
-    say(b"and + - *.\n");
+    say(
+        b"Counts are written {4}, {2~4}, {2~} or {~4}, with numbers, variables\n\
+        and + - *.\n",
+    );
 }
 
 fn set(last: usize) {
@@ -90,8 +92,10 @@ fn condition(last: usize) {
         value();
         return;
     }
-    say(b"A case is written n = 1: expression;, with a condition of = != < <= > >=\n");
-    say(b"in front of the colon.\n");
+    say(
+        b"A case is written n = 1: expression;, with a condition of = != < <= > >=\n\
+        in front of the colon.\n",
+    );
 }
 
 // By the innermost bracket that is open, and the two tokens before.

@@ -2,10 +2,16 @@
 use crate::expected;
 use crate::literals;
 use crate::slips;
-use report_wording::brackets::Brackets;
-use report_wording::brackets::open_at;
-use report_wording::quoting::mark;
-use report_wording::quoting::token;
+use report_codes::begins_item;
+use report_codes::ends_item;
+use report_codes::in_field;
+use report_codes::in_set;
+use report_codes::joins;
+use report_codes::ranging;
+use report_quoting::brackets::Brackets;
+use report_quoting::brackets::open_at;
+use report_quoting::quoting::mark;
+use report_quoting::quoting::token;
 use report_wording::walking::Context;
 use report_wording::walking::before;
 use report_wording::writing::hexadecimal;
@@ -17,12 +23,12 @@ use text_header::bytes::letter;
 use text_header::spans::byte_at;
 use text_literals::quote;
 use text_parsing::terminals::look;
-ghost use mathlib.Core.Path.{_≡_};
-ghost use Rattle.report_form.specs.Codes.{begins-item, ends-item, is-literal, is-ranging, in-field, in-set, is-joining};
 
 fn long_name() {
-    say(b"This name has more than 32 bytes.\n");
-    say(b"What to change: shorten it here and wherever it is used.\n");
+    say(
+        b"This name has more than 32 bytes.\n\
+        What to change: shorten it here and wherever it is used.\n",
+    );
 }
 
 fn stray(b: u8) {
@@ -31,8 +37,10 @@ fn stray(b: u8) {
     if slips::byte(b) {
         return;
     }
-    say(b"What to change: take it out, or put it into a comment (from # to the\n");
-    say(b"line's end). Rules are plain ASCII, and quotes are \" or '.\n");
+    say(
+        b"What to change: take it out, or put it into a comment (from # to the\n\
+        line's end). Rules are plain ASCII, and quotes are \" or '.\n",
+    );
 }
 
 fn no_token(grammar: &[u8], at: usize) {
@@ -49,14 +57,18 @@ fn no_token(grammar: &[u8], at: usize) {
 }
 
 fn no_rule() {
-    say(b"The text ends here and has no rule.\n");
-    say(b"What to change: write at least one rule after the empty line:\n");
-    say(b"    name = expression ;\n");
+    say(
+        b"The text ends here and has no rule.\n\
+        What to change: write at least one rule after the empty line:\n    \
+        name = expression ;\n",
+    );
 }
 
 fn unfinished(second: usize, last: usize) {
-    say(b"The text ends here in the middle of a rule. A rule is written\n");
-    say(b"    name = expression ;\n");
+    say(
+        b"The text ends here in the middle of a rule. A rule is written\n    \
+        name = expression ;\n",
+    );
     expected::told(0, second, last);
     say(b"What to change: finish the rule.\n");
 }
@@ -83,84 +95,108 @@ fn end(grammar: &[u8], seen: Context, kind: usize, place: usize) {
 }
 
 fn repetition() {
-    say(b"A repetition (?, *, + or {..}) stands after an item, and an item\n");
-    say(b"takes only one. In a calculation + and * stand between two numbers.\n");
-    say(b"What to change: put what is repeated in front of it; for a second\n");
-    say(b"repetition put parentheses around the first, as in (\"A\"{2})?.\n");
+    say(
+        b"A repetition (?, *, + or {..}) stands after an item, and an item\n\
+        takes only one. In a calculation + and * stand between two numbers.\n\
+        What to change: put what is repeated in front of it; for a second\n\
+        repetition put parentheses around the first, as in (\"A\"{2})?.\n",
+    );
 }
 
 fn deep() {
-    say(b"Parentheses and brackets, those of uint, sint and var too, go at most 16\n");
-    say(b"deep. This is the 17th.\n");
-    say(b"What to change: write what stands in them as a rule of its own.\n");
+    say(
+        b"Parentheses and brackets, those of uint, sint and var too, go at most 16\n\
+        deep. This is the 17th.\n\
+        What to change: write what stands in them as a rule of its own.\n",
+    );
 }
 
 fn equals() {
-    say(b"After a rule's name comes =. A rule is written\n");
-    say(b"    name = expression ;\n");
-    say(b"What to change: put = here. Or is a ; one too many in front of it?\n");
+    say(
+        b"After a rule's name comes =. A rule is written\n    \
+        name = expression ;\n\
+        What to change: put = here. Or is a ; one too many in front of it?\n",
+    );
 }
 
 fn field(code: usize, last: usize) {
     if both(code == 41, last == 2) {
         say(b"A comma and a set are missing here.\n");
     }
-    say(b"A field is written uint(width, set), or sint(width, set) with a sign: the\n");
-    say(b"width is one number from 1 to 64, then come a comma and a set, as in\n");
-    say(b"    uint(8, 0~9 | 20)     sint(8, -1)     uint(8, var(n, 1~8))\n");
-    say(b"What to change: write the field so.\n");
+    say(
+        b"A field is written uint(width, set), or sint(width, set) with a sign: the\n\
+        width is one number from 1 to 64, then come a comma and a set, as in\n    \
+        uint(8, 0~9 | 20)     sint(8, -1)     uint(8, var(n, 1~8))\n\
+        What to change: write the field so.\n",
+    );
 }
 
 fn set() {
-    say(b"After the comma comes a set: numbers and ranges with | between them,\n");
-    say(b"as in 1 | 5~9 | 20~, or ~ for every value. Parentheses stand only\n");
-    say(b"after !, as in ~ ! (1 | 2).\n");
-    say(b"What to change: write the set so.\n");
+    say(
+        b"After the comma comes a set: numbers and ranges with | between them,\n\
+        as in 1 | 5~9 | 20~, or ~ for every value. Parentheses stand only\n\
+        after !, as in ~ ! (1 | 2).\n\
+        What to change: write the set so.\n",
+    );
 }
 
 fn range() {
-    say(b"A range goes from one literal of a single character to another, as\n");
-    say(b"in 'a'~'z'.\n");
-    say(b"What to change: put a single character on each side. For numbers\n");
-    say(b"write uint(8, 1~5).\n");
+    say(
+        b"A range goes from one literal of a single character to another, as\n\
+        in 'a'~'z'.\n\
+        What to change: put a single character on each side. For numbers\n\
+        write uint(8, 1~5).\n",
+    );
 }
 
 fn switch() {
-    say(b"A switch begins with a case that has a condition; the default, which\n");
-    say(b"has none, comes last:\n");
-    say(b"    [n = 1: \"A\"; n = 2: \"B\"; : \"C\";]\n");
-    say(b"What to change: write the switch so.\n");
+    say(
+        b"A switch begins with a case that has a condition; the default, which\n\
+        has none, comes last:\n    \
+        [n = 1: \"A\"; n = 2: \"B\"; : \"C\";]\n\
+        What to change: write the switch so.\n",
+    );
 }
 
 fn mixed() {
-    say(b"Comparisons are joined all by & or all by |. A set takes only |, and\n");
-    say(b"counts {..} neither.\n");
-    say(b"What to change: put parentheses around one group of comparisons, as\n");
-    say(b"in [n = 1 | (n > 3 & n < 9): \"A\";].\n");
+    say(
+        b"Comparisons are joined all by & or all by |. A set takes only |, and\n\
+        counts {..} neither.\n\
+        What to change: put parentheses around one group of comparisons, as\n\
+        in [n = 1 | (n > 3 & n < 9): \"A\";].\n",
+    );
 }
 
 fn number() {
-    say(b"A number stands only in a uint or sint, in counts {..} and in conditions.\n");
-    say(b"What to change: write the text in quotes, as in \"5\" (byte 35), or a\n");
-    say(b"field, as in uint(8, 5) (byte 05).\n");
+    say(
+        b"A number stands only in a uint or sint, in counts {..} and in conditions.\n\
+        What to change: write the text in quotes, as in \"5\" (byte 35), or a\n\
+        field, as in uint(8, 5) (byte 05).\n",
+    );
 }
 
 fn item() {
-    say(b"What to change: put & (then) or | (or) between two items; between two\n");
-    say(b"numbers | or the sign of a calculation. Or is the ; of the rule before\n");
-    say(b"it missing? Every rule is name = expression ;.\n");
+    say(
+        b"What to change: put & (then) or | (or) between two items; between two\n\
+        numbers | or the sign of a calculation. Or is the ; of the rule before\n\
+        it missing? Every rule is name = expression ;.\n",
+    );
 }
 
 fn call() {
-    say(b"No ( comes after a name. Only uint(..) and sint(..) are written so, and\n");
-    say(b"var(..) right after their comma.\n");
-    say(b"What to change: is uint, sint or var misspelt? Or is & (then) or | (or)\n");
-    say(b"missing in front of the ( ?\n");
+    say(
+        b"No ( comes after a name. Only uint(..) and sint(..) are written so, and\n\
+        var(..) right after their comma.\n\
+        What to change: is uint, sint or var misspelt? Or is & (then) or | (or)\n\
+        missing in front of the ( ?\n",
+    );
 }
 
 fn rule_start(code: usize) {
-    say(b"The name of a rule must stand here. A rule is written\n");
-    say(b"    name = expression ;\n");
+    say(
+        b"The name of a rule must stand here. A rule is written\n    \
+        name = expression ;\n",
+    );
     if code == 59 {
         say(b"What to change: this ; is one too many; take it out.\n");
     } else {
@@ -169,70 +205,11 @@ fn rule_start(code: usize) {
 }
 
 fn sign() {
-    say(b"What to change: look at what stands in front of it: something is\n");
-    say(b"missing there, or is one too many. Is each ( [ { closed, and in its\n");
-    say(b"own rule? Every rule is name = expression ;.\n");
-}
-
-// Names, numbers, literals, and what opens an item.
-fn begins_item(code: usize) -> bool
-    ensures { λ r. ⌜ r ≡ begins-item code ⌝ }
-{
-    either(
-        both(1 <= code, code <= 3),
-        either(both(6 <= code, code <= 9), either(code == 40, code == 91)),
-    )
-}
-
-// A name, a number, a literal, a closing bracket.
-fn ends_item(code: usize) -> bool
-    ensures { λ r. ⌜ r ≡ ends-item code ⌝ }
-{
-    either(
-        either(both(1 <= code, code <= 3), code == 7),
-        either(
-            code == 9,
-            either(code == 41, either(code == 93, code == 125)),
-        ),
-    )
-}
-
-fn literal_code(code: usize) -> bool
-    ensures { λ r. ⌜ r ≡ is-literal code ⌝ }
-{
-    either(code == 3, code == 9)
-}
-
-fn ranging(code: usize, last: usize) -> bool
-    ensures { λ r. ⌜ r ≡ is-ranging code last ⌝ }
-{
-    either(
-        both(code == 126, literal_code(last)),
-        both(last == 126, literal_code(code)),
-    )
-}
-
-// `uint(`, or `uint(` and a width; `sint(` has the same code.
-fn in_field(third: usize, second: usize, last: usize) -> bool
-    ensures { λ r. ⌜ r ≡ in-field third second last ⌝ }
-{
-    either(
-        both(second == 6, last == 40),
-        both(third == 6, both(second == 40, last == 2)),
-    )
-}
-
-// A width and a comma; a variable's name and a comma.
-fn in_set(second: usize, last: usize) -> bool
-    ensures { λ r. ⌜ r ≡ in-set second last ⌝ }
-{
-    both(last == 44, either(second == 2, second == 1))
-}
-
-fn joins(code: usize) -> bool
-    ensures { λ r. ⌜ r ≡ is-joining code ⌝ }
-{
-    either(code == 38, code == 124)
+    say(
+        b"What to change: look at what stands in front of it: something is\n\
+        missing there, or is one too many. Is each ( [ { closed, and in its\n\
+        own rule? Every rule is name = expression ;.\n",
+    );
 }
 
 fn general(code: usize, last: usize) {

@@ -12,30 +12,38 @@ use text_literals::reach;
 
 fn long(count: usize) {
     number(b"This literal has ", count);
-    say(b" characters. A literal has at most 32.\n");
-    say(b"What to change: write it as two, with & between them: \"ab\" & \"cd\" is\n");
-    say(b"\"abcd\".\n");
+    say(
+        b" characters. A literal has at most 32.\n\
+        What to change: write it as two, with & between them: \"ab\" & \"cd\" is\n\
+        \"abcd\".\n",
+    );
 }
 
 fn unclosed() {
-    say(b"This literal is not closed. It must end on its line, by the quote that\n");
-    say(b"opened it.\n");
-    say(b"What to change: put the quote at its end. A quote inside of it is\n");
-    say(b"written \\\" or \\', a backslash \\\\, a line feed \\[0a].\n");
+    say(
+        b"This literal is not closed. It must end on its line, by the quote that\n\
+        opened it.\n\
+        What to change: put the quote at its end. A quote inside of it is\n\
+        written \\\" or \\', a backslash \\\\, a line feed \\[0a].\n",
+    );
 }
 
 fn empty() {
-    say(b"This literal is empty. A literal has at least 1 character.\n");
-    say(b"What to change: take it out, with the & or | beside it. What may be\n");
-    say(b"left out is written with ?, as in \"A\"?.\n");
+    say(
+        b"This literal is empty. A literal has at least 1 character.\n\
+        What to change: take it out, with the & or | beside it. What may be\n\
+        left out is written with ?, as in \"A\"?.\n",
+    );
 }
 
 fn escape(grammar: &[u8], at: usize) {
     say(b"In this literal a backslash is not followed as it must be, at\n");
     lines::shown(grammar, at);
-    say(b"What to change: a backslash stands only in \\\\ \\\" \\' and \\[hex], from\n");
-    say(b"\\[0] to \\[7f]. A line feed is \\[0a]. For a byte from 80 to ff write\n");
-    say(b"uint(8, 0x80).\n");
+    say(
+        b"What to change: a backslash stands only in \\\\ \\\" \\' and \\[hex], from\n\
+        \\[0] to \\[7f]. A line feed is \\[0a]. For a byte from 80 to ff write\n\
+        uint(8, 0x80).\n",
+    );
 }
 
 fn foreign(grammar: &[u8], at: usize) {
@@ -46,8 +54,10 @@ fn foreign(grammar: &[u8], at: usize) {
     );
     say(b") that is no\nprintable ASCII, at\n");
     lines::shown(grammar, at);
-    say(b"What to change: up to 7f write it as \\[hex]: a tab is \\[09]. For a byte\n");
-    say(b"from 80 to ff write uint(8, 0x80), outside of the literal.\n");
+    say(
+        b"What to change: up to 7f write it as \\[hex]: a tab is \\[09]. For a byte\n\
+        from 80 to ff write uint(8, 0x80), outside of the literal.\n",
+    );
 }
 
 // The first byte that is wrong.

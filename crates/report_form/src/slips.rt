@@ -1,45 +1,59 @@
 // Refusal 4: slips that are often made, by name.
+use report_quoting::openings::open_before;
 use report_wording::lines;
-use report_wording::openings::open_before;
 use report_wording::writing::say;
 use text_header::bytes::both;
 use text_header::bytes::either;
 
 fn equals() {
-    say(b"= is written once, in conditions too: [n = 1: \"A\";].\n");
-    say(b"What to change: take one = away.\n");
+    say(
+        b"= is written once, in conditions too: [n = 1: \"A\";].\n\
+        What to change: take one = away.\n",
+    );
 }
 
 fn comma() {
-    say(b"Counts have no comma.\n");
-    say(b"What to change: from 2 to 3 times is {2~3}, from 2 times on {2~}.\n");
+    say(
+        b"Counts have no comma.\n\
+        What to change: from 2 to 3 times is {2~3}, from 2 times on {2~}.\n",
+    );
 }
 
 fn calculation() {
-    say(b"A calculation has no parentheses.\n");
-    say(b"What to change: multiply them out: 2 * n - 2 for (n - 1) * 2. * comes\n");
-    say(b"before + and -.\n");
+    say(
+        b"A calculation has no parentheses.\n\
+        What to change: multiply them out: 2 * n - 2 for (n - 1) * 2. * comes\n\
+        before + and -.\n",
+    );
 }
 
 fn dash() {
-    say(b"A range of characters is written with ~.\n");
-    say(b"What to change: 'a'~'z' for 'a'-'z'.\n");
+    say(
+        b"A range of characters is written with ~.\n\
+        What to change: 'a'~'z' for 'a'-'z'.\n",
+    );
 }
 
 fn both_in_set() {
-    say(b"In a set the items stand with | between them: a value is one of them.\n");
-    say(b"What to change: | for &. All of 1 to 9 but 5 is 1~9 ! 5.\n");
+    say(
+        b"In a set the items stand with | between them: a value is one of them.\n\
+        What to change: | for &. All of 1 to 9 but 5 is 1~9 ! 5.\n",
+    );
 }
 
 fn comma_in_set() {
-    say(b"In a set the items stand with | between them.\n");
-    say(b"What to change: | for the comma: uint(8, 1 | 2 | 5~9).\n");
+    say(
+        b"In a set the items stand with | between them.\n\
+        What to change: | for the comma: uint(8, 1 | 2 | 5~9).\n",
+    );
 }
 
 fn literal_in_formula() {
-    say(b"Sets, counts and conditions have numbers, no characters.\n");
-    say(b"What to change: write the character's number: 0x41 for \"A\"; or outside\n");
-    say(b"of uint the literal itself, or a range as 'a'~'z'.\n");
+    say(
+        b"Sets, counts and conditions have numbers, no characters.\n\
+        What to change: write the character's number: 0x41 for \"A\"; or outside\n\
+        of uint the literal itself, or a range as 'a'~'z'.\n",
+    );
 }
 
 fn semicolon(grammar: &[u8], end: usize) {
@@ -69,8 +83,10 @@ fn unclosed(grammar: &[u8], end: usize, sign: &[u8]) {
 }
 
 fn open_case(grammar: &[u8], end: usize) {
-    say(b"The text ends here in a switch: the ; of its case and its ] are missing.\n");
-    say(b"The switch begins here:\n");
+    say(
+        b"The text ends here in a switch: the ; of its case and its ] are missing.\n\
+        The switch begins here:\n",
+    );
     lines::shown(grammar, open_before(grammar, end));
     say(b"What to change: put them there, and end the rule with ;.\n");
 }
@@ -194,21 +210,27 @@ pub fn ended(grammar: &[u8], kind: usize, end: usize) {
 }
 
 fn division() {
-    say(b"There is no division.\n");
-    say(b"What to change: bind the half itself: uint(8, var(n, ~)) & \"AB\"{n} has\n");
-    say(b"2 * n + 1 bytes. That changes the frames where the field has the whole.\n");
-    say(b"A comment goes from # to the line's end.\n");
+    say(
+        b"There is no division.\n\
+        What to change: bind the half itself: uint(8, var(n, ~)) & \"AB\"{n} has\n\
+        2 * n + 1 bytes. That changes the frames where the field has the whole.\n\
+        A comment goes from # to the line's end.\n",
+    );
 }
 
 fn dots() {
-    say(b"A range is written with ~, not with dots.\n");
-    say(b"What to change: 1~5, 'a'~'z', {2~4}.\n");
+    say(
+        b"A range is written with ~, not with dots.\n\
+        What to change: 1~5, 'a'~'z', {2~4}.\n",
+    );
 }
 
 fn quotes() {
-    say(b"Quotes are the plain \" and ', and rules are plain ASCII.\n");
-    say(b"What to change: type the quotes, dashes and blanks anew; an editor may\n");
-    say(b"have changed them.\n");
+    say(
+        b"Quotes are the plain \" and ', and rules are plain ASCII.\n\
+        What to change: type the quotes, dashes and blanks anew; an editor may\n\
+        have changed them.\n",
+    );
 }
 
 // A byte that means nothing; whether it is one of those that are often meant for something.

@@ -2,10 +2,10 @@
 use report_places::Located;
 use report_places::Query;
 use report_places::locate;
+use report_quoting::quoting::Part;
+use report_quoting::quoting::quote;
+use report_quoting::quoting::token;
 use report_wording::lines;
-use report_wording::quoting::Part;
-use report_wording::quoting::quote;
-use report_wording::quoting::token;
 use report_wording::writing::say;
 
 // A construct's first byte.

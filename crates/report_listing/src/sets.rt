@@ -1,7 +1,7 @@
 // The sets behind clashes, where the arrays are as long as they must be.
 use table_conflicts::Clash;
 ghost use mathlib.Core.Bool.{Bool};
-ghost use Rattle.report_places.specs.Tables.{TextEncoding};
+ghost use Rattle.report_tables.specs.Tables.{TextEncoding};
 
 // The clash of construct i.
 pub fn clash(table: &[u32], follow: &[u64], prediction: &[u64], i: usize) -> Clash {
@@ -42,6 +42,6 @@ pub fn encoded(grammar: &[u8]) -> Words
     ensures { λ r. ⌜ ((found : Bool) × TextEncoding (now (grammar .entry)) (r .words) found) ⌝ }
 {
     let mut words = [0u32; 16384];
-    report_places::tables::encode(grammar, &mut words);
+    report_tables::tables::encode(grammar, &mut words);
     Words { words }
 }

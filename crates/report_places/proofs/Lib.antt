@@ -1,4 +1,2 @@
 -- Laws that the proofs of the functions cite.
-pub mod FurtherLaws
 pub mod Laws
-pub mod TableLaws

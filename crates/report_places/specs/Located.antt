@@ -13,8 +13,8 @@ use Rattle.text_store.specs.Store.{node-words, term-words, rule-words, nodes-of
 use Rattle.text_parsing.specs.Form.{Outcome, right, refused}
 use Rattle.text_store.specs.Words.{kind-of, place-of, named-at, last-node, terms-at-end, binders-at-end}
 use Rattle.text_admission.specs.Admitted.{form}
-use Rattle.report_places.specs.Faults.{from-base, rule-number, first-rule, name-fault}
-use Rattle.report_places.specs.Further.{next-fault}
+use Rattle.report_faults.specs.Faults.{from-base, rule-number, first-rule, name-fault}
+use Rattle.report_further.specs.Further.{next-fault}
 use Rattle.report_places.specs.declared.Located.{Located}
 use Rattle.report_places.specs.declared.Query.{Query}
 

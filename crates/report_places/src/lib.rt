@@ -1,10 +1,11 @@
 // What a grammar's text has at a construct, a rule or a name: the facts of the report.
 use basis::MAX_TEXT_BYTES;
-use faults::first_rule;
-use faults::from;
-use faults::name_fault;
-use faults::rule_number;
-use further::next_fault;
+use report_faults::Fault;
+use report_faults::faults::first_rule;
+use report_faults::faults::from;
+use report_faults::faults::name_fault;
+use report_faults::faults::rule_number;
+use report_further::further::next_fault;
 use text_header::Heading;
 use text_store::BINDERS_AT_END;
 use text_store::KIND;
@@ -23,13 +24,9 @@ ghost use lib.ListN.{length, drop};
 ghost use Rattle.basis.specs.Limits.{max-text-bytes, max-rules};
 ghost use Rattle.text_store.specs.Words.{node-word, place-of, kind-of, named-at, nodes-room, terms-room, rules-room};
 ghost use Rattle.text_admission.specs.Admitted.{form};
-ghost use Rattle.report_places.specs.Faults.{from-base, rule-number, first-rule, name-fault};
-ghost use Rattle.report_places.specs.Further.{next-fault};
+ghost use Rattle.report_faults.specs.Faults.{from-base, rule-number, first-rule, name-fault};
+ghost use Rattle.report_further.specs.Further.{next-fault};
 ghost use Rattle.report_places.specs.Located.{totals-of, answered, located-in, located};
-
-mod faults;
-mod further;
-pub mod tables;
 
 // A construct by its number; how much there is up to the rule that a place lies in; the name of that rule; the rule that has the name at a place; what
 // is wrong with the name at a place; the first name at fault from a place on.
@@ -40,23 +37,6 @@ pub enum Query {
     Definition(usize),
     Name(usize),
     Fault(usize),
-}
-
-// What is wrong with a name that is not reserved. Numbers are places.
-pub enum Fault {
-    // A rule's name, which a rule above has.
-    Double(usize),
-    // Used as a rule: there is none of that name; or it is a variable, bound there.
-    NoRule,
-    Variable(usize),
-    // Bound: for the second time in its rule; or where nothing may be bound.
-    Twice(usize),
-    Misplaced,
-    // Used as a variable: bound in its rule, but not before; a rule's name; bound in another rule; none of these.
-    Later(usize),
-    Rule(usize),
-    Elsewhere(usize),
-    NoVariable,
 }
 
 // A construct's first byte in the whole text, its kind (6 literal, 7 range, 8 uint, 9 eod; the others as in `text_parsing`), and how many

@@ -1,10 +1,10 @@
 // Refusal 13: the items of a field's set, and why none has a value that the field has.
 use crate::calculations::begins;
 use crate::calculations::worked_out;
+use report_quoting::quoting::Part;
+use report_quoting::quoting::end_of;
+use report_quoting::quoting::quote;
 use report_wording::lines;
-use report_wording::quoting::Part;
-use report_wording::quoting::end_of;
-use report_wording::quoting::quote;
 use report_wording::writing::number;
 use report_wording::writing::say;
 use term_integers::at_most;

@@ -1,4 +1,3 @@
 -- Laws behind the proofs of the report.
 pub mod LineLaws
 pub mod WalkLaws
-pub mod PartLaws

@@ -1,11 +1,4 @@
-// What the report is written with: bytes, lines and parts of a grammar's text, and windows.
-pub mod brackets;
+// What the report is written with: bytes and lines of a grammar's text, and a walk over its tokens.
 pub mod lines;
-pub mod nearest;
-pub mod openings;
-pub mod prefixes;
-pub mod quoting;
-pub mod variables;
 pub mod walking;
-pub mod windows;
 pub mod writing;

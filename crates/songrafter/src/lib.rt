@@ -89,7 +89,7 @@ fn tell(answer: &mut [u64], admission: Admission) -> usize
 pub extern "C" fn songrafter_admit(text: &[u8], table: &mut [u32], answer: &mut [u64]) -> usize
     ensures { λ r. ⌜ Admits (now (text .entry)) (now (table .entry)) (now (table .exit)) (now (answer .entry)) (now (answer .exit)) r ⌝ }
 {
-    let admission = admission::admit(text, table);
+    let admission = admission_call::admit(text, table);
     tell(answer, admission)
 }
 

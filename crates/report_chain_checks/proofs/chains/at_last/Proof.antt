@@ -3,8 +3,8 @@ use borrow.Author.Needs.{needs}
 use native.Mathlib.Omega.{arith}
 use Prim.Native.Nat.{ℕ, _+_, _-_, _≤_, _<_}
 use mathlib.Core.Path.{_≡_, refl, sym, ap, subst, _∙_}
-use Rattle.report_chain_checks.specs.Told.{steps-of, told}
-use Rattle.report_chain_checks.proofs.Tails.{last-as}
+use Rattle.report_chain_steps.specs.Told.{steps-of, told}
+use Rattle.report_chain_steps.proofs.Tails.{last-as}
 use Rattle.report_chain_checks.proofs.chains.at_last.Statement.{statement}
 use Rattle.report_chain_checks.proofs.chains.at_last.Tie as tie
 

@@ -1,8 +1,8 @@
 -- `report_chain_checks::replay::entry` meets its contract. Assumes nothing.
 use borrow.Author.Needs.{needs}
 use mathlib.Core.Path.{_≡_, refl, sym, ap, subst, _∙_}
-use Rattle.report_chain_checks.specs.Told.{steps-of, told}
-use Rattle.report_chain_checks.proofs.Tails.{read-as}
+use Rattle.report_chain_steps.specs.Told.{steps-of, told}
+use Rattle.report_chain_steps.proofs.Tails.{read-as}
 use Rattle.report_chain_checks.proofs.replay.entry.Statement.{statement}
 use Rattle.report_chain_checks.proofs.replay.entry.Tie as tie
 

@@ -1,8 +1,8 @@
 -- `report_chain_checks::replay::put_made` meets its contract. Assumes nothing.
 use borrow.Author.Needs.{needs}
 use mathlib.Core.Path.{_≡_, refl, sym, ap, subst, _∙_}
-use Rattle.report_chain_checks.specs.Replayed.{stack}
-use Rattle.report_chain_checks.proofs.Tails.{tail-made}
+use Rattle.report_chain_steps.specs.Replayed.{stack}
+use Rattle.report_chain_steps.proofs.Tails.{tail-made}
 use Rattle.report_chain_checks.proofs.replay.put_made.Statement.{statement}
 use Rattle.report_chain_checks.proofs.replay.put_made.Tie as tie
 

@@ -1,7 +1,7 @@
 -- `report_chain_checks::replay::put_moved` meets its contract. Assumes nothing.
 use borrow.Author.Needs.{needs}
 use mathlib.Core.Path.{_≡_, refl, sym, ap, subst, _∙_}
-use Rattle.report_chain_checks.proofs.Tails.{tail-moved}
+use Rattle.report_chain_steps.proofs.Tails.{tail-moved}
 use Rattle.report_chain_checks.proofs.replay.put_moved.Statement.{statement}
 use Rattle.report_chain_checks.proofs.replay.put_moved.Tie as tie
 

@@ -3,9 +3,9 @@ use native.Mathlib.Omega.{arith}
 use Prim.Native.Nat.{ℕ, _+_, _-_, _≤_, _<_}
 use mathlib.Core.Path.{_≡_, refl, sym, ap, subst, _∙_}
 use lib.ListN.{length}
-use Rattle.report_chain_checks.specs.Told.{steps-of, told}
-use Rattle.report_chain_checks.specs.Replayed.{no-depth, Tail}
-use Rattle.report_chain_checks.proofs.Tails.{tail-is, told-back}
+use Rattle.report_chain_steps.specs.Told.{steps-of, told}
+use Rattle.report_chain_steps.specs.Replayed.{no-depth, Tail}
+use Rattle.report_chain_steps.proofs.Tails.{tail-is, told-back}
 use Rattle.report_chain_checks.proofs.replay.replayed.Statement.{statement}
 use Rattle.report_chain_checks.proofs.replay.replayed.Tie as tie
 

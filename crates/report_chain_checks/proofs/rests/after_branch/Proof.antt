@@ -3,8 +3,8 @@ use borrow.Author.Needs.{needs}
 use native.Mathlib.Omega.{arith}
 use Prim.Native.Nat.{ℕ, _+_, _-_, _≤_, _<_}
 use mathlib.Core.Path.{_≡_, refl, sym, ap, subst, _∙_}
-use Rattle.report_chain_checks.specs.Replayed.{stack}
-use Rattle.report_chain_checks.proofs.Rules.{moved-branch, moved-case, moved-to, found-part, bottom}
+use Rattle.report_chain_steps.specs.Replayed.{stack}
+use Rattle.report_chain_steps.proofs.Rules.{moved-branch, moved-case, moved-to, found-part, bottom}
 use Rattle.report_chain_checks.proofs.rests.after_branch.Statement.{statement}
 use Rattle.report_chain_checks.proofs.rests.after_branch.Tie as tie
 

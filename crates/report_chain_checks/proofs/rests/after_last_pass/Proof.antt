@@ -3,9 +3,9 @@ use borrow.Author.Needs.{needs}
 use native.Mathlib.Omega.{arith}
 use Prim.Native.Nat.{ℕ, _+_, _-_}
 use mathlib.Core.Path.{_≡_, refl, sym, ap, subst, _∙_}
-use Rattle.report_chain_checks.specs.Replayed.{stack}
-use Rattle.report_chain_checks.specs.Replayed.{Moved}
-use Rattle.report_chain_checks.proofs.Rules.{moved-last-pass, moved-to, bottom}
+use Rattle.report_chain_steps.specs.Replayed.{stack}
+use Rattle.report_chain_steps.specs.Replayed.{Moved}
+use Rattle.report_chain_steps.proofs.Rules.{moved-last-pass, moved-to, bottom}
 use Rattle.report_chain_checks.proofs.rests.after_last_pass.Statement.{statement}
 use Rattle.report_chain_checks.proofs.rests.after_last_pass.Tie as tie
 

@@ -5,8 +5,8 @@ use Prim.Native.Nat.{ℕ, _+_, _-_, _≤_, _<_}
 use mathlib.Core.Path.{_≡_, refl, sym, ap, subst, _∙_}
 use mathlib.Core.List.{List, [], _∷_, _++_}
 use lib.ListN.{replicate}
-use Rattle.report_chain_checks.specs.Replayed.{stack}
-use Rattle.report_chain_checks.proofs.Rules.{moved-pass, moved-to, bottom}
+use Rattle.report_chain_steps.specs.Replayed.{stack}
+use Rattle.report_chain_steps.proofs.Rules.{moved-pass, moved-to, bottom}
 use Rattle.report_chain_checks.proofs.rests.after_pass.Statement.{statement}
 use Rattle.report_chain_checks.proofs.rests.after_pass.Tie as tie
 

@@ -1,8 +1,8 @@
 -- `report_chain_checks::rests::moved` meets its contract. Assumes nothing.
 use native.Mathlib.Omega.{arith}
 use Prim.Native.Nat.{ℕ, _+_, _-_, _≤_, _<_}
-use Rattle.report_chain_checks.specs.Replayed.{stack}
-use Rattle.report_chain_checks.proofs.Tails.{moved-rests}
+use Rattle.report_chain_steps.specs.Replayed.{stack}
+use Rattle.report_chain_steps.proofs.Tails.{moved-rests}
 use Rattle.report_chain_checks.proofs.rests.moved.Statement.{statement}
 use Rattle.report_chain_checks.proofs.rests.moved.Tie as tie
 

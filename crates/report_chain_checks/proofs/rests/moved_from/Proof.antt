@@ -3,10 +3,10 @@ use borrow.Author.Needs.{needs}
 use native.Mathlib.Omega.{arith}
 use Prim.Native.Nat.{ℕ, _+_, _-_, _≤_, _<_}
 use mathlib.Core.Path.{_≡_, refl, sym, ap, subst, _∙_}
-use Rattle.report_chain_checks.specs.Told.{steps-of, told}
-use Rattle.report_chain_checks.specs.Replayed.{stack}
-use Rattle.report_chains.specs.Chains.{after}
-use Rattle.report_chain_checks.proofs.Tails.{moved-as}
+use Rattle.report_chain_steps.specs.Told.{steps-of, told}
+use Rattle.report_chain_steps.specs.Replayed.{stack}
+use Rattle.report_chain_meaning.specs.Chains.{after}
+use Rattle.report_chain_steps.proofs.Tails.{moved-as}
 use Rattle.report_chain_checks.proofs.rests.moved_from.Statement.{statement}
 use Rattle.report_chain_checks.proofs.rests.moved_from.Tie as tie
 

@@ -7,8 +7,8 @@ use mathlib.Core.Path.{_≡_, refl, sym, ap, subst, _∙_}
 use mathlib.Core.List.{List, [], _∷_, _++_}
 use borrow.Author.Tests.{eqb-true}
 use Rattle.table_first_follow.specs.Parts.{siblings}
-use Rattle.report_chain_checks.specs.Replayed.{stack}
-use Rattle.report_chain_checks.proofs.Rules.{others, bottom}
+use Rattle.report_chain_steps.specs.Replayed.{stack}
+use Rattle.report_chain_steps.proofs.Rules.{others, bottom}
 use Rattle.report_chain_checks.proofs.rests.others_after.Statement.{statement}
 use Rattle.report_chain_checks.proofs.rests.others_after.Tie as tie
 

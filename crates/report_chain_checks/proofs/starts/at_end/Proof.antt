@@ -3,8 +3,8 @@ use borrow.Author.Needs.{needs}
 use native.Mathlib.Omega.{arith}
 use Prim.Native.Nat.{ℕ, _-_}
 use mathlib.Core.Path.{_≡_, refl, sym, ap, subst, _∙_}
-use Rattle.report_chain_checks.proofs.Widths.{width-small}
-use Rattle.report_chain_checks.proofs.Tails.{tail-end}
+use Rattle.report_chain_steps.proofs.Widths.{width-small}
+use Rattle.report_chain_steps.proofs.Tails.{tail-end}
 use Rattle.report_chain_checks.proofs.starts.at_end.Statement.{statement}
 use Rattle.report_chain_checks.proofs.starts.at_end.Tie as tie
 

@@ -1,6 +1,6 @@
 -- `report_chain_checks::starts::at_nothing` meets its contract. Assumes nothing.
 use mathlib.Core.Path.{_≡_, refl, sym, ap, subst, _∙_}
-use Rattle.report_chain_checks.proofs.Tails.{tail-nothing}
+use Rattle.report_chain_steps.proofs.Tails.{tail-nothing}
 use Rattle.report_chain_checks.proofs.starts.at_nothing.Statement.{statement}
 use Rattle.report_chain_checks.proofs.starts.at_nothing.Tie as tie
 

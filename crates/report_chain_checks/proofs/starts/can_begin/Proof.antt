@@ -2,7 +2,7 @@
 use borrow.Author.Needs.{needs}
 use native.Mathlib.Omega.{arith}
 use mathlib.Core.Bool.{false≢true}
-use Rattle.report_chain_checks.proofs.Readiness.{of-set, begins-so}
+use Rattle.report_chain_steps.proofs.Readiness.{of-set, begins-so}
 use Rattle.report_chain_checks.proofs.starts.can_begin.Statement.{statement}
 use Rattle.report_chain_checks.proofs.starts.can_begin.Tie as tie
 

@@ -5,9 +5,9 @@ use mathlib.Core.Bool.{false≢true}
 use Prim.Native.Nat.{ℕ, _-_, _≤_}
 use mathlib.Core.Path.{_≡_, refl, sym, ap, subst, _∙_}
 use mathlib.Core.List.{List}
-use Rattle.report_chain_checks.specs.Replayed.{row, stack, FirstOf}
+use Rattle.report_chain_steps.specs.Replayed.{row, stack, FirstOf}
 use Rattle.table_first_follow.specs.Sets.{FirstSets}
-use Rattle.report_chain_checks.proofs.Readiness.{none-ready, rows-ready, unless}
+use Rattle.report_chain_steps.proofs.Readiness.{none-ready, rows-ready, unless}
 use Rattle.report_chain_checks.proofs.starts.ready.Statement.{statement}
 use Rattle.report_chain_checks.proofs.starts.ready.Tie as tie
 

@@ -1,7 +1,7 @@
 -- `report_chain_checks::starts::row_ready` meets its contract. Assumes nothing.
 use borrow.Author.Needs.{needs}
 use mathlib.Core.Bool.{false≢true}
-use Rattle.report_chain_checks.proofs.Readiness.{row-construct, row-passes}
+use Rattle.report_chain_steps.proofs.Readiness.{row-construct, row-passes}
 use Rattle.report_chain_checks.proofs.starts.row_ready.Statement.{statement}
 use Rattle.report_chain_checks.proofs.starts.row_ready.Tie as tie
 

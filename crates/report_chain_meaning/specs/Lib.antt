@@ -1,0 +1,2 @@
+-- What a chain is.
+pub mod Chains

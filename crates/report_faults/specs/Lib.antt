@@ -1,0 +1,2 @@
+-- What is wrong with a name.
+pub mod Faults

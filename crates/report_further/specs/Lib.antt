@@ -1,0 +1,2 @@
+-- The first name at fault from a place on.
+pub mod Further

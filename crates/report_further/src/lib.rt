@@ -1,0 +1,2 @@
+// The first name at fault from a place on, for the report.
+pub mod further;

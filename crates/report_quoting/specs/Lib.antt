@@ -1,0 +1,2 @@
+-- Where a part of a text ends.
+pub mod Parts

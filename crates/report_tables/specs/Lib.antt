@@ -1,0 +1,2 @@
+-- What `encode` promises.
+pub mod Tables
