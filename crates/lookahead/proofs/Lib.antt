@@ -1,6 +1,7 @@
 pub mod BitLaws
 pub mod SetLaws
 pub mod LeastLaws
+pub mod LongLaws
 pub mod FoldLaws
 pub mod PrefixLaws
 pub mod SpreadLaws

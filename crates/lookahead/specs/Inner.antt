@@ -91,3 +91,7 @@ pub record Filled (P : ℕ → ℕ → Type 0) (n : ℕ) (words : List ℕ) : Ty
 -- the bits from l up to h
 abbrev pub Stripe : ℕ → ℕ → ℕ → Type 0
 Stripe l h w = (k : ℕ) → k < 64 → (bit w k ≡ 1) ↔ ((l ≤ k) × (k < h))
+
+-- the words of strings shorter than 8 bits are 0: their numbers are below 256
+abbrev pub OnlyLong : List ℕ → Type 0
+OnlyLong words = (i : ℕ) → i < 4 → getD words i 0 ≡ 0

@@ -8,6 +8,7 @@ ghost use Prim.Native.Nat.{_+_, _*_, _<_, _≤_};
 ghost use lib.ListN.{length};
 ghost use Rattle.basis.specs.Bits.{Bits, bitsOf};
 ghost use Rattle.basis.specs.Lookahead.{lookahead, number};
+ghost use Rattle.lookahead.specs.Inner.{OnlyLong};
 ghost use Rattle.lookahead.specs.Sets.{Has, Is, Proper, Decides, Union, Joined, SameWords};
 ghost use Rattle.lookahead.specs.Least.{LeastCommon};
 
@@ -167,12 +168,40 @@ fn join_words(a: Set, b: Set) -> Set
     Set { words: out }
 }
 
-// The same. Many constructs have no strings, and with none there is no join.
+// Whether no word of strings shorter than 8 bits has a bit.
+fn only_long(set: Set) -> bool
+    ensures { λ r. ⌜ (r ≡ true → OnlyLong (set .words)) ⌝ }
+{
+    let x = set.words;
+    if x[0] == 0 {
+        if x[1] == 0 {
+            if x[2] == 0 {
+                if x[3] == 0 {
+                    return true;
+                }
+            }
+        }
+    }
+    false
+}
+
+// Strings of 8 bits stay what they are, whatever follows them; where nothing does, there is no join.
+fn join_long(a: Set, b: Set) -> Set
+    requires { ⌜ OnlyLong (a .words) ⌝ }
+    ensures { λ r. ⌜ Is (r .words) (Joined (Has (a .words)) (Has (b .words))) ⌝ }
+{
+    match least_common(b, b) {
+        Common::Nothing => empty(),
+        Common::Least(_) => union(a, a),
+    }
+}
+
+// The same of any sets. Most fields have 8 bits or more, and many constructs have no strings yet: neither asks for the words' work.
 pub fn join(a: Set, b: Set) -> Set
     ensures { λ r. ⌜ Is (r .words) (Joined (Has (a .words)) (Has (b .words))) ⌝ }
 {
-    if is_empty(a) {
-        return empty();
+    if only_long(a) {
+        return join_long(a, b);
     }
     join_words(a, b)
 }
