@@ -34,7 +34,7 @@ least-value signed w = subℕ 0 (offset signed w)
 abbrev pub greatest-value : Bool → ℕ → ℤ
 greatest-value signed w = subℕ (2 ^ w - 1) (offset signed w)
 
--- the size of the value that is farthest from 0: "variables at their widest", of a signed one the larger of its two ends in size (2^(width − 1))
+-- the size of the value that is farthest from 0, of a width of 1 and more: "variables at their widest", of a signed one the larger of its two ends in size
 abbrev pub greatest-size : Bool → ℕ → ℕ
 greatest-size false w = 2 ^ w - 1
 greatest-size true w = 2 ^ (w - 1)

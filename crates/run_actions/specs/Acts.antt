@@ -150,7 +150,7 @@ range-act fs p low high =
     (cond (leb low (value (take 8 (drop p (frameBits fs)))) && leb (value (take 8 (drop p (frameBits fs)))) high) (Act.Take 8 0 (pos 0)) Act.Fail)
     Act.Fail
 
--- what is bound, where there is a binder
+-- what is bound, where there is a binder; 0 where there is none, and never looked at
 abbrev pub kept : ℕ → ℤ → ℤ
 kept zero n = pos 0
 kept (suc x) n = n
