@@ -68,7 +68,7 @@ fn stored(table: &[u32], base: usize, n: u64) -> bool
 pub fn size_at(table: &[u32], j: usize) -> usize
     ensures { λ r. ⌜ (r ≡ size-of (constructAt (now (table .entry)) j)) × (r ≤ max-constructs) ⌝ }
 {
-    table_layout::size_of(table_layout::construct_at(table, j))
+    table_layout::size_at(table, j)
 }
 
 // The first branch whose prediction set holds what comes next, number n.

@@ -547,15 +547,7 @@ fn leaf_size(kind: usize, a: usize, b: usize, c: usize, d: usize) -> usize
     0
 }
 
-fn decoded_size(
-    i: usize,
-    kind: usize,
-    size: usize,
-    a: usize,
-    b: usize,
-    c: usize,
-    d: usize,
-) -> usize
+fn decoded_size(i: usize, kind: usize, size: usize, a: usize, b: usize, c: usize, d: usize) -> usize
     requires { ⌜ i < max-constructs ⌝ }
     ensures { λ r. ⌜ r ≡ size-of (constructOf i kind size a b c d) ⌝ }
 {
