@@ -68,7 +68,7 @@ fn stored(table: &[u32], base: usize, n: u64) -> bool
 pub fn size_at(table: &[u32], j: usize) -> usize
     ensures { λ r. ⌜ (r ≡ size-of (constructAt (now (table .entry)) j)) × (r ≤ max-constructs) ⌝ }
 {
-    table_layout::size_of(table_layout::construct_at(table, j))
+    table_layout::size_at(table, j)
 }
 
 // The first branch whose prediction set holds what comes next, number n.
@@ -273,7 +273,7 @@ fn literal_holds(table: &[u32], frame: &[u8], p: usize, i: usize, n: usize) -> b
     let mut k = 0;
     while k < n {
         let want = literal_byte(table, i, k);
-        if run_frame::bits(frame, p + 8 * k, 8) != want {
+        if run_frame::octet(frame, p + 8 * k) != want {
             return false;
         }
         k += 1;
@@ -302,7 +302,7 @@ fn range(frame: &[u8], p: usize, low: usize, high: usize) -> Act
     ensures { λ r. ⌜ r ≡ range-act (now (frame .entry)) p low high ⌝ }
 {
     if p + 8 <= 8 * frame.len() {
-        let v = run_frame::bits(frame, p, 8) as usize;
+        let v = run_frame::octet(frame, p) as usize;
         if low <= v {
             if v <= high {
                 return Act::Take {

@@ -7,7 +7,9 @@ use basis::MAX_TERMS;
 use basis::MAX_VARIABLES;
 use basis::MAX_WIDTH;
 ghost use mathlib.Core.Path.{_≡_};
+ghost use mathlib.Core.Bool.{false};
 ghost use Prim.Native.Nat.{ℕ, _+_, _*_, _<_};
+ghost use lib.ListN.{length};
 ghost use Rattle.basis.specs.Limits.{max-constructs};
 ghost use Rattle.table_layout.specs.Attributes.{counts-list, row as rowOf, attributes-of};
 ghost use Rattle.table_layout.specs.Held.{size-of};
@@ -441,4 +443,155 @@ pub fn size_of(construct: Construct) -> usize
     ensures { λ r. ⌜ r ≡ size-of construct ⌝ }
 {
     attributes_of(construct).size
+}
+
+// The sizes of what words say, without the constructs themselves: the same tests.
+
+fn repetition_size(size: usize, how: usize, start: usize, end: usize) -> usize
+    ensures { λ r. ⌜ r ≡ size-of (repetitionOf size how start end) ⌝ }
+{
+    if how == 1 {
+        return size;
+    }
+    if how == 2 {
+        return size;
+    }
+    if how == 3 {
+        return size;
+    }
+    if how == 4 {
+        if listed(start, end) {
+            return size;
+        }
+    }
+    0
+}
+
+fn inner_size(kind: usize, size: usize, a: usize, b: usize, c: usize) -> usize
+    ensures { λ r. ⌜ r ≡ size-of (innerOf kind size a b c) ⌝ }
+{
+    if kind == 3 {
+        return repetition_size(size, a, b, c);
+    }
+    size
+}
+
+// A sint's is the same.
+fn uint_size(width: usize, start: usize, end: usize, binder: usize) -> usize
+    ensures { λ r. ⌜ r ≡ size-of (uintOf false width start end binder) ⌝ }
+{
+    if width < 1 {
+        return 0;
+    }
+    let most = widest_for(binder);
+    if most < width {
+        return 0;
+    }
+    if listed(start, end) {
+        if binder <= MAX_VARIABLES {
+            return 1;
+        }
+    }
+    0
+}
+
+fn literal_size(length: usize) -> usize
+    ensures { λ r. ⌜ r ≡ size-of (literalOf length) ⌝ }
+{
+    if length < 1 {
+        return 0;
+    }
+    if MAX_LITERAL_BYTES < length {
+        return 0;
+    }
+    1
+}
+
+fn range_size(low: usize, high: usize) -> usize
+    ensures { λ r. ⌜ r ≡ size-of (rangeOf low high) ⌝ }
+{
+    if 128 <= low {
+        return 0;
+    }
+    if 128 <= high {
+        return 0;
+    }
+    1
+}
+
+// Fields and uses are what most parts are.
+fn leaf_size(kind: usize, a: usize, b: usize, c: usize, d: usize) -> usize
+    ensures { λ r. ⌜ r ≡ size-of (leafOf kind a b c d) ⌝ }
+{
+    if kind == 8 {
+        return uint_size(a, b, c, d);
+    }
+    if kind == 5 {
+        if a < MAX_RULES {
+            return 1;
+        }
+        return 0;
+    }
+    if kind == 6 {
+        return literal_size(a);
+    }
+    if kind == 7 {
+        return range_size(a, b);
+    }
+    if kind == 9 {
+        return 1;
+    }
+    if kind == 12 {
+        return uint_size(a, b, c, d);
+    }
+    0
+}
+
+fn decoded_size(i: usize, kind: usize, size: usize, a: usize, b: usize, c: usize, d: usize) -> usize
+    requires { ⌜ i < max-constructs ⌝ }
+    ensures { λ r. ⌜ r ≡ size-of (constructOf i kind size a b c d) ⌝ }
+{
+    if 4 < kind {
+        if size == 1 {
+            return leaf_size(kind, a, b, c, d);
+        }
+        return 0;
+    }
+    if kind < 1 {
+        return 0;
+    }
+    if branches(i, size) {
+        return inner_size(kind, size, a, b, c);
+    }
+    0
+}
+
+// A word that the table has.
+fn word_within(table: &[u32], k: usize) -> usize
+    requires { ⌜ k < length (now table) ⌝ }
+    ensures { λ r. ⌜ (r ≡ wordAt (now (table .entry)) k) × (r < 4294967296) ⌝ }
+{
+    wide(table[k])
+}
+
+// How many constructs construct i is, a missing one none: one test for all six words, which stand side by side.
+pub fn size_at(table: &[u32], i: usize) -> usize
+    ensures { λ r. ⌜ r ≡ size-of (constructAt (now (table .entry)) i) ⌝ }
+{
+    if MAX_CONSTRUCTS <= i {
+        return 0;
+    }
+    let at = CONSTRUCTS_AT + 8 * i;
+    if at + 5 < table.len() {
+        return decoded_size(
+            i,
+            word_within(table, at),
+            word_within(table, at + 1),
+            word_within(table, at + 2),
+            word_within(table, at + 3),
+            word_within(table, at + 4),
+            word_within(table, at + 5),
+        );
+    }
+    size_of(construct_at(table, i))
 }

@@ -15,7 +15,7 @@ use Rattle.run_actions.proofs.literal_holds.Tie as tie
 use Rattle.run_actions.proofs.literal_holds.Reads as reads
 use Rattle.run_actions.proofs.literal_holds.Lts as lts
 use Rattle.run_actions.proofs.literal_byte.Reads as literal-byte-reads
-use Rattle.run_frame.proofs.bits.Reads as bits-reads
+use Rattle.run_frame.proofs.octet.Reads as octet-reads
 
 abbrev Inv-loop : tie.InvT-loop
 Inv-loop table frame p i n k₀ k = (literal-holds table frame p i k (n - k) ≡ literal-holds table frame p i 0 n) × (k ≤ n)
@@ -32,16 +32,16 @@ literal-byte-requires : tie.Need-literal-byte-requires Inv-loop μ-loop
 literal-byte-requires c κs = (omega arith, omega arith)
 
 -- src/lib.rt:253:35
-mul-bits : tie.Need-mul-bits Inv-loop μ-loop
-mul-bits c = omega arith
+mul-octet : tie.Need-mul-octet Inv-loop μ-loop
+mul-octet c = omega arith
 
 -- src/lib.rt:253:31
-add-bits : tie.Need-add-bits Inv-loop μ-loop
-add-bits c = omega arith
+add-octet : tie.Need-add-octet Inv-loop μ-loop
+add-octet c = omega arith
 
 -- src/lib.rt:253:12
-bits-requires : tie.Need-bits-requires Inv-loop μ-loop
-bits-requires c κs = (omega arith, omega arith, omega arith)
+octet-requires : tie.Need-octet-requires Inv-loop μ-loop
+octet-requires c κs = (omega arith, omega arith)
 
 -- src/lib.rt:254:13
 returns : tie.Need-returns Inv-loop μ-loop
@@ -55,7 +55,7 @@ returns c =
     let e : n - j ≡ suc (n - (j + 1)) = omega arith in
     let b : literal-byte ws i j < 256 = omega arith in
     let step = ap (literal-holds ws fs p i j) e ∙ literal-more ws fs p i j (n - (j + 1)) (omega arith) b in
-    let z : eqb (value (take 8 (drop (p + 8 * j) (frameBits fs)))) (literal-byte ws i j) ≡ false = ne-eqb _ _ (λ y. c .if1 .taken (c .before .bits .ensures .0 ∙ (y ∙ sym (c .before .before .literal-byte .ensures .0)))) in
+    let z : eqb (value (take 8 (drop (p + 8 * j) (frameBits fs)))) (literal-byte ws i j) ≡ false = ne-eqb _ _ (λ y. c .if1 .taken (c .before .octet .ensures .0 ∙ (y ∙ sym (c .before .before .literal-byte .ensures .0)))) in
     sym (step ∙ ap (_&& literal-holds ws fs p i (j + 1) (n - (j + 1))) z) ∙ c .before .before .before .before .loop .inv .0
 
 -- src/lib.rt:256:9
@@ -78,7 +78,7 @@ loop-again c =
     let e : n - j ≡ suc (n - (j + 1)) = omega arith in
     let b : literal-byte ws i j < 256 = omega arith in
     let step = ap (literal-holds ws fs p i j) e ∙ literal-more ws fs p i j (n - (j + 1)) (omega arith) b in
-    let z : eqb (value (take 8 (drop (p + 8 * j) (frameBits fs)))) (literal-byte ws i j) ≡ true = eq-eqb _ _ (sym (c .before .bits .ensures .0) ∙ (c .if1 .left ∙ c .before .before .literal-byte .ensures .0)) in
+    let z : eqb (value (take 8 (drop (p + 8 * j) (frameBits fs)))) (literal-byte ws i j) ≡ true = eq-eqb _ _ (sym (c .before .octet .ensures .0) ∙ (c .if1 .left ∙ c .before .before .literal-byte .ensures .0)) in
     (sym (step ∙ ap (_&& literal-holds ws fs p i (j + 1) (n - (j + 1))) z) ∙ c .before .before .before .before .loop .inv .0, omega arith)
 
 -- src/lib.rt:246:1
@@ -95,9 +95,9 @@ literal-holds-spec =
     μ-loop
     loop-holds
     literal-byte-requires
-    mul-bits
-    add-bits
-    bits-requires
+    mul-octet
+    add-octet
+    octet-requires
     returns
     add-k
     loop-less
