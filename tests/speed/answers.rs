@@ -1,5 +1,6 @@
-// What grants answer, as one number: two builds of the library that print the same have answered alike. Grants of all sizes over the grammars of the vectors and of tests/speed and over
-// random ones, and over forged tables and runs. Of a run both its bytes and what the questions say of it are taken in, the second by itself too, for a library that saves runs otherwise.
+// What grants answer, as one number: two builds of the library that print the same have answered alike. Grants of all sizes over the grammars of the vectors and of
+// tests/speed and over random ones, and over forged tables and runs. Of a run both its bytes and what the questions say of it are taken in, the second by itself too, for
+// a library that saves runs otherwise.
 use crate::calls::{self, RUN_BYTES, TABLE_WORDS};
 use crate::forged;
 use crate::frames::frames;

@@ -1,5 +1,5 @@
-// Calls whose instructions callgrind counts, one dump for each (tests/speed/instructions). For each call a line: the function, what it belongs to, 1 where its instructions are added and -1
-// where they are taken away, and how many steps they are for. A step's instructions are those of a grant of one step less those of a grant of none.
+// Calls whose instructions callgrind counts, one dump for each (tests/speed/instructions). For each call a line: the function, what it belongs to, 1 where its instructions
+// are added and -1 where they are taken away, and how many steps they are for. A step's instructions are those of a grant of one step less those of a grant of none.
 use crate::calls::{self, RUN_BYTES, TABLE_WORDS};
 use crate::engines::{Engines, Outcome, ENGINES, GRAMMARS, READING_WORDS};
 use crate::frames::frames;

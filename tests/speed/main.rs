@@ -1,13 +1,17 @@
-// How fast the library's grants are. `speed agree VECTORS SEED TEXTS`: the library and two matchers in Rust give the same verdicts and readings. `speed ratios FOLDER SEED FRAMES SHORTEST
-// LONGEST`: how long they take; fails where the customer's line is not held. `speed figures …`: the same beside our goals, and grants of one step. `speed counted FOLDER SHORTEST LONGEST`
-// makes the calls whose instructions `tests/speed/instructions` counts. `speed answers VECTORS FOLDER SEED CASES` writes what grants answer as one number, to compare two builds of the
-// library; `speed listed …` a line for each case, to find where they part.
+// How fast the library's grants are.
+// - `speed agree VECTORS SEED TEXTS`: the library and two matchers in Rust give the same verdicts and readings.
+// - `speed ratios FOLDER SEED FRAMES SHORTEST LONGEST`: how long they take; fails where the customer's line is not held.
+// - `speed figures FOLDER SEED FRAMES SHORTEST LONGEST`: the same beside our goals, and how long a grant of one step takes.
+// - `speed counted FOLDER SHORTEST LONGEST`: makes the calls whose instructions `tests/speed/instructions` counts.
+// - `speed answers VECTORS FOLDER SEED CASES`: what grants answer, as one number, to compare two builds of the library; `speed listed …`: a line for each case, to find
+//   where they part.
 mod agree;
 mod answers;
 #[allow(dead_code)]
 #[path = "../library/calls.rs"]
 mod calls;
 mod careful;
+mod careful_program;
 mod counted;
 mod engines;
 #[allow(dead_code)]
@@ -42,7 +46,7 @@ fn main() {
         ["agree", vectors, seed, texts] => agree::report(Path::new(vectors), number(seed), number(texts)),
         ["counted", folder, shortest, longest] => counted::calls(Path::new(folder), &(number(shortest) as usize..=number(longest) as usize)),
         [what @ ("answers" | "listed"), vectors, folder, seed, cases] => answers::report(Path::new(vectors), Path::new(folder), number(seed), number(cases), what == "listed"),
-        _ => panic!("use: speed agree VECTORS SEED TEXTS | ratios|figures FOLDER SEED FRAMES SHORTEST LONGEST | counted FOLDER SHORTEST LONGEST | answers|listed VECTORS FOLDER SEED CASES"),
+        _ => panic!("use: speed agree | ratios | figures | counted | answers | listed, as the head of tests/speed/main.rs says"),
     }
 }
 

@@ -1,5 +1,5 @@
-// How long the library's grants take beside the two matchers (Req 11): over frames of three grammars, half of them with one bit changed. Verdicts and readings are the same on every
-// frame. What counts of a frame is the shortest of some turns, so that what else the machine does is left out.
+// How long the library's grants take beside the two matchers (Req 11): over frames of three grammars, half of them with one bit changed. Verdicts and readings are the same
+// on every frame. Opening is not counted. What counts of a frame is the shortest of some turns, so that what else the machine does is left out.
 use crate::engines::{Engines, ENGINES, GRAMMARS};
 use crate::frames::frames;
 use crate::guarded::Guarded;
@@ -19,7 +19,7 @@ struct Bench {
     engines: Engines,
     frames: Vec<Guarded<u8>>,
     steps: u64,
-    missed: usize,               // frames that do not match
+    missed: usize,           // frames that do not match
     shortest: [Vec<f64>; 3], // of each engine, by frame
 }
 
@@ -90,12 +90,15 @@ pub fn report(folder: &Path, seed: u64, count: usize, lengths: &RangeInclusive<u
     }
     let steps = benches.iter().map(|bench| bench.steps).sum();
     let sums = all(&benches);
-    print("all three", &format!("{count} frames of {} to {} bytes, half of them with one bit changed; readings not cleared first", lengths.start(), lengths.end()), &sums, count, steps);
+    let about = format!("{count} frames of {} to {} bytes, half of them with one bit changed; readings not cleared first", lengths.start(), lengths.end());
+    print("all three", &about, &sums, count, steps);
     if asserted {
         assert!(ratio(&sums, 1) <= MOST, "the library's grants take over {MOST} times as long as the straightforward matcher");
     } else {
-        let told = |k: usize| format!("{} {:.2} (goal {}: {})", ENGINES[k], ratio(&sums, k), GOALS[k - 1], if ratio(&sums, k) <= GOALS[k - 1] { "met" } else { "not met" });
-        println!("speed: the library's grants against {}, {}; the customer's line is {MOST} against the first", told(1), told(2));
+        for k in 1..3 {
+            println!("speed: the library's grants take {:.2} times as long as the {} matcher; our goal is {}", ratio(&sums, k), ENGINES[k], GOALS[k - 1]);
+        }
+        println!("speed: the customer's line is {MOST} times, against the straightforward one");
     }
 }
 

@@ -1,5 +1,5 @@
-// The straightforward matcher of Req 11: a tree of constructs, and a function that calls itself for each of them. Calculations are trees too. A field is read byte by byte, by
-// shifts.
+// The straightforward matcher of Req 11: a tree of constructs, and a function that calls itself for each of them. Calculations are trees too. A field is read byte by byte,
+// by shifts.
 use reference::grammar::Grammar;
 use reference::lookahead::{self, Strings};
 use reference::syntax;
