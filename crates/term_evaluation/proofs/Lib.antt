@@ -3,3 +3,4 @@ pub mod Counting
 pub mod Using
 pub mod Reading
 pub mod Clamping
+pub mod FewTerms

@@ -2,6 +2,11 @@
 use crate::Counted;
 use crate::Form;
 use crate::Tally;
+use crate::short::LIMIT;
+use crate::short::number_at;
+use crate::short::spanned;
+use crate::short::variable_at;
+use crate::short::within;
 use crate::work_out;
 use term_integers::magnitude;
 use term_integers::negative;
@@ -23,7 +28,7 @@ fn from_zero(a: i64) -> u64
 }
 
 // `{n}`; a negative n leaves no count.
-fn exact(n: i64) -> Counted
+pub fn exact(n: i64) -> Counted
     ensures { λ r. ⌜ r ≡ shown (exactly n) ⌝ }
 {
     if negative(n) {
@@ -36,14 +41,14 @@ fn exact(n: i64) -> Counted
 }
 
 // `{a~}`
-fn open(a: i64) -> Counted
+pub fn open(a: i64) -> Counted
     ensures { λ r. ⌜ r ≡ shown (atLeast a) ⌝ }
 {
     Counted::From { low: from_zero(a) }
 }
 
 // `{a~b}`, and `{~b}` with a = 0
-fn closed(a: i64, b: i64) -> Counted
+pub fn closed(a: i64, b: i64) -> Counted
     ensures { λ r. ⌜ r ≡ shown (span a b) ⌝ }
 {
     if negative(b) {
@@ -155,11 +160,56 @@ pub fn tally(mode: Mode, words: &[u32], start: usize, end: usize, values: &[i64]
     Tally { counted, at }
 }
 
-// The counts of a repetition.
-pub fn count(words: &[u32], start: usize, end: usize, values: &[i64]) -> Counted
+// The counts of a repetition, of any terms.
+pub fn count_at_length(words: &[u32], start: usize, end: usize, values: &[i64]) -> Counted
     ensures { λ r. ⌜ r ≡ counts (now (values .entry)) (now (words .entry)) start end ⌝ }
 {
     let all = tally(Mode::Values, words, start, end, values);
     let counted = all.counted;
     counted
+}
+
+// The counts of a repetition. Most are `n`, a number or a variable, or `a~b`, `a~` or `~b` of numbers.
+pub fn count(words: &[u32], start: usize, end: usize, values: &[i64]) -> Counted
+    ensures { λ r. ⌜ r ≡ counts (now (values .entry)) (now (words .entry)) start end ⌝ }
+{
+    if start < end {
+        if end <= words.len() / 3 {
+            let size = end - start;
+            if size == 1 {
+                let n = number_at(words, start, 1);
+                if n <= LIMIT {
+                    return Counted::Within { low: n, more: 0 };
+                }
+                let m = variable_at(words, start, values);
+                if within(m) {
+                    return exact(m);
+                }
+            }
+            if size == 3 {
+                if words[start * 3 + 6] == 8 {
+                    let a = number_at(words, start, 1);
+                    let b = number_at(words, start + 1, 1);
+                    if a <= LIMIT {
+                        if b <= LIMIT {
+                            return spanned(a, b);
+                        }
+                    }
+                }
+            }
+            if size == 2 {
+                let sign = words[start * 3 + 3];
+                let a = number_at(words, start, 1);
+                if a <= LIMIT {
+                    if sign == 9 {
+                        return Counted::From { low: a };
+                    }
+                    if sign == 10 {
+                        return spanned(0, a);
+                    }
+                }
+            }
+        }
+    }
+    count_at_length(words, start, end, values)
 }

@@ -1,8 +1,18 @@
 // A list of terms worked out: calculations, sets and conditions.
 pub mod counts;
 pub mod patterns;
+mod short;
 pub mod variables;
 
+use crate::short::LIMIT;
+use crate::short::between;
+use crate::short::compared;
+use crate::short::from;
+use crate::short::number_at;
+use crate::short::same;
+use crate::short::up_to;
+use crate::short::variable_at;
+use crate::short::within;
 use term_words::Kind;
 use term_words::Mode;
 use term_words::Numbers;
@@ -176,8 +186,8 @@ pub fn calculate(words: &[u32], start: usize, end: usize, values: &[i64]) -> Cal
     number(trial)
 }
 
-// Whether a value is in a set.
-pub fn contains(words: &[u32], start: usize, end: usize, values: &[i64], value: i64) -> Tested
+// Whether a value is in a set, of any terms.
+fn contains_at_length(words: &[u32], start: usize, end: usize, values: &[i64], value: i64) -> Tested
     ensures { λ r. ⌜ r ≡ membership (now (values .entry)) value start (terms (now (words .entry)) start end) ⌝ }
 {
     let ended = work_out(Kind::Set, Mode::Values, words, start, end, values, value);
@@ -185,11 +195,80 @@ pub fn contains(words: &[u32], start: usize, end: usize, values: &[i64], value: 
     verdict(trial)
 }
 
-// Whether a condition holds.
-pub fn satisfied(words: &[u32], start: usize, end: usize, values: &[i64]) -> Tested
+// Whether a value is in a set. Most sets are `~`, `a`, `a~b`, `a~` or `~b` of numbers, which their words tell at once.
+pub fn contains(words: &[u32], start: usize, end: usize, values: &[i64], value: i64) -> Tested
+    ensures { λ r. ⌜ r ≡ membership (now (values .entry)) value start (terms (now (words .entry)) start end) ⌝ }
+{
+    if start < end {
+        if end <= words.len() / 3 {
+            let size = end - start;
+            if size == 1 {
+                if words[start * 3] == 7 {
+                    return Tested::Yes;
+                }
+                let a = number_at(words, start, 33);
+                if a <= LIMIT {
+                    return same(a, value);
+                }
+            }
+            if size == 3 {
+                if words[start * 3 + 6] == 8 {
+                    let a = number_at(words, start, 1);
+                    let b = number_at(words, start + 1, 1);
+                    if a <= LIMIT {
+                        if b <= LIMIT {
+                            return between(a, b, value);
+                        }
+                    }
+                }
+            }
+            if size == 2 {
+                let sign = words[start * 3 + 3];
+                let a = number_at(words, start, 1);
+                if a <= LIMIT {
+                    if sign == 9 {
+                        return from(a, value);
+                    }
+                    if sign == 10 {
+                        return up_to(a, value);
+                    }
+                }
+            }
+        }
+    }
+    contains_at_length(words, start, end, values, value)
+}
+
+// Whether a condition holds, of any terms.
+fn satisfied_at_length(words: &[u32], start: usize, end: usize, values: &[i64]) -> Tested
     ensures { λ r. ⌜ r ≡ condition (now (values .entry)) start (terms (now (words .entry)) start end) ⌝ }
 {
     let ended = work_out(Kind::Condition, Mode::Values, words, start, end, values, 0);
     let trial = ended.trial;
     verdict(trial)
+}
+
+// Whether a condition holds. Most compare a variable with a number.
+pub fn satisfied(words: &[u32], start: usize, end: usize, values: &[i64]) -> Tested
+    ensures { λ r. ⌜ r ≡ condition (now (values .entry)) start (terms (now (words .entry)) start end) ⌝ }
+{
+    if start < end {
+        if end <= words.len() / 3 {
+            if end - start == 3 {
+                let tag = words[start * 3 + 6];
+                let a = variable_at(words, start, values);
+                let b = number_at(words, start + 1, 1);
+                if within(a) {
+                    if b <= LIMIT {
+                        if 14 <= tag {
+                            if tag <= 19 {
+                                return compared(tag, a, b);
+                            }
+                        }
+                    }
+                }
+            }
+        }
+    }
+    satisfied_at_length(words, start, end, values)
 }

@@ -144,7 +144,7 @@ fn greatest(numbers: Numbers, truths: u64, value: i64) -> Trial
     }
 }
 
-fn holds(comparison: Comparison, a: i64, b: i64) -> bool
+pub fn holds(comparison: Comparison, a: i64, b: i64) -> bool
     ensures { λ r. ⌜ r ≡ compares comparison a b ⌝ }
 {
     match comparison {
