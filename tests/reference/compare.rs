@@ -1,16 +1,17 @@
 // Compares the reference implementation with itself on random grammars and frames: the recursive matcher with the step machine after every
 // number of steps, the verdict with the derivations by their definition, and FIRST of narrow fields with membership.
 use reference::analysis::Analysis;
-use reference::arithmetic::{set_contains, set_has_variable, value_of_pattern};
+use reference::arithmetic::{ends, set_contains, set_has_variable, value_of_pattern};
 use reference::bench::bound;
 use reference::derivations::{derivations, Derivation};
 use reference::grammar::{admit, Grammar};
 use reference::lookahead::{self, Strings};
 use reference::machine::Machine;
-use reference::matcher::{self, Outcome, Verdict};
+use reference::matcher::{self, bits, Outcome, Verdict};
 use reference::random::Random;
 use reference::syntax::{Kind, Set};
 use reference::{random_frame, random_grammar};
+use std::collections::BTreeSet;
 
 const FRAMES: usize = 6;
 const FUEL: usize = 3000; // for the search of derivations
@@ -23,15 +24,44 @@ struct Tally {
     no_matches: usize,
     steps: u64,
     searched: usize, // frames whose derivations were all tried
+    ends: BTreeSet<(bool, u32, i128)>, // fields at an end of their values, at 0 or at -1: signed, width, value
 }
 
 const ENOUGH: usize = 4000; // texts, for every refusal to be among them
 
 pub fn report(seed: u64, texts: usize) {
-    let Tally { refused, matches, no_matches, steps, searched } = check(seed, texts);
+    let Tally { refused, matches, no_matches, steps, searched, ends } = check(seed, texts);
     println!("reference: {texts} random texts, {} admitted, refused by number from 2: {:?}", refused[0], &refused[2..]);
     println!("reference: {matches} frames match, {no_matches} do not, {steps} steps; all derivations of {searched} frames tried");
+    println!("reference: fields of {} widths with a value at an end, 0 or -1", ends.iter().map(|(signed, width, _)| (signed, width)).collect::<BTreeSet<_>>().len());
     assert!(texts < ENOUGH || refused[2..].iter().all(|&count| count > 0), "a refusal never comes");
+    let missing: Vec<_> = wanted().into_iter().filter(|end| !ends.contains(end)).collect();
+    assert!(texts < ENOUGH || missing.is_empty(), "values that no field had: {missing:?}");
+}
+
+const WIDTHS: [u32; 9] = [1, 2, 8, 31, 32, 33, 62, 63, 64];
+
+// Values that some field must have had.
+fn wanted() -> Vec<(bool, u32, i128)> {
+    let of_width = |signed: bool, width: u32| {
+        let (least, greatest) = ends(signed, width);
+        [least, greatest, 0, -1].into_iter().filter(move |value| (least..=greatest).contains(value)).map(move |value| (signed, width, value))
+    };
+    WIDTHS.into_iter().flat_map(|width| of_width(false, width).chain(of_width(true, width))).collect()
+}
+
+// The fields that a run took, where they are at an end, at 0 or at -1.
+fn note_ends(grammar: &Grammar, frame: &[u8], outcome: &Outcome, tally: &mut Tally) {
+    let constructs: Vec<_> = grammar.rules.iter().flat_map(|rule| rule.body.all()).collect();
+    for &(number, position) in &outcome.reading {
+        let Kind::Uint { signed, width, .. } = &constructs[number].kind else { continue };
+        let width = width.value as u32;
+        let value = value_of_pattern(*signed, width, bits(frame, position, width as usize));
+        let (least, greatest) = ends(*signed, width);
+        if [least, greatest, 0, -1].contains(&value) {
+            tally.ends.insert((*signed, width, value));
+        }
+    }
 }
 
 fn check(seed: u64, texts: usize) -> Tally {
@@ -51,6 +81,7 @@ fn check(seed: u64, texts: usize) -> Tally {
                     let frame = random_frame::frame(&grammar, &mut random);
                     let outcome = check_frame(&grammar, &frame, &mut random);
                     let outcome = outcome.unwrap_or_else(|why| panic!("seed {}, frame {frame:02x?}: {why}", seed + number));
+                    note_ends(&grammar, &frame, &outcome, &mut tally);
                     tally.searched += usize::from(check_derivations(&grammar, &frame, &outcome));
                     tally.matches += usize::from(outcome.verdict == Verdict::Match);
                     tally.no_matches += usize::from(outcome.verdict == Verdict::NoMatch);
