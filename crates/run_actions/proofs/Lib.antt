@@ -1,4 +1,5 @@
 -- Laws of what a step does.
+pub mod Told
 pub mod Walks
 pub mod Parts
 pub mod Literals

@@ -1,19 +1,22 @@
 // What a step does with the first entry of a run's list, decided by reading alone.
 use basis::MAX_CONSTRUCTS;
+use basis::MAX_LITERAL_BYTES;
+use basis::MAX_RULES;
 use table_layout::CONSTRUCTS_AT;
 ghost use mathlib.Core.Path.{_≡_};
+ghost use mathlib.Core.Bool.{true, cond, _&&_};
 ghost use Prim.Native.Nat.{ℕ, _+_, _*_, _^_, _≤_, _<_};
+ghost use lib.Dec.{leb, ltb, eqb};
 ghost use lib.ListN.{length, take, drop};
 ghost use Rattle.basis.specs.Limits.{max-rules, max-constructs, max-literal-bytes, max-width, max-bound-width, table-words, max-frame-bytes};
 ghost use Rattle.basis.specs.Bits.{value, frameBits};
-ghost use Rattle.table_layout.specs.Constructs.{constructAt};
+ghost use Rattle.table_layout.specs.Constructs.{listed as listedOf, innerOf, leafOf, constructOf, constructAt};
 ghost use Rattle.term_evaluation.specs.Meaning.{membership};
 ghost use Rattle.term_evaluation.specs.Patterns.{clamped};
 ghost use Rattle.table_layout.specs.Held.{opening, term-words, terms-of, size-of, literal-byte};
 ghost use Rattle.table_layout.proofs.Bounds.{Fine};
 ghost use Rattle.run_actions.specs.Stored.{stored as storedOf};
-ghost use Rattle.run_actions.specs.Acts.{in-table, known-values, enter as enterOf, open-rule, ahead-at, branch-act, case-test, case-act, members-act, choice-act, turn-act, counted as countedOf, literal-holds, literal-act, by-set, range-act, kept as keptOf, number-at, bits-act, uint-act, end-act, construct-act, actOf};
-use table_layout::Construct;
+ghost use Rattle.run_actions.specs.Acts.{in-table, whole-in-table, known-values, enter as enterOf, open-rule, ahead-at, branch-act, case-test, case-act, members-act, choice-act, turn-act, counted as countedOf, literal-holds, literal-act, by-set, range-act, kept as keptOf, number-at, bits-act, uint-act, end-act, construct-act, actOf};
 use table_layout::LITERALS_AT;
 use table_layout::OPENING;
 use table_layout::Passes;
@@ -208,18 +211,6 @@ fn counts_of(table: &[u32], values: &[i64], start: usize, end: usize) -> Counted
     term_evaluation::counts::count(terms(table), start, end, values)
 }
 
-fn counts(table: &[u32], values: &[i64], passes: Passes) -> Counted
-    requires { ⌜ table-words ≤ length (now table) ⌝ }
-    ensures { λ r. ⌜ r ≡ countedOf (now (table .entry)) (now (values .entry)) passes ⌝ }
-{
-    match passes {
-        Passes::Optional => Counted::Within { low: 0, more: 1 },
-        Passes::Any => Counted::From { low: 0 },
-        Passes::Some => Counted::From { low: 1 },
-        Passes::Counted { start, end } => counts_of(table, values, start, end),
-    }
-}
-
 // What a repetition with k passes begun does.
 fn turn(table: &[u32], frame: &[u8], p: usize, i: usize, k: u64, counts: Counted) -> Act
     requires { ⌜ (i + 1 < max-constructs) × (p ≤ 8 * length (now frame)) × (length (now frame) ≤ max-frame-bytes) ⌝ }
@@ -405,22 +396,6 @@ fn by_set(tested: Tested, width: usize, binder: usize, value: i64) -> Act
     }
 }
 
-// A repetition's first step or another.
-fn repeat(
-    table: &[u32],
-    frame: &[u8],
-    values: &[i64],
-    p: usize,
-    i: usize,
-    k: u64,
-    passes: Passes,
-) -> Act
-    requires { ⌜ (table-words ≤ length (now table)) × (i + 1 < max-constructs) × (p ≤ 8 * length (now frame)) × (length (now frame) ≤ max-frame-bytes) ⌝ }
-    ensures { λ r. ⌜ r ≡ turn-act (now (table .entry)) (ahead-at (now (frame .entry)) p) i k (countedOf (now (table .entry)) (now (values .entry)) passes) ⌝ }
-{
-    turn(table, frame, p, i, k, counts(table, values, passes))
-}
-
 fn end(frame: &[u8], p: usize) -> Act
     requires { ⌜ length (now frame) ≤ max-frame-bytes ⌝ }
     ensures { λ r. ⌜ r ≡ end-act (now (frame .entry)) p ⌝ }
@@ -438,57 +413,211 @@ fn alternative(table: &[u32], frame: &[u8], p: usize, i: usize, size: usize) -> 
     branch(table, ahead(frame, p), i + 1, i + size)
 }
 
-// What a construct's entry does, the construct being known.
-fn of_construct(
-    table: &[u32],
-    frame: &[u8],
-    values: &[i64],
-    p: usize,
-    i: usize,
-    k: u64,
-    construct: Construct,
-) -> Act
-    requires { ⌜ (table-words ≤ length (now table)) × (i < max-constructs) × (p ≤ 8 * length (now frame)) × (length (now frame) ≤ max-frame-bytes) × Fine i construct ⌝ }
-    ensures { λ r. ⌜ r ≡ construct-act (now (table .entry)) (now (frame .entry)) (now (values .entry)) p i k construct ⌝ }
+// How many passes a repetition's words allow; where they say none the table is against its layout.
+fn passes_told(table: &[u32], values: &[i64], how: usize, start: usize, end: usize) -> Counted
+    requires { ⌜ table-words ≤ length (now table) ⌝ }
+    ensures { λ r. ⌜ r ≡ cond (eqb how 1) (Counted.Within 0 1) (cond (eqb how 2) (Counted.From 0) (cond (eqb how 3) (Counted.From 1) (cond (eqb how 4 && listedOf start end) (countedOf (now (table .entry)) (now (values .entry)) (Passes.Counted start end)) Counted.Malformed))) ⌝ }
 {
-    match construct {
-        Construct::Missing => Act::Broken,
-        Construct::Alternative { size } => alternative(table, frame, p, i, size),
-        Construct::Concatenation { size } => members(table, i + 1, i + size),
-        Construct::Repetition { size: _, passes } => repeat(table, frame, values, p, i, k, passes),
-        Construct::Switch { size } => case(table, values, i + 1, i + size),
-        Construct::Use { rule } => open_rule(table, rule),
-        Construct::Literal { length } => literal(table, frame, p, i, length),
-        Construct::Range { low, high } => range(frame, p, low, high),
-        Construct::Uint {
-            signed,
-            width,
-            start,
-            end,
-            binder,
-        } => uint(table, frame, values, p, signed, width, start, end, binder),
-        Construct::Eod => end(frame, p),
+    if how == 1 {
+        return Counted::Within { low: 0, more: 1 };
     }
+    if how == 2 {
+        return Counted::From { low: 0 };
+    }
+    if how == 3 {
+        return Counted::From { low: 1 };
+    }
+    if how == 4 {
+        if table_layout::listed(start, end) {
+            return counts_of(table, values, start, end);
+        }
+    }
+    Counted::Malformed
 }
 
-// The same over the values of the table's variables alone.
-fn of_known(
+// What a construct with parts does, by its words.
+fn of_inner(
     table: &[u32],
     frame: &[u8],
     values: &[i64],
     p: usize,
     i: usize,
     k: u64,
-    construct: Construct,
+    kind: usize,
+    size: usize,
+    a: usize,
+    b: usize,
+    c: usize,
 ) -> Act
-    requires { ⌜ (table-words ≤ length (now table)) × (i < max-constructs) × (p ≤ 8 * length (now frame)) × (length (now frame) ≤ max-frame-bytes) × Fine i construct ⌝ }
-    ensures { λ r. ⌜ r ≡ construct-act (now (table .entry)) (now (frame .entry)) (known-values (now (table .entry)) (now (values .entry))) p i k construct ⌝ }
+    requires { ⌜ (table-words ≤ length (now table)) × (2 ≤ size) × (i + size ≤ max-constructs) × (p ≤ 8 * length (now frame)) × (length (now frame) ≤ max-frame-bytes) ⌝ }
+    ensures { λ r. ⌜ r ≡ construct-act (now (table .entry)) (now (frame .entry)) (now (values .entry)) p i k (innerOf kind size a b c) ⌝ }
 {
-    let count = table_layout::word(table, 3);
-    if count < values.len() {
-        return of_construct(table, frame, &values[0..count], p, i, k, construct);
+    if kind == 2 {
+        return members(table, i + 1, i + size);
     }
-    of_construct(table, frame, values, p, i, k, construct)
+    if kind == 3 {
+        return turn(table, frame, p, i, k, passes_told(table, values, a, b, c));
+    }
+    if kind == 1 {
+        return alternative(table, frame, p, i, size);
+    }
+    case(table, values, i + 1, i + size)
+}
+
+// What a construct without parts does, by its words.
+fn of_leaf(
+    table: &[u32],
+    frame: &[u8],
+    values: &[i64],
+    p: usize,
+    i: usize,
+    k: u64,
+    kind: usize,
+    a: usize,
+    b: usize,
+    c: usize,
+    d: usize,
+) -> Act
+    requires { ⌜ (table-words ≤ length (now table)) × (i < max-constructs) × (p ≤ 8 * length (now frame)) × (length (now frame) ≤ max-frame-bytes) ⌝ }
+    ensures { λ r. ⌜ r ≡ construct-act (now (table .entry)) (now (frame .entry)) (now (values .entry)) p i k (leafOf kind a b c d) ⌝ }
+{
+    if is_number(kind) {
+        if table_layout::uint_fits(a, b, c, d) {
+            return uint(table, frame, values, p, kind == 12, a, b, c, d);
+        }
+        return Act::Broken;
+    }
+    if kind == 5 {
+        if a < MAX_RULES {
+            return open_rule(table, a);
+        }
+        return Act::Broken;
+    }
+    if kind == 6 {
+        return of_literal(table, frame, p, i, a);
+    }
+    if kind == 7 {
+        return of_range(frame, p, a, b);
+    }
+    if kind == 9 {
+        return end(frame, p);
+    }
+    Act::Broken
+}
+
+// A uint or a sint.
+fn is_number(kind: usize) -> bool
+    ensures { λ r. ⌜ r ≡ cond (eqb kind 8) true (eqb kind 12) ⌝ }
+{
+    if kind == 8 {
+        return true;
+    }
+    kind == 12
+}
+
+// A literal whose length is within its limits.
+fn of_literal(table: &[u32], frame: &[u8], p: usize, i: usize, n: usize) -> Act
+    requires { ⌜ (p ≤ 8 * length (now frame)) × (length (now frame) ≤ max-frame-bytes) × (i < max-constructs) ⌝ }
+    ensures { λ r. ⌜ r ≡ cond (leb 1 n && leb n max-literal-bytes) (literal-act (now (table .entry)) (now (frame .entry)) p i n) Act.Broken ⌝ }
+{
+    if n < 1 {
+        return Act::Broken;
+    }
+    if MAX_LITERAL_BYTES < n {
+        return Act::Broken;
+    }
+    literal(table, frame, p, i, n)
+}
+
+// A range whose characters are within their limits.
+fn of_range(frame: &[u8], p: usize, low: usize, high: usize) -> Act
+    requires { ⌜ (p ≤ 8 * length (now frame)) × (length (now frame) ≤ max-frame-bytes) ⌝ }
+    ensures { λ r. ⌜ r ≡ cond (ltb low 128 && ltb high 128) (range-act (now (frame .entry)) p low high) Act.Broken ⌝ }
+{
+    if 128 <= low {
+        return Act::Broken;
+    }
+    if 128 <= high {
+        return Act::Broken;
+    }
+    range(frame, p, low, high)
+}
+
+// What a construct does, by its words.
+fn of_words(
+    table: &[u32],
+    frame: &[u8],
+    values: &[i64],
+    p: usize,
+    i: usize,
+    k: u64,
+    kind: usize,
+    size: usize,
+    a: usize,
+    b: usize,
+    c: usize,
+    d: usize,
+) -> Act
+    requires { ⌜ (table-words ≤ length (now table)) × (i < max-constructs) × (p ≤ 8 * length (now frame)) × (length (now frame) ≤ max-frame-bytes) ⌝ }
+    ensures { λ r. ⌜ r ≡ construct-act (now (table .entry)) (now (frame .entry)) (now (values .entry)) p i k (constructOf i kind size a b c d) ⌝ }
+{
+    if 4 < kind {
+        if size == 1 {
+            return of_leaf(table, frame, values, p, i, k, kind, a, b, c, d);
+        }
+        return Act::Broken;
+    }
+    if kind < 1 {
+        return Act::Broken;
+    }
+    if table_layout::branches(i, size) {
+        return of_inner(table, frame, values, p, i, k, kind, size, a, b, c);
+    }
+    Act::Broken
+}
+
+// The values of the table's variables.
+fn known(values: &[i64], count: usize) -> &[i64]
+    ensures { λ r. ⌜ now r ≡ take count (now (values .entry)) ⌝ }
+{
+    if count < values.len() {
+        return &values[0..count];
+    }
+    values
+}
+
+// What the entry of a construct does, if the table has it whole. A size that the other words do not bear out is that of a missing
+// construct, which is broken too: so the size is tested before all else.
+fn of_entry(table: &[u32], frame: &[u8], values: &[i64], p: usize, i: usize, k: u64) -> Act
+    requires { ⌜ (table-words ≤ length (now table)) × (i < max-constructs) × (p ≤ 8 * length (now frame)) × (length (now frame) ≤ max-frame-bytes) ⌝ }
+    ensures { λ r. ⌜ r ≡ cond (whole-in-table (now (table .entry)) i) (construct-act (now (table .entry)) (now (frame .entry)) (known-values (now (table .entry)) (now (values .entry))) p i k (constructAt (now (table .entry)) i)) Act.Broken ⌝ }
+{
+    let at = CONSTRUCTS_AT + 8 * i;
+    let size = table_layout::word_within(table, at + 1);
+    let end = i + size;
+    if table_layout::word_within(table, 2) < end {
+        return Act::Broken;
+    }
+    let kind = table_layout::word_within(table, at);
+    let a = table_layout::word_within(table, at + 2);
+    let b = table_layout::word_within(table, at + 3);
+    let c = table_layout::word_within(table, at + 4);
+    let d = table_layout::word_within(table, at + 5);
+    let count = table_layout::word_within(table, 3);
+    of_words(
+        table,
+        frame,
+        known(values, count),
+        p,
+        i,
+        k,
+        kind,
+        size,
+        a,
+        b,
+        c,
+        d,
+    )
 }
 
 // What a step does with the entry (i, k) of a run at bit p: nothing is written.
@@ -499,10 +628,5 @@ pub fn decide(table: &[u32], frame: &[u8], values: &[i64], p: usize, i: usize, k
     if i == OPENING {
         return open_rule(table, 0);
     }
-    let construct = table_layout::construct_at(table, i);
-    let end = i + table_layout::size_of(construct);
-    if end <= table_layout::word(table, 2) {
-        return of_known(table, frame, values, p, i, k, construct);
-    }
-    Act::Broken
+    of_entry(table, frame, values, p, i, k)
 }

@@ -48,7 +48,7 @@ for-most d = picked (λ (n : ℕ). n ≤ max-width) (ltb 0 d) (λ e. omega arith
 for-bound : (d : ℕ) → 0 < d → widest-for d ≡ max-bound-width
 for-bound d h = rw (lt-ltb 0 d h)
 
-uint-fine : (signed : Bool) (i a b c d : ℕ) → i < max-constructs → Fine i (uintOf signed a b c d)
+pub uint-fine : (signed : Bool) (i a b c d : ℕ) → i < max-constructs → Fine i (uintOf signed a b c d)
 uint-fine signed i a b c d h =
     let W : Bool = leb 1 a && leb a (widest-for d)
     in let L : Bool = listed b c

@@ -7,10 +7,11 @@ use basis::MAX_TERMS;
 use basis::MAX_VARIABLES;
 use basis::MAX_WIDTH;
 ghost use mathlib.Core.Path.{_≡_};
-ghost use mathlib.Core.Bool.{false};
+ghost use mathlib.Core.Bool.{false, _&&_};
 ghost use Prim.Native.Nat.{ℕ, _+_, _*_, _<_};
+ghost use lib.Dec.{leb};
 ghost use lib.ListN.{length};
-ghost use Rattle.basis.specs.Limits.{max-constructs};
+ghost use Rattle.basis.specs.Limits.{max-constructs, max-variables};
 ghost use Rattle.table_layout.specs.Attributes.{counts-list, row as rowOf, attributes-of};
 ghost use Rattle.table_layout.specs.Held.{size-of};
 ghost use Rattle.table_layout.specs.Places.{word as wordAt};
@@ -124,7 +125,8 @@ pub fn word(table: &[u32], k: usize) -> usize
     0
 }
 
-fn branches(i: usize, size: usize) -> bool
+// A construct with parts leaves them within the limit.
+pub fn branches(i: usize, size: usize) -> bool
     requires { ⌜ i < max-constructs ⌝ }
     ensures { λ r. ⌜ r ≡ branchesOf i size ⌝ }
 {
@@ -137,7 +139,8 @@ fn branches(i: usize, size: usize) -> bool
     i + size <= MAX_CONSTRUCTS
 }
 
-fn listed(start: usize, end: usize) -> bool
+// Terms from and up to.
+pub fn listed(start: usize, end: usize) -> bool
     ensures { λ r. ⌜ r ≡ listedOf start end ⌝ }
 {
     if end < start {
@@ -476,21 +479,29 @@ fn inner_size(kind: usize, size: usize, a: usize, b: usize, c: usize) -> usize
     size
 }
 
+// A uint's or a sint's operands are within their limits.
+pub fn uint_fits(width: usize, start: usize, end: usize, binder: usize) -> bool
+    ensures { λ r. ⌜ r ≡ ((leb 1 width && leb width (widest-for binder)) && (listedOf start end && leb binder max-variables)) ⌝ }
+{
+    if width < 1 {
+        return false;
+    }
+    let most = widest_for(binder);
+    if most < width {
+        return false;
+    }
+    if listed(start, end) {
+        return binder <= MAX_VARIABLES;
+    }
+    false
+}
+
 // A sint's is the same.
 fn uint_size(width: usize, start: usize, end: usize, binder: usize) -> usize
     ensures { λ r. ⌜ r ≡ size-of (uintOf false width start end binder) ⌝ }
 {
-    if width < 1 {
-        return 0;
-    }
-    let most = widest_for(binder);
-    if most < width {
-        return 0;
-    }
-    if listed(start, end) {
-        if binder <= MAX_VARIABLES {
-            return 1;
-        }
+    if uint_fits(width, start, end, binder) {
+        return 1;
     }
     0
 }
@@ -567,7 +578,7 @@ fn decoded_size(i: usize, kind: usize, size: usize, a: usize, b: usize, c: usize
 }
 
 // A word that the table has.
-fn word_within(table: &[u32], k: usize) -> usize
+pub fn word_within(table: &[u32], k: usize) -> usize
     requires { ⌜ k < length (now table) ⌝ }
     ensures { λ r. ⌜ (r ≡ wordAt (now (table .entry)) k) × (r < 4294967296) ⌝ }
 {
