@@ -21,6 +21,15 @@ signed-admits : admitted signed [] 4 (0 ∷ 1 ∷ 2 ∷ 3 ∷ 4 ∷ 5 ∷ 6 ∷ 
 unfolding admitted signed
 signed-admits = refl
 
+-- and so where no values are known, for its first windows
+signed-first : seen signed [] 4 13 ≡ takes 4 true true [] ∷ []
+unfolding seen signed
+signed-first = refl
+
+signed-first-not : seen signed [] 4 8 ≡ takes 4 false false [] ∷ []
+unfolding seen signed
+signed-first-not = refl
+
 -- `a = sint(4, ~-7);`: open to the least value of the width
 unfoldable pub at-least-signed : Rules
 at-least-signed = last-rule (rule (name 0 "a") (at 2) (last-branch (last-member (once (field true (lit< tt) (over 4 8) (at 8) (num 9 10 4) (at 10) (last-choice (item (up-to (at 12) (sum (product (opposite (at 13) (number (num 14 15 7))) no-factor) no-summand)))) (at 15))))) (at 16))
