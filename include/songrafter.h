@@ -127,7 +127,7 @@ size_t songrafter_grant(const uint32_t *table, size_t table_len, const uint8_t *
  * none of them is refused, and they lie one after the other from the frame's first bit up to songrafter_position(run).
  * What the reading holds behind them is the caller's own.
  * The value of a literal of more than 8 characters is told as 0: its bits are in the frame, from its first bit on. The
- * value of a sint is in two's complement of 64 bits, so that of it as an int64_t has its sign. */
+ * value of a sint is in two's complement of 64 bits: as an int64_t it has its sign. */
 size_t songrafter_field(const uint32_t *table, size_t table_len, const uint8_t *frame, size_t frame_len,
                         const uint32_t *reading, size_t reading_len, size_t k, uint64_t *field, size_t field_len);
 

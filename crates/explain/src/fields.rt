@@ -1,4 +1,6 @@
 // An admitted grammar: its numbers, and its fields in order.
+use basis::MAX_FRAME_BITS;
+use basis::MAX_WEIGHT;
 use report_listing::sets;
 use report_measures::starts::start_of;
 use report_places::Located;
@@ -68,12 +70,15 @@ fn constructs(grammar: &[u8]) -> usize {
     }
 }
 
-// The bound on the steps of a run is the weight times one more than the frame's bits: 8,193 for 1,024 bytes.
+// The bits of the longest frame and one.
+const BITS_AND_END: usize = MAX_FRAME_BITS + 1;
+
+// The bound on the steps of a run is the weight times one more than the frame's bits.
 fn steps(weight: usize) -> usize
     ensures { λ r. ⌜ r ≡ bound-of weight ⌝ }
 {
-    if weight <= 65535 {
-        return weight * 8193;
+    if weight <= MAX_WEIGHT {
+        return weight * BITS_AND_END;
     }
     0
 }
