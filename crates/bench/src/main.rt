@@ -19,7 +19,7 @@ const READING_WORDS: usize = 2 * MAX_FRAME_BITS;
 const LINE_KEPT: usize = MAX_LINE + 2;
 
 // The characters held after a piece of the input.
-#[derive(Drop)]
+#[derive(Clone, Copy)]
 struct Step {
     held: usize,
     ended: bool,

@@ -13,7 +13,7 @@ use text_header::spans::span;
 pub const MAX_LINE: usize = 2 * MAX_FRAME_BYTES;
 
 // What a line is, without its end.
-#[derive(Drop)]
+#[derive(Clone, Copy)]
 pub enum Line {
     // Refused (21): too many characters.
     TooLong,

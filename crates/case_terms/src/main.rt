@@ -85,7 +85,7 @@ fn members(name: &[u8], words: &[u32], end: usize) {
     text(b"\n");
 }
 
-#[derive(Drop)]
+#[derive(Clone, Copy)]
 struct Windows {
     count: u64,
     least: u64,

@@ -14,13 +14,13 @@ mod prefixes;
 pub mod spans;
 pub mod words;
 
-#[derive(Drop)]
+#[derive(Clone, Copy)]
 pub struct Set {
     pub words: [u64; 8],
 }
 
 // The least string of two sets, by its number.
-#[derive(Drop)]
+#[derive(Clone, Copy)]
 pub enum Common {
     Nothing,
     Least(usize),

@@ -8,7 +8,7 @@ pub mod words;
 
 // What is still to be read, as rows 1 to `depth` of a stack; what comes behind it, 0 nothing, else 1 + the construct that it follows; how many bits
 // of a window are wanted from here on, and their number.
-#[derive(Drop)]
+#[derive(Clone, Copy)]
 pub struct Place {
     pub depth: usize,
     pub rest: usize,

@@ -5,7 +5,7 @@ use report_measures::words::{put_number, put_set, set_at};
 
 // An entry below 256 is a construct, one from 256 on what comes after a construct, one from 512 on the passes of a repetition past the eighth.
 // `whole`: the frame ends after the target.
-#[derive(Drop)]
+#[derive(Clone, Copy)]
 pub struct Chain {
     pub depth: usize,
     pub target: usize,

@@ -65,7 +65,7 @@ fn started(target: usize, whole: bool) -> Chain {
 }
 
 // How many steps are listed, and how many entries are still to come.
-#[derive(Drop)]
+#[derive(Clone, Copy)]
 pub struct Listing {
     pub count: usize,
     pub depth: usize,

@@ -9,7 +9,7 @@ use report_measures::words::{number_at, put_number};
 use table_layout::{Construct, Passes, construct_at, size_of};
 
 // How many entries there are, how many bits are written, and whether all could be said so far.
-#[derive(Drop)]
+#[derive(Clone, Copy)]
 pub struct Written {
     pub depth: usize,
     pub count: usize,

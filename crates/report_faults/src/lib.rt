@@ -2,7 +2,7 @@
 pub mod faults;
 
 // What is wrong with a name that is not reserved. Numbers are places.
-#[derive(Drop)]
+#[derive(Clone, Copy)]
 pub enum Fault {
     // A rule's name, which a rule above has.
     Double(usize),

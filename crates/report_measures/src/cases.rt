@@ -6,7 +6,7 @@ use table_layout::{Construct, construct_at, word};
 use term_evaluation::Tested;
 
 // What is known of a condition.
-#[derive(Drop)]
+#[derive(Clone, Copy)]
 pub enum Known {
     Open,
     Holds,

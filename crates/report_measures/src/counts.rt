@@ -5,7 +5,7 @@ use table_layout::{Construct, Passes, construct_at};
 use term_evaluation::Counted;
 
 // From `low` to `high` times, both at most 8: eight passes have at least 8 bits. `free`: a variable is in the counts, and they count as any.
-#[derive(Drop)]
+#[derive(Clone, Copy)]
 pub struct Counts {
     pub low: usize,
     pub high: usize,

@@ -6,7 +6,7 @@ use table_layout::{Construct, construct_at, word};
 
 // Where the rule's name stands; where the variable's does, 0 where none is bound; the kind (6 literal, 7 range, 8 uint, 12 sint); which of the rule's fields
 // of that kind without a variable it is, from 1.
-#[derive(Drop)]
+#[derive(Clone, Copy)]
 pub struct Named {
     pub rule: usize,
     pub bound: usize,

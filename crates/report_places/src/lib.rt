@@ -20,7 +20,7 @@ use text_store::{
 
 // A construct by its number; how much there is up to the rule that a place lies in; the name of that rule; the rule that has the name at a place; what
 // is wrong with the name at a place; the first name at fault from a place on.
-#[derive(Drop)]
+#[derive(Clone, Copy)]
 pub enum Query {
     Construct(usize),
     Rule(usize),
@@ -33,7 +33,7 @@ pub enum Query {
 // A construct's first byte in the whole text, its kind (6 literal, 7 range, 8 uint, 9 eod; the others as in `text_parsing`), and how many
 // constructs the text has. How many rules, constructs, terms and variables there are up to a rule's end. A name's place, far past the text where there is
 // no such name. Nothing, where the header or the form of the rules is wrong.
-#[derive(Drop)]
+#[derive(Clone, Copy)]
 pub enum Located {
     Construct {
         place: usize,

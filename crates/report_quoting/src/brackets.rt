@@ -3,7 +3,7 @@ use text_parsing::terminals::look;
 
 // The brackets that are open, the innermost as the last digit to base 8: 1 a group, 2 that of uint or sint, 3 that of var, 4 a switch before the colon of a
 // case, 5 a switch after it, 6 counts, 7 parentheses in a set or a condition. `end` is the end of the last token, `code` its code.
-#[derive(Drop)]
+#[derive(Clone, Copy)]
 pub struct Brackets {
     pub kinds: usize,
     pub code: usize,

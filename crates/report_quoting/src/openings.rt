@@ -4,7 +4,7 @@ use text_header::Heading;
 use text_parsing::terminals::look;
 
 // How many brackets are open, and the place of one.
-#[derive(Drop)]
+#[derive(Clone, Copy)]
 struct Opening {
     depth: usize,
     place: usize,

@@ -12,7 +12,7 @@ use text_parsing::terminals::look;
 
 // What the part is. A whole expression ends before `;` or a closing bracket, a branch also before `|`, a member also before `&`, a
 // field also before a repetition mark.
-#[derive(Drop)]
+#[derive(Clone, Copy)]
 pub enum Part {
     Whole,
     Branch,

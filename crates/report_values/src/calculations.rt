@@ -3,14 +3,14 @@ use term_integers::Checked;
 use text_parsing::terminals::look;
 
 // Its value, and the place behind its last token.
-#[derive(Drop)]
+#[derive(Clone, Copy)]
 pub struct Worked {
     pub value: i64,
     pub end: usize,
 }
 
 // What is worked out so far: a sum, and a product that is still to be added. `open`: a number or its minus must come.
-#[derive(Drop)]
+#[derive(Clone, Copy)]
 struct State {
     sum: i64,
     product: i64,

@@ -8,7 +8,7 @@ use text_header::spans::byte_at;
 use text_parsing::terminals::look;
 
 // An item `a` or `a~b`, where each end may be left out. `single`: one number. `from`, `to`: an end is written.
-#[derive(Drop)]
+#[derive(Clone, Copy)]
 struct Item {
     single: bool,
     from: bool,
@@ -18,7 +18,7 @@ struct Item {
 }
 
 // The values of a width: from -`below` to `most`.
-#[derive(Drop)]
+#[derive(Clone, Copy)]
 struct Ends {
     below: usize,
     most: usize,

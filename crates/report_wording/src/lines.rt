@@ -7,7 +7,7 @@ use text_header::Class;
 use text_header::spans::{byte_at, span};
 
 // A line: how many end before it, and the place of its first byte.
-#[derive(Drop)]
+#[derive(Clone, Copy)]
 struct Line {
     before: usize,
     start: usize,

@@ -10,7 +10,7 @@ use text_header::bytes::either;
 use text_parsing::terminals::look;
 
 // How many ( and [ are open, and the codes of the last three tokens. In front of the rules stands as much as a `;`.
-#[derive(Drop)]
+#[derive(Clone, Copy)]
 pub struct Context {
     pub depth: usize,
     pub third: usize,

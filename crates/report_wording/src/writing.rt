@@ -7,7 +7,7 @@ use text_header::bytes::printable;
 use text_header::spans::byte_at;
 
 // How the bytes of a grammar are written: as they stand, tabs too; or as the blanks under them.
-#[derive(Drop)]
+#[derive(Clone, Copy)]
 pub enum Style {
     Line,
     Under,

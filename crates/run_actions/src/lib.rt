@@ -16,7 +16,7 @@ use term_evaluation::{Counted, Tested};
 use term_integers::power;
 
 // What a step is to do.
-#[derive(Drop)]
+#[derive(Clone, Copy)]
 pub enum Act {
     // Something in the table is missing or against its layout, or a calculation leaves 2^62.
     Broken,

@@ -11,7 +11,7 @@ use table_layout::Construct;
 use term_evaluation::patterns::offset_of;
 
 // What two words of a reading name.
-#[derive(Drop)]
+#[derive(Clone, Copy)]
 pub enum Answer {
     // The frame is longer than any that a run is opened for.
     LongFrame,

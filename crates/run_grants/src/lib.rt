@@ -10,7 +10,7 @@ use run_steps::Head;
 use table_layout::OPENING;
 
 // The first of `count` pending entries stands last; what stands beyond them may be anything.
-#[derive(Drop)]
+#[derive(Clone, Copy)]
 pub struct Run {
     pub position: u64,
     pub count: u64,
@@ -23,7 +23,7 @@ pub struct Run {
 }
 
 // What a grant is answered.
-#[derive(Drop)]
+#[derive(Clone, Copy)]
 pub enum Answer {
     // Refused: the frame is over 1,024 bytes.
     LongFrame,
@@ -34,7 +34,7 @@ pub enum Answer {
 }
 
 // The run is handed back with the answer.
-#[derive(Drop)]
+#[derive(Clone, Copy)]
 pub struct Granted {
     pub run: Run,
     pub answer: Answer,

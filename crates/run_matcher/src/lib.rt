@@ -6,7 +6,7 @@ use basis::MAX_FRAME_BYTES;
 use run_grants::Run;
 
 // What an opening is answered.
-#[derive(Drop)]
+#[derive(Clone, Copy)]
 pub enum Answer {
     // Refused: the table is not sound.
     Unsound,
@@ -18,7 +18,7 @@ pub enum Answer {
 }
 
 // The run is closed where the opening is refused.
-#[derive(Drop)]
+#[derive(Clone, Copy)]
 pub struct Opening {
     pub run: Run,
     pub answer: Answer,

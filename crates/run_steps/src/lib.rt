@@ -13,7 +13,7 @@ use table_layout::OPENING;
 const MEMBERS_ROOM: usize = MAX_ENTRIES + 1;
 
 // What a run holds beside its arrays.
-#[derive(Drop)]
+#[derive(Clone, Copy)]
 pub struct Head {
     pub position: usize,
     pub count: usize,

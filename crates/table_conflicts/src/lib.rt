@@ -19,7 +19,7 @@ use term_words::decode::term_at;
 mod windows;
 
 // A conflict of one construct, with the number of its least window: two branches of an alternative, or continue and exit of a repetition.
-#[derive(Drop)]
+#[derive(Clone, Copy)]
 pub enum Clash {
     None,
     Branches {

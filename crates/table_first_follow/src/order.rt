@@ -9,7 +9,7 @@ use table_layout::{OPENING, RULES_AT, word};
 use table_reach::{at_most, reaching};
 
 // The rules that are in the order so far, a bit each, and how many numbers it has.
-#[derive(Drop)]
+#[derive(Clone, Copy)]
 pub struct Placed {
     rules: u64,
     count: usize,

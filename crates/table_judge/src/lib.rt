@@ -16,7 +16,7 @@ pub mod sound;
 
 // What is wrong with words that pass 5 to 8, by the papers' numbers: a repeated body that may be empty (9), a conflict (10), a weight over
 // 65,535 (11), a rule that the start rule does not reach (12), a uint or sint without a value left (13); or that they pass, with the weight.
-#[derive(Drop)]
+#[derive(Clone, Copy)]
 pub enum Judgement {
     EmptyBody { construct: usize },
     Conflict { construct: usize, clash: Clash },

@@ -28,7 +28,7 @@ pub const SETS_AT: usize = LITERALS_AT + 8 * MAX_CONSTRUCTS;
 pub const OPENING: usize = MAX_CONSTRUCTS;
 
 // How often a repetition's body is passed: `?`, `*`, `+`, or the counts of the terms from `start` up to `end`.
-#[derive(Drop)]
+#[derive(Clone, Copy)]
 pub enum Passes {
     Optional,
     Any,
@@ -37,7 +37,7 @@ pub enum Passes {
 }
 
 // A construct as its words have it. `size` counts the construct and all below it.
-#[derive(Drop)]
+#[derive(Clone, Copy)]
 pub enum Construct {
     Missing,
     Alternative {
@@ -76,7 +76,7 @@ pub enum Construct {
 
 // What stands below a construct: nothing, the branches of an alternative, the members of a concatenation, the body of a repetition, the
 // cases of a switch, or the rule that it uses.
-#[derive(Drop)]
+#[derive(Clone, Copy)]
 pub enum Below {
     Nothing,
     Branches,
@@ -87,7 +87,7 @@ pub enum Below {
 }
 
 // A construct's own list of terms: none, the counts of `{…}`, or the set of a uint.
-#[derive(Drop)]
+#[derive(Clone, Copy)]
 pub enum OwnList {
     None,
     Counts { start: usize, end: usize },
@@ -96,7 +96,7 @@ pub enum OwnList {
 
 // What all layers ask of a construct. `rule` is 64 where it uses none; `length` is that of a literal, `width` and `binder` those of a
 // uint or sint, 0 elsewhere; a sint is `signed`.
-#[derive(Drop)]
+#[derive(Clone, Copy)]
 pub struct Attributes {
     pub size: usize,
     pub below: Below,

@@ -8,14 +8,14 @@ use table_layout::word;
 pub mod reaching;
 
 // The first rule that reaches itself.
-#[derive(Drop)]
+#[derive(Clone, Copy)]
 pub enum Recursion {
     None,
     Rule(usize),
 }
 
 // Whether the start rule reaches every other; or the first that it does not.
-#[derive(Drop)]
+#[derive(Clone, Copy)]
 pub enum Coverage {
     All,
     Without(usize),

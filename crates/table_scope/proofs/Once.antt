@@ -42,7 +42,7 @@ no_zero ws i x z (MayBind.itself {x = y} m e) = let n = named (binder_of (constr
 no_zero ws i x z (MayBind.entering e f m k) = Memᴰ.not-nil m
 no_zero ws i x z (MayBind.in_branch {b = b} e m d) = no_zero ws b x z d
 no_zero ws i x z (MayBind.in_member {m = b} e m d) = no_zero ws b x z d
-no_zero ws i x z (MayBind.in_Body {b = b} e d) = no_zero ws b x z d
+no_zero ws i x z (MayBind.in_body {b = b} e d) = no_zero ws b x z d
 no_zero ws i x z (MayBind.in_case {b = b} e m d) = no_zero ws b x z d
 no_zero ws i x z (MayBind.in_rule {b = b} e f d) = no_zero ws b x z d
 
@@ -85,7 +85,7 @@ module _ {ws : List ℕ} (l : Laid ws) where
   place r i x s whole (MayBind.entering e f m k) = absurd (Memᴰ.not-nil m)
   place r i x s whole (MayBind.in_branch {b = b} {is = is} e m d) = below_child r i b x s whole (at_member (Child ws i) is b m (rw e at (children r i s))) (λ q t w. place q b x t w d)
   place r i x s whole (MayBind.in_member {m = b} {is = is} e m d) = below_child r i b x s whole (at_member (Child ws i) is b m (rw e at (children r i s))) (λ q t w. place q b x t w d)
-  place r i x s whole (MayBind.in_Body {b = b} e d) = below_child r i b x s whole (rw e at (children r i s)) (λ q t w. place q b x t w d)
+  place r i x s whole (MayBind.in_body {b = b} e d) = below_child r i b x s whole (rw e at (children r i s)) (λ q t w. place q b x t w d)
   place r i x s whole (MayBind.in_case {b = b} {is = is} e m d) = below_child r i b x s whole (at_member (Child ws i) is b m (rw e at (children r i s))) (λ q t w. place q b x t w d)
   place r i x s whole (MayBind.in_rule {b = b} e f d) = below_child r i b x s whole (rw e at (children r i s)) (λ q t w. place q b x t w d)
 

@@ -44,7 +44,7 @@ fn largest(width: usize, sign: usize) -> i64
 }
 
 // The size of each variable.
-#[derive(Drop)]
+#[derive(Clone, Copy)]
 pub struct Extents {
     pub sizes: [i64; MAX_VARIABLES],
 }

@@ -122,7 +122,7 @@ fn settle(table: &[u32], weights: &mut [u32], n: usize, rounds: usize)
 }
 
 // The weights of the constructs, and the grammar's.
-#[derive(Drop)]
+#[derive(Clone, Copy)]
 pub struct Weighing {
     pub constructs: [u32; MAX_CONSTRUCTS],
     pub grammar: usize,

@@ -14,13 +14,13 @@ use term_words::step::step;
 use term_words::{Kind, Mode, Numbers, Trial};
 
 // A list's end: what waits there, and the number of the term at which it ended.
-#[derive(Drop)]
+#[derive(Clone, Copy)]
 pub struct Ended {
     pub trial: Trial,
     pub at: usize,
 }
 
-#[derive(Drop)]
+#[derive(Clone, Copy)]
 pub enum Calculated {
     Number(i64),
     Malformed,
@@ -28,7 +28,7 @@ pub enum Calculated {
 }
 
 // The answer of a set for one value, and of a condition.
-#[derive(Drop)]
+#[derive(Clone, Copy)]
 pub enum Tested {
     No,
     Yes,
@@ -37,7 +37,7 @@ pub enum Tested {
 }
 
 // A set of counts: none, from `low` on, or `low` and up to `more` above it.
-#[derive(Drop)]
+#[derive(Clone, Copy)]
 pub enum Counted {
     None,
     From { low: u64 },
@@ -47,14 +47,14 @@ pub enum Counted {
 }
 
 // Counts, and the number of the term at which their calculations ended.
-#[derive(Drop)]
+#[derive(Clone, Copy)]
 pub struct Tally {
     pub counted: Counted,
     pub at: usize,
 }
 
 // How counts are written: `{n}`, `{a~}`, `{~b}` or `{a~b}`.
-#[derive(Drop)]
+#[derive(Clone, Copy)]
 pub enum Form {
     Exact,
     Open,

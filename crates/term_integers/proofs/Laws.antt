@@ -17,7 +17,7 @@ use Rattle.term_integers.specs.declared.Checked.{Checked}
 
 -- an i64 that is kept and read again is itself
 pub back : (z : ℤ) → mag z < 2 ^ 63 → to_z w64 (of_z w64 z) ≡ z
-back z h = to_z-of_z (record { sfits = h })
+back z h = to_z-of_z {w = w64} (record { sfits = h })
 
 -- two truths that differ are not the same
 pub differ : {A : Type 0} → true ≡ false → A

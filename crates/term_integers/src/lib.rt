@@ -6,7 +6,7 @@ ghost use Rattle.std.proofs.Common.{SFits};
 ghost use Rattle.term_integers.specs.Wholes.{bounded, equals, same_sign};
 
 // A whole number of at most 2^62 without its sign, or none.
-#[derive(Drop)]
+#[derive(Clone, Copy)]
 pub enum Checked {
     Exact(i64),
     Overflow,

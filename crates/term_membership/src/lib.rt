@@ -17,7 +17,7 @@ use term_words::decode::term_at;
 
 // What a term does to the tests that wait: nothing, a test of the value, or two tests become one. Values are counted from the least on; `Within` has its
 // first value and its last.
-#[derive(Drop)]
+#[derive(Clone, Copy)]
 pub enum Effect {
     None,
     Within(u64, u64),
@@ -27,7 +27,7 @@ pub enum Effect {
 }
 
 // The numbers that wait after a term, and its effect; or no value is in the set.
-#[derive(Drop)]
+#[derive(Clone, Copy)]
 pub enum Turn {
     On(Numbers, Effect),
     Off,

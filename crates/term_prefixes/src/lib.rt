@@ -18,7 +18,7 @@ use term_evaluation::variables::has_variable;
 use term_integers::power;
 
 // The values that wait to be tried, the first `waiting` of these, and the windows that are marked so far.
-#[derive(Drop)]
+#[derive(Clone, Copy)]
 pub struct Tried {
     values: [u64; 64],
     waiting: usize,

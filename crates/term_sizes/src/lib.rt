@@ -8,7 +8,7 @@ use term_evaluation::{Calculated, Counted, Tested, number, verdict, work_out};
 use term_words::{Kind, Mode, Trial};
 
 // Whether a list is well formed and its sizes stay within 2^62. If they do not, a term of the first calculation that passes it.
-#[derive(Drop)]
+#[derive(Clone, Copy)]
 pub enum Sized {
     Passes,
     Malformed,

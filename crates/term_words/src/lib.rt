@@ -17,7 +17,7 @@ pub mod step;
 mod truths;
 
 // What a number, a variable's use or a sign of a calculation does. `Unknown` is no such term.
-#[derive(Drop)]
+#[derive(Clone, Copy)]
 pub enum Operation {
     Number(u64),
     Variable(usize),
@@ -28,7 +28,7 @@ pub enum Operation {
     Unknown,
 }
 
-#[derive(Drop)]
+#[derive(Clone, Copy)]
 pub enum Comparison {
     Equal,
     Unequal,
@@ -39,7 +39,7 @@ pub enum Comparison {
 }
 
 // A term. `Single` is the last of a calculation that is an item `a` of a set; `Bad` is none of the tags.
-#[derive(Drop)]
+#[derive(Clone, Copy)]
 pub enum Term {
     Part(Operation),
     Single(Operation),
@@ -55,7 +55,7 @@ pub enum Term {
 }
 
 // What a list of terms is to be.
-#[derive(Drop)]
+#[derive(Clone, Copy)]
 pub enum Kind {
     Calculation,
     Set,
@@ -63,14 +63,14 @@ pub enum Kind {
 }
 
 // What is worked out: values, or sizes, which forget every minus.
-#[derive(Drop)]
+#[derive(Clone, Copy)]
 pub enum Mode {
     Values,
     Sizes,
 }
 
 // The numbers that wait for a sign, the last written last. A calculation needs three, and one may wait for its other side.
-#[derive(Drop)]
+#[derive(Clone, Copy)]
 pub enum Numbers {
     Zero,
     One(i64),
@@ -80,7 +80,7 @@ pub enum Numbers {
 }
 
 // The numbers that wait after a term.
-#[derive(Drop)]
+#[derive(Clone, Copy)]
 pub enum Outcome {
     Stack(Numbers),
     Malformed,
@@ -88,21 +88,21 @@ pub enum Outcome {
 }
 
 // The last number, and those below it.
-#[derive(Drop)]
+#[derive(Clone, Copy)]
 pub enum Top {
     Of(Numbers, i64),
     Short,
 }
 
 // The last two numbers, and those below them.
-#[derive(Drop)]
+#[derive(Clone, Copy)]
 pub enum Pair {
     Of(Numbers, i64, i64),
     Short,
 }
 
 // The numbers and tests that wait after a term. The tests are a number: a 1 followed by a digit for each, the last one last.
-#[derive(Drop)]
+#[derive(Clone, Copy)]
 pub enum Trial {
     Running(Numbers, u64),
     Malformed,
@@ -110,7 +110,7 @@ pub enum Trial {
 }
 
 // A sign that joins two tests.
-#[derive(Drop)]
+#[derive(Clone, Copy)]
 pub enum Joint {
     Or,
     And,

@@ -23,7 +23,7 @@ mod marks;
 
 // The answer to a text: its grammar's weight, or a number of the papers with a place; a conflict (10) with its construct, and the least
 // window with the branches that share it.
-#[derive(Drop)]
+#[derive(Clone, Copy)]
 pub enum Admission {
     Admitted {
         weight: usize,
@@ -40,7 +40,7 @@ pub enum Admission {
 }
 
 // A place, where there is one.
-#[derive(Drop)]
+#[derive(Clone, Copy)]
 pub enum Found {
     At(usize),
     Nothing,

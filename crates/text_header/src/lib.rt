@@ -4,7 +4,7 @@ pub mod header;
 pub mod spans;
 
 // Bytes that a run may have.
-#[derive(Drop)]
+#[derive(Clone, Copy)]
 pub enum Class {
     Blank,
     // 20 to 7e, or a tab
@@ -17,7 +17,7 @@ pub enum Class {
 }
 
 // The answer to a header.
-#[derive(Drop)]
+#[derive(Clone, Copy)]
 pub enum Heading {
     // the place where the rules begin
     Rules(usize),

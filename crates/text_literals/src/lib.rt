@@ -7,7 +7,7 @@ use basis::MAX_LITERAL_BYTES;
 use text_header::bytes::{both, digit_value, either, printable};
 
 // How far a literal is read.
-#[derive(Drop)]
+#[derive(Clone, Copy)]
 pub enum Part {
     // the opening quote
     Start,
@@ -25,7 +25,7 @@ pub enum Part {
 }
 
 // Where reading a literal ends, in which part, after how many characters.
-#[derive(Drop)]
+#[derive(Clone, Copy)]
 pub struct Extent {
     pub part: Part,
     pub count: usize,

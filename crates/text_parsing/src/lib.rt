@@ -4,7 +4,7 @@ pub mod terminals;
 pub mod words;
 
 // A token as the form of rules sees it: its code, where it stands, and a number's value.
-#[derive(Drop)]
+#[derive(Clone, Copy)]
 pub struct Terminal {
     pub code: usize,
     pub start: usize,
@@ -13,7 +13,7 @@ pub struct Terminal {
 }
 
 // The terminal that comes next, and how many nodes, terms, binders and rules there are. Code 0: reading has failed at `start`.
-#[derive(Drop)]
+#[derive(Clone, Copy)]
 pub struct Cursor {
     pub code: usize,
     pub start: usize,

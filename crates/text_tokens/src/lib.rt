@@ -4,7 +4,7 @@ pub mod names;
 pub mod numbers;
 pub mod tokens;
 
-#[derive(Drop)]
+#[derive(Clone, Copy)]
 pub enum Kind {
     Name,
     Number,
@@ -41,7 +41,7 @@ pub enum Kind {
     End,
 }
 
-#[derive(Drop)]
+#[derive(Clone, Copy)]
 pub struct Token {
     pub start: usize,
     pub end: usize,

@@ -53,7 +53,7 @@ module _ {Context Values Cell A R : Type 0} (store : Store Context Values Cell A
     pub unchanged : {what : Shape Context Values} {t : Tree} {c : Context} {v v' : Values} {s r : Bits} → Derives g what t c v s v' r → Known g what → (k : Cell) → Free c k what → store.read v' k ≡ store.read v k
     unchanged (Derives.of_alternative m d) q k f = unchanged d refl k (λ y. f (MayBind.in_branch q m y))
     unchanged (Derives.of_concatenation d) q k f = unchanged d tt k (λ m z y. f (MayBind.in_member q z y))
-    unchanged (Derives.of_repetition n a d) q k f = unchanged d tt k (λ y. f (MayBind.in_Body q y))
+    unchanged (Derives.of_repetition n a d) q k f = unchanged d tt k (λ y. f (MayBind.in_body q y))
     unchanged (Derives.of_switch {c = c} {v = v} e d) q k f = unchanged d refl k (λ y. f (MayBind.in_case q (h.chosen_listed q c v e) y))
     unchanged (Derives.of_no_case e o) q k f = refl
     unchanged (Derives.of_use {i} {b} {enters} {opens} {closes} {c = c} {c' = c'} {v = v} {v' = v'} e d z) q k f =
@@ -213,4 +213,4 @@ module _ {Context Values Cell A R : Type 0} (store : Store Context Values Cell A
         → g.node i ≡ repetition counts static fixed b → Derives g (construct b (g.node b)) t c v s v' r → counts c v' ≡ counts c v
     keeps_counts i b counts static fixed t c v v' s r q d =
         (subst (Scoped store scope i) q (x.scoped i)).2 c v' v
-        (λ y m. unchanged g h x.scoped (λ i b enters opens closes e. x.values_stay e) d refl (store.cell c y) (λ z. x.not_bound_again c i y m (MayBind.in_Body q z)))
+        (λ y m. unchanged g h x.scoped (λ i b enters opens closes e. x.values_stay e) d refl (store.cell c y) (λ z. x.not_bound_again c i y m (MayBind.in_body q z)))

@@ -58,7 +58,7 @@ module _ (scope : Scope) where
     not_again (MayBind.entering {i = i} {x = x} e l m n) s = plain i x m
     not_again {x = x} (MayBind.in_branch {i = i} {b = b} e m d) s = not_again d (parts i e b m x s)
     not_again {x = x} (MayBind.in_member {i = i} {m = b} e m d) s = not_again d (parts i e b m x s)
-    not_again {x = x} (MayBind.in_Body {i = i} e d) s = not_again d (parts i e x s)
+    not_again {x = x} (MayBind.in_body {i = i} e d) s = not_again d (parts i e x s)
     not_again {x = x} (MayBind.in_case {i = i} {b = b} e m d) s = not_again d (parts i e b m x s)
     not_again {x = x} (MayBind.in_rule {i = i} e l d) s = not_again d ((parts i e).0 x s)
 
