@@ -1,4 +1,6 @@
 // Admission of a grammar's text: refusals 1 to 13 in order, as document 01's page and Req 06 have them, or the table of its grammar.
+#![tactic(auto)]
+
 ghost use Rattle.admission.specs.Promised.{Promised};
 
 use text_admission::Admission;

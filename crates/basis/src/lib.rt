@@ -1,4 +1,6 @@
 // The limits, as the code has them; `specs/` has the bit strings and sets of counts that every other crate speaks of.
+#![tactic(auto)]
+
 ghost use Rattle.std.specs.Prelude.{◌≡◌, List, ◌∷◌, []};
 ghost use Rattle.basis.specs.Limits.{max_text_bytes, max_name_bytes, max_nesting, max_rules, max_constructs, max_variables, max_terms, max_literal_bytes, max_width, max_bound_width, max_weight, table_words, max_frame_bytes, max_frame_bits, max_entries};
 

@@ -1,4 +1,6 @@
 // The bench program: reads kiosk.dogma, then frames from standard input, each a line of hexadecimal, and prints the answers (document 01).
+#![tactic(auto)]
+
 ghost use Rattle.std.specs.Prelude.{◌≡◌, ◌+◌, ◌*◌, ◌≤◌, length};
 ghost use Rattle.bench_hexadecimal.specs.Lines.{max_line};
 ghost use Rattle.basis.specs.Limits.{max_weight, max_frame_bytes};

@@ -1,4 +1,6 @@
 // A frame as a line of hexadecimal. Any bytes may arrive.
+#![tactic(auto)]
+
 ghost use Rattle.std.specs.Prelude.{◌≡◌, ◌*◌, ◌/◌, ◌%◌, ◌≤◌, ◌<◌, length};
 ghost use Rattle.std.proofs.lemmas.List.Edits.{sets};
 ghost use Rattle.text_header.specs.Bytes.{digit_of};

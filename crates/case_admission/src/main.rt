@@ -1,5 +1,7 @@
 // Admits texts from standard input, each after a line with its length in bytes, and prints what the bench program prints of a grammar, with
 // the window of a clash. Any input is taken: a line without a number counts as 0, and a length past the end as all that is there.
+#![tactic(auto)]
+
 use basis::TABLE_WORDS;
 use libc::{STDIN_FILENO, STDOUT_FILENO};
 use table_conflicts::Clash;

@@ -1,5 +1,7 @@
 // Judges tables of the bench sheet's grammars and of a few more, completes those that pass, and asks of each word changed in turn whether
 // the table is still sound.
+#![tactic(auto)]
+
 use basis::TABLE_WORDS;
 use libc::STDOUT_FILENO;
 use table_conflicts::Clash;

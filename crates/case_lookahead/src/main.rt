@@ -1,4 +1,6 @@
 // The lookahead sets on the cases that document 01 singles out. A set is written as its eight words, word 0 first.
+#![tactic(auto)]
+
 use libc::STDOUT_FILENO;
 use lookahead::{Common, Set, passes, spans};
 

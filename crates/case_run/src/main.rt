@@ -1,4 +1,6 @@
 // Runs on the bench sheet's tables: openings, and grants of every size on right, damaged and forged runs.
+#![tactic(auto)]
+
 mod granting;
 mod opening;
 mod printing;

@@ -1,4 +1,6 @@
 // Tables of the bench sheet's grammars, laid out by hand, for programs that try them. Their sets are 0 but where a function says otherwise.
+#![tactic(auto)]
+
 ghost use Rattle.std.specs.Prelude.{◌≡◌, cond, ltb, set};
 ghost use Rattle.basis.specs.Limits.{table_words};
 

@@ -1,4 +1,6 @@
 // Runs the cases of sets, counts, conditions and sizes that document 01 singles out.
+#![tactic(auto)]
+
 ghost use Rattle.std.specs.Prelude.{◌^◌, ◌≤◌, ◌<◌};
 
 use libc::STDOUT_FILENO;

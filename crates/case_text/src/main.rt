@@ -1,4 +1,6 @@
 // Runs the header's and the tokens' cases that document 01 singles out.
+#![tactic(auto)]
+
 use basis::MAX_LITERAL_BYTES;
 use libc::STDOUT_FILENO;
 use text_header::Heading;

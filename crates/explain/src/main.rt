@@ -1,4 +1,6 @@
 // Says what is wrong with each grammar file that it is given (kiosk.dogma, where it is given none), and what to change.
+#![tactic(auto)]
+
 use text_admission::Admission;
 
 mod fields;

@@ -1,6 +1,8 @@
 // Sets of lookahead strings (document 01's windows) as eight words: the string with number n is bit n % 64 of word n / 64.
 // Bit 0 of word 0 names no string: no function counts it, and every set that is returned has it clear, so that two of these
 // have the same strings exactly where they have the same words.
+#![tactic(auto)]
+
 ghost use Rattle.std.specs.Prelude.{◌≡◌, true, [], ◌+◌, ◌*◌, ◌<◌, ◌≤◌, length};
 ghost use Rattle.basis.specs.Bits.{Bits, bits_of};
 ghost use Rattle.basis.specs.Lookahead.{lookahead, number};

@@ -1,4 +1,6 @@
 // The lookahead sets for tests in Rust: a lent slice has three sets of eight words, two that are given and a third for the result.
+#![tactic(auto)]
+
 ghost use Rattle.lookahead.specs.Sets.{Joined, Union};
 ghost use Rattle.lookahead_c.specs.Calls.{Made, Least, Adds, Narrowed};
 

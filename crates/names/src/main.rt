@@ -1,4 +1,6 @@
 // Prints a C header with the names of a grammar's fields and variables: of the file that it is given, or of standard input.
+#![tactic(auto)]
+
 use report_measures::words::put_number;
 use report_names::{places, printing};
 use report_places::{Located, Query, locate};

@@ -1,4 +1,6 @@
 // What the refusals mean and what to change, in sentences for a clerk.
+#![tactic(auto)]
+
 pub mod clashes;
 pub mod header;
 pub mod limits;

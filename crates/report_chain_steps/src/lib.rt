@@ -1,4 +1,6 @@
 // What a listed step says, and what one step takes off what is still to be read.
+#![tactic(auto)]
+
 pub mod constructs;
 pub mod counts;
 pub mod fields;

@@ -1,4 +1,6 @@
 // What the advice on a token goes by: codes of tokens that begin, end and join items, and where a token stands.
+#![tactic(auto)]
+
 ghost use Rattle.std.specs.Prelude.{◌≡◌};
 ghost use Rattle.report_codes.specs.Codes.{begins_item, ends_item, is_literal, is_ranging, in_field, in_set, is_joining};
 

@@ -1,4 +1,6 @@
 // What is wrong with a name of a text (6), for the report.
+#![tactic(auto)]
+
 pub mod faults;
 
 // What is wrong with a name that is not reserved. Numbers are places.

@@ -1,4 +1,6 @@
 // What a grammar's text has at a construct, a rule or a name: the facts of the report.
+#![tactic(auto)]
+
 ghost use Rattle.std.specs.Prelude.{◌≡◌, ℕ, ◌+◌, ◌-◌, ◌≤◌, length, drop};
 ghost use Rattle.basis.specs.Limits.{max_text_bytes, max_rules};
 ghost use Rattle.text_store.specs.Words.{node_word, place_of, kind_of, named_at, nodes_room, terms_room, rules_room};

@@ -1,4 +1,6 @@
 // Parts, names and brackets of a text as the report quotes them, and windows.
+#![tactic(auto)]
+
 pub mod brackets;
 pub mod nearest;
 pub mod openings;

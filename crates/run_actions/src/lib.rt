@@ -1,4 +1,6 @@
 // What a step does with the first entry of a run's list, decided by reading alone.
+#![tactic(auto)]
+
 ghost use Rattle.std.specs.Prelude.{◌≡◌, true, cond, ◌&&◌, ℕ, ◌+◌, ◌*◌, ◌^◌, ◌≤◌, ◌<◌, leb, ltb, eqb, length, take, drop};
 ghost use Rattle.basis.specs.Limits.{max_rules, max_constructs, max_literal_bytes, max_width, max_bound_width, table_words, max_frame_bytes};
 ghost use Rattle.basis.specs.Bits.{value, frame_bits};

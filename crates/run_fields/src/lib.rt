@@ -1,4 +1,6 @@
 // A field of a reading: its construct, its first bit, its width and its value. Any table, frame and reading may arrive.
+#![tactic(auto)]
+
 ghost use Rattle.std.specs.Prelude.{◌≡◌, ◌+◌, ◌*◌, ◌^◌, ◌≤◌, ◌<◌, length};
 ghost use Rattle.basis.specs.Limits.{max_frame_bytes};
 ghost use Rattle.basis.specs.Bits.{bits_of};

@@ -1,4 +1,6 @@
 // A frame's bits, most significant first, read by whole bytes.
+#![tactic(auto)]
+
 ghost use Rattle.std.specs.Prelude.{◌≡◌, ℕ, ◌+◌, ◌*◌, ◌≤◌, ◌<◌, ◌^◌, length, take, drop};
 ghost use Rattle.basis.specs.Limits.{max_frame_bytes};
 ghost use Rattle.basis.specs.Bits.{value, frame_bits};

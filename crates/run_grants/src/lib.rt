@@ -1,4 +1,6 @@
 // A run by value, and steps granted to it, over any words: any bytes may arrive as a run, a table, a frame or a reading.
+#![tactic(auto)]
+
 ghost use Rattle.std.specs.Prelude.{◌≡◌, ℕ, ◌+◌, ◌*◌, ◌-◌, ◌≤◌, ◌<◌, leb, length, get_or};
 ghost use Rattle.basis.specs.Limits.{max_frame_bytes, max_frame_bits, max_entries};
 ghost use Rattle.table_layout.specs.Places.{table_of};

@@ -1,4 +1,6 @@
 // A run is opened; steps are granted by `run_grants`. Any words are answered or refused.
+#![tactic(auto)]
+
 ghost use Rattle.std.specs.Prelude.{◌≡◌};
 ghost use Rattle.run_matcher.specs.Opening.{first_refusal, run_given, Answered};
 

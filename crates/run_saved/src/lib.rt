@@ -1,4 +1,6 @@
 // A saved run as bytes: `SAVED_BYTES` of them, numbers with the lowest byte first (docs/TABLE.md, "The saved run").
+#![tactic(auto)]
+
 ghost use Rattle.std.specs.Prelude.{◌≡◌, true, ◌+◌, ◌*◌, ◌^◌, ◌≤◌, ◌<◌, eqb, negsuc, length, drop};
 ghost use Rattle.std.proofs.lemmas.List.Edits.{sets};
 ghost use Rattle.basis.specs.Limits.{max_variables, max_entries};

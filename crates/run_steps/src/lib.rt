@@ -1,4 +1,6 @@
 // The steps of a run over any table's words. The work of a step is over lent arrays; the rest of the run is a small struct by value.
+#![tactic(auto)]
+
 ghost use Rattle.std.specs.Prelude.{◌≡◌, ℕ, ◌+◌, ◌*◌, ◌-◌, ◌≤◌, ◌<◌, length, get_or, set};
 ghost use Rattle.table_layout.specs.Held.{opening};
 ghost use Rattle.basis.specs.Limits.{max_constructs, max_variables, table_words, max_frame_bytes, max_entries};

@@ -1,4 +1,6 @@
 // Refusals 9, 10 and 13 over a table's words: repeated bodies that may be empty, conflicts (01's clashes) with their least window, and uints without a value left.
+#![tactic(auto)]
+
 ghost use Rattle.std.specs.Prelude.{◌≡◌, ◌+◌, ◌-◌, ◌≤◌, ◌<◌, length};
 ghost use Rattle.table_first_follow.specs.Sets.{family_words};
 ghost use Rattle.basis.specs.Limits.{max_constructs, table_words};

@@ -1,4 +1,6 @@
 // A table is completed: where the words pass the judgement, their grammar's sets and weight are written into them.
+#![tactic(auto)]
+
 ghost use Rattle.std.specs.Prelude.{◌≡◌, ◌≤◌, length, set};
 ghost use Rattle.basis.specs.Limits.{max_constructs, max_weight};
 ghost use Rattle.table_layout.specs.Places.{table_words};

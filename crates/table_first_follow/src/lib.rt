@@ -1,6 +1,8 @@
 // The FIRST, FOLLOW and prediction sets of the grammar that a table's words hold. Any words may arrive: rules may reach themselves.
 // A family is `SETS_HELD` sets of eight words: one for each construct, and one for the opening use of the start rule. Sets grow by rounds until
 // nothing changes.
+#![tactic(auto)]
+
 use basis::MAX_CONSTRUCTS;
 
 mod fields;

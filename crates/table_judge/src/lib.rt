@@ -1,4 +1,6 @@
 // The judgement of a table's words, 5 to 13 in order, and soundness (23).
+#![tactic(auto)]
+
 ghost use Rattle.std.specs.Prelude.{◌≡◌, true, length};
 ghost use Rattle.lookahead.specs.Sets.{Decides};
 ghost use Rattle.table_wellformed.specs.Laid.{laid as laid_of};

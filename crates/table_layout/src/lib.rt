@@ -1,4 +1,6 @@
 // The words of a table (docs/TABLE.md): where things stand, and what they say. Any words may arrive.
+#![tactic(auto)]
+
 ghost use Rattle.std.specs.Prelude.{◌≡◌, false, ◌&&◌, ℕ, ◌+◌, ◌*◌, ◌<◌, leb, length};
 ghost use Rattle.basis.specs.Limits.{max_constructs, max_variables};
 ghost use Rattle.table_layout.specs.Attributes.{counts_list, row as row_of, attributes_of};

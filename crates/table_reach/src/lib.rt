@@ -1,4 +1,6 @@
 // Rules of a table that reach themselves, and rules that the start rule does not reach.
+#![tactic(auto)]
+
 ghost use Rattle.std.specs.Prelude.{◌≡◌, min};
 ghost use Rattle.table_reach.specs.Reaching.{Found, Covered};
 

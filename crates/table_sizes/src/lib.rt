@@ -1,4 +1,6 @@
 // Refusal 8 over a table's words: which lists of terms have sizes that may pass 2^62, with every variable at its widest.
+#![tactic(auto)]
+
 ghost use Rattle.std.specs.Prelude.{◌≡◌, true, ℕ, ◌-◌, ◌≤◌, ◌<◌, min, length};
 ghost use Rattle.basis.specs.Limits.{table_words, max_bound_width};
 ghost use Rattle.table_layout.specs.Places.{construct_count};

@@ -1,1 +1,2 @@
 // What laid out words give: no code, only laws (proofs/).
+#![tactic(auto)]

@@ -1,4 +1,6 @@
 // Weights of a table's constructs, up to one past the limit.
+#![tactic(auto)]
+
 ghost use Rattle.std.specs.Prelude.{◌≡◌, ℕ, ◌+◌, ◌<◌, ◌≤◌, false, ◌∷◌, length, get_or};
 ghost use Rattle.basis.specs.Limits.{max_rules, max_constructs, max_weight};
 ghost use Rattle.table_layout.specs.Held.{parts};

@@ -1,4 +1,6 @@
 // What is well laid out (docs/TABLE.md), asked of any words.
+#![tactic(auto)]
+
 ghost use Rattle.std.specs.Prelude.{◌≡◌, ◌≤◌, length};
 ghost use Rattle.basis.specs.Limits.{max_constructs, table_words};
 ghost use Rattle.table_layout.specs.Places.{construct_count};

@@ -1,4 +1,6 @@
 // A list of terms worked out: calculations, sets and conditions.
+#![tactic(auto)]
+
 pub mod counts;
 pub mod patterns;
 mod short;

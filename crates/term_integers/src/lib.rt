@@ -1,4 +1,6 @@
 // Exact whole numbers in i64, each result of at most 2^62 without its sign.
+#![tactic(auto)]
+
 ghost use Rattle.std.specs.Prelude.{◌≡◌, ◌+◌, ◌^◌, ◌≤◌, leb, ℤ, pos, nat_abs, neg_ℤ, ◌+ℤ◌, ◌-ℤ◌, ◌*ℤ◌, not, true};
 ghost use Rattle.std.specs.Int.Signed.{non_neg, le_z};
 ghost use Rattle.std.specs.Int.{w64};

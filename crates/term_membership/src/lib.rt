@@ -1,4 +1,6 @@
 // Whether each of 64 values is in a set. One pass over the set's terms serves them all: what is read from the words is read once for 64.
+#![tactic(auto)]
+
 pub mod effects;
 mod truths;
 

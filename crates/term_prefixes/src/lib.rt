@@ -1,6 +1,8 @@
 // Which leading bits the patterns of a set's values have, signed or not. Values are counted from the least of the width on, so that they are natural
 // numbers in their order; of a signed pattern this turns the first bit. A set changes only at the first value of an item and at the first after it, so that few values
 // are tried: these, and the least of each window. They are tried 64 at a time.
+#![tactic(auto)]
+
 mod marks;
 mod tries;
 

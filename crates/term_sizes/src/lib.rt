@@ -1,4 +1,6 @@
 // The size rule of refusal 8: sizes of calculations, and which lists of terms can never leave 2^62.
+#![tactic(auto)]
+
 ghost use Rattle.std.specs.Prelude.{◌≡◌};
 ghost use Rattle.term_words.specs.Words.{terms};
 ghost use Rattle.term_sizes.specs.Sizes.{of_calculated, of_tested, of_counted, judged, sizes, count_sizes};

@@ -10,6 +10,8 @@
 //                                          13  `&`
 //
 // An item that is one value, `a`, has no sign of its own: the last term of its calculation, tag 1 to 6, has 32 added to its tag.
+#![tactic(auto)]
+
 pub mod decode;
 mod modes;
 pub mod stack;

@@ -1,4 +1,6 @@
 // Admission of a grammar's text: refusals 1 to 13 in order, or the table of its grammar.
+#![tactic(auto)]
+
 ghost use Rattle.std.specs.Prelude.{◌≡◌, ℕ, ◌+◌, ◌≤◌, ◌<◌, length, drop};
 ghost use Rattle.basis.specs.Limits.{max_text_bytes, table_words};
 ghost use Rattle.table_judge.specs.Judged.{Passed8};

@@ -1,4 +1,6 @@
 // The words of a table from what is read.
+#![tactic(auto)]
+
 pub mod areas;
 mod constructs;
 pub mod numbers;

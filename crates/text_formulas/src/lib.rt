@@ -1,4 +1,6 @@
 // Calculations, sets, counts in braces and conditions, as lists of terms.
+#![tactic(auto)]
+
 mod calculations;
 pub mod conditions;
 pub mod sets;

@@ -1,4 +1,6 @@
 // A grammar's text: bytes, header, tokens. Any bytes may arrive.
+#![tactic(auto)]
+
 pub mod bytes;
 pub mod header;
 pub mod spans;

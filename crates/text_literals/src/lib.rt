@@ -1,4 +1,6 @@
 // Literals and their characters.
+#![tactic(auto)]
+
 ghost use Rattle.std.specs.Prelude.{◌≡◌, ℕ, ◌+◌, ◌≤◌, ◌<◌, length, get_or, set};
 ghost use Rattle.basis.specs.Limits.{max_literal_bytes};
 ghost use Rattle.text_literals.specs.Literals.{is_quote, between as betweenOf, escaped as escapedOf, widened as widenedOf, part_after, stops as stopsOf, counted as countedOf, literal_at, is_closed, is_right, characters_at, value_of};

@@ -1,4 +1,6 @@
 // Reading rules: terminals, a cursor over them, and the words of what is read.
+#![tactic(auto)]
+
 pub mod reading;
 pub mod terminals;
 pub mod words;

@@ -1,5 +1,7 @@
 // What is read, as words: nodes of ten, terms of four, rules of five. Words are written (`stores`) and read (`words`) here alone, and others name
 // them by these numbers.
+#![tactic(auto)]
+
 use basis::{MAX_CONSTRUCTS, MAX_RULES, MAX_TERMS};
 
 pub mod stores;

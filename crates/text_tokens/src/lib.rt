@@ -1,4 +1,6 @@
 // Tokens of a grammar's rules. Nothing is stored: a token is found at a place.
+#![tactic(auto)]
+
 mod gaps;
 pub mod names;
 pub mod numbers;

@@ -1,0 +1,6 @@
+use mathlib.Core.Path.{subst}
+use Rattle.bench.specs.Weights.{Light}
+use Rattle.bench.proofs.start.Goals as goal
+
+pub frames-requires : goal.frames-requires
+frames-requires c = subst Light c.answer-1.given.1 c.requires

@@ -1,0 +1,34 @@
+use borrow.Author.Rules.{rules}
+use Prim.Native.Nat.{◌*◌, ◌≤◌, ◌-◌}
+use native.Mathlib.Omega.{arith}
+use Rattle.lookahead.proofs.SetLaws.{cleared}
+use Rattle.lookahead.proofs.LeastLaws.{Apart, apart_more, least_none, least_found}
+use Rattle.lookahead.proofs.least_common.Goals as goal
+
+abbrev invariant-loop : tie.invariant-loop
+invariant-loop x y i₀ i = Apart x y (64 * i) × (i ≤ 8)
+
+abbrev decreases-loop : tie.decreases-loop
+decreases-loop x y i₀ i = 8 - i
+
+pub loop-i-init : goal.loop-i-init
+loop-i-init c = ((λ n h. absurd (omega arith)), search rules)
+
+pub overflow_add-result : goal.overflow_add-result
+overflow_add-result c = omega (arith, c.trailing_zeros.ensures.within)
+
+pub returns-then-w-gt0 : goal.returns-then-w-gt0
+returns-then-w-gt0 c =
+    let a = c.args in
+    least_found a.a.words _ a.b.words (cleared a.a.words c.even.result c.even.ensures)
+    c.loop-i.i c.trailing_zeros.result c.and-w.result (search rules) c.and-w.ensures c.trailing_zeros.ensures
+    c.loop-i.invariant.0
+
+pub loop-i-preserved : goal.loop-i-preserved
+loop-i-preserved c = (apart_more _ _ c.loop-i.i c.and-w.result c.and-w.ensures (search rules) c.loop-i.invariant.0, search rules)
+
+pub returns : goal.returns
+returns c =
+    let a = c.args in
+    least_none a.a.words _ a.b.words (cleared a.a.words c.even.result c.even.ensures)
+    (λ n h. c.loop-i.invariant.0 n (omega arith))

@@ -1,0 +1,27 @@
+use borrow.Author.Rules.{rules}
+use Prim.Native.Nat.{◌≤◌, ◌-◌}
+use Rattle.lookahead.proofs.PassLaws.{no_pass, next_pass, is_min}
+use native.Mathlib.Omega.{arith}
+use Rattle.lookahead.specs.Sets.{Has, Is, Passes}
+use Rattle.lookahead.proofs.passes.exactly.Goals as goal
+
+abbrev invariant-loop : tie.invariant-loop
+invariant-loop body k n out₀ i₀ out i = Is out.words (Passes (Has body.words) i) × (i ≤ n) × (n ≤ 8)
+
+abbrev decreases-loop : tie.decreases-loop
+decreases-loop body k n out₀ i₀ out i = n - i
+
+pub loop-i-init : goal.loop-i-init
+loop-i-init c = (no_pass (Has c.args.body.words) c.single-out.result.words c.single-out.ensures, search rules, omega (arith, c.capped-n.ensures))
+
+pub loop-i-preserved : goal.loop-i-preserved
+loop-i-preserved c =
+    let a = c.args in
+    let t = c.loop-i in
+    (next_pass (Has a.body.words) c.join-out.result.words a.body.words t.out.words t.i (λ s. ((λ h. h), (λ h. h))) t.invariant.0 c.join-out.ensures, search rules, search rules)
+
+pub returns : goal.returns
+returns c =
+    let a = c.args in
+    let t = c.loop-i in
+    is_min (Has a.body.words) t.out.words a.k t.i (omega (arith, c.capped-n.ensures)) t.invariant.0

@@ -1,0 +1,31 @@
+use native.Mathlib.Omega.{arith}
+use Prim.Native.Nat.{ℕ, ◌-◌, ◌<◌}
+use mathlib.Core.Path.{◌≡◌, ap, ◌∙◌}
+use mathlib.Core.List.{List, ◌∷◌, ◌++◌}
+use lib.ListN.{replicate}
+use Rattle.report_chain_steps.specs.Replayed.{no_depth, stack}
+use Rattle.report_chain_steps.proofs.Stacks.{one_more}
+use Rattle.report_chain_steps.proofs.stack.below_copies.Goals as goal
+
+abbrev invariant-loop : tie.invariant-loop
+invariant-loop items depth b n d₀ k₀ d k = d < no_depth → (ws is : List ℕ) → stack ws items d ≡ replicate k b ++ is → stack ws items depth ≡ replicate n b ++ is
+
+abbrev decreases-loop : tie.decreases-loop
+decreases-loop items depth b n d₀ k₀ d k = k
+
+pub loop-k-init : goal.loop-k-init
+loop-k-init c = λ h ws is e. e
+
+pub loop-k-preserved : goal.loop-k-preserved
+loop-k-preserved c =
+    let a = c.args in
+    let l = c.loop-k in
+    let q = c.below_top-d.ensures in
+    λ h ws is e. l.invariant (q h).0 ws is ((q h).1 ws ∙ ap (λ (ks : List ℕ). a.b ∷ ks) e ∙ one_more (l.k - 1) l.k a.b is (omega (arith, c.loop-k-test.true)))
+
+pub returns : goal.returns
+returns c =
+    let a = c.args in
+    let l = c.loop-k in
+    let z : 0 ≡ l.k = omega (arith, c.loop-k-test.false) in
+    λ h ws. l.invariant h ws (stack ws a.items.now l.d) (ap (λ (k : ℕ). replicate k a.b ++ stack ws a.items.now l.d) z)

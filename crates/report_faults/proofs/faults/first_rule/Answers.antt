@@ -1,0 +1,24 @@
+use Prim.Native.Nat.{◌-◌}
+use Rattle.report_faults.specs.Faults.{rule_if, first_rule}
+use Rattle.text_names.proofs.Loops.{Least, least_start, least_turn, least_end}
+use borrow.Author.Rules.{rules}
+use Rattle.report_faults.proofs.faults.first_rule.Goals as goal
+
+abbrev invariant-loop : tie.invariant-loop
+invariant-loop text rules count p least₀ j₀ least j = Least 0 count (rule_if text rules p) least j
+
+abbrev decreases-loop : tie.decreases-loop
+decreases-loop text rules count p least₀ j₀ least j = count - j
+
+pub loop-j-init : goal.loop-j-init
+loop-j-init c = least_start
+
+pub rule_if-requires : goal.rule_if-requires
+rule_if-requires c = c.requires
+
+pub loop-j-preserved : goal.loop-j-preserved
+loop-j-preserved c = least_turn c.loop-j.invariant c.loop-j-test.true c.rule_if.ensures c.min-least.ensures
+
+pub returns : goal.returns
+unfolding first_rule
+returns c = least_end c.loop-j.invariant c.loop-j-test.false

@@ -1,0 +1,8 @@
+use Rattle.run_actions.proofs.alternative.Reads as reads
+use Rattle.run_actions.proofs.ahead.Reads as ahead-reads
+use Rattle.run_actions.proofs.branch.Reads as branch-reads
+use Rattle.run_actions.proofs.alternative.Goals as goal
+
+-- src/lib.rt:349:1
+pub returns : goal.returns
+returns c = simp (← c.ahead.ensures.0) c.branch-table.ensures

@@ -1,0 +1,48 @@
+use Prim.Native.Nat.{◌-◌, ◌≤◌}
+use native.Mathlib.Omega.{arith}
+use borrow.Author.Tests.{not-true, not-false}
+use mathlib.Core.Path.{◌≡◌, refl, sym, ◌∙◌}
+use Rattle.basis.specs.Limits.{max_entries}
+use Rattle.run_grants.specs.Runs.{entries_fit}
+use Rattle.run_grants.proofs.Fitting.{entries_turn, entries_stop, entries_none}
+use Rattle.run_grants.proofs.entries_fit.Reads as reads
+use Rattle.run_grants.proofs.entry_fits.Reads as entry-fits-reads
+use Rattle.run_grants.proofs.entries_fit.Goals as goal
+
+abbrev invariant-loop : tie.invariant-loop
+invariant-loop table bits constructs passes count left₀ left = (left ≤ max_entries) × (entries_fit table bits constructs passes left ≡ entries_fit table bits constructs passes count)
+
+abbrev decreases-loop : tie.decreases-loop
+decreases-loop table bits constructs passes count left₀ left = left
+
+-- src/lib.rt:67:5
+pub loop-left-init : goal.loop-left-init
+loop-left-init c = (c.requires.1, refl)
+
+-- src/lib.rt:68:9
+pub overflow_sub-left : goal.overflow_sub-left
+overflow_sub-left c = omega (arith, c.loop-left-test.true)
+
+-- src/lib.rt:69:37
+pub bounds-constructs-left : goal.bounds-constructs-left
+bounds-constructs-left c = omega (arith, c.loop-left-test.true, c.loop-left.invariant.0)
+
+-- src/lib.rt:69:55
+pub bounds-passes-left : goal.bounds-passes-left
+bounds-passes-left c = omega (arith, c.loop-left-test.true, c.loop-left.invariant.0)
+
+-- src/lib.rt:70:13
+pub returns-then-not-entry_fits : goal.returns-then-not-entry_fits
+returns-then-not-entry_fits c = sym (sym c.loop-left.invariant.1 ∙ entries_stop c.args.table.now c.args.bits c.args.constructs.now c.args.passes.now c.loop-left.left c.loop-left-test.true (sym c.entry_fits.ensures ∙ not-true c.entry_fits.result c.if-not-entry_fits.true))
+
+-- src/lib.rt:67:5
+pub loop-left-smaller : goal.loop-left-smaller
+loop-left-smaller c = omega (arith, c.loop-left-test.true)
+
+-- src/lib.rt:67:5
+pub loop-left-preserved : goal.loop-left-preserved
+loop-left-preserved c = ((let z : c.loop-left.left - 1 ≤ max_entries = omega (arith, c.loop-left.invariant.0) in z), entries_turn c.args.table.now c.args.bits c.args.constructs.now c.args.passes.now c.loop-left.left c.loop-left-test.true (sym c.entry_fits.ensures ∙ not-false c.entry_fits.result c.if-not-entry_fits.false) ∙ c.loop-left.invariant.1)
+
+-- src/lib.rt:56:1
+pub returns : goal.returns
+returns c = sym (sym c.loop-left.invariant.1 ∙ entries_none c.args.table.now c.args.bits c.args.constructs.now c.args.passes.now c.loop-left.left (omega (arith, c.loop-left-test.false)))

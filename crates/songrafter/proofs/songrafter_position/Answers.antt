@@ -1,0 +1,9 @@
+use mathlib.Core.Path.{ap}
+use Rattle.run_grants.specs.declared.Run.{Run}
+use Rattle.songrafter.proofs.songrafter_position.Reads as reads
+use Rattle.run_saved.proofs.decode.Reads as decode-reads
+use Rattle.songrafter.proofs.songrafter_position.Goals as goal
+
+-- src/lib.rt:223:1
+pub returns : goal.returns
+returns c = ap (λ (r : Run). r.position) c.decode.ensures.0

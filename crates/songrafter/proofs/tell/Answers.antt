@@ -1,0 +1,21 @@
+use mathlib.Core.Path.{sym, ap, ◌∙◌}
+use lib.Seq.{sets}
+use Rattle.text_admission.specs.Answers.{number_of}
+use Rattle.text_admission.specs.declared.Admission.{Admission}
+use Rattle.text_admission.specs.Answers.{told}
+use Rattle.songrafter.proofs.tell.Reads as reads
+use Rattle.songrafter.proofs.put_five.Reads as put-five-reads
+use Rattle.songrafter.proofs.tell_clash.Reads as tell-clash-reads
+use Rattle.songrafter.proofs.tell.Goals as goal
+
+-- src/lib.rt:54:1
+pub returns-in-Admitted : goal.returns-in-Admitted
+returns-in-Admitted c = (sym (ap number_of c.admission-1.given.1), c.put_five.ensures ∙ sym (ap (λ (x : Admission). sets c.args.answer.now 0 (told x)) c.admission-1.given.1))
+
+-- src/lib.rt:54:1
+pub returns-in-Refused : goal.returns-in-Refused
+returns-in-Refused c = (sym (ap number_of c.admission-in-Refused-1.given.1), c.put_five-in-Refused.ensures ∙ sym (ap (λ (x : Admission). sets c.args.answer.now 0 (told x)) c.admission-in-Refused-1.given.1))
+
+-- src/lib.rt:54:1
+pub returns-in-Conflict : goal.returns-in-Conflict
+returns-in-Conflict c = (sym (ap number_of c.admission-in-Conflict-1.given.1), c.tell_clash.ensures ∙ sym (ap (λ (x : Admission). sets c.args.answer.now 0 (told x)) c.admission-in-Conflict-1.given.1))

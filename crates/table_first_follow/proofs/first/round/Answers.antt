@@ -1,0 +1,40 @@
+use Prim.Native.Nat.{ℕ, ◌≤◌}
+use borrow.Author.Rules.{rules}
+use lib.ListN.{length}
+use mathlib.Core.Path.{◌≡◌, sym, subst, ◌∙◌}
+use native.Mathlib.Omega.{arith}
+use Rattle.table_first_follow.specs.Sets.{sets_held, family_words}
+use Rattle.table_first_follow.specs.Rounds.{FirstStep, FirstClosed, From, first_low, first_of}
+use Rattle.table_first_follow.proofs.RoundLaws.{round_start, round_turn}
+use Rattle.table_first_follow.proofs.first.round.Goals as goal
+
+abbrev invariant-loop : tie.invariant-loop
+invariant-loop table family₀ grew₀ i₀ family grew i = FirstStep table (From (FirstClosed table) i) family₀ family grew × (i ≤ sets_held) × (length family ≡ family_words)
+
+abbrev decreases-loop : tie.decreases-loop
+decreases-loop table family₀ grew₀ i₀ family grew i = i
+
+pub loop-i-init : goal.loop-i-init
+loop-i-init c =
+    let a = c.args in
+    (round_start (first_low a.table.now) (first_of a.table.now) (FirstClosed a.table.now) a.family.now, search rules, c.requires)
+
+pub apply-requires : goal.apply-requires
+apply-requires c = (c.loop-i.invariant.2, omega (arith, c.loop-i.invariant.1))
+
+pub loop-i-preserved : goal.loop-i-preserved
+loop-i-preserved c =
+    let ws = c.args.table.now in
+    let l = c.loop-i in (
+      round_turn (first_low ws) (first_of ws) (FirstClosed ws) c.args.family.now l.family c.apply.new.1.0 l.i l.grew c.apply.result c.either-grew.result c.loop-i-test.true c.either-grew.ensures l.invariant.0 c.apply.ensures,
+      omega (arith, l.invariant.1),
+      c.apply.auto.1.0 ∙ l.invariant.2,
+    )
+
+pub shape_of-family : goal.shape_of-family
+shape_of-family c = c.loop-i.invariant.2 ∙ sym c.requires
+
+pub returns : goal.returns
+returns c =
+    let l = c.loop-i in
+    subst (λ (n : ℕ). FirstStep c.args.table.now (From (FirstClosed c.args.table.now) n) c.args.family.now l.family l.grew) (let e : l.i ≡ 0 = omega (arith, c.loop-i-test.false) in e) l.invariant.0

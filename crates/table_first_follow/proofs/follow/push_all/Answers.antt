@@ -1,0 +1,42 @@
+use Prim.Native.Nat.{ℕ, ◌-◌, ◌≤◌}
+use borrow.Author.Rules.{rules}
+use mathlib.Core.Path.{◌≡◌, sym, subst, ◌∙◌}
+use native.Mathlib.Omega.{arith}
+use Rattle.table_first_follow.specs.Sets.{sets_held}
+use Rattle.table_layout.specs.Held.{opening}
+use Rattle.table_first_follow.specs.Rounds.{Between, FollowStep, FollowClosed, From, follow_low, follow_of}
+use Rattle.table_first_follow.proofs.RoundLaws.{round_start, round_turn, step_map, from_turned}
+use Rattle.table_first_follow.proofs.follow.push_all.Goals as goal
+
+abbrev invariant-loop : tie.invariant-loop
+invariant-loop table first family₀ grew₀ i₀ family grew i = FollowStep table (From (λ n words. FollowClosed table (opening - n) words) i) family₀ family grew × (i ≤ sets_held) × Between (follow_low table) (follow_of table) family
+
+abbrev decreases-loop : tie.decreases-loop
+decreases-loop table first family₀ grew₀ i₀ family grew i = i
+
+pub loop-i-init : goal.loop-i-init
+loop-i-init c =
+    let a = c.args in
+    (round_start (follow_low a.table.now) (follow_of a.table.now) (λ n words. FollowClosed a.table.now (opening - n) words) a.family.now, search rules, c.requires.2)
+
+pub push-requires : goal.push-requires
+push-requires c = (omega (arith, c.loop-i.invariant.1), c.requires.0, c.requires.1, c.loop-i.invariant.2)
+
+pub loop-i-preserved : goal.loop-i-preserved
+loop-i-preserved c =
+    let ws = c.args.table.now in
+    let l = c.loop-i in (
+      round_turn (follow_low ws) (follow_of ws) (λ n words. FollowClosed ws (opening - n) words) c.args.family.now l.family c.push.new.1.1.0 l.i l.grew c.push.result c.either-grew.result c.loop-i-test.true c.either-grew.ensures l.invariant.0 c.push.ensures,
+      omega (arith, l.invariant.1),
+      c.push.ensures.keeps l.invariant.2,
+    )
+
+pub shape_of-family : goal.shape_of-family
+shape_of-family c = c.loop-i.invariant.2.size ∙ sym c.requires.2.size
+
+pub returns : goal.returns
+returns c =
+    let ws = c.args.table.now in
+    let l = c.loop-i in
+    step_map (follow_low ws) (follow_of ws) (From (λ n words. FollowClosed ws (opening - n) words) 0) (From (FollowClosed ws) 0) c.args.family.now l.family l.grew (λ words c. from_turned (FollowClosed ws) words c)
+    (subst (λ (n : ℕ). FollowStep ws (From (λ k words. FollowClosed ws (opening - k) words) n) c.args.family.now l.family l.grew) (let e : l.i ≡ 0 = omega (arith, c.loop-i-test.false) in e) l.invariant.0)

@@ -1,0 +1,25 @@
+use Prim.Native.Nat.{ℕ, ◌-◌, ◌≤◌, ◌<◌}
+use mathlib.Core.Path.{◌≡◌, sym, ◌∙◌}
+use mathlib.Core.Bool.{true}
+use native.Mathlib.Omega.{arith}
+use borrow.Author.Count.{below_more}
+use Rattle.table_reach.specs.Closure.{from_start}
+use Rattle.table_reach.proofs.reaching.first_not_reached.Goals as goal
+
+abbrev invariant-loop : tie.invariant-loop
+invariant-loop rows count r₀ r = ((q : ℕ) → q < r → 1 ≤ q → from_start rows q ≡ true) × (1 ≤ r)
+
+abbrev decreases-loop : tie.decreases-loop
+decreases-loop rows count r₀ r = count - r
+
+pub loop-r-init : goal.loop-r-init
+loop-r-init c = ((λ q h l. absurd (omega arith)), omega arith)
+
+pub loop-r-preserved : goal.loop-r-preserved
+loop-r-preserved c = (below_more _ _ c.loop-r.invariant.0 (λ l. sym c.reached.ensures ∙ c.if-reached.true), omega arith)
+
+pub returns-else-reached : goal.returns-else-reached
+returns-else-reached c = let l = c.loop-r in (l.invariant.1, c.loop-r-test.true, sym c.reached.ensures ∙ c.if-reached.false, λ q h k. l.invariant.0 q k h)
+
+pub returns : goal.returns
+returns c = λ q h k. c.loop-r.invariant.0 q (omega (arith, c.loop-r-test.false)) h

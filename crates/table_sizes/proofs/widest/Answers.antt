@@ -1,0 +1,25 @@
+use Prim.Native.Nat.{◌-◌}
+use Rattle.basis.specs.Limits.{max_variables}
+use Rattle.table_sizes.specs.Measures.{largest}
+use mathlib.Core.Path.{ap₂, ◌∙◌}
+use native.Mathlib.Omega.{arith}
+use Rattle.table_sizes.proofs.WidestLaws.{Widening, widening_none, widening_more, widening_done}
+use Rattle.table_sizes.proofs.widest.Goals as goal
+
+abbrev invariant-loop : tie.invariant-loop
+invariant-loop table sizes₀ x₀ sizes x = Widening table x sizes
+
+abbrev decreases-loop : tie.decreases-loop
+decreases-loop table sizes₀ x₀ sizes x = max_variables - x
+
+pub loop-x-init : goal.loop-x-init
+loop-x-init c = widening_none c.args.table.now
+
+pub loop-x-smaller : goal.loop-x-smaller
+loop-x-smaller c = omega (arith, c.loop-x-test.true)
+
+pub loop-x-preserved : goal.loop-x-preserved
+loop-x-preserved c = widening_more c.args.table.now c.loop-x.x c.loop-x.sizes c.largest.result c.loop-x.invariant c.loop-x-test.true (c.largest.ensures ∙ ap₂ largest c.variable_word.ensures.0 c.variable_word-in-loop-x.ensures.0)
+
+pub returns : goal.returns
+returns c = widening_done c.args.table.now c.loop-x.x c.loop-x.sizes c.loop-x.invariant c.loop-x-test.false

@@ -1,0 +1,34 @@
+use Prim.Native.Nat.{◌+◌, ◌-◌, ◌≤◌, ◌<◌}
+use mathlib.Core.Path.{sym, ◌∙◌}
+use native.Mathlib.Omega.{arith}
+use borrow.Author.Tests.{ltb-true}
+use lib.Dec.{eqb}
+use Rattle.basis.proofs.Booleans.{both_first}
+use Rattle.table_wellformed.specs.Checks.{size_at}
+use Rattle.table_wellformed.proofs.Walks.{Walking, walk_start, walk_turn, walk_stop, walk_end}
+use Rattle.table_wellformed.specs.Rules.{member_laid, next_variable, binders_from}
+use Rattle.table_wellformed.proofs.names.binders.Goals as goal
+
+abbrev invariant-loop : tie.invariant-loop
+invariant-loop table start end first last j₀ x₀ j x = Walking table (member_laid table) (next_variable table) (λ k y. eqb y last) end (binders_from table start end first last) j x × (x ≤ first + j)
+
+abbrev decreases-loop : tie.decreases-loop
+decreases-loop table start end first last j₀ x₀ j x = end - j
+
+pub loop-j-init : goal.loop-j-init
+loop-j-init c = (walk_start c.args.table.now (member_laid c.args.table.now) (next_variable c.args.table.now) (λ k y. eqb y c.args.last) c.args.end c.args.start c.args.first, omega arith)
+
+pub overflow_add-j : goal.overflow_add-j
+overflow_add-j c = omega (arith, c.size_at-j.ensures.1)
+
+pub loop-j-smaller : goal.loop-j-smaller
+loop-j-smaller c = let grows : 0 < size_at c.args.table.now c.loop-j.j = ltb-true _ _ (both_first _ _ (sym c.member.ensures ∙ c.if-member.true)) in omega (arith, c.size_at-j.ensures.0)
+
+pub loop-j-preserved : goal.loop-j-preserved
+loop-j-preserved c = let grows : 0 < size_at c.args.table.now c.loop-j.j = ltb-true _ _ (both_first _ _ (sym c.member.ensures ∙ c.if-member.true)) in (rw (c.size_at-j.ensures.0, c.next_variable-x.ensures.0) (walk_turn _ _ _ _ _ _ _ c.loop-j.invariant.0 c.loop-j-test.true (sym c.member.ensures ∙ c.if-member.true)), omega (arith, c.size_at-j.ensures.0, c.next_variable-x.ensures.1))
+
+pub returns-else-member : goal.returns-else-member
+returns-else-member c = sym (walk_stop _ _ _ _ _ _ _ c.loop-j.invariant.0 c.loop-j-test.true (sym c.member.ensures ∙ c.if-member.false))
+
+pub returns : goal.returns
+returns c = sym (walk_end _ _ _ _ _ _ _ c.loop-j.invariant.0 c.loop-j-test.false)

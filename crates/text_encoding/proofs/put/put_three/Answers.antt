@@ -1,0 +1,6 @@
+use native.Mathlib.Nat.{add_assoc}
+use Rattle.text_encoding.proofs.Writing.{written_cons, written_nil}
+use Rattle.text_encoding.proofs.put.put_three.Goals as goal
+
+pub returns : goal.returns
+returns c = simp (c.put-3.ensures, c.put-2.ensures, c.put.ensures, written_cons, written_nil, add_assoc)

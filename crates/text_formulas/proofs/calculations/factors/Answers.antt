@@ -1,0 +1,35 @@
+use Rattle.text_parsing.specs.Symbols.{factors}
+use Rattle.text_parsing.specs.Cursors.{left}
+use Rattle.text_parsing.proofs.Steps.{then}
+use Rattle.text_parsing.proofs.Loops.{Still, still_start, turn_falls}
+use Rattle.text_formulas.proofs.Calculating.{factors_turn, factors_end}
+use Prim.Native.Nat.{ℕ}
+use mathlib.Core.List.{List, [], ◌∷◌}
+use mathlib.Core.Path.{refl}
+use Rattle.text_formulas.proofs.calculations.factors.Reads as reads
+use Rattle.text_formulas.proofs.calculations.operand.Reads as operand-reads
+use Rattle.text_parsing.proofs.reading.passed.Reads as Passed-reads
+use Rattle.text_parsing.proofs.words.add_sign.Reads as add-sign-reads
+use Rattle.text_formulas.proofs.calculations.factors.Goals as goal
+
+abbrev invariant-loop : tie.invariant-loop
+invariant-loop text o terms₀ c₀ terms c = (ns : List ℕ) → Still text (factors o ∷ []) c₀ ns terms₀ c ns terms
+
+abbrev decreases-loop : tie.decreases-loop
+decreases-loop text o terms₀ c₀ terms c = left text c
+
+-- src/calculations.rt:41:5
+pub loop-c-init : goal.loop-c-init
+loop-c-init c = λ ns. still_start
+
+-- src/calculations.rt:41:5
+pub loop-c-smaller : goal.loop-c-smaller
+loop-c-smaller c = turn_falls c.loop-c.c (rw c.loop-c-test.true refl) c.passed.ensures (then (c.operand-r.ensures []) (c.add_sign-c.ensures c.args.text.now []))
+
+-- src/calculations.rt:41:5
+pub loop-c-preserved : goal.loop-c-preserved
+loop-c-preserved c = factors_turn c.args.o c.loop-c.invariant c.loop-c-test.true c.passed.ensures c.operand-r.ensures (c.add_sign-c.ensures c.args.text.now)
+
+-- src/calculations.rt:37:1
+pub returns : goal.returns
+returns c = factors_end c.args.o c.loop-c.invariant c.loop-c-test.false

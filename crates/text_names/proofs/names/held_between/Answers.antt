@@ -1,0 +1,22 @@
+use Prim.Native.Nat.{◌-◌}
+use Rattle.text_names.specs.Names.{held}
+use Rattle.text_names.proofs.Loops.{NoneYet, any_start, any_hit, any_miss, any_end}
+use Rattle.text_names.proofs.names.held_between.Goals as goal
+
+abbrev invariant-loop : tie.invariant-loop
+invariant-loop nodes a i j₀ j = NoneYet a i (held nodes a i) j
+
+abbrev decreases-loop : tie.decreases-loop
+decreases-loop nodes a i j₀ j = i - j
+
+pub loop-j-init : goal.loop-j-init
+loop-j-init c = any_start
+
+pub returns-then-held : goal.returns-then-held
+returns-then-held c = any_hit c.loop-j.invariant c.loop-j-test.true c.held.ensures c.if-held.true
+
+pub loop-j-preserved : goal.loop-j-preserved
+loop-j-preserved c = any_miss c.loop-j.invariant c.loop-j-test.true c.held.ensures c.if-held.false
+
+pub returns : goal.returns
+returns c = any_end c.loop-j.invariant c.loop-j-test.false

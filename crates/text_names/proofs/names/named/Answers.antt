@@ -1,0 +1,25 @@
+use Prim.Native.Nat.{◌-◌, ℕ}
+use mathlib.Core.Path.{ap, ◌∙◌}
+use borrow.Author.Rules.{rules}
+use Rattle.text_names.specs.Names.{same_name}
+use Rattle.text_store.specs.Words.{named_at}
+use Rattle.text_names.proofs.Loops.{NoneYet, any_start, any_hit, any_miss, any_end}
+use Rattle.text_names.proofs.names.named.Goals as goal
+
+abbrev invariant-loop : tie.invariant-loop
+invariant-loop text rules count p j₀ j = NoneYet 0 count (λ (j : ℕ). same_name text (named_at rules j) p) j
+
+abbrev decreases-loop : tie.decreases-loop
+decreases-loop text rules count p j₀ j = count - j
+
+pub loop-j-init : goal.loop-j-init
+loop-j-init c = any_start
+
+pub returns-then-same : goal.returns-then-same
+returns-then-same c = any_hit c.loop-j.invariant c.loop-j-test.true (c.same.ensures ∙ ap (λ (w : ℕ). same_name c.args.text.now w c.args.p) c.rule_word.ensures) c.if-same.true
+
+pub loop-j-preserved : goal.loop-j-preserved
+loop-j-preserved c = any_miss c.loop-j.invariant c.loop-j-test.true (c.same.ensures ∙ ap (λ (w : ℕ). same_name c.args.text.now w c.args.p) c.rule_word.ensures) c.if-same.false
+
+pub returns : goal.returns
+returns c = any_end c.loop-j.invariant c.loop-j-test.false

@@ -1,0 +1,13 @@
+use Rattle.text_parsing.proofs.Steps.{paren_reads, paren_deep}
+use Rattle.text_parsing.proofs.reading.open.Reads as reads
+use Rattle.text_parsing.proofs.reading.failed.Reads as failed-reads
+use Rattle.text_parsing.proofs.reading.want.Reads as want_reads
+use Rattle.text_parsing.proofs.reading.open.Goals as goal
+
+-- src/reading.rt:92:9
+pub returns-then-d-lt-MAX_NESTING : goal.returns-then-d-lt-MAX_NESTING
+returns-then-d-lt-MAX_NESTING c = paren_reads c.if-d-lt-MAX_NESTING.true c.want.ensures.0
+
+-- src/reading.rt:88:1
+pub returns : goal.returns
+returns c = paren_deep c.if-d-lt-MAX_NESTING.false c.failed.ensures

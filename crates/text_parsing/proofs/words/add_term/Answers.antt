@@ -1,0 +1,8 @@
+use Rattle.text_parsing.proofs.words.add_term.Reads as reads
+use Rattle.text_store.proofs.stores.counted.Reads as counted-reads
+use Rattle.text_store.proofs.stores.put_term.Reads as put-term-reads
+use Rattle.text_parsing.proofs.words.add_term.Goals as goal
+
+-- src/words.rt:41:1
+pub returns : goal.returns
+returns c = (rw c.counted.ensures, c.put_term.ensures)

@@ -1,0 +1,7 @@
+use Rattle.text_parsing.proofs.words.bind.Reads as reads
+use Rattle.text_store.proofs.stores.counted.Reads as counted-reads
+use Rattle.text_parsing.proofs.words.bind.Goals as goal
+
+-- src/words.rt:211:1
+pub returns : goal.returns
+returns c = rw c.counted.ensures

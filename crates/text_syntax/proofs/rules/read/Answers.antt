@@ -1,0 +1,40 @@
+use Rattle.text_syntax.proofs.Ruling.{Begun, begin, turn}
+use mathlib.Core.Path.{refl, sym, ◌∙◌}
+use borrow.Author.Rules.{rules}
+use Rattle.text_parsing.specs.Cursors.{left}
+use Rattle.text_syntax.proofs.rules.read.Reads as reads
+use Rattle.text_parsing.proofs.reading.first.Reads as first_reads
+use Rattle.text_parsing.proofs.reading.name.Reads as name-reads
+use Rattle.text_syntax.proofs.rules.rule.Reads as rule_reads
+use Rattle.text_syntax.proofs.rules.text_end.Reads as text-end-reads
+use Rattle.text_syntax.proofs.rules.read.Goals as goal
+
+abbrev invariant-loop : tie.invariant-loop
+invariant-loop text nodes₀ terms₀ rules₀ c₀ any₀ nodes terms rules c any = Begun text nodes₀ terms₀ rules₀ any c nodes terms rules
+
+abbrev decreases-loop : tie.decreases-loop
+decreases-loop text nodes₀ terms₀ rules₀ c₀ any₀ nodes terms rules c any = left text c
+
+-- src/rules.rt:70:5
+pub loop-any-init : goal.loop-any-init
+loop-any-init c = begin c.first-c.ensures refl
+
+-- src/rules.rt:71:9
+pub rule-c-requires : goal.rule-c-requires
+rule-c-requires c = sym c.name.ensures ∙ c.loop-any-test.true
+
+-- src/rules.rt:70:5
+pub loop-any-smaller : goal.loop-any-smaller
+loop-any-smaller c = c.rule-c.ensures.falls
+
+-- src/rules.rt:70:5
+pub loop-any-preserved : goal.loop-any-preserved
+loop-any-preserved c = turn c.loop-any.invariant c.rule-c.ensures
+
+-- src/rules.rt:74:5
+pub text_end-requires : goal.text_end-requires
+text_end-requires c = sym c.name.ensures ∙ c.loop-any-test.false
+
+-- src/rules.rt:60:1
+pub returns : goal.returns
+returns c = c.loop-any.invariant.same ∙ c.text_end.ensures _ _ _ _

@@ -1,0 +1,33 @@
+use Prim.Native.Nat.{ℕ, ◌+◌, ◌*◌, ◌-◌, ◌≤◌}
+use mathlib.Core.Path.{◌≡◌, refl, sym, ap, ap₂, ◌∙◌}
+use native.Mathlib.Omega.{arith}
+use borrow.Author.Tests.{lt-ltb, le-ltb}
+use lib.Dec.{ltb}
+use lib.ListN.{length, get_or, drop}
+use Rattle.text_header.specs.Bytes.{digit_of}
+use Rattle.text_tokens.specs.Numbers.{digits_value, capped}
+use Rattle.text_tokens.proofs.Digits.{value_turn, value_stop, value_out}
+use Rattle.text_tokens.proofs.numbers.digits.Goals as goal
+
+abbrev invariant-loop : tie.invariant-loop
+invariant-loop radix text at v₀ i₀ v i = (v ≤ 4611686018427387905) × (capped (digits_value radix v (drop i text)) ≡ capped (digits_value radix 0 (drop at text)))
+
+abbrev decreases-loop : tie.decreases-loop
+decreases-loop radix text at v₀ i₀ v i = length text - i
+
+pub loop-i-init : goal.loop-i-init
+loop-i-init c = (omega arith, refl)
+
+pub pushed-v-requires : goal.pushed-v-requires
+pushed-v-requires c = omega (arith, c.wide.ensures, c.wide-then-d-radix.ensures, c.digit_value-d.ensures.1, c.requires)
+
+pub loop-i-preserved : goal.loop-i-preserved
+loop-i-preserved c =
+    let p : c.pushed-v.result ≡ capped (c.loop-i.v * c.args.radix + digit_of (get_or c.args.text.now c.loop-i.i 0)) = c.pushed-v.ensures ∙ ap₂ (λ (a b : ℕ). capped (c.loop-i.v * a + b)) c.wide.ensures (c.wide-then-d-radix.ensures ∙ c.digit_value-d.ensures.0) in
+    (omega (arith, c.pushed-v.ensures), rw p (sym (value_turn c.args.text.now c.args.radix c.loop-i.v c.loop-i.i c.requires.0 c.loop-i-test.true (ap (λ (d : ℕ). ltb d c.args.radix) (sym c.digit_value-d.ensures.0) ∙ lt-ltb _ _ c.if-d-radix.true)) ∙ c.loop-i.invariant.1))
+
+pub returns-else-d-radix : goal.returns-else-d-radix
+returns-else-d-radix c = let e : c.loop-i.v ≡ capped c.loop-i.v = omega (arith, c.loop-i.invariant.0) in e ∙ ap capped (sym (value_stop c.args.text.now c.args.radix c.loop-i.v c.loop-i.i c.loop-i-test.true (ap (λ (d : ℕ). ltb d c.args.radix) (sym c.digit_value-d.ensures.0) ∙ le-ltb _ _ c.if-d-radix.false))) ∙ c.loop-i.invariant.1
+
+pub returns : goal.returns
+returns c = let e : c.loop-i.v ≡ capped c.loop-i.v = omega (arith, c.loop-i.invariant.0) in e ∙ ap capped (sym (value_out c.args.text.now c.args.radix c.loop-i.v c.loop-i.i c.loop-i-test.false)) ∙ c.loop-i.invariant.1

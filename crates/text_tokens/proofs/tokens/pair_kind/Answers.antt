@@ -1,0 +1,11 @@
+use borrow.Author.Tests.{ne_eqb}
+use Rattle.text_tokens.proofs.tokens.pair_kind.Goals as goal
+
+pub returns-in-33 : goal.returns-in-33
+returns-in-33 c = rw c.in-33.keys1
+
+pub returns-in-60 : goal.returns-in-60
+returns-in-60 c = rw c.in-60.keys2
+
+pub returns-in_default : goal.returns-in_default
+returns-in_default c = simp (ne_eqb _ _ c.in_default.rest.1, ne_eqb _ _ c.in_default.rest.0.1)
