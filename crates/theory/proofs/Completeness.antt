@@ -35,10 +35,11 @@ pub not_both : {b : Bool} → b ≡ true → b ≡ false → ⊥
 not_both p q = let z : ◌≡◌ {A = ℕ} 0 1 = cc in omega arith
 
 -- the one branch of a list that passes a test is the one chosen
-pub chooses : (holds : ℕ → Bool) {is : List ℕ} {b : ℕ} → b ∈ is → holds b ≡ true → ((a : ℕ) → a ∈ is → holds a ≡ true → a ≡ b) → choose holds is ≡ some b
+pub chooses : (holds : ℕ → Bool) {b : ℕ} {is : List ℕ} → b ∈ is → holds b ≡ true → ((a : ℕ) → a ∈ is → holds a ≡ true → a ≡ b) → choose holds is ≡ some b
 unfolding choose
-chooses holds {is = a ∷ is} {b} (Memᴰ.head e) t only = let z : holds a ≡ true = ap holds (sym e) ∙ t in rw (z, choose) (ap some (sym e))
-chooses holds {is = a ∷ is} {b} (Memᴰ.tail m) t only =
+chooses holds {is = []} m t only = elim m [ ]
+chooses holds {b = b} {is = a ∷ is} (Memᴰ.head e) t only = let z : holds a ≡ true = ap holds (sym e) ∙ t in rw (z, choose) (ap some (sym e))
+chooses holds {b = b} {is = a ∷ is} (Memᴰ.tail m) t only =
     elim (which (holds a))
     [ inl z ↦ rw (z, choose) (ap some (only a (Memᴰ.head refl) z)) | inr z ↦ rw (z, choose) (chooses holds m t (λ a' m'. only a' (Memᴰ.tail m'))) ]
 

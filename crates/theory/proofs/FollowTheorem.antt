@@ -66,15 +66,18 @@ module _ {Context Values : Type 0} (g : Grammar Context Values) where
     follow (Derives.of_repetition k a d) q (After.of_construct f) (Leaves.at_node {r = r'} e) = left_follows r' d e f
     follow (Derives.of_switch {c = c} {v = v} e d) q (After.of_construct f) (Leaves.below l) = follow d refl (After.of_construct (Follow.of_case q (h.chosen_listed q c v e) f)) l
     follow (Derives.of_switch {c = c} {v = v} e d) q (After.of_construct f) (Leaves.at_node {r = r'} e') = left_follows r' d e' f
+    follow (Derives.of_no_case e o) q (After.of_construct f) (Leaves.below l) = elim l [ ]
     follow (Derives.of_no_case {i = i} e o) q (After.of_construct f) (Leaves.at_node e') = subst (λ (x : Bits). Follow g i (lookahead x)) e' f
     follow (Derives.of_use e d z) q (After.of_construct f) (Leaves.below l) = follow d refl (After.of_construct (Follow.of_rule q f)) l
     follow (Derives.of_use e d z) q (After.of_construct f) (Leaves.at_node {r = r'} e') = left_follows r' d e' f
     follow (Derives.of_field {r = r} bits l e a z) q (After.of_construct f) (Leaves.at_leaf {r = r'} e') =
         rw (append_cancel_left bits r' r (sym e' ∙ e)) f
     follow Derives.of_eod q (After.of_construct f) Leaves.at_end = f
+    follow Derives.no_members q a l = elim l [ ]
     follow (Derives.more_members d ds) q a (Leaves.in_member l) = follow d refl (After.of_construct (after_member a ds)) l
     follow (Derives.more_members d ds) q a (Leaves.past_member {j = j} {u = u} {r = r'} e l) =
         follow ds tt (after_members a) (subst (λ (x : Bits). Leaves u x j r') (sym (same_rest d e)) l)
+    follow Derives.no_passes q a l = elim l [ ]
     follow (Derives.more_passes d ds) q a (Leaves.in_pass l) = follow d refl (After.of_construct (after_pass a ds)) l
     follow (Derives.more_passes d ds) q a (Leaves.past_pass {j = j} {u = u} {r = r'} e l) =
         follow ds tt (after_passes a) (subst (λ (x : Bits). Leaves u x j r') (sym (same_rest d e)) l)

@@ -65,8 +65,9 @@ chosen_in holds [] b e = let z : ◌≡◌ {A = ℕ} 0 1 = cc in absurd (omega a
 chosen_in holds (a ∷ is) b e =
     elim (which (holds a)) [ inl t ↦ Memᴰ.head {x = a} (let z : some a ≡ some b = rw (t, choose) at e in cc) | inr t ↦ Memᴰ.tail (chosen_in holds is b (rw (t, choose) at e)) ]
 
-pub in_largest : (f : ℕ → ℕ) {is : List ℕ} {b : ℕ} → b ∈ is → f b ≤ largest f is
+pub in_largest : (f : ℕ → ℕ) {b : ℕ} {is : List ℕ} → b ∈ is → f b ≤ largest f is
 unfolding largest
+in_largest f {is = []} m = elim m [ ]
 in_largest f {is = a ∷ is} (Memᴰ.head e) = rw e (omega arith)
 in_largest f {is = a ∷ is} (Memᴰ.tail m) = let z = in_largest f m in omega arith
 
