@@ -3,7 +3,6 @@ use Prim.Native.Nat.{ℕ}
 use mathlib.Core.List.{List}
 use Rattle.text_admission.specs.Admitted.{AnsweredRules}
 use Rattle.text_admission.proofs.HeaderPlaces.{rest}
-use Rattle.text_admission.proofs.admit_from.Reads as reads
 use Rattle.text_admission.proofs.admit_rules.Reads as admit-rules-reads
 use Rattle.text_admission.proofs.admit_from.Goals as goal
 

@@ -10,7 +10,6 @@ use Rattle.text_admission.specs.Extents.{refusal_8}
 use Rattle.text_admission.proofs.Stages.{encodable, long_words, place_8, bounded, judgeable}
 use Rattle.text_admission.proofs.Answering.{answered}
 use borrow.Author.Rules.{rules}
-use Rattle.text_admission.proofs.admit_words.Reads as reads
 use Rattle.text_admission.proofs.extents.first_oversized.Reads as first-oversized-reads
 use Rattle.text_admission.proofs.handed_over.Reads as handed-over-reads
 use Rattle.text_admission.proofs.judged.Reads as judged-reads

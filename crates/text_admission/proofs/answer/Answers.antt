@@ -3,7 +3,6 @@ use mathlib.Core.Logic.{inl, inr}
 use native.Mathlib.Omega.{arith}
 use Rattle.text_admission.specs.Admitted.{short_table, wrong_size, refused_early}
 use Rattle.text_admission.proofs.HeaderPlaces.{rules_inside, wrong_inside, at_header, at_rules}
-use Rattle.text_admission.proofs.answer.Reads as reads
 use Rattle.text_admission.proofs.admit_from.Reads as admit-from-reads
 use Rattle.text_admission.proofs.refused.Reads as refused-reads
 use Rattle.text_header.proofs.header.header.Reads as header-reads

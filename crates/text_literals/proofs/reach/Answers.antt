@@ -1,17 +1,11 @@
-use Prim.Native.Nat.{◌+◌, ◌-◌, ◌≤◌}
+use Prim.Native.Nat.{◌+◌}
 use mathlib.Core.Path.{◌≡◌, refl, sym, ap, ◌∙◌}
 use native.Mathlib.Omega.{arith}
-use lib.ListN.{length, get_or, drop}
-use Rattle.text_literals.specs.Literals.{stops, reached, literal_reach, literal_at}
+use lib.ListN.{get_or}
+use Rattle.text_literals.specs.Literals.{stops, reached}
 use Rattle.text_literals.specs.declared.Part.{Part}
 use Rattle.text_literals.proofs.Reaches.{reach_turn, reach_stop, reach_out}
 use Rattle.text_literals.proofs.reach.Goals as goal
-
-abbrev invariant-loop : tie.invariant-loop
-invariant-loop text at quote part₀ count₀ end₀ part count end = (count ≤ end) × (literal_reach quote part count end (drop end text) ≡ literal_at text at)
-
-abbrev decreases-loop : tie.decreases-loop
-decreases-loop text at quote part₀ count₀ end₀ part count end = length text - end
 
 pub loop-end-init : goal.loop-end-init
 loop-end-init c = (omega arith, refl)

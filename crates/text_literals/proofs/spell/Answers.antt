@@ -1,17 +1,10 @@
-use Prim.Native.Nat.{◌-◌, ◌≤◌}
 use mathlib.Core.Path.{◌≡◌, sym, subst, ap, ◌∙◌}
 use native.Mathlib.Omega.{arith}
-use lib.ListN.{length, get_or, drop}
-use Rattle.text_literals.specs.Literals.{part_after, stops, characters, characters_at}
+use lib.ListN.{get_or}
+use Rattle.text_literals.specs.Literals.{part_after, stops, characters_at}
 use Rattle.text_literals.proofs.Reaches.{characters_turn, characters_stop, characters_out}
 use Rattle.text_literals.proofs.Spelling.{Spelling, spelling_start, spelling_turn, spelling_end}
 use Rattle.text_literals.proofs.spell.Goals as goal
-
-abbrev invariant-loop : tie.invariant-loop
-invariant-loop text at bytes₀ quote part₀ n₀ i₀ bytes part n i = (n ≤ i) × Spelling (characters_at text at) bytes n (characters quote part (drop i text))
-
-abbrev decreases-loop : tie.decreases-loop
-decreases-loop text at bytes₀ quote part₀ n₀ i₀ bytes part n i = length text - i
 
 pub loop-i-init : goal.loop-i-init
 loop-i-init c = let s = c. in (omega arith, spelling_start s.requires.1 s.requires.2)

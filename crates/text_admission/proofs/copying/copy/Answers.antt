@@ -1,16 +1,10 @@
-use Prim.Native.Nat.{suc, ◌+◌, ◌-◌, ◌≤◌, ◌<◌}
+use Prim.Native.Nat.{suc, ◌+◌, ◌≤◌, ◌<◌}
 use mathlib.Core.Path.{◌≡◌, refl, sym, ap, ◌∙◌}
 use native.Mathlib.Omega.{arith}
 use lib.ListN.{length, get_or, set, take, drop, length-set}
 use lib.Seq.{paste, paste-zero, paste-suc, take-paste, drop-paste, take_all}
 use Rattle.basis.specs.Limits.{table_words}
 use Rattle.text_admission.proofs.copying.copy.Goals as goal
-
-abbrev invariant-loop : tie.invariant-loop
-invariant-loop words table₀ k₀ table k = (k ≤ table_words) × (table ≡ paste table₀ 0 words k) × (length table ≡ length table₀)
-
-abbrev decreases-loop : tie.decreases-loop
-decreases-loop words table₀ k₀ table k = table_words - k
 
 pub loop-k-init : goal.loop-k-init
 loop-k-init c = (omega arith, paste-zero c.args.table.now 0 c.args.words.now, refl)

@@ -1,17 +1,11 @@
-use Prim.Native.Nat.{◌+◌, ◌-◌, ◌≤◌}
+use Prim.Native.Nat.{◌+◌, ◌≤◌}
 use mathlib.Core.Path.{◌≡◌, ap₂}
 use native.Mathlib.Omega.{arith}
-use Rattle.text_encoding.specs.Numbers.{lists_length, condition_start}
+use Rattle.text_encoding.specs.Numbers.{lists_length}
 use Rattle.text_encoding.proofs.Sums.{sum_none, sum_turn, sum_holds, sum_grows}
 use Rattle.text_admission.specs.Extents.{node_found}
-use Rattle.text_admission.proofs.Leasts.{LeastYet, yet_start, yet_turn, yet_end}
+use Rattle.text_admission.proofs.Leasts.{yet_start, yet_turn, yet_end}
 use Rattle.text_admission.proofs.extents.nodes_found.Goals as goal
-
-abbrev invariant-loop : tie.invariant-loop
-invariant-loop text nodes terms n table widest least₀ q₀ i₀ least q i = (i ≤ n) × (q ≡ condition_start nodes i) × LeastYet n (node_found text nodes terms table) least i
-
-abbrev decreases-loop : tie.decreases-loop
-decreases-loop text nodes terms n table widest least₀ q₀ i₀ least q i = n - i
 
 pub loop-i-init : goal.loop-i-init
 loop-i-init c = ((let z : 0 ≤ c.args.n = omega arith in z), sum_none (lists_length c.args.nodes.now), yet_start)

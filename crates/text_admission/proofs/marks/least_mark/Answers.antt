@@ -1,20 +1,13 @@
-use Prim.Native.Nat.{◌+◌, ◌-◌, ◌≤◌}
+use Prim.Native.Nat.{◌+◌}
 use mathlib.Core.Path.{◌≡◌, ◌∙◌}
 use native.Mathlib.Omega.{arith}
-use Rattle.basis.specs.Limits.{max_constructs}
 use Rattle.table_layout.specs.Places.{construct_count}
 use Rattle.table_structure.proofs.Facts.{facts}
 use Rattle.table_conflicts.proofs.Meaning.{empty_iff}
-use Rattle.text_admission.proofs.Marking.{Marking, marking_start, marking_turn, marking_end}
+use Rattle.text_admission.proofs.Marking.{marking_start, marking_turn, marking_end}
 use Rattle.text_store.specs.Words.{node_start}
 use Rattle.text_store.proofs.Numbers.{at_second_place}
 use Rattle.text_admission.proofs.marks.least_mark.Goals as goal
-
-abbrev invariant-loop : tie.invariant-loop
-invariant-loop table first nodes count least₀ i₀ least i = Marking nodes table i least × (i ≤ count) × (count ≤ max_constructs)
-
-abbrev decreases-loop : tie.decreases-loop
-decreases-loop table first nodes count least₀ i₀ least i = count - i
 
 pub loop-i-init : goal.loop-i-init
 loop-i-init c = (marking_start, omega arith, omega (arith, c.word-count.ensures.0, (facts c.args.table.now c.requires.0).counts.constructs))

@@ -1,17 +1,9 @@
-use Prim.Native.Nat.{◌+◌, ◌*◌, ◌-◌, ◌≤◌}
+use Prim.Native.Nat.{◌≤◌}
 use mathlib.Core.Path.{refl}
 use native.Mathlib.Omega.{arith}
-use Rattle.table_layout.specs.Places.{literals_at}
-use Rattle.text_encoding.specs.Encoded.{literal_words}
 use Rattle.text_encoding.proofs.Sizes.{literal_length}
-use Rattle.text_encoding.proofs.Writing.{Writing, writing_start, writing_turn, writing_end, one_less}
+use Rattle.text_encoding.proofs.Writing.{writing_start, writing_turn, writing_end, one_less}
 use Rattle.text_encoding.proofs.areas.put_literals.Goals as goal
-
-abbrev invariant-loop : tie.invariant-loop
-invariant-loop text nodes n table₀ i₀ table i = (i ≤ n) × Writing table₀ literals_at n 0 (literal_words text nodes) table (literals_at + 8 * i) (n - i) i
-
-abbrev decreases-loop : tie.decreases-loop
-decreases-loop text nodes n table₀ i₀ table i = n - i
 
 pub loop-i-init : goal.loop-i-init
 loop-i-init c = ((let z : 0 ≤ c.args.n = omega arith in z), writing_start refl (omega arith) refl)

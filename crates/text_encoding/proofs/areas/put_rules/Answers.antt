@@ -1,18 +1,12 @@
-use Prim.Native.Nat.{◌+◌, ◌*◌, ◌-◌, ◌≤◌}
+use Prim.Native.Nat.{◌+◌, ◌*◌, ◌≤◌}
 use mathlib.Core.Path.{◌≡◌, refl}
 use native.Mathlib.Omega.{arith}
 use borrow.Author.Rules.{rules}
 use Rattle.table_layout.specs.Places.{rules_at}
 use Rattle.text_encoding.specs.Lists.{written}
 use Rattle.text_encoding.specs.Encoded.{rule_words}
-use Rattle.text_encoding.proofs.Writing.{Writing, writing_start, writing_turn, writing_end, one_less}
+use Rattle.text_encoding.proofs.Writing.{writing_start, writing_turn, writing_end, one_less}
 use Rattle.text_encoding.proofs.areas.put_rules.Goals as goal
-
-abbrev invariant-loop : tie.invariant-loop
-invariant-loop nodes rules r table₀ k₀ table k = (k ≤ r) × Writing table₀ rules_at r 0 (rule_words nodes rules) table (rules_at + 4 * k) (r - k) k
-
-abbrev decreases-loop : tie.decreases-loop
-decreases-loop nodes rules r table₀ k₀ table k = r - k
 
 pub loop-k-init : goal.loop-k-init
 loop-k-init c = ((let z : 0 ≤ c.args.r = omega arith in z), writing_start refl (omega arith) refl)

@@ -1,20 +1,14 @@
-use Prim.Native.Nat.{◌+◌, ◌*◌, ◌-◌, ◌≤◌}
+use Prim.Native.Nat.{◌+◌, ◌*◌, ◌≤◌}
 use mathlib.Core.Path.{◌≡◌, refl, ap₂}
 use native.Mathlib.Omega.{arith}
 use Rattle.table_layout.specs.Places.{terms_at}
-use Rattle.text_encoding.specs.Numbers.{lists_length, condition_start}
+use Rattle.text_encoding.specs.Numbers.{lists_length}
 use Rattle.text_encoding.specs.Lists.{written}
 use Rattle.text_encoding.specs.Encoded.{lists_words}
 use Rattle.text_encoding.proofs.Sums.{sum_none, sum_next, sum_turn, sum_holds}
 use Rattle.text_encoding.proofs.Sizes.{lists_words_length}
-use Rattle.text_encoding.proofs.Writing.{Writing, writing_start, writing_turn, writing_end, one_less}
+use Rattle.text_encoding.proofs.Writing.{writing_start, writing_turn, writing_end, one_less}
 use Rattle.text_encoding.proofs.areas.put_terms.Goals as goal
-
-abbrev invariant-loop : tie.invariant-loop
-invariant-loop text nodes terms rules n r table₀ q₀ i₀ table q i = (i ≤ n) × (q ≡ condition_start nodes i) × Writing table₀ terms_at n 0 (lists_words text nodes terms rules r) table (terms_at + 3 * q) (n - i) i
-
-abbrev decreases-loop : tie.decreases-loop
-decreases-loop text nodes terms rules n r table₀ q₀ i₀ table q i = n - i
 
 pub loop-i-init : goal.loop-i-init
 loop-i-init c = ((let z : 0 ≤ c.args.n = omega arith in z), sum_none (lists_length c.args.nodes.now), writing_start refl (omega arith) refl)

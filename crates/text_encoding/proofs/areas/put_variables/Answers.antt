@@ -1,19 +1,11 @@
-use Prim.Native.Nat.{◌+◌, ◌*◌, ◌-◌, ◌≤◌}
+use Prim.Native.Nat.{◌≤◌}
 use mathlib.Core.Path.{◌≡◌, refl}
 use native.Mathlib.Omega.{arith}
-use Rattle.table_layout.specs.Places.{variables_at}
-use Rattle.text_encoding.specs.Numbers.{binds_one, binders_before}
-use Rattle.text_encoding.specs.Encoded.{variable_words}
+use Rattle.text_encoding.specs.Numbers.{binds_one}
 use Rattle.text_encoding.proofs.Sums.{sum_none, sum_next}
 use Rattle.text_encoding.proofs.Sizes.{variable_length}
-use Rattle.text_encoding.proofs.Writing.{Writing, writing_start, writing_turn, writing_end, one_less}
+use Rattle.text_encoding.proofs.Writing.{writing_start, writing_turn, writing_end, one_less}
 use Rattle.text_encoding.proofs.areas.put_variables.Goals as goal
-
-abbrev invariant-loop : tie.invariant-loop
-invariant-loop text nodes n table₀ x₀ i₀ table x i = (i ≤ n) × (x ≡ binders_before nodes i) × Writing table₀ variables_at n 0 (variable_words text nodes) table (variables_at + 4 * x) (n - i) i
-
-abbrev decreases-loop : tie.decreases-loop
-decreases-loop text nodes n table₀ x₀ i₀ table x i = n - i
 
 pub loop-i-init : goal.loop-i-init
 loop-i-init c = ((let z : 0 ≤ c.args.n = omega arith in z), sum_none (binds_one c.args.nodes.now), writing_start refl (omega arith) refl)

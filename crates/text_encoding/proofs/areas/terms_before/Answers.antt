@@ -1,15 +1,9 @@
-use Prim.Native.Nat.{◌+◌, ◌-◌, ◌≤◌}
+use Prim.Native.Nat.{◌+◌, ◌≤◌}
 use mathlib.Core.Path.{◌≡◌, ap, ap₂, ◌∙◌}
 use native.Mathlib.Omega.{arith}
 use Rattle.text_encoding.specs.Numbers.{lists_length, condition_start}
 use Rattle.text_encoding.proofs.Sums.{sum_none, sum_turn, sum_holds}
 use Rattle.text_encoding.proofs.areas.terms_before.Goals as goal
-
-abbrev invariant-loop : tie.invariant-loop
-invariant-loop nodes n q₀ i₀ q i = (q ≡ condition_start nodes i) × (i ≤ n)
-
-abbrev decreases-loop : tie.decreases-loop
-decreases-loop nodes n q₀ i₀ q i = n - i
 
 pub loop-i-init : goal.loop-i-init
 loop-i-init c = (sum_none (lists_length c.args.nodes.now), (let z : 0 ≤ c.args.n = omega arith in z))

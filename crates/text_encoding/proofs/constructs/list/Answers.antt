@@ -1,16 +1,8 @@
-use Prim.Native.Nat.{◌+◌, ◌*◌, ◌-◌, ◌≤◌}
+use Prim.Native.Nat.{◌+◌, ◌≤◌}
 use native.Mathlib.Omega.{arith}
-use Rattle.table_layout.specs.Places.{terms_at}
-use Rattle.text_encoding.specs.Encoded.{term_words}
 use Rattle.text_encoding.proofs.Sizes.{term_length}
-use Rattle.text_encoding.proofs.Writing.{Writing, writing_start, writing_turn, writing_end, one_less}
+use Rattle.text_encoding.proofs.Writing.{writing_start, writing_turn, writing_end, one_less}
 use Rattle.text_encoding.proofs.constructs.list.Goals as goal
-
-abbrev invariant-loop : tie.invariant-loop
-invariant-loop text nodes terms a i t n q table₀ j₀ table j = (j ≤ n) × Writing table₀ (terms_at + 3 * q) n t (term_words text nodes terms a i) table (terms_at + 3 * (q + j)) (n - j) (t + j)
-
-abbrev decreases-loop : tie.decreases-loop
-decreases-loop text nodes terms a i t n q table₀ j₀ table j = n - j
 
 pub loop-j-init : goal.loop-j-init
 loop-j-init c = ((let z : 0 ≤ c.args.n = omega arith in z), writing_start (omega arith) (omega arith) (omega arith))

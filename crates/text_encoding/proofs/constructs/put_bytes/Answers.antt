@@ -1,17 +1,11 @@
-use Prim.Native.Nat.{ℕ, ◌+◌, ◌*◌, ◌-◌, ◌≤◌}
+use Prim.Native.Nat.{ℕ, ◌+◌, ◌≤◌}
 use mathlib.Core.Path.{refl, ap, ◌∙◌}
 use mathlib.Core.List.{[], ◌∷◌}
 use native.Mathlib.Omega.{arith}
 use Rattle.text_encoding.specs.Lists.{written}
 use Rattle.text_encoding.specs.Encoded.{packed}
-use Rattle.text_encoding.proofs.Writing.{Writing, writing_start, writing_turn, writing_end, one_less}
+use Rattle.text_encoding.proofs.Writing.{writing_start, writing_turn, writing_end, one_less}
 use Rattle.text_encoding.proofs.constructs.put_bytes.Goals as goal
-
-abbrev invariant-loop : tie.invariant-loop
-invariant-loop bytes k table₀ j₀ table j = (j ≤ 8) × Writing table₀ k 8 0 (λ (m : ℕ). packed bytes (4 * m) ∷ []) table (k + j) (8 - j) j
-
-abbrev decreases-loop : tie.decreases-loop
-decreases-loop bytes k table₀ j₀ table j = 8 - j
 
 pub loop-j-init : goal.loop-j-init
 loop-j-init c = ((let z : 0 ≤ 8 = omega arith in z), writing_start (omega arith) refl refl)

@@ -1,16 +1,9 @@
-use Prim.Native.Nat.{◌-◌}
 use mathlib.Core.Path.{refl}
 use native.Mathlib.Omega.{arith}
 use Rattle.text_names.specs.Names.{binds}
 use Rattle.text_encoding.proofs.Writing.{one_less}
-use Rattle.text_encoding.proofs.Sums.{Seeking, seeking_start, seeking_hit, seeking_miss, seeking_end}
+use Rattle.text_encoding.proofs.Sums.{seeking_start, seeking_hit, seeking_miss, seeking_end}
 use Rattle.text_encoding.proofs.numbers.binder_of.Goals as goal
-
-abbrev invariant-loop : tie.invariant-loop
-invariant-loop text nodes a i p j₀ j = Seeking (i - a) a (binds text nodes p) (i - j) j
-
-abbrev decreases-loop : tie.decreases-loop
-decreases-loop text nodes a i p j₀ j = i - j
 
 pub loop-j-init : goal.loop-j-init
 loop-j-init c = seeking_start refl refl

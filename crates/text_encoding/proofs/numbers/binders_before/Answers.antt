@@ -1,15 +1,9 @@
-use Prim.Native.Nat.{◌-◌, ◌≤◌}
+use Prim.Native.Nat.{◌≤◌}
 use mathlib.Core.Path.{◌≡◌, ap, ◌∙◌}
 use native.Mathlib.Omega.{arith}
 use Rattle.text_encoding.specs.Numbers.{binds_one, binders_before}
 use Rattle.text_encoding.proofs.Sums.{sum_none, sum_turn}
 use Rattle.text_encoding.proofs.numbers.binders_before.Goals as goal
-
-abbrev invariant-loop : tie.invariant-loop
-invariant-loop nodes i n₀ j₀ n j = (n ≡ binders_before nodes j) × (n ≤ j) × (j ≤ i)
-
-abbrev decreases-loop : tie.decreases-loop
-decreases-loop nodes i n₀ j₀ n j = i - j
 
 pub loop-j-init : goal.loop-j-init
 loop-j-init c = (sum_none (binds_one c.args.nodes.now), (let z : 0 ≤ 0 = omega arith in z), (let z : 0 ≤ c.args.i = omega arith in z))

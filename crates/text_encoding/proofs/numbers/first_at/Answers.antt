@@ -2,15 +2,8 @@ use Prim.Native.Nat.{◌-◌}
 use mathlib.Core.Path.{◌≡◌, ◌∙◌}
 use native.Mathlib.Omega.{arith}
 use borrow.Author.Rules.{rules}
-use Rattle.text_encoding.specs.Numbers.{first_at}
 use Rattle.text_encoding.proofs.Sums.{first_at_here, first_at_before, first_at_none}
 use Rattle.text_encoding.proofs.numbers.first_at.Goals as goal
-
-abbrev invariant-loop : tie.invariant-loop
-invariant-loop rules count i k₀ k = first_at rules k i ≡ first_at rules count i
-
-abbrev decreases-loop : tie.decreases-loop
-decreases-loop rules count i k₀ k = k
 
 pub returns-then-first-i : goal.returns-then-first-i
 returns-then-first-i c = (first_at_here c.args.rules.now c.loop-k.k (c.loop-k.k - 1) c.args.i c.rule_word-first.result (omega arith) c.rule_word-first.ensures c.if-first-i.true ∙ c.loop-k.invariant, c.if-first-i.true)

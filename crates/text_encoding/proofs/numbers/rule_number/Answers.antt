@@ -1,18 +1,10 @@
-use Prim.Native.Nat.{ℕ, ◌-◌}
+use Prim.Native.Nat.{ℕ}
 use mathlib.Core.Path.{refl, ap, ◌∙◌}
 use native.Mathlib.Omega.{arith}
-use borrow.Author.Rules.{rules}
-use Rattle.text_store.specs.Words.{named_at}
 use Rattle.text_names.specs.Names.{same_name}
 use Rattle.text_encoding.proofs.Writing.{one_less}
-use Rattle.text_encoding.proofs.Sums.{Seeking, seeking_start, seeking_hit, seeking_miss, seeking_end}
+use Rattle.text_encoding.proofs.Sums.{seeking_start, seeking_hit, seeking_miss, seeking_end}
 use Rattle.text_encoding.proofs.numbers.rule_number.Goals as goal
-
-abbrev invariant-loop : tie.invariant-loop
-invariant-loop text rules count p j₀ j = Seeking count 0 (λ (k : ℕ). same_name text (named_at rules k) p) (count - j) j
-
-abbrev decreases-loop : tie.decreases-loop
-decreases-loop text rules count p j₀ j = count - j
 
 pub loop-j-init : goal.loop-j-init
 loop-j-init c = seeking_start (omega arith) refl

@@ -1,22 +1,12 @@
-use Rattle.text_parsing.specs.Symbols.{factors}
-use Rattle.text_parsing.specs.Cursors.{left}
 use Rattle.text_parsing.proofs.Steps.{then}
-use Rattle.text_parsing.proofs.Loops.{Still, still_start, turn_falls}
+use Rattle.text_parsing.proofs.Loops.{still_start, turn_falls}
 use Rattle.text_formulas.proofs.Calculating.{factors_turn, factors_end}
-use Prim.Native.Nat.{ℕ}
-use mathlib.Core.List.{List, [], ◌∷◌}
+use mathlib.Core.List.{[], ◌∷◌}
 use mathlib.Core.Path.{refl}
-use Rattle.text_formulas.proofs.calculations.factors.Reads as reads
 use Rattle.text_formulas.proofs.calculations.operand.Reads as operand-reads
 use Rattle.text_parsing.proofs.reading.passed.Reads as Passed-reads
 use Rattle.text_parsing.proofs.words.add_sign.Reads as add-sign-reads
 use Rattle.text_formulas.proofs.calculations.factors.Goals as goal
-
-abbrev invariant-loop : tie.invariant-loop
-invariant-loop text o terms₀ c₀ terms c = (ns : List ℕ) → Still text (factors o ∷ []) c₀ ns terms₀ c ns terms
-
-abbrev decreases-loop : tie.decreases-loop
-decreases-loop text o terms₀ c₀ terms c = left text c
 
 -- src/calculations.rt:41:5
 pub loop-c-init : goal.loop-c-init

@@ -1,5 +1,4 @@
 use borrow.Author.Tests.{ne_eqb}
-use Rattle.text_formulas.proofs.calculations.sum_tag.Reads as reads
 use Rattle.text_formulas.proofs.calculations.sum_tag.Goals as goal
 
 -- src/calculations.rt:50:1

@@ -1,24 +1,15 @@
-use Rattle.text_parsing.specs.Symbols.{summands}
-use Rattle.text_parsing.specs.Cursors.{left}
 use Rattle.text_parsing.proofs.Steps.{then}
-use Rattle.text_parsing.proofs.Loops.{Still, still_start, turn_falls}
+use Rattle.text_parsing.proofs.Loops.{still_start, turn_falls}
 use Rattle.text_formulas.proofs.Calculating.{sum_live, summands_turn, summands_end}
 use Prim.Native.Nat.{ℕ, ◌<◌}
-use mathlib.Core.List.{List, [], ◌∷◌}
+use mathlib.Core.List.{[], ◌∷◌}
 use mathlib.Core.Path.{sym, subst, ◌∙◌}
-use Rattle.text_formulas.proofs.calculations.summands.Reads as reads
 use Rattle.text_formulas.proofs.calculations.factors.Reads as factors-reads
 use Rattle.text_formulas.proofs.calculations.operand.Reads as operand-reads
 use Rattle.text_formulas.proofs.calculations.sum_tag.Reads as sum-tag-reads
 use Rattle.text_parsing.proofs.reading.passed.Reads as Passed-reads
 use Rattle.text_parsing.proofs.words.add_sign.Reads as add-sign-reads
 use Rattle.text_formulas.proofs.calculations.summands.Goals as goal
-
-abbrev invariant-loop : tie.invariant-loop
-invariant-loop text o terms₀ c₀ terms c = (ns : List ℕ) → Still text (summands o ∷ []) c₀ ns terms₀ c ns terms
-
-abbrev decreases-loop : tie.decreases-loop
-decreases-loop text o terms₀ c₀ terms c = left text c
 
 -- src/calculations.rt:64:5
 pub loop-tag-init : goal.loop-tag-init

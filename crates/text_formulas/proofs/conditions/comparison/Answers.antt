@@ -1,5 +1,4 @@
 use Rattle.text_formulas.proofs.Testing.{comparison_reads, comparison_fault}
-use Rattle.text_formulas.proofs.conditions.comparison.Reads as reads
 use Rattle.text_formulas.proofs.calculations.calculation.Reads as calculation_reads
 use Rattle.text_formulas.proofs.conditions.comparison_tag.Reads as comparison-tag-reads
 use Rattle.text_parsing.proofs.reading.failed.Reads as failed-reads

@@ -1,5 +1,4 @@
 use borrow.Author.Tests.{ne_eqb}
-use Rattle.text_formulas.proofs.conditions.comparison_tag.Reads as reads
 use Rattle.text_formulas.proofs.conditions.comparison_tag.Goals as goal
 
 -- src/conditions.rt:17:1

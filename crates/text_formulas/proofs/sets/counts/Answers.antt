@@ -1,5 +1,4 @@
 use Rattle.text_formulas.proofs.Choosing.{counts_closed, counts_open}
-use Rattle.text_formulas.proofs.sets.counts.Reads as reads
 use Rattle.text_formulas.proofs.calculations.calculation.Reads as calculation_reads
 use Rattle.text_formulas.proofs.sets.counts_tail.Reads as counts-tail-reads
 use Rattle.text_parsing.proofs.reading.passed.Reads as Passed-reads

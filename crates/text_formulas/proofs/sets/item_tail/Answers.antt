@@ -1,5 +1,4 @@
 use Rattle.text_formulas.proofs.Choosing.{tail_range, tail_single}
-use Rattle.text_formulas.proofs.sets.item_tail.Reads as reads
 use Rattle.text_formulas.proofs.sets.bound.Reads as bound_reads
 use Rattle.text_parsing.proofs.reading.passed.Reads as Passed-reads
 use Rattle.text_store.proofs.stores.mark_single.Reads as mark-single-reads

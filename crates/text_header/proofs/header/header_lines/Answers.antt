@@ -1,19 +1,13 @@
-use Prim.Native.Nat.{ℕ, ◌-◌, ◌≤◌, ◌<◌}
+use Prim.Native.Nat.{ℕ, ◌-◌, ◌<◌}
 use mathlib.Core.Path.{◌≡◌, refl, sym, ap, ◌∙◌}
 use mathlib.Core.Bool.{true, false}
 use native.Mathlib.Omega.{arith}
 use lib.ListN.{length, take, drop}
-use Rattle.text_header.specs.Header.{content, lines, is_header_line, header_lines_of}
+use Rattle.text_header.specs.Header.{content, is_header_line}
 use Rattle.text_header.specs.declared.Class.{Class}
 use Rattle.text_header.proofs.Runs.{span_grows}
 use Rattle.text_header.proofs.Lines.{line_end, line_at, header_empty, header_wrong, header_turn, header_unended}
 use Rattle.text_header.proofs.header.header_lines.Goals as goal
-
-abbrev invariant-loop : tie.invariant-loop
-invariant-loop text from at₀ at = (at ≤ length text) × (header_lines_of at (lines (drop at text)) ≡ header_lines_of from (lines (drop from text)))
-
-abbrev decreases-loop : tie.decreases-loop
-decreases-loop text from at₀ at = length text - at
 
 pub loop-at-init : goal.loop-at-init
 loop-at-init c = (c.requires, refl)

@@ -1,19 +1,10 @@
-use Prim.Native.Nat.{◌-◌}
 use mathlib.Core.Path.{◌≡◌, sym, ◌∙◌}
 use borrow.Author.Tests.{eq-eqb, ne_eqb}
-use lib.ListN.{length, drop}
-use Rattle.text_header.specs.Spans.{starts}
 use Rattle.text_header.proofs.Runs.{starts_turn, starts_stop, starts_short, starts_end}
 use mathlib.Core.Bool.{cond}
 use lib.ListN.{get_or}
 use Rattle.text_header.specs.Bytes.{lower_case}
 use Rattle.text_header.proofs.spans.begins.Goals as goal
-
-abbrev invariant-loop : tie.invariant-loop
-invariant-loop folded word text k₀ k = starts folded (drop k word) (drop k text) ≡ starts folded word text
-
-abbrev decreases-loop : tie.decreases-loop
-decreases-loop folded word text k₀ k = length word - k
 
 pub returns-then-text-k : goal.returns-then-text-k
 returns-then-text-k c = sym (starts_short c.args.folded c.args.word.now c.args.text.now c.loop-k.k c.loop-k-test.true c.if-text-k.true) ∙ c.loop-k.invariant

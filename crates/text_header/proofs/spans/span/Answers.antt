@@ -1,15 +1,6 @@
-use Prim.Native.Nat.{◌-◌}
 use mathlib.Core.Path.{◌≡◌, sym, ◌∙◌}
-use lib.ListN.{length, drop}
-use Rattle.text_header.specs.Spans.{span_end}
 use Rattle.text_header.proofs.Runs.{span_turn, span_stop, span_out}
 use Rattle.text_header.proofs.spans.span.Goals as goal
-
-abbrev invariant-loop : tie.invariant-loop
-invariant-loop class text at i₀ i = span_end class i (drop i text) ≡ span_end class at (drop at text)
-
-abbrev decreases-loop : tie.decreases-loop
-decreases-loop class text at i₀ i = length text - i
 
 pub loop-i-preserved : goal.loop-i-preserved
 loop-i-preserved c = sym (span_turn c.args.class c.args.text.now _ c.loop-i-test.true (sym c.member.ensures ∙ c.if-member.true)) ∙ c.loop-i.invariant

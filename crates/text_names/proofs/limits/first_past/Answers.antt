@@ -1,14 +1,5 @@
-use Prim.Native.Nat.{◌-◌}
-use borrow.Author.Rules.{rules}
-use Rattle.text_names.specs.Limits.{limit_place}
-use Rattle.text_names.proofs.Loops.{Least, least_start, least_turn, least_end}
+use Rattle.text_names.proofs.Loops.{least_start, least_turn, least_end}
 use Rattle.text_names.proofs.limits.first_past.Goals as goal
-
-abbrev invariant-loop : tie.invariant-loop
-invariant-loop rules count least₀ k₀ least k = Least 0 count (limit_place rules) least k
-
-abbrev decreases-loop : tie.decreases-loop
-decreases-loop rules count least₀ k₀ least k = count - k
 
 pub loop-k-init : goal.loop-k-init
 loop-k-init c = least_start

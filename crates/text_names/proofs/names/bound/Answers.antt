@@ -1,13 +1,6 @@
-use Prim.Native.Nat.{◌-◌}
 use Rattle.text_names.specs.Names.{binds}
-use Rattle.text_names.proofs.Loops.{NoneYet, any_start, any_hit, any_miss, any_end}
+use Rattle.text_names.proofs.Loops.{any_start, any_hit, any_miss, any_end}
 use Rattle.text_names.proofs.names.bound.Goals as goal
-
-abbrev invariant-loop : tie.invariant-loop
-invariant-loop text nodes a e p j₀ j = NoneYet a e (binds text nodes p) j
-
-abbrev decreases-loop : tie.decreases-loop
-decreases-loop text nodes a e p j₀ j = e - j
 
 pub loop-j-init : goal.loop-j-init
 loop-j-init c = any_start

@@ -1,13 +1,6 @@
-use Prim.Native.Nat.{◌-◌}
 use Rattle.text_names.specs.Names.{held}
-use Rattle.text_names.proofs.Loops.{NoneYet, any_start, any_hit, any_miss, any_end}
+use Rattle.text_names.proofs.Loops.{any_start, any_hit, any_miss, any_end}
 use Rattle.text_names.proofs.names.held_between.Goals as goal
-
-abbrev invariant-loop : tie.invariant-loop
-invariant-loop nodes a i j₀ j = NoneYet a i (held nodes a i) j
-
-abbrev decreases-loop : tie.decreases-loop
-decreases-loop nodes a i j₀ j = i - j
 
 pub loop-j-init : goal.loop-j-init
 loop-j-init c = any_start

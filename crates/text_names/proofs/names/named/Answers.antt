@@ -1,16 +1,8 @@
-use Prim.Native.Nat.{◌-◌, ℕ}
+use Prim.Native.Nat.{ℕ}
 use mathlib.Core.Path.{ap, ◌∙◌}
-use borrow.Author.Rules.{rules}
 use Rattle.text_names.specs.Names.{same_name}
-use Rattle.text_store.specs.Words.{named_at}
-use Rattle.text_names.proofs.Loops.{NoneYet, any_start, any_hit, any_miss, any_end}
+use Rattle.text_names.proofs.Loops.{any_start, any_hit, any_miss, any_end}
 use Rattle.text_names.proofs.names.named.Goals as goal
-
-abbrev invariant-loop : tie.invariant-loop
-invariant-loop text rules count p j₀ j = NoneYet 0 count (λ (j : ℕ). same_name text (named_at rules j) p) j
-
-abbrev decreases-loop : tie.decreases-loop
-decreases-loop text rules count p j₀ j = count - j
 
 pub loop-j-init : goal.loop-j-init
 loop-j-init c = any_start

@@ -1,13 +1,6 @@
-use Prim.Native.Nat.{◌-◌}
 use Rattle.text_names.specs.Names.{term_place}
-use Rattle.text_names.proofs.Loops.{Least, least_start, least_turn, least_end}
+use Rattle.text_names.proofs.Loops.{least_start, least_turn, least_end}
 use Rattle.text_names.proofs.places.list_place.Goals as goal
-
-abbrev invariant-loop : tie.invariant-loop
-invariant-loop text nodes terms a i f g least₀ t₀ least t = Least f g (term_place text nodes terms a i) least t
-
-abbrev decreases-loop : tie.decreases-loop
-decreases-loop text nodes terms a i f g least₀ t₀ least t = g - t
 
 pub loop-t-init : goal.loop-t-init
 loop-t-init c = least_start

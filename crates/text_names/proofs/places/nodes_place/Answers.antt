@@ -1,14 +1,6 @@
-use Prim.Native.Nat.{◌-◌}
-use borrow.Author.Rules.{rules}
 use Rattle.text_names.specs.Names.{node_place}
-use Rattle.text_names.proofs.Loops.{Least, least_start, least_turn, least_end}
+use Rattle.text_names.proofs.Loops.{least_start, least_turn, least_end}
 use Rattle.text_names.proofs.places.nodes_place.Goals as goal
-
-abbrev invariant-loop : tie.invariant-loop
-invariant-loop text nodes terms rules count a e least₀ i₀ least i = Least a e (node_place text nodes terms rules count a e) least i
-
-abbrev decreases-loop : tie.decreases-loop
-decreases-loop text nodes terms rules count a e least₀ i₀ least i = e - i
 
 pub loop-i-init : goal.loop-i-init
 loop-i-init c = least_start

@@ -1,6 +1,5 @@
 use Rattle.text_parsing.specs.Terminals.{code_of}
 use mathlib.Core.Path.{sym, ap}
-use Rattle.text_parsing.proofs.terminals.code.Reads as reads
 use Rattle.text_parsing.proofs.terminals.code.Goals as goal
 
 -- src/terminals.rt:14:1

@@ -1,5 +1,4 @@
 use borrow.Author.Tests.{le-leb, lt-leb}
-use Rattle.text_store.proofs.stores.counted.Reads as reads
 use Rattle.text_store.proofs.stores.counted.Goals as goal
 
 -- src/words.rt:15:9

@@ -1,22 +1,14 @@
 use Rattle.text_store.specs.Words.{nodes_room}
 use Rattle.basis.specs.Limits.{max_constructs}
-use Rattle.text_store.specs.Store.{room}
 use Rattle.text_store.proofs.Rooms.{moved, moved_turn, moved_room}
 use native.Mathlib.Omega.{arith}
-use Prim.Native.Nat.{ℕ, ◌+◌, ◌*◌, ◌-◌, ◌≤◌, ◌<◌}
+use Prim.Native.Nat.{ℕ, ◌+◌, ◌*◌, ◌-◌, ◌<◌}
 use mathlib.Core.Path.{◌≡◌, sym, ap, ◌∙◌}
-use Rattle.text_store.proofs.stores.make_room.Reads as reads
 use Rattle.text_store.proofs.stores.make_room.Goals as goal
-
-abbrev invariant-loop : tie.invariant-loop
-invariant-loop i nodes₀ k₀ nodes k = (10 * i + 10 ≤ k) × (k ≤ nodes_room) × (moved (k - (10 * i + 10)) nodes (10 * i) ≡ room nodes₀ i)
-
-abbrev decreases-loop : tie.decreases-loop
-decreases-loop i nodes₀ k₀ nodes k = k
 
 -- src/words.rt:107:5
 pub loop-k-init : goal.loop-k-init
-loop-k-init c = (omega arith, omega arith, ap (λ (n : ℕ). moved n (c).args.nodes.now (10 * (c).args.i)) (let z : nodes_room - (10 * (c).args.i + 10) ≡ nodes_room - 10 - 10 * (c).args.i = omega arith in z) ∙ moved_room (c).args.nodes.now (c).args.i (let z : (c).args.i < max_constructs = omega arith in z))
+loop-k-init c = (omega arith, omega arith, ap (λ (n : ℕ). moved n c.args.nodes.now (10 * c.args.i)) (let z : nodes_room - (10 * c.args.i + 10) ≡ nodes_room - 10 - 10 * c.args.i = omega arith in z) ∙ moved_room c.args.nodes.now c.args.i (let z : c.args.i < max_constructs = omega arith in z))
 
 -- src/words.rt:107:5
 pub loop-k-preserved : goal.loop-k-preserved

@@ -1,5 +1,4 @@
 use borrow.Author.Tests.{lt-ltb, le-ltb}
-use Rattle.text_store.proofs.stores.marked_tag.Reads as reads
 use Rattle.text_store.proofs.stores.marked_tag.Goals as goal
 
 -- src/words.rt:81:9

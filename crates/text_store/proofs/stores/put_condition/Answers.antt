@@ -1,7 +1,6 @@
 use Rattle.basis.specs.Limits.{max_constructs}
 use Rattle.text_store.specs.Store.{put_condition}
 use borrow.Author.Tests.{lt-ltb, le-ltb}
-use Rattle.text_store.proofs.stores.put_condition.Reads as reads
 use Rattle.text_store.proofs.stores.put_condition.Goals as goal
 
 -- src/words.rt:205:9

@@ -1,7 +1,6 @@
 use Rattle.text_store.specs.Words.{rules_kept}
 use Rattle.text_store.specs.Store.{put_rule}
 use borrow.Author.Tests.{lt-ltb, le-ltb}
-use Rattle.text_store.proofs.stores.put_rule.Reads as reads
 use Rattle.text_store.proofs.stores.put_rule.Goals as goal
 
 -- src/words.rt:238:9

@@ -1,7 +1,6 @@
 use Rattle.basis.specs.Limits.{max_terms}
 use Rattle.text_store.specs.Store.{put_term}
 use borrow.Author.Tests.{lt-ltb, le-ltb}
-use Rattle.text_store.proofs.stores.put_term.Reads as reads
 use Rattle.text_store.proofs.stores.put_term.Goals as goal
 
 -- src/words.rt:31:9

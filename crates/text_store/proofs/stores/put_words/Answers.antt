@@ -1,6 +1,5 @@
 use Rattle.text_store.specs.Store.{put_words}
 use mathlib.Core.Path.{refl}
-use Rattle.text_store.proofs.stores.put_words.Reads as reads
 use Rattle.text_store.proofs.stores.put_words.Goals as goal
 
 -- src/words.rt:123:1

@@ -1,5 +1,4 @@
 use borrow.Author.Tests.{ne_eqb}
-use Rattle.text_syntax.proofs.expressions.further.Reads as reads
 use Rattle.text_syntax.proofs.expressions.further.Goals as goal
 
 -- src/expressions.rt:134:1

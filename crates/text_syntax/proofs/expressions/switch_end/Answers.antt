@@ -1,5 +1,4 @@
 use Rattle.text_syntax.proofs.Chains.{switch_ends, switch_end_fault}
-use Rattle.text_syntax.proofs.expressions.switch_end.Reads as reads
 use Rattle.text_parsing.proofs.reading.failed.Reads as failed-reads
 use Rattle.text_parsing.proofs.reading.passed.Reads as Passed-reads
 use Rattle.text_parsing.proofs.words.insert_node.Reads as insert-node-reads

@@ -1,6 +1,5 @@
 use Rattle.text_syntax.proofs.Atoms.{bound_reads, bound_fault}
 use mathlib.Core.Path.{sym, ◌∙◌}
-use Rattle.text_syntax.proofs.fields.bound_name.Reads as reads
 use Rattle.text_formulas.proofs.sets.value_set.Reads as value-set-reads
 use Rattle.text_parsing.proofs.reading.failed.Reads as failed-reads
 use Rattle.text_parsing.proofs.reading.name.Reads as name-reads

@@ -1,5 +1,4 @@
 use Rattle.text_syntax.proofs.Chains.{chained_many, chained_one}
-use Rattle.text_syntax.proofs.fields.chained.Reads as reads
 use Rattle.text_parsing.proofs.words.insert_node.Reads as insert-node-reads
 use Rattle.text_syntax.proofs.fields.chained.Goals as goal
 

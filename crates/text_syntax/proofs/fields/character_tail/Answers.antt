@@ -1,5 +1,4 @@
 use Rattle.text_syntax.proofs.Atoms.{range_reads, character_reads}
-use Rattle.text_syntax.proofs.fields.character_tail.Reads as reads
 use Rattle.text_parsing.proofs.reading.passed.Reads as Passed-reads
 use Rattle.text_syntax.proofs.fields.last_character.Reads as last-character-reads
 use Rattle.text_syntax.proofs.fields.leaf.Reads as leaf-reads

@@ -1,5 +1,4 @@
 use Rattle.text_syntax.proofs.Atoms.{field_reads}
-use Rattle.text_syntax.proofs.fields.field.Reads as reads
 use Rattle.text_parsing.proofs.reading.open.Reads as open-reads
 use Rattle.text_parsing.proofs.reading.want.Reads as want_reads
 use Rattle.text_syntax.proofs.fields.field_set.Reads as field-set-reads

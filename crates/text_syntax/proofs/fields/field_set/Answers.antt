@@ -1,5 +1,4 @@
 use Rattle.text_syntax.proofs.Atoms.{set_binds, set_plain}
-use Rattle.text_syntax.proofs.fields.field_set.Reads as reads
 use Rattle.text_formulas.proofs.sets.value_set.Reads as value-set-reads
 use Rattle.text_parsing.proofs.reading.open.Reads as open-reads
 use Rattle.text_parsing.proofs.reading.passed.Reads as Passed-reads

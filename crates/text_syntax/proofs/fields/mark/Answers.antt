@@ -1,5 +1,4 @@
 use Rattle.text_syntax.proofs.Atoms.{mark_counts, mark_counts_fault, mark_none, mark_sign}
-use Rattle.text_syntax.proofs.fields.mark.Reads as reads
 use Rattle.text_formulas.proofs.sets.counts.Reads as counts-reads
 use Rattle.text_parsing.proofs.reading.failed.Reads as failed-reads
 use Rattle.text_parsing.proofs.reading.passed.Reads as Passed-reads

@@ -1,5 +1,4 @@
 use borrow.Author.Tests.{ne_eqb}
-use Rattle.text_syntax.proofs.fields.mark_of.Reads as reads
 use Rattle.text_syntax.proofs.fields.mark_of.Goals as goal
 
 -- src/fields.rt:168:1

@@ -1,5 +1,4 @@
 use borrow.Author.Tests.{ne_eqb}
-use Rattle.text_syntax.proofs.fields.outside.Reads as reads
 use Rattle.text_syntax.proofs.fields.outside.Goals as goal
 
 -- src/fields.rt:74:9

@@ -1,19 +1,10 @@
-use Rattle.text_syntax.proofs.Ruling.{Begun, begin, turn}
+use Rattle.text_syntax.proofs.Ruling.{begin, turn}
 use mathlib.Core.Path.{refl, sym, ◌∙◌}
-use borrow.Author.Rules.{rules}
-use Rattle.text_parsing.specs.Cursors.{left}
-use Rattle.text_syntax.proofs.rules.read.Reads as reads
 use Rattle.text_parsing.proofs.reading.first.Reads as first_reads
 use Rattle.text_parsing.proofs.reading.name.Reads as name-reads
 use Rattle.text_syntax.proofs.rules.rule.Reads as rule_reads
 use Rattle.text_syntax.proofs.rules.text_end.Reads as text-end-reads
 use Rattle.text_syntax.proofs.rules.read.Goals as goal
-
-abbrev invariant-loop : tie.invariant-loop
-invariant-loop text nodes₀ terms₀ rules₀ c₀ any₀ nodes terms rules c any = Begun text nodes₀ terms₀ rules₀ any c nodes terms rules
-
-abbrev decreases-loop : tie.decreases-loop
-decreases-loop text nodes₀ terms₀ rules₀ c₀ any₀ nodes terms rules c any = left text c
 
 -- src/rules.rt:70:5
 pub loop-any-init : goal.loop-any-init

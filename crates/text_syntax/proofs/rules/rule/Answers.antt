@@ -1,5 +1,4 @@
 use Rattle.text_syntax.proofs.Ruling.{rule_reads}
-use Rattle.text_syntax.proofs.rules.rule.Reads as reads
 use Rattle.text_parsing.proofs.reading.passed.Reads as Passed-reads
 use Rattle.text_parsing.proofs.reading.want.Reads as want_reads
 use Rattle.text_syntax.proofs.expressions.expression.Reads as expression_reads

@@ -1,22 +1,14 @@
-use Prim.Native.Nat.{ℕ, ◌+◌, ◌-◌, ◌≤◌, ◌<◌}
+use Prim.Native.Nat.{ℕ, ◌-◌, ◌<◌}
 use mathlib.Core.Path.{◌≡◌, refl, sym, ap, ◌∙◌}
 use mathlib.Core.Bool.{true, false}
 use native.Mathlib.Omega.{arith}
 use lib.ListN.{length, take, drop}
 use Rattle.text_header.specs.Spans.{is_word}
-use Rattle.text_header.specs.Header.{lines}
 use Rattle.text_header.specs.declared.Class.{Class}
 use Rattle.text_header.proofs.Runs.{span_grows}
 use Rattle.text_header.proofs.Lines.{line_end, line_at}
-use Rattle.text_tokens.specs.Names.{word_number}
 use Rattle.text_tokens.proofs.Worded.{word_here, word_later, word_out}
 use Rattle.text_tokens.proofs.names.number_in.Goals as goal
-
-abbrev invariant-loop : tie.invariant-loop
-invariant-loop words name at₀ k₀ at k = (at ≤ length words) × (k ≤ at + 1) × (word_number k (lines (drop at words)) name ≡ word_number 1 (lines words) name)
-
-abbrev decreases-loop : tie.decreases-loop
-decreases-loop words name at₀ k₀ at k = length words - at
 
 pub loop-at-init : goal.loop-at-init
 loop-at-init c = (omega arith, omega arith, refl)

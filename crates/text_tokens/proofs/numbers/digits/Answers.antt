@@ -1,19 +1,13 @@
-use Prim.Native.Nat.{ℕ, ◌+◌, ◌*◌, ◌-◌, ◌≤◌}
+use Prim.Native.Nat.{ℕ, ◌+◌, ◌*◌}
 use mathlib.Core.Path.{◌≡◌, refl, sym, ap, ap₂, ◌∙◌}
 use native.Mathlib.Omega.{arith}
 use borrow.Author.Tests.{lt-ltb, le-ltb}
 use lib.Dec.{ltb}
-use lib.ListN.{length, get_or, drop}
+use lib.ListN.{get_or}
 use Rattle.text_header.specs.Bytes.{digit_of}
-use Rattle.text_tokens.specs.Numbers.{digits_value, capped}
+use Rattle.text_tokens.specs.Numbers.{capped}
 use Rattle.text_tokens.proofs.Digits.{value_turn, value_stop, value_out}
 use Rattle.text_tokens.proofs.numbers.digits.Goals as goal
-
-abbrev invariant-loop : tie.invariant-loop
-invariant-loop radix text at v₀ i₀ v i = (v ≤ 4611686018427387905) × (capped (digits_value radix v (drop i text)) ≡ capped (digits_value radix 0 (drop at text)))
-
-abbrev decreases-loop : tie.decreases-loop
-decreases-loop radix text at v₀ i₀ v i = length text - i
 
 pub loop-i-init : goal.loop-i-init
 loop-i-init c = (omega arith, refl)
