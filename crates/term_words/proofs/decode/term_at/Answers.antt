@@ -1,11 +1,13 @@
-use borrow.Author.Tests.{lt-ltb, le-ltb}
+use Rattle.std.proofs.Common.{rules}
 use Rattle.term_words.specs.Words.{term_at}
 use Rattle.term_words.proofs.decode.term_at.Goals as goal
 
+-- src/decode.rt:66:9
 pub returns-then-at-words : goal.returns-then-at-words
 unfolding term_at
-returns-then-at-words c = simp (c.term.ensures, lt-ltb _ _ c.if-at-words.true)
+returns-then-at-words c = search rules
 
+-- src/decode.rt:61:1
 pub returns : goal.returns
 unfolding term_at
-returns c = simp (le-ltb _ _ c.if-at-words.false)
+returns c = search rules
