@@ -1,3 +1,4 @@
+
 use Rattle.lookahead.proofs.join.Goals as goal
 
 pub join_long-requires : goal.join_long-requires

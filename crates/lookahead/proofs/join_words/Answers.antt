@@ -1,15 +1,7 @@
 use borrow.Author.Rules.{rules}
-use Prim.Native.Nat.{◌≤◌, ◌-◌}
 use Rattle.lookahead.proofs.SetLaws.{filled_none, filled_more, cleared}
 use Rattle.lookahead.proofs.JoinLaws.{join_is}
-use Rattle.lookahead.specs.Inner.{Filled, JoinedWord}
 use Rattle.lookahead.proofs.join_words.Goals as goal
-
-abbrev invariant-loop : tie.invariant-loop
-invariant-loop x y p out₀ i₀ out i = Filled (JoinedWord x y p) i out × (i ≤ 8)
-
-abbrev decreases-loop : tie.decreases-loop
-decreases-loop x y p out₀ i₀ out i = 8 - i
 
 pub loop-i-init : goal.loop-i-init
 loop-i-init c = (filled_none _, search rules)

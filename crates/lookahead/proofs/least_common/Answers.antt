@@ -1,15 +1,8 @@
 use borrow.Author.Rules.{rules}
-use Prim.Native.Nat.{◌*◌, ◌≤◌, ◌-◌}
 use native.Mathlib.Omega.{arith}
 use Rattle.lookahead.proofs.SetLaws.{cleared}
-use Rattle.lookahead.proofs.LeastLaws.{Apart, apart_more, least_none, least_found}
+use Rattle.lookahead.proofs.LeastLaws.{apart_more, least_none, least_found}
 use Rattle.lookahead.proofs.least_common.Goals as goal
-
-abbrev invariant-loop : tie.invariant-loop
-invariant-loop x y i₀ i = Apart x y (64 * i) × (i ≤ 8)
-
-abbrev decreases-loop : tie.decreases-loop
-decreases-loop x y i₀ i = 8 - i
 
 pub loop-i-init : goal.loop-i-init
 loop-i-init c = ((λ n h. absurd (omega arith)), search rules)

@@ -1,17 +1,7 @@
 use borrow.Author.Rules.{rules}
-use Prim.Native.Nat.{◌≤◌, ◌-◌}
 use mathlib.Core.Path.{◌≡◌}
-use lib.ListN.{get_or}
-use lib.Bits.{bit_or}
 use Rattle.lookahead.proofs.SetLaws.{filled_none, filled_more, union_is}
-use Rattle.lookahead.specs.Inner.{Filled}
 use Rattle.lookahead.proofs.union.Goals as goal
-
-abbrev invariant-loop : tie.invariant-loop
-invariant-loop x y out₀ i₀ out i = Filled (λ k w. w ≡ bit_or (get_or x k 0) (get_or y k 0)) i out × (i ≤ 8)
-
-abbrev decreases-loop : tie.decreases-loop
-decreases-loop x y out₀ i₀ out i = 8 - i
 
 pub loop-i-init : goal.loop-i-init
 loop-i-init c = (filled_none _, search rules)

@@ -1,3 +1,4 @@
+
 use Rattle.table_conflicts.proofs.fixed.Goals as goal
 
 pub returns-in-Counted : goal.returns-in-Counted

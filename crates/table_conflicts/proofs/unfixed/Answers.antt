@@ -1,3 +1,4 @@
+
 use Rattle.table_conflicts.proofs.unfixed.Goals as goal
 
 pub returns-then-fixed : goal.returns-then-fixed

@@ -1,15 +1,8 @@
-use Prim.Native.Nat.{◌-◌, ◌≤◌}
 use mathlib.Core.Path.{◌≡◌, refl, subst}
 use native.Mathlib.Omega.{arith}
 use Rattle.table_fill.specs.Completed.{SetsWritten}
 use Rattle.table_fill.proofs.Writing.{none_written, one_written}
 use Rattle.table_fill.proofs.write_sets.Goals as goal
-
-abbrev invariant-loop : tie.invariant-loop
-invariant-loop table₀ follow prediction count i₀ table i = SetsWritten table₀ table follow prediction i × (i ≤ count)
-
-abbrev decreases-loop : tie.decreases-loop
-decreases-loop table₀ follow prediction count i₀ table i = count - i
 
 pub loop-i-init : goal.loop-i-init
 loop-i-init c = (none_written c.args.table.now c.args.follow.now c.args.prediction.now c.args.table.now refl, omega arith)
@@ -49,9 +42,6 @@ loop-i-smaller c = omega (arith, c.loop-i-test.true)
 
 pub loop-i-preserved : goal.loop-i-preserved
 loop-i-preserved c = let a = c.args in let l = c.loop-i in (one_written a.table.now a.follow.now a.prediction.now l.table c.put.new.0 c.put-in-loop-i.new.0 l.i c.load.result.words c.load-in-loop-i.result.words l.invariant.0 c.load.ensures c.load-in-loop-i.ensures c.put.ensures c.put-in-loop-i.ensures, omega (arith, c.loop-i-test.true))
-
-pub shape_of-table : goal.shape_of-table
-shape_of-table c = c.loop-i.invariant.0.same_length
 
 pub returns : goal.returns
 returns c = subst (SetsWritten c.args.table.now c.loop-i.table c.args.follow.now c.args.prediction.now) (let e : c.loop-i.i ≡ c.args.count = omega (arith, c.loop-i-test.false, c.loop-i.invariant.1) in e) c.loop-i.invariant.0

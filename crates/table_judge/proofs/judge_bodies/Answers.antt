@@ -1,21 +1,13 @@
-use Prim.Native.Nat.{ℕ, ◌-◌, ◌≤◌, ◌<◌}
 use mathlib.Core.Path.{sym, ◌∙◌}
 use mathlib.Core.Bool.{false≢true}
 use native.Mathlib.Omega.{arith}
 use borrow.Author.Count.{below_more}
-use Rattle.basis.specs.Limits.{max_constructs}
 use Rattle.theory.specs.Lookahead.{EmptyBody}
 use Rattle.table_layout.specs.Held.{held}
 use Rattle.table_structure.proofs.Facts.{facts}
 use Rattle.table_conflicts.proofs.Meaning.{empty_iff}
 use Rattle.table_judge.proofs.Judging.{least_of, passed9}
 use Rattle.table_judge.proofs.judge_bodies.Goals as goal
-
-abbrev invariant-loop : tie.invariant-loop
-invariant-loop table first follow prediction count i₀ i = ((j : ℕ) → j < i → EmptyBody (held table) j → ⊥) × (i ≤ count) × (count ≤ max_constructs)
-
-abbrev decreases-loop : tie.decreases-loop
-decreases-loop table first follow prediction count i₀ i = count - i
 
 pub loop-i-init : goal.loop-i-init
 loop-i-init c = let s = c. in ((λ j h. absurd (omega arith)), omega arith, omega (arith, c.word-count.ensures.0, (facts s.args.table.now s.requires.0.passed.laid_out).counts.constructs))

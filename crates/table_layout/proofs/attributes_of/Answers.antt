@@ -1,3 +1,4 @@
+
 use Rattle.table_layout.proofs.attributes_of.Goals as goal
 
 pub returns-in-Missing : goal.returns-in-Missing

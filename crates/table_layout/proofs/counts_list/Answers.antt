@@ -1,3 +1,4 @@
+
 use Rattle.table_layout.proofs.counts_list.Goals as goal
 
 pub returns-in-Counted : goal.returns-in-Counted

@@ -1,3 +1,4 @@
+
 use Rattle.table_sizes.proofs.list_sizes.Goals as goal
 
 pub returns-in-Counts : goal.returns-in-Counts

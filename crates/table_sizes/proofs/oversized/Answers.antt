@@ -1,3 +1,4 @@
+
 use Rattle.table_sizes.proofs.oversized.Goals as goal
 
 pub returns : goal.returns

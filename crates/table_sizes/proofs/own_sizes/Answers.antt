@@ -1,3 +1,4 @@
+
 use Rattle.table_sizes.proofs.own_sizes.Goals as goal
 
 pub returns : goal.returns

@@ -1,5 +1,5 @@
 use Rattle.table_sizes.specs.Measures.{LeastOf}
-use Prim.Native.Nat.{ℕ, ◌-◌, ◌≤◌, ◌<◌}
+use Prim.Native.Nat.{ℕ}
 use mathlib.Core.Path.{◌≡◌, sym, subst, ◌∙◌}
 use mathlib.Core.Bool.{true, false≢true}
 use native.Mathlib.Omega.{arith}
@@ -7,12 +7,6 @@ use borrow.Author.Count.{below_more}
 use Rattle.table_sizes.specs.Measures.{oversized}
 use Rattle.table_sizes.proofs.LeastLaws.{least_here, least_none}
 use Rattle.table_sizes.proofs.search.Goals as goal
-
-abbrev invariant-loop : tie.invariant-loop
-invariant-loop table widest count i₀ i = ((j : ℕ) → j < i → oversized table j ≡ true → ⊥) × (i ≤ count)
-
-abbrev decreases-loop : tie.decreases-loop
-decreases-loop table widest count i₀ i = count - i
 
 pub loop-i-init : goal.loop-i-init
 loop-i-init c = ((λ j h. absurd (omega arith)), omega arith)

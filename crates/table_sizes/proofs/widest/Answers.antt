@@ -1,16 +1,8 @@
-use Prim.Native.Nat.{◌-◌}
-use Rattle.basis.specs.Limits.{max_variables}
 use Rattle.table_sizes.specs.Measures.{largest}
 use mathlib.Core.Path.{ap₂, ◌∙◌}
 use native.Mathlib.Omega.{arith}
-use Rattle.table_sizes.proofs.WidestLaws.{Widening, widening_none, widening_more, widening_done}
+use Rattle.table_sizes.proofs.WidestLaws.{widening_none, widening_more, widening_done}
 use Rattle.table_sizes.proofs.widest.Goals as goal
-
-abbrev invariant-loop : tie.invariant-loop
-invariant-loop table sizes₀ x₀ sizes x = Widening table x sizes
-
-abbrev decreases-loop : tie.decreases-loop
-decreases-loop table sizes₀ x₀ sizes x = max_variables - x
 
 pub loop-x-init : goal.loop-x-init
 loop-x-init c = widening_none c.args.table.now

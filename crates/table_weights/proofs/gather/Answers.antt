@@ -1,18 +1,11 @@
 use lib.ListN.{get_or}
-use Prim.Native.Nat.{ℕ, ◌-◌, ◌≤◌, ◌+◌}
+use Prim.Native.Nat.{ℕ}
 use mathlib.Core.Path.{ap, ◌∙◌}
 use native.Mathlib.Omega.{arith}
-use Rattle.basis.specs.Limits.{max_weight}
 use Rattle.table_weights.specs.Sweeps.{capped, joined}
-use Rattle.table_weights.proofs.Parts.{Gathering, gathering_none, gathering_more, gathering_all}
+use Rattle.table_weights.proofs.Parts.{gathering_none, gathering_more, gathering_all}
 use borrow.Author.Rules.{rules}
 use Rattle.table_weights.proofs.gather.Goals as goal
-
-abbrev invariant-loop : tie.invariant-loop
-invariant-loop table weights adds first end sum₀ j₀ sum j = Gathering table (λ k. get_or weights k 0) adds first end j sum × (sum ≤ (max_weight + 1))
-
-abbrev decreases-loop : tie.decreases-loop
-decreases-loop table weights adds first end sum₀ j₀ sum j = end - j
 
 pub loop-j-init : goal.loop-j-init
 loop-j-init c = (gathering_none _ _ _ _ _, search rules)

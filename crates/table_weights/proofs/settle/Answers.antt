@@ -2,16 +2,9 @@ use lib.ListN.{length}
 use Prim.Native.Nat.{◌-◌}
 use mathlib.Core.Path.{◌≡◌, refl, sym, ap, ◌∙◌}
 use native.Mathlib.Omega.{arith}
-use Rattle.basis.specs.Limits.{max_constructs}
 use Rattle.table_weights.specs.Sweeps.{settled}
 use Rattle.table_weights.proofs.SweepLaws.{settled_next, settled_kept, settled_done, swept_length}
 use Rattle.table_weights.proofs.settle.Goals as goal
-
-abbrev invariant-loop : tie.invariant-loop
-invariant-loop table weights₀ n rounds k₀ weights k = (settled table n k weights ≡ settled table n rounds weights₀) × (length weights ≡ max_constructs)
-
-abbrev decreases-loop : tie.decreases-loop
-decreases-loop table weights₀ n rounds k₀ weights k = k
 
 pub loop-k-init : goal.loop-k-init
 loop-k-init c = (refl, c.requires.1)

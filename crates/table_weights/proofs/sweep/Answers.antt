@@ -1,19 +1,11 @@
-use lib.ListN.{length, length-set}
-use Prim.Native.Nat.{ℕ, ◌-◌, ◌≤◌}
+use lib.ListN.{length-set}
+use Prim.Native.Nat.{ℕ, ◌-◌}
 use mathlib.Core.Path.{◌≡◌, refl, sym, ◌∙◌}
 use native.Mathlib.Omega.{arith}
 use mathlib.Core.Bool.{false}
-use Rattle.basis.specs.Limits.{max_constructs}
-use Rattle.table_weights.specs.Sweeps.{swept}
 use Rattle.table_weights.proofs.SweepLaws.{swept_next, swept_kept, swept_done}
 use borrow.Author.Rules.{rules}
 use Rattle.table_weights.proofs.sweep.Goals as goal
-
-abbrev invariant-loop : tie.invariant-loop
-invariant-loop table weights₀ n changed₀ i₀ weights changed i = (swept table i weights ≡ swept table n weights₀) × (length weights ≡ max_constructs) × (i ≤ max_constructs) × (changed ≡ false → weights ≡ weights₀)
-
-abbrev decreases-loop : tie.decreases-loop
-decreases-loop table weights₀ n changed₀ i₀ weights changed i = i
 
 pub loop-i-init : goal.loop-i-init
 loop-i-init c = (refl, c.requires.1, c.requires.0, λ e. refl)

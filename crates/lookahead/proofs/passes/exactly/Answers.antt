@@ -1,15 +1,8 @@
 use borrow.Author.Rules.{rules}
-use Prim.Native.Nat.{◌≤◌, ◌-◌}
 use Rattle.lookahead.proofs.PassLaws.{no_pass, next_pass, is_min}
 use native.Mathlib.Omega.{arith}
-use Rattle.lookahead.specs.Sets.{Has, Is, Passes}
+use Rattle.lookahead.specs.Sets.{Has}
 use Rattle.lookahead.proofs.passes.exactly.Goals as goal
-
-abbrev invariant-loop : tie.invariant-loop
-invariant-loop body k n out₀ i₀ out i = Is out.words (Passes (Has body.words) i) × (i ≤ n) × (n ≤ 8)
-
-abbrev decreases-loop : tie.decreases-loop
-decreases-loop body k n out₀ i₀ out i = n - i
 
 pub loop-i-init : goal.loop-i-init
 loop-i-init c = (no_pass (Has c.args.body.words) c.single-out.result.words c.single-out.ensures, search rules, omega (arith, c.capped-n.ensures))

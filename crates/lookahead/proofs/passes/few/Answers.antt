@@ -1,16 +1,10 @@
 use borrow.Author.Rules.{rules}
-use Prim.Native.Nat.{ℕ, ◌≤◌, ◌-◌}
+use Prim.Native.Nat.{ℕ}
 use mathlib.Core.Path.{◌≡◌, subst}
 use Rattle.lookahead.proofs.PassLaws.{Range, next_pass, range_one, range_more, range_counts, is_map}
 use native.Mathlib.Omega.{arith}
-use Rattle.lookahead.specs.Sets.{Has, Is, Passes}
+use Rattle.lookahead.specs.Sets.{Has, Is}
 use Rattle.lookahead.proofs.passes.few.Goals as goal
-
-abbrev invariant-loop : tie.invariant-loop
-invariant-loop body low high last₀ out₀ k₀ last out k = Is last.words (Passes (Has body.words) k) × Is out.words (Range (Has body.words) low k) × (low ≤ k) × (k ≤ high)
-
-abbrev decreases-loop : tie.decreases-loop
-decreases-loop body low high last₀ out₀ k₀ last out k = high - k
 
 pub loop-k-init : goal.loop-k-init
 loop-k-init c = (c.exactly-last.ensures, range_one _ _ _ c.exactly-last.ensures, search rules, search rules)

@@ -1,15 +1,9 @@
 use borrow.Author.Rules.{rules}
 use Rattle.lookahead.proofs.PieceLaws.{Word-to, word_none, word_more}
-use Prim.Native.Nat.{ℕ, ◌≤◌, ◌-◌}
+use Prim.Native.Nat.{ℕ}
 use mathlib.Core.Path.{◌≡◌, subst}
 use native.Mathlib.Omega.{arith}
 use Rattle.lookahead.proofs.pieces.word.Goals as goal
-
-abbrev invariant-loop : tie.invariant-loop
-invariant-loop a b r out₀ j₀ out j = Word-to a b r j out × (j ≤ 9)
-
-abbrev decreases-loop : tie.decreases-loop
-decreases-loop a b r out₀ j₀ out j = 9 - j
 
 pub loop-j-init : goal.loop-j-init
 loop-j-init c = (word_none _ _ _, search rules)

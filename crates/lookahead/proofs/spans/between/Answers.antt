@@ -2,16 +2,10 @@ use borrow.Author.Rules.{rules}
 use Rattle.lookahead.proofs.SpanLaws.{Spanned}
 use Rattle.lookahead.proofs.SetLaws.{filled_none, filled_more}
 use Rattle.lookahead.specs.Inner.{Filled, Stripe}
-use Prim.Native.Nat.{ℕ, ◌-◌, ◌≤◌}
+use Prim.Native.Nat.{ℕ}
 use mathlib.Core.Path.{◌≡◌, subst, subst₂}
 use native.Mathlib.Omega.{arith}
 use Rattle.lookahead.proofs.spans.between.Goals as goal
-
-abbrev invariant-loop : tie.invariant-loop
-invariant-loop low past out₀ i₀ out i = Filled (Spanned low past) i out × (i ≤ 8)
-
-abbrev decreases-loop : tie.decreases-loop
-decreases-loop low past out₀ i₀ out i = 8 - i
 
 -- src/spans.rt:50:5
 pub loop-i-init : goal.loop-i-init

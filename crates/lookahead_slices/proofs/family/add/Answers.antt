@@ -1,15 +1,8 @@
 use borrow.Author.Rules.{rules}
-use Prim.Native.Nat.{◌-◌}
-use Rattle.lookahead_slices.proofs.FamilyLaws.{Adding, growth_none, adding_written, adding_kept, added}
+use Rattle.lookahead_slices.proofs.FamilyLaws.{growth_none, adding_written, adding_kept, added}
 use Rattle.lookahead_slices.proofs.WriteLaws.{written_none}
 use mathlib.Core.Logic.{⊎_elim}
 use Rattle.lookahead_slices.proofs.family.add.Goals as goal
-
-abbrev invariant-loop : tie.invariant-loop
-invariant-loop family₀ i x grew₀ k₀ family grew k = Adding x family₀ i k family grew
-
-abbrev decreases-loop : tie.decreases-loop
-decreases-loop family₀ i x grew₀ k₀ family grew k = 8 - k
 
 pub loop-k-init : goal.loop-k-init
 loop-k-init c = (written_none _ _ _, growth_none _, search rules)

@@ -1,17 +1,8 @@
 use borrow.Author.Rules.{rules}
-use Prim.Native.Nat.{◌+◌, ◌*◌, ◌≤◌, ◌-◌}
 use mathlib.Core.Path.{◌≡◌}
-use lib.ListN.{get_or}
 use Rattle.lookahead_slices.proofs.FamilyLaws.{loaded}
 use Rattle.lookahead.proofs.SetLaws.{filled_none, filled_more}
-use Rattle.lookahead.specs.Inner.{Filled}
 use Rattle.lookahead_slices.proofs.family.load.Goals as goal
-
-abbrev invariant-loop : tie.invariant-loop
-invariant-loop family i out₀ k₀ out k = Filled (λ m w. w ≡ get_or family (8 * i + m) 0) k out × (k ≤ 8)
-
-abbrev decreases-loop : tie.decreases-loop
-decreases-loop family i out₀ k₀ out k = 8 - k
 
 pub loop-k-init : goal.loop-k-init
 loop-k-init c = (filled_none _, search rules)

@@ -1,16 +1,8 @@
 use borrow.Author.Rules.{rules}
-use Prim.Native.Nat.{◌*◌, ◌≤◌, ◌-◌}
-use lib.ListN.{get_or}
 use mathlib.Core.Path.{refl}
 use Rattle.lookahead_slices.proofs.FamilyLaws.{stored}
-use Rattle.lookahead_slices.proofs.WriteLaws.{Written, written_none, written_set}
+use Rattle.lookahead_slices.proofs.WriteLaws.{written_none, written_set}
 use Rattle.lookahead_slices.proofs.family.store.Goals as goal
-
-abbrev invariant-loop : tie.invariant-loop
-invariant-loop family₀ i x k₀ family k = Written (λ m. get_or x m 0) family₀ (8 * i) k family × (k ≤ 8)
-
-abbrev decreases-loop : tie.decreases-loop
-decreases-loop family₀ i x k₀ family k = 8 - k
 
 pub loop-k-init : goal.loop-k-init
 loop-k-init c = (written_none _ _ _, search rules)

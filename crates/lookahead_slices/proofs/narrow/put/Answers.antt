@@ -1,15 +1,8 @@
 use borrow.Author.Rules.{rules}
-use Prim.Native.Nat.{◌≤◌, ◌-◌}
 use Rattle.lookahead_slices.proofs.NarrowLaws.{put_at}
-use Rattle.lookahead_slices.proofs.WriteLaws.{Written, written_none, written_set}
+use Rattle.lookahead_slices.proofs.WriteLaws.{written_none, written_set}
 use Rattle.lookahead_slices.specs.Narrow.{half}
 use Rattle.lookahead_slices.proofs.narrow.put.Goals as goal
-
-abbrev invariant-loop : tie.invariant-loop
-invariant-loop table₀ at x k₀ table k = Written (half x) table₀ at k table × (k ≤ 16)
-
-abbrev decreases-loop : tie.decreases-loop
-decreases-loop table₀ at x k₀ table k = 16 - k
 
 -- src/narrow.rt:38:5
 pub loop-k-init : goal.loop-k-init

@@ -1,18 +1,10 @@
 use borrow.Author.Rules.{rules}
-use Prim.Native.Nat.{ℕ, ◌+◌, ◌<◌, ◌-◌}
 use mathlib.Core.Path.{◌≡◌, sym, ◌∙◌}
-use lib.ListN.{get_or}
 use borrow.Author.Count.{below_more}
 use native.Mathlib.Omega.{arith}
 use Rattle.lookahead.proofs.SetLaws.{decides_true, decides_false}
 use Rattle.lookahead_slices.specs.Narrow.{half}
 use Rattle.lookahead_slices.proofs.narrow.same.Goals as goal
-
-abbrev invariant-loop : tie.invariant-loop
-invariant-loop table at x k₀ k = (m : ℕ) → m < k → get_or table (at + m) 0 ≡ half x m
-
-abbrev decreases-loop : tie.decreases-loop
-decreases-loop table at x k₀ k = 16 - k
 
 -- src/narrow.rt:51:5
 pub loop-k-init : goal.loop-k-init

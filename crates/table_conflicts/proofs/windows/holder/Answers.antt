@@ -1,4 +1,4 @@
-use Prim.Native.Nat.{ℕ, ◌+◌, ◌-◌}
+use Prim.Native.Nat.{ℕ, ◌+◌}
 use mathlib.Core.Bool.{false≢true}
 use mathlib.Core.List.Memᴰ
 use mathlib.Core.List.{[], ◌∷◌}
@@ -8,14 +8,8 @@ use Rattle.table_first_follow.specs.Rounds.{strings}
 use Rattle.table_first_follow.specs.Parts.{siblings}
 use Rattle.table_first_follow.proofs.PartLaws.{siblings_done, siblings_last, siblings_next}
 use Rattle.table_conflicts.proofs.Walks.{lies, split_all, parted}
-use Rattle.table_conflicts.proofs.Lows.{Seeking, seek_none, seek_next, seek_found, seek_done}
+use Rattle.table_conflicts.proofs.Lows.{seek_none, seek_next, seek_found, seek_done}
 use Rattle.table_conflicts.proofs.windows.holder.Goals as goal
-
-abbrev invariant-loop : tie.invariant-loop
-invariant-loop table family start end from n at₀ at = Seeking (strings family) (siblings table start end) from n end at (siblings table at end)
-
-abbrev decreases-loop : tie.decreases-loop
-decreases-loop table family start end from n at₀ at = end - at
 
 pub loop-at-init : goal.loop-at-init
 loop-at-init c = let a = c.args in seek_none (strings a.family.now) (siblings a.table.now a.start a.end) a.from a.n a.end a.start (split_all a.table.now a.start a.end) (λ k m. (lies a.table.now a.end a.start k m).0)

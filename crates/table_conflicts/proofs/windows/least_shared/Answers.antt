@@ -1,4 +1,4 @@
-use Prim.Native.Nat.{ℕ, ◌+◌, ◌-◌}
+use Prim.Native.Nat.{ℕ, ◌+◌}
 use mathlib.Core.List.Memᴰ
 use mathlib.Core.List.{[], ◌∷◌}
 use mathlib.Core.Path.{◌≡◌, refl, sym, subst, ◌∙◌}
@@ -7,14 +7,8 @@ use Rattle.table_first_follow.specs.Rounds.{strings}
 use Rattle.table_first_follow.specs.Parts.{siblings}
 use Rattle.table_first_follow.proofs.PartLaws.{siblings_done, siblings_last, siblings_next}
 use Rattle.table_conflicts.proofs.Walks.{lies, split_all}
-use Rattle.table_conflicts.proofs.Lows.{Sharing, share_none, share_next, share_done}
+use Rattle.table_conflicts.proofs.Lows.{share_none, share_next, share_done}
 use Rattle.table_conflicts.proofs.windows.least_shared.Goals as goal
-
-abbrev invariant-loop : tie.invariant-loop
-invariant-loop table family start end seen₀ least₀ at₀ seen least at = Sharing (strings family) (siblings table start end) seen.words least at (siblings table at end)
-
-abbrev decreases-loop : tie.decreases-loop
-decreases-loop table family start end seen₀ least₀ at₀ seen least at = end - at
 
 pub loop-at-init : goal.loop-at-init
 loop-at-init c = let a = c.args in share_none (strings a.family.now) (siblings a.table.now a.start a.end) c.empty-seen.result.words a.start c.empty-seen.ensures (split_all a.table.now a.start a.end) (λ k m. (lies a.table.now a.end a.start k m).0)

@@ -1,4 +1,4 @@
-use Prim.Native.Nat.{ℕ, ◌+◌, ◌-◌, ◌*◌, ◌≤◌}
+use Prim.Native.Nat.{ℕ, ◌+◌, ◌*◌}
 use borrow.Author.Rules.{rules}
 use mathlib.Core.Path.{◌≡◌, subst}
 use native.Mathlib.Omega.{arith}
@@ -8,12 +8,6 @@ use Rattle.term_words.specs.Words.{terms}
 use Rattle.table_first_follow.specs.Fields.{Led, Names}
 use Rattle.table_first_follow.proofs.WordLaws.{names_all, window_pos}
 use Rattle.table_first_follow.proofs.fields.leading.Goals as goal
-
-abbrev invariant-loop : tie.invariant-loop
-invariant-loop words start end width signed marks strings half out₀ i₀ out i = Filled (λ k w. Names (Led width signed words start end) (64 * k) (64 * k + 64) w) i out × (i ≤ 8)
-
-abbrev decreases-loop : tie.decreases-loop
-decreases-loop words start end width signed marks strings half out₀ i₀ out i = 8 - i
 
 pub loop-i-init : goal.loop-i-init
 loop-i-init c = (filled_none _, search rules)

@@ -1,16 +1,8 @@
-use Prim.Native.Nat.{◌-◌, ◌≤◌, max}
 use mathlib.Core.Path.{refl}
 use native.Mathlib.Omega.{arith}
-use Rattle.lookahead.specs.Sets.{Is}
-use Rattle.table_first_follow.specs.Fields.{Numbered, Any}
+use Rattle.table_first_follow.specs.Fields.{Any}
 use Rattle.table_first_follow.proofs.FieldLaws.{numbered_none, numbered_hit, numbered_end}
 use Rattle.table_first_follow.proofs.fields.numbered.Goals as goal
-
-abbrev invariant-loop : tie.invariant-loop
-invariant-loop low high out₀ n₀ out n = Is out.words (Numbered low n Any) × (low ≤ n) × (n ≤ max low high)
-
-abbrev decreases-loop : tie.decreases-loop
-decreases-loop low high out₀ n₀ out n = high - n
 
 pub loop-n-init : goal.loop-n-init
 loop-n-init c = (numbered_none c.args.low Any c.args.low c.empty-out.result.words refl c.empty-out.ensures, omega arith, omega arith)

@@ -1,20 +1,9 @@
 use Prim.Native.Nat.{ℕ, ◌+◌, ◌-◌, ◌*◌, ◌^◌, ◌≤◌, ◌<◌}
-use mathlib.Core.Bool.{Bool}
-use mathlib.Core.List.{List}
 use mathlib.Core.Path.{◌≡◌, refl, subst}
 use native.Mathlib.Omega.{arith}
-use Rattle.basis.specs.Patterns.{offset}
-use Rattle.term_prefixes.specs.Prefixes.{Told}
-use Rattle.term_words.specs.declared.Term.{Term}
 use Rattle.table_first_follow.specs.Fields.{Window, Names}
 use Rattle.table_first_follow.proofs.WordLaws.{names_none, names_more, room_more, room_left, none_below, none_above}
 use Rattle.table_first_follow.proofs.fields.word_of.Goals as goal
-
-abbrev invariant-loop : tie.invariant-loop
-invariant-loop marks strings half first out₀ n₀ out n = ((width : ℕ) (signed : Bool) (i : ℕ) (xs : List Term) → strings ≡ 2 ^ (width - (width - 8)) → half ≡ offset signed (width - (width - 8)) → Told width signed i xs marks → Names (Window width signed i xs) n (first + 64) out) × (out < 2 ^ (first + 64 - n)) × (first ≤ n) × (n ≤ first + 64)
-
-abbrev decreases-loop : tie.decreases-loop
-decreases-loop marks strings half first out₀ n₀ out n = n
 
 pub returns-then-first-strings : goal.returns-then-first-strings
 returns-then-first-strings c = let a = c.args in λ w s i xs q p t. none_below w s i xs a.strings a.first q c.if-first-strings.true

@@ -1,3 +1,4 @@
+
 use Rattle.table_first_follow.proofs.first.apply_any.Goals as goal
 
 pub apply-requires : goal.apply-requires

@@ -5,12 +5,6 @@ use Rattle.table_first_follow.specs.Rounds.{first_low, first_of, FirstClosed, Fr
 use Rattle.table_first_follow.proofs.RoundLaws.{Settling, left_to_do, settle_start, settle_more, settle_less, first_done}
 use Rattle.table_first_follow.proofs.first.first_in_order.Goals as goal
 
-abbrev invariant-loop : tie.invariant-loop
-invariant-loop table order family₀ more₀ family more = Settling (first_low table) (first_of table) (From (FirstClosed table) 0) family more
-
-abbrev decreases-loop : tie.decreases-loop
-decreases-loop table order family₀ more₀ family more = left_to_do family more
-
 pub seeds-requires : goal.seeds-requires
 seeds-requires c = c.requires
 

@@ -1,14 +1,5 @@
-use Prim.Native.Nat.{◌-◌}
-use lib.ListN.{length}
 use mathlib.Core.Path.{sym, ◌∙◌}
-use Rattle.table_first_follow.specs.Rounds.{Between, first_low, first_of}
 use Rattle.table_first_follow.proofs.first.pass.Goals as goal
-
-abbrev invariant-loop : tie.invariant-loop
-invariant-loop table order family₀ k₀ family k = Between (first_low table) (first_of table) family
-
-abbrev decreases-loop : tie.decreases-loop
-decreases-loop table order family₀ k₀ family k = length order - k
 
 pub loop-k-init : goal.loop-k-init
 loop-k-init c = c.requires

@@ -1,18 +1,10 @@
-use Prim.Native.Nat.{ℕ, ◌≤◌}
+use Prim.Native.Nat.{ℕ}
 use borrow.Author.Rules.{rules}
-use lib.ListN.{length}
 use mathlib.Core.Path.{◌≡◌, sym, subst, ◌∙◌}
 use native.Mathlib.Omega.{arith}
-use Rattle.table_first_follow.specs.Sets.{sets_held, family_words}
 use Rattle.table_first_follow.specs.Rounds.{FirstStep, FirstClosed, From, first_low, first_of}
 use Rattle.table_first_follow.proofs.RoundLaws.{round_start, round_turn}
 use Rattle.table_first_follow.proofs.first.round.Goals as goal
-
-abbrev invariant-loop : tie.invariant-loop
-invariant-loop table family₀ grew₀ i₀ family grew i = FirstStep table (From (FirstClosed table) i) family₀ family grew × (i ≤ sets_held) × (length family ≡ family_words)
-
-abbrev decreases-loop : tie.decreases-loop
-decreases-loop table family₀ grew₀ i₀ family grew i = i
 
 pub loop-i-init : goal.loop-i-init
 loop-i-init c =

@@ -1,16 +1,8 @@
-use Prim.Native.Nat.{◌-◌, ◌≤◌}
 use mathlib.Core.Path.{sym, ◌∙◌}
 use native.Mathlib.Omega.{arith}
-use Rattle.table_first_follow.specs.Sets.{sets_held}
 use Rattle.table_first_follow.specs.Rounds.{first_low, first_of}
-use Rattle.table_first_follow.proofs.RoundLaws.{Planted, planted_none, planted_more, planted_done, low_first}
+use Rattle.table_first_follow.proofs.RoundLaws.{planted_none, planted_more, planted_done, low_first}
 use Rattle.table_first_follow.proofs.first.seeds.Goals as goal
-
-abbrev invariant-loop : tie.invariant-loop
-invariant-loop table family₀ i₀ family i = Planted (first_low table) i family × (i ≤ sets_held)
-
-abbrev decreases-loop : tie.decreases-loop
-decreases-loop table family₀ i₀ family i = sets_held - i
 
 pub loop-i-init : goal.loop-i-init
 loop-i-init c = (planted_none (first_low c.args.table.now) c.args.family.now c.requires, omega arith)

@@ -5,12 +5,6 @@ use Rattle.table_first_follow.specs.Rounds.{follow_low, follow_of, FollowClosed,
 use Rattle.table_first_follow.proofs.RoundLaws.{Settling, left_to_do, settle_start, settle_more, settle_less, starts_between, follow_done}
 use Rattle.table_first_follow.proofs.follow.follow.Goals as goal
 
-abbrev invariant-loop : tie.invariant-loop
-invariant-loop table order first family₀ more₀ family more = Settling (follow_low table) (follow_of table) (From (FollowClosed table) 0) family more
-
-abbrev decreases-loop : tie.decreases-loop
-decreases-loop table order first family₀ more₀ family more = left_to_do family more
-
 pub starts-requires : goal.starts-requires
 starts-requires c = c.requires.0
 

@@ -1,22 +1,15 @@
-use Prim.Native.Nat.{ℕ, ◌-◌, ◌≤◌, ◌<◌}
+use Prim.Native.Nat.{ℕ, ◌-◌, ◌<◌}
 use borrow.Author.Rules.{rules}
-use lib.ListN.{length, take, drop}
+use lib.ListN.{drop}
 use mathlib.Core.List.{List}
 use mathlib.Core.Path.{◌≡◌, sym, ap, subst, ◌∙◌}
 use native.Mathlib.Omega.{arith}
-use Rattle.basis.specs.Limits.{max_constructs}
 use Rattle.lookahead.specs.Sets.{Has}
 use Rattle.table_first_follow.specs.Follows.{Handed}
 use Rattle.table_first_follow.specs.Parts.{siblings}
 use Rattle.table_first_follow.specs.Rounds.{first_of, within, FollowStep}
-use Rattle.table_first_follow.proofs.FollowLaws.{Handing, hand_start, hand_more, placed_at, placed_length}
+use Rattle.table_first_follow.proofs.FollowLaws.{hand_start, hand_more, placed_at, placed_length}
 use Rattle.table_first_follow.proofs.follow.hand.Goals as goal
-
-abbrev invariant-loop : tie.invariant-loop
-invariant-loop table first family₀ start end joined places k₀ tail₀ grew₀ family k tail grew = Handing table joined tail₀.words (siblings table start end) k tail.words family₀ family grew × (take k₀ places ≡ siblings table start end) × (k ≤ k₀) × (k₀ ≤ max_constructs) × (length places ≡ max_constructs)
-
-abbrev decreases-loop : tie.decreases-loop
-decreases-loop table first family₀ start end joined places k₀ tail₀ grew₀ family k tail grew = k
 
 pub places-k-requires : goal.places-k-requires
 places-k-requires c = (search rules, c.requires.2)

@@ -1,16 +1,7 @@
-use Prim.Native.Nat.{◌≤◌}
 use borrow.Author.Rules.{rules}
-use lib.ListN.{length}
 use mathlib.Core.Path.{sym, ◌∙◌}
 use native.Mathlib.Omega.{arith}
-use Rattle.table_first_follow.specs.Rounds.{Between, follow_low, follow_of}
 use Rattle.table_first_follow.proofs.follow.pass.Goals as goal
-
-abbrev invariant-loop : tie.invariant-loop
-invariant-loop table order first family₀ k₀ family k = Between (follow_low table) (follow_of table) family × (k ≤ length order)
-
-abbrev decreases-loop : tie.decreases-loop
-decreases-loop table order first family₀ k₀ family k = k
 
 pub loop-k-init : goal.loop-k-init
 loop-k-init c = (c.requires.2, search rules)

@@ -1,18 +1,11 @@
-use Prim.Native.Nat.{ℕ, ◌-◌, ◌≤◌}
+use Prim.Native.Nat.{ℕ, ◌-◌}
 use borrow.Author.Rules.{rules}
 use mathlib.Core.Path.{◌≡◌, sym, subst, ◌∙◌}
 use native.Mathlib.Omega.{arith}
-use Rattle.table_first_follow.specs.Sets.{sets_held}
 use Rattle.table_layout.specs.Held.{opening}
-use Rattle.table_first_follow.specs.Rounds.{Between, FollowStep, FollowClosed, From, follow_low, follow_of}
+use Rattle.table_first_follow.specs.Rounds.{FollowStep, FollowClosed, From, follow_low, follow_of}
 use Rattle.table_first_follow.proofs.RoundLaws.{round_start, round_turn, step_map, from_turned}
 use Rattle.table_first_follow.proofs.follow.push_all.Goals as goal
-
-abbrev invariant-loop : tie.invariant-loop
-invariant-loop table first family₀ grew₀ i₀ family grew i = FollowStep table (From (λ n words. FollowClosed table (opening - n) words) i) family₀ family grew × (i ≤ sets_held) × Between (follow_low table) (follow_of table) family
-
-abbrev decreases-loop : tie.decreases-loop
-decreases-loop table first family₀ grew₀ i₀ family grew i = i
 
 pub loop-i-init : goal.loop-i-init
 loop-i-init c =

@@ -1,3 +1,4 @@
+
 use Rattle.table_first_follow.proofs.follow.push_any.Goals as goal
 
 pub push-requires : goal.push-requires

@@ -1,16 +1,8 @@
-use Prim.Native.Nat.{◌-◌, ◌≤◌}
 use mathlib.Core.Path.{sym, ◌∙◌}
 use native.Mathlib.Omega.{arith}
-use Rattle.table_first_follow.specs.Sets.{sets_held}
 use Rattle.table_first_follow.specs.Follows.{Started}
-use Rattle.table_first_follow.proofs.RoundLaws.{Planted, planted_none, planted_more}
+use Rattle.table_first_follow.proofs.RoundLaws.{planted_none, planted_more}
 use Rattle.table_first_follow.proofs.follow.starts.Goals as goal
-
-abbrev invariant-loop : tie.invariant-loop
-invariant-loop family₀ i₀ family i = Planted Started i family × (i ≤ sets_held)
-
-abbrev decreases-loop : tie.decreases-loop
-decreases-loop family₀ i₀ family i = sets_held - i
 
 pub loop-i-init : goal.loop-i-init
 loop-i-init c = (planted_none Started c.args.family.now c.requires, omega arith)

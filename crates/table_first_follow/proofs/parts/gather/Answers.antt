@@ -1,16 +1,10 @@
-use Prim.Native.Nat.{ℕ, ◌+◌, ◌-◌}
+use Prim.Native.Nat.{ℕ, ◌+◌}
 use mathlib.Core.List.{[], ◌∷◌}
 use mathlib.Core.Path.{◌≡◌, refl, sym, subst, ◌∙◌}
 use native.Mathlib.Omega.{arith}
 use Rattle.table_first_follow.specs.Parts.{siblings}
-use Rattle.table_first_follow.proofs.PartLaws.{Gathering, gather_none, gather_next, gather_done, gather_set, siblings_done, siblings_last, siblings_next}
+use Rattle.table_first_follow.proofs.PartLaws.{gather_none, gather_next, gather_done, gather_set, siblings_done, siblings_last, siblings_next}
 use Rattle.table_first_follow.proofs.parts.gather.Goals as goal
-
-abbrev invariant-loop : tie.invariant-loop
-invariant-loop table family start end joined out₀ at₀ out at = Gathering joined family (siblings table start end) out.words (siblings table at end)
-
-abbrev decreases-loop : tie.decreases-loop
-decreases-loop table family start end joined out₀ at₀ out at = end - at
 
 pub loop-at-init : goal.loop-at-init
 loop-at-init c =

@@ -1,17 +1,10 @@
-use Prim.Native.Nat.{ℕ, ◌+◌, ◌-◌}
+use Prim.Native.Nat.{ℕ, ◌+◌}
 use native.Mathlib.Omega.{arith}
 use mathlib.Core.List.{[], ◌∷◌}
 use mathlib.Core.Path.{◌≡◌, refl, sym, subst, ◌∙◌}
-use Rattle.table_layout.specs.Held.{no_default}
 use Rattle.table_first_follow.specs.Parts.{siblings}
 use Rattle.table_first_follow.proofs.PartLaws.{default_later, default_here, no_case_left, siblings_done, siblings_first, siblings_last, siblings_next}
 use Rattle.table_first_follow.proofs.parts.no_default.Goals as goal
-
-abbrev invariant-loop : tie.invariant-loop
-invariant-loop table start end at₀ at = no_default table (siblings table at end) ≡ no_default table (siblings table start end)
-
-abbrev decreases-loop : tie.decreases-loop
-decreases-loop table start end at₀ at = end - at
 
 pub returns-then-size-eq0 : goal.returns-then-size-eq0
 returns-then-size-eq0 c =

@@ -1,18 +1,11 @@
-use Prim.Native.Nat.{ℕ, ◌+◌, ◌-◌, ◌≤◌}
+use Prim.Native.Nat.{ℕ, ◌+◌}
 use lib.ListN.{set, length-set}
 use mathlib.Core.List.{[], ◌∷◌}
 use mathlib.Core.Path.{◌≡◌, refl, sym, subst, ◌∙◌}
 use native.Mathlib.Omega.{arith}
-use Rattle.basis.specs.Limits.{max_constructs}
 use Rattle.table_first_follow.specs.Parts.{siblings}
-use Rattle.table_first_follow.proofs.PartLaws.{Placing, place_none, place_more, place_done, siblings_done, siblings_last, siblings_next}
+use Rattle.table_first_follow.proofs.PartLaws.{place_none, place_more, place_done, siblings_done, siblings_last, siblings_next}
 use Rattle.table_first_follow.proofs.parts.places.Goals as goal
-
-abbrev invariant-loop : tie.invariant-loop
-invariant-loop table start end out₀ n₀ at₀ out n at = Placing (siblings table start end) n out (siblings table at end) × (n ≤ at) × (n ≤ max_constructs)
-
-abbrev decreases-loop : tie.decreases-loop
-decreases-loop table start end out₀ n₀ at₀ out n at = end - at
 
 pub loop-at-init : goal.loop-at-init
 loop-at-init c = (place_none (siblings c.args.table.now c.args.start c.args.end) c.args.out.now c.requires.0, omega arith, omega arith)

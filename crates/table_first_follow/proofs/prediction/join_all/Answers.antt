@@ -1,17 +1,9 @@
-use Prim.Native.Nat.{◌-◌, ◌≤◌}
 use mathlib.Core.Path.{sym, ◌∙◌}
 use native.Mathlib.Omega.{arith}
-use Rattle.table_first_follow.specs.Sets.{sets_held}
 use Rattle.table_first_follow.specs.Follows.{Predicting}
 use Rattle.table_first_follow.proofs.FollowLaws.{is_predicting}
-use Rattle.table_first_follow.proofs.RoundLaws.{Planted, planted_none, planted_more}
+use Rattle.table_first_follow.proofs.RoundLaws.{planted_none, planted_more}
 use Rattle.table_first_follow.proofs.prediction.join_all.Goals as goal
-
-abbrev invariant-loop : tie.invariant-loop
-invariant-loop first follow family₀ i₀ family i = Planted (Predicting first follow) i family × (i ≤ sets_held)
-
-abbrev decreases-loop : tie.decreases-loop
-decreases-loop first follow family₀ i₀ family i = sets_held - i
 
 pub loop-i-init : goal.loop-i-init
 loop-i-init c =

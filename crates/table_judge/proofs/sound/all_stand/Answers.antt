@@ -1,16 +1,8 @@
-use Prim.Native.Nat.{ℕ, ◌-◌, ◌≤◌, ◌<◌}
 use mathlib.Core.Path.{refl, sym, ◌∙◌}
 use mathlib.Core.Bool.{false≢true}
 use native.Mathlib.Omega.{arith}
 use borrow.Author.Count.{below_more}
-use Rattle.table_judge.specs.Sound.{SetsStand}
 use Rattle.table_judge.proofs.sound.all_stand.Goals as goal
-
-abbrev invariant-loop : tie.invariant-loop
-invariant-loop table follow prediction count i₀ i = ((j : ℕ) → j < i → SetsStand table j) × (i ≤ count)
-
-abbrev decreases-loop : tie.decreases-loop
-decreases-loop table follow prediction count i₀ i = count - i
 
 pub loop-i-init : goal.loop-i-init
 loop-i-init c = ((λ j h. absurd (omega arith)), omega arith)

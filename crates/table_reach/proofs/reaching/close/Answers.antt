@@ -1,17 +1,7 @@
-use lib.ListN.{length}
-use Prim.Native.Nat.{ℕ, ◌-◌, ◌≤◌}
 use mathlib.Core.Path.{◌≡◌, refl}
-use Rattle.basis.specs.Limits.{max_rules}
-use Rattle.table_reach.specs.Closure.{Matrix, closure}
 use Rattle.table_reach.proofs.Rows.{matrix_first, matrix_next, matrix_last}
 use borrow.Author.Rules.{rules}
 use Rattle.table_reach.proofs.reaching.close.Goals as goal
-
-abbrev invariant-loop : tie.invariant-loop
-invariant-loop rows₀ k₀ rows k = (length rows ≡ max_rules) × ((u : ℕ → ℕ → ℕ) → Matrix rows₀ u → Matrix rows (closure u k)) × (k ≤ max_rules)
-
-abbrev decreases-loop : tie.decreases-loop
-decreases-loop rows₀ k₀ rows k = max_rules - k
 
 pub loop-k-init : goal.loop-k-init
 loop-k-init c = (c.requires, (λ u m. matrix_first u _ m), search rules)

@@ -1,5 +1,5 @@
-use lib.ListN.{length, get_or, length-set}
-use Prim.Native.Nat.{ℕ, ◌-◌, ◌≤◌, ◌<◌}
+use lib.ListN.{length-set}
+use Prim.Native.Nat.{ℕ, ◌<◌}
 use mathlib.Core.Path.{◌≡◌, ◌∙◌}
 use native.Mathlib.Omega.{arith}
 use Rattle.basis.specs.Limits.{max_rules}
@@ -8,12 +8,6 @@ use Rattle.table_reach.specs.Closure.{uses}
 use Rattle.table_reach.proofs.Rows.{write_next}
 use borrow.Author.Rules.{rules}
 use Rattle.table_reach.proofs.reaching.fill.Goals as goal
-
-abbrev invariant-loop : tie.invariant-loop
-invariant-loop table rows₀ r₀ rows r = (length rows ≡ max_rules) × ((i : ℕ) → i < r → (q : ℕ) → q < max_rules → bit (get_or rows i 0) q ≡ uses table i q) × (r ≤ max_rules)
-
-abbrev decreases-loop : tie.decreases-loop
-decreases-loop table rows₀ r₀ rows r = max_rules - r
 
 pub loop-r-init : goal.loop-r-init
 loop-r-init c = (c.requires, (λ i h. absurd (omega arith)), search rules)

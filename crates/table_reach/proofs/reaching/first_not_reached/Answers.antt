@@ -1,16 +1,8 @@
-use Prim.Native.Nat.{ℕ, ◌-◌, ◌≤◌, ◌<◌}
 use mathlib.Core.Path.{◌≡◌, sym, ◌∙◌}
 use mathlib.Core.Bool.{true}
 use native.Mathlib.Omega.{arith}
 use borrow.Author.Count.{below_more}
-use Rattle.table_reach.specs.Closure.{from_start}
 use Rattle.table_reach.proofs.reaching.first_not_reached.Goals as goal
-
-abbrev invariant-loop : tie.invariant-loop
-invariant-loop rows count r₀ r = ((q : ℕ) → q < r → 1 ≤ q → from_start rows q ≡ true) × (1 ≤ r)
-
-abbrev decreases-loop : tie.decreases-loop
-decreases-loop rows count r₀ r = count - r
 
 pub loop-r-init : goal.loop-r-init
 loop-r-init c = ((λ q h l. absurd (omega arith)), omega arith)

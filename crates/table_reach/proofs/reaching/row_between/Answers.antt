@@ -1,21 +1,14 @@
-use Prim.Native.Nat.{ℕ, ◌-◌, ◌≤◌, ◌<◌, max}
+use Prim.Native.Nat.{ℕ, max}
 use mathlib.Core.Path.{◌≡◌, ap, ◌∙◌}
 use mathlib.Core.Bool.{cond}
 use native.Mathlib.Omega.{arith}
 use lib.Dec.{eqb}
-use Rattle.basis.specs.Limits.{max_rules}
 use Rattle.lookahead.specs.Sets.{bit}
 use Rattle.lookahead.proofs.BitLaws.{bit_none}
-use Rattle.table_reach.specs.Closure.{used_rule, calls, uses_between}
+use Rattle.table_reach.specs.Closure.{used_rule, calls}
 use Rattle.table_reach.proofs.Searches.{some_none, turn}
 use borrow.Author.Rules.{rules}
 use Rattle.table_reach.proofs.reaching.row_between.Goals as goal
-
-abbrev invariant-loop : tie.invariant-loop
-invariant-loop table first end row₀ i₀ row i = ((q : ℕ) → q < max_rules → max (bit row q) (uses_between table i end q) ≡ uses_between table first end q) × (first ≤ i)
-
-abbrev decreases-loop : tie.decreases-loop
-decreases-loop table first end row₀ i₀ row i = end - i
 
 pub loop-i-init : goal.loop-i-init
 loop-i-init c = ((λ q h. simp bit_none (omega arith)), search rules)

@@ -1,15 +1,6 @@
-use Prim.Native.Nat.{◌-◌, ◌≤◌}
-use Rattle.basis.specs.Limits.{max_rules}
-use Rattle.table_reach.specs.Closure.{Mended}
 use Rattle.table_reach.proofs.Rows.{mended_none, mended_more, mended_all}
 use borrow.Author.Rules.{rules}
 use Rattle.table_reach.proofs.reaching.through.Goals as goal
-
-abbrev invariant-loop : tie.invariant-loop
-invariant-loop rows₀ via k i₀ rows i = Mended rows₀ rows via k i × (i ≤ max_rules)
-
-abbrev decreases-loop : tie.decreases-loop
-decreases-loop rows₀ via k i₀ rows i = max_rules - i
 
 pub loop-i-init : goal.loop-i-init
 loop-i-init c = (mended_none _ _ _ c.requires.0, search rules)

@@ -1,17 +1,9 @@
-use Prim.Native.Nat.{◌-◌}
 use mathlib.Core.Path.{◌≡◌, sym, ◌∙◌}
-use Rattle.table_wellformed.specs.Checks.{from_to}
 use Rattle.table_wellformed.proofs.Every.{every_turn, every_stop, every_end}
 use borrow.Author.Tests.{eq-eqb, ne_eqb}
 use lib.Dec.{eqb}
 use Rattle.table_layout.specs.Places.{word}
 use Rattle.table_wellformed.proofs.checks.zeros.Goals as goal
-
-abbrev invariant-loop : tie.invariant-loop
-invariant-loop table start end k₀ k = from_to k end (λ j. eqb (word table j) 0) ≡ from_to start end (λ j. eqb (word table j) 0)
-
-abbrev decreases-loop : tie.decreases-loop
-decreases-loop table start end k₀ k = end - k
 
 pub loop-k-preserved : goal.loop-k-preserved
 loop-k-preserved c = sym (every_turn _ _ (λ j. eqb (word c.args.table.now j) 0) c.loop-k-test.true (eq-eqb _ _ (sym c.word.ensures.0 ∙ c.if-word-eq0.true))) ∙ c.loop-k.invariant

@@ -1,16 +1,7 @@
-use Prim.Native.Nat.{◌-◌}
 use mathlib.Core.Path.{◌≡◌, sym, ◌∙◌}
-use Rattle.basis.specs.Limits.{max_literal_bytes}
-use Rattle.table_wellformed.specs.Checks.{from_to}
 use Rattle.table_wellformed.proofs.Every.{every_turn, every_stop, every_end}
 use Rattle.table_wellformed.specs.Laid.{byte_laid}
 use Rattle.table_wellformed.proofs.constructs.bytes.Goals as goal
-
-abbrev invariant-loop : tie.invariant-loop
-invariant-loop table i n k₀ k = from_to k max_literal_bytes (byte_laid table i n) ≡ from_to 0 max_literal_bytes (byte_laid table i n)
-
-abbrev decreases-loop : tie.decreases-loop
-decreases-loop table i n k₀ k = max_literal_bytes - k
 
 pub loop-k-preserved : goal.loop-k-preserved
 loop-k-preserved c = sym (every_turn _ _ (byte_laid c.args.table.now c.args.i c.args.n) c.loop-k-test.true (sym c.byte.ensures ∙ c.if-byte.true)) ∙ c.loop-k.invariant

@@ -1,3 +1,4 @@
+
 use Rattle.table_wellformed.proofs.constructs.construct_laid.Goals as goal
 
 pub returns : goal.returns

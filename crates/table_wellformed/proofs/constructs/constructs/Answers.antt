@@ -1,15 +1,9 @@
-use Prim.Native.Nat.{ℕ, ◌-◌}
+use Prim.Native.Nat.{ℕ}
 use mathlib.Core.Path.{◌≡◌, sym, ap, ◌∙◌}
 use Rattle.table_wellformed.specs.Checks.{from_to}
 use Rattle.table_wellformed.proofs.Every.{every_turn, every_stop, every_end}
 use Rattle.table_wellformed.specs.Laid.{construct_laid}
 use Rattle.table_wellformed.proofs.constructs.constructs.Goals as goal
-
-abbrev invariant-loop : tie.invariant-loop
-invariant-loop table count i₀ i = from_to i count (construct_laid table) ≡ from_to 0 count (construct_laid table)
-
-abbrev decreases-loop : tie.decreases-loop
-decreases-loop table count i₀ i = count - i
 
 pub loop-i-preserved : goal.loop-i-preserved
 loop-i-preserved c = sym (every_turn _ _ (construct_laid c.args.table.now) c.loop-i-test.true (sym c.construct_laid.ensures ∙ c.if-construct_laid.true)) ∙ c.loop-i.invariant

@@ -1,3 +1,4 @@
+
 use Rattle.table_wellformed.proofs.constructs.kind.Goals as goal
 
 pub returns-in-Missing : goal.returns-in-Missing

@@ -1,3 +1,4 @@
+
 use Rattle.table_wellformed.proofs.lists.after_lists.Goals as goal
 
 pub returns : goal.returns

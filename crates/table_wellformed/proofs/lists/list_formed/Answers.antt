@@ -1,3 +1,4 @@
+
 use Rattle.table_wellformed.proofs.lists.list_formed.Goals as goal
 
 pub returns : goal.returns

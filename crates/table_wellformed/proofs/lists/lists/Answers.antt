@@ -6,12 +6,6 @@ use Rattle.table_wellformed.specs.Lists.{lists_from}
 use Rattle.table_wellformed.proofs.Pointers.{lists_turn, lists_stop, lists_end}
 use Rattle.table_wellformed.proofs.lists.lists.Goals as goal
 
-abbrev invariant-loop : tie.invariant-loop
-invariant-loop table count i₀ p₀ i p = lists_from (count - i) table i p ≡ lists_from count table 0 0
-
-abbrev decreases-loop : tie.decreases-loop
-decreases-loop table count i₀ p₀ i p = count - i
-
 pub loop-i-init : goal.loop-i-init
 loop-i-init c = let none : c.word-count.result - 0 ≡ c.word-count.result = omega arith in ap (λ (n : ℕ). lists_from n c.args.table.now 0 0) none
 

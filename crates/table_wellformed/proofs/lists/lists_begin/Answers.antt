@@ -1,3 +1,4 @@
+
 use Rattle.table_wellformed.proofs.lists.lists_begin.Goals as goal
 
 pub returns : goal.returns

@@ -1,3 +1,4 @@
+
 use Rattle.table_wellformed.proofs.lists.low_used.Goals as goal
 
 pub returns : goal.returns

@@ -1,15 +1,9 @@
-use Prim.Native.Nat.{ℕ, ◌-◌}
+use Prim.Native.Nat.{ℕ}
 use mathlib.Core.Path.{◌≡◌, sym, ap, ◌∙◌}
 use Rattle.table_wellformed.specs.Checks.{from_to}
 use Rattle.table_wellformed.proofs.Every.{every_turn, every_stop, every_end}
 use Rattle.table_wellformed.specs.Lists.{term_laid}
 use Rattle.table_wellformed.proofs.lists.terms_laid.Goals as goal
-
-abbrev invariant-loop : tie.invariant-loop
-invariant-loop table count t₀ t = from_to t count (term_laid table) ≡ from_to 0 count (term_laid table)
-
-abbrev decreases-loop : tie.decreases-loop
-decreases-loop table count t₀ t = count - t
 
 pub loop-t-preserved : goal.loop-t-preserved
 loop-t-preserved c = sym (every_turn _ _ (term_laid c.args.table.now) c.loop-t-test.true (sym c.term.ensures ∙ c.if-term.true)) ∙ c.loop-t.invariant

@@ -1,19 +1,13 @@
-use Prim.Native.Nat.{◌+◌, ◌-◌, ◌≤◌, ◌<◌}
+use Prim.Native.Nat.{◌<◌}
 use mathlib.Core.Path.{sym, ◌∙◌}
 use native.Mathlib.Omega.{arith}
 use borrow.Author.Tests.{ltb-true}
 use lib.Dec.{eqb}
 use Rattle.basis.proofs.Booleans.{both_first}
 use Rattle.table_wellformed.specs.Checks.{size_at}
-use Rattle.table_wellformed.proofs.Walks.{Walking, walk_start, walk_turn, walk_stop, walk_end}
-use Rattle.table_wellformed.specs.Rules.{member_laid, next_variable, binders_from}
+use Rattle.table_wellformed.proofs.Walks.{walk_start, walk_turn, walk_stop, walk_end}
+use Rattle.table_wellformed.specs.Rules.{member_laid, next_variable}
 use Rattle.table_wellformed.proofs.names.binders.Goals as goal
-
-abbrev invariant-loop : tie.invariant-loop
-invariant-loop table start end first last j₀ x₀ j x = Walking table (member_laid table) (next_variable table) (λ k y. eqb y last) end (binders_from table start end first last) j x × (x ≤ first + j)
-
-abbrev decreases-loop : tie.decreases-loop
-decreases-loop table start end first last j₀ x₀ j x = end - j
 
 pub loop-j-init : goal.loop-j-init
 loop-j-init c = (walk_start c.args.table.now (member_laid c.args.table.now) (next_variable c.args.table.now) (λ k y. eqb y c.args.last) c.args.end c.args.start c.args.first, omega arith)

@@ -1,3 +1,4 @@
+
 use Rattle.table_wellformed.proofs.names.construct_visible.Goals as goal
 
 pub returns : goal.returns

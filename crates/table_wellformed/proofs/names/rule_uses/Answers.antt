@@ -1,15 +1,7 @@
-use Prim.Native.Nat.{◌-◌}
 use mathlib.Core.Path.{◌≡◌, sym, ◌∙◌}
-use Rattle.table_wellformed.specs.Checks.{from_to}
 use Rattle.table_wellformed.proofs.Every.{every_turn, every_stop, every_end}
 use Rattle.table_wellformed.specs.Rules.{construct_named}
 use Rattle.table_wellformed.proofs.names.rule_uses.Goals as goal
-
-abbrev invariant-loop : tie.invariant-loop
-invariant-loop table r first last end i₀ i = from_to i end (construct_named table first last) ≡ from_to i₀ end (construct_named table first last)
-
-abbrev decreases-loop : tie.decreases-loop
-decreases-loop table r first last end i₀ i = end - i
 
 pub loop-i-preserved : goal.loop-i-preserved
 loop-i-preserved c = sym (every_turn _ _ (construct_named c.args.table.now c.rule_word-first.result c.rule_end-last.result) c.loop-i-test.true (sym c.construct_visible.ensures ∙ c.if-construct_visible.true)) ∙ c.loop-i.invariant

@@ -1,3 +1,4 @@
+
 use Rattle.table_wellformed.proofs.names.variable.Goals as goal
 
 pub returns : goal.returns

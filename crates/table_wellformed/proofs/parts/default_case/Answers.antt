@@ -1,3 +1,4 @@
+
 use Rattle.table_wellformed.proofs.parts.default_case.Goals as goal
 
 pub returns : goal.returns

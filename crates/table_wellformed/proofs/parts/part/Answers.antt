@@ -1,3 +1,4 @@
+
 use Rattle.table_wellformed.proofs.parts.part.Goals as goal
 
 pub returns-then-switch : goal.returns-then-switch

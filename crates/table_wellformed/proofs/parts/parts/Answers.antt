@@ -1,19 +1,13 @@
 use Rattle.basis.proofs.Booleans.{both_first}
 use Rattle.table_wellformed.specs.Checks.{size_at}
-use Prim.Native.Nat.{◌-◌, ◌<◌}
+use Prim.Native.Nat.{◌<◌}
 use mathlib.Core.Path.{sym, ◌∙◌}
 use native.Mathlib.Omega.{arith}
 use borrow.Author.Tests.{ltb-true}
 use lib.Dec.{eqb}
-use Rattle.table_wellformed.specs.Parts.{part_laid, parts_laid}
-use Rattle.table_wellformed.proofs.Walks.{Walking, walk_start, walk_turn, walk_stop, walk_end}
+use Rattle.table_wellformed.specs.Parts.{part_laid}
+use Rattle.table_wellformed.proofs.Walks.{walk_start, walk_turn, walk_stop, walk_end}
 use Rattle.table_wellformed.proofs.parts.parts.Goals as goal
-
-abbrev invariant-loop : tie.invariant-loop
-invariant-loop table switch first end j₀ j = Walking table (λ k x. part_laid table switch first k end) (λ k x. x) (λ k x. eqb k end) end (parts_laid table switch first end) j 0
-
-abbrev decreases-loop : tie.decreases-loop
-decreases-loop table switch first end j₀ j = end - j
 
 pub loop-j-init : goal.loop-j-init
 loop-j-init c = walk_start c.args.table.now (λ k x. part_laid c.args.table.now c.args.switch c.args.first k c.args.end) (λ k x. x) (λ k x. eqb k c.args.end) c.args.end c.args.first 0

@@ -1,3 +1,4 @@
+
 use Rattle.table_wellformed.proofs.parts.unconditioned.Goals as goal
 
 pub returns : goal.returns

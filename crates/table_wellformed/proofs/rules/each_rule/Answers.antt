@@ -1,15 +1,9 @@
-use Prim.Native.Nat.{ℕ, ◌-◌}
+use Prim.Native.Nat.{ℕ}
 use mathlib.Core.Path.{◌≡◌, sym, ap, ◌∙◌}
 use Rattle.table_wellformed.specs.Checks.{from_to}
 use Rattle.table_wellformed.proofs.Every.{every_turn, every_stop, every_end}
 use Rattle.table_wellformed.specs.Rules.{rule_laid}
 use Rattle.table_wellformed.proofs.rules.each_rule.Goals as goal
-
-abbrev invariant-loop : tie.invariant-loop
-invariant-loop table count r₀ r = from_to r count (rule_laid table) ≡ from_to 0 count (rule_laid table)
-
-abbrev decreases-loop : tie.decreases-loop
-decreases-loop table count r₀ r = count - r
 
 pub loop-r-preserved : goal.loop-r-preserved
 loop-r-preserved c = sym (every_turn _ _ (rule_laid c.args.table.now) c.loop-r-test.true (sym c.rule.ensures ∙ c.if-rule.true)) ∙ c.loop-r.invariant

@@ -1,0 +1,9 @@
+use lib.ListN.{length}
+use mathlib.Core.Path.{◌≡◌}
+use Rattle.table_first_follow.proofs.order.fill.Given as goal
+
+abbrev pub invariant-loop-left : goal.invariant-loop-left
+invariant-loop-left l = length l.order ≡ length l.initial.order
+
+abbrev pub decreases-loop-left : goal.decreases-loop-left
+decreases-loop-left l = l.left
