@@ -9,7 +9,7 @@ returns-then-n-eq0 c = decides_false _ (λ q. no_number c.args.n (inl c.if-n-eq0
 
 pub returns-then-n-lt512 : goal.returns-then-n-lt512
 unfolding member bit
-returns-then-n-lt512 c = decides_number (member c.args.t1.words) c.args.n (search rules) (search rules)
+returns-then-n-lt512 c = decides_number (member c.args.set.words) c.args.n (search rules) (search rules)
 
 pub returns : goal.returns
 returns c = decides_false _ (λ q. no_number c.args.n (inr c.if-n-lt512.false) q.0 q.1 q.2.0)

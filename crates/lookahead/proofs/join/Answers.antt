@@ -1,4 +1,3 @@
-
 use Rattle.lookahead.proofs.join.Goals as goal
 
 pub join_long-requires : goal.join_long-requires

@@ -2,21 +2,15 @@ use mathlib.Core.Path.{◌≡◌}
 use Rattle.basis.specs.Bits.{Bits}
 use Rattle.lookahead.specs.Sets.{Has, Union, Joined}
 use Rattle.lookahead.specs.Least.{LeastCommon}
-use Rattle.lookahead.specs.declared.Common.TheVariants.{Nothing, Least}
+use Rattle.lookahead.specs.declared.Common.TheVariants.{Least}
 use Rattle.lookahead.proofs.PassLaws.{is_map}
 use Rattle.lookahead.proofs.LongLaws.{joined_long, long_joined}
 use Rattle.lookahead.proofs.join_long.Goals as goal
 
-pub returns-in-Nothing : goal.returns-in-Nothing
-returns-in-Nothing c =
-    let a = c.args in
-    let h : LeastCommon a.b.words a.b.words Nothing = rw c.enum_told-1.given.1 at c.least_common.ensures in
-    is_map c.empty.result.words (λ (s : Bits). ⊥) (Joined (Has a.a.words) (Has a.b.words)) (λ s. ((λ z. absurd z), (λ j. h j.right j.in_right j.in_right))) c.empty.ensures
-
 pub returns-in-Least : goal.returns-in-Least
 returns-in-Least c =
     let a = c.args in
-    let h : LeastCommon a.b.words a.b.words (Least _) = rw c.enum_told-in-Least-1.given.1 at c.least_common.ensures in
+    let h : LeastCommon a.b.words a.b.words (Least _) = c.in-Least.ensures in
     let z = c.requires in
     is_map c.union.result.words (Union (Has a.a.words) (Has a.a.words)) (Joined (Has a.a.words) (Has a.b.words))
     (λ s. (joined_long a.a.words a.b.words z h.0.0 h.0.2 s, long_joined a.a.words a.b.words z s))
