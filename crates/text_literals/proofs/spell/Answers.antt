@@ -7,7 +7,7 @@ use Rattle.text_literals.proofs.Spelling.{Spelling, spelling_start, spelling_tur
 use Rattle.text_literals.proofs.spell.Goals as goal
 
 pub loop-i-init : goal.loop-i-init
-loop-i-init c = let s = c. in (omega arith, spelling_start s.requires.1 s.requires.2)
+loop-i-init c = (omega arith, spelling_start c.requires.1 c.requires.2)
 
 pub shape_of-bytes-then-stops : goal.shape_of-bytes-then-stops
 shape_of-bytes-then-stops c = c.loop-i.invariant.1.room ∙ sym c.requires.1

@@ -13,4 +13,4 @@ returns-then-i-ge-MAX_CONSTRUCTS c = rw (le-ltb c.args.i max_constructs c.if-i-g
 
 -- src/words.rt:150:1
 pub returns : goal.returns
-returns c = node_put c.args.nodes.now c.make_room.new.1.0 c.put_words.new.0 c.args.i c.args.kind c.args.size c.args.place c.args.a c.args.b c.args.f c.args.e c.args.how c.if-i-ge-MAX_CONSTRUCTS.false c.make_room.ensures c.put_words.ensures
+returns c = node_put c.args.nodes.now c.make_room.new.nodes c.put_words.new.nodes c.args.i c.args.kind c.args.size c.args.place c.args.a c.args.b c.args.f c.args.e c.args.how c.if-i-ge-MAX_CONSTRUCTS.false c.make_room.ensures c.put_words.ensures
