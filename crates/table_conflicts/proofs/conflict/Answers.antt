@@ -8,7 +8,7 @@ use Rattle.table_conflicts.proofs.conflict.Goals as goal
 
 pub clash_of-requires : goal.clash_of-requires
 clash_of-requires c =
-    let s = c. in
+    let s = c in
     (s.requires.0, s.requires.1, s.requires.2, s.requires.3, size_read s.args.table.now s.args.i _ (c.attributes_of-attributes.ensures ∙ ap attributes_of c.construct_at.ensures) s.requires.3)
 
 pub returns : goal.returns

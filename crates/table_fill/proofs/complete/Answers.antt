@@ -7,10 +7,10 @@ use Rattle.table_fill.proofs.Completing.{completed}
 use Rattle.table_fill.proofs.complete.Goals as goal
 
 pub write_sets-requires : goal.write_sets-requires
-write_sets-requires c = let s = c. in let f = facts s.args.table.now s.requires.0.passed.laid_out in let j = c.judge in (f.long, j.auto.1.1.0, j.auto.1.1.1.0, omega (arith, c.word-count.ensures.0, f.counts.constructs))
+write_sets-requires c = let s = c in let f = facts s.args.table.now s.requires.0.passed.laid_out in let j = c.judge in (f.long, j.auto.1.1.0, j.auto.1.1.1.0, omega (arith, c.word-count.ensures.0, f.counts.constructs))
 
 pub write_weight-requires : goal.write_weight-requires
-write_weight-requires c = let s = c. in let ws = s.args.table.now in (omega (arith, c.write_sets.auto.0, (facts ws s.requires.0.passed.laid_out).long), (subst (Judged ws) c.weight-1.given.1 c.judge.ensures.0).2)
+write_weight-requires c = let s = c in let ws = s.args.table.now in (omega (arith, c.write_sets.auto.0, (facts ws s.requires.0.passed.laid_out).long), (subst (Judged ws) c.weight-1.given.1 c.judge.ensures.0).2)
 
 pub returns-in-EmptyBody : goal.returns-in-EmptyBody
 returns-in-EmptyBody c = let j = c.judge in ((subst (Judged c.args.table.now) c.construct-1.given.1 j.ensures.0, j.ensures.1.0), refl)

@@ -12,5 +12,5 @@ loop-k-preserved c = (filled_more _ _ _ _ (search rules) c.loop-k.invariant.0 (s
 
 pub returns : goal.returns
 returns c =
-    let a = c. in
+    let a = c in
     loaded a.args.family.now c.loop-k.out a.args.i c.loop-k.k a.requires c.loop-k-test.false c.loop-k.invariant.0

@@ -10,7 +10,7 @@ starts-requires c = c.requires.0
 
 pub pass-requires : goal.pass-requires
 pass-requires c =
-    let s = c. in
+    let s = c in
     (s.requires.1, s.requires.2, starts_between s.args.table.now c.starts.new.0 (c.starts.auto.0 ∙ s.requires.0) c.starts.ensures)
 
 pub loop-more-init : goal.loop-more-init

@@ -8,7 +8,7 @@ pub loop-i-init : goal.loop-i-init
 loop-i-init c = ((λ j h. absurd (omega arith)), omega arith)
 
 pub stands-requires : goal.stands-requires
-stands-requires c = let s = c. in (s.requires.0, s.requires.2, s.requires.3, s.requires.4, s.requires.5, omega (arith, c.loop-i-test.true, c.word-count.ensures.0, s.requires.1))
+stands-requires c = let s = c in (s.requires.0, s.requires.2, s.requires.3, s.requires.4, s.requires.5, omega (arith, c.loop-i-test.true, c.word-count.ensures.0, s.requires.1))
 
 pub loop-i-smaller : goal.loop-i-smaller
 loop-i-smaller c = omega (arith, c.loop-i-test.true)
