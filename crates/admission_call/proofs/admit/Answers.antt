@@ -1,5 +1,4 @@
 use Rattle.admission.proofs.Promised.{promised}
-use Rattle.admission_call.proofs.admit.Reads as reads
 use Rattle.text_admission.proofs.answer.Reads as answer-reads
 use Rattle.admission_call.proofs.admit.Goals as goal
 

@@ -1,16 +1,10 @@
-use Prim.Native.Nat.{ℕ, ◌+◌, ◌*◌, ◌-◌}
+use Prim.Native.Nat.{ℕ, ◌+◌, ◌*◌}
 use mathlib.Core.Path.{◌≡◌, refl, sym, ap, ◌∙◌}
-use lib.ListN.{length, set, drop, length-set}
+use lib.ListN.{set, drop, length-set}
 use lib.Seq.{sets}
 use Rattle.bench_hexadecimal.specs.Lines.{bytes_of}
 use Rattle.bench_hexadecimal.proofs.Decoding.{bytes_turn, bytes_end}
 use Rattle.bench_hexadecimal.proofs.decode.Goals as goal
-
-abbrev invariant-loop : tie.invariant-loop
-invariant-loop line bytes₀ n k₀ bytes k = (length bytes ≡ length bytes₀) × (sets bytes₀ 0 (bytes_of line) ≡ sets bytes k (bytes_of (drop (2 * k) line)))
-
-abbrev decreases-loop : tie.decreases-loop
-decreases-loop line bytes₀ n k₀ bytes k = n - k
 
 pub loop-k-init : goal.loop-k-init
 loop-k-init c = (refl, refl)

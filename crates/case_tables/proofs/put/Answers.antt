@@ -1,5 +1,4 @@
 use borrow.Author.Tests.{lt-ltb, le-ltb}
-use Rattle.case_tables.proofs.put.Reads as reads
 use Rattle.case_tables.proofs.put.Goals as goal
 
 -- src/lib.rt:6:1

@@ -1,19 +1,12 @@
-use Prim.Native.Nat.{ℕ, ◌+◌, ◌-◌, ◌≤◌}
+use Prim.Native.Nat.{ℕ, ◌+◌, ◌≤◌}
 use native.Mathlib.Omega.{arith}
 use mathlib.Core.Path.{◌≡◌, sym, ◌∙◌, ap}
 use Rattle.run_actions.specs.Acts.{branch_act}
 use Rattle.run_actions.proofs.Walks.{positive}
 use Rattle.run_actions.proofs.Parts.{branch_end, branch_hit, branch_missing, branch_next}
-use Rattle.run_actions.proofs.branch.Reads as reads
 use Rattle.run_actions.proofs.size_at.Reads as size-at-reads
 use Rattle.run_actions.proofs.stored.Reads as stored-reads
 use Rattle.run_actions.proofs.branch.Goals as goal
-
-abbrev invariant-loop : tie.invariant-loop
-invariant-loop table n start end j₀ j = branch_act table n j end ≡ branch_act table n start end
-
-abbrev decreases-loop : tie.decreases-loop
-decreases-loop table n start end j₀ j = end - j
 
 -- src/lib.rt:82:12
 pub stored-requires : goal.stored-requires

@@ -3,7 +3,6 @@ use Rattle.term_evaluation.specs.declared.Tested.{Tested}
 use Rattle.term_integers.proofs.Laws.{back}
 use Rattle.run_actions.specs.Acts.{by_set}
 use Rattle.run_actions.specs.declared.Act.{Act}
-use Rattle.run_actions.proofs.by_set.Reads as reads
 use Rattle.run_actions.proofs.by_set.Goals as goal
 
 -- src/lib.rt:307:1

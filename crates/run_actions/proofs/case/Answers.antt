@@ -1,4 +1,4 @@
-use Prim.Native.Nat.{ℕ, ◌+◌, ◌-◌, ◌≤◌}
+use Prim.Native.Nat.{ℕ, ◌+◌, ◌≤◌}
 use native.Mathlib.Omega.{arith}
 use mathlib.Core.Path.{◌≡◌, sym, ◌∙◌, ap}
 use Rattle.term_evaluation.specs.declared.Tested.{Tested}
@@ -6,16 +6,9 @@ use Rattle.run_actions.specs.Acts.{by_case, case_act}
 use Rattle.run_actions.specs.declared.Act.{Act}
 use Rattle.run_actions.proofs.Walks.{positive}
 use Rattle.run_actions.proofs.Parts.{case_end, case_hit, case_missing, case_next}
-use Rattle.run_actions.proofs.case.Reads as reads
 use Rattle.run_actions.proofs.case_holds.Reads as case-holds-reads
 use Rattle.run_actions.proofs.size_at.Reads as size-at-reads
 use Rattle.run_actions.proofs.case.Goals as goal
-
-abbrev invariant-loop : tie.invariant-loop
-invariant-loop table values start end j₀ j = case_act table values j end ≡ case_act table values start end
-
-abbrev decreases-loop : tie.decreases-loop
-decreases-loop table values start end j₀ j = end - j
 
 -- src/lib.rt:122:15
 pub case_holds-requires : goal.case_holds-requires

@@ -1,5 +1,4 @@
 use borrow.Author.Tests.{eq-eqb, ne_eqb}
-use Rattle.run_actions.proofs.end.Reads as reads
 use Rattle.run_actions.proofs.end.Goals as goal
 
 -- src/lib.rt:344:9

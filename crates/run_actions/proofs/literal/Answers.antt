@@ -1,6 +1,5 @@
 use borrow.Author.Tests.{le-leb, le-ltb, lt-leb, lt-ltb}
 use mathlib.Core.Path.{sym, ◌∙◌}
-use Rattle.run_actions.proofs.literal.Reads as reads
 use Rattle.run_actions.proofs.literal_holds.Reads as literal-holds-reads
 use Rattle.run_actions.proofs.literal.Goals as goal
 

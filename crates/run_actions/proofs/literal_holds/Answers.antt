@@ -1,4 +1,4 @@
-use Prim.Native.Nat.{suc, ◌+◌, ◌*◌, ◌-◌, ◌≤◌, ◌<◌}
+use Prim.Native.Nat.{suc, ◌+◌, ◌*◌, ◌-◌, ◌<◌}
 use native.Mathlib.Omega.{arith}
 use native.Mathlib.Nat.{sub-zero}
 use borrow.Author.Tests.{eq-eqb, ne_eqb}
@@ -10,16 +10,9 @@ use Rattle.basis.specs.Bits.{value, frame_bits}
 use Rattle.table_layout.specs.Held.{literal_byte}
 use Rattle.run_actions.specs.Acts.{literal_holds}
 use Rattle.run_actions.proofs.Literals.{literal_more, literal_done}
-use Rattle.run_actions.proofs.literal_holds.Reads as reads
 use Rattle.run_actions.proofs.literal_byte.Reads as literal-byte-reads
 use Rattle.run_frame.proofs.octet.Reads as octet-reads
 use Rattle.run_actions.proofs.literal_holds.Goals as goal
-
-abbrev invariant-loop : tie.invariant-loop
-invariant-loop table frame p i n k₀ k = (literal_holds table frame p i k (n - k) ≡ literal_holds table frame p i 0 n) × (k ≤ n)
-
-abbrev decreases-loop : tie.decreases-loop
-decreases-loop table frame p i n k₀ k = n - k
 
 -- src/lib.rt:251:5
 pub loop-k-init : goal.loop-k-init

@@ -1,18 +1,10 @@
-use Prim.Native.Nat.{ℕ, ◌+◌, ◌-◌, ◌≤◌}
+use Prim.Native.Nat.{ℕ, ◌+◌, ◌≤◌}
 use native.Mathlib.Omega.{arith}
 use mathlib.Core.Path.{◌≡◌, refl, sym, ◌∙◌, ap}
-use Rattle.run_actions.specs.Acts.{members_act}
 use Rattle.run_actions.proofs.Walks.{positive}
 use Rattle.run_actions.proofs.Parts.{members_from, members_end, members_missing, members_next}
-use Rattle.run_actions.proofs.members.Reads as reads
 use Rattle.run_actions.proofs.size_at.Reads as size-at-reads
 use Rattle.run_actions.proofs.members.Goals as goal
-
-abbrev invariant-loop : tie.invariant-loop
-invariant-loop table start end count₀ j₀ count j = (members_from table end start j count ≡ members_act table start end) × (count ≤ j)
-
-abbrev decreases-loop : tie.decreases-loop
-decreases-loop table start end count₀ j₀ count j = end - j
 
 -- src/lib.rt:150:5
 pub loop-j-init : goal.loop-j-init

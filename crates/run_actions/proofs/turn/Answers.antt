@@ -1,7 +1,6 @@
 use Prim.Native.Nat.{◌+◌, ◌≤◌, ◌<◌}
 use native.Mathlib.Omega.{arith}
 use borrow.Author.Tests.{le-leb, lt-leb, lt-ltb, le-ltb}
-use Rattle.run_actions.proofs.turn.Reads as reads
 use Rattle.run_actions.proofs.ahead.Reads as ahead-reads
 use Rattle.run_actions.proofs.choice.Reads as choice-reads
 use Rattle.run_actions.proofs.turn.Goals as goal

@@ -2,7 +2,6 @@ use Prim.Native.Nat.{◌+◌, ◌*◌, ◌≤◌, ◌<◌}
 use native.Mathlib.Omega.{arith}
 use lib.ListN.{length}
 use borrow.Author.Tests.{lt-ltb, le-ltb, le-leb, lt-leb}
-use Rattle.run_fields.proofs.field.Reads as reads
 use Rattle.run_fields.proofs.at.Reads as at_reads
 use Rattle.table_layout.proofs.word.Reads as word-reads
 use Rattle.run_fields.proofs.field.Goals as goal

@@ -3,7 +3,6 @@ use native.Mathlib.Omega.{arith}
 use mathlib.Core.Path.{sym, ap, subst}
 use Rattle.table_layout.specs.declared.Construct.{Construct}
 use Rattle.run_fields.specs.Fields.{field_width}
-use Rattle.run_fields.proofs.width_of.Reads as reads
 use Rattle.run_fields.proofs.width_of.Goals as goal
 
 -- src/lib.rt:44:42

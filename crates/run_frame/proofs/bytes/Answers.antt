@@ -5,7 +5,6 @@ use mathlib.Core.Path.{◌≡◌, sym, ◌∙◌, ap, ap₂, subst}
 use lib.ListN.{length, get_or}
 use lib.Pow.{pow_mono, pow-add}
 use Rattle.basis.proofs.Frames.{bytes_value, bytes_none, bytes_more}
-use Rattle.run_frame.proofs.bytes.Reads as reads
 use Rattle.run_frame.proofs.wide.Reads as wide-reads
 use Rattle.run_frame.proofs.bytes.Goals as goal
 

@@ -7,7 +7,6 @@ use borrow.Author.Tests.{le-leb, lt-leb}
 use native.Mathlib.Omega.{arith}
 use Prim.Native.Nat.{ℕ, ◌≤◌}
 use lib.ListN.{length-map}
-use Rattle.run_grants.proofs.advance_words.Reads as reads
 use Rattle.run_grants.proofs.fits.Reads as fits-reads
 use Rattle.run_grants.proofs.put_together.Reads as put-together-reads
 use Rattle.run_steps.proofs.advance.Reads as advance-reads

@@ -3,17 +3,9 @@ use native.Mathlib.Omega.{arith}
 use borrow.Author.Tests.{not-true, not-false}
 use mathlib.Core.Path.{◌≡◌, refl, sym, ◌∙◌}
 use Rattle.basis.specs.Limits.{max_entries}
-use Rattle.run_grants.specs.Runs.{entries_fit}
 use Rattle.run_grants.proofs.Fitting.{entries_turn, entries_stop, entries_none}
-use Rattle.run_grants.proofs.entries_fit.Reads as reads
 use Rattle.run_grants.proofs.entry_fits.Reads as entry-fits-reads
 use Rattle.run_grants.proofs.entries_fit.Goals as goal
-
-abbrev invariant-loop : tie.invariant-loop
-invariant-loop table bits constructs passes count left₀ left = (left ≤ max_entries) × (entries_fit table bits constructs passes left ≡ entries_fit table bits constructs passes count)
-
-abbrev decreases-loop : tie.decreases-loop
-decreases-loop table bits constructs passes count left₀ left = left
 
 -- src/lib.rt:67:5
 pub loop-left-init : goal.loop-left-init

@@ -1,6 +1,5 @@
 use mathlib.Core.Path.{sym}
 use Rattle.run_grants.proofs.Fitting.{room_left, no_room}
-use Rattle.run_grants.proofs.room_fits.Reads as reads
 use Rattle.run_grants.proofs.room_fits.Goals as goal
 
 -- src/lib.rt:82:9

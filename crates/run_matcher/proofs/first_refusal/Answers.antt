@@ -1,4 +1,3 @@
-use Rattle.run_matcher.proofs.first_refusal.Reads as reads
 use Rattle.run_matcher.proofs.first_refusal.Goals as goal
 
 -- src/lib.rt:28:9

@@ -8,7 +8,6 @@ use lib.ListN.{length}
 use Rattle.basis.specs.Limits.{max_frame_bytes}
 use Rattle.run_matcher.specs.Opening.{Answered}
 use Rattle.run_matcher.proofs.Answers.{answered}
-use Rattle.run_matcher.proofs.tried.Reads as reads
 use Rattle.run_matcher.proofs.first_refusal.Reads as first-refusal-reads
 use Rattle.table_judge.proofs.sound.sound.Reads as sound-reads
 use Rattle.run_matcher.proofs.tried.Goals as goal

@@ -14,7 +14,6 @@ use mathlib.Core.Path.{◌≡◌, sym, ap, ◌∙◌}
 use lib.IntN.{ℤ, pos}
 use lib.ListN.{length, length-map}
 use Rattle.run_saved.proofs.Saving.{stored_is, stored_not, restored_is, encoded_length, all_written}
-use Rattle.run_saved.proofs.encode.Reads as reads
 use Rattle.run_saved.proofs.write.Reads as write-reads
 use Rattle.run_saved.proofs.write_values.Reads as write-values-reads
 use Rattle.run_saved.proofs.write_words.Reads as write-words-reads

@@ -5,7 +5,6 @@ use mathlib.Core.Path.{sym, subst}
 use lib.IntN.{ℤ}
 use mir.Syntax.{w64}
 use mir.Val.{SFits}
-use Rattle.run_saved.proofs.negative.Reads as reads
 use Rattle.run_saved.proofs.negative.Goals as goal
 
 -- src/lib.rt:77:5

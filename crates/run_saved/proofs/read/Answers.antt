@@ -1,17 +1,9 @@
-use Prim.Native.Nat.{◌+◌, ◌-◌, ◌^◌, ◌≤◌, ◌<◌}
+use Prim.Native.Nat.{◌+◌, ◌-◌}
 use native.Mathlib.Omega.{arith}
 use mathlib.Core.Path.{◌≡◌}
 use lib.ListN.{drop}
-use Rattle.run_saved.specs.Saved.{number}
 use Rattle.run_saved.proofs.Bytes.{read_turn, read_small, read_none, read_all}
-use Rattle.run_saved.proofs.read.Reads as reads
 use Rattle.run_saved.proofs.read.Goals as goal
-
-abbrev invariant-loop : tie.invariant-loop
-invariant-loop bytes at width n₀ left₀ n left = (left ≤ width) × (n ≡ number (width - left) (drop (at + left) bytes)) × (n < 256 ^ (width - left))
-
-abbrev decreases-loop : tie.decreases-loop
-decreases-loop bytes at width n₀ left₀ n left = left
 
 -- src/lib.rt:18:5
 pub loop-left-init : goal.loop-left-init

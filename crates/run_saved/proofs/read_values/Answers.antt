@@ -3,23 +3,16 @@ use mir.Syntax.{w64}
 use mir.Val.{to_z, of_z}
 use Rattle.basis.specs.Limits.{max_variables}
 use Rattle.run_saved.proofs.Patterns.{read_back}
-use Prim.Native.Nat.{◌+◌, ◌*◌, ◌-◌, ◌≤◌}
+use Prim.Native.Nat.{◌+◌, ◌*◌, ◌-◌}
 use native.Mathlib.Omega.{arith}
 use mathlib.Core.Path.{◌≡◌, refl, sym, ap, ◌∙◌}
-use lib.ListN.{length, drop, set, replicate, length-set, length-replicate}
+use lib.ListN.{drop, set, replicate, length-set, length-replicate}
 use lib.Seq.{sets}
 use Rattle.run_saved.specs.Saved.{numbers, whole}
 use Rattle.run_saved.proofs.Bytes.{numbers_start, numbers_turn, numbers_end}
-use Rattle.run_saved.proofs.read_values.Reads as reads
 use Rattle.run_saved.proofs.read.Reads as read-reads
 use Rattle.run_saved.proofs.signed.Reads as signed-Reads
 use Rattle.run_saved.proofs.read_values.Goals as goal
-
-abbrev invariant-loop : tie.invariant-loop
-invariant-loop bytes at values₀ i₀ values i = (i ≤ max_variables) × (length values ≡ max_variables) × (numbers whole 8 max_variables (drop at bytes) ≡ sets values i (numbers whole 8 (max_variables - i) (drop (at + 8 * i) bytes)))
-
-abbrev decreases-loop : tie.decreases-loop
-decreases-loop bytes at values₀ i₀ values i = max_variables - i
 
 -- src/lib.rt:109:5
 pub loop-i-init : goal.loop-i-init

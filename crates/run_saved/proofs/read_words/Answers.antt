@@ -1,20 +1,13 @@
-use Prim.Native.Nat.{ℕ, ◌+◌, ◌*◌, ◌-◌, ◌≤◌}
+use Prim.Native.Nat.{ℕ, ◌+◌, ◌*◌, ◌-◌}
 use native.Mathlib.Omega.{arith}
 use mathlib.Core.Path.{◌≡◌, refl, sym, ap, ◌∙◌}
-use lib.ListN.{length, drop, set, replicate, length-set, length-replicate}
+use lib.ListN.{drop, set, replicate, length-set, length-replicate}
 use lib.Seq.{sets}
 use Rattle.basis.specs.Limits.{max_entries}
 use Rattle.run_saved.specs.Saved.{numbers, plain}
 use Rattle.run_saved.proofs.Bytes.{numbers_start, numbers_turn, numbers_end}
-use Rattle.run_saved.proofs.read_words.Reads as reads
 use Rattle.run_saved.proofs.read_word.Reads as read-word-reads
 use Rattle.run_saved.proofs.read_words.Goals as goal
-
-abbrev invariant-loop : tie.invariant-loop
-invariant-loop bytes at words₀ i₀ words i = (i ≤ max_entries) × (length words ≡ max_entries) × (numbers plain 4 max_entries (drop at bytes) ≡ sets words i (numbers plain 4 (max_entries - i) (drop (at + 4 * i) bytes)))
-
-abbrev decreases-loop : tie.decreases-loop
-decreases-loop bytes at words₀ i₀ words i = max_entries - i
 
 -- src/lib.rt:53:5
 pub loop-i-init : goal.loop-i-init

@@ -1,18 +1,9 @@
-use Prim.Native.Nat.{◌+◌, ◌-◌, ◌≤◌}
+use Prim.Native.Nat.{◌+◌, ◌-◌}
 use native.Mathlib.Omega.{arith}
 use mathlib.Core.Path.{◌≡◌, refl, sym, ◌∙◌}
-use lib.ListN.{length, length-set}
-use lib.Seq.{sets}
-use Rattle.run_saved.specs.Saved.{bytes}
+use lib.ListN.{length-set}
 use Rattle.run_saved.proofs.Bytes.{write_start, write_turn, write_end}
-use Rattle.run_saved.proofs.write.Reads as reads
 use Rattle.run_saved.proofs.write.Goals as goal
-
-abbrev invariant-loop : tie.invariant-loop
-invariant-loop out₀ at width number n₀ i₀ out n i = (i ≤ width) × (length out ≡ length out₀) × (sets out₀ at (bytes width number) ≡ sets out (at + i) (bytes (width - i) n))
-
-abbrev decreases-loop : tie.decreases-loop
-decreases-loop out₀ at width number n₀ i₀ out n i = width - i
 
 -- src/lib.rt:32:5
 pub loop-i-init : goal.loop-i-init

@@ -1,23 +1,16 @@
 use lib.IntN.{pos}
 use mathlib.Core.List.{List}
-use Prim.Native.Nat.{ℕ, ◌+◌, ◌*◌, ◌-◌, ◌≤◌}
+use Prim.Native.Nat.{ℕ, ◌+◌, ◌*◌}
 use native.Mathlib.Omega.{arith}
 use mathlib.Core.Path.{◌≡◌, refl, sym, ap, ◌∙◌}
-use lib.ListN.{length, get_or, drop}
+use lib.ListN.{get_or, drop}
 use Rattle.term_integers.proofs.Laws.{read₁}
 use lib.Seq.{sets}
 use Rattle.run_saved.specs.Saved.{bytes, listed, pattern}
 use Rattle.run_saved.proofs.Bytes.{list_start, list_turn, list_end}
-use Rattle.run_saved.proofs.write_values.Reads as reads
 use Rattle.run_saved.proofs.unsigned.Reads as unsigned_reads
 use Rattle.run_saved.proofs.write.Reads as write-reads
 use Rattle.run_saved.proofs.write_values.Goals as goal
-
-abbrev invariant-loop : tie.invariant-loop
-invariant-loop out₀ at values i₀ out i = (i ≤ length values) × (length out ≡ length out₀) × (sets out₀ at (listed pattern 8 values) ≡ sets out (at + 8 * i) (listed pattern 8 (drop i values)))
-
-abbrev decreases-loop : tie.decreases-loop
-decreases-loop out₀ at values i₀ out i = length values - i
 
 -- src/lib.rt:122:5
 pub loop-i-init : goal.loop-i-init

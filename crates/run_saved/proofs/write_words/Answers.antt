@@ -1,20 +1,13 @@
 use mathlib.Core.List.{List}
-use Prim.Native.Nat.{ℕ, ◌+◌, ◌*◌, ◌-◌, ◌≤◌}
+use Prim.Native.Nat.{ℕ, ◌+◌, ◌*◌}
 use native.Mathlib.Omega.{arith}
 use mathlib.Core.Path.{◌≡◌, refl, sym, ap, ◌∙◌}
-use lib.ListN.{length, drop}
+use lib.ListN.{drop}
 use lib.Seq.{sets}
 use Rattle.run_saved.specs.Saved.{listed, plain}
 use Rattle.run_saved.proofs.Bytes.{list_start, list_turn, list_end}
-use Rattle.run_saved.proofs.write_words.Reads as reads
 use Rattle.run_saved.proofs.write.Reads as write-reads
 use Rattle.run_saved.proofs.write_words.Goals as goal
-
-abbrev invariant-loop : tie.invariant-loop
-invariant-loop out₀ at words i₀ out i = (i ≤ length words) × (length out ≡ length out₀) × (sets out₀ at (listed plain 4 words) ≡ sets out (at + 4 * i) (listed plain 4 (drop i words)))
-
-abbrev decreases-loop : tie.decreases-loop
-decreases-loop out₀ at words i₀ out i = length words - i
 
 -- src/lib.rt:66:5
 pub loop-i-init : goal.loop-i-init

@@ -1,20 +1,10 @@
 use Prim.Native.Nat.{◌-◌}
 use native.Mathlib.Omega.{arith}
 use mathlib.Core.Path.{◌≡◌, refl, sym, ap, subst, ◌∙◌}
-use lib.ListN.{length}
 use Rattle.run_steps.specs.Steps.{whole, steps_of, Fits}
 use Rattle.run_steps.proofs.Running.{step_fits, steps_stay, steps_next, steps_none}
-use Rattle.run_steps.proofs.advance.Reads as reads
 use Rattle.run_steps.proofs.step.Reads as step-reads
 use Rattle.run_steps.proofs.advance.Goals as goal
-
-abbrev invariant-loop : tie.invariant-loop
-invariant-loop table frame constructs₀ passes₀ values₀ reading₀ grant run₀ left₀ constructs passes values reading run left =
-    (steps_of table frame left (whole constructs passes values reading run) ≡ steps_of table frame grant (whole constructs₀ passes₀ values₀ reading₀ run₀)) × Fits frame (whole constructs passes values reading run) × (length reading ≡ length reading₀)
-
-abbrev decreases-loop : tie.decreases-loop
-decreases-loop table frame constructs₀ passes₀ values₀ reading₀ grant run₀ left₀ constructs passes values reading run left =
-    left
 
 -- src/lib.rt:350:5
 pub loop-left-init : goal.loop-left-init

@@ -4,7 +4,6 @@ use mathlib.Core.Path.{sym, ◌∙◌, ap}
 use lib.IntN.{ℤ}
 use lib.ListN.{set}
 use Rattle.run_steps.proofs.Places.{bind_one, bind_none}
-use Rattle.run_steps.proofs.bind.Reads as reads
 use Rattle.run_steps.proofs.bind.Goals as goal
 
 -- src/lib.rt:109:1

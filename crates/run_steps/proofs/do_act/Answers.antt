@@ -3,7 +3,6 @@ use Rattle.term_integers.proofs.Laws.{back}
 use native.Mathlib.Omega.{arith}
 use Rattle.run_actions.specs.Acts.{Doable}
 use Rattle.run_steps.specs.Steps.{take_done}
-use Rattle.run_steps.proofs.do_act.Reads as reads
 use Rattle.run_steps.proofs.broken.Reads as broken-reads
 use Rattle.run_steps.proofs.do_again.Reads as do-again-reads
 use Rattle.run_steps.proofs.do_members.Reads as do-members-reads

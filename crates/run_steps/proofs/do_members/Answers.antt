@@ -1,5 +1,4 @@
 use borrow.Author.Tests.{le-leb, lt-leb}
-use Rattle.run_steps.proofs.do_members.Reads as reads
 use Rattle.run_steps.proofs.broken.Reads as broken-reads
 use Rattle.run_steps.proofs.place.Reads as place-reads
 use Rattle.run_steps.proofs.taken.Reads as taken-reads

@@ -3,7 +3,6 @@ use lib.IntN.{ℤ}
 use borrow.Author.Tests.{le-leb, lt-leb}
 use Rattle.term_integers.proofs.Laws.{back}
 use Rattle.run_steps.specs.Steps.{bind}
-use Rattle.run_steps.proofs.do_take.Reads as reads
 use Rattle.run_steps.proofs.bind.Reads as bind-reads
 use Rattle.run_steps.proofs.broken.Reads as broken-reads
 use Rattle.run_steps.proofs.record.Reads as record-reads

@@ -2,19 +2,11 @@ use Prim.Native.Nat.{ℕ, ◌+◌, ◌-◌, ◌≤◌}
 use native.Mathlib.Omega.{arith}
 use mathlib.Core.Path.{◌≡◌, refl, sym, ◌∙◌, ap}
 use lib.ListN.{set}
-use Rattle.basis.specs.Limits.{max_entries}
 use Rattle.run_actions.proofs.Walks.{positive}
 use Rattle.run_steps.specs.Steps.{placed}
 use Rattle.run_steps.proofs.Places.{placed_end, placed_full, placed_missing, placed_next}
-use Rattle.run_steps.proofs.place.Reads as reads
 use Rattle.run_actions.proofs.size_at.Reads as size-at-reads
 use Rattle.run_steps.proofs.place.Goals as goal
-
-abbrev invariant-loop : tie.invariant-loop
-invariant-loop table constructs₀ passes₀ start end at j₀ k₀ constructs passes j k = (placed (λ (i : ℕ). i) table j end k constructs ≡ placed (λ (i : ℕ). i) table start end at constructs₀) × (placed (λ (i : ℕ). 0) table j end k passes ≡ placed (λ (i : ℕ). 0) table start end at passes₀) × (k ≤ max_entries)
-
-abbrev decreases-loop : tie.decreases-loop
-decreases-loop table constructs₀ passes₀ start end at j₀ k₀ constructs passes j k = end - j
 
 -- src/lib.rt:125:5
 pub loop-j-init : goal.loop-j-init

@@ -1,6 +1,5 @@
 use lib.ListN.{length-set}
 use native.Mathlib.Omega.{arith}
-use Rattle.run_steps.proofs.record.Reads as reads
 use Rattle.run_steps.proofs.record.Goals as goal
 
 -- src/lib.rt:106:5

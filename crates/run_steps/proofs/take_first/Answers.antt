@@ -3,7 +3,6 @@ use native.Mathlib.Omega.{arith}
 use borrow.Author.Tests.{le-leb, lt-leb}
 use Rattle.run_actions.specs.Acts.{Doable}
 use Rattle.run_actions.proofs.Doing.{doable}
-use Rattle.run_steps.proofs.take_first.Reads as reads
 use Rattle.run_actions.proofs.decide.Reads as decide-reads
 use Rattle.run_steps.proofs.broken.Reads as broken-reads
 use Rattle.run_steps.proofs.do_act.Reads as do-act-reads

@@ -1,5 +1,4 @@
 use borrow.Author.Tests.{eq-eqb, ne_eqb}
-use Rattle.run_steps.proofs.verdict.Reads as reads
 use Rattle.run_steps.proofs.verdict.Goals as goal
 
 -- src/lib.rt:49:13

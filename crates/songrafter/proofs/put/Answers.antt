@@ -1,6 +1,5 @@
 use mathlib.Core.Path.{sym}
 use lib.Seq.{set_out}
-use Rattle.songrafter.proofs.put.Reads as reads
 use Rattle.songrafter.proofs.put.Goals as goal
 
 -- src/lib.rt:21:1

@@ -1,6 +1,5 @@
 use mathlib.Core.Path.{sym}
 use lib.Seq.{set_out}
-use Rattle.songrafter.proofs.put_count.Reads as reads
 use Rattle.songrafter.proofs.put_count.Goals as goal
 
 -- src/lib.rt:145:1

@@ -2,7 +2,6 @@ use Prim.Native.Nat.{ℕ}
 use mathlib.Core.Path.{ap, ◌∙◌}
 use mathlib.Core.List.{List}
 use lib.ListN.{set}
-use Rattle.songrafter.proofs.put_five.Reads as reads
 use Rattle.songrafter.proofs.put.Reads as put_reads
 use Rattle.songrafter.proofs.put_four.Reads as put-four-reads
 use Rattle.songrafter.proofs.put_five.Goals as goal

@@ -1,5 +1,4 @@
 use Rattle.songrafter.proofs.CallLaws.{four_stores}
-use Rattle.songrafter.proofs.put_four.Reads as reads
 use Rattle.songrafter.proofs.put.Reads as put_reads
 use Rattle.songrafter.proofs.put_four.Goals as goal
 

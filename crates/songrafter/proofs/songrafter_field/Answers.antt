@@ -2,7 +2,6 @@ use mathlib.Core.Path.{ap, ◌∙◌}
 use lib.Seq.{sets}
 use Rattle.run_fields.specs.Fields.{number_of, told}
 use Rattle.run_fields.specs.declared.Answer.{Answer}
-use Rattle.songrafter.proofs.songrafter_field.Reads as reads
 use Rattle.run_fields.proofs.field.Reads as field_reads
 use Rattle.songrafter.proofs.tell_field.Reads as tell-field-reads
 use Rattle.songrafter.proofs.songrafter_field.Goals as goal

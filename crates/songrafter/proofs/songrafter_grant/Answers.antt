@@ -3,7 +3,6 @@ use lib.ListN.{length}
 use Rattle.run_saved.specs.Saved.{saved_bytes}
 use Rattle.songrafter.proofs.CallLaws.{grants_run}
 use borrow.Author.Tests.{eq-eqb}
-use Rattle.songrafter.proofs.songrafter_grant.Reads as reads
 use Rattle.run_saved.proofs.decode.Reads as decode-reads
 use Rattle.run_saved.proofs.encode.Reads as encode-reads
 use Rattle.songrafter.proofs.grant_in_place.Reads as grant-in-place-reads

@@ -5,7 +5,6 @@ use Rattle.run_grants.specs.declared.Run.{Run}
 use Rattle.run_saved.specs.Saved.{stored, saved_bytes}
 use Rattle.songrafter.specs.Calls.{number_with_room}
 use borrow.Author.Tests.{eq-eqb}
-use Rattle.songrafter.proofs.songrafter_open.Reads as reads
 use Rattle.run_matcher.proofs.open.Reads as open-reads
 use Rattle.run_saved.proofs.encode.Reads as encode-reads
 use Rattle.songrafter.proofs.opening_number.Reads as opening-number-reads

@@ -1,6 +1,5 @@
 use borrow.Author.Tests.{eq-eqb, ne_eqb}
 use Rattle.run_saved.specs.Saved.{saved_bytes}
-use Rattle.songrafter.proofs.with_room.Reads as reads
 use Rattle.songrafter.proofs.with_room.Goals as goal
 
 -- src/lib.rt:101:13

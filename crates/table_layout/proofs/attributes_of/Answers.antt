@@ -1,4 +1,3 @@
-
 use Rattle.table_layout.proofs.attributes_of.Goals as goal
 
 pub returns-in-Missing : goal.returns-in-Missing

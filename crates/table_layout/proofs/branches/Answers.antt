@@ -2,7 +2,6 @@ use Prim.Native.Nat.{◌+◌}
 use native.Mathlib.Omega.{arith}
 use borrow.Author.Tests.{le-leb, le-ltb, lt-leb, lt-ltb}
 use Rattle.basis.specs.Limits.{max_constructs}
-use Rattle.table_layout.proofs.branches.Reads as reads
 use Rattle.table_layout.proofs.branches.Goals as goal
 
 -- src/lib.rt:50:9

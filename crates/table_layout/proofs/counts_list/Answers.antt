@@ -1,4 +1,3 @@
-
 use Rattle.table_layout.proofs.counts_list.Goals as goal
 
 pub returns-in-Counted : goal.returns-in-Counted

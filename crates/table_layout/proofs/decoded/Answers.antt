@@ -1,7 +1,6 @@
 use Rattle.table_layout.specs.Constructs.{construct_of}
 use borrow.Author.Tests.{le-leb, le-ltb, lt-leb, lt-ltb}
 use mathlib.Core.Path.{sym, ◌∙◌}
-use Rattle.table_layout.proofs.decoded.Reads as reads
 use Rattle.table_layout.proofs.branches.Reads as branches-reads
 use Rattle.table_layout.proofs.inner.Reads as inner-reads
 use Rattle.table_layout.proofs.without_parts.Reads as without-parts-reads

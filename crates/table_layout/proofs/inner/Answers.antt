@@ -1,5 +1,4 @@
 use borrow.Author.Tests.{eq-eqb, ne_eqb}
-use Rattle.table_layout.proofs.inner.Reads as reads
 use Rattle.table_layout.proofs.repetition.Reads as repetition-reads
 use Rattle.table_layout.proofs.inner.Goals as goal
 

@@ -1,5 +1,4 @@
 use borrow.Author.Tests.{eq-eqb, le-leb, le-ltb, lt-leb, lt-ltb, ne_eqb}
-use Rattle.table_layout.proofs.leaf.Reads as reads
 use Rattle.table_layout.proofs.literal.Reads as literal-reads
 use Rattle.table_layout.proofs.range.Reads as range_reads
 use Rattle.table_layout.proofs.uint.Reads as uint-reads

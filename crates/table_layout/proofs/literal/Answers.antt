@@ -1,5 +1,4 @@
 use borrow.Author.Tests.{le-leb, le-ltb, lt-leb, lt-ltb}
-use Rattle.table_layout.proofs.literal.Reads as reads
 use Rattle.table_layout.proofs.literal.Goals as goal
 
 -- src/lib.rt:136:9

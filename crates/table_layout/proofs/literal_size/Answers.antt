@@ -1,5 +1,4 @@
 use borrow.Author.Tests.{le-leb, le-ltb, lt-leb, lt-ltb}
-use Rattle.table_layout.proofs.literal_size.Reads as reads
 use Rattle.table_layout.proofs.literal_size.Goals as goal
 
 pub returns-then-length-lt1 : goal.returns-then-length-lt1

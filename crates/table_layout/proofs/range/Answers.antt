@@ -1,5 +1,4 @@
 use borrow.Author.Tests.{le-leb, le-ltb, lt-leb, lt-ltb}
-use Rattle.table_layout.proofs.range.Reads as reads
 use Rattle.table_layout.proofs.range.Goals as goal
 
 -- src/lib.rt:148:9

@@ -1,5 +1,4 @@
 use borrow.Author.Tests.{le-leb, le-ltb, lt-leb, lt-ltb}
-use Rattle.table_layout.proofs.range_size.Reads as reads
 use Rattle.table_layout.proofs.range_size.Goals as goal
 
 pub returns-then-low-ge128 : goal.returns-then-low-ge128

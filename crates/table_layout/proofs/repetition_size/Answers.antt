@@ -1,6 +1,5 @@
 use borrow.Author.Tests.{eq-eqb, ne_eqb}
 use mathlib.Core.Path.{sym, ◌∙◌}
-use Rattle.table_layout.proofs.repetition_size.Reads as reads
 use Rattle.table_layout.proofs.listed.Reads as listed-reads
 use Rattle.table_layout.proofs.repetition_size.Goals as goal
 

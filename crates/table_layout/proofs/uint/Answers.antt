@@ -1,6 +1,5 @@
 use borrow.Author.Tests.{le-leb, le-ltb, lt-leb, lt-ltb}
 use mathlib.Core.Path.{sym, ◌∙◌}
-use Rattle.table_layout.proofs.uint.Reads as reads
 use Rattle.table_layout.proofs.listed.Reads as listed-reads
 use Rattle.table_layout.proofs.uint.Goals as goal
 

@@ -1,5 +1,4 @@
 use borrow.Author.Tests.{eq-eqb, ne_eqb}
-use Rattle.table_layout.proofs.without_parts.Reads as reads
 use Rattle.table_layout.proofs.leaf.Reads as leaf-reads
 use Rattle.table_layout.proofs.without_parts.Goals as goal
 

@@ -1,17 +1,9 @@
 use native.Mathlib.Omega.{arith}
-use Prim.Native.Nat.{ℕ, ◌+◌, ◌-◌, ◌≤◌, ◌<◌}
+use Prim.Native.Nat.{ℕ, ◌+◌, ◌-◌}
 use mathlib.Core.Path.{◌≡◌, refl, ap, ◌∙◌}
-use lib.ListN.{length}
 use Rattle.report_chain_steps.specs.Told.{told}
-use Rattle.report_chain_steps.specs.Replayed.{no_depth, Tail}
 use Rattle.report_chain_steps.proofs.Tails.{tail_is, told_back}
 use Rattle.report_chain_checks.proofs.replay.replayed.Goals as goal
-
-abbrev invariant-loop : tie.invariant-loop
-invariant-loop table first steps items₀ count at₀ k₀ items at k = (k ≤ count) × (length items ≡ length items₀) × (at.depth < no_depth → (n : ℕ) → Tail table items₀ at₀ (told steps count n) → Tail table items at (told steps k (count - k + n)))
-
-abbrev decreases-loop : tie.decreases-loop
-decreases-loop table first steps items₀ count at₀ k₀ items at k = k
 
 pub loop-k-init : goal.loop-k-init
 loop-k-init c =

@@ -1,18 +1,10 @@
 use native.Mathlib.Omega.{arith}
 use mathlib.Core.Bool.{false≢true}
-use Prim.Native.Nat.{ℕ, ◌-◌, ◌≤◌}
+use Prim.Native.Nat.{ℕ}
 use mathlib.Core.Path.{◌≡◌, subst, ◌∙◌}
-use mathlib.Core.List.{List}
 use Rattle.report_chain_steps.specs.Replayed.{row, stack, FirstOf}
-use Rattle.table_first_follow.specs.Sets.{FirstSets}
 use Rattle.report_chain_steps.proofs.Readiness.{none_ready, rows_ready, unless}
 use Rattle.report_chain_checks.proofs.starts.ready.Goals as goal
-
-abbrev invariant-loop : tie.invariant-loop
-invariant-loop first items depth d₀ d = (d ≤ depth) × ((ws : List ℕ) → FirstSets ws first → FirstOf ws (stack ws items d))
-
-abbrev decreases-loop : tie.decreases-loop
-decreases-loop first items depth d₀ d = depth - d
 
 pub loop-d-init : goal.loop-d-init
 unfolding stack

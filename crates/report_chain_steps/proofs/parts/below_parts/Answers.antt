@@ -1,18 +1,12 @@
 use native.Mathlib.Omega.{arith}
-use Prim.Native.Nat.{ℕ, ◌-◌, ◌<◌}
+use Prim.Native.Nat.{ℕ}
 use mathlib.Core.Path.{◌≡◌, ap, sym, ◌∙◌}
 use mathlib.Core.List.{List, [], ◌∷◌, ◌++◌}
 use Rattle.table_first_follow.specs.Parts.{siblings}
 use Rattle.table_first_follow.proofs.PartLaws.{siblings_done, siblings_last}
-use Rattle.report_chain_steps.specs.Replayed.{no_depth, stack}
+use Rattle.report_chain_steps.specs.Replayed.{stack}
 use Rattle.report_chain_steps.proofs.Rules.{step_part}
 use Rattle.report_chain_steps.proofs.parts.below_parts.Goals as goal
-
-abbrev invariant-loop : tie.invariant-loop
-invariant-loop table items depth start end d₀ at₀ d at = d < no_depth → (is : List ℕ) → stack table items d ≡ siblings table at end ++ is → stack table items depth ≡ siblings table start end ++ is
-
-abbrev decreases-loop : tie.decreases-loop
-decreases-loop table items depth start end d₀ at₀ d at = end - at
 
 pub loop-at-init : goal.loop-at-init
 loop-at-init c = λ h is e. e

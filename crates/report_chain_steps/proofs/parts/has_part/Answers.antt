@@ -1,17 +1,11 @@
 use native.Mathlib.Omega.{arith}
 use mathlib.Core.Bool.{false≢true}
-use Prim.Native.Nat.{ℕ, ◌-◌, ◌<◌}
+use Prim.Native.Nat.{ℕ, ◌<◌}
 use mathlib.Core.Path.{◌≡◌, refl, subst, ◌∙◌}
 use mathlib.Core.List.{List, [], ◌∷◌, ◌++◌}
 use Rattle.table_first_follow.specs.Parts.{siblings}
 use Rattle.report_chain_steps.proofs.Rules.{further_part}
 use Rattle.report_chain_steps.proofs.parts.has_part.Goals as goal
-
-abbrev invariant-loop : tie.invariant-loop
-invariant-loop table start end b at₀ at = (before : List ℕ) × (siblings table start end ≡ before ++ siblings table at end)
-
-abbrev decreases-loop : tie.decreases-loop
-decreases-loop table start end b at₀ at = end - at
 
 pub loop-at-init : goal.loop-at-init
 loop-at-init c = ([], refl)

@@ -1,17 +1,11 @@
 use native.Mathlib.Omega.{arith}
-use Prim.Native.Nat.{ℕ, ◌-◌, ◌<◌}
+use Prim.Native.Nat.{ℕ, ◌-◌}
 use mathlib.Core.Path.{◌≡◌, ap, ◌∙◌}
 use mathlib.Core.List.{List, ◌∷◌, ◌++◌}
 use lib.ListN.{replicate}
-use Rattle.report_chain_steps.specs.Replayed.{no_depth, stack}
+use Rattle.report_chain_steps.specs.Replayed.{stack}
 use Rattle.report_chain_steps.proofs.Stacks.{one_more}
 use Rattle.report_chain_steps.proofs.stack.below_copies.Goals as goal
-
-abbrev invariant-loop : tie.invariant-loop
-invariant-loop items depth b n d₀ k₀ d k = d < no_depth → (ws is : List ℕ) → stack ws items d ≡ replicate k b ++ is → stack ws items depth ≡ replicate n b ++ is
-
-abbrev decreases-loop : tie.decreases-loop
-decreases-loop items depth b n d₀ k₀ d k = k
 
 pub loop-k-init : goal.loop-k-init
 loop-k-init c = λ h ws is e. e

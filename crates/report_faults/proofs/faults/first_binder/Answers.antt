@@ -1,13 +1,6 @@
-use Prim.Native.Nat.{◌-◌}
 use Rattle.report_faults.specs.Faults.{binder_if, first_binder}
-use Rattle.text_names.proofs.Loops.{Least, least_start, least_turn, least_end}
+use Rattle.text_names.proofs.Loops.{least_start, least_turn, least_end}
 use Rattle.report_faults.proofs.faults.first_binder.Goals as goal
-
-abbrev invariant-loop : tie.invariant-loop
-invariant-loop text nodes a e p least₀ j₀ least j = Least a e (binder_if text nodes p) least j
-
-abbrev decreases-loop : tie.decreases-loop
-decreases-loop text nodes a e p least₀ j₀ least j = e - j
 
 pub loop-j-init : goal.loop-j-init
 loop-j-init c = least_start

@@ -1,14 +1,6 @@
-use Prim.Native.Nat.{◌-◌}
 use Rattle.report_faults.specs.Faults.{rule_if, first_rule}
-use Rattle.text_names.proofs.Loops.{Least, least_start, least_turn, least_end}
-use borrow.Author.Rules.{rules}
+use Rattle.text_names.proofs.Loops.{least_start, least_turn, least_end}
 use Rattle.report_faults.proofs.faults.first_rule.Goals as goal
-
-abbrev invariant-loop : tie.invariant-loop
-invariant-loop text rules count p least₀ j₀ least j = Least 0 count (rule_if text rules p) least j
-
-abbrev decreases-loop : tie.decreases-loop
-decreases-loop text rules count p least₀ j₀ least j = count - j
 
 pub loop-j-init : goal.loop-j-init
 loop-j-init c = least_start

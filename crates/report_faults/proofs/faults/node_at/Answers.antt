@@ -1,13 +1,6 @@
-use Prim.Native.Nat.{◌-◌}
 use Rattle.report_faults.specs.Faults.{node_if, node_at}
-use Rattle.text_names.proofs.Loops.{Least, least_start, least_turn, least_end}
+use Rattle.text_names.proofs.Loops.{least_start, least_turn, least_end}
 use Rattle.report_faults.proofs.faults.node_at.Goals as goal
-
-abbrev invariant-loop : tie.invariant-loop
-invariant-loop nodes a e p least₀ j₀ least j = Least a e (node_if nodes p) least j
-
-abbrev decreases-loop : tie.decreases-loop
-decreases-loop nodes a e p least₀ j₀ least j = e - j
 
 pub loop-j-init : goal.loop-j-init
 loop-j-init c = least_start

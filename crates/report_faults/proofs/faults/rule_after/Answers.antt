@@ -1,14 +1,6 @@
-use Prim.Native.Nat.{◌-◌}
 use Rattle.report_faults.specs.Faults.{after_if, rule_after}
-use Rattle.text_names.proofs.Loops.{Least, least_start, least_turn, least_end}
-use borrow.Author.Rules.{rules}
+use Rattle.text_names.proofs.Loops.{least_start, least_turn, least_end}
 use Rattle.report_faults.proofs.faults.rule_after.Goals as goal
-
-abbrev invariant-loop : tie.invariant-loop
-invariant-loop rules count p least₀ k₀ least k = Least 0 count (after_if rules p) least k
-
-abbrev decreases-loop : tie.decreases-loop
-decreases-loop rules count p least₀ k₀ least k = count - k
 
 pub loop-k-init : goal.loop-k-init
 loop-k-init c = least_start

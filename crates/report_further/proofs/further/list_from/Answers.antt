@@ -1,13 +1,6 @@
-use Prim.Native.Nat.{◌-◌}
 use Rattle.report_further.specs.Further.{term_from}
-use Rattle.text_names.proofs.Loops.{Least, least_start, least_turn, least_end}
+use Rattle.text_names.proofs.Loops.{least_start, least_turn, least_end}
 use Rattle.report_further.proofs.further.list_from.Goals as goal
-
-abbrev invariant-loop : tie.invariant-loop
-invariant-loop text nodes terms start a i f g least₀ t₀ least t = Least f g (term_from start text nodes terms a i) least t
-
-abbrev decreases-loop : tie.decreases-loop
-decreases-loop text nodes terms start a i f g least₀ t₀ least t = g - t
 
 pub loop-t-init : goal.loop-t-init
 loop-t-init c = least_start

@@ -1,14 +1,6 @@
-use Prim.Native.Nat.{◌-◌}
-use borrow.Author.Rules.{rules}
 use Rattle.report_further.specs.Further.{rule_from}
-use Rattle.text_names.proofs.Loops.{Least, least_start, least_turn, least_end}
+use Rattle.text_names.proofs.Loops.{least_start, least_turn, least_end}
 use Rattle.report_further.proofs.further.next_fault.Goals as goal
-
-abbrev invariant-loop : tie.invariant-loop
-invariant-loop text nodes terms rules start count least₀ k₀ least k = Least 0 count (rule_from start text nodes terms rules count) least k
-
-abbrev decreases-loop : tie.decreases-loop
-decreases-loop text nodes terms rules start count least₀ k₀ least k = count - k
 
 pub loop-k-init : goal.loop-k-init
 loop-k-init c = least_start

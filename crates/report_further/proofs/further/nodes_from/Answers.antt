@@ -1,14 +1,6 @@
-use Prim.Native.Nat.{◌-◌}
-use borrow.Author.Rules.{rules}
 use Rattle.report_further.specs.Further.{node_from}
-use Rattle.text_names.proofs.Loops.{Least, least_start, least_turn, least_end}
+use Rattle.text_names.proofs.Loops.{least_start, least_turn, least_end}
 use Rattle.report_further.proofs.further.nodes_from.Goals as goal
-
-abbrev invariant-loop : tie.invariant-loop
-invariant-loop text nodes terms rules start count a e least₀ i₀ least i = Least a e (node_from start text nodes terms rules count a e) least i
-
-abbrev decreases-loop : tie.decreases-loop
-decreases-loop text nodes terms rules start count a e least₀ i₀ least i = e - i
 
 pub loop-i-init : goal.loop-i-init
 loop-i-init c = least_start

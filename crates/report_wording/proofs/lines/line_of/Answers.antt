@@ -1,15 +1,7 @@
-use Prim.Native.Nat.{◌-◌}
 use mathlib.Core.Logic.{⊎_elim}
 use mathlib.Core.Path.{◌∙◌, sym}
-use Rattle.report_wording.specs.Lines.{Walked}
 use Rattle.report_wording.proofs.LineLaws.{walked_none, walked_end, walked_on, walked_all}
 use Rattle.report_wording.proofs.lines.line_of.Goals as goal
-
-abbrev invariant-loop : tie.invariant-loop
-invariant-loop grammar at before₀ start₀ i₀ before start i = Walked grammar at i before start
-
-abbrev decreases-loop : tie.decreases-loop
-decreases-loop grammar at before₀ start₀ i₀ before start i = at - i
 
 pub loop-i-init : goal.loop-i-init
 loop-i-init c = walked_none _ _

@@ -1,0 +1,9 @@
+use Prim.Native.Nat.{◌≤◌, ◌-◌}
+use Rattle.basis.specs.Limits.{table_words}
+use Rattle.case_judge.proofs.changes.Given as goal
+
+abbrev pub invariant-loop-k : goal.invariant-loop-k
+invariant-loop-k l = l.k ≤ table_words
+
+abbrev pub decreases-loop-k : goal.decreases-loop-k
+decreases-loop-k l = table_words - l.k
