@@ -7,7 +7,7 @@ use Rattle.text_names.proofs.Loops.{NoneYet}
 use Rattle.text_names.proofs.names.named.Given as goal
 
 abbrev pub invariant-loop-j : goal.invariant-loop-j
-invariant-loop-j l = NoneYet 0 l.count (λ (l.j : ℕ). same_name l.text (named_at l.rules l.j) l.p) l.j
+invariant-loop-j l = NoneYet 0 l.count (λ (j : ℕ). same_name l.text (named_at l.rules j) l.p) l.j
 
 abbrev pub decreases-loop-j : goal.decreases-loop-j
 decreases-loop-j l = l.count - l.j
