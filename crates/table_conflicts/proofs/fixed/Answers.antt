@@ -2,4 +2,4 @@
 use Rattle.table_conflicts.proofs.fixed.Goals as goal
 
 pub returns-in-Counted : goal.returns-in-Counted
-returns-in-Counted c = simp (c.passes-1.given.1, c.exact.ensures, c.term_at.ensures, c.before-in-Counted.ensures, c.term_words.ensures)
+returns-in-Counted c = simp (c.in-Counted.is, c.exact.ensures, c.term_at.ensures, c.before-in-Counted.ensures, c.term_words.ensures)

@@ -10,13 +10,13 @@ never : Decides false ⊥
 never = ((λ e. absurd (false≢true e)), (λ z. absurd z))
 
 pub returns-in-None : goal.returns-in-None
-returns-in-None c = rw c.enum_told-1.given.1 never
+returns-in-None c = rw c.in-None.is never
 
 pub returns-in-Counts : goal.returns-in-Counts
-returns-in-Counts c = rw c.enum_told-in-Counts-1.given.1 never
+returns-in-Counts c = rw c.in-Counts.is never
 
 pub returns-in-Set : goal.returns-in-Set
 returns-in-Set c =
     let a = c.args in
-    subst (λ (x : OwnList). Decides c.is_empty.result (NoValueIn (strings a.first.now) a.i x)) (sym c.enum_told-in-Set-1.given.1)
+    subst (λ (x : OwnList). Decides c.is_empty.result (NoValueIn (strings a.first.now) a.i x)) (sym c.in-Set.is)
     ((λ e x h. c.is_empty.ensures.0 e x ((c.set_of.ensures.strings x).1 h)), (λ n. c.is_empty.ensures.1 (λ x h. n x ((c.set_of.ensures.strings x).0 h))))

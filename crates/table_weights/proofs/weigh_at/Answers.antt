@@ -16,19 +16,19 @@ pub body_weight-requires : goal.body_weight-requires
 body_weight-requires c = rule_read c.args.table.now c.args.i _ (c.attributes_of-attributes.ensures ∙ ap attributes_of c.construct_at.ensures) c.enum_told-in-Rule-1.given.1
 
 pub returns-in-Nothing : goal.returns-in-Nothing
-returns-in-Nothing c = weighed_as c.args.table.now c.args.weights.now c.args.i _ (c.attributes_of-attributes.ensures ∙ ap attributes_of c.construct_at.ensures) Below.Nothing c.enum_told-1.given.1
+returns-in-Nothing c = weighed_as c.args.table.now c.args.weights.now c.args.i _ (c.attributes_of-attributes.ensures ∙ ap attributes_of c.construct_at.ensures) Below.Nothing c.in-Nothing.is
 
 pub returns-in-Branches : goal.returns-in-Branches
-returns-in-Branches c = parts_weighed c.args.table.now c.args.weights.now c.args.i _ (c.attributes_of-attributes.ensures ∙ ap attributes_of c.construct_at.ensures) Below.Branches c.enum_told-in-Branches-1.given.1 false _ _ refl c.gather.ensures.0 c.one_more.ensures
+returns-in-Branches c = parts_weighed c.args.table.now c.args.weights.now c.args.i _ (c.attributes_of-attributes.ensures ∙ ap attributes_of c.construct_at.ensures) Below.Branches c.in-Branches.is false _ _ refl c.gather.ensures.0 c.one_more.ensures
 
 pub returns-in-Members : goal.returns-in-Members
-returns-in-Members c = parts_weighed c.args.table.now c.args.weights.now c.args.i _ (c.attributes_of-attributes.ensures ∙ ap attributes_of c.construct_at.ensures) Below.Members c.enum_told-in-Members-1.given.1 true _ _ refl c.gather-in-Members.ensures.0 c.one_more-in-Members.ensures
+returns-in-Members c = parts_weighed c.args.table.now c.args.weights.now c.args.i _ (c.attributes_of-attributes.ensures ∙ ap attributes_of c.construct_at.ensures) Below.Members c.in-Members.is true _ _ refl c.gather-in-Members.ensures.0 c.one_more-in-Members.ensures
 
 pub returns-in-Body : goal.returns-in-Body
-returns-in-Body c = twice _ _ _ c.word.ensures.0 c.one_more-in-Body.ensures ∙ weighed_as c.args.table.now c.args.weights.now c.args.i _ (c.attributes_of-attributes.ensures ∙ ap attributes_of c.construct_at.ensures) (Below.Body _) c.enum_told-in-Body-1.given.1
+returns-in-Body c = twice _ _ _ c.word.ensures.0 c.one_more-in-Body.ensures ∙ weighed_as c.args.table.now c.args.weights.now c.args.i _ (c.attributes_of-attributes.ensures ∙ ap attributes_of c.construct_at.ensures) (Below.Body _) c.in-Body.is
 
 pub returns-in-Cases : goal.returns-in-Cases
-returns-in-Cases c = parts_weighed c.args.table.now c.args.weights.now c.args.i _ (c.attributes_of-attributes.ensures ∙ ap attributes_of c.construct_at.ensures) Below.Cases c.enum_told-in-Cases-1.given.1 false _ _ refl c.gather-in-Cases.ensures.0 c.one_more-in-Cases.ensures
+returns-in-Cases c = parts_weighed c.args.table.now c.args.weights.now c.args.i _ (c.attributes_of-attributes.ensures ∙ ap attributes_of c.construct_at.ensures) Below.Cases c.in-Cases.is false _ _ refl c.gather-in-Cases.ensures.0 c.one_more-in-Cases.ensures
 
 pub returns-in-Rule : goal.returns-in-Rule
-returns-in-Rule c = c.one_more-in-Rule.ensures ∙ ap (λ (x : ℕ). capped (1 + x)) c.body_weight.ensures.0 ∙ weighed_as c.args.table.now c.args.weights.now c.args.i _ (c.attributes_of-attributes.ensures ∙ ap attributes_of c.construct_at.ensures) Below.Rule c.enum_told-in-Rule-1.given.1
+returns-in-Rule c = c.one_more-in-Rule.ensures ∙ ap (λ (x : ℕ). capped (1 + x)) c.body_weight.ensures.0 ∙ weighed_as c.args.table.now c.args.weights.now c.args.i _ (c.attributes_of-attributes.ensures ∙ ap attributes_of c.construct_at.ensures) Below.Rule c.in-Rule.is

@@ -21,19 +21,19 @@ pub body_of-requires : goal.body_of-requires
 body_of-requires c = rule_read c.args.table.now c.args.i _ (c.attributes_of-attributes.ensures ∙ ap attributes_of c.construct_at.ensures) c.enum_told-in-Rule-1.given.1
 
 pub returns-in-Nothing : goal.returns-in-Nothing
-returns-in-Nothing c = of_none c.args.table.now c.args.family.now c.args.i c.requires.1 _ (c.attributes_of-attributes.ensures ∙ ap attributes_of c.construct_at.ensures) _ c.enum_told-1.given.1 c.empty.ensures
+returns-in-Nothing c = of_none c.args.table.now c.args.family.now c.args.i c.requires.1 _ (c.attributes_of-attributes.ensures ∙ ap attributes_of c.construct_at.ensures) _ c.in-Nothing.is c.empty.ensures
 
 pub returns-in-Branches : goal.returns-in-Branches
-returns-in-Branches c = of_alternative c.args.table.now c.args.family.now c.args.i c.requires.1 _ (c.attributes_of-attributes.ensures ∙ ap attributes_of c.construct_at.ensures) _ c.enum_told-in-Branches-1.given.1 c.gather.ensures
+returns-in-Branches c = of_alternative c.args.table.now c.args.family.now c.args.i c.requires.1 _ (c.attributes_of-attributes.ensures ∙ ap attributes_of c.construct_at.ensures) _ c.in-Branches.is c.gather.ensures
 
 pub returns-in-Members : goal.returns-in-Members
-returns-in-Members c = of_concatenation c.args.table.now c.args.family.now c.args.i c.requires.1 _ (c.attributes_of-attributes.ensures ∙ ap attributes_of c.construct_at.ensures) _ c.enum_told-in-Members-1.given.1 c.gather-in-Members.ensures
+returns-in-Members c = of_concatenation c.args.table.now c.args.family.now c.args.i c.requires.1 _ (c.attributes_of-attributes.ensures ∙ ap attributes_of c.construct_at.ensures) _ c.in-Members.is c.gather-in-Members.ensures
 
 pub returns-in-Body : goal.returns-in-Body
-returns-in-Body c = of_repetition c.args.table.now c.args.family.now c.args.i c.requires.1 _ (c.attributes_of-attributes.ensures ∙ ap attributes_of c.construct_at.ensures) _ _ c.static_counts.result c.set_of.result.words c.below-1.given.1 c.static_counts.ensures c.set_of.ensures c.repeated.ensures
+returns-in-Body c = of_repetition c.args.table.now c.args.family.now c.args.i c.requires.1 _ (c.attributes_of-attributes.ensures ∙ ap attributes_of c.construct_at.ensures) _ _ c.static_counts.result c.set_of.result.words c.in-Body.is c.static_counts.ensures c.set_of.ensures c.repeated.ensures
 
 pub returns-in-Cases : goal.returns-in-Cases
-returns-in-Cases c = of_switch c.args.table.now c.args.family.now c.args.i c.requires.1 _ (c.attributes_of-attributes.ensures ∙ ap attributes_of c.construct_at.ensures) _ c.enum_told-in-Cases-1.given.1 c.gather-in-Cases.ensures
+returns-in-Cases c = of_switch c.args.table.now c.args.family.now c.args.i c.requires.1 _ (c.attributes_of-attributes.ensures ∙ ap attributes_of c.construct_at.ensures) _ c.in-Cases.is c.gather-in-Cases.ensures
 
 pub returns-in-Rule : goal.returns-in-Rule
-returns-in-Rule c = of_use c.args.table.now c.args.family.now c.args.i c.requires.1 _ (c.attributes_of-attributes.ensures ∙ ap attributes_of c.construct_at.ensures) _ _ c.enum_told-in-Rule-1.given.1 c.body_of.ensures c.set_of-in-Rule.ensures
+returns-in-Rule c = of_use c.args.table.now c.args.family.now c.args.i c.requires.1 _ (c.attributes_of-attributes.ensures ∙ ap attributes_of c.construct_at.ensures) _ _ c.in-Rule.is c.body_of.ensures c.set_of-in-Rule.ensures

@@ -6,19 +6,19 @@ use Rattle.table_first_follow.proofs.CountLaws.{is_capped, is_no_count}
 use Rattle.table_first_follow.proofs.rules.repeated.Goals as goal
 
 pub returns-in-None : goal.returns-in-None
-returns-in-None c = is_no_count c.empty.result.words (Has c.args.body.words) c.args.counts (ap allowed c.enum_told-1.given.1) c.empty.ensures
+returns-in-None c = is_no_count c.empty.result.words (Has c.args.body.words) c.args.counts (ap allowed c.in-None.is) c.empty.ensures
 
 pub returns-in-From : goal.returns-in-From
-returns-in-From c = subst (λ (k : Counted). Is c.at_least.result.words (Repeated (Has c.args.body.words) (allowed k))) (sym c.counts-1.given.1) c.at_least.ensures
+returns-in-From c = subst (λ (k : Counted). Is c.at_least.result.words (Repeated (Has c.args.body.words) (allowed k))) (sym c.in-From.is) c.at_least.ensures
 
 pub returns-in-Within : goal.returns-in-Within
 returns-in-Within c =
     let a = c.args in
-    subst (λ (k : Counted). Is c.within.result.words (Repeated (Has a.body.words) (allowed k))) (sym c.counts-in-Within-1.given.1)
+    subst (λ (k : Counted). Is c.within.result.words (Repeated (Has a.body.words) (allowed k))) (sym c.in-Within.is)
     (is_capped (Has a.body.words) c.within.result.words c.counts-in-Within-1.given.0.0 c.counts-in-Within-1.given.0.1.0 c.capped-least.result c.capped.result c.capped-most.result c.capped-least.ensures c.capped.ensures c.capped-most.ensures c.within.ensures)
 
 pub returns-in-Malformed : goal.returns-in-Malformed
-returns-in-Malformed c = is_no_count c.empty-in-Malformed.result.words (Has c.args.body.words) c.args.counts (ap allowed c.enum_told-in-Malformed-1.given.1) c.empty-in-Malformed.ensures
+returns-in-Malformed c = is_no_count c.empty-in-Malformed.result.words (Has c.args.body.words) c.args.counts (ap allowed c.in-Malformed.is) c.empty-in-Malformed.ensures
 
 pub returns-in-Overflow : goal.returns-in-Overflow
-returns-in-Overflow c = is_no_count c.empty-in-Overflow.result.words (Has c.args.body.words) c.args.counts (ap allowed c.enum_told-in-Overflow-1.given.1) c.empty-in-Overflow.ensures
+returns-in-Overflow c = is_no_count c.empty-in-Overflow.result.words (Has c.args.body.words) c.args.counts (ap allowed c.in-Overflow.is) c.empty-in-Overflow.ensures

@@ -19,19 +19,19 @@ pub returns-then-weight-word : goal.returns-then-weight-word
 returns-then-weight-word c = let ws = c.args.table.now in let q = subst (Judged ws) c.weight-1.given.1 c.judge.ensures.0 in sound_iff ws _ q (c.if-weight-word.true ∙ c.word.ensures.0) c.all_stand.result c.all_stand.ensures
 
 pub returns-in-EmptyBody : goal.returns-in-EmptyBody
-returns-in-EmptyBody c = let ws = c.args.table.now in empty_body ws _ (subst (Judged ws) c.enum_told-1.given.1 c.judge.ensures.0)
+returns-in-EmptyBody c = let ws = c.args.table.now in empty_body ws _ (subst (Judged ws) c.in-EmptyBody.is c.judge.ensures.0)
 
 pub returns-in-Conflict : goal.returns-in-Conflict
-returns-in-Conflict c = let ws = c.args.table.now in conflict ws _ (subst (Judged ws) c.enum_told-in-Conflict-1.given.1 c.judge.ensures.0).1
+returns-in-Conflict c = let ws = c.args.table.now in conflict ws _ (subst (Judged ws) c.in-Conflict.is c.judge.ensures.0).1
 
 pub returns-in-Overweight : goal.returns-in-Overweight
-returns-in-Overweight c = let ws = c.args.table.now in overweight ws (subst (Judged ws) c.enum_told-in-Overweight-1.given.1 c.judge.ensures.0)
+returns-in-Overweight c = let ws = c.args.table.now in overweight ws (subst (Judged ws) c.in-Overweight.is c.judge.ensures.0)
 
 pub returns-in-Unreached : goal.returns-in-Unreached
-returns-in-Unreached c = let ws = c.args.table.now in unreached ws _ (subst (Judged ws) c.enum_told-in-Unreached-1.given.1 c.judge.ensures.0)
+returns-in-Unreached c = let ws = c.args.table.now in unreached ws _ (subst (Judged ws) c.in-Unreached.is c.judge.ensures.0)
 
 pub returns-in-NoValue : goal.returns-in-NoValue
-returns-in-NoValue c = let ws = c.args.table.now in no_value ws _ (subst (Judged ws) c.enum_told-in-NoValue-1.given.1 c.judge.ensures.0)
+returns-in-NoValue c = let ws = c.args.table.now in no_value ws _ (subst (Judged ws) c.in-NoValue.is c.judge.ensures.0)
 
 pub returns-else-weight-word : goal.returns-else-weight-word
 returns-else-weight-word c = let ws = c.args.table.now in let q = subst (Judged ws) c.weight-1.given.1 c.judge.ensures.0 in other_weight ws _ q (λ z. c.if-weight-word.false (z ∙ sym c.word.ensures.0))
