@@ -126,61 +126,61 @@ module _ {xs : List ℕ} (s : Terminal) (v : Seen xs s) where
       by_test (eqb (mark_of s.code) 0) (λ e. made no_mark (λ g. g) h)
       (λ e. made (a_mark (mark_of s.code) s.start ((marks s.code).1 e) (marks s.code).0 refl) (λ g. g) taken)
 
-  consumed : (st : State) (ks : List Symbol) → Leads xs st ks (consume s st ks)
+  consumed : (ks : List Symbol) (st : State) → Leads xs st ks (consume s st ks)
   unfolding consume
-  consumed st [] = faults
-  consumed st (want k ∷ ks) = by_test (is k s) (λ e. made terminal (λ g. g) taken) (λ e. faults)
-  consumed st (sign tag p o ∷ ks) = made (signed refl) (λ g. g) (consumed _ ks)
-  consumed st (paren d ∷ ks) = by_test (ltb d max_nesting) (λ l. by_test (is 40 s) (λ e. made (opened (ltb-true d max_nesting l)) (λ g. g) taken) (λ e. faults)) (λ l. faults)
+  consumed [] st = faults
+  consumed (want k ∷ ks) st = by_test (is k s) (λ e. made terminal (λ g. g) taken) (λ e. faults)
+  consumed (sign tag p o ∷ ks) st = made (signed refl) (λ g. g) (consumed ks _)
+  consumed (paren d ∷ ks) st = by_test (ltb d max_nesting) (λ l. by_test (is 40 s) (λ e. made (opened (ltb-true d max_nesting l)) (λ g. g) taken) (λ e. faults)) (λ l. faults)
   -- calculations
-  consumed st (primary o ∷ ks) = primary_leads o st ks
-  consumed st (operand o ∷ ks) = operand_leads o st ks
-  consumed st (factors o ∷ ks) = by_test (is 42 s) (λ e. made times (λ g. g) taken) (λ e. made no_factor (λ g. g) (consumed st ks))
-  consumed st (summands o ∷ ks) = summand_leads o st ks (consumed st ks)
-  consumed st (calculation ∷ ks) = calculation_leads st ks
+  consumed (primary o ∷ ks) st = primary_leads o st ks
+  consumed (operand o ∷ ks) st = operand_leads o st ks
+  consumed (factors o ∷ ks) st = by_test (is 42 s) (λ e. made times (λ g. g) taken) (λ e. made no_factor (λ g. g) (consumed ks st))
+  consumed (summands o ∷ ks) st = summand_leads o st ks (consumed ks st)
+  consumed (calculation ∷ ks) st = calculation_leads st ks
   -- sets
-  consumed st (item ∷ ks) = item_leads st ks
-  consumed st (item_tail ∷ ks) = by_test (is 126 s) (λ e. made to_bound (λ g. g) taken) (λ e. made (alone refl) (λ g. g) (consumed _ ks))
-  consumed st (bound some none p ∷ ks) = by_test (begins s) (λ e. made some_bound (λ g. g) (calculation_leads st (sign some p 0 ∷ ks))) (λ e. made (no_bound refl) (λ g. g) (consumed _ ks))
-  consumed st (exception d ∷ ks) = by_test (is 33 s) (λ e. made except (λ g. g) taken) (λ e. made no_exception (λ g. g) (consumed st ks))
-  consumed st (excluded d ∷ ks) = by_test (is 40 s) (λ e. picked (Leads xs st (excluded d ∷ ks)) (ltb d max_nesting) (λ l. made (except_set (ltb-true d max_nesting l) refl) (λ g. g) taken) (λ l. faults)) (λ e. made except_item (λ g. g) (item_leads st ks))
-  consumed st (alternative d ∷ ks) = made set_alternative (λ g. g) (item_leads st (exception d ∷ ks))
-  consumed st (alternatives d ∷ ks) = by_test (is 124 s) (λ e. made or_alternative (λ g. g) taken) (λ e. made no_alternative (λ g. g) (consumed st ks))
-  consumed st (value_set d ∷ ks) = set_leads d st ks
+  consumed (item ∷ ks) st = item_leads st ks
+  consumed (item_tail ∷ ks) st = by_test (is 126 s) (λ e. made to_bound (λ g. g) taken) (λ e. made (alone refl) (λ g. g) (consumed ks _))
+  consumed (bound some none p ∷ ks) st = by_test (begins s) (λ e. made some_bound (λ g. g) (calculation_leads st (sign some p 0 ∷ ks))) (λ e. made (no_bound refl) (λ g. g) (consumed ks _))
+  consumed (exception d ∷ ks) st = by_test (is 33 s) (λ e. made except (λ g. g) taken) (λ e. made no_exception (λ g. g) (consumed ks st))
+  consumed (excluded d ∷ ks) st = by_test (is 40 s) (λ e. picked (Leads xs st (excluded d ∷ ks)) (ltb d max_nesting) (λ l. made (except_set (ltb-true d max_nesting l) refl) (λ g. g) taken) (λ l. faults)) (λ e. made except_item (λ g. g) (item_leads st ks))
+  consumed (alternative d ∷ ks) st = made set_alternative (λ g. g) (item_leads st (exception d ∷ ks))
+  consumed (alternatives d ∷ ks) st = by_test (is 124 s) (λ e. made or_alternative (λ g. g) taken) (λ e. made no_alternative (λ g. g) (consumed ks st))
+  consumed (value_set d ∷ ks) st = set_leads d st ks
   -- counts
-  consumed st (counts ∷ ks) = by_test (is 126 s) (λ e. made counts_to (λ g. g) taken) (λ e. made counts_from (λ g. g) (calculation_leads st (counts_tail ∷ ks)))
-  consumed st (counts_tail ∷ ks) = by_test (is 126 s) (λ e. made counts_range (λ g. g) taken) (λ e. made counts_exact (λ g. g) (consumed st ks))
+  consumed (counts ∷ ks) st = by_test (is 126 s) (λ e. made counts_to (λ g. g) taken) (λ e. made counts_from (λ g. g) (calculation_leads st (counts_tail ∷ ks)))
+  consumed (counts_tail ∷ ks) st = by_test (is 126 s) (λ e. made counts_range (λ g. g) taken) (λ e. made counts_exact (λ g. g) (consumed ks st))
   -- conditions
-  consumed st (test d ∷ ks) = test_leads d st ks
-  consumed st (comparison ∷ ks) = comparison_leads st ks
-  consumed st (condition d ∷ ks) = condition_leads d st ks
-  consumed st (joined d ∷ ks) = by_test (is 38 s) (λ e. made all_of (λ g. g) taken) (λ e. by_test (is 124 s) (λ n. made any_of (λ g. g) taken) (λ n. made one_test (λ g. g) (consumed st ks)))
-  consumed st (chain k tag d ∷ ks) = by_test (is k s) (λ e. made link (λ g. g) taken) (λ e. made no_link (λ g. g) (consumed st ks))
+  consumed (test d ∷ ks) st = test_leads d st ks
+  consumed (comparison ∷ ks) st = comparison_leads st ks
+  consumed (condition d ∷ ks) st = condition_leads d st ks
+  consumed (joined d ∷ ks) st = by_test (is 38 s) (λ e. made all_of (λ g. g) taken) (λ e. by_test (is 124 s) (λ n. made any_of (λ g. g) taken) (λ n. made one_test (λ g. g) (consumed ks st)))
+  consumed (chain k tag d ∷ ks) st = by_test (is k s) (λ e. made link (λ g. g) taken) (λ e. made no_link (λ g. g) (consumed ks st))
   -- expressions
-  consumed st (atom d ∷ ks) = atom_leads d st ks
-  consumed st (factor d ∷ ks) = factor_leads d st ks
-  consumed st (concatenation d ∷ ks) = concatenation_leads d st ks
-  consumed st (expression d ∷ ks) = made (one_branch refl) (λ g. g) (concatenation_leads d st (branches d s.start (nodes_of st) false ∷ ks))
-  consumed st (marked p i ∷ ks) = by_test (is 123 s) (λ e. made (counted_mark refl) (λ g. g) taken) (λ e. mark_leads p i st ks (consumed st ks))
-  consumed st (counts_end p i mark f ∷ ks) = by_test (is 125 s) (λ e. made (counted refl) (λ g. g) taken) (λ e. faults)
-  consumed st (members d p i many ∷ ks) = by_test (is 38 s) (λ e. made and_member (λ g. g) taken) (λ e. made (last_member refl) (λ g. g) (consumed _ ks))
-  consumed st (branches d p i many ∷ ks) = by_test (is 124 s) (λ e. made or_branch (λ g. g) taken) (λ e. made (last_branch refl) (λ g. g) (consumed _ ks))
+  consumed (atom d ∷ ks) st = atom_leads d st ks
+  consumed (factor d ∷ ks) st = factor_leads d st ks
+  consumed (concatenation d ∷ ks) st = concatenation_leads d st ks
+  consumed (expression d ∷ ks) st = made (one_branch refl) (λ g. g) (concatenation_leads d st (branches d s.start (nodes_of st) false ∷ ks))
+  consumed (marked p i ∷ ks) st = by_test (is 123 s) (λ e. made (counted_mark refl) (λ g. g) taken) (λ e. mark_leads p i st ks (consumed ks st))
+  consumed (counts_end p i mark f ∷ ks) st = by_test (is 125 s) (λ e. made (counted refl) (λ g. g) taken) (λ e. faults)
+  consumed (members d p i many ∷ ks) st = by_test (is 38 s) (λ e. made and_member (λ g. g) taken) (λ e. made (last_member refl) (λ g. g) (consumed ks _))
+  consumed (branches d p i many ∷ ks) st = by_test (is 124 s) (λ e. made or_branch (λ g. g) taken) (λ e. made (last_branch refl) (λ g. g) (consumed ks _))
   -- ranges of characters
-  consumed st (character_tail p ∷ ks) = by_test (is 126 s) (λ e. made to_character (λ g. g) taken) (λ e. made (one_character refl) (λ g. g) (consumed _ ks))
-  consumed st (last_character p ∷ ks) = by_test (is 9 s) (λ e. made (range v e refl) (λ g. g) taken) (λ e. faults)
+  consumed (character_tail p ∷ ks) st = by_test (is 126 s) (λ e. made to_character (λ g. g) taken) (λ e. made (one_character refl) (λ g. g) (consumed ks _))
+  consumed (last_character p ∷ ks) st = by_test (is 9 s) (λ e. made (range v e refl) (λ g. g) taken) (λ e. faults)
   -- uint
-  consumed st (width d p ∷ ks) = by_test (is 2 s) (λ e. made (field_width v e refl) (λ g. g) taken) (λ e. faults)
-  consumed st (field_set d p w ∷ ks) = by_test (is 8 s) (λ e. made (binding refl) (λ g. g) taken) (λ e. made (not_binding refl) (λ g. g) (set_leads d st (field_end p w 0 0 (terms_of st) ∷ ks)))
-  consumed st (bound_name d p w ∷ ks) = by_test (is_name s) (λ e. made (binder v e refl refl refl refl) (λ g. g) taken) (λ e. faults)
-  consumed st (field_end p w q how f ∷ ks) = by_test (is 41 s) (λ e. made (field refl) (λ g. g) taken) (λ e. faults)
+  consumed (width d p ∷ ks) st = by_test (is 2 s) (λ e. made (field_width v e refl) (λ g. g) taken) (λ e. faults)
+  consumed (field_set d p w ∷ ks) st = by_test (is 8 s) (λ e. made (binding refl) (λ g. g) taken) (λ e. made (not_binding refl) (λ g. g) (set_leads d st (field_end p w 0 0 (terms_of st) ∷ ks)))
+  consumed (bound_name d p w ∷ ks) st = by_test (is_name s) (λ e. made (binder v e refl refl refl refl) (λ g. g) taken) (λ e. faults)
+  consumed (field_end p w q how f ∷ ks) st = by_test (is 41 s) (λ e. made (field refl) (λ g. g) taken) (λ e. faults)
   -- switches
-  consumed st (colon d f ∷ ks) = by_test (is 58 s) (λ e. made (a_case refl refl) (λ g. g) taken) (λ e. faults)
-  consumed st (case_end i f end ∷ ks) = by_test (is 59 s) (λ e. made (case_done refl) (λ g. g) taken) (λ e. faults)
-  consumed st (cases d p i ∷ ks) = by_test (is 93 s) (λ e. made (no_default refl) (λ g. g) taken) (λ e. by_test (is 58 s) (λ n. made default (λ g. g) taken) (λ n. made (further_case refl) (λ g. g) (condition_leads d st (colon d (terms_of st) ∷ cases d p i ∷ ks))))
-  consumed st (switch_end p i ∷ ks) = by_test (is 93 s) (λ e. made (switched refl) (λ g. g) taken) (λ e. faults)
+  consumed (colon d f ∷ ks) st = by_test (is 58 s) (λ e. made (a_case refl refl) (λ g. g) taken) (λ e. faults)
+  consumed (case_end i f end ∷ ks) st = by_test (is 59 s) (λ e. made (case_done refl) (λ g. g) taken) (λ e. faults)
+  consumed (cases d p i ∷ ks) st = by_test (is 93 s) (λ e. made (no_default refl) (λ g. g) taken) (λ e. by_test (is 58 s) (λ n. made default (λ g. g) taken) (λ n. made (further_case refl) (λ g. g) (condition_leads d st (colon d (terms_of st) ∷ cases d p i ∷ ks))))
+  consumed (switch_end p i ∷ ks) st = by_test (is 93 s) (λ e. made (switched refl) (λ g. g) taken) (λ e. faults)
   -- rules
-  consumed st (rules any ∷ ks) = by_test (is_name s) (λ e. made (a_rule v e refl refl) (λ g. g) taken) (λ e. by_test (any && is 5 s) (λ n. ends (λ g. last_rule any (both_first any (is 5 s) n) ks g)) (λ n. faults))
-  consumed st (rule_end p i ∷ ks) = by_test (is 59 s) (λ e. made (ruled refl) (λ g. g) taken) (λ e. faults)
+  consumed (rules any ∷ ks) st = by_test (is_name s) (λ e. made (a_rule v e refl refl) (λ g. g) taken) (λ e. by_test (any && is 5 s) (λ n. ends (λ g. last_rule any (both_first any (is 5 s) n) ks g)) (λ n. faults))
+  consumed (rule_end p i ∷ ks) st = by_test (is 59 s) (λ e. made (ruled refl) (λ g. g) taken) (λ e. faults)
 
 -- ---- all terminals
 
@@ -191,7 +191,7 @@ module _ (xs : List ℕ) (f : State) where
 
   one_more : (s : Terminal) (ss : List Terminal) → Seen xs s → Reads ss → Reads (s ∷ ss)
   unfolding run
-  one_more s ss v h st ks g e = by (consumed s v st ks) e
+  one_more s ss v h st ks g e = by (consumed s v ks st) e
     where
       by : {r : Consumed} → Leads xs st ks r → elim r [ go st' ks' ↦ run ss st' ks' | done st' ↦ right st' | fault ↦ refused s.start ] ≡ right f → Phrases xs ks st f
       by (goes {st'} {ks'} p u) z = p f (h st' ks' (u g) z)
