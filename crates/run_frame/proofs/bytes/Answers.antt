@@ -1,11 +1,10 @@
-use Prim.Native.Nat.{ℕ, ◌+◌, ◌*◌, ◌-◌, ◌^◌, ◌≤◌, ◌<◌}
+use Prim.Native.Nat.{ℕ, ◌+◌, ◌*◌, ◌^◌, ◌≤◌, ◌<◌}
 use native.Mathlib.Omega.{arith}
 use native.Mathlib.Numerals.{add-one}
 use mathlib.Core.Path.{◌≡◌, sym, ◌∙◌, ap, ap₂, subst}
 use lib.ListN.{length, get_or}
 use lib.Pow.{pow_mono, pow-add}
 use Rattle.basis.proofs.Frames.{bytes_value, bytes_none, bytes_more}
-use Rattle.run_frame.proofs.wide.Reads as wide-reads
 use Rattle.run_frame.proofs.bytes.Goals as goal
 
 -- four bytes or fewer are below 2^32
@@ -18,12 +17,6 @@ more i x b h l =
     let e : 8 * (i + 1) ≡ 8 * i + 8 = omega arith in
     let z : 2 ^ (8 * i + 8) ≡ 2 ^ (8 * i) * 256 = pow-add 2 (8 * i) 8 in
     rw (e, z) (omega arith)
-
-abbrev invariant-loop : tie.invariant-loop
-invariant-loop frame q n sum₀ i₀ sum i = (i ≤ n) × (sum ≡ bytes_value frame q i) × (sum < 2 ^ (8 * i))
-
-abbrev decreases-loop : tie.decreases-loop
-decreases-loop frame q n sum₀ i₀ sum i = n - i
 
 -- src/lib.rt:22:5
 pub loop-i-init : goal.loop-i-init
