@@ -37,53 +37,53 @@ off A B true e = let z : ◌≡◌ {A = ℕ} 0 1 = cc in absurd (omega arith)
 off A B false e = refl
 
 -- `uint`, `sint` and `var` before `(` cannot stand where a plain name cannot
-same : (a b z : ℕ) (st : State) (ks : List Symbol) → Ground ks → (faulty (consume (terminal 6 a b z) st ks) ≡ faulty (consume (terminal 1 a b z) st ks)) × (faulty (consume (terminal 8 a b z) st ks) ≡ faulty (consume (terminal 1 a b z) st ks))
+same : (a b z : ℕ) (ks : List Symbol) (st : State) → Ground ks → (faulty (consume (terminal 6 a b z) st ks) ≡ faulty (consume (terminal 1 a b z) st ks)) × (faulty (consume (terminal 8 a b z) st ks) ≡ faulty (consume (terminal 1 a b z) st ks))
 unfolding consume primary_begins operand_begins item_begins test_begins atom_begins
-same a b z st [] g = (refl, refl)
-same a b z st (Symbol.want k ∷ ks) g = (off _ _ (eqb 6 k) (unwanted 6 k (omega arith) g.0) ∙ sym (off _ _ (eqb 1 k) (unwanted 1 k (omega arith) g.0)), off _ _ (eqb 8 k) (unwanted 8 k (omega arith) g.0) ∙ sym (off _ _ (eqb 1 k) (unwanted 1 k (omega arith) g.0)))
-same a b z st (Symbol.sign tag p o ∷ ks) g = same a b z _ ks g
-same a b z st (Symbol.paren d ∷ ks) g = (refl, refl)
-same a b z st (Symbol.primary o ∷ ks) g = (refl, refl)
-same a b z st (Symbol.operand o ∷ ks) g = (refl, refl)
-same a b z st (Symbol.factors o ∷ ks) g = same a b z st ks g
-same a b z st (Symbol.summands o ∷ ks) g = same a b z st ks g
-same a b z st (Symbol.calculation ∷ ks) g = (refl, refl)
-same a b z st (Symbol.item ∷ ks) g = (refl, refl)
-same a b z st (Symbol.item_tail ∷ ks) g = same a b z _ ks g
-same a b z st (Symbol.bound some none p ∷ ks) g = (refl, refl)
-same a b z st (Symbol.exception d ∷ ks) g = same a b z st ks g
-same a b z st (Symbol.excluded d ∷ ks) g = (refl, refl)
-same a b z st (Symbol.alternative d ∷ ks) g = (refl, refl)
-same a b z st (Symbol.alternatives d ∷ ks) g = same a b z st ks g
-same a b z st (Symbol.value_set d ∷ ks) g = (refl, refl)
-same a b z st (Symbol.counts ∷ ks) g = (refl, refl)
-same a b z st (Symbol.counts_tail ∷ ks) g = same a b z st ks g
-same a b z st (Symbol.test d ∷ ks) g = (refl, refl)
-same a b z st (Symbol.comparison ∷ ks) g = (refl, refl)
-same a b z st (Symbol.condition d ∷ ks) g = (refl, refl)
-same a b z st (Symbol.joined d ∷ ks) g = same a b z st ks g
-same a b z st (Symbol.chain k tag d ∷ ks) g = (off _ _ (eqb 6 k) (unwanted 6 k (omega arith) g.0) ∙ (same a b z st ks g.1).0 ∙ sym (off _ _ (eqb 1 k) (unwanted 1 k (omega arith) g.0)), off _ _ (eqb 8 k) (unwanted 8 k (omega arith) g.0) ∙ (same a b z st ks g.1).1 ∙ sym (off _ _ (eqb 1 k) (unwanted 1 k (omega arith) g.0)))
-same a b z st (Symbol.atom d ∷ ks) g = (refl, refl)
-same a b z st (Symbol.factor d ∷ ks) g = (refl, refl)
-same a b z st (Symbol.concatenation d ∷ ks) g = (refl, refl)
-same a b z st (Symbol.expression d ∷ ks) g = (refl, refl)
-same a b z st (Symbol.marked p i ∷ ks) g = same a b z st ks g
-same a b z st (Symbol.Counts-end p i mark f ∷ ks) g = (refl, refl)
-same a b z st (Symbol.members d p i many ∷ ks) g = same a b z _ ks g
-same a b z st (Symbol.branches d p i many ∷ ks) g = same a b z _ ks g
-same a b z st (Symbol.character_tail p ∷ ks) g = same a b z _ ks g
-same a b z st (Symbol.last_character p ∷ ks) g = (refl, refl)
-same a b z st (Symbol.width d p ∷ ks) g = (refl, refl)
-same a b z st (Symbol.field_set d p v ∷ ks) g = (refl, refl)
-same a b z st (Symbol.bound_name d p v ∷ ks) g = (refl, refl)
-same a b z st (Symbol.field_end p v name how f ∷ ks) g = (refl, refl)
-same a b z st (Symbol.colon d f ∷ ks) g = (refl, refl)
-same a b z st (Symbol.case_end i f end ∷ ks) g = (refl, refl)
-same a b z st (Symbol.cases d p i ∷ ks) g = (refl, refl)
-same a b z st (Symbol.switch_end p i ∷ ks) g = (refl, refl)
-same a b z st (Symbol.rules any ∷ []) g = (refl, refl)
-same a b z st (Symbol.rules any ∷ k ∷ ks) g = absurd g
-same a b z st (Symbol.Rule-end p i ∷ ks) g = (refl, refl)
+same a b z [] st g = (refl, refl)
+same a b z (Symbol.want k ∷ ks) st g = (off _ _ (eqb 6 k) (unwanted 6 k (omega arith) g.0) ∙ sym (off _ _ (eqb 1 k) (unwanted 1 k (omega arith) g.0)), off _ _ (eqb 8 k) (unwanted 8 k (omega arith) g.0) ∙ sym (off _ _ (eqb 1 k) (unwanted 1 k (omega arith) g.0)))
+same a b z (Symbol.sign tag p o ∷ ks) st g = same a b z ks _ g
+same a b z (Symbol.paren d ∷ ks) st g = (refl, refl)
+same a b z (Symbol.primary o ∷ ks) st g = (refl, refl)
+same a b z (Symbol.operand o ∷ ks) st g = (refl, refl)
+same a b z (Symbol.factors o ∷ ks) st g = same a b z ks st g
+same a b z (Symbol.summands o ∷ ks) st g = same a b z ks st g
+same a b z (Symbol.calculation ∷ ks) st g = (refl, refl)
+same a b z (Symbol.item ∷ ks) st g = (refl, refl)
+same a b z (Symbol.item_tail ∷ ks) st g = same a b z ks _ g
+same a b z (Symbol.bound some none p ∷ ks) st g = (refl, refl)
+same a b z (Symbol.exception d ∷ ks) st g = same a b z ks st g
+same a b z (Symbol.excluded d ∷ ks) st g = (refl, refl)
+same a b z (Symbol.alternative d ∷ ks) st g = (refl, refl)
+same a b z (Symbol.alternatives d ∷ ks) st g = same a b z ks st g
+same a b z (Symbol.value_set d ∷ ks) st g = (refl, refl)
+same a b z (Symbol.counts ∷ ks) st g = (refl, refl)
+same a b z (Symbol.counts_tail ∷ ks) st g = same a b z ks st g
+same a b z (Symbol.test d ∷ ks) st g = (refl, refl)
+same a b z (Symbol.comparison ∷ ks) st g = (refl, refl)
+same a b z (Symbol.condition d ∷ ks) st g = (refl, refl)
+same a b z (Symbol.joined d ∷ ks) st g = same a b z ks st g
+same a b z (Symbol.chain k tag d ∷ ks) st g = (off _ _ (eqb 6 k) (unwanted 6 k (omega arith) g.0) ∙ (same a b z ks st g.1).0 ∙ sym (off _ _ (eqb 1 k) (unwanted 1 k (omega arith) g.0)), off _ _ (eqb 8 k) (unwanted 8 k (omega arith) g.0) ∙ (same a b z ks st g.1).1 ∙ sym (off _ _ (eqb 1 k) (unwanted 1 k (omega arith) g.0)))
+same a b z (Symbol.atom d ∷ ks) st g = (refl, refl)
+same a b z (Symbol.factor d ∷ ks) st g = (refl, refl)
+same a b z (Symbol.concatenation d ∷ ks) st g = (refl, refl)
+same a b z (Symbol.expression d ∷ ks) st g = (refl, refl)
+same a b z (Symbol.marked p i ∷ ks) st g = same a b z ks st g
+same a b z (Symbol.counts_end p i mark f ∷ ks) st g = (refl, refl)
+same a b z (Symbol.members d p i many ∷ ks) st g = same a b z ks _ g
+same a b z (Symbol.branches d p i many ∷ ks) st g = same a b z ks _ g
+same a b z (Symbol.character_tail p ∷ ks) st g = same a b z ks _ g
+same a b z (Symbol.last_character p ∷ ks) st g = (refl, refl)
+same a b z (Symbol.width d p ∷ ks) st g = (refl, refl)
+same a b z (Symbol.field_set d p v ∷ ks) st g = (refl, refl)
+same a b z (Symbol.bound_name d p v ∷ ks) st g = (refl, refl)
+same a b z (Symbol.field_end p v name how f ∷ ks) st g = (refl, refl)
+same a b z (Symbol.colon d f ∷ ks) st g = (refl, refl)
+same a b z (Symbol.case_end i f end ∷ ks) st g = (refl, refl)
+same a b z (Symbol.cases d p i ∷ ks) st g = (refl, refl)
+same a b z (Symbol.switch_end p i ∷ ks) st g = (refl, refl)
+same a b z (Symbol.rules any ∷ []) st g = (refl, refl)
+same a b z (Symbol.rules any ∷ k ∷ ks) st g = absurd g
+same a b z (Symbol.rule_end p i ∷ ks) st g = (refl, refl)
 
 -- a name's code, by what it is and whether `(` follows
 by_next : (F : ℕ → Bool) → F 6 ≡ F 1 → F 8 ≡ F 1 → (u v e m n : Bool) → F (cond u (cond m 6 1) (cond v (cond m 8 1) (cond e 7 1))) ≡ F (cond u (cond n 6 1) (cond v (cond n 8 1) (cond e 7 1)))
@@ -101,7 +101,7 @@ pub ahead : (x : Lexeme) (m n : Bool) (st : State) (ks : List Symbol) → Ground
 ahead (sign kind s) m n st ks g e = e
 ahead (word x) m n st ks g e =
     faulty_is (consume (seen_with (word x) (code (word x) n)) st ks)
-    (by_next (λ (c : ℕ). faulty (consume (terminal c x.start x.end 0) st ks)) (same x.start x.end 0 st ks g).0 (same x.start x.end 0 st ks g).1 (eqb (reserved_of x.letters) 12 || eqb (reserved_of x.letters) 13) (eqb (reserved_of x.letters) 9) (eqb (reserved_of x.letters) 10) n m
+    (by_next (λ (c : ℕ). faulty (consume (terminal c x.start x.end 0) st ks)) (same x.start x.end 0 ks st g).0 (same x.start x.end 0 ks st g).1 (eqb (reserved_of x.letters) 12 || eqb (reserved_of x.letters) 13) (eqb (reserved_of x.letters) 9) (eqb (reserved_of x.letters) 10) n m
     ∙ ap faulty e)
 ahead (numeral x) m n st ks g e = e
 ahead (quoted l) m n st ks g e = e

@@ -83,7 +83,7 @@ shortest (Symbol.factor d ∷ ks) g m = (once (eod no_where), shortest ks g m)
 shortest (Symbol.concatenation d ∷ ks) g m = (last_member (once (eod no_where)), shortest ks g m)
 shortest (Symbol.expression d ∷ ks) g m = (some_expression, shortest ks g m)
 shortest (Symbol.marked p i ∷ ks) g m = (no_mark, shortest ks g m)
-shortest (Symbol.Counts-end p i mark f ∷ ks) g m = (no_where, shortest ks g m)
+shortest (Symbol.counts_end p i mark f ∷ ks) g m = (no_where, shortest ks g m)
 shortest (Symbol.members d p i many ∷ ks) g m = (no_member, shortest ks g m)
 shortest (Symbol.branches d p i many ∷ ks) g m = (no_branch, shortest ks g m)
 shortest (Symbol.character_tail p ∷ ks) g m = (no_character, shortest ks g m)
@@ -98,7 +98,7 @@ shortest (Symbol.cases d p i ∷ ks) g m = (no_case no_where, shortest ks g m)
 shortest (Symbol.switch_end p i ∷ ks) g m = (no_where, shortest ks g m)
 shortest (Symbol.rules any ∷ []) g m = (more_rules (last_rule (rule some_name no_where some_expression no_where)) 0, tt)
 shortest (Symbol.rules any ∷ k ∷ ks) g m = absurd g
-shortest (Symbol.Rule-end p i ∷ ks) g m = (no_where, shortest ks g m)
+shortest (Symbol.rule_end p i ∷ ks) g m = (no_where, shortest ks g m)
 
 -- ---- a token
 
@@ -434,53 +434,53 @@ module _ (x : Lexeme) (next : Bool) (c : ℕ) (e : code x next ≡ c) where
   end_leads true st a t = ends (no_rule (place_of x), tt) (is_end x next c e t) (ap (λ (z : Lexeme). z ∷ []) (sym (is_end x next c e t))) refl
   end_leads false st a t = let z : ◌≡◌ {A = ℕ} 0 1 = cc in absurd (omega arith)
 
-  unfoldable pub consumed : (st : State) (ks : List Symbol) → Ground ks → Leads x st ks (consume (seen_with x c) st ks)
+  unfoldable pub consumed : (ks : List Symbol) (st : State) → Ground ks → Leads x st ks (consume (seen_with x c) st ks)
   unfolding consume opened
-  consumed st [] g = faults
-  consumed st (Symbol.want k ∷ ks) g = by_test (eqb c k) (λ t. takes (sign_is k g.0 t) (λ r. (sign_in x, r)) (λ r. refl) (λ r. refl) g.1 (λ m. m) tt) (λ u. faults)
-  consumed st (Symbol.sign tag p o ∷ ks) g = turned (signed x st tag p o ks) (consumed _ ks g)
-  consumed st (Symbol.paren d ∷ ks) g = by_test (ltb d 16) (λ l. by_test (eqb c 40) (λ t. takes (sign_is 40 refl t) (λ r. ((ltb-true d 16 l, sign_in x), r)) (λ r. refl) (λ r. refl) g (λ m. m.1) tt) (λ u. faults)) (λ l. faults)
-  consumed st (Symbol.primary o ∷ ks) g = primary_leads o st ks g
-  consumed st (Symbol.operand o ∷ ks) g = operand_leads o st ks g
-  consumed st (Symbol.factors o ∷ ks) g = by_test (eqb c 42) (λ t. takes (sign_is 42 refl t) (λ r. (times (sign_in x) r.0 r.1.1.0, r.1.1.1)) (λ r. refl) (λ r. refl) g (λ m. m) tt) (λ u. turned (factors_end x st o ks) (consumed st ks g))
-  consumed st (Symbol.summands o ∷ ks) g = summand_leads o st ks g (consumed st ks g)
-  consumed st (Symbol.calculation ∷ ks) g = calculation_leads st ks g
-  consumed st (Symbol.item ∷ ks) g = item_leads st ks g
-  consumed st (Symbol.item_tail ∷ ks) g = by_test (eqb c 126) (λ t. takes (sign_is 126 refl t) (λ r. (reaches (sign_in x) r.0, r.1)) (λ r. refl) (λ r. refl) g (λ m. m) tt) (λ u. turned (item_end x st ks) (consumed _ ks g))
-  consumed st (Symbol.bound some none p ∷ ks) g = by_test (begins (seen_with x c)) (λ t. turned (upper x st some none p ks) (calculation_leads st (Symbol.sign some p 0 ∷ ks) g)) (λ u. turned (upper_end x st some none p ks) (consumed _ ks g))
-  consumed st (Symbol.exception d ∷ ks) g = by_test (eqb c 33) (λ t. takes (sign_is 33 refl t) (λ r. (excepted (sign_in x) r.0, r.1.1)) (λ r. excepted_spells (sign_in x) r.0 (spell_all ks r.1.1)) (λ r. ap (store_all ks r.1.1) (excepted_stores (sign_in x) r.0 st)) g (λ m. m) tt) (λ u. turned (exception_end x st d ks) (consumed st ks g))
-  consumed st (Symbol.excluded d ∷ ks) g = by_test (eqb c 40) (λ t. by_cond (ltb d 16) (λ l. takes (sign_is 40 refl t) (λ r. (excluded_set (ltb-true d 16 l) (sign_in x) r.0 r.1.0, r.1.1)) (λ r. refl) (λ r. refl) (refl, g) (λ m. m) tt) (λ l. faults)) (λ u. turned (excluded_one x st d ks) (item_leads st ks g))
-  consumed st (Symbol.alternative d ∷ ks) g = choice_leads d st ks g
-  consumed st (Symbol.alternatives d ∷ ks) g = by_test (eqb c 124) (λ t. takes (sign_is 124 refl t) (λ r. (more_choices (sign_in x) (chosen r.0 r.1.1.0), r.1.1.1)) (λ r. ap (λ (v : List Lexeme). sign Kind.Bar (sign_in x) ∷ v) (chosen_spells r.0 r.1.1.0 (spell_all ks r.1.1.1))) (λ r. ap (store_all ks r.1.1.1) (chosen_stores r.0 r.1.1.0 (add 11 0 (place_of x) 0) st)) g (λ m. m) tt) (λ u. turned (choices_end x st d ks) (consumed st ks g))
-  consumed st (Symbol.value_set d ∷ ks) g = set_leads d st ks g
-  consumed st (Symbol.counts ∷ ks) g = by_test (eqb c 126) (λ t. takes (sign_is 126 refl t) (λ r. (at_most (sign_in x) r.0, r.1.1)) (λ r. refl) (λ r. refl) g (λ m. m) tt) (λ u. turned (counts_begun x st ks) (calculation_leads st (Symbol.counts_tail ∷ ks) g))
-  consumed st (Symbol.counts_tail ∷ ks) g = by_test (eqb c 126) (λ t. takes (sign_is 126 refl t) (λ r. (reaches (sign_in x) r.0, r.1)) (λ r. refl) (λ r. refl) g (λ m. m) tt) (λ u. turned (counts_tail_end x st ks) (consumed st ks g))
-  consumed st (Symbol.test d ∷ ks) g = test_leads d st ks g
-  consumed st (Symbol.comparison ∷ ks) g = comparison_leads st ks g
-  consumed st (Symbol.condition d ∷ ks) g = condition_leads d st ks g
-  consumed st (Symbol.joined d ∷ ks) g = by_test (eqb c 38) (λ t. takes (sign_is 38 refl t) (λ r. (by_and (sign_in x) (all_from r.0 r.1.1.0), r.1.1.1)) (λ r. ap (λ (v : List Lexeme). sign Kind.Ampersand (sign_in x) ∷ v) (all_from_spells r.0 r.1.1.0 (spell_all ks r.1.1.1))) (λ r. ap (store_all ks r.1.1.1) (all_from_stores r.0 r.1.1.0 (add 13 0 (place_of x) 0) st)) (refl, g) (λ m. m) tt) (λ u. by_test (eqb c 124) (λ t. takes (sign_is 124 refl t) (λ r. (by_or (sign_in x) (any_from r.0 r.1.1.0), r.1.1.1)) (λ r. ap (λ (v : List Lexeme). sign Kind.Bar (sign_in x) ∷ v) (any_from_spells r.0 r.1.1.0 (spell_all ks r.1.1.1))) (λ r. ap (store_all ks r.1.1.1) (any_from_stores r.0 r.1.1.0 (add 11 0 (place_of x) 0) st)) (refl, g) (λ m. m) tt) (λ v. turned (joined_end x st d ks) (consumed st ks g)))
-  consumed st (Symbol.chain k tag d ∷ ks) g = by_test (eqb c k) (λ t. takes (sign_is k g.0 t) (λ r. (link (sign_in x) r.0 r.1.1.0, r.1.1.1)) (λ r. refl) (λ r. refl) g (λ m. m) tt) (λ u. turned (chain_end x st k tag d ks) (consumed st ks g.1))
-  consumed st (Symbol.atom d ∷ ks) g = atom_leads d st ks g
-  consumed st (Symbol.factor d ∷ ks) g = factor_leads d st ks g
-  consumed st (Symbol.concatenation d ∷ ks) g = concatenation_leads d st ks g
-  consumed st (Symbol.expression d ∷ ks) g = turned (expression_begun x st d ks) (concatenation_leads d st (Symbol.branches d (place_of x) (nodes_of st) false ∷ ks) g)
-  consumed st (Symbol.marked p i ∷ ks) g = by_test (eqb c 123) (λ t. takes (sign_is 123 refl t) (λ r. (a_mark (counted (sign_in x) r.0 r.1.0), r.1.1)) (λ r. refl) (λ r. refl) g (λ m. m) tt) (λ u. mark_leads p i st ks g (consumed st ks g))
-  consumed st (Symbol.Counts-end p i mark f ∷ ks) g = by_test (eqb c 125) (λ t. takes (sign_is 125 refl t) (λ r. (sign_in x, r)) (λ r. refl) (λ r. refl) g (λ m. m) tt) (λ u. faults)
-  consumed st (Symbol.members d p i many ∷ ks) g = by_test (eqb c 38) (λ t. takes (sign_is 38 refl t) (λ r. (more_members (sign_in x) (members_from r.0 r.1.0), r.1.1)) (λ r. ap (λ (v : List Lexeme). sign Kind.Ampersand (sign_in x) ∷ v) (members_from_spells r.0 r.1.0 (spell_all ks r.1.1))) (λ r. ap (store_all ks r.1.1) (members_from_on r.0 r.1.0 p i st)) g (λ m. m) tt) (λ u. turned (members_end x st d p i many ks) (consumed _ ks g))
-  consumed st (Symbol.branches d p i many ∷ ks) g = by_test (eqb c 124) (λ t. takes (sign_is 124 refl t) (λ r. (more_branches (sign_in x) (branches_from r.0 r.1.0), r.1.1)) (λ r. ap (λ (v : List Lexeme). sign Kind.Bar (sign_in x) ∷ v) (branches_from_spells r.0 r.1.0 (spell_all ks r.1.1))) (λ r. ap (store_all ks r.1.1) (branches_from_on r.0 r.1.0 p i st)) g (λ m. m) tt) (λ u. turned (branches_end x st d p i many ks) (consumed _ ks g))
-  consumed st (Symbol.character_tail p ∷ ks) g = by_test (eqb c 126) (λ t. takes (sign_is 126 refl t) (λ r. (to_character (sign_in x) r.0.0 r.0.1, r.1)) (λ r. refl) (λ r. refl) g (λ m. m) tt) (λ u. turned (character_end x st p ks) (consumed _ ks g))
-  consumed st (Symbol.last_character p ∷ ks) g = by_test (eqb c 9) (λ t. takes (is_character x next c e t) (λ r. ((literal_in x, is_single x next c e t), r)) (λ r. refl) (λ r. refl) g (λ m. m) tt) (λ u. faults)
-  consumed st (Symbol.width d p ∷ ks) g = by_test (eqb c 2) (λ t. takes (is_number x next c e t) (λ r. ((number_in x, r.0, r.1.0), r.1.1)) (λ r. refl) (λ r. refl) (refl, g) (λ m. m) tt) (λ u. faults)
-  consumed st (Symbol.field_set d p v ∷ ks) g = by_test (eqb c 8) (λ t. binder_leads d p v st ks g t) (λ u. turned (set_not_bound x st d p v ks) (set_leads d st (Symbol.field_end p v 0 0 (terms_of st) ∷ ks) g))
-  consumed st (Symbol.bound_name d p v ∷ ks) g = by_test (name_like c) (λ t. takes (is_name x next c e t) (λ r. ((name_in x, r.0, r.1.0, r.1.1.0, r.1.1.1.0), r.1.1.1.1)) (λ r. refl) (λ r. refl) (refl, (refl, g)) (λ m. m) tt) (λ u. faults)
-  consumed st (Symbol.field_end p v name how f ∷ ks) g = by_test (eqb c 41) (λ t. takes (sign_is 41 refl t) (λ r. (sign_in x, r)) (λ r. refl) (λ r. refl) g (λ m. m) tt) (λ u. faults)
-  consumed st (Symbol.colon d f ∷ ks) g = by_test (eqb c 58) (λ t. takes (sign_is 58 refl t) (λ r. ((sign_in x, r.0, r.1.0), r.1.1)) (λ r. refl) (λ r. refl) g (λ m. m) tt) (λ u. faults)
-  consumed st (Symbol.case_end i f end ∷ ks) g = by_test (eqb c 59) (λ t. takes (sign_is 59 refl t) (λ r. (sign_in x, r)) (λ r. refl) (λ r. refl) g (λ m. m) tt) (λ u. faults)
-  consumed st (Symbol.cases d p i ∷ ks) g = by_test (eqb c 93) (λ t. takes (sign_is 93 refl t) (λ r. (no_case (sign_in x), r)) (λ r. refl) (λ r. refl) g (λ m. m) tt) (λ u. by_test (eqb c 58) (λ t. takes (sign_is 58 refl t) (λ r. (default (sign_in x) r.0 r.1.0 r.1.1.0, r.1.1.1)) (λ r. refl) (λ r. refl) (refl, g) (λ m. m) tt) (λ v. turned (case_begun x st d p i ks) (condition_leads d st (Symbol.colon d (terms_of st) ∷ Symbol.cases d p i ∷ ks) g)))
-  consumed st (Symbol.switch_end p i ∷ ks) g = by_test (eqb c 93) (λ t. takes (sign_is 93 refl t) (λ r. (sign_in x, r)) (λ r. refl) (λ r. refl) g (λ m. m) tt) (λ u. faults)
-  consumed st (Symbol.rules any ∷ []) g = by_test (name_like c) (λ t. takes (is_name x next c e t) (λ r. (rules_from (rule (name_in x) r.0 r.1.0 r.1.1.0) r.1.1.1.0, tt)) (λ r. rules_from_spells any (rule (name_in x) r.0 r.1.0 r.1.1.0) r.1.1.1.0) (λ r. rules_from_stores any (rule (name_in x) r.0 r.1.0 r.1.1.0) r.1.1.1.0 st) (refl, tt) (λ m. m) tt) (λ u. by_test (any && eqb c 5) (λ t. end_leads any st (both_first any (eqb c 5) t) (both_second any (eqb c 5) t)) (λ v. faults))
-  consumed st (Symbol.rules any ∷ k ∷ ks) g = absurd g
-  consumed st (Symbol.Rule-end p i ∷ ks) g = by_test (eqb c 59) (λ t. takes (sign_is 59 refl t) (λ r. (sign_in x, r)) (λ r. refl) (λ r. refl) g (λ m. m) tt) (λ u. faults)
+  consumed [] st g = faults
+  consumed (Symbol.want k ∷ ks) st g = by_test (eqb c k) (λ t. takes (sign_is k g.0 t) (λ r. (sign_in x, r)) (λ r. refl) (λ r. refl) g.1 (λ m. m) tt) (λ u. faults)
+  consumed (Symbol.sign tag p o ∷ ks) st g = turned (signed x st tag p o ks) (consumed ks _ g)
+  consumed (Symbol.paren d ∷ ks) st g = by_test (ltb d 16) (λ l. by_test (eqb c 40) (λ t. takes (sign_is 40 refl t) (λ r. ((ltb-true d 16 l, sign_in x), r)) (λ r. refl) (λ r. refl) g (λ m. m.1) tt) (λ u. faults)) (λ l. faults)
+  consumed (Symbol.primary o ∷ ks) st g = primary_leads o st ks g
+  consumed (Symbol.operand o ∷ ks) st g = operand_leads o st ks g
+  consumed (Symbol.factors o ∷ ks) st g = by_test (eqb c 42) (λ t. takes (sign_is 42 refl t) (λ r. (times (sign_in x) r.0 r.1.1.0, r.1.1.1)) (λ r. refl) (λ r. refl) g (λ m. m) tt) (λ u. turned (factors_end x st o ks) (consumed ks st g))
+  consumed (Symbol.summands o ∷ ks) st g = summand_leads o st ks g (consumed ks st g)
+  consumed (Symbol.calculation ∷ ks) st g = calculation_leads st ks g
+  consumed (Symbol.item ∷ ks) st g = item_leads st ks g
+  consumed (Symbol.item_tail ∷ ks) st g = by_test (eqb c 126) (λ t. takes (sign_is 126 refl t) (λ r. (reaches (sign_in x) r.0, r.1)) (λ r. refl) (λ r. refl) g (λ m. m) tt) (λ u. turned (item_end x st ks) (consumed ks _ g))
+  consumed (Symbol.bound some none p ∷ ks) st g = by_test (begins (seen_with x c)) (λ t. turned (upper x st some none p ks) (calculation_leads st (Symbol.sign some p 0 ∷ ks) g)) (λ u. turned (upper_end x st some none p ks) (consumed ks _ g))
+  consumed (Symbol.exception d ∷ ks) st g = by_test (eqb c 33) (λ t. takes (sign_is 33 refl t) (λ r. (excepted (sign_in x) r.0, r.1.1)) (λ r. excepted_spells (sign_in x) r.0 (spell_all ks r.1.1)) (λ r. ap (store_all ks r.1.1) (excepted_stores (sign_in x) r.0 st)) g (λ m. m) tt) (λ u. turned (exception_end x st d ks) (consumed ks st g))
+  consumed (Symbol.excluded d ∷ ks) st g = by_test (eqb c 40) (λ t. by_cond (ltb d 16) (λ l. takes (sign_is 40 refl t) (λ r. (excluded_set (ltb-true d 16 l) (sign_in x) r.0 r.1.0, r.1.1)) (λ r. refl) (λ r. refl) (refl, g) (λ m. m) tt) (λ l. faults)) (λ u. turned (excluded_one x st d ks) (item_leads st ks g))
+  consumed (Symbol.alternative d ∷ ks) st g = choice_leads d st ks g
+  consumed (Symbol.alternatives d ∷ ks) st g = by_test (eqb c 124) (λ t. takes (sign_is 124 refl t) (λ r. (more_choices (sign_in x) (chosen r.0 r.1.1.0), r.1.1.1)) (λ r. ap (λ (v : List Lexeme). sign Kind.Bar (sign_in x) ∷ v) (chosen_spells r.0 r.1.1.0 (spell_all ks r.1.1.1))) (λ r. ap (store_all ks r.1.1.1) (chosen_stores r.0 r.1.1.0 (add 11 0 (place_of x) 0) st)) g (λ m. m) tt) (λ u. turned (choices_end x st d ks) (consumed ks st g))
+  consumed (Symbol.value_set d ∷ ks) st g = set_leads d st ks g
+  consumed (Symbol.counts ∷ ks) st g = by_test (eqb c 126) (λ t. takes (sign_is 126 refl t) (λ r. (at_most (sign_in x) r.0, r.1.1)) (λ r. refl) (λ r. refl) g (λ m. m) tt) (λ u. turned (counts_begun x st ks) (calculation_leads st (Symbol.counts_tail ∷ ks) g))
+  consumed (Symbol.counts_tail ∷ ks) st g = by_test (eqb c 126) (λ t. takes (sign_is 126 refl t) (λ r. (reaches (sign_in x) r.0, r.1)) (λ r. refl) (λ r. refl) g (λ m. m) tt) (λ u. turned (counts_tail_end x st ks) (consumed ks st g))
+  consumed (Symbol.test d ∷ ks) st g = test_leads d st ks g
+  consumed (Symbol.comparison ∷ ks) st g = comparison_leads st ks g
+  consumed (Symbol.condition d ∷ ks) st g = condition_leads d st ks g
+  consumed (Symbol.joined d ∷ ks) st g = by_test (eqb c 38) (λ t. takes (sign_is 38 refl t) (λ r. (by_and (sign_in x) (all_from r.0 r.1.1.0), r.1.1.1)) (λ r. ap (λ (v : List Lexeme). sign Kind.Ampersand (sign_in x) ∷ v) (all_from_spells r.0 r.1.1.0 (spell_all ks r.1.1.1))) (λ r. ap (store_all ks r.1.1.1) (all_from_stores r.0 r.1.1.0 (add 13 0 (place_of x) 0) st)) (refl, g) (λ m. m) tt) (λ u. by_test (eqb c 124) (λ t. takes (sign_is 124 refl t) (λ r. (by_or (sign_in x) (any_from r.0 r.1.1.0), r.1.1.1)) (λ r. ap (λ (v : List Lexeme). sign Kind.Bar (sign_in x) ∷ v) (any_from_spells r.0 r.1.1.0 (spell_all ks r.1.1.1))) (λ r. ap (store_all ks r.1.1.1) (any_from_stores r.0 r.1.1.0 (add 11 0 (place_of x) 0) st)) (refl, g) (λ m. m) tt) (λ v. turned (joined_end x st d ks) (consumed ks st g)))
+  consumed (Symbol.chain k tag d ∷ ks) st g = by_test (eqb c k) (λ t. takes (sign_is k g.0 t) (λ r. (link (sign_in x) r.0 r.1.1.0, r.1.1.1)) (λ r. refl) (λ r. refl) g (λ m. m) tt) (λ u. turned (chain_end x st k tag d ks) (consumed ks st g.1))
+  consumed (Symbol.atom d ∷ ks) st g = atom_leads d st ks g
+  consumed (Symbol.factor d ∷ ks) st g = factor_leads d st ks g
+  consumed (Symbol.concatenation d ∷ ks) st g = concatenation_leads d st ks g
+  consumed (Symbol.expression d ∷ ks) st g = turned (expression_begun x st d ks) (concatenation_leads d st (Symbol.branches d (place_of x) (nodes_of st) false ∷ ks) g)
+  consumed (Symbol.marked p i ∷ ks) st g = by_test (eqb c 123) (λ t. takes (sign_is 123 refl t) (λ r. (a_mark (counted (sign_in x) r.0 r.1.0), r.1.1)) (λ r. refl) (λ r. refl) g (λ m. m) tt) (λ u. mark_leads p i st ks g (consumed ks st g))
+  consumed (Symbol.counts_end p i mark f ∷ ks) st g = by_test (eqb c 125) (λ t. takes (sign_is 125 refl t) (λ r. (sign_in x, r)) (λ r. refl) (λ r. refl) g (λ m. m) tt) (λ u. faults)
+  consumed (Symbol.members d p i many ∷ ks) st g = by_test (eqb c 38) (λ t. takes (sign_is 38 refl t) (λ r. (more_members (sign_in x) (members_from r.0 r.1.0), r.1.1)) (λ r. ap (λ (v : List Lexeme). sign Kind.Ampersand (sign_in x) ∷ v) (members_from_spells r.0 r.1.0 (spell_all ks r.1.1))) (λ r. ap (store_all ks r.1.1) (members_from_on r.0 r.1.0 p i st)) g (λ m. m) tt) (λ u. turned (members_end x st d p i many ks) (consumed ks _ g))
+  consumed (Symbol.branches d p i many ∷ ks) st g = by_test (eqb c 124) (λ t. takes (sign_is 124 refl t) (λ r. (more_branches (sign_in x) (branches_from r.0 r.1.0), r.1.1)) (λ r. ap (λ (v : List Lexeme). sign Kind.Bar (sign_in x) ∷ v) (branches_from_spells r.0 r.1.0 (spell_all ks r.1.1))) (λ r. ap (store_all ks r.1.1) (branches_from_on r.0 r.1.0 p i st)) g (λ m. m) tt) (λ u. turned (branches_end x st d p i many ks) (consumed ks _ g))
+  consumed (Symbol.character_tail p ∷ ks) st g = by_test (eqb c 126) (λ t. takes (sign_is 126 refl t) (λ r. (to_character (sign_in x) r.0.0 r.0.1, r.1)) (λ r. refl) (λ r. refl) g (λ m. m) tt) (λ u. turned (character_end x st p ks) (consumed ks _ g))
+  consumed (Symbol.last_character p ∷ ks) st g = by_test (eqb c 9) (λ t. takes (is_character x next c e t) (λ r. ((literal_in x, is_single x next c e t), r)) (λ r. refl) (λ r. refl) g (λ m. m) tt) (λ u. faults)
+  consumed (Symbol.width d p ∷ ks) st g = by_test (eqb c 2) (λ t. takes (is_number x next c e t) (λ r. ((number_in x, r.0, r.1.0), r.1.1)) (λ r. refl) (λ r. refl) (refl, g) (λ m. m) tt) (λ u. faults)
+  consumed (Symbol.field_set d p v ∷ ks) st g = by_test (eqb c 8) (λ t. binder_leads d p v st ks g t) (λ u. turned (set_not_bound x st d p v ks) (set_leads d st (Symbol.field_end p v 0 0 (terms_of st) ∷ ks) g))
+  consumed (Symbol.bound_name d p v ∷ ks) st g = by_test (name_like c) (λ t. takes (is_name x next c e t) (λ r. ((name_in x, r.0, r.1.0, r.1.1.0, r.1.1.1.0), r.1.1.1.1)) (λ r. refl) (λ r. refl) (refl, (refl, g)) (λ m. m) tt) (λ u. faults)
+  consumed (Symbol.field_end p v name how f ∷ ks) st g = by_test (eqb c 41) (λ t. takes (sign_is 41 refl t) (λ r. (sign_in x, r)) (λ r. refl) (λ r. refl) g (λ m. m) tt) (λ u. faults)
+  consumed (Symbol.colon d f ∷ ks) st g = by_test (eqb c 58) (λ t. takes (sign_is 58 refl t) (λ r. ((sign_in x, r.0, r.1.0), r.1.1)) (λ r. refl) (λ r. refl) g (λ m. m) tt) (λ u. faults)
+  consumed (Symbol.case_end i f end ∷ ks) st g = by_test (eqb c 59) (λ t. takes (sign_is 59 refl t) (λ r. (sign_in x, r)) (λ r. refl) (λ r. refl) g (λ m. m) tt) (λ u. faults)
+  consumed (Symbol.cases d p i ∷ ks) st g = by_test (eqb c 93) (λ t. takes (sign_is 93 refl t) (λ r. (no_case (sign_in x), r)) (λ r. refl) (λ r. refl) g (λ m. m) tt) (λ u. by_test (eqb c 58) (λ t. takes (sign_is 58 refl t) (λ r. (default (sign_in x) r.0 r.1.0 r.1.1.0, r.1.1.1)) (λ r. refl) (λ r. refl) (refl, g) (λ m. m) tt) (λ v. turned (case_begun x st d p i ks) (condition_leads d st (Symbol.colon d (terms_of st) ∷ Symbol.cases d p i ∷ ks) g)))
+  consumed (Symbol.switch_end p i ∷ ks) st g = by_test (eqb c 93) (λ t. takes (sign_is 93 refl t) (λ r. (sign_in x, r)) (λ r. refl) (λ r. refl) g (λ m. m) tt) (λ u. faults)
+  consumed (Symbol.rules any ∷ []) st g = by_test (name_like c) (λ t. takes (is_name x next c e t) (λ r. (rules_from (rule (name_in x) r.0 r.1.0 r.1.1.0) r.1.1.1.0, tt)) (λ r. rules_from_spells any (rule (name_in x) r.0 r.1.0 r.1.1.0) r.1.1.1.0) (λ r. rules_from_stores any (rule (name_in x) r.0 r.1.0 r.1.1.0) r.1.1.1.0 st) (refl, tt) (λ m. m) tt) (λ u. by_test (any && eqb c 5) (λ t. end_leads any st (both_first any (eqb c 5) t) (both_second any (eqb c 5) t)) (λ v. faults))
+  consumed (Symbol.rules any ∷ k ∷ ks) st g = absurd g
+  consumed (Symbol.rule_end p i ∷ ks) st g = by_test (eqb c 59) (λ t. takes (sign_is 59 refl t) (λ r. (sign_in x, r)) (λ r. refl) (λ r. refl) g (λ m. m) tt) (λ u. faults)
 
 -- opens a step
 unfoldable pub stepping : Unit {0}

@@ -114,7 +114,7 @@ located : (ls : List Lexeme) → Ended ls → (st : State) (ks : List Symbol) (p
 unfolding run classified
 located [] n st ks p g m e = absurd n
 located (x ∷ ls) n st ks p g m e =
-    settled x ls st ks p g m (find x st ks p ls (consumed x (opens ls) (code x (opens ls)) refl st ks g) m n (λ st' ks' g' m' n' e'. located ls n' st' ks' p g' m' e') e)
+    settled x ls st ks p g m (find x st ks p ls (consumed x (opens ls) (code x (opens ls)) refl ks st g) m n (λ st' ks' g' m' n' e'. located ls n' st' ks' p g' m' e') e)
 
 -- ---- the first fault
 

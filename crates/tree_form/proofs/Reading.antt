@@ -32,7 +32,7 @@ after h faults = no_tree
 
 unfoldable pub parse : (ls : List Lexeme) → Onward
 parse [] st ks g = no_tree
-parse (x ∷ ls) st ks g = after (λ st' ks' g'. parse ls st' ks' g') (consumed x (opens ls) (code x (opens ls)) refl st ks g)
+parse (x ∷ ls) st ks g = after (λ st' ks' g'. parse ls st' ks' g') (consumed x (opens ls) (code x (opens ls)) refl ks st g)
 
 -- ---- the reader's answer
 
@@ -65,7 +65,7 @@ lifted back s t is_refused = is_refused
 pub agrees : (ls : List Lexeme) (st : State) (ks : List Symbol) (g : Ground ks) → Agrees ls st ks (parse ls st ks g) (run (classified ls) st ks)
 unfolding parse run classified after
 agrees [] st ks g = is_refused
-agrees (x ∷ ls) st ks g = by (consumed x (opens ls) (code x (opens ls)) refl st ks g) (λ st' ks' g'. agrees ls st' ks' g')
+agrees (x ∷ ls) st ks g = by (consumed x (opens ls) (code x (opens ls)) refl ks st g) (λ st' ks' g'. agrees ls st' ks' g')
   where
     by : {f : Consumed} (L : Leads x st ks f) → ((st' : State) (ks' : List Symbol) (g' : Ground ks') → Agrees ls st' ks' (parse ls st' ks' g') (run (classified ls) st' ks')) → Agrees (x ∷ ls) st ks (after (λ st' ks' g'. parse ls st' ks' g') L) (elim f [ go st' ks' ↦ run (classified ls) st' ks' | done st' ↦ right st' | fault ↦ refused (place_of x) ])
     by (goes {st'} {ks'} back s t g' m v) h = lifted back s t (h st' ks' g')

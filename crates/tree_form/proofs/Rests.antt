@@ -271,7 +271,7 @@ Rest (Symbol.factor d) = Tree factor d
 Rest (Symbol.concatenation d) = Tree concatenation d
 Rest (Symbol.expression d) = Tree expression d
 Rest (Symbol.marked p i) = Marked
-Rest (Symbol.Counts-end p i mark f) = Sign
+Rest (Symbol.counts_end p i mark f) = Sign
 Rest (Symbol.members d p i many) = MoreMembers d
 Rest (Symbol.branches d p i many) = MoreBranches d
 Rest (Symbol.character_tail p) = ToCharacter
@@ -285,7 +285,7 @@ Rest (Symbol.case_end i f end) = Sign
 Rest (Symbol.cases d p i) = MoreCases d
 Rest (Symbol.switch_end p i) = Sign
 Rest (Symbol.rules any) = MoreRules any
-Rest (Symbol.Rule-end p i) = Sign
+Rest (Symbol.rule_end p i) = Sign
 
 abbrev pub spell_rest : (k : Symbol) → Rest k → List Lexeme → List Lexeme
 spell_rest (Symbol.want k) r w = sign (kind_of k) r ∷ w
@@ -316,7 +316,7 @@ spell_rest (Symbol.factor d) r w = spell r w
 spell_rest (Symbol.concatenation d) r w = spell r w
 spell_rest (Symbol.expression d) r w = spell r w
 spell_rest (Symbol.marked p i) r w = spell_marked r w
-spell_rest (Symbol.Counts-end p i mark f) r w = sign Kind.CloseBrace r ∷ w
+spell_rest (Symbol.counts_end p i mark f) r w = sign Kind.CloseBrace r ∷ w
 spell_rest (Symbol.members d p i many) r w = spell_members r w
 spell_rest (Symbol.branches d p i many) r w = spell_branches r w
 spell_rest (Symbol.character_tail p) r w = spell_character r w
@@ -330,7 +330,7 @@ spell_rest (Symbol.case_end i f end) r w = sign Kind.Semicolon r ∷ w
 spell_rest (Symbol.cases d p i) r w = spell_cases r w
 spell_rest (Symbol.switch_end p i) r w = sign Kind.CloseBracket r ∷ w
 spell_rest (Symbol.rules any) r w = spell_more_rules r
-spell_rest (Symbol.Rule-end p i) r w = sign Kind.Semicolon r ∷ w
+spell_rest (Symbol.rule_end p i) r w = sign Kind.Semicolon r ∷ w
 
 abbrev pub store_rest : (k : Symbol) → Rest k → State → State
 store_rest (Symbol.want k) r st = st
@@ -361,7 +361,7 @@ store_rest (Symbol.factor d) r st = store r false st
 store_rest (Symbol.concatenation d) r st = store r false st
 store_rest (Symbol.expression d) r st = store r false st
 store_rest (Symbol.marked p i) r st = store_marked r p i st
-store_rest (Symbol.Counts-end p i mark f) r st = insert 3 p i 4 mark f (terms_of st) 0 st
+store_rest (Symbol.counts_end p i mark f) r st = insert 3 p i 4 mark f (terms_of st) 0 st
 store_rest (Symbol.members d p i many) r st = store_members r p i many st
 store_rest (Symbol.branches d p i many) r st = store_branches r p i many st
 store_rest (Symbol.character_tail p) r st = store_character r p st
@@ -375,7 +375,7 @@ store_rest (Symbol.case_end i f end) r st = condition_on i f end st
 store_rest (Symbol.cases d p i) r st = store_cases r p i st
 store_rest (Symbol.switch_end p i) r st = insert 4 p i 0 0 0 0 0 st
 store_rest (Symbol.rules any) r st = store_more_rules r st
-store_rest (Symbol.Rule-end p i) r st = close_rule p i st
+store_rest (Symbol.rule_end p i) r st = close_rule p i st
 
 -- the rests of all that waits
 abbrev pub Rests : List Symbol → Type 0
@@ -421,7 +421,7 @@ Ground (Symbol.factor d ∷ ks) = Ground ks
 Ground (Symbol.concatenation d ∷ ks) = Ground ks
 Ground (Symbol.expression d ∷ ks) = Ground ks
 Ground (Symbol.marked p i ∷ ks) = Ground ks
-Ground (Symbol.Counts-end p i mark f ∷ ks) = Ground ks
+Ground (Symbol.counts_end p i mark f ∷ ks) = Ground ks
 Ground (Symbol.members d p i many ∷ ks) = Ground ks
 Ground (Symbol.branches d p i many ∷ ks) = Ground ks
 Ground (Symbol.character_tail p ∷ ks) = Ground ks
@@ -436,7 +436,7 @@ Ground (Symbol.cases d p i ∷ ks) = Ground ks
 Ground (Symbol.switch_end p i ∷ ks) = Ground ks
 Ground (Symbol.rules any ∷ []) = Unit {0}
 Ground (Symbol.rules any ∷ k ∷ ks) = ⊥
-Ground (Symbol.Rule-end p i ∷ ks) = Ground ks
+Ground (Symbol.rule_end p i ∷ ks) = Ground ks
 
 -- no parenthesis that waits is too deep
 abbrev pub Room : List Symbol → Type 0
@@ -469,7 +469,7 @@ Room (Symbol.factor d ∷ ks) = Room ks
 Room (Symbol.concatenation d ∷ ks) = Room ks
 Room (Symbol.expression d ∷ ks) = Room ks
 Room (Symbol.marked p i ∷ ks) = Room ks
-Room (Symbol.Counts-end p i mark f ∷ ks) = Room ks
+Room (Symbol.counts_end p i mark f ∷ ks) = Room ks
 Room (Symbol.members d p i many ∷ ks) = Room ks
 Room (Symbol.branches d p i many ∷ ks) = Room ks
 Room (Symbol.character_tail p ∷ ks) = Room ks
@@ -483,7 +483,7 @@ Room (Symbol.case_end i f end ∷ ks) = Room ks
 Room (Symbol.cases d p i ∷ ks) = Room ks
 Room (Symbol.switch_end p i ∷ ks) = Room ks
 Room (Symbol.rules any ∷ ks) = Room ks
-Room (Symbol.Rule-end p i ∷ ks) = Room ks
+Room (Symbol.rule_end p i ∷ ks) = Room ks
 
 -- opens how parts are spelled and stored
 unfoldable pub opened : Unit {0}

@@ -45,12 +45,12 @@ not_single l one f = absurd (eqb-false (length l.characters) 1 f one)
 reads_literal : (d : ℕ) (l : Literal) {w : List Lexeme} {ks : List Symbol} {g : Ground ks} {r : Rests ks} → Not 126 w → Reads w ks g r → Reads (quoted l ∷ w) (Symbol.atom d ∷ ks) g (literal l, r)
 unfolding reading
 reads_literal d l {w} {ks} {g} {r} f h =
-    record { read = λ st. quoted_has l (opens w) (λ c e. after (λ st' ks' g'. parse w st' ks' g') (consumed (quoted l) (opens w) c e st (Symbol.atom d ∷ ks) g) ≡ tree (literal l, r)) (λ e. onward _ ((past_character l.start w f h).read _)) (λ t e. onward _ (h.read _)) (code (quoted l) (opens w)) refl }
+    record { read = λ st. quoted_has l (opens w) (λ c e. after (λ st' ks' g'. parse w st' ks' g') (consumed (quoted l) (opens w) c e (Symbol.atom d ∷ ks) st g) ≡ tree (literal l, r)) (λ e. onward _ ((past_character l.start w f h).read _)) (λ t e. onward _ (h.read _)) (code (quoted l) (opens w)) refl }
 
 reads_last_character : (p : ℕ) (l : Literal) (one : Single l) {w : List Lexeme} {ks : List Symbol} {g : Ground ks} {r : Rests ks} → Reads w ks g r → Reads (quoted l ∷ w) (Symbol.last_character p ∷ ks) g ((l, one), r)
 unfolding reading
 reads_last_character p l one {w} {ks} {g} {r} h =
-    record { read = λ st. quoted_has l (opens w) (λ c e. after (λ st' ks' g'. parse w st' ks' g') (consumed (quoted l) (opens w) c e st (Symbol.last_character p ∷ ks) g) ≡ tree ((l, one), r)) (λ e. onward _ (h.read _) ∙ λ i. tree ((l, ℕ_set (length l.characters) 1 (is_single (quoted l) (opens w) 9 e refl) one i), r)) (λ t e. not_single l one t) (code (quoted l) (opens w)) refl }
+    record { read = λ st. quoted_has l (opens w) (λ c e. after (λ st' ks' g'. parse w st' ks' g') (consumed (quoted l) (opens w) c e (Symbol.last_character p ∷ ks) st g) ≡ tree ((l, one), r)) (λ e. onward _ (h.read _) ∙ λ i. tree ((l, ℕ_set (length l.characters) 1 (is_single (quoted l) (opens w) 9 e refl) one i), r)) (λ t e. not_single l one t) (code (quoted l) (opens w)) refl }
 
 reads_to_character : (p : ℕ) (s : Sign) (l : Literal) (one : Single l) {w : List Lexeme} {ks : List Symbol} {g : Ground ks} {r : Rests ks} → Reads w (Symbol.last_character p ∷ ks) g ((l, one), r) → Reads (sign Kind.Tilde s ∷ w) (Symbol.character_tail p ∷ ks) g (to_character s l one, r)
 unfolding reading
@@ -59,7 +59,7 @@ reads_to_character p s l one h = record { read = λ st. onward _ (h.read _) }
 reads_range : (d : ℕ) (a : Literal) (s : Sign) (b : Literal) (one : Single a) (one' : Single b) {w : List Lexeme} {ks : List Symbol} {g : Ground ks} {r : Rests ks} → Reads w (Symbol.character_tail a.start ∷ ks) g (to_character s b one', r) → Reads (quoted a ∷ w) (Symbol.atom d ∷ ks) g (range a s b one one', r)
 unfolding reading
 reads_range d a s b one one' {w} {ks} {g} {r} h =
-    record { read = λ st. quoted_has a (opens w) (λ c e. after (λ st' ks' g'. parse w st' ks' g') (consumed (quoted a) (opens w) c e st (Symbol.atom d ∷ ks) g) ≡ tree (range a s b one one', r)) (λ e. onward _ (h.read _) ∙ λ i. tree (range a s b (ℕ_set (length a.characters) 1 (is_single (quoted a) (opens w) 9 e refl) one i) one', r)) (λ t e. not_single a one t) (code (quoted a) (opens w)) refl }
+    record { read = λ st. quoted_has a (opens w) (λ c e. after (λ st' ks' g'. parse w st' ks' g') (consumed (quoted a) (opens w) c e (Symbol.atom d ∷ ks) st g) ≡ tree (range a s b one one', r)) (λ e. onward _ (h.read _) ∙ λ i. tree (range a s b (ℕ_set (length a.characters) 1 (is_single (quoted a) (opens w) 9 e refl) one i) one', r)) (λ t e. not_single a one t) (code (quoted a) (opens w)) refl }
 
 -- a rule's name, which is not `eod`, and which no `(` follows
 not_one : {A : Type 0} (x : Name) (next : Bool) → next ≡ false → is_same eod_word x.letters ≡ false → (k : ℕ) → eqb 1 k ≡ false → code (word x) next ≡ k → A
@@ -69,7 +69,7 @@ not_one x false n f k t e = absurd (eqb-false 1 k t (sym (plain_name x f) ∙ e)
 reads_use : (d : ℕ) (x : Name) (other : is_same eod_word x.letters ≡ false) {w : List Lexeme} {ks : List Symbol} {g : Ground ks} {r : Rests ks} → opens w ≡ false → Reads w ks g r → Reads (word x ∷ w) (Symbol.atom d ∷ ks) g (rule_use x other, r)
 unfolding reading
 reads_use d x other {w} {ks} {g} {r} f h =
-    record { read = λ st. word_has x (opens w) (λ c e. after (λ st' ks' g'. parse w st' ks' g') (consumed (word x) (opens w) c e st (Symbol.atom d ∷ ks) g) ≡ tree (rule_use x other, r)) (λ e. onward _ (h.read _) ∙ λ i. tree (rule_use x (Bool-set (is_same eod_word x.letters) false (is_other (word x) (opens w) 1 e refl refl) other i), r)) (λ e. not_one x (opens w) f other 6 refl e) (λ e. not_one x (opens w) f other 7 refl e) (λ e. not_one x (opens w) f other 8 refl e) (code (word x) (opens w)) refl }
+    record { read = λ st. word_has x (opens w) (λ c e. after (λ st' ks' g'. parse w st' ks' g') (consumed (word x) (opens w) c e (Symbol.atom d ∷ ks) st g) ≡ tree (rule_use x other, r)) (λ e. onward _ (h.read _) ∙ λ i. tree (rule_use x (Bool-set (is_same eod_word x.letters) false (is_other (word x) (opens w) 1 e refl refl) other i), r)) (λ e. not_one x (opens w) f other 6 refl e) (λ e. not_one x (opens w) f other 7 refl e) (λ e. not_one x (opens w) f other 8 refl e) (code (word x) (opens w)) refl }
 
 reads_eod : (d : ℕ) (s : Sign) {w : List Lexeme} {ks : List Symbol} {g : Ground ks} {r : Rests ks} → Reads w ks g r → Reads (spelled_as eod_word s ∷ w) (Symbol.atom d ∷ ks) g (eod s, r)
 unfolding reading word_number starts
@@ -97,7 +97,7 @@ reads_uint false d l u o n m x h = record { read = λ st. onward _ (h.read _) }
 reads_bound_name : (d p v : ℕ) (x : Name) (m : Sign) (y : Choices whole d) (c c' : Sign) {w : List Lexeme} {ks : List Symbol} {g : Ground ks} {r : Rests ks} → Reads w ks g r → Reads (word x ∷ sign Kind.Comma m ∷ spell_set y (sign Kind.CloseParen c ∷ sign Kind.CloseParen c' ∷ w)) (Symbol.bound_name d p v ∷ ks) g ((x, m, y, c, c'), r)
 unfolding reading
 reads_bound_name d p v x m y c c' {w} {ks} {g} {r} h =
-    record { read = λ st. word_has x false (λ k e. after (λ st' ks' g'. parse rest st' ks' g') (consumed (word x) false k e st (Symbol.bound_name d p v ∷ ks) g) ≡ tree ((x, m, y, c, c'), r)) (λ e. onward _ ((inner st).read _)) (λ e. onward _ ((inner st).read _)) (λ e. onward _ ((inner st).read _)) (λ e. onward _ ((inner st).read _)) (code (word x) false) refl }
+    record { read = λ st. word_has x false (λ k e. after (λ st' ks' g'. parse rest st' ks' g') (consumed (word x) false k e (Symbol.bound_name d p v ∷ ks) st g) ≡ tree ((x, m, y, c, c'), r)) (λ e. onward _ ((inner st).read _)) (λ e. onward _ ((inner st).read _)) (λ e. onward _ ((inner st).read _)) (λ e. onward _ ((inner st).read _)) (code (word x) false) refl }
   where
     rest : List Lexeme
     rest = sign Kind.Comma m ∷ spell_set y (sign Kind.CloseParen c ∷ sign Kind.CloseParen c' ∷ w)
@@ -280,20 +280,20 @@ reads_is : (s : Sign) {w : List Lexeme} {ks : List Symbol} {g : Ground ks} {r : 
 unfolding reading
 reads_is s h = record { read = λ st. onward _ (h.read _) }
 
-reads_rule_end : (p i : ℕ) (e : Sign) {w : List Lexeme} {ks : List Symbol} {g : Ground ks} {r : Rests ks} → Reads w ks g r → Reads (sign Kind.Semicolon e ∷ w) (Symbol.Rule-end p i ∷ ks) g (e, r)
+reads_rule_end : (p i : ℕ) (e : Sign) {w : List Lexeme} {ks : List Symbol} {g : Ground ks} {r : Rests ks} → Reads w ks g r → Reads (sign Kind.Semicolon e ∷ w) (Symbol.rule_end p i ∷ ks) g (e, r)
 unfolding reading
 reads_rule_end p i e h = record { read = λ st. onward _ (h.read _) }
 
 reads_rule : (any : Bool) (x : Name) (s : Sign) (e : Tree expression 0) (z : Sign) (u : MoreRules true) (w : List Lexeme) → Reads w (Symbol.rules true ∷ []) tt (u, tt) → Reads (spell_rule (rule x s e z) w) (Symbol.rules any ∷ []) tt (rules_from (rule x s e z) u, tt)
 unfolding reading
 reads_rule any x s e z u w h =
-    record { read = λ st. word_has x false (λ k t. after (λ st' ks' g'. parse rest st' ks' g') (consumed (word x) false k t st (Symbol.rules any ∷ []) tt) ≡ tree (rules_from (rule x s e z) u, tt)) (λ t. onward _ ((inner st).read _)) (λ t. onward _ ((inner st).read _)) (λ t. onward _ ((inner st).read _)) (λ t. onward _ ((inner st).read _)) (code (word x) false) refl }
+    record { read = λ st. word_has x false (λ k t. after (λ st' ks' g'. parse rest st' ks' g') (consumed (word x) false k t (Symbol.rules any ∷ []) st tt) ≡ tree (rules_from (rule x s e z) u, tt)) (λ t. onward _ ((inner st).read _)) (λ t. onward _ ((inner st).read _)) (λ t. onward _ ((inner st).read _)) (λ t. onward _ ((inner st).read _)) (code (word x) false) refl }
   where
     rest : List Lexeme
     rest = sign Kind.Equal s ∷ spell e (sign Kind.Semicolon z ∷ w)
 
-    inner : (st : State) → Reads rest (Symbol.want 61 ∷ Symbol.expression 0 ∷ Symbol.Rule-end x.start (nodes_of st) ∷ Symbol.rules true ∷ []) (refl, tt) (s, (e, (z, (u, tt))))
-    inner st = reads_is s (whole_branches 0 e (reads_tree e) (sign Kind.Semicolon z ∷ w) (Symbol.Rule-end x.start (nodes_of st) ∷ Symbol.rules true ∷ []) tt (z, (u, tt)) ((((refl, refl), refl, refl, refl, refl), refl), refl) (reads_rule_end x.start (nodes_of st) z h))
+    inner : (st : State) → Reads rest (Symbol.want 61 ∷ Symbol.expression 0 ∷ Symbol.rule_end x.start (nodes_of st) ∷ Symbol.rules true ∷ []) (refl, tt) (s, (e, (z, (u, tt))))
+    inner st = reads_is s (whole_branches 0 e (reads_tree e) (sign Kind.Semicolon z ∷ w) (Symbol.rule_end x.start (nodes_of st) ∷ Symbol.rules true ∷ []) tt (z, (u, tt)) ((((refl, refl), refl, refl, refl, refl), refl), refl) (reads_rule_end x.start (nodes_of st) z h))
 
 reads_end : (p : ℕ) → Reads (finish p ∷ []) (Symbol.rules true ∷ []) tt (no_rule p, tt)
 unfolding reading

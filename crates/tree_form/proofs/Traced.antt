@@ -147,7 +147,7 @@ reads_primary : (o : ℕ) (a : Primary) {w : List Lexeme} {ks : List Symbol} {g 
 unfolding reading spell_primary
 reads_primary o (number n) h = record { read = λ st. onward _ (h.read _) }
 reads_primary o (variable x) {w} {ks} {g} {r} h =
-    record { read = λ st. word_has x (opens w) (λ c e. after (λ st' ks' g'. parse w st' ks' g') (consumed (word x) (opens w) c e st (Symbol.primary o ∷ ks) g) ≡ tree (variable x, r)) (λ e. onward _ (h.read _)) (λ e. onward _ (h.read _)) (λ e. onward _ (h.read _)) (λ e. onward _ (h.read _)) (code (word x) (opens w)) refl }
+    record { read = λ st. word_has x (opens w) (λ c e. after (λ st' ks' g'. parse w st' ks' g') (consumed (word x) (opens w) c e (Symbol.primary o ∷ ks) st g) ≡ tree (variable x, r)) (λ e. onward _ (h.read _)) (λ e. onward _ (h.read _)) (λ e. onward _ (h.read _)) (λ e. onward _ (h.read _)) (code (word x) (opens w)) refl }
 
 reads_operand : (o : ℕ) (a : Operand) {w : List Lexeme} {ks : List Symbol} {g : Ground ks} {r : Rests ks} → Reads w ks g r → Reads (spell_operand a w) (Symbol.operand o ∷ ks) g (a, r)
 unfolding reading spell_operand
@@ -285,7 +285,7 @@ reads_mark p i (any_number s) h = record { read = λ st. onward _ (h.read _) }
 reads_mark p i (one_or_more s) h = record { read = λ st. onward _ (h.read _) }
 reads_mark p i (counted o n c) {w} {ks} {g} {r} h = record { read = λ st. onward _ ((reads_counts n ((refl, refl, refl), refl, refl) (close st)).read _) }
   where
-    close : (st : State) → Reads (sign Kind.CloseBrace c ∷ w) (Symbol.Counts-end p i o.start (terms_of st) ∷ ks) g (c, r)
+    close : (st : State) → Reads (sign Kind.CloseBrace c ∷ w) (Symbol.counts_end p i o.start (terms_of st) ∷ ks) g (c, r)
     close st = record { read = λ st. onward _ (h.read _) }
 
 -- ---- conditions
