@@ -13,7 +13,7 @@ pub overflow_add-end : goal.overflow_add-end
 overflow_add-end c = omega (arith, size_read c.args.table.now c.args.i _ (c.attributes_of-attributes.ensures ∙ ap attributes_of c.construct_at.ensures) c.requires)
 
 pub body_weight-requires : goal.body_weight-requires
-body_weight-requires c = rule_read c.args.table.now c.args.i _ (c.attributes_of-attributes.ensures ∙ ap attributes_of c.construct_at.ensures) c.enum_told-in-Rule-1.given.1
+body_weight-requires c = rule_read c.args.table.now c.args.i _ (c.attributes_of-attributes.ensures ∙ ap attributes_of c.construct_at.ensures) c.in-Rule.is
 
 pub returns-in-Nothing : goal.returns-in-Nothing
 returns-in-Nothing c = weighed_as c.args.table.now c.args.weights.now c.args.i _ (c.attributes_of-attributes.ensures ∙ ap attributes_of c.construct_at.ensures) Below.Nothing c.in-Nothing.is
