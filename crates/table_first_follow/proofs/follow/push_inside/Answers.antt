@@ -14,7 +14,7 @@ hand-requires c =
     let a = c.args in
     let p = c.requires in
     let h : a.i < 257 = omega (arith, p.0) in
-    (p.3.size, p.1, size_read a.table.now a.i _ (c.attributes_of-attributes.ensures ∙ ap attributes_of c.construct_at.ensures) p.0, p.2, c.set_of-set.ensures.proper, alternative_owed a.table.now a.first.now a.family.now p.1 p.2 p.3 a.i h c.set_of-set.result.words c.set_of-set.ensures p.0 _ (c.attributes_of-attributes.ensures ∙ ap attributes_of c.construct_at.ensures) c.enum_told-in-Branches-1.given.1)
+    (p.3.size, p.1, size_read a.table.now a.i _ (c.attributes_of-attributes.ensures ∙ ap attributes_of c.construct_at.ensures) p.0, p.2, c.set_of-set.ensures.proper, alternative_owed a.table.now a.first.now a.family.now p.1 p.2 p.3 a.i h c.set_of-set.result.words c.set_of-set.ensures p.0 _ (c.attributes_of-attributes.ensures ∙ ap attributes_of c.construct_at.ensures) c.in-Branches.is)
 
 pub hand-requires-in-Members : goal.hand-requires-in-Members
 hand-requires-in-Members c =
@@ -34,7 +34,7 @@ hand-requires-in-Cases c =
     (p.3.size, p.1, size_read a.table.now a.i _ (c.attributes_of-attributes.ensures ∙ ap attributes_of c.construct_at.ensures) p.0, p.2, c.set_of-set.ensures.proper, switch_owed a.table.now a.first.now a.family.now p.1 p.2 p.3 a.i h c.set_of-set.result.words c.set_of-set.ensures p.0 _ (c.attributes_of-attributes.ensures ∙ ap attributes_of c.construct_at.ensures) c.in-Cases.is)
 
 pub body_of-requires : goal.body_of-requires
-body_of-requires c = rule_read c.args.table.now c.args.i _ (c.attributes_of-attributes.ensures ∙ ap attributes_of c.construct_at.ensures) c.enum_told-in-Rule-1.given.1
+body_of-requires c = rule_read c.args.table.now c.args.i _ (c.attributes_of-attributes.ensures ∙ ap attributes_of c.construct_at.ensures) c.in-Rule.is
 
 pub returns-in-Nothing : goal.returns-in-Nothing
 returns-in-Nothing c =

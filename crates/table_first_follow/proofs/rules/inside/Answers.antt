@@ -18,7 +18,7 @@ pub gather-requires-in-Cases : goal.gather-requires-in-Cases
 gather-requires-in-Cases c = (c.requires.0, size_read c.args.table.now c.args.i _ (c.attributes_of-attributes.ensures ∙ ap attributes_of c.construct_at.ensures) c.requires.1)
 
 pub body_of-requires : goal.body_of-requires
-body_of-requires c = rule_read c.args.table.now c.args.i _ (c.attributes_of-attributes.ensures ∙ ap attributes_of c.construct_at.ensures) c.enum_told-in-Rule-1.given.1
+body_of-requires c = rule_read c.args.table.now c.args.i _ (c.attributes_of-attributes.ensures ∙ ap attributes_of c.construct_at.ensures) c.in-Rule.is
 
 pub returns-in-Nothing : goal.returns-in-Nothing
 returns-in-Nothing c = of_none c.args.table.now c.args.family.now c.args.i c.requires.1 _ (c.attributes_of-attributes.ensures ∙ ap attributes_of c.construct_at.ensures) _ c.in-Nothing.is c.empty.ensures
