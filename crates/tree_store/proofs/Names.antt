@@ -36,13 +36,13 @@ use Rattle.tree_store.proofs.Naming.{reserved_here, Known, row_is, rows_place, n
 
 nodes_like : {ns : List ℕ} {i : ℕ} (M : List NodeRow) → NodesAt ns i M → LikeAt ns i M
 nodes_like [] no_nodes = none_like
-nodes_like (x ∷ M) (node_then h more) =
-    next_like (record { kind_like = h.kind_is; size_like = h.size_is; second_like = h.second_is; how_like = h.how_is }) (nodes_like M more)
+nodes_like {i = i} (x ∷ M) (node_then h more) =
+    next_like (record { kind_like = h.kind_is; size_like = h.size_is; second_like = h.second_is; how_like = h.how_is }) (nodes_like {i = i + 1} M more)
 
 nodes_least : (xs ns ts rs : List ℕ) (r a e : ℕ) {i : ℕ} (M : List NodeRow) → NodesAt ns i M → rows_place xs ns ts rs r a e i M ≡ least_of (length M) i (node_place xs ns ts rs r a e)
 unfolding rows_place least_of
 nodes_least xs ns ts rs r a e [] no_nodes = refl
-nodes_least xs ns ts rs r a e (x ∷ M) (node_then h more) = ap₂ min (sym (row_is xs ns ts rs r a e h)) (nodes_least xs ns ts rs r a e M more)
+nodes_least xs ns ts rs r a e {i = i} (x ∷ M) (node_then h more) = ap₂ min (sym (row_is xs ns ts rs r a e h)) (nodes_least xs ns ts rs r a e {i = i + 1} M more)
 
 -- ---- the names of rules
 

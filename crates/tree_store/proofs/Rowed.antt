@@ -29,11 +29,11 @@ nodes_from {ns} i (x ∷ M) h =
 
 pub nodes_left : {ns : List ℕ} {i : ℕ} (M L : List NodeRow) → NodesAt ns i (M ++ L) → NodesAt ns i M
 nodes_left [] L h = no_nodes
-nodes_left (x ∷ M) L (node_then h more) = node_then h (nodes_left M L more)
+nodes_left {i = i} (x ∷ M) L (node_then h more) = node_then h (nodes_left {i = i + 1} M L more)
 
 pub nodes_right : {ns : List ℕ} {i : ℕ} (M L : List NodeRow) → NodesAt ns i (M ++ L) → NodesAt ns (i + length M) L
 nodes_right {ns} {i} [] L h = subst (λ (q : ℕ). NodesAt ns q L) (let q : i ≡ i + 0 = omega arith in q) h
-nodes_right {ns} {i} (x ∷ M) L (node_then h more) = subst (λ (q : ℕ). NodesAt ns q L) (let q : i + 1 + length M ≡ i + suc (length M) = omega arith in q) (nodes_right M L more)
+nodes_right {ns} {i} (x ∷ M) L (node_then h more) = subst (λ (q : ℕ). NodesAt ns q L) (let q : i + 1 + length M ≡ i + suc (length M) = omega arith in q) (nodes_right {i = i + 1} M L more)
 
 -- ---- terms
 
@@ -43,11 +43,11 @@ pub data TermsAt (ts : List ℕ) : ℕ → List TermRow → Type 0 where
 
 pub terms_left : {ts : List ℕ} {k : ℕ} (A B : List TermRow) → TermsAt ts k (A ++ B) → TermsAt ts k A
 terms_left [] B h = none_at
-terms_left (r ∷ A) B (next_at e f more) = next_at e f (terms_left A B more)
+terms_left {k = k} (r ∷ A) B (next_at e f more) = next_at e f (terms_left {k = k + 1} A B more)
 
 pub terms_right : {ts : List ℕ} {k : ℕ} (A B : List TermRow) → TermsAt ts k (A ++ B) → TermsAt ts (k + length A) B
 terms_right {ts} {k} [] B h = subst (λ (q : ℕ). TermsAt ts q B) (let q : k ≡ k + 0 = omega arith in q) h
-terms_right {ts} {k} (r ∷ A) B (next_at e f more) = subst (λ (q : ℕ). TermsAt ts q B) (let q : k + 1 + length A ≡ k + suc (length A) = omega arith in q) (terms_right A B more)
+terms_right {ts} {k} (r ∷ A) B (next_at e f more) = subst (λ (q : ℕ). TermsAt ts q B) (let q : k + 1 + length A ≡ k + suc (length A) = omega arith in q) (terms_right {k = k + 1} A B more)
 
 terms_from : {ts : List ℕ} (i : ℕ) (A : List TermRow) → ((j : ℕ) → j < length A → TermIs ts (i + j) (get_or A j no_term)) → TermsAt ts i A
 terms_from i [] h = none_at

@@ -40,11 +40,11 @@ like_rest (next_like h more) = more
 
 pub like_left : {ns : List ℕ} {i : ℕ} (M L : List NodeRow) → LikeAt ns i (M ++ L) → LikeAt ns i M
 like_left [] L h = none_like
-like_left (r ∷ M) L (next_like h more) = next_like h (like_left M L more)
+like_left {i = i} (r ∷ M) L (next_like h more) = next_like h (like_left {i = i + 1} M L more)
 
 pub like_right : {ns : List ℕ} {i : ℕ} (M L : List NodeRow) → LikeAt ns i (M ++ L) → LikeAt ns (i + length M) L
 like_right {ns} {i} [] L h = subst (λ (k : ℕ). LikeAt ns k L) (let q : i ≡ i + 0 = omega arith in q) h
-like_right {ns} {i} (r ∷ M) L (next_like h more) = subst (λ (k : ℕ). LikeAt ns k L) (let q : i + 1 + length M ≡ i + suc (length M) = omega arith in q) (like_right M L more)
+like_right {ns} {i} (r ∷ M) L (next_like h more) = subst (λ (k : ℕ). LikeAt ns k L) (let q : i + 1 + length M ≡ i + suc (length M) = omega arith in q) (like_right {i = i + 1} M L more)
 
 pub like_uncased : {ns : List ℕ} {i : ℕ} (f g : ℕ) (M : List NodeRow) → LikeAt ns i (on_first f g M) → LikeAt ns i M
 like_uncased f g [] h = none_like
@@ -109,7 +109,7 @@ ends_within [] fits_none h j a b = absurd (omega arith)
 ends_within {ns} {i} (r ∷ M) (fits_more {n} f more) (next_like l ls) j a b =
     compared j i (λ y. absurd (omega arith))
     (λ (y : j ≡ i). let e : node_size ns j ≡ r.size = ap (node_size ns) y ∙ l.size_like in omega arith)
-    (λ y. let g : j + node_size ns j ≤ i + 1 + n = ends_within M more ls j (omega arith) (omega arith) in omega arith)
+    (λ y. let g : j + node_size ns j ≤ i + 1 + n = ends_within {i = i + 1} M more ls j (omega arith) (omega arith) in omega arith)
 
 -- ---- spots; a is the first node of the rule
 

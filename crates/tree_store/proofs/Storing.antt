@@ -79,7 +79,7 @@ after_more {n} {N} {T} {b} {R} {st} r rs h =
 pub rules_hold : {n : Totals} {N : List NodeRow} {T : List TermRow} {b : ℕ} {R : List RuleRow} {st : State} (t : Rules) → Totalled n N T b R → Holds N T b R st → After n N T b R (rules_in t) (stored t st)
 unfolding stored rules_in
 rules_hold (last_rule r) m h = after_more r [] (after_none (rule_holds r m h))
-rules_hold (and_rules r more) m h = after_more r (rules_in more) (rules_hold more (totalled_rule r m) (rule_holds r m h))
+rules_hold {n = n} (and_rules r more) m h = after_more r (rules_in more) (rules_hold {n = with_rule n r} more (totalled_rule r m) (rule_holds r m h))
 
 nothing_yet : Totalled no_rule [] [] 0 []
 nothing_yet = record { in_nodes = refl; in_terms = refl; in_binders = refl; in_rules = refl }
@@ -96,7 +96,7 @@ unfolding totals rules_nodes rules_terms rules_binders rules_rows
 totalled_rules {n} {N} {T} {b} {R} [] m =
     record { in_nodes = ap length (append-nil N) ∙ m.in_nodes; in_terms = ap length (append-nil T) ∙ m.in_terms; in_binders = omega (arith, m.in_binders); in_rules = ap length (append-nil R) ∙ m.in_rules }
 totalled_rules {n} {N} {T} {b} {R} (r ∷ rs) m =
-    let k = totalled_rules rs (totalled_rule r m)
+    let k = totalled_rules {n = with_rule n r} rs (totalled_rule r m)
     in record {
       in_nodes =
           sym (ap length (append_assoc N M (rules_nodes (length (T ++ term_rows (rule_body r))) rs) ∙ ap (λ (k : ℕ). N ++ (M ++ rules_nodes k rs)) (length-append T (term_rows (rule_body r)))))
