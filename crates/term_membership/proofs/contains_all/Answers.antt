@@ -1,16 +1,9 @@
-use Prim.Native.Nat.{◌-◌}
 use mathlib.Core.Path.{sym, ap, ◌∙◌}
 use native.Mathlib.Omega.{arith}
 use Rattle.term_words.specs.declared.Term.{Term}
 use Rattle.term_membership.specs.Effects.{turn_of}
-use Rattle.term_membership.proofs.Members.{Underway, begins, goes_on, goes_off, goes_out}
+use Rattle.term_membership.proofs.Members.{begins, goes_on, goes_off, goes_out}
 use Rattle.term_membership.proofs.contains_all.Goals as goal
-
-abbrev invariant-loop : tie.invariant-loop
-invariant-loop words start end variables offset values masks₀ count₀ numbers₀ at₀ masks count numbers at = Underway offset variables words start end values at numbers masks count
-
-abbrev decreases-loop : tie.decreases-loop
-decreases-loop words start end variables offset values masks₀ count₀ numbers₀ at₀ masks count numbers at = end - at
 
 pub loop-at-init : goal.loop-at-init
 loop-at-init c = begins c.args.offset c.args.variables.now c.args.words.now c.args.start c.args.end c.args.values.now
@@ -24,7 +17,7 @@ returns-in-Off c =
     let l = c.loop-at in
     λ j h.
     goes_off a.offset a.variables.now a.words.now a.start a.end a.values.now l.at l.numbers l.masks l.count l.invariant c.loop-at-test.true
-    (sym c.enum_told-1.given.1 ∙ c.turn.ensures ∙ ap (λ (x : Term). turn_of a.offset a.variables.now x l.numbers) c.term_at.ensures) j h
+    (c.in-Off.ensures ∙ ap (λ (x : Term). turn_of a.offset a.variables.now x l.numbers) c.term_at.ensures) j h
     ∙ c.nothing.ensures j h
 
 pub loop-at-preserved : goal.loop-at-preserved
@@ -32,9 +25,9 @@ loop-at-preserved c =
     let a = c.args in
     let l = c.loop-at in
     goes_on a.offset a.variables.now a.words.now a.start a.end a.values.now l.at l.numbers l.masks l.count l.invariant c.loop-at-test.true
-    c.next-1.given.0.0 c.next-1.given.0.1.0
-    (sym c.next-1.given.1 ∙ c.turn.ensures ∙ ap (λ (x : Term). turn_of a.offset a.variables.now x l.numbers) c.term_at.ensures)
-    c.apply_all-count.new.1.1.0 c.apply_all-count.result c.apply_all-count.ensures
+    c.in-On.next c.in-On.effect
+    (c.in-On.ensures ∙ ap (λ (x : Term). turn_of a.offset a.variables.now x l.numbers) c.term_at.ensures)
+    c.apply_all-count.new.masks c.apply_all-count.result c.apply_all-count.ensures
 
 pub bounds-masks-0 : goal.bounds-masks-0
 bounds-masks-0 c = omega (arith, c.loop-at.invariant.all)

@@ -5,16 +5,16 @@ use Rattle.term_membership.specs.Truths.{waiting}
 use Rattle.term_membership.proofs.ended.Goals as goal
 
 pub returns-in-Zero : goal.returns-in-Zero
-returns-in-Zero c = λ masks e j h. ap (λ (s : Numbers). ends s (waiting masks c.args.count j)) c.enum_told-1.given.1 ∙ c.alone.ensures masks e j h
+returns-in-Zero c = λ masks e j h. ap (λ (s : Numbers). ends s (waiting masks c.args.count j)) c.in-Zero.is ∙ c.alone.ensures masks e j h
 
 pub returns-in-One : goal.returns-in-One
-returns-in-One c = λ masks e j h. ap (λ (s : Numbers). ends s (waiting masks c.args.count j)) c.enum_told-in-One-1.given.1 ∙ c.nothing.ensures j h
+returns-in-One c = λ masks e j h. ap (λ (s : Numbers). ends s (waiting masks c.args.count j)) c.in-One.is ∙ c.nothing.ensures j h
 
 pub returns-in-Two : goal.returns-in-Two
-returns-in-Two c = λ masks e j h. ap (λ (s : Numbers). ends s (waiting masks c.args.count j)) c.enum_told-in-Two-1.given.1 ∙ c.nothing-in-Two.ensures j h
+returns-in-Two c = λ masks e j h. ap (λ (s : Numbers). ends s (waiting masks c.args.count j)) c.in-Two.is ∙ c.nothing-in-Two.ensures j h
 
 pub returns-in-Three : goal.returns-in-Three
-returns-in-Three c = λ masks e j h. ap (λ (s : Numbers). ends s (waiting masks c.args.count j)) c.enum_told-in-Three-1.given.1 ∙ c.nothing-in-Three.ensures j h
+returns-in-Three c = λ masks e j h. ap (λ (s : Numbers). ends s (waiting masks c.args.count j)) c.in-Three.is ∙ c.nothing-in-Three.ensures j h
 
 pub returns-in-Four : goal.returns-in-Four
-returns-in-Four c = λ masks e j h. ap (λ (s : Numbers). ends s (waiting masks c.args.count j)) c.enum_told-in-Four-1.given.1 ∙ c.nothing-in-Four.ensures j h
+returns-in-Four c = λ masks e j h. ap (λ (s : Numbers). ends s (waiting masks c.args.count j)) c.in-Four.is ∙ c.nothing-in-Four.ensures j h

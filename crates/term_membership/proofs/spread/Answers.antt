@@ -1,14 +1,7 @@
-use Prim.Native.Nat.{◌-◌}
 use mathlib.Core.Path.{refl}
 use native.Mathlib.Omega.{arith}
-use Rattle.term_membership.proofs.Rounds.{Spreading, spreading_more}
+use Rattle.term_membership.proofs.Rounds.{spreading_more}
 use Rattle.term_membership.proofs.spread.Goals as goal
-
-abbrev invariant-loop : tie.invariant-loop
-invariant-loop test out₀ j₀ out j = Spreading test j out
-
-abbrev decreases-loop : tie.decreases-loop
-decreases-loop test out₀ j₀ out j = 64 - j
 
 pub loop-j-init : goal.loop-j-init
 loop-j-init c = record { all = refl; done = λ k h. absurd (omega arith); most = omega arith }

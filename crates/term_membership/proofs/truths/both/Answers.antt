@@ -13,14 +13,14 @@ use Rattle.term_membership.proofs.truths.both.Goals as goal
 pub returns-in-Or : goal.returns-in-Or
 returns-in-Or c =
     let a = c.args in
-    λ j. bit-or a.x a.y j ∙ or_digit (bit a.x j) (bit a.y j) (bit_lt a.x j) (bit_lt a.y j) ∙ ap (λ (g : Joint). digit (joins g (eqb (bit a.x j) 1) (eqb (bit a.y j) 1))) (sym c.enum_told-1.given.1)
+    λ j. bit-or a.x a.y j ∙ or_digit (bit a.x j) (bit a.y j) (bit_lt a.x j) (bit_lt a.y j) ∙ ap (λ (g : Joint). digit (joins g (eqb (bit a.x j) 1) (eqb (bit a.y j) 1))) (sym c.in-Or.is)
 
 pub returns-in-And : goal.returns-in-And
 returns-in-And c =
     let a = c.args in
-    λ j. bit-and a.x a.y j ∙ and_digit (bit a.x j) (bit a.y j) (bit_lt a.x j) (bit_lt a.y j) ∙ ap (λ (g : Joint). digit (joins g (eqb (bit a.x j) 1) (eqb (bit a.y j) 1))) (sym c.enum_told-in-And-1.given.1)
+    λ j. bit-and a.x a.y j ∙ and_digit (bit a.x j) (bit a.y j) (bit_lt a.x j) (bit_lt a.y j) ∙ ap (λ (g : Joint). digit (joins g (eqb (bit a.x j) 1) (eqb (bit a.y j) 1))) (sym c.in-And.is)
 
 pub returns-in-Except : goal.returns-in-Except
 returns-in-Except c =
     let a = c.args in
-    λ j. bit-xor a.x (bit_and a.x a.y) j ∙ ap (differ (bit a.x j)) (bit-and a.x a.y j) ∙ except_digit (bit a.x j) (bit a.y j) (bit_lt a.x j) (bit_lt a.y j) ∙ ap (λ (g : Joint). digit (joins g (eqb (bit a.x j) 1) (eqb (bit a.y j) 1))) (sym c.enum_told-in-Except-1.given.1)
+    λ j. bit-xor a.x (bit_and a.x a.y) j ∙ ap (differ (bit a.x j)) (bit-and a.x a.y j) ∙ except_digit (bit a.x j) (bit a.y j) (bit_lt a.x j) (bit_lt a.y j) ∙ ap (λ (g : Joint). digit (joins g (eqb (bit a.x j) 1) (eqb (bit a.y j) 1))) (sym c.in-Except.is)

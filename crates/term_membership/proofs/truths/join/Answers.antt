@@ -15,6 +15,6 @@ returns-then-count-gt62 c = joined_over c.args.masks.now c.requires c.args.joint
 
 pub returns : goal.returns
 returns c =
-    let s = c. in
+    let s = c in
     joined_anew s.args.masks.now s.requires s.args.joint s.args.count c.both.result c.if-count-lt2.false c.if-count-gt62.false
     (λ j. c.both.ensures j ∙ ap₂ (λ (x y : ℕ). digit (joins s.args.joint (eqb (bit x j) 1) (eqb (bit y j) 1))) c.same.ensures c.same-2.ensures)

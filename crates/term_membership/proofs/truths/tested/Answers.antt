@@ -2,14 +2,8 @@ use Prim.Native.Nat.{ℕ, ◌-◌}
 use mathlib.Core.Path.{◌≡◌, subst}
 use native.Mathlib.Omega.{arith}
 use Rattle.term_membership.specs.Truths.{Tested}
-use Rattle.term_membership.proofs.Rounds.{Testing, testing_none, testing_room, testing_more}
+use Rattle.term_membership.proofs.Rounds.{testing_none, testing_room, testing_more}
 use Rattle.term_membership.proofs.truths.tested.Goals as goal
-
-abbrev invariant-loop : tie.invariant-loop
-invariant-loop effect values out₀ j₀ out j = Testing effect values j out
-
-abbrev decreases-loop : tie.decreases-loop
-decreases-loop effect values out₀ j₀ out j = j
 
 pub loop-j-init : goal.loop-j-init
 loop-j-init c = testing_none c.args.effect c.args.values.now
