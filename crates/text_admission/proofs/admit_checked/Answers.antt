@@ -9,10 +9,6 @@ use Rattle.text_admission.specs.Admitted.{AnsweredRules}
 use Rattle.text_admission.proofs.Facts.{basics}
 use Rattle.text_admission.proofs.Stages.{place_5, place_6, by_5, by_6, limited, named}
 use borrow.Author.Rules.{rules}
-use Rattle.text_admission.proofs.admit_read.Reads as admit-read-reads
-use Rattle.text_admission.proofs.refused.Reads as refused-reads
-use Rattle.text_names.proofs.limits.first_past.Reads as first-past-reads
-use Rattle.text_names.proofs.places.first_fault.Reads as first-fault-reads
 use Rattle.text_admission.proofs.admit_checked.Goals as goal
 
 -- src/lib.rt:212:9

@@ -3,10 +3,6 @@ use Rattle.text_parsing.specs.Cursors.{state_at}
 use Rattle.text_admission.specs.Admitted.{AnsweredRules}
 use Rattle.text_admission.proofs.Stages.{encodable, rule_placed, straight, cyclic}
 use borrow.Author.Rules.{rules}
-use Rattle.text_admission.proofs.admit_words.Reads as admit-words-reads
-use Rattle.text_admission.proofs.refused_at.Reads as refused-at-reads
-use Rattle.text_encoding.proofs.areas.encode.Reads as encode-reads
-use Rattle.table_reach.proofs.recursive_rule.Reads as recursive-rule-reads
 use Rattle.text_admission.proofs.admit_read.Goals as goal
 
 -- src/lib.rt:192:5

@@ -4,9 +4,6 @@ use Rattle.text_parsing.specs.Cursors.{state_at}
 use Rattle.text_admission.specs.Admitted.{AnsweredRules, by_form}
 use Rattle.text_admission.proofs.Facts.{basics}
 use Rattle.text_admission.proofs.Stages.{formed, not_formed, form_place}
-use Rattle.text_admission.proofs.admit_checked.Reads as admit-checked-reads
-use Rattle.text_admission.proofs.refused.Reads as refused-reads
-use Rattle.text_syntax.proofs.rules.read.Reads as read-reads
 use Rattle.text_admission.proofs.admit_rules.Goals as goal
 
 -- src/lib.rt:233:9

@@ -10,10 +10,6 @@ use Rattle.text_admission.specs.Extents.{refusal_8}
 use Rattle.text_admission.proofs.Stages.{encodable, long_words, place_8, bounded, judgeable}
 use Rattle.text_admission.proofs.Answering.{answered}
 use borrow.Author.Rules.{rules}
-use Rattle.text_admission.proofs.extents.first_oversized.Reads as first-oversized-reads
-use Rattle.text_admission.proofs.handed_over.Reads as handed-over-reads
-use Rattle.text_admission.proofs.judged.Reads as judged-reads
-use Rattle.text_admission.proofs.refused.Reads as refused-reads
 use Rattle.text_admission.proofs.admit_words.Goals as goal
 
 -- src/lib.rt:161:11
@@ -38,4 +34,4 @@ returns-in-At c = subst (AnsweredRules c.args.text.now c.args.base c.args.table.
 
 -- src/lib.rt:148:1
 pub returns-in-Nothing : goal.returns-in-Nothing
-returns-in-Nothing c = answered c.args.text.now (state_at c.args.c c.args.nodes.now c.args.terms.now c.args.rules.now) c.args.base (bounded c.args.text.now (state_at c.args.c c.args.nodes.now c.args.terms.now c.args.rules.now) c.requires.2 c.requires.0 (sym (c.first_oversized.ensures ∙ ap (λ (w : List ℕ). refusal_8 c.args.text.now c.args.nodes.now c.args.terms.now w c.args.c.nodes) c.requires.1) ∙ c.enum_told-1.given.1)) c.requires.2 c.args.words.now c.judged-answer.new.1.1.1.0 c.args.table.now c.handed_over.new.1.1.0 c.judged-answer.result c.handed_over.result c.requires.1 c.judged-answer.ensures c.handed_over.ensures.0 c.handed_over.ensures.1
+returns-in-Nothing c = answered c.args.text.now (state_at c.args.c c.args.nodes.now c.args.terms.now c.args.rules.now) c.args.base (bounded c.args.text.now (state_at c.args.c c.args.nodes.now c.args.terms.now c.args.rules.now) c.requires.2 c.requires.0 (sym (c.first_oversized.ensures ∙ ap (λ (w : List ℕ). refusal_8 c.args.text.now c.args.nodes.now c.args.terms.now w c.args.c.nodes) c.requires.1) ∙ c.enum_told-1.given.1)) c.requires.2 c.args.words.now c.judged-answer.new.words c.args.table.now c.handed_over.new.table c.judged-answer.result c.handed_over.result c.requires.1 c.judged-answer.ensures c.handed_over.ensures.0 c.handed_over.ensures.1

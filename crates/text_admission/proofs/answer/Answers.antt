@@ -3,9 +3,6 @@ use mathlib.Core.Logic.{inl, inr}
 use native.Mathlib.Omega.{arith}
 use Rattle.text_admission.specs.Admitted.{short_table, wrong_size, refused_early}
 use Rattle.text_admission.proofs.HeaderPlaces.{rules_inside, wrong_inside, at_header, at_rules}
-use Rattle.text_admission.proofs.admit_from.Reads as admit-from-reads
-use Rattle.text_admission.proofs.refused.Reads as refused-reads
-use Rattle.text_header.proofs.header.header.Reads as header-reads
 use Rattle.text_admission.proofs.answer.Goals as goal
 
 -- src/lib.rt:251:9
@@ -34,4 +31,4 @@ returns-in-Wrong c = at_header c.args.text.now c.args.table.now c.header.result 
 
 -- src/lib.rt:247:1
 pub returns-in-Rules : goal.returns-in-Rules
-returns-in-Rules c = at_rules c.args.text.now c.args.table.now c.admit_from.new.1.1.0 c.header.result _ c.admit_from.result c.header.ensures c.base-1.given.1 c.if-table-lt-TABLE_WORDS.false c.if-text-eq0.false c.if-text-gt-MAX_TEXT_BYTES.false c.admit_from.ensures
+returns-in-Rules c = at_rules c.args.text.now c.args.table.now c.admit_from.new.table c.header.result _ c.admit_from.result c.header.ensures c.base-1.given.1 c.if-table-lt-TABLE_WORDS.false c.if-text-eq0.false c.if-text-gt-MAX_TEXT_BYTES.false c.admit_from.ensures

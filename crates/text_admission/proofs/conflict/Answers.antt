@@ -2,8 +2,6 @@ use Prim.Native.Nat.{ℕ, ◌+◌}
 use mathlib.Core.Path.{ap, ◌∙◌}
 use native.Mathlib.Omega.{arith}
 use Rattle.text_admission.specs.declared.Admission.{Admission}
-use Rattle.text_admission.proofs.placed.Reads as placed-reads
-use Rattle.text_store.proofs.words.node_word.Reads as node-word-reads
 use Rattle.text_admission.proofs.conflict.Goals as goal
 
 -- src/lib.rt:67:16

@@ -1,7 +1,5 @@
 use mathlib.Core.Path.{refl, sym, ◌∙◌}
 use Rattle.text_admission.proofs.Handing.{copied, untouched}
-use Rattle.text_admission.proofs.copying.copy.Reads as copy-reads
-use Rattle.text_admission.proofs.is_admitted.Reads as is-admitted-reads
 use Rattle.text_admission.proofs.handed_over.Goals as goal
 
 -- src/lib.rt:150:1

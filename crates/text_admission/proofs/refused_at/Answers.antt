@@ -2,8 +2,6 @@ use Prim.Native.Nat.{ℕ, ◌+◌}
 use mathlib.Core.Path.{ap, ◌∙◌}
 use native.Mathlib.Omega.{arith}
 use Rattle.text_admission.specs.declared.Admission.{Admission}
-use Rattle.text_admission.proofs.refused.Reads as refused-reads
-use Rattle.text_store.proofs.words.rule_word.Reads as rule-word-reads
 use Rattle.text_admission.proofs.refused_at.Goals as goal
 
 -- src/lib.rt:67:5

@@ -11,7 +11,7 @@ pub loop-i-init : goal.loop-i-init
 loop-i-init c = ((let z : 0 ≤ c.args.n = omega arith in z), sum_none (lists_length c.args.nodes.now), yet_start)
 
 pub node_found-requires : goal.node_found-requires
-node_found-requires c = let s = c. in (s.requires.0, s.requires.1, s.requires.2, s.requires.3, omega arith, c.loop-i.invariant.1, omega (arith, sum_grows (c.loop-i.i + 1) s.args.n (lists_length s.args.nodes.now) (let z : c.loop-i.i + 1 ≤ s.args.n = omega arith in z)))
+node_found-requires c = (c.requires.0, c.requires.1, c.requires.2, c.requires.3, omega arith, c.loop-i.invariant.1, omega (arith, sum_grows (c.loop-i.i + 1) c.args.n (lists_length c.args.nodes.now) (let z : c.loop-i.i + 1 ≤ c.args.n = omega arith in z)))
 
 pub condition_length-requires : goal.condition_length-requires
 condition_length-requires c = c.requires.0

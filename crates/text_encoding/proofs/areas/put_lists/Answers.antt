@@ -20,4 +20,4 @@ pub list-requires-2 : goal.list-requires-2
 list-requires-2 c = (c.requires.0, c.requires.1, c.requires.2, omega (arith, sum_next c.args.i (lists_length c.args.nodes.now)), omega (arith, c.shared_slice_known-2-1.given (node_start c.args.i + at_own_end)))
 
 pub returns : goal.returns
-returns c = written_next c.args.table.now c.list.new.1.1.1.1.1.1.1.1.0 c.list-2.new.1.1.1.1.1.1.1.1.0 (terms_at + 3 * c.args.q) (terms_at + 3 * (c.args.q + c.condition_length-n.result)) (list_words c.args.text.now c.args.nodes.now c.args.terms.now c.args.a c.args.i (condition_from c.args.nodes.now c.args.i) (condition_length c.args.nodes.now c.args.i)) (list_words c.args.text.now c.args.nodes.now c.args.terms.now c.args.a c.args.i (own_from c.args.nodes.now c.args.i) (own_length c.args.nodes.now c.args.i)) (simp (c.list.ensures, c.node_word.ensures, c.condition_length-n.ensures)) (omega (arith, c.condition_length-n.ensures, list_length c.args.text.now c.args.nodes.now c.args.terms.now c.args.a c.args.i (condition_from c.args.nodes.now c.args.i) (condition_length c.args.nodes.now c.args.i))) (simp (c.list-2.ensures, c.node_word-2.ensures, c.own_length-m.ensures))
+returns c = written_next c.args.table.now c.list.new.table c.list-2.new.table (terms_at + 3 * c.args.q) (terms_at + 3 * (c.args.q + c.condition_length-n.result)) (list_words c.args.text.now c.args.nodes.now c.args.terms.now c.args.a c.args.i (condition_from c.args.nodes.now c.args.i) (condition_length c.args.nodes.now c.args.i)) (list_words c.args.text.now c.args.nodes.now c.args.terms.now c.args.a c.args.i (own_from c.args.nodes.now c.args.i) (own_length c.args.nodes.now c.args.i)) (simp (c.list.ensures, c.node_word.ensures, c.condition_length-n.ensures)) (omega (arith, c.condition_length-n.ensures, list_length c.args.text.now c.args.nodes.now c.args.terms.now c.args.a c.args.i (condition_from c.args.nodes.now c.args.i) (condition_length c.args.nodes.now c.args.i))) (simp (c.list-2.ensures, c.node_word-2.ensures, c.own_length-m.ensures))

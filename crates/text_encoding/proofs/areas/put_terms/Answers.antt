@@ -32,7 +32,7 @@ pub overflow_add-q-in-loop-i : goal.overflow_add-q-in-loop-i
 overflow_add-q-in-loop-i c = omega (arith, sum_holds c.loop-i.i c.args.n (lists_length c.args.nodes.now) c.loop-i-test.true)
 
 pub loop-i-preserved : goal.loop-i-preserved
-loop-i-preserved c = let e : c.put_lists.new.1.1.1.1.1.1.0 ≡ written c.loop-i.table (terms_at + 3 * c.loop-i.q) (lists_words c.args.text.now c.args.nodes.now c.args.terms.now c.args.rules.now c.args.r c.loop-i.i) = simp (c.put_lists.ensures, c.first_at.ensures.0) in (omega arith, sum_turn c.loop-i.i (c.condition_length.result + c.own_length.result) c.loop-i.q (lists_length c.args.nodes.now) c.loop-i.invariant.1 (ap₂ ◌+◌ c.condition_length.ensures c.own_length.ensures), writing_turn c.loop-i.invariant.2 (one_less _ _ c.loop-i-test.true) refl (omega (arith, c.condition_length.ensures, c.own_length.ensures, lists_words_length c.args.text.now c.args.nodes.now c.args.terms.now c.args.rules.now c.args.r c.loop-i.i)) e)
+loop-i-preserved c = let e : c.put_lists.new.table ≡ written c.loop-i.table (terms_at + 3 * c.loop-i.q) (lists_words c.args.text.now c.args.nodes.now c.args.terms.now c.args.rules.now c.args.r c.loop-i.i) = simp (c.put_lists.ensures, c.first_at.ensures.0) in (omega arith, sum_turn c.loop-i.i (c.condition_length.result + c.own_length.result) c.loop-i.q (lists_length c.args.nodes.now) c.loop-i.invariant.1 (ap₂ ◌+◌ c.condition_length.ensures c.own_length.ensures), writing_turn c.loop-i.invariant.2 (one_less _ _ c.loop-i-test.true) refl (omega (arith, c.condition_length.ensures, c.own_length.ensures, lists_words_length c.args.text.now c.args.nodes.now c.args.terms.now c.args.rules.now c.args.r c.loop-i.i)) e)
 
 pub shape_of-table : goal.shape_of-table
 shape_of-table c = c.loop-i.invariant.2.same

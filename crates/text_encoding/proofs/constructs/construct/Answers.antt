@@ -14,4 +14,4 @@ pub end_word-requires : goal.end_word-requires
 end_word-requires c = omega (arith, sum_next c.args.i (lists_length c.args.nodes.now))
 
 pub returns : goal.returns
-returns c = construct_written c.args.text.now c.args.nodes.now c.args.rules.now c.args.count c.args.i (constructs_at + 8 * c.args.i) c.args.table.now c.put_two.new.0 c.operands.new.1.1.1.1.1.1.1.0 c.put_two-2.new.0 (simp (c.put_two.ensures, c.kind_word.ensures, c.node_word.ensures)) c.operands.ensures (simp (c.put_two-2.ensures, c.end_word.ensures, c.start_word.ensures, c.condition_length-n.ensures, c.requires.3))
+returns c = construct_written c.args.text.now c.args.nodes.now c.args.rules.now c.args.count c.args.i (constructs_at + 8 * c.args.i) c.args.table.now c.put_two.new.table c.operands.new.table c.put_two-2.new.table (simp (c.put_two.ensures, c.kind_word.ensures, c.node_word.ensures)) c.operands.ensures (simp (c.put_two-2.ensures, c.end_word.ensures, c.start_word.ensures, c.condition_length-n.ensures, c.requires.3))

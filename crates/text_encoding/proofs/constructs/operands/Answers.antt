@@ -26,7 +26,7 @@ pub end_word-requires-then-kind-eq8 : goal.end_word-requires-then-kind-eq8
 end_word-requires-then-kind-eq8 c = omega (arith, sum_next c.args.i (lists_length c.args.nodes.now))
 
 pub returns-then-kind-eq8 : goal.returns-then-kind-eq8
-returns-then-kind-eq8 c = operands_written c.args.text.now c.args.nodes.now c.args.rules.now c.args.count c.args.i c.args.k 8 c.args.table.now c.put_four-then-kind-eq8.new.0 (sym c.if-kind-eq8.true ∙ c.node_word-kind.ensures) (simp (c.put_four-then-kind-eq8.ensures, c.binder_word.ensures, c.end_word-then-kind-eq8.ensures, c.start_word-then-kind-eq8.ensures, c.width.ensures, c.own_length-n.ensures, c.requires.3))
+returns-then-kind-eq8 c = operands_written c.args.text.now c.args.nodes.now c.args.rules.now c.args.count c.args.i c.args.k 8 c.args.table.now c.put_four-then-kind-eq8.new.table (sym c.if-kind-eq8.true ∙ c.node_word-kind.ensures) (simp (c.put_four-then-kind-eq8.ensures, c.binder_word.ensures, c.end_word-then-kind-eq8.ensures, c.start_word-then-kind-eq8.ensures, c.width.ensures, c.own_length-n.ensures, c.requires.3))
 
 pub returns : goal.returns
 returns c = simp (← c.node_word-kind.ensures, ne_eqb _ _ c.if-kind-eq3.false, ne_eqb _ _ c.if-kind-eq5.false, ne_eqb _ _ c.if-kind-eq6.false, ne_eqb _ _ c.if-kind-eq7.false, ne_eqb _ _ c.if-kind-eq8.false, c.put_four-2.ensures)

@@ -6,4 +6,4 @@ use Rattle.text_encoding.proofs.Past.{characters_past}
 use Rattle.text_encoding.proofs.constructs.spelled.Goals as goal
 
 pub returns-else-p-text : goal.returns-else-p-text
-returns-else-p-text c = let s = c. in λ k h. s.requires.1 k ∙ sym (ap (λ (l : List ℕ). get_or l k 0) (characters_past s.args.text.now s.args.p c.if-p-text.false))
+returns-else-p-text c = λ k h. c.requires.1 k ∙ sym (ap (λ (l : List ℕ). get_or l k 0) (characters_past c.args.text.now c.args.p c.if-p-text.false))

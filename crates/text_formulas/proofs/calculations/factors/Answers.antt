@@ -3,9 +3,6 @@ use Rattle.text_parsing.proofs.Loops.{still_start, turn_falls}
 use Rattle.text_formulas.proofs.Calculating.{factors_turn, factors_end}
 use mathlib.Core.List.{[], ◌∷◌}
 use mathlib.Core.Path.{refl}
-use Rattle.text_formulas.proofs.calculations.operand.Reads as operand-reads
-use Rattle.text_parsing.proofs.reading.passed.Reads as Passed-reads
-use Rattle.text_parsing.proofs.words.add_sign.Reads as add-sign-reads
 use Rattle.text_formulas.proofs.calculations.factors.Goals as goal
 
 -- src/calculations.rt:41:5

@@ -1,7 +1,4 @@
 use Rattle.text_formulas.proofs.Calculating.{operand_minus, operand_plain}
-use Rattle.text_formulas.proofs.calculations.primary.Reads as primary-reads
-use Rattle.text_parsing.proofs.reading.passed.Reads as Passed-reads
-use Rattle.text_parsing.proofs.words.add_sign.Reads as add-sign-reads
 use Rattle.text_formulas.proofs.calculations.operand.Goals as goal
 
 -- src/calculations.rt:32:9

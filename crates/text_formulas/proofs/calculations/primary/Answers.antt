@@ -1,9 +1,5 @@
 use Rattle.text_formulas.proofs.Calculating.{primary_number, primary_name, primary_fault}
 use mathlib.Core.Path.{sym, ◌∙◌}
-use Rattle.text_parsing.proofs.reading.failed.Reads as failed-reads
-use Rattle.text_parsing.proofs.reading.name.Reads as name-reads
-use Rattle.text_parsing.proofs.reading.passed.Reads as Passed-reads
-use Rattle.text_parsing.proofs.words.add_term.Reads as add-term-reads
 use Rattle.text_formulas.proofs.calculations.primary.Goals as goal
 
 -- src/calculations.rt:19:9

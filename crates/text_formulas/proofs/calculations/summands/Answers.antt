@@ -4,11 +4,6 @@ use Rattle.text_formulas.proofs.Calculating.{sum_live, summands_turn, summands_e
 use Prim.Native.Nat.{ℕ, ◌<◌}
 use mathlib.Core.List.{[], ◌∷◌}
 use mathlib.Core.Path.{sym, subst, ◌∙◌}
-use Rattle.text_formulas.proofs.calculations.factors.Reads as factors-reads
-use Rattle.text_formulas.proofs.calculations.operand.Reads as operand-reads
-use Rattle.text_formulas.proofs.calculations.sum_tag.Reads as sum-tag-reads
-use Rattle.text_parsing.proofs.reading.passed.Reads as Passed-reads
-use Rattle.text_parsing.proofs.words.add_sign.Reads as add-sign-reads
 use Rattle.text_formulas.proofs.calculations.summands.Goals as goal
 
 -- src/calculations.rt:64:5

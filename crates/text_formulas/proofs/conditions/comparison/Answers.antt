@@ -1,9 +1,4 @@
 use Rattle.text_formulas.proofs.Testing.{comparison_reads, comparison_fault}
-use Rattle.text_formulas.proofs.calculations.calculation.Reads as calculation_reads
-use Rattle.text_formulas.proofs.conditions.comparison_tag.Reads as comparison-tag-reads
-use Rattle.text_parsing.proofs.reading.failed.Reads as failed-reads
-use Rattle.text_parsing.proofs.reading.passed.Reads as Passed-reads
-use Rattle.text_parsing.proofs.words.add_sign.Reads as add-sign-reads
 use Rattle.text_formulas.proofs.conditions.comparison.Goals as goal
 
 -- src/conditions.rt:36:9

@@ -1,8 +1,5 @@
 use Rattle.text_formulas.proofs.Choosing.{bound_some, bound_none}
 use mathlib.Core.Path.{sym, ◌∙◌}
-use Rattle.text_formulas.proofs.calculations.calculation.Reads as calculation_reads
-use Rattle.text_parsing.proofs.reading.begins.Reads as begins-reads
-use Rattle.text_parsing.proofs.words.add_sign.Reads as add-sign-reads
 use Rattle.text_formulas.proofs.sets.bound.Goals as goal
 
 -- src/sets.rt:28:9

@@ -1,8 +1,4 @@
 use Rattle.text_formulas.proofs.Choosing.{counts_closed, counts_open}
-use Rattle.text_formulas.proofs.calculations.calculation.Reads as calculation_reads
-use Rattle.text_formulas.proofs.sets.counts_tail.Reads as counts-tail-reads
-use Rattle.text_parsing.proofs.reading.passed.Reads as Passed-reads
-use Rattle.text_parsing.proofs.words.add_sign.Reads as add-sign-reads
 use Rattle.text_formulas.proofs.sets.counts.Goals as goal
 
 -- src/sets.rt:104:9

@@ -1,6 +1,4 @@
 use Rattle.text_formulas.proofs.Choosing.{counts_range, counts_single}
-use Rattle.text_formulas.proofs.sets.bound.Reads as bound_reads
-use Rattle.text_parsing.proofs.reading.passed.Reads as Passed-reads
 use Rattle.text_formulas.proofs.sets.counts_tail.Goals as goal
 
 -- src/sets.rt:94:9

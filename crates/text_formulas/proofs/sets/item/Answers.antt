@@ -1,8 +1,4 @@
 use Rattle.text_formulas.proofs.Choosing.{item_open, item_closed}
-use Rattle.text_formulas.proofs.calculations.calculation.Reads as calculation_reads
-use Rattle.text_formulas.proofs.sets.bound.Reads as bound_reads
-use Rattle.text_formulas.proofs.sets.item_tail.Reads as item-tail-reads
-use Rattle.text_parsing.proofs.reading.passed.Reads as Passed-reads
 use Rattle.text_formulas.proofs.sets.item.Goals as goal
 
 -- src/sets.rt:47:9

@@ -1,7 +1,4 @@
 use Rattle.text_formulas.proofs.Choosing.{tail_range, tail_single}
-use Rattle.text_formulas.proofs.sets.bound.Reads as bound_reads
-use Rattle.text_parsing.proofs.reading.passed.Reads as Passed-reads
-use Rattle.text_store.proofs.stores.mark_single.Reads as mark-single-reads
 use Rattle.text_formulas.proofs.sets.item_tail.Goals as goal
 
 -- src/sets.rt:37:9

@@ -1,8 +1,6 @@
 use lib.Dec.{eqb}
 use mathlib.Core.Bool.{Bool, ◌||◌}
 use mathlib.Core.Path.{ap, ◌∙◌}
-use Rattle.text_parsing.proofs.reading.name.Reads as name-reads
-use Rattle.text_header.proofs.bytes.either.Reads as either-reads
 use Rattle.text_parsing.proofs.reading.begins.Goals as goal
 
 -- src/reading.rt:70:1

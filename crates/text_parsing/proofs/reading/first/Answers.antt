@@ -1,7 +1,6 @@
 use Rattle.text_parsing.specs.declared.Terminal.{Terminal}
 use Rattle.text_parsing.specs.Cursors.{counts_of, first_of}
 use mathlib.Core.Path.{ap}
-use Rattle.text_parsing.proofs.terminals.look.Reads as look-reads
 use Rattle.text_parsing.proofs.reading.first.Goals as goal
 
 -- src/reading.rt:14:1

@@ -1,8 +1,6 @@
 use lib.Dec.{eqb}
 use mathlib.Core.Bool.{Bool, ◌||◌}
 use mathlib.Core.Path.{ap, ◌∙◌}
-use Rattle.text_header.proofs.bytes.both.Reads as both-reads
-use Rattle.text_header.proofs.bytes.either.Reads as either-reads
 use Rattle.text_parsing.proofs.reading.name.Goals as goal
 
 -- src/reading.rt:63:1

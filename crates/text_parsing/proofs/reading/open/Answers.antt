@@ -1,6 +1,4 @@
 use Rattle.text_parsing.proofs.Steps.{paren_reads, paren_deep}
-use Rattle.text_parsing.proofs.reading.failed.Reads as failed-reads
-use Rattle.text_parsing.proofs.reading.want.Reads as want_reads
 use Rattle.text_parsing.proofs.reading.open.Goals as goal
 
 -- src/reading.rt:92:9

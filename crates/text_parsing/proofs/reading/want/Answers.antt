@@ -1,6 +1,4 @@
 use Rattle.text_parsing.proofs.Steps.{want_reads, want_faults, want_falls, fail_falls}
-use Rattle.text_parsing.proofs.reading.failed.Reads as failed-reads
-use Rattle.text_parsing.proofs.reading.passed.Reads as Passed-reads
 use Rattle.text_parsing.proofs.reading.want.Goals as goal
 
 -- src/reading.rt:82:9

@@ -1,6 +1,5 @@
 use mathlib.Core.Bool.{Bool, cond}
 use mathlib.Core.Path.{sym, ap, ◌∙◌}
-use Rattle.text_parsing.proofs.terminals.opens.Reads as opens-reads
 use Rattle.text_parsing.proofs.terminals.before_paren.Goals as goal
 
 -- src/terminals.rt:60:9

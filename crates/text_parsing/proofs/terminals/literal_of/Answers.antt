@@ -5,7 +5,6 @@ use borrow.Author.Tests.{ne_eqb}
 use lib.Dec.{eqb}
 use mathlib.Core.Bool.{false}
 use mathlib.Core.Path.{◌≡◌, sym, ◌∙◌}
-use Rattle.text_literals.proofs.count_at.Reads as count-at-reads
 use Rattle.text_parsing.proofs.terminals.literal_of.Goals as goal
 
 -- src/terminals.rt:87:9

@@ -1,8 +1,5 @@
 use Rattle.text_parsing.proofs.Steps.{inside_of, look_told, look_end}
 use mathlib.Core.Path.{◌∙◌}
-use Rattle.text_parsing.proofs.terminals.code.Reads as code_Reads
-use Rattle.text_parsing.proofs.terminals.told.Reads as told-reads
-use Rattle.text_tokens.proofs.tokens.token_at.Reads as token-at-reads
 use Rattle.text_parsing.proofs.terminals.look.Goals as goal
 
 -- src/terminals.rt:137:9

@@ -6,8 +6,6 @@ use borrow.Author.Tests.{ne_eqb}
 use lib.Dec.{eqb}
 use mathlib.Core.Bool.{false}
 use mathlib.Core.Path.{◌≡◌, sym, ap, ◌∙◌}
-use Rattle.text_parsing.proofs.terminals.before_paren.Reads as before-paren-reads
-use Rattle.text_tokens.proofs.names.reserved.Reads as reserved-reads
 use Rattle.text_parsing.proofs.terminals.name_of.Goals as goal
 
 -- src/terminals.rt:71:9

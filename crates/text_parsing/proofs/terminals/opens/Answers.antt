@@ -3,8 +3,6 @@ use Rattle.text_parsing.specs.Terminals.{code_of}
 use lib.Dec.{eqb}
 use Prim.Native.Nat.{ℕ}
 use mathlib.Core.Path.{ap, ◌∙◌}
-use Rattle.text_parsing.proofs.terminals.code.Reads as code_Reads
-use Rattle.text_tokens.proofs.tokens.token_at.Reads as token-at-reads
 use Rattle.text_parsing.proofs.terminals.opens.Goals as goal
 
 -- src/terminals.rt:49:1

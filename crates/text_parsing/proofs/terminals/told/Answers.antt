@@ -2,9 +2,6 @@ use Rattle.text_parsing.specs.Terminals.{terminal, seen}
 use borrow.Author.Tests.{ne_eqb}
 use Prim.Native.Nat.{ℕ}
 use mathlib.Core.Path.{ap}
-use Rattle.text_parsing.proofs.terminals.literal_of.Reads as literal-of-reads
-use Rattle.text_parsing.proofs.terminals.name_of.Reads as name-of-reads
-use Rattle.text_tokens.proofs.numbers.number_at.Reads as number-at-reads
 use Rattle.text_parsing.proofs.terminals.told.Goals as goal
 
 -- src/terminals.rt:97:9

@@ -1,5 +1,4 @@
 use Rattle.text_parsing.proofs.Steps.{sign_reads}
-use Rattle.text_parsing.proofs.words.add_term.Reads as add-term-reads
 use Rattle.text_parsing.proofs.words.add_sign.Goals as goal
 
 -- src/words.rt:65:1

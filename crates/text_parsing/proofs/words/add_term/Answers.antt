@@ -1,5 +1,3 @@
-use Rattle.text_store.proofs.stores.counted.Reads as counted-reads
-use Rattle.text_store.proofs.stores.put_term.Reads as put-term-reads
 use Rattle.text_parsing.proofs.words.add_term.Goals as goal
 
 -- src/words.rt:41:1

@@ -1,4 +1,3 @@
-use Rattle.text_store.proofs.stores.counted.Reads as counted-reads
 use Rattle.text_parsing.proofs.words.bind.Goals as goal
 
 -- src/words.rt:211:1

@@ -1,5 +1,3 @@
-use Rattle.text_store.proofs.stores.counted.Reads as counted-reads
-use Rattle.text_store.proofs.stores.put_rule.Reads as put-rule-reads
 use Rattle.text_parsing.proofs.words.close_rule.Goals as goal
 
 -- src/words.rt:248:1

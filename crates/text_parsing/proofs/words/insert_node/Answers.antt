@@ -1,7 +1,4 @@
 use mathlib.Core.Path.{◌∙◌}
-use Rattle.text_store.proofs.stores.counted.Reads as counted-reads
-use Rattle.text_store.proofs.stores.less.Reads as less-reads
-use Rattle.text_store.proofs.stores.put_node.Reads as put-node-reads
 use Rattle.text_parsing.proofs.words.insert_node.Goals as goal
 
 -- src/words.rt:172:1

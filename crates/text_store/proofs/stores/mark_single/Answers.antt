@@ -2,7 +2,6 @@ use Rattle.basis.specs.Limits.{max_terms}
 use Rattle.text_store.proofs.Putting.{single_first, single_later}
 use Rattle.text_store.specs.Store.{marked_tag, put_single}
 use borrow.Author.Tests.{lt-leb}
-use Rattle.text_store.proofs.stores.marked_tag.Reads as marked-tag-reads
 use Rattle.text_store.proofs.stores.mark_single.Goals as goal
 
 -- src/words.rt:91:9

@@ -2,8 +2,6 @@ use Rattle.basis.specs.Limits.{max_constructs}
 use Rattle.text_store.proofs.Putting.{node_put}
 use Rattle.text_store.specs.Store.{put_words, put_node}
 use borrow.Author.Tests.{le-ltb}
-use Rattle.text_store.proofs.stores.make_room.Reads as make-room-reads
-use Rattle.text_store.proofs.stores.put_words.Reads as put-words-reads
 use Rattle.text_store.proofs.stores.put_node.Goals as goal
 
 -- src/words.rt:165:9

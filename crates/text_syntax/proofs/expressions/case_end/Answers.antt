@@ -1,6 +1,4 @@
 use Rattle.text_syntax.proofs.Chains.{case_ends}
-use Rattle.text_parsing.proofs.reading.want.Reads as want_reads
-use Rattle.text_store.proofs.stores.put_condition.Reads as put-condition-reads
 use Rattle.text_syntax.proofs.expressions.case_end.Goals as goal
 
 -- src/expressions.rt:103:1

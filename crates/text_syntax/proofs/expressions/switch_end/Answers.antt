@@ -1,7 +1,4 @@
 use Rattle.text_syntax.proofs.Chains.{switch_ends, switch_end_fault}
-use Rattle.text_parsing.proofs.reading.failed.Reads as failed-reads
-use Rattle.text_parsing.proofs.reading.passed.Reads as Passed-reads
-use Rattle.text_parsing.proofs.words.insert_node.Reads as insert-node-reads
 use Rattle.text_syntax.proofs.expressions.switch_end.Goals as goal
 
 -- src/expressions.rt:149:9

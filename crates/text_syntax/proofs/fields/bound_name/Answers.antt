@@ -1,13 +1,5 @@
 use Rattle.text_syntax.proofs.Atoms.{bound_reads, bound_fault}
 use mathlib.Core.Path.{sym, ◌∙◌}
-use Rattle.text_formulas.proofs.sets.value_set.Reads as value-set-reads
-use Rattle.text_parsing.proofs.reading.failed.Reads as failed-reads
-use Rattle.text_parsing.proofs.reading.name.Reads as name-reads
-use Rattle.text_parsing.proofs.reading.passed.Reads as Passed-reads
-use Rattle.text_parsing.proofs.reading.want.Reads as want_reads
-use Rattle.text_parsing.proofs.words.bind.Reads as bind-reads
-use Rattle.text_syntax.proofs.fields.field_end.Reads as field-end-reads
-use Rattle.text_syntax.proofs.fields.outside.Reads as outside-reads
 use Rattle.text_syntax.proofs.fields.bound_name.Goals as goal
 
 -- src/fields.rt:95:9

@@ -1,10 +1,9 @@
 use Rattle.text_syntax.proofs.Chains.{chained_many, chained_one}
-use Rattle.text_parsing.proofs.words.insert_node.Reads as insert-node-reads
 use Rattle.text_syntax.proofs.fields.chained.Goals as goal
 
 -- src/fields.rt:213:9
 pub returns-then-many : goal.returns-then-many
-returns-then-many c = chained_many c.args.c c.insert_node.result c.args.nodes.now c.insert_node.new.1.1.1.1.1.1.1.1.1.0 c.args.kind c.args.p c.args.i c.args.many c.if-many.true c.insert_node.ensures.0 c.insert_node.ensures.1
+returns-then-many c = chained_many c.args.c c.insert_node.result c.args.nodes.now c.insert_node.new.nodes c.args.kind c.args.p c.args.i c.args.many c.if-many.true c.insert_node.ensures.0 c.insert_node.ensures.1
 
 -- src/fields.rt:209:1
 pub returns : goal.returns

@@ -1,7 +1,4 @@
 use Rattle.text_syntax.proofs.Atoms.{range_reads, character_reads}
-use Rattle.text_parsing.proofs.reading.passed.Reads as Passed-reads
-use Rattle.text_syntax.proofs.fields.last_character.Reads as last-character-reads
-use Rattle.text_syntax.proofs.fields.leaf.Reads as leaf-reads
 use Rattle.text_syntax.proofs.fields.character_tail.Goals as goal
 
 -- src/fields.rt:43:9

@@ -1,14 +1,9 @@
 use Rattle.text_syntax.proofs.Atoms.{set_binds, set_plain}
-use Rattle.text_formulas.proofs.sets.value_set.Reads as value-set-reads
-use Rattle.text_parsing.proofs.reading.open.Reads as open-reads
-use Rattle.text_parsing.proofs.reading.passed.Reads as Passed-reads
-use Rattle.text_syntax.proofs.fields.bound_name.Reads as bound-name-reads
-use Rattle.text_syntax.proofs.fields.field_end.Reads as field-end-reads
 use Rattle.text_syntax.proofs.fields.field_set.Goals as goal
 
 -- src/fields.rt:115:9
 pub returns-then-c-eq8 : goal.returns-then-c-eq8
-returns-then-c-eq8 c = set_binds c.args.d c.args.p c.args.w c.if-c-eq8.true c.passed.ensures c..«open».ensures c.bound_name.ensures
+returns-then-c-eq8 c = set_binds c.args.d c.args.p c.args.w c.if-c-eq8.true c.passed.ensures c.open-r.ensures c.bound_name.ensures
 
 -- src/fields.rt:101:1
 pub returns : goal.returns

@@ -1,7 +1,4 @@
 use Rattle.text_syntax.proofs.Atoms.{last_reads, last_fault}
-use Rattle.text_parsing.proofs.reading.failed.Reads as failed-reads
-use Rattle.text_parsing.proofs.reading.passed.Reads as Passed-reads
-use Rattle.text_syntax.proofs.fields.leaf.Reads as leaf-reads
 use Rattle.text_syntax.proofs.fields.last_character.Goals as goal
 
 -- src/fields.rt:33:9

@@ -1,9 +1,4 @@
 use Rattle.text_syntax.proofs.Atoms.{mark_counts, mark_counts_fault, mark_none, mark_sign}
-use Rattle.text_formulas.proofs.sets.counts.Reads as counts-reads
-use Rattle.text_parsing.proofs.reading.failed.Reads as failed-reads
-use Rattle.text_parsing.proofs.reading.passed.Reads as Passed-reads
-use Rattle.text_parsing.proofs.words.insert_node.Reads as insert-node-reads
-use Rattle.text_syntax.proofs.fields.mark_of.Reads as mark-of-reads
 use Rattle.text_syntax.proofs.fields.mark.Goals as goal
 
 -- src/fields.rt:194:13

@@ -1,11 +1,5 @@
 use Rattle.text_syntax.proofs.Atoms.{atom_literal, atom_eod, atom_use, atom_character, atom_field, atom_fault}
 use mathlib.Core.Path.{sym, ◌∙◌}
-use Rattle.text_parsing.proofs.reading.failed.Reads as failed-reads
-use Rattle.text_parsing.proofs.reading.name.Reads as name-reads
-use Rattle.text_parsing.proofs.reading.passed.Reads as Passed-reads
-use Rattle.text_syntax.proofs.fields.character_tail.Reads as character-tail-reads
-use Rattle.text_syntax.proofs.fields.field.Reads as field_reads
-use Rattle.text_syntax.proofs.fields.leaf.Reads as leaf-reads
 use Rattle.text_syntax.proofs.fields.simple.Goals as goal
 
 -- src/fields.rt:150:9

@@ -1,9 +1,5 @@
 use Rattle.text_syntax.proofs.Ruling.{begin, turn}
 use mathlib.Core.Path.{refl, sym, ◌∙◌}
-use Rattle.text_parsing.proofs.reading.first.Reads as first_reads
-use Rattle.text_parsing.proofs.reading.name.Reads as name-reads
-use Rattle.text_syntax.proofs.rules.rule.Reads as rule_reads
-use Rattle.text_syntax.proofs.rules.text_end.Reads as text-end-reads
 use Rattle.text_syntax.proofs.rules.read.Goals as goal
 
 -- src/rules.rt:70:5

@@ -1,7 +1,4 @@
 use Rattle.text_syntax.proofs.Ruling.{end_takes, end_faults}
-use Rattle.text_parsing.proofs.reading.failed.Reads as failed-reads
-use Rattle.text_parsing.proofs.reading.passed.Reads as Passed-reads
-use Rattle.text_parsing.proofs.words.close_rule.Reads as close-rule-reads
 use Rattle.text_syntax.proofs.rules.rule_end.Goals as goal
 
 -- src/rules.rt:25:9

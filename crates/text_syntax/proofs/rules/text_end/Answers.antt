@@ -1,7 +1,6 @@
 use Rattle.text_syntax.proofs.Ruling.{ends_right, ends_wrong}
 use borrow.Author.Tests.{ne_eqb}
 use mathlib.Core.Path.{refl}
-use Rattle.text_parsing.proofs.reading.failed.Reads as failed-reads
 use Rattle.text_syntax.proofs.rules.text_end.Goals as goal
 
 -- src/rules.rt:52:13
