@@ -10,33 +10,33 @@ use Rattle.table_first_follow.proofs.fields.seed.Goals as goal
 pub overflow_add-i-in-Switch : goal.overflow_add-i-in-Switch
 overflow_add-i-in-Switch c =
     let a = c.args in
-    let f = fine_as a.table.now a.i c.construct_at.result c.construct_at.ensures (Construct.Switch c.size-1.given.0.0) c.in-Switch.is in
-    let g : a.i + c.size-1.given.0.0 ≤ max_constructs = f.1 in
+    let f = fine_as a.table.now a.i c.construct_at.result c.construct_at.ensures (Construct.Switch c.in-Switch.size) c.in-Switch.is in
+    let g : a.i + c.in-Switch.size ≤ max_constructs = f.1 in
     record { fits = omega arith }
 
 pub no_default-requires : goal.no_default-requires
 no_default-requires c =
     let a = c.args in
-    (fine_as a.table.now a.i c.construct_at.result c.construct_at.ensures (Construct.Switch c.size-1.given.0.0) c.size-1.given.1).1
+    (fine_as a.table.now a.i c.construct_at.result c.construct_at.ensures (Construct.Switch c.in-Switch.size) c.in-Switch.is).1
 
 pub overflow_add-low : goal.overflow_add-low
 overflow_add-low c =
     let a = c.args in
-    let f = fine_as a.table.now a.i c.construct_at.result c.construct_at.ensures (Construct.Range c.low-1.given.0.0 c.low-1.given.0.1.0) c.low-1.given.1 in
-    let g : c.low-1.given.0.0 < 128 = f.1 in
+    let f = fine_as a.table.now a.i c.construct_at.result c.construct_at.ensures (Construct.Range c.in-Range.low c.in-Range.high) c.in-Range.is in
+    let g : c.in-Range.low < 128 = f.1 in
     record { fits = omega arith }
 
 pub overflow_add-high : goal.overflow_add-high
 overflow_add-high c =
     let a = c.args in
-    let f = fine_as a.table.now a.i c.construct_at.result c.construct_at.ensures (Construct.Range c.low-1.given.0.0 c.low-1.given.0.1.0) c.low-1.given.1 in
-    let g : c.low-1.given.0.1.0 < 128 = f.2 in
+    let f = fine_as a.table.now a.i c.construct_at.result c.construct_at.ensures (Construct.Range c.in-Range.low c.in-Range.high) c.in-Range.is in
+    let g : c.in-Range.high < 128 = f.2 in
     record { fits = omega arith }
 
 pub uint-requires : goal.uint-requires
 uint-requires c =
     let a = c.args in
-    (fine_as a.table.now a.i c.construct_at.result c.construct_at.ensures (Construct.Uint c.signed-1.given.0.0 c.signed-1.given.0.1.0 c.signed-1.given.0.1.1.0 c.signed-1.given.0.1.1.1.0 c.signed-1.given.0.1.1.1.1.0) c.signed-1.given.1).2
+    (fine_as a.table.now a.i c.construct_at.result c.construct_at.ensures (Construct.Uint c.in-Uint.signed c.in-Uint.width c.in-Uint.start c.in-Uint.end c.in-Uint.binder) c.in-Uint.is).2
 
 pub returns-in-Missing : goal.returns-in-Missing
 unfolding node_of
@@ -48,47 +48,47 @@ pub returns-in-Alternative : goal.returns-in-Alternative
 unfolding node_of
 returns-in-Alternative c =
     let a = c.args in
-    seed_none a.table.now a.i c.requires c.construct_at.result c.construct_at.ensures c.empty-in-Alternative.result.words (Construct.Alternative c.enum_told-in-Alternative-1.given.0.0) c.in-Alternative.is (λ x s. s) c.empty-in-Alternative.ensures
+    seed_none a.table.now a.i c.requires c.construct_at.result c.construct_at.ensures c.empty-in-Alternative.result.words (Construct.Alternative c.in-Alternative.field-0) c.in-Alternative.is (λ x s. s) c.empty-in-Alternative.ensures
 
 pub returns-in-Concatenation : goal.returns-in-Concatenation
 unfolding node_of
 returns-in-Concatenation c =
     let a = c.args in
-    seed_none a.table.now a.i c.requires c.construct_at.result c.construct_at.ensures c.empty-in-Concatenation.result.words (Construct.Concatenation c.enum_told-in-Concatenation-1.given.0.0) c.in-Concatenation.is (λ x s. s) c.empty-in-Concatenation.ensures
+    seed_none a.table.now a.i c.requires c.construct_at.result c.construct_at.ensures c.empty-in-Concatenation.result.words (Construct.Concatenation c.in-Concatenation.field-0) c.in-Concatenation.is (λ x s. s) c.empty-in-Concatenation.ensures
 
 pub returns-in-Repetition : goal.returns-in-Repetition
 unfolding node_of
 returns-in-Repetition c =
     let a = c.args in
-    seed_none a.table.now a.i c.requires c.construct_at.result c.construct_at.ensures c.empty-in-Repetition.result.words (Construct.Repetition c.enum_told-in-Repetition-1.given.0.0 c.enum_told-in-Repetition-1.given.0.1.0) c.in-Repetition.is (λ x s. s) c.empty-in-Repetition.ensures
+    seed_none a.table.now a.i c.requires c.construct_at.result c.construct_at.ensures c.empty-in-Repetition.result.words (Construct.Repetition c.in-Repetition.field-0 c.in-Repetition.field-1) c.in-Repetition.is (λ x s. s) c.empty-in-Repetition.ensures
 
 pub returns-in-Switch : goal.returns-in-Switch
 returns-in-Switch c =
     let a = c.args in
-    seed_switch a.table.now a.i c.requires c.construct_at.result c.construct_at.ensures c.neutral.result.words c.size-1.given.0.0 c.no_default.result c.in-Switch.is c.no_default.ensures c.neutral.ensures
+    seed_switch a.table.now a.i c.requires c.construct_at.result c.construct_at.ensures c.neutral.result.words c.in-Switch.size c.no_default.result c.in-Switch.is c.no_default.ensures c.neutral.ensures
 
 pub returns-in-Use : goal.returns-in-Use
 unfolding node_of
 returns-in-Use c =
     let a = c.args in
-    seed_none a.table.now a.i c.requires c.construct_at.result c.construct_at.ensures c.empty-in-Use.result.words (Construct.Use c.enum_told-in-Use-1.given.0.0) c.in-Use.is (λ x s. s) c.empty-in-Use.ensures
+    seed_none a.table.now a.i c.requires c.construct_at.result c.construct_at.ensures c.empty-in-Use.result.words (Construct.Use c.in-Use.field-0) c.in-Use.is (λ x s. s) c.empty-in-Use.ensures
 
 pub returns-in-Literal : goal.returns-in-Literal
 returns-in-Literal c =
     let a = c.args in
-    seed_literal a.table.now a.i c.requires c.construct_at.result c.construct_at.ensures c.single.result.words c.enum_told-in-Literal-1.given.0.0 c.word.result c.in-Literal.is
-    (fine_as a.table.now a.i c.construct_at.result c.construct_at.ensures (Construct.Literal c.enum_told-in-Literal-1.given.0.0) c.in-Literal.is).1 c.word.ensures.0 c.single.ensures
+    seed_literal a.table.now a.i c.requires c.construct_at.result c.construct_at.ensures c.single.result.words c.in-Literal.field-0 c.word.result c.in-Literal.is
+    (fine_as a.table.now a.i c.construct_at.result c.construct_at.ensures (Construct.Literal c.in-Literal.field-0) c.in-Literal.is).1 c.word.ensures.0 c.single.ensures
 
 pub returns-in-Range : goal.returns-in-Range
 returns-in-Range c =
     let a = c.args in
-    seed_range a.table.now a.i c.requires c.construct_at.result c.construct_at.ensures c.numbered.result.words c.low-1.given.0.0 c.low-1.given.0.1.0 c.in-Range.is
-    (fine_as a.table.now a.i c.construct_at.result c.construct_at.ensures (Construct.Range c.low-1.given.0.0 c.low-1.given.0.1.0) c.in-Range.is).2 c.numbered.ensures
+    seed_range a.table.now a.i c.requires c.construct_at.result c.construct_at.ensures c.numbered.result.words c.in-Range.low c.in-Range.high c.in-Range.is
+    (fine_as a.table.now a.i c.construct_at.result c.construct_at.ensures (Construct.Range c.in-Range.low c.in-Range.high) c.in-Range.is).2 c.numbered.ensures
 
 pub returns-in-Uint : goal.returns-in-Uint
 returns-in-Uint c =
     let a = c.args in
-    seed_uint a.table.now a.i c.requires c.construct_at.result c.construct_at.ensures c.uint.result.words c.signed-1.given.0.0 c.signed-1.given.0.1.0 c.signed-1.given.0.1.1.0 c.signed-1.given.0.1.1.1.0 c.signed-1.given.0.1.1.1.1.0 c.in-Uint.is c.uint.ensures
+    seed_uint a.table.now a.i c.requires c.construct_at.result c.construct_at.ensures c.uint.result.words c.in-Uint.signed c.in-Uint.width c.in-Uint.start c.in-Uint.end c.in-Uint.binder c.in-Uint.is c.uint.ensures
 
 pub returns-in-Eod : goal.returns-in-Eod
 returns-in-Eod c =
