@@ -1,4 +1,3 @@
-
 use Rattle.table_wellformed.proofs.constructs.construct_laid.Goals as goal
 
 pub returns : goal.returns

@@ -1,4 +1,3 @@
-
 use Rattle.table_wellformed.proofs.constructs.kind.Goals as goal
 
 pub returns-in-Missing : goal.returns-in-Missing

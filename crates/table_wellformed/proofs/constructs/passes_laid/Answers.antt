@@ -1,4 +1,3 @@
-
 use Rattle.table_wellformed.proofs.constructs.passes_laid.Goals as goal
 
 pub returns-in-Optional : goal.returns-in-Optional

@@ -1,4 +1,3 @@
-
 use Rattle.table_wellformed.proofs.constructs.switch.Goals as goal
 
 pub returns : goal.returns

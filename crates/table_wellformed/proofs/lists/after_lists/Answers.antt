@@ -1,4 +1,3 @@
-
 use Rattle.table_wellformed.proofs.lists.after_lists.Goals as goal
 
 pub returns : goal.returns

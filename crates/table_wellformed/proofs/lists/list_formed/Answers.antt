@@ -1,4 +1,3 @@
-
 use Rattle.table_wellformed.proofs.lists.list_formed.Goals as goal
 
 pub returns : goal.returns

@@ -1,4 +1,3 @@
-
 use Rattle.table_wellformed.proofs.lists.lists_begin.Goals as goal
 
 pub returns : goal.returns

@@ -1,4 +1,3 @@
-
 use Rattle.table_wellformed.proofs.lists.low_used.Goals as goal
 
 pub returns : goal.returns

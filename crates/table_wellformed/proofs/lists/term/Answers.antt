@@ -1,4 +1,3 @@
-
 use Rattle.table_wellformed.proofs.lists.term.Goals as goal
 
 pub returns : goal.returns

@@ -1,4 +1,3 @@
-
 use Rattle.table_wellformed.proofs.names.construct_visible.Goals as goal
 
 pub returns : goal.returns

@@ -1,4 +1,3 @@
-
 use Rattle.table_wellformed.proofs.names.operation_visible.Goals as goal
 
 pub returns-in-Number : goal.returns-in-Number

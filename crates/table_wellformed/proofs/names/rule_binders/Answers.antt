@@ -1,4 +1,3 @@
-
 use Rattle.table_wellformed.proofs.names.rule_binders.Goals as goal
 
 pub returns : goal.returns

@@ -1,4 +1,3 @@
-
 use Rattle.table_wellformed.proofs.names.term_visible.Goals as goal
 
 pub returns-in-Part : goal.returns-in-Part

@@ -1,4 +1,3 @@
-
 use Rattle.table_wellformed.proofs.parts.default_case.Goals as goal
 
 pub returns : goal.returns

@@ -1,4 +1,3 @@
-
 use Rattle.table_wellformed.proofs.parts.part.Goals as goal
 
 pub returns-then-switch : goal.returns-then-switch

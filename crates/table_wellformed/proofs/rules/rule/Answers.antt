@@ -1,4 +1,3 @@
-
 use Rattle.table_wellformed.proofs.rules.rule.Goals as goal
 
 pub returns : goal.returns

@@ -1,4 +1,3 @@
-
 use Rattle.table_wellformed.proofs.rules.rules.Goals as goal
 
 pub returns : goal.returns
