@@ -133,67 +133,67 @@ module _ {most : ℕ} (s : Terminal) (v : s.start ≤ most) where
       P : Consumed → Type 0
       P = Leaves most
 
-  consumed : (st : State) (ks : List Symbol) → Bounded most st → Waiting most ks → Leaves most (consume s st ks)
+  consumed : (ks : List Symbol) (st : State) → Bounded most st → Waiting most ks → Leaves most (consume s st ks)
   unfolding consume
-  consumed st [] g w = faults
-  consumed st (want k ∷ ks) g (h and w) = by_test (is k s) (goes g w) faults
-  consumed st (sign tag p o ∷ ks) g (h and w) = consumed _ ks (add_bounded tag 0 p o st h.0 h.1 g) w
-  consumed st (paren d ∷ ks) g (h and w) = by_test (ltb d max_nesting) (by_test (is 40 s) (goes g w) faults) faults
+  consumed [] st g w = faults
+  consumed (want k ∷ ks) st g (h and w) = by_test (is k s) (goes g w) faults
+  consumed (sign tag p o ∷ ks) st g (h and w) = consumed ks _ (add_bounded tag 0 p o st h.0 h.1 g) w
+  consumed (paren d ∷ ks) st g (h and w) = by_test (ltb d max_nesting) (by_test (is 40 s) (goes g w) faults) faults
   -- calculations
-  consumed st (primary o ∷ ks) g (h and w) = primary_placed o h st ks g w
-  consumed st (operand o ∷ ks) g (h and w) = operand_placed o h st ks g w
-  consumed st (factors o ∷ ks) g (h and w) = by_test (is 42 s) (goes g (h and (v, h) and h and w)) (consumed st ks g w)
-  consumed st (summands o ∷ ks) g (h and w) = by_test (eqb (sum_tag s.code) 0) (consumed st ks g w) (goes g (h and h and (v, h) and h and w))
-  consumed st (calculation ∷ ks) g (h and w) = calculation_placed st ks g w
+  consumed (primary o ∷ ks) st g (h and w) = primary_placed o h st ks g w
+  consumed (operand o ∷ ks) st g (h and w) = operand_placed o h st ks g w
+  consumed (factors o ∷ ks) st g (h and w) = by_test (is 42 s) (goes g (h and (v, h) and h and w)) (consumed ks st g w)
+  consumed (summands o ∷ ks) st g (h and w) = by_test (eqb (sum_tag s.code) 0) (consumed ks st g w) (goes g (h and h and (v, h) and h and w))
+  consumed (calculation ∷ ks) st g (h and w) = calculation_placed st ks g w
   -- sets
-  consumed st (item ∷ ks) g (h and w) = item_placed st ks g w
-  consumed st (item_tail ∷ ks) g (h and w) = by_test (is 126 s) (goes g (v and w)) (consumed _ ks (single_bounded st g) w)
-  consumed st (bound some none p ∷ ks) g (h and w) = by_test (begins s) (calculation_placed st (sign some p 0 ∷ ks) g ((h, omega arith) and w)) (consumed _ ks (add_bounded none 0 p 0 st h (omega arith) g) w)
-  consumed st (exception d ∷ ks) g (h and w) = by_test (is 33 s) (goes g (tt and (v, omega arith) and w)) (consumed st ks g w)
-  consumed st (excluded d ∷ ks) g (h and w) = by_test (is 40 s) (deep d (goes g (tt and tt and w))) (item_placed st ks g w)
-  consumed st (alternative d ∷ ks) g (h and w) = item_placed st (exception d ∷ ks) g (tt and w)
-  consumed st (alternatives d ∷ ks) g (h and w) = by_test (is 124 s) (goes g (tt and (v, omega arith) and tt and w)) (consumed st ks g w)
-  consumed st (value_set d ∷ ks) g (h and w) = item_placed st (exception d ∷ alternatives d ∷ ks) g (tt and tt and w)
+  consumed (item ∷ ks) st g (h and w) = item_placed st ks g w
+  consumed (item_tail ∷ ks) st g (h and w) = by_test (is 126 s) (goes g (v and w)) (consumed ks _ (single_bounded st g) w)
+  consumed (bound some none p ∷ ks) st g (h and w) = by_test (begins s) (calculation_placed st (sign some p 0 ∷ ks) g ((h, omega arith) and w)) (consumed ks _ (add_bounded none 0 p 0 st h (omega arith) g) w)
+  consumed (exception d ∷ ks) st g (h and w) = by_test (is 33 s) (goes g (tt and (v, omega arith) and w)) (consumed ks st g w)
+  consumed (excluded d ∷ ks) st g (h and w) = by_test (is 40 s) (deep d (goes g (tt and tt and w))) (item_placed st ks g w)
+  consumed (alternative d ∷ ks) st g (h and w) = item_placed st (exception d ∷ ks) g (tt and w)
+  consumed (alternatives d ∷ ks) st g (h and w) = by_test (is 124 s) (goes g (tt and (v, omega arith) and tt and w)) (consumed ks st g w)
+  consumed (value_set d ∷ ks) st g (h and w) = item_placed st (exception d ∷ alternatives d ∷ ks) g (tt and tt and w)
   -- counts
-  consumed st (counts ∷ ks) g (h and w) = by_test (is 126 s) (goes g (tt and (v, omega arith) and w)) (calculation_placed st (counts_tail ∷ ks) g (tt and w))
-  consumed st (counts_tail ∷ ks) g (h and w) = by_test (is 126 s) (goes g (v and w)) (consumed st ks g w)
+  consumed (counts ∷ ks) st g (h and w) = by_test (is 126 s) (goes g (tt and (v, omega arith) and w)) (calculation_placed st (counts_tail ∷ ks) g (tt and w))
+  consumed (counts_tail ∷ ks) st g (h and w) = by_test (is 126 s) (goes g (v and w)) (consumed ks st g w)
   -- conditions
-  consumed st (test d ∷ ks) g (h and w) = test_placed d st ks g w
-  consumed st (comparison ∷ ks) g (h and w) = by_test (eqb (comparison_tag s.code) 0) faults (goes g (tt and (v, omega arith) and w))
-  consumed st (condition d ∷ ks) g (h and w) = test_placed d st (joined d ∷ ks) g (tt and w)
-  consumed st (joined d ∷ ks) g (h and w) = by_test (is 38 s) (goes g (tt and (v, omega arith) and tt and w)) (by_test (is 124 s) (goes g (tt and (v, omega arith) and tt and w)) (consumed st ks g w))
-  consumed st (chain k tag d ∷ ks) g (h and w) = by_test (is k s) (goes g (tt and (v, omega arith) and tt and w)) (consumed st ks g w)
+  consumed (test d ∷ ks) st g (h and w) = test_placed d st ks g w
+  consumed (comparison ∷ ks) st g (h and w) = by_test (eqb (comparison_tag s.code) 0) faults (goes g (tt and (v, omega arith) and w))
+  consumed (condition d ∷ ks) st g (h and w) = test_placed d st (joined d ∷ ks) g (tt and w)
+  consumed (joined d ∷ ks) st g (h and w) = by_test (is 38 s) (goes g (tt and (v, omega arith) and tt and w)) (by_test (is 124 s) (goes g (tt and (v, omega arith) and tt and w)) (consumed ks st g w))
+  consumed (chain k tag d ∷ ks) st g (h and w) = by_test (is k s) (goes g (tt and (v, omega arith) and tt and w)) (consumed ks st g w)
   -- expressions
-  consumed st (atom d ∷ ks) g (h and w) = atom_placed d st ks g w
-  consumed st (factor d ∷ ks) g (h and w) = atom_placed d st (marked s.start (nodes_of st) ∷ ks) g (v and w)
-  consumed st (concatenation d ∷ ks) g (h and w) = atom_placed d st (marked s.start (nodes_of st) ∷ members d s.start (nodes_of st) false ∷ ks) g (v and v and w)
-  consumed st (expression d ∷ ks) g (h and w) = atom_placed d st (marked s.start (nodes_of st) ∷ members d s.start (nodes_of st) false ∷ branches d s.start (nodes_of st) false ∷ ks) g (v and v and v and w)
-  consumed st (marked p i ∷ ks) g (h and w) =
+  consumed (atom d ∷ ks) st g (h and w) = atom_placed d st ks g w
+  consumed (factor d ∷ ks) st g (h and w) = atom_placed d st (marked s.start (nodes_of st) ∷ ks) g (v and w)
+  consumed (concatenation d ∷ ks) st g (h and w) = atom_placed d st (marked s.start (nodes_of st) ∷ members d s.start (nodes_of st) false ∷ ks) g (v and v and w)
+  consumed (expression d ∷ ks) st g (h and w) = atom_placed d st (marked s.start (nodes_of st) ∷ members d s.start (nodes_of st) false ∷ branches d s.start (nodes_of st) false ∷ ks) g (v and v and v and w)
+  consumed (marked p i ∷ ks) st g (h and w) =
       by_test (is 123 s) (goes g (tt and (h, v) and w))
-      (by_test (eqb (mark_of s.code) 0) (consumed st ks g w) (goes (insert_bounded 3 p i (mark_of s.code) s.start 0 0 0 st h v g) w))
-  consumed st (counts_end p i mark f ∷ ks) g (h and w) = by_test (is 125 s) (goes (insert_bounded 3 p i 4 mark f (terms_of st) 0 st h.0 h.1 g) w) faults
-  consumed st (members d p i many ∷ ks) g (h and w) = by_test (is 38 s) (goes g (tt and h and w)) (consumed _ ks (chained_bounded 2 many p i st h g) w)
-  consumed st (branches d p i many ∷ ks) g (h and w) = by_test (is 124 s) (goes g (tt and h and w)) (consumed _ ks (chained_bounded 1 many p i st h g) w)
+      (by_test (eqb (mark_of s.code) 0) (consumed ks st g w) (goes (insert_bounded 3 p i (mark_of s.code) s.start 0 0 0 st h v g) w))
+  consumed (counts_end p i mark f ∷ ks) st g (h and w) = by_test (is 125 s) (goes (insert_bounded 3 p i 4 mark f (terms_of st) 0 st h.0 h.1 g) w) faults
+  consumed (members d p i many ∷ ks) st g (h and w) = by_test (is 38 s) (goes g (tt and h and w)) (consumed ks _ (chained_bounded 2 many p i st h g) w)
+  consumed (branches d p i many ∷ ks) st g (h and w) = by_test (is 124 s) (goes g (tt and h and w)) (consumed ks _ (chained_bounded 1 many p i st h g) w)
   -- ranges of characters
-  consumed st (character_tail p ∷ ks) g (h and w) = by_test (is 126 s) (goes g (h and w)) (consumed _ ks (leaf_bounded 6 p 0 0 0 0 st h g) w)
-  consumed st (last_character p ∷ ks) g (h and w) = by_test (is 9 s) (goes (leaf_bounded 7 p s.start 0 0 0 st h g) w) faults
+  consumed (character_tail p ∷ ks) st g (h and w) = by_test (is 126 s) (goes g (h and w)) (consumed ks _ (leaf_bounded 6 p 0 0 0 0 st h g) w)
+  consumed (last_character p ∷ ks) st g (h and w) = by_test (is 9 s) (goes (leaf_bounded 7 p s.start 0 0 0 st h g) w) faults
   -- uint
-  consumed st (width d p ∷ ks) g (h and w) = by_test (is 2 s) (goes g (tt and h and w)) faults
-  consumed st (field_set d p q ∷ ks) g (h and w) =
+  consumed (width d p ∷ ks) st g (h and w) = by_test (is 2 s) (goes g (tt and h and w)) faults
+  consumed (field_set d p q ∷ ks) st g (h and w) =
       by_test (is 8 s) (goes g (tt and h and w))
       (item_placed st (exception d ∷ alternatives d ∷ field_end p q 0 0 (terms_of st) ∷ ks) g (tt and tt and (h, omega arith) and w))
-  consumed st (bound_name d p q ∷ ks) g (h and w) = by_test (is_name s) (goes (bind_bounded st g) (tt and tt and tt and (h, v) and w)) faults
-  consumed st (field_end p q name how f ∷ ks) g (h and w) = by_test (is 41 s) (goes (insert_bounded 8 p (nodes_of st) q name f (terms_of st) how st h.0 h.1 g) w) faults
+  consumed (bound_name d p q ∷ ks) st g (h and w) = by_test (is_name s) (goes (bind_bounded st g) (tt and tt and tt and (h, v) and w)) faults
+  consumed (field_end p q name how f ∷ ks) st g (h and w) = by_test (is 41 s) (goes (insert_bounded 8 p (nodes_of st) q name f (terms_of st) how st h.0 h.1 g) w) faults
   -- switches
-  consumed st (colon d f ∷ ks) g (h and w) = by_test (is 58 s) (goes g (tt and tt and w)) faults
-  consumed st (case_end i f end ∷ ks) g (h and w) = by_test (is 59 s) (goes (condition_bounded i f end st g) w) faults
-  consumed st (cases d p i ∷ ks) g (h and w) =
+  consumed (colon d f ∷ ks) st g (h and w) = by_test (is 58 s) (goes g (tt and tt and w)) faults
+  consumed (case_end i f end ∷ ks) st g (h and w) = by_test (is 59 s) (goes (condition_bounded i f end st g) w) faults
+  consumed (cases d p i ∷ ks) st g (h and w) =
       by_test (is 93 s) (goes (insert_bounded 4 p i 0 0 0 0 0 st h (omega arith) g) w)
       (by_test (is 58 s) (goes g (tt and tt and h and w)) (test_placed d st (joined d ∷ colon d (terms_of st) ∷ cases d p i ∷ ks) g (tt and tt and h and w)))
-  consumed st (switch_end p i ∷ ks) g (h and w) = by_test (is 93 s) (goes (insert_bounded 4 p i 0 0 0 0 0 st h (omega arith) g) w) faults
+  consumed (switch_end p i ∷ ks) st g (h and w) = by_test (is 93 s) (goes (insert_bounded 4 p i 0 0 0 0 0 st h (omega arith) g) w) faults
   -- rules
-  consumed st (rules any ∷ ks) g (h and w) = by_test (is_name s) (goes g (tt and tt and v and tt and w)) (by_test (any && is 5 s) (ends g) faults)
-  consumed st (rule_end p i ∷ ks) g (h and w) = by_test (is 59 s) (goes (rule_bounded p i st h g) w) faults
+  consumed (rules any ∷ ks) st g (h and w) = by_test (is_name s) (goes g (tt and tt and v and tt and w)) (by_test (any && is 5 s) (ends g) faults)
+  consumed (rule_end p i ∷ ks) st g (h and w) = by_test (is 59 s) (goes (rule_bounded p i st h g) w) faults
 
 -- ---- all terminals
 
@@ -212,7 +212,7 @@ module _ (xs : List ℕ) (f : State) where
 
   one_more : (s : Terminal) (ss : List Terminal) → s.start ≤ length xs → Reads ss → Reads (s ∷ ss)
   unfolding run
-  one_more s ss v h st ks g w e = by (consumed s v st ks g w) e
+  one_more s ss v h st ks g w e = by (consumed s v ks st g w) e
     where
       by : {r : Consumed} → Leaves (length xs) r → elim r [ go st' ks' ↦ run ss st' ks' | done st' ↦ right st' | fault ↦ refused s.start ] ≡ right f → Bounded (length xs) f
       by (goes {st} {ks} b u) z = h st ks b u z
