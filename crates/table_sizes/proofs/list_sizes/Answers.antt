@@ -1,4 +1,3 @@
-
 use Rattle.table_sizes.proofs.list_sizes.Goals as goal
 
 pub returns-in-Counts : goal.returns-in-Counts

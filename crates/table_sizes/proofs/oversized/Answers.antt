@@ -1,4 +1,3 @@
-
 use Rattle.table_sizes.proofs.oversized.Goals as goal
 
 pub returns : goal.returns

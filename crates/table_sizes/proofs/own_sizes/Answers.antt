@@ -1,4 +1,3 @@
-
 use Rattle.table_sizes.proofs.own_sizes.Goals as goal
 
 pub returns : goal.returns
