@@ -11,13 +11,14 @@ use Rattle.text_store.specs.Words.{first_node, last_node}
 use Rattle.text_encoding.specs.Numbers.{first_at}
 use Rattle.tree.specs.Tree.{Rule, Rules}
 use Rattle.tree_meaning.specs.Pieces.{rules_of as rules_in}
-use Rattle.tree_meaning.specs.Counted.{Totals}
+use Rattle.tree_meaning.specs.Counted.{Totals, with_rule}
 use Rattle.tree_store.proofs.Holding.{compared}
-use Rattle.tree_store.proofs.Rowed.{RulesIn, rule_then, Rowed}
+use Rattle.tree_store.proofs.Rowed.{RulesIn, no_rules, rule_then, Rowed}
 use Rattle.tree_numbers.proofs.Rules.{At, at_first, at_later, at_below, RuleAt, rule_at}
 
 -- a rule begins after all before it
 begins_after : {ws : List ℕ} {n : Totals} {l : List Rule} {j : ℕ} {x : Rule} → RulesIn ws n l → At l j x → n.all_constructs ≤ first_node ws (n.rules + j)
+begins_after no_rules a = elim a [ ]
 begins_after {ws} {n} (rule_then e f g more) at_first = omega (arith, ap (first_node ws) (let q : n.rules + 0 ≡ n.rules = omega arith in q), f)
 begins_after {ws} {n} (rule_then {x = y} e f g more) (at_later {j = j} a) =
     omega (arith, ap (first_node ws) (let q : suc n.rules + j ≡ n.rules + suc j = omega arith in q), begins_after more a)
@@ -27,8 +28,8 @@ ends_before h at_first at_first l = absurd (omega arith)
 ends_before h (at_later a) at_first l = absurd (omega arith)
 ends_before {ws} {n} (rule_then e f g more) at_first (at_later {j = j} b) l =
     omega (arith, ap (last_node ws) (let q : n.rules + 0 ≡ n.rules = omega arith in q), g, ap (first_node ws) (let q : suc n.rules + j ≡ n.rules + suc j = omega arith in q), begins_after more b)
-ends_before {ws} {n} (rule_then e f g more) (at_later {j = i} a) (at_later {j = j} b) l =
-    omega (arith, ap (last_node ws) (let q : suc n.rules + i ≡ n.rules + suc i = omega arith in q), ap (first_node ws) (let q : suc n.rules + j ≡ n.rules + suc j = omega arith in q), ends_before more a b (omega arith))
+ends_before {ws} {n} (rule_then {x = z} e f g more) (at_later {j = i} a) (at_later {j = j} b) l =
+    omega (arith, ap (last_node ws) (let q : suc n.rules + i ≡ n.rules + suc i = omega arith in q), ap (first_node ws) (let q : suc n.rules + j ≡ n.rules + suc j = omega arith in q), ends_before {n = with_rule n z} more a b (omega arith))
 
 -- the last rule that begins at node i or before
 first_at_from : (ws : List ℕ) (k i j : ℕ) → j < k → first_node ws j ≤ i → ((m : ℕ) → j < m → m < k → i < first_node ws m) → first_at ws k i ≡ first_node ws j

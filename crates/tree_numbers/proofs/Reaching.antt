@@ -24,7 +24,7 @@ use Rattle.tree_meaning.specs.Reaching.{used_in, Uses, Reaches, directly, throug
 use Rattle.tree_meaning.proofs.Passing.{named}
 use Rattle.tree_store.proofs.Rows.{NodeRow, node_rows}
 use Rattle.tree_store.proofs.Holding.{compared}
-use Rattle.tree_store.proofs.Standing.{Ascending, ascends, SpelledBy, spelled_stand, rules_ascend}
+use Rattle.tree_store.proofs.Standing.{Ascending, ascended, ascends, SpelledBy, spelled_stand, rules_ascend}
 use Rattle.tree_store.proofs.Uses.{Here}
 use Rattle.tree_store.proofs.Rowed.{NodesAt, no_nodes, node_then, Rowed}
 use Rattle.tree_store.proofs.Names.{named_so, named_here}
@@ -69,7 +69,7 @@ use_there no_step h m = elim m [ ]
 use_there (a_formula s) h m = use_there s h m
 use_there {a = a} (a_use {x = x} e p g s) (node_then h more) (Memᴰ.head q) =
     record { at = a; from = omega arith; upto = omega arith; is_use = h.kind_is ∙ e; name = x; name_here = g; place = h.place_is ∙ p; letters = sym q }
-use_there (a_use e p g s) (node_then h more) (Memᴰ.tail m) = later (use_there s more m)
+use_there {a = a} (a_use e p g s) (node_then h more) (Memᴰ.tail m) = later (use_there {a = a + 1} s more m)
 use_there (a_field e b f v s) (node_then h more) m = later (use_there s more m)
 use_there (a_binder e b f v w z g s) (node_then h more) m = later (use_there s more m)
 use_there (another e b s) (node_then h more) m = later (use_there s more m)
@@ -87,7 +87,7 @@ use_back (a_formula s) h at f g k = let u = use_back s h at f g k in record { na
 use_back {xs} {ns} {a} (a_use {x = x} {l = l} e p z s) (node_then h more) at f g k =
     compared at a (λ w. absurd (omega arith))
     (λ (w : at ≡ a). record { name = x; name_here = z; place = ap (place_of ns) w ∙ h.place_is ∙ p; used = Memᴰ.head refl })
-    (λ w. let u : UseBack xs ns l at = use_back s more at (omega arith) (omega arith) k in record { name = u.name; name_here = u.name_here; place = u.place; used = Memᴰ.tail u.used })
+    (λ w. let u : UseBack xs ns l at = use_back {a = a + 1} s more at (omega arith) (omega arith) k in record { name = u.name; name_here = u.name_here; place = u.place; used = Memᴰ.tail u.used })
 use_back {xs} {ns} {a} (a_field {l = l} e b y v s) (node_then h more) at f g k =
     compared at a (λ w. absurd (omega arith))
     (λ (w : at ≡ a). let z : 5 ≡ 8 = sym k ∙ ap (kind_of ns) w ∙ h.kind_is ∙ e in absurd (omega arith))
@@ -129,6 +129,7 @@ of_reach (through u more) = of_use u
 -- ---- places of names go up with numbers
 
 from_on : {most p : ℕ} {l : List Rule} {j : ℕ} {y : Rule} → Ascending most p l → At l j y → p ≤ (rule_name y).start
+from_on ascended a = elim a [ ]
 from_on (ascends u v a) at_first = u
 from_on (ascends u v a) (at_later b) = let h = from_on a b in omega arith
 

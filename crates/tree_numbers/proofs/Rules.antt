@@ -42,7 +42,7 @@ pub record Numbered (l : List Rule) (x : Rule) : Type 0 where
   pub number : ℕ
   pub there : At l number x
 
-pub member_at : {l : List Rule} {x : Rule} → Memᴰ x l → Numbered l x
+pub member_at : {x : Rule} {l : List Rule} → Memᴰ x l → Numbered l x
 member_at (Memᴰ.head {x = y} {xs} e) = record { number = zero; there = subst (At (y ∷ xs) zero) (sym e) at_first }
 member_at (Memᴰ.tail m) = let n = member_at m in record { number = suc n.number; there = at_later n.there }
 
@@ -100,6 +100,7 @@ unfolding spell_rules rules_in rules_nodes
 rule_facts {xs} {ns} {ws} (last_rule (rule y is b end)) n w h (rule_then e f g more) s at_first =
     subst (λ (k : ℕ). RuleFacts xs ns ws k (rule y is b end)) (let q : n.rules ≡ n.rules + 0 = omega arith in q)
     (one_rule n (rule y is b end) (sign Kind.Semicolon end ∷ w) e f g (nodes_left (node_rows false b n.all_terms) [] h) (here s) (past (past s)))
+rule_facts (last_rule (rule y is b end)) n w h (rule_then e f g more) s (at_later a) = elim a [ ]
 rule_facts {xs} {ns} {ws} (and_rules (rule y is b end) t) n w h (rule_then e f g more) s at_first =
     subst (λ (k : ℕ). RuleFacts xs ns ws k (rule y is b end)) (let q : n.rules ≡ n.rules + 0 = omega arith in q)
     (one_rule n (rule y is b end) (sign Kind.Semicolon end ∷ spell_rules t w) e f g (nodes_left (node_rows false b n.all_terms) (rules_nodes (n.all_terms + length (term_rows b)) (rules_in t)) h) (here s) (past (past s)))

@@ -94,7 +94,7 @@ bound_many : {xs ns : List ℕ} {a : ℕ} {M : List NodeRow} {l : List Piece} �
 unfolding sum bound_in
 bound_many no_step no_nodes = refl
 bound_many (a_formula s) h = bound_many s h
-bound_many (a_use {r = r} e p g s) (node_then h more) = omega (arith, counts_none h (use_binds_none r e), bound_many s more)
+bound_many {a = a} (a_use {r = r} e p g s) (node_then h more) = omega (arith, counts_none h (use_binds_none r e), bound_many {a = a + 1} s more)
 bound_many (a_field e b f v s) (node_then h more) = omega (arith, counts_none h b, bound_many s more)
 bound_many (a_binder e b f v w z g s) (node_then h more) = omega (arith, counts_one h b, bound_many s more)
 bound_many (another {r = r} e b s) (node_then h more) = omega (arith, counts_none h (other_binds_none r b), bound_many s more)
@@ -119,9 +119,9 @@ number_at : {xs ns : List ℕ} {a : ℕ} {M : List NodeRow} {l : List Piece} (b 
 unfolding bound_in is_among number-among
 number_at b y no_step no_nodes k e = let z : ◌≡◌ {A = ℕ} 0 1 = cc in absurd (omega arith)
 number_at b y (a_formula s) h k e = number_at b y s h k e
-number_at {xs} {M = M} b y (a_use {r = r} {M = L} d p g s) (node_then h more) k e = past_none xs b (length L) y.start h (use_binds_none r d) ∙ number_at b y s more k e
-number_at {xs} b y (a_field {M = L} d q f v s) (node_then h more) k e = past_none xs b (length L) y.start h q ∙ number_at b y s more k e
-number_at {xs} b y (another {r = r} {M = L} d q s) (node_then h more) k e = past_none xs b (length L) y.start h (other_binds_none r q) ∙ number_at b y s more k e
+number_at {xs} {a = a} {M = M} b y (a_use {r = r} {M = L} d p g s) (node_then h more) k e = past_none xs b (length L) y.start h (use_binds_none r d) ∙ number_at {a = a + 1} b y s more k e
+number_at {xs} {a = a} b y (a_field {M = L} d q f v s) (node_then h more) k e = past_none xs b (length L) y.start h q ∙ number_at {a = a + 1} b y s more k e
+number_at {xs} {a = a} b y (another {r = r} {M = L} d q s) (node_then h more) k e = past_none xs b (length L) y.start h (other_binds_none r q) ∙ number_at {a = a + 1} b y s more k e
 number_at {xs} {ns} {a} b y (a_binder {M = L} {x = x} {l = l} d q f v w z g s) (node_then h more) k e =
     ⊎_elim
     (λ (c : is_same x.letters y.letters ≡ true). found c)
@@ -156,7 +156,7 @@ unfolding any_of bound_in is_among
 among_bound y no_step no_nodes k = refl
 among_bound y (a_formula s) h k = among_bound y s h k
 among_bound {xs} {ns} {a} y (a_use {r = r} {M = L} d p g s) (node_then h more) k =
-    any_suc (length L) a (binds xs ns y.start) ∙ ap (λ (b : Bool). b || any_of (length L) (a + 1) (binds xs ns y.start)) (binds_none h xs y.start (use_binds_none r d)) ∙ among_bound y s more k
+    any_suc (length L) a (binds xs ns y.start) ∙ ap (λ (b : Bool). b || any_of (length L) (a + 1) (binds xs ns y.start)) (binds_none h xs y.start (use_binds_none r d)) ∙ among_bound {a = a + 1} y s more k
 among_bound {xs} {ns} {a} y (a_field {M = L} d q f v s) (node_then h more) k =
     any_suc (length L) a (binds xs ns y.start) ∙ ap (λ (b : Bool). b || any_of (length L) (a + 1) (binds xs ns y.start)) (binds_none h xs y.start q) ∙ among_bound y s more k
 among_bound {xs} {ns} {a} y (a_binder {M = L} d q f v w z g s) (node_then h more) k =
