@@ -22,8 +22,11 @@ row (none e) = Tiles.done e
 row {ws} {end = end} (more positive-end positive c e rest) = Tiles.more positive (subst (λ (k : ℕ). Tiles ws end k) e (row rest))
 
 -- a repetition has one part
+one_of : {ws : List ℕ} {check : ℕ → Bool} {end j k : ℕ} → Row ws check end j (k ∷ []) → (1 ≤ size_at ws j) × (j + size_at ws j ≡ end)
+one_of (more h positive c e (none f)) = (positive, omega arith)
+
 one : (ws : List ℕ) (i size : ℕ) {check : ℕ → Bool} → Row ws check (i + size) (i + 1) ((i + 1) ∷ []) → (1 ≤ size_at ws (i + 1)) × (i + 1 + size_at ws (i + 1) ≡ i + size)
-one ws i size (more h positive c e (none f)) = (positive, omega arith)
+one ws i size t = one_of t
 
 filled_by : {ws : List ℕ} (l : Laid ws) (i : ℕ) → i < construct_count ws → {c : Construct} → Parted c → construct_at ws i ≡ c → Tiled ws i c → Filled ws i c
 filled_by l i h Parted.missing e t = tt
