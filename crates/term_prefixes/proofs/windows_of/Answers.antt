@@ -11,5 +11,5 @@ returns c =
     let l = c.least_values in
     let t = c.try_changes-last in
     λ k h.
-    told_window a.offset a.variables.now a.start (terms a.words.now a.start a.end) a.width l.new.1.1.1.1.1.1.0 l.ensures
-    (record { values = replicate {A = ℕ} 64 0; waiting = 0; marks = l.new.1.1.1.1.1.1.0 }) t.result refl t.ensures c.settle.new.1.1.1.1.1.1.1.0 c.settle.ensures k h
+    told_window a.offset a.variables.now a.start (terms a.words.now a.start a.end) a.width l.new.marks l.ensures
+    (record { values = replicate {A = ℕ} 64 0; waiting = 0; marks = l.new.marks }) t.result refl t.ensures c.settle.new.marks c.settle.ensures k h

@@ -1,16 +1,10 @@
-use Prim.Native.Nat.{ℕ, ◌+◌, ◌-◌, ◌≤◌}
+use Prim.Native.Nat.{ℕ, ◌+◌}
 use mathlib.Core.Path.{◌≡◌, refl, subst}
 use Rattle.term_prefixes.proofs.MarkLaws.{multiple_fits, filled_none, filled_more}
 use borrow.Author.Rules.{rules}
 use native.Mathlib.Omega.{arith}
 use Rattle.term_prefixes.specs.Marks.{Filled}
 use Rattle.term_prefixes.proofs.marks.fill.Goals as goal
-
-abbrev invariant-loop : tie.invariant-loop
-invariant-loop values₀ first block j₀ values j = Filled first block j values × (j ≤ 64)
-
-abbrev decreases-loop : tie.decreases-loop
-decreases-loop values₀ first block j₀ values j = 64 - j
 
 pub loop-j-init : goal.loop-j-init
 loop-j-init c = (filled_none _ _ _ c.requires.0, search rules)

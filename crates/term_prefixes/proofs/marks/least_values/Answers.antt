@@ -4,17 +4,10 @@ use Prim.Native.Nat.{ℕ, ◌*◌, ◌-◌, ◌^◌, ◌≤◌}
 use mathlib.Core.Path.{◌≡◌, refl, ap, subst, ◌∙◌}
 use native.Mathlib.Omega.{arith}
 use borrow.Author.Rules.{rules}
-use lib.ListN.{length}
 use lib.Pow.{pow_mono}
 use Rattle.term_prefixes.specs.Marks.{Sought, Least}
 use Rattle.term_prefixes.proofs.MarkLaws.{least_none, least_more}
 use Rattle.term_prefixes.proofs.marks.least_values.Goals as goal
-
-abbrev invariant-loop : tie.invariant-loop
-invariant-loop words start end variables width offset marks₀ shift block values₀ i₀ marks values i = Sought (holds_from offset variables start (terms words start end)) width (Least width (64 * i)) marks₀ marks × (length values ≡ 64) × (i ≤ 4)
-
-abbrev decreases-loop : tie.decreases-loop
-decreases-loop words start end variables width offset marks₀ shift block values₀ i₀ marks values i = 4 - i
 
 pub loop-i-init : goal.loop-i-init
 loop-i-init c = let a = c.args in (least_none (holds_from a.offset a.variables.now a.start (terms a.words.now a.start a.end)) a.width a.marks.now c.requires.2, refl, search rules)
@@ -33,7 +26,7 @@ loop-i-preserved c =
     let a = c.args in
     let l = c.loop-i in
     let g = c.fill in (
-      least_more (holds_from a.offset a.variables.now a.start (terms a.words.now a.start a.end)) a.width g.new.0 a.marks.now l.marks c.settle.new.1.1.1.1.1.1.1.0 l.i c.power-block.result (c.power-block.ensures ∙ ap (λ (x : ℕ). 2 ^ x) c.hidden-shift.ensures) g.ensures l.invariant.0 c.settle.ensures,
+      least_more (holds_from a.offset a.variables.now a.start (terms a.words.now a.start a.end)) a.width g.new.values a.marks.now l.marks c.settle.new.marks l.i c.power-block.result (c.power-block.ensures ∙ ap (λ (x : ℕ). 2 ^ x) c.hidden-shift.ensures) g.ensures l.invariant.0 c.settle.ensures,
       g.ensures.all,
       search rules,
     )

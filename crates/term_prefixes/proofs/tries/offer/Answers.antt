@@ -11,4 +11,4 @@ returns-then-waiting-lt63 c =
 pub returns : goal.returns
 returns c =
     let a = c.args in
-    offered_tried (holds_from a.offset a.variables.now a.start (terms a.words.now a.start a.end)) a.width a.old a.value c.requires.2 c.settle.new.1.1.1.1.1.1.1.0 c.settle.ensures
+    offered_tried (holds_from a.offset a.variables.now a.start (terms a.words.now a.start a.end)) a.width a.old a.value c.requires.2 c.settle.new.marks c.settle.ensures
