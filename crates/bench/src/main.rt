@@ -9,7 +9,7 @@ ghost use Rattle.bench.specs.Weights.{Light};
 
 use basis::{MAX_FRAME_BITS, MAX_FRAME_BYTES, TABLE_WORDS};
 use bench_hexadecimal::{Line, MAX_LINE};
-use libc::{STDIN_FILENO, STDOUT_FILENO};
+use std::io::Stdout;
 use run_grants::Run;
 use run_matcher::Answer;
 use text_admission::Admission;
@@ -27,34 +27,34 @@ struct Step {
     ended: bool,
 }
 
-fn text(bytes: &[u8]) {
-    io::write_all(STDOUT_FILENO, bytes);
+fn text(out: Stdout, bytes: &[u8]) {
+    let _ = out.write_all(bytes);
 }
 
-fn number(before: &[u8], n: u64) {
-    text(before);
-    io::print_decimal(STDOUT_FILENO, n);
+fn number(out: Stdout, before: &[u8], n: u64) {
+    text(out, before);
+    let _ = out.print(n);
 }
 
-fn refused(n: u64) {
-    number(b"refused ", n);
-    text(b"\n");
+fn refused(out: Stdout, n: u64) {
+    number(out, b"refused ", n);
+    text(out, b"\n");
 }
 
-fn show_grammar(answer: Admission) {
+fn show_grammar(out: Stdout, answer: Admission) {
     match answer {
-        Admission::Admitted { weight } => number(b"grammar 0 weight ", weight as u64),
+        Admission::Admitted { weight } => number(out, b"grammar 0 weight ", weight as u64),
         Admission::Refused { number: n, place } => {
-            number(b"grammar ", n as u64);
-            number(b" at ", place as u64);
+            number(out, b"grammar ", n as u64);
+            number(out, b" at ", place as u64);
         }
         Admission::Conflict {
             place,
             construct: _,
             clash: _,
-        } => number(b"grammar 10 at ", place as u64),
+        } => number(out, b"grammar 10 at ", place as u64),
     }
-    text(b"\n");
+    text(out, b"\n");
 }
 
 // weight × (bits + 1)
@@ -65,28 +65,28 @@ fn bound(weight: usize, bytes: usize) -> u64
     (weight * (8 * bytes + 1)) as u64
 }
 
-fn show_verdict(v: u32) {
+fn show_verdict(out: Stdout, v: u32) {
     match v {
-        1 => text(b"match "),
-        2 => text(b"no match "),
-        _ => text(b"undecided "),
+        1 => text(out, b"match "),
+        2 => text(out, b"no match "),
+        _ => text(out, b"undecided "),
     }
 }
 
-fn show_run(weight: usize, bytes: usize, run: Run)
+fn show_run(out: Stdout, weight: usize, bytes: usize, run: Run)
     requires { (weight ≤ max_weight) × (bytes ≤ max_frame_bytes) }
 {
-    show_verdict(run.verdict);
-    number(b"", run.steps);
-    number(b" of ", bound(weight, bytes));
-    text(b"\n");
+    show_verdict(out, run.verdict);
+    number(out, b"", run.steps);
+    number(out, b" of ", bound(weight, bytes));
+    text(out, b"\n");
 }
 
-fn grant(table: &[u32], frame: &[u8], reading: &mut [u32], run: Run, weight: usize)
+fn grant(out: Stdout, table: &[u32], frame: &[u8], reading: &mut [u32], run: Run, weight: usize)
     requires { (weight ≤ max_weight) × (length frame.now ≤ max_frame_bytes) }
 {
     let granted = run_grants::advance(table, frame, reading, run, 18446744073709551615);
-    show_run(weight, frame.len(), granted.run);
+    show_run(out, weight, frame.len(), granted.run);
 }
 
 // An opening's number of refusal; 0 for none.
@@ -101,67 +101,67 @@ fn refusal(answer: Answer) -> u64
     }
 }
 
-fn play(table: &[u32], frame: &[u8], reading: &mut [u32], weight: usize)
+fn play(out: Stdout, table: &[u32], frame: &[u8], reading: &mut [u32], weight: usize)
     requires { (weight ≤ max_weight) × (length frame.now ≤ max_frame_bytes) }
 {
     let opening = run_matcher::open(table, frame, reading);
     let answer = opening.answer;
     let n = refusal(answer);
     if 0 < n {
-        refused(n);
+        refused(out, n);
         return;
     }
     let run = opening.run;
-    grant(table, frame, reading, run, weight);
+    grant(out, table, frame, reading, run, weight);
 }
 
 // The frame that the first `n` bytes are.
-fn framed(table: &[u32; TABLE_WORDS], weight: usize, bytes: &[u8], n: usize)
+fn framed(out: Stdout, table: &[u32; TABLE_WORDS], weight: usize, bytes: &[u8], n: usize)
     requires { (weight ≤ max_weight) × (n ≤ length bytes.now) × (n ≤ max_frame_bytes) }
 {
     let mut reading = [0u32; READING_WORDS];
-    play(&table[..], &bytes[0..n], &mut reading, weight);
+    play(out, &table[..], &bytes[0..n], &mut reading, weight);
 }
 
-fn decoded(table: &[u32; TABLE_WORDS], weight: usize, line: &[u8], n: usize)
+fn decoded(out: Stdout, table: &[u32; TABLE_WORDS], weight: usize, line: &[u8], n: usize)
     requires { (weight ≤ max_weight) × (length line.now ≤ max_line) × (n ≤ max_frame_bytes) }
 {
     let mut bytes = [0u8; MAX_FRAME_BYTES];
     bench_hexadecimal::decode(line, &mut bytes);
-    framed(table, weight, &bytes, n);
+    framed(out, table, weight, &bytes, n);
 }
 
-fn answered(table: &[u32; TABLE_WORDS], weight: usize, line: &[u8])
+fn answered(out: Stdout, table: &[u32; TABLE_WORDS], weight: usize, line: &[u8])
     requires { weight ≤ max_weight }
 {
     let kind = bench_hexadecimal::classify(line);
     match kind {
-        Line::TooLong => refused(bench_hexadecimal::number(kind)),
-        Line::NoFrame => refused(bench_hexadecimal::number(kind)),
-        Line::Frame(n) => decoded(table, weight, line, n),
+        Line::TooLong => refused(out, bench_hexadecimal::number(kind)),
+        Line::NoFrame => refused(out, bench_hexadecimal::number(kind)),
+        Line::Frame(n) => decoded(out, table, weight, line, n),
     }
 }
 
 // A line that LF ends.
-fn ended(table: &[u32; TABLE_WORDS], weight: usize, line: &[u8], held: usize)
+fn ended(out: Stdout, table: &[u32; TABLE_WORDS], weight: usize, line: &[u8], held: usize)
     requires { (weight ≤ max_weight) × (held ≤ length line.now) }
 {
-    answered(table, weight, text_header::header::content(&line[0..held]));
+    answered(out, table, weight, text_header::header::content(&line[0..held]));
 }
 
 // A last line without LF is one if it has a byte.
-fn last(table: &[u32; TABLE_WORDS], weight: usize, line: &[u8], held: usize)
+fn last(out: Stdout, table: &[u32; TABLE_WORDS], weight: usize, line: &[u8], held: usize)
     requires { (weight ≤ max_weight) × (held ≤ length line.now) }
 {
     if 0 < held {
-        answered(table, weight, &line[0..held]);
+        answered(out, table, weight, &line[0..held]);
     }
 }
 
-fn line_ended(table: &[u32; TABLE_WORDS], weight: usize, line: &[u8; LINE_KEPT], held: usize)
+fn line_ended(out: Stdout, table: &[u32; TABLE_WORDS], weight: usize, line: &[u8; LINE_KEPT], held: usize)
     requires { (weight ≤ max_weight) × (held ≤ max_line + 2) }
 {
-    ended(table, weight, &line[..], held);
+    ended(out, table, weight, &line[..], held);
 }
 
 fn keep(line: &mut [u8; LINE_KEPT], held: usize, byte: u8) -> usize
@@ -175,7 +175,7 @@ fn keep(line: &mut [u8; LINE_KEPT], held: usize, byte: u8) -> usize
     held
 }
 
-fn take(
+fn take(out: Stdout, 
     table: &[u32; TABLE_WORDS],
     weight: usize,
     line: &mut [u8; LINE_KEPT],
@@ -186,13 +186,13 @@ fn take(
     ensures { result ≤ max_line + 2 }
 {
     if byte == 10 {
-        line_ended(table, weight, line, held);
+        line_ended(out, table, weight, line, held);
         return 0;
     }
     keep(line, held, byte)
 }
 
-fn take_all(
+fn take_all(out: Stdout, 
     table: &[u32; TABLE_WORDS],
     weight: usize,
     line: &mut [u8; LINE_KEPT],
@@ -205,20 +205,20 @@ fn take_all(
     let mut held = before;
     let mut i = 0;
     while i < piece.len() {
-        held = take(table, weight, line, held, piece[i]);
+        held = take(out, table, weight, line, held, piece[i]);
         i += 1;
     }
     held
 }
 
-fn piece(table: &[u32; TABLE_WORDS], weight: usize, line: &mut [u8; LINE_KEPT], held: usize) -> Step
+fn piece(out: Stdout, table: &[u32; TABLE_WORDS], weight: usize, line: &mut [u8; LINE_KEPT], held: usize) -> Step
     requires { (weight ≤ max_weight) × (held ≤ max_line + 2) }
     ensures { result.held ≤ max_line + 2 }
 {
     let mut buffer = io::buffer();
     let got = libc::read(STDIN_FILENO, &mut buffer);
     let n = io::count(got, &buffer);
-    let after = take_all(table, weight, line, held, &buffer[..n]);
+    let after = take_all(out, table, weight, line, held, &buffer[..n]);
     Step {
         held: after,
         ended: n == 0,
@@ -226,7 +226,7 @@ fn piece(table: &[u32; TABLE_WORDS], weight: usize, line: &mut [u8; LINE_KEPT], 
 }
 
 // Nothing says that the input ends, so the turns are counted from a number that no input uses up.
-fn lines(table: &[u32; TABLE_WORDS], weight: usize, line: &mut [u8; LINE_KEPT]) -> usize
+fn lines(out: Stdout, table: &[u32; TABLE_WORDS], weight: usize, line: &mut [u8; LINE_KEPT]) -> usize
     requires { weight ≤ max_weight }
     ensures { result ≤ max_line + 2 }
 {
@@ -234,7 +234,7 @@ fn lines(table: &[u32; TABLE_WORDS], weight: usize, line: &mut [u8; LINE_KEPT]) 
     let mut turns = u64::MAX;
     while 0 < turns {
         turns -= 1;
-        let step = piece(table, weight, line, held);
+        let step = piece(out, table, weight, line, held);
         held = step.held;
         if step.ended {
             return held;
@@ -243,18 +243,18 @@ fn lines(table: &[u32; TABLE_WORDS], weight: usize, line: &mut [u8; LINE_KEPT]) 
     held
 }
 
-fn last_of(table: &[u32; TABLE_WORDS], weight: usize, line: &[u8; LINE_KEPT], held: usize)
+fn last_of(out: Stdout, table: &[u32; TABLE_WORDS], weight: usize, line: &[u8; LINE_KEPT], held: usize)
     requires { (weight ≤ max_weight) × (held ≤ max_line + 2) }
 {
-    last(table, weight, &line[..], held);
+    last(out, table, weight, &line[..], held);
 }
 
-fn frames(table: &[u32; TABLE_WORDS], weight: usize)
+fn frames(out: Stdout, table: &[u32; TABLE_WORDS], weight: usize)
     requires { weight ≤ max_weight }
 {
     let mut line = [0u8; LINE_KEPT];
-    let held = lines(table, weight, &mut line);
-    last_of(table, weight, &line, held);
+    let held = lines(out, table, weight, &mut line);
+    last_of(out, table, weight, &line, held);
 }
 
 fn admit_text(bytes: &[u8], table: &mut [u32; TABLE_WORDS]) -> Admission
@@ -264,7 +264,7 @@ fn admit_text(bytes: &[u8], table: &mut [u32; TABLE_WORDS]) -> Admission
 }
 
 // Of a longer text so many bytes are enough to refuse it.
-fn admit(fd: i32, table: &mut [u32; TABLE_WORDS]) -> Admission
+fn admit(out: Stdout, fd: i32, table: &mut [u32; TABLE_WORDS]) -> Admission
     ensures { Light result }
 {
     let mut bytes = [0u8; 8193];
@@ -272,23 +272,23 @@ fn admit(fd: i32, table: &mut [u32; TABLE_WORDS]) -> Admission
     admit_text(&bytes[..n], table)
 }
 
-fn admit_file(table: &mut [u32; TABLE_WORDS]) -> Admission
+fn admit_file(out: Stdout, table: &mut [u32; TABLE_WORDS]) -> Admission
     ensures { Light result }
 {
     let fd = os::open_read(b"kiosk.dogma");
     if fd < 0 {
         return admit_text(b"", table);
     }
-    let answer = admit(fd, table);
+    let answer = admit(out, fd, table);
     libc::close(fd);
     answer
 }
 
-fn start(answer: Admission, table: &[u32; TABLE_WORDS])
+fn start(out: Stdout, answer: Admission, table: &[u32; TABLE_WORDS])
     requires { Light answer }
 {
     match answer {
-        Admission::Admitted { weight } => frames(table, weight),
+        Admission::Admitted { weight } => frames(out, table, weight),
         Admission::Refused {
             number: _,
             place: _,
@@ -301,9 +301,10 @@ fn start(answer: Admission, table: &[u32; TABLE_WORDS])
     }
 }
 
-fn main() {
+fn main(rt: HostRuntime) {
+    let out = rt.stdout();
     let mut table = [0u32; TABLE_WORDS];
-    let answer = admit_file(&mut table);
-    show_grammar(answer);
-    start(answer, &table);
+    let answer = admit_file(out, &mut table);
+    show_grammar(out, answer);
+    start(out, answer, &table);
 }

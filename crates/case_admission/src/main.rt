@@ -3,64 +3,64 @@
 #![tactic(auto)]
 
 use basis::TABLE_WORDS;
-use libc::{STDIN_FILENO, STDOUT_FILENO};
+use std::io::Stdout;
 use table_conflicts::Clash;
 use text_admission::Admission;
 use text_header::Class;
 
-fn text(bytes: &[u8]) {
-    io::write_all(STDOUT_FILENO, bytes);
+fn text(out: Stdout, bytes: &[u8]) {
+    let _ = out.write_all(bytes);
 }
 
-fn number(before: &[u8], n: usize) {
-    text(before);
-    io::print_decimal(STDOUT_FILENO, n as u64);
+fn number(out: Stdout, before: &[u8], n: usize) {
+    text(out, before);
+    let _ = out.print(n as u64);
 }
 
-fn show_clash(clash: Clash) {
+fn show_clash(out: Stdout, clash: Clash) {
     match clash {
         Clash::None => {}
         Clash::Branches {
             window,
             first: _,
             second: _,
-        } => number(b" window ", window),
-        Clash::Passes { window } => number(b" window ", window),
+        } => number(out, b" window ", window),
+        Clash::Passes { window } => number(out, b" window ", window),
     }
 }
 
-fn show(answer: Admission) {
+fn show(out: Stdout, answer: Admission) {
     match answer {
-        Admission::Admitted { weight } => number(b"grammar 0 weight ", weight),
+        Admission::Admitted { weight } => number(out, b"grammar 0 weight ", weight),
         Admission::Refused { number: n, place } => {
-            number(b"grammar ", n);
-            number(b" at ", place);
+            number(out, b"grammar ", n);
+            number(out, b" at ", place);
         }
         Admission::Conflict {
             place,
             construct: _,
             clash,
         } => {
-            number(b"grammar 10 at ", place);
-            show_clash(clash);
+            number(out, b"grammar 10 at ", place);
+            show_clash(out, clash);
         }
     }
-    text(b"\n");
+    text(out, b"\n");
 }
 
-fn admit(text: &[u8], table: &mut [u32; TABLE_WORDS]) {
-    show(admission_call::admit(text, &mut table[..]));
+fn admit(out: Stdout, text: &[u8], table: &mut [u32; TABLE_WORDS]) {
+    show(out, admission_call::admit(text, &mut table[..]));
 }
 
 // The text that is the bytes from `start` to `end`, where they are there.
-fn one(bytes: &[u8], start: usize, end: usize, table: &mut [u32; TABLE_WORDS]) {
+fn one(out: Stdout, bytes: &[u8], start: usize, end: usize, table: &mut [u32; TABLE_WORDS]) {
     if end < start {
         return;
     }
     if bytes.len() < end {
         return;
     }
-    admit(&bytes[start..end], table);
+    admit(out, &bytes[start..end], table);
 }
 
 // `len` further, but no further than the end.
@@ -90,7 +90,7 @@ fn line_after(bytes: &[u8], at: usize) -> usize {
     bytes.len()
 }
 
-fn all(bytes: &[u8], table: &mut [u32; TABLE_WORDS]) {
+fn all(out: Stdout, bytes: &[u8], table: &mut [u32; TABLE_WORDS]) {
     let mut at = 0;
     for _ in 0..400000usize {
         if bytes.len() <= at {
@@ -99,13 +99,14 @@ fn all(bytes: &[u8], table: &mut [u32; TABLE_WORDS]) {
         let len = length_at(bytes, at);
         let start = line_after(bytes, at);
         at = further(bytes, start, len);
-        one(bytes, start, at, table);
+        one(out, bytes, start, at, table);
     }
 }
 
-fn main() {
+fn main(rt: HostRuntime) {
+    let out = rt.stdout();
     let mut buffer = [0u8; 400000];
     let mut table = [0u32; TABLE_WORDS];
     let n = io::read_full(STDIN_FILENO, &mut buffer);
-    all(&buffer[..n], &mut table);
+    all(out, &buffer[..n], &mut table);
 }

@@ -2,6 +2,7 @@
 // word changed.
 use crate::printing::{number, text};
 use basis::TABLE_WORDS;
+use std::io::Stdout;
 
 // How many words can be one more, and leave the table laid out.
 fn changes(table: &mut [u32; TABLE_WORDS]) -> u64 {
@@ -35,33 +36,33 @@ fn changed(table: &mut [u32; TABLE_WORDS], k: usize, w: u32) -> bool {
     table_wellformed::laid(&table[..])
 }
 
-fn show(name: &[u8], table: &mut [u32; TABLE_WORDS]) {
-    text(name);
+fn show(out: Stdout, name: &[u8], table: &mut [u32; TABLE_WORDS]) {
+    text(out, name);
     if table_wellformed::laid(&table[..]) {
-        text(b" laid out, still with ");
+        text(out, b" laid out, still with ");
     } else {
-        text(b" not laid out, but with ");
+        text(out, b" not laid out, but with ");
     }
     let still = changes(table);
-    number(b"", still as usize);
-    text(b" of 16384 words one more\n");
+    number(out, b"", still as usize);
+    text(out, b" of 16384 words one more\n");
 }
 
-pub fn words_changed() {
+pub fn words_changed(out: Stdout) {
     let mut table = [0u32; TABLE_WORDS];
-    show(b"nothing:", &mut table);
+    show(out, b"nothing:", &mut table);
     case_tables::g(&mut table);
-    show(b"G:", &mut table);
+    show(out, b"G:", &mut table);
     let mut table5 = [0u32; TABLE_WORDS];
     case_tables::k5(&mut table5);
-    show(b"K5:", &mut table5);
+    show(out, b"K5:", &mut table5);
     let mut table6 = [0u32; TABLE_WORDS];
     case_tables::k6(&mut table6);
-    show(b"K6:", &mut table6);
+    show(out, b"K6:", &mut table6);
     let mut table10 = [0u32; TABLE_WORDS];
     case_tables::k10(&mut table10);
-    show(b"K10:", &mut table10);
+    show(out, b"K10:", &mut table10);
     let mut table64 = [0u32; TABLE_WORDS];
     case_tables::wide(&mut table64);
-    show(b"wide:", &mut table64);
+    show(out, b"wide:", &mut table64);
 }

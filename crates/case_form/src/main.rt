@@ -5,7 +5,8 @@ mod form;
 mod printing;
 mod reach;
 
-fn main() {
-    reach::small_tables();
-    form::words_changed();
+fn main(rt: HostRuntime) {
+    let out = rt.stdout();
+    reach::small_tables(out);
+    form::words_changed(out);
 }

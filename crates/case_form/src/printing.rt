@@ -1,11 +1,11 @@
 // What both parts print with.
-use libc::STDOUT_FILENO;
+use std::io::Stdout;
 
-pub fn text(bytes: &[u8]) {
-    io::write_all(STDOUT_FILENO, bytes);
+pub fn text(out: Stdout, bytes: &[u8]) {
+    let _ = out.write_all(bytes);
 }
 
-pub fn number(before: &[u8], n: usize) {
-    text(before);
-    io::print_decimal(STDOUT_FILENO, n as u64);
+pub fn number(out: Stdout, before: &[u8], n: usize) {
+    text(out, before);
+    let _ = out.print(n as u64);
 }

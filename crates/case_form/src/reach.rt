@@ -1,6 +1,7 @@
 // Rules that reach themselves and weights, over small tables laid out by hand.
 use crate::printing::{number, text};
 use basis::{MAX_CONSTRUCTS, MAX_RULES};
+use std::io::Stdout;
 use table_reach::Recursion;
 
 fn header(table: &mut [u32; 2624], rules: u32, constructs: u32) {
@@ -23,33 +24,33 @@ fn construct(table: &mut [u32; 2624], i: usize, kind: u32, size: u32, operand: u
 }
 
 // What the table's rules come to.
-fn report(name: &[u8], table: &[u32; 2624]) {
-    text(name);
+fn report(out: Stdout, name: &[u8], table: &[u32; 2624]) {
+    text(out, name);
     match table_reach::recursive_rule(table) {
         Recursion::Rule(r) => {
-            number(b": reaches itself: rule ", r);
+            number(out, b": reaches itself: rule ", r);
         }
         Recursion::None => {
             let weighing = table_weights::weigh(table);
-            number(b": weight ", weighing.grammar as usize);
+            number(out, b": weight ", weighing.grammar as usize);
         }
     }
-    text(b"\n");
+    text(out, b"\n");
 }
 
 // frame = uint(8, var(len, 1~8)) & uint(8, ~){len};
-fn bench_g() {
+fn bench_g(out: Stdout) {
     let mut table = [0u32; 2624];
     header(&mut table, 1, 4);
     construct(&mut table, 0, 2, 4, 0);
     construct(&mut table, 1, 8, 1, 8);
     construct(&mut table, 2, 3, 2, 4);
     construct(&mut table, 3, 8, 1, 8);
-    report(b"G", &table);
+    report(out, b"G", &table);
 }
 
 // a = "x" & b; b = a;
-fn bench_k11() {
+fn bench_k11(out: Stdout) {
     let mut table = [0u32; 2624];
     header(&mut table, 2, 4);
     rule(&mut table, 1, 3);
@@ -57,11 +58,11 @@ fn bench_k11() {
     construct(&mut table, 1, 6, 1, 1);
     construct(&mut table, 2, 5, 1, 1);
     construct(&mut table, 3, 5, 1, 0);
-    report(b"K11", &table);
+    report(out, b"K11", &table);
 }
 
 // a = b; b = c; c = b;
-fn later_cycle() {
+fn later_cycle(out: Stdout) {
     let mut table = [0u32; 2624];
     header(&mut table, 3, 3);
     rule(&mut table, 1, 1);
@@ -69,11 +70,11 @@ fn later_cycle() {
     construct(&mut table, 0, 5, 1, 1);
     construct(&mut table, 1, 5, 1, 2);
     construct(&mut table, 2, 5, 1, 1);
-    report(b"a cycle that the start rule is not on", &table);
+    report(out, b"a cycle that the start rule is not on", &table);
 }
 
 // r0 = r1 & r1; r1 = r2 & r2; … ; the last is a literal.
-fn chain(rules: usize) {
+fn chain(out: Stdout, rules: usize) {
     let mut table = [0u32; 2624];
     let mut r = 0;
     while r < 63 {
@@ -91,16 +92,16 @@ fn chain(rules: usize) {
             header(&mut table, rules as u32, 3 * (rules as u32) - 2);
         }
     }
-    number(b"rules ", rules);
-    report(b", each used twice by the one before", &table);
+    number(out, b"rules ", rules);
+    report(out, b", each used twice by the one before", &table);
 }
 
-pub fn small_tables() {
-    bench_g();
-    bench_k11();
-    later_cycle();
-    chain(3);
-    chain(15);
-    chain(16);
-    chain(40);
+pub fn small_tables(out: Stdout) {
+    bench_g(out);
+    bench_k11(out);
+    later_cycle(out);
+    chain(out, 3);
+    chain(out, 15);
+    chain(out, 16);
+    chain(out, 40);
 }

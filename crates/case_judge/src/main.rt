@@ -3,72 +3,73 @@
 #![tactic(auto)]
 
 use basis::TABLE_WORDS;
-use libc::STDOUT_FILENO;
+use std::io::Stdout;
 use table_conflicts::Clash;
 use table_first_follow::FAMILY_WORDS;
 use table_judge::Judgement;
 use table_reach::Recursion;
 
-fn text(bytes: &[u8]) {
-    io::write_all(STDOUT_FILENO, bytes);
+fn text(out: Stdout, bytes: &[u8]) {
+    let _ = out.write_all(bytes);
 }
 
-fn number(before: &[u8], n: usize) {
-    text(before);
-    io::print_decimal(STDOUT_FILENO, n as u64);
+fn number(out: Stdout, before: &[u8], n: usize) {
+    text(out, before);
+    let _ = out.print(n as u64);
 }
 
-fn show_clash(clash: Clash) {
+fn show_clash(out: Stdout, clash: Clash) {
     match clash {
-        Clash::None => text(b" without a clash"),
+        Clash::None => text(out, b" without a clash"),
         Clash::Branches {
             window,
             first,
             second,
         } => {
-            number(b", window ", window);
-            number(b", branches ", first);
-            number(b" and ", second);
+            number(out, b", window ", window);
+            number(out, b", branches ", first);
+            number(out, b" and ", second);
         }
-        Clash::Passes { window } => number(b", window ", window),
+        Clash::Passes { window } => number(out, b", window ", window),
     }
 }
 
-fn show_judgement(judgement: Judgement) {
+fn show_judgement(out: Stdout, judgement: Judgement) {
     match judgement {
-        Judgement::EmptyBody { construct } => number(b" 9 at construct ", construct),
+        Judgement::EmptyBody { construct } => number(out, b" 9 at construct ", construct),
         Judgement::Conflict { construct, clash } => {
-            number(b" 10 at construct ", construct);
-            show_clash(clash);
+            number(out, b" 10 at construct ", construct);
+            show_clash(out, clash);
         }
-        Judgement::Overweight => text(b" 11"),
-        Judgement::Unreached { rule } => number(b" 12 at rule ", rule),
-        Judgement::NoValue { construct } => number(b" 13 at construct ", construct),
-        Judgement::Passes { weight } => number(b" weight ", weight),
+        Judgement::Overweight => text(out, b" 11"),
+        Judgement::Unreached { rule } => number(out, b" 12 at rule ", rule),
+        Judgement::NoValue { construct } => number(out, b" 13 at construct ", construct),
+        Judgement::Passes { weight } => number(out, b" weight ", weight),
     }
 }
 
 // What is wrong with words that do not pass 5 to 8.
-fn show_form(table: &[u32; TABLE_WORDS]) {
+fn show_form(out: Stdout, table: &[u32; TABLE_WORDS]) {
     if table_wellformed::laid(&table[..]) {
         match table_reach::recursive_rule(&table[..]) {
-            Recursion::Rule(rule) => number(b" 7 at rule ", rule),
+            Recursion::Rule(rule) => number(out, b" 7 at rule ", rule),
             Recursion::None => number(
+                out,
                 b" 8 at construct ",
                 table_sizes::first_oversized(&table[..]),
             ),
         }
     } else {
-        text(b" not laid out");
+        text(out, b" not laid out");
     }
 }
 
-fn judge(table: &mut [u32; TABLE_WORDS]) {
+fn judge(out: Stdout, table: &mut [u32; TABLE_WORDS]) {
     let mut first = [0u64; FAMILY_WORDS];
     if table_judge::formed(&table[..]) {
-        show_judgement(table_fill::complete(&mut table[..], &mut first));
+        show_judgement(out, table_fill::complete(&mut table[..], &mut first));
     } else {
-        show_form(table);
+        show_form(out, table);
     }
 }
 
@@ -104,14 +105,14 @@ fn changes(table: &mut [u32; TABLE_WORDS]) -> usize {
     still
 }
 
-fn show(name: &[u8], table: &mut [u32; TABLE_WORDS]) {
-    text(name);
-    judge(table);
+fn show(out: Stdout, name: &[u8], table: &mut [u32; TABLE_WORDS]) {
+    text(out, name);
+    judge(out, table);
     if table_judge::sound::sound(&table[..]) {
-        number(b"; sound, and still with ", changes(table));
-        text(b" of 16384 words one more");
+        number(out, b"; sound, and still with ", changes(table));
+        text(out, b" of 16384 words one more");
     }
-    text(b"\n");
+    text(out, b"\n");
 }
 
 fn clear(table: &mut [u32; TABLE_WORDS]) {
@@ -123,57 +124,58 @@ fn clear(table: &mut [u32; TABLE_WORDS]) {
 }
 
 // 12 and 13.
-fn show_strict(table: &mut [u32; TABLE_WORDS]) {
+fn show_strict(out: Stdout, table: &mut [u32; TABLE_WORDS]) {
     clear(table);
     case_tables::unreached(table);
-    show(b"unreached:", table);
+    show(out, b"unreached:", table);
     clear(table);
     case_tables::valueless(table);
-    show(b"valueless:", table);
+    show(out, b"valueless:", table);
     clear(table);
     case_tables::valueless_sint(table);
-    show(b"valueless sint:", table);
+    show(out, b"valueless sint:", table);
 }
 
 // 64 bits, a sign and a number past 32 bits.
-fn show_wide(table: &mut [u32; TABLE_WORDS]) {
+fn show_wide(out: Stdout, table: &mut [u32; TABLE_WORDS]) {
     clear(table);
     case_tables::wide(table);
-    show(b"wide:", table);
+    show(out, b"wide:", table);
 }
 
-fn main() {
+fn main(rt: HostRuntime) {
+    let out = rt.stdout();
     let mut table = [0u32; TABLE_WORDS];
-    show(b"nothing:", &mut table);
+    show(out, b"nothing:", &mut table);
     case_tables::g(&mut table);
-    show(b"G:", &mut table);
+    show(out, b"G:", &mut table);
     clear(&mut table);
     case_tables::k5(&mut table);
-    show(b"K5:", &mut table);
+    show(out, b"K5:", &mut table);
     clear(&mut table);
     case_tables::k6(&mut table);
-    show(b"K6:", &mut table);
+    show(out, b"K6:", &mut table);
     clear(&mut table);
     case_tables::k8(&mut table);
-    show(b"K8:", &mut table);
+    show(out, b"K8:", &mut table);
     clear(&mut table);
     case_tables::k9(&mut table);
-    show(b"K9:", &mut table);
+    show(out, b"K9:", &mut table);
     clear(&mut table);
     case_tables::k10(&mut table);
-    show(b"K10:", &mut table);
+    show(out, b"K10:", &mut table);
     clear(&mut table);
     case_tables::k11(&mut table);
-    show(b"K11:", &mut table);
+    show(out, b"K11:", &mut table);
     clear(&mut table);
     case_tables::large(&mut table);
-    show(b"large:", &mut table);
+    show(out, b"large:", &mut table);
     clear(&mut table);
     case_tables::unclear(&mut table);
-    show(b"unclear:", &mut table);
+    show(out, b"unclear:", &mut table);
     clear(&mut table);
     case_tables::heavy(&mut table);
-    show(b"heavy:", &mut table);
-    show_strict(&mut table);
-    show_wide(&mut table);
+    show(out, b"heavy:", &mut table);
+    show_strict(out, &mut table);
+    show_wide(out, &mut table);
 }

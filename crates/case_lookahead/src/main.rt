@@ -1,48 +1,49 @@
 // The lookahead sets on the cases that document 01 singles out. A set is written as its eight words, word 0 first.
 #![tactic(auto)]
 
-use libc::STDOUT_FILENO;
 use lookahead::{Common, Set, passes, spans};
+use std::io::Stdout;
 
-fn line(text: &[u8]) {
-    io::write_all(STDOUT_FILENO, text);
+fn line(out: Stdout, text: &[u8]) {
+    let _ = out.write_all(text);
 }
 
-fn say(text: &[u8], n: usize) {
-    line(text);
-    line(b" ");
-    io::print_decimal(STDOUT_FILENO, n as u64);
-    line(b"\n");
+fn say(out: Stdout, text: &[u8], n: usize) {
+    line(out, text);
+    line(out, b" ");
+    let _ = out.print(n as u64);
+    line(out, b"\n");
 }
 
-fn ask(text: &[u8], answer: bool) {
-    line(text);
+fn ask(out: Stdout, text: &[u8], answer: bool) {
+    line(out, text);
     if answer {
-        line(b" yes\n");
+        line(out, b" yes\n");
     } else {
-        line(b" no\n");
+        line(out, b" no\n");
     }
 }
 
-fn show(text: &[u8], set: Set) {
+fn show(out: Stdout, text: &[u8], set: Set) {
     let words = set.words;
-    line(text);
+    line(out, text);
     let mut i = 0;
     while i < 8 {
-        line(b" ");
-        io::print_hex(STDOUT_FILENO, words[i], 1);
+        line(out, b" ");
+        let word = words[i];
+        let _ = print!(out; "{word:x}");
         i += 1;
     }
-    line(b"\n");
+    line(out, b"\n");
 }
 
-fn least(text: &[u8], a: Set, b: Set) {
+fn least(out: Stdout, text: &[u8], a: Set, b: Set) {
     match lookahead::least_common(a, b) {
         Common::Nothing => {
-            line(text);
-            line(b" none\n");
+            line(out, text);
+            line(out, b" none\n");
         }
-        Common::Least(n) => say(text, n),
+        Common::Least(n) => say(out, text, n),
     }
 }
 
@@ -57,137 +58,181 @@ fn field(value: u32, width: u32) -> Set {
     lookahead::single(lookahead::number_of(value, width))
 }
 
-fn numbers() {
-    say(b"number of the empty string", lookahead::number_of(0, 0));
-    say(b"number of 0010", lookahead::number_of(2, 4));
-    say(b"number of byte 41", lookahead::number_of(0x41, 8));
-    say(b"number of 4142, cut", lookahead::number_of(0x4142, 16));
+fn numbers(out: Stdout) {
+    say(
+        out,
+        b"number of the empty string",
+        lookahead::number_of(0, 0),
+    );
+    say(out, b"number of 0010", lookahead::number_of(2, 4));
+    say(out, b"number of byte 41", lookahead::number_of(0x41, 8));
+    say(
+        out,
+        b"number of 4142, cut",
+        lookahead::number_of(0x4142, 16),
+    );
 }
 
 // K5: "AB" and "AC" share their first byte.
-fn conflicts() {
+fn conflicts(out: Stdout) {
     least(
+        out,
         b"least common of AB and AC",
         field(0x4142, 16),
         field(0x4143, 16),
     );
     least(
+        out,
         b"least common of AB and BC",
         field(0x4142, 16),
         field(0x4243, 16),
     );
     let some = lookahead::union(field(2, 4), field(0x41, 8));
-    least(b"least common of 0010, byte 41 and all", some, full());
-    least(b"least common of all and all", full(), full());
-    least(b"least common of all and none", full(), lookahead::empty());
+    least(out, b"least common of 0010, byte 41 and all", some, full());
+    least(out, b"least common of all and all", full(), full());
+    least(
+        out,
+        b"least common of all and none",
+        full(),
+        lookahead::empty(),
+    );
 }
 
-fn joins() {
+fn joins(out: Stdout) {
     let none = lookahead::empty();
     let unit = lookahead::single(1);
-    show(b"none joined with all:", lookahead::join(none, full()));
-    show(b"all joined with none:", lookahead::join(full(), none));
+    show(out, b"none joined with all:", lookahead::join(none, full()));
+    show(out, b"all joined with none:", lookahead::join(full(), none));
     show(
+        out,
         b"empty string joined with all:",
         lookahead::join(unit, full()),
     );
     show(
+        out,
         b"all joined with empty string:",
         lookahead::join(full(), unit),
     );
-    show(b"all joined with all:", lookahead::join(full(), full()));
     show(
+        out,
+        b"all joined with all:",
+        lookahead::join(full(), full()),
+    );
+    show(
+        out,
         b"0010 joined with 0010:",
         lookahead::join(field(2, 4), field(2, 4)),
     );
-    show(b"byte 22:", field(0x22, 8));
+    show(out, b"byte 22:", field(0x22, 8));
     show(
+        out,
         b"byte 41 joined with all:",
         lookahead::join(field(0x41, 8), full()),
     );
     show(
+        out,
         b"0010 joined with byte 41, cut:",
         lookahead::join(field(2, 4), field(0x41, 8)),
     );
-    show(b"byte 24:", field(0x24, 8));
+    show(out, b"byte 24:", field(0x24, 8));
     show(
+        out,
         b"0010 joined with all:",
         lookahead::join(field(2, 4), full()),
     );
 }
 
 // Bit 0 of word 0 names no string.
-fn tests() {
+fn tests(out: Stdout) {
     let stray = Set {
         words: [1, 0, 0, 0, 0, 0, 0, 0],
     };
     ask(
+        out,
         b"no strings where only the unused bit is set:",
         lookahead::is_empty(stray),
     );
     ask(
+        out,
         b"same words as the empty set:",
         lookahead::equal(stray, lookahead::empty()),
     );
     ask(
+        out,
         b"the same after a union:",
         lookahead::equal(lookahead::union(stray, stray), lookahead::empty()),
     );
-    ask(b"empty string in all:", lookahead::has_empty_string(full()));
     ask(
+        out,
+        b"empty string in all:",
+        lookahead::has_empty_string(full()),
+    );
+    ask(
+        out,
         b"empty string in byte 41:",
         lookahead::has_empty_string(field(0x41, 8)),
     );
-    ask(b"18 in 0010:", lookahead::contains(field(2, 4), 18));
-    ask(b"0 in all:", lookahead::contains(full(), 0));
-    ask(b"512 in all:", lookahead::contains(full(), 512));
+    ask(out, b"18 in 0010:", lookahead::contains(field(2, 4), 18));
+    ask(out, b"0 in all:", lookahead::contains(full(), 0));
+    ask(out, b"512 in all:", lookahead::contains(full(), 512));
     ask(
+        out,
         b"all joined with all is all:",
         lookahead::equal(lookahead::join(full(), full()), full()),
     );
 }
 
-fn ranges() {
+fn ranges(out: Stdout) {
     let a = lookahead::number_of(0x61, 8);
     let z = lookahead::number_of(0x7a, 8);
-    show(b"a to z:", spans::span(a, z));
-    show(b"strings of 4 bits:", spans::span(16, 31));
+    show(out, b"a to z:", spans::span(a, z));
+    show(out, b"strings of 4 bits:", spans::span(16, 31));
     ask(
+        out,
         b"strings of any number are all:",
         lookahead::equal(spans::span(0, 4000), full()),
     );
     ask(
+        out,
         b"no string from 5 to 4:",
         lookahead::is_empty(spans::span(5, 4)),
     );
 }
 
 // Past 8 passes nothing is added, with or without the empty string in the body.
-fn repetitions() {
+fn repetitions(out: Stdout) {
     let body = field(1, 4);
     let optional = lookahead::union(lookahead::single(1), field(1, 1));
-    show(b"0001, no pass or more:", passes::at_least(body, 0));
-    show(b"0001, one pass or two:", passes::within(body, 1, 2));
-    show(b"1 or nothing, 8 passes:", passes::exactly(optional, 8));
+    show(out, b"0001, no pass or more:", passes::at_least(body, 0));
+    show(out, b"0001, one pass or two:", passes::within(body, 1, 2));
+    show(
+        out,
+        b"1 or nothing, 8 passes:",
+        passes::exactly(optional, 8),
+    );
     ask(
+        out,
         b"100 passes of it are 8:",
         lookahead::equal(passes::exactly(optional, 100), passes::exactly(optional, 8)),
     );
     ask(
+        out,
         b"0001, 9 to 20 passes are 8:",
         lookahead::equal(passes::within(body, 9, 20), passes::exactly(body, 8)),
     );
     ask(
+        out,
         b"from 3 to 2 passes is nothing:",
         lookahead::is_empty(passes::within(body, 3, 2)),
     );
 }
 
-fn main() {
-    numbers();
-    conflicts();
-    ranges();
-    joins();
-    repetitions();
-    tests();
+fn main(rt: HostRuntime) {
+    let out = rt.stdout();
+    numbers(out);
+    conflicts(out);
+    ranges(out);
+    joins(out);
+    repetitions(out);
+    tests(out);
 }

@@ -5,7 +5,8 @@ mod granting;
 mod opening;
 mod printing;
 
-fn main() {
-    opening::openings();
-    granting::grants();
+fn main(rt: HostRuntime) {
+    let out = rt.stdout();
+    opening::openings(out);
+    granting::grants(out);
 }

@@ -1,29 +1,29 @@
 // What both parts print with.
-use libc::STDOUT_FILENO;
+use std::io::Stdout;
 
-pub fn text(bytes: &[u8]) {
-    io::write_all(STDOUT_FILENO, bytes);
+pub fn text(out: Stdout, bytes: &[u8]) {
+    let _ = out.write_all(bytes);
 }
 
-pub fn number(n: u64) {
-    io::print_decimal(STDOUT_FILENO, n);
+pub fn number(out: Stdout, n: u64) {
+    let _ = out.print(n);
 }
 
 // A whole number with its sign.
-pub fn whole(z: i64) {
+pub fn whole(out: Stdout, z: i64) {
     if z < 0 {
-        text(b"-");
+        text(out, b"-");
     }
-    number(term_integers::magnitude(z));
+    number(out, term_integers::magnitude(z));
 }
 
-pub fn show_verdict(v: u32) {
+pub fn show_verdict(out: Stdout, v: u32) {
     match v {
-        0 => text(b"undecided"),
-        1 => text(b"match"),
-        2 => text(b"no match"),
-        3 => text(b"closed"),
-        4 => text(b"broken"),
-        _ => text(b"unknown"),
+        0 => text(out, b"undecided"),
+        1 => text(out, b"match"),
+        2 => text(out, b"no match"),
+        3 => text(out, b"closed"),
+        4 => text(out, b"broken"),
+        _ => text(out, b"unknown"),
     }
 }

@@ -10,17 +10,18 @@ use report_quoting::quoting::{Part, quote};
 use report_wording::lines;
 use report_wording::writing::{number, say};
 use text_header::bytes::either;
+use std::io::Stdout;
 
-fn field_at(grammar: &[u8], table: &[u32], construct: usize, at: usize) {
-    number(b"    construct ", construct);
-    say(b", ");
-    lines::place(grammar, at);
-    say(b":  ");
-    quote(grammar, at, Part::Field);
+fn field_at(out: Stdout, grammar: &[u8], table: &[u32], construct: usize, at: usize) {
+    number(out, b"    construct ", construct);
+    say(out, b", ");
+    lines::place(out, grammar, at);
+    say(out, b":  ");
+    quote(out, grammar, at, Part::Field);
     if start_of(table, construct) == 0 {
-        say(b"  (never taken)");
+        say(out, b"  (never taken)");
     }
-    say(b"\n");
+    say(out, b"\n");
 }
 
 // A literal, a range, a uint or a sint.
@@ -30,27 +31,27 @@ fn is_field(kind: usize) -> bool
     either(kind == 6, either(kind == 7, kind == 8))
 }
 
-fn field_of(grammar: &[u8], table: &[u32], construct: usize, kind: usize, at: usize) {
+fn field_of(out: Stdout, grammar: &[u8], table: &[u32], construct: usize, kind: usize, at: usize) {
     if is_field(kind) {
-        field_at(grammar, table, construct, at);
+        field_at(out, grammar, table, construct, at);
     }
 }
 
-fn field(grammar: &[u8], table: &[u32], construct: usize) {
+fn field(out: Stdout, grammar: &[u8], table: &[u32], construct: usize) {
     match locate(grammar, Query::Construct(construct)) {
         Located::Construct {
             place,
             kind,
             count: _,
-        } => field_of(grammar, table, construct, kind, place),
+        } => field_of(out, grammar, table, construct, kind, place),
         _ => {}
     }
 }
 
-fn fields(grammar: &[u8], table: &[u32], count: usize) {
+fn fields(out: Stdout, grammar: &[u8], table: &[u32], count: usize) {
     let mut i = 0;
     while i < count {
-        field(grammar, table, i);
+        field(out, grammar, table, i);
         i += 1;
     }
 }
@@ -79,19 +80,19 @@ fn steps(weight: usize) -> usize
     0
 }
 
-fn bound(weight: usize) {
-    number(b"A frame of 1024 bytes takes at most ", steps(weight));
-    number(b" steps (", weight);
-    say(b" x 8193).\n");
+fn bound(out: Stdout, weight: usize) {
+    number(out, b"A frame of 1024 bytes takes at most ", steps(weight));
+    number(out, b" steps (", weight);
+    say(out, b" x 8193).\n");
 }
 
-pub fn admitted(grammar: &[u8], weight: usize) {
+pub fn admitted(out: Stdout, grammar: &[u8], weight: usize) {
     let count = constructs(grammar);
-    number(b"admitted, weight ", weight);
-    number(b", constructs ", count);
-    say(b"\n");
-    bound(weight);
-    say(b"The fields in the text's order, with the numbers that a reading gives:\n");
+    number(out, b"admitted, weight ", weight);
+    number(out, b", constructs ", count);
+    say(out, b"\n");
+    bound(out, weight);
+    say(out, b"The fields in the text's order, with the numbers that a reading gives:\n");
     let words = sets::encoded(grammar).words;
-    fields(grammar, &words, count);
+    fields(out, grammar, &words, count);
 }

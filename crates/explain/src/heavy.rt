@@ -7,22 +7,23 @@ use report_measures::words::number_at;
 use report_quoting::quoting::token;
 use report_wording::lines;
 use report_wording::writing::{number, say};
+use std::io::Stdout;
 
-fn named(grammar: &[u8], at: usize) {
-    say(b":  the rule ");
-    token(grammar, at);
-    say(b", ");
-    lines::place(grammar, at);
-    say(b"\n");
+fn named(out: Stdout, grammar: &[u8], at: usize) {
+    say(out, b":  the rule ");
+    token(out, grammar, at);
+    say(out, b", ");
+    lines::place(out, grammar, at);
+    say(out, b"\n");
 }
 
-fn one(grammar: &[u8], table: &[u32], weights: &[usize], rule: usize) {
+fn one(out: Stdout, grammar: &[u8], table: &[u32], weights: &[usize], rule: usize) {
     let body = body_of(table, rule);
-    number(b"    weight ", number_at(weights, body));
-    named(grammar, owner(grammar, place_of(grammar, body)));
+    number(out, b"    weight ", number_at(weights, body));
+    named(out, grammar, owner(grammar, place_of(grammar, body)));
 }
 
-fn heaviest(grammar: &[u8], table: &[u32], weights: &[usize]) {
+fn heaviest(out: Stdout, grammar: &[u8], table: &[u32], weights: &[usize]) {
     let mut last: usize = 64;
     let mut n: usize = 0;
     while n < 4 {
@@ -30,7 +31,7 @@ fn heaviest(grammar: &[u8], table: &[u32], weights: &[usize]) {
         if 63 < last {
             return;
         }
-        one(grammar, table, weights, last);
+        one(out, grammar, table, weights, last);
         n += 1;
     }
 }
@@ -42,19 +43,19 @@ fn one_more(n: usize) -> usize {
     n
 }
 
-fn told(grammar: &[u8], table: &[u32]) {
+fn told(out: Stdout, grammar: &[u8], table: &[u32]) {
     let mut sizes = [0usize; 256];
     weights(table, &mut sizes);
-    number(
+    number(out, 
         b"The grammar is too heavy: its weight is ",
         one_more(number_at(&sizes, 0)),
     );
-    report_advice::rest::weight();
-    heaviest(grammar, table, &sizes);
-    report_advice::rest::change_weight();
+    report_advice::rest::weight(out);
+    heaviest(out, grammar, table, &sizes);
+    report_advice::rest::change_weight(out);
 }
 
-pub fn explained(grammar: &[u8]) {
+pub fn explained(out: Stdout, grammar: &[u8]) {
     let words = sets::encoded(grammar).words;
-    told(grammar, &words);
+    told(out, grammar, &words);
 }

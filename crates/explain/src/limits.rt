@@ -1,37 +1,38 @@
 // Refusal 5: which limit is passed. More than one may be, in the same rule.
 use report_places::{Located, Query, locate};
+use std::io::Stdout;
 
-fn more(rules: usize, constructs: usize) {
+fn more(out: Stdout, rules: usize, constructs: usize) {
     if 64 < rules {
-        report_advice::limits::rules();
+        report_advice::limits::rules(out);
     }
     if 256 < constructs {
-        report_advice::limits::constructs();
+        report_advice::limits::constructs(out);
     }
 }
 
-fn within(terms: usize, variables: usize) {
+fn within(out: Stdout, terms: usize, variables: usize) {
     if 1024 < terms {
-        report_advice::limits::terms();
+        report_advice::limits::terms(out);
     }
     if 64 < variables {
-        report_advice::limits::variables();
+        report_advice::limits::variables(out);
     }
 }
 
-fn totals(rules: usize, constructs: usize, terms: usize, variables: usize) {
-    more(rules, constructs);
-    within(terms, variables);
+fn totals(out: Stdout, rules: usize, constructs: usize, terms: usize, variables: usize) {
+    more(out, rules, constructs);
+    within(out, terms, variables);
 }
 
-pub fn passed(grammar: &[u8], at: usize) {
+pub fn passed(out: Stdout, grammar: &[u8], at: usize) {
     match locate(grammar, Query::Rule(at)) {
         Located::Rule {
             rules,
             constructs,
             terms,
             variables,
-        } => totals(rules, constructs, terms, variables),
+        } => totals(out, rules, constructs, terms, variables),
         _ => {}
     }
 }

@@ -16,118 +16,120 @@ mod warnings;
 use report_wording::writing::{number, say};
 use table_conflicts::Clash;
 use text_header::spans::spells;
+use std::io::Stdout;
 
 // The last line of each report is for scripts.
-fn status(word: &[u8], n: usize, middle: &[u8], m: usize) {
-    number(word, n);
-    number(middle, m);
-    say(b"\n");
+fn status(out: Stdout, word: &[u8], n: usize, middle: &[u8], m: usize) {
+    number(out, word, n);
+    number(out, middle, m);
+    say(out, b"\n");
 }
 
-fn admitted(grammar: &[u8], weight: usize) {
-    fields::admitted(grammar, weight);
-    warned(grammar);
-    number(b"admitted weight ", weight);
-    say(b"\n");
+fn admitted(out: Stdout, grammar: &[u8], weight: usize) {
+    fields::admitted(out, grammar, weight);
+    warned(out, grammar);
+    number(out, b"admitted weight ", weight);
+    say(out, b"\n");
 }
 
-fn warned(grammar: &[u8]) {
+fn warned(out: Stdout, grammar: &[u8]) {
     let words = report_listing::sets::encoded(grammar).words;
-    warnings::told(grammar, &words);
+    warnings::told(out, grammar, &words);
 }
 
-fn refused(grammar: &[u8], n: usize, place: usize) {
-    refusals::refused(grammar, n, place);
-    status(b"refused ", n, b" at ", place);
+fn refused(out: Stdout, grammar: &[u8], n: usize, place: usize) {
+    refusals::refused(out, grammar, n, place);
+    status(out, b"refused ", n, b" at ", place);
 }
 
-fn conflict(grammar: &[u8], place: usize, construct: usize, clash: Clash) {
-    report_clashes::clashes::conflict(grammar, place, construct, clash);
-    status(b"refused ", 10, b" at ", place);
+fn conflict(out: Stdout, grammar: &[u8], place: usize, construct: usize, clash: Clash) {
+    report_clashes::clashes::conflict(out, grammar, place, construct, clash);
+    status(out, b"refused ", 10, b" at ", place);
 }
 
-fn answered(grammar: &[u8], answer: Admission) {
+fn answered(out: Stdout, grammar: &[u8], answer: Admission) {
     match answer {
-        Admission::Admitted { weight } => admitted(grammar, weight),
-        Admission::Refused { number, place } => refused(grammar, number, place),
+        Admission::Admitted { weight } => admitted(out, grammar, weight),
+        Admission::Refused { number, place } => refused(out, grammar, number, place),
         Admission::Conflict {
             place,
             construct,
             clash,
-        } => conflict(grammar, place, construct, clash),
+        } => conflict(out, grammar, place, construct, clash),
     }
 }
 
-fn explained(grammar: &[u8]) {
+fn explained(out: Stdout, grammar: &[u8]) {
     let mut table = [0u32; 16384];
     let answer = admission_call::admit(grammar, &mut table);
-    answered(grammar, answer);
+    answered(out, grammar, answer);
 }
 
 // One byte more than a grammar may have.
-fn read(fd: i32) {
+fn read(out: Stdout, fd: i32) {
     let mut buffer = [0u8; 8193];
     let n = io::read_full(fd, &mut buffer);
-    explained(&buffer[..n]);
+    explained(out, &buffer[..n]);
 }
 
-fn file(path: &[u8]) {
+fn file(out: Stdout, path: &[u8]) {
     let fd = os::open_read(path);
     if fd < 0 {
         os::fail(path);
-        say(path);
-        say(b": this file cannot be opened\nunread\n");
+        say(out, path);
+        say(out, b": this file cannot be opened\nunread\n");
         return;
     }
-    say(path);
-    say(b": ");
-    read(fd);
+    say(out, path);
+    say(out, b": ");
+    read(out, fd);
     libc::close(fd);
 }
 
-fn help() {
-    say(b"usage: explain [FILE]...\n");
-    say(b"Says of each grammar FILE whether it is admitted; if not, what is wrong with\n");
-    say(b"it, where, and what to change. Without FILE it reads kiosk.dogma; - is standard\n");
-    say(b"input. The last line of each report is one of\n");
-    say(b"    admitted weight W\n");
-    say(b"    refused N at P     N: number of refusal, P: place in bytes, from 0\n");
-    say(b"    unread             the file cannot be opened\n");
-    say(b"tools/explain turns these into the exit statuses 0, 1 and 2.\n");
+fn help(out: Stdout) {
+    say(out, b"usage: explain [FILE]...\n");
+    say(out, b"Says of each grammar FILE whether it is admitted; if not, what is wrong with\n");
+    say(out, b"it, where, and what to change. Without FILE it reads kiosk.dogma; - is standard\n");
+    say(out, b"input. The last line of each report is one of\n");
+    say(out, b"    admitted weight W\n");
+    say(out, b"    refused N at P     N: number of refusal, P: place in bytes, from 0\n");
+    say(out, b"    unread             the file cannot be opened\n");
+    say(out, b"tools/explain turns these into the exit statuses 0, 1 and 2.\n");
 }
 
-fn word(path: &[u8]) {
+fn word(out: Stdout, path: &[u8]) {
     if spells(false, path, b"--help") {
-        help();
+        help(out);
         return;
     }
     if spells(false, path, b"-") {
-        say(b"standard input: ");
-        read(libc::STDIN_FILENO);
+        say(out, b"standard input: ");
+        read(out, libc::STDIN_FILENO);
         return;
     }
-    file(path);
+    file(out, path);
 }
 
-fn each(i: usize) {
+fn each(out: Stdout, i: usize) {
     let mut path = io::buffer();
     let n = os::arg(i, &mut path);
-    word(&path[..n]);
+    word(out, &path[..n]);
 }
 
-fn every(count: usize) {
+fn every(out: Stdout, count: usize) {
     let mut i: usize = 1;
     while i < count {
-        each(i);
+        each(out, i);
         i += 1;
     }
 }
 
-fn main() {
+fn main(rt: HostRuntime) {
+    let out = rt.stdout();
     let count = os::arg_count();
     if count < 2 {
-        file(b"kiosk.dogma");
+        file(out, b"kiosk.dogma");
         return;
     }
-    every(count);
+    every(out, count);
 }

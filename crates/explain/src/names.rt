@@ -10,6 +10,7 @@ use report_wording::writing::say;
 use text_header::spans::span;
 use text_header::{Class, Heading};
 use text_tokens::names::reserved;
+use std::io::Stdout;
 
 fn is_reserved(grammar: &[u8], start: usize, end: usize) -> bool {
     if start <= end {
@@ -20,94 +21,94 @@ fn is_reserved(grammar: &[u8], start: usize, end: usize) -> bool {
     false
 }
 
-fn double(grammar: &[u8], at: usize) {
-    report_advice::names::double();
-    part_at(grammar, at, Part::Whole);
-    report_advice::names::change_double();
+fn double(out: Stdout, grammar: &[u8], at: usize) {
+    report_advice::names::double(out);
+    part_at(out, grammar, at, Part::Whole);
+    report_advice::names::change_double(out);
 }
 
-fn variable(grammar: &[u8], at: usize) {
-    report_advice::names::variable();
-    lines::shown(grammar, at);
-    report_advice::names::change_variable();
+fn variable(out: Stdout, grammar: &[u8], at: usize) {
+    report_advice::names::variable(out);
+    lines::shown(out, grammar, at);
+    report_advice::names::change_variable(out);
 }
 
-fn twice(grammar: &[u8], at: usize) {
-    report_advice::names::twice();
-    lines::shown(grammar, at);
-    report_advice::names::change_twice();
+fn twice(out: Stdout, grammar: &[u8], at: usize) {
+    report_advice::names::twice(out);
+    lines::shown(out, grammar, at);
+    report_advice::names::change_twice(out);
 }
 
-fn later(grammar: &[u8], at: usize) {
-    report_advice::names::later();
-    lines::shown(grammar, at);
-    report_advice::names::change_later();
+fn later(out: Stdout, grammar: &[u8], at: usize) {
+    report_advice::names::later(out);
+    lines::shown(out, grammar, at);
+    report_advice::names::change_later(out);
 }
 
-fn rule(grammar: &[u8], at: usize) {
-    report_advice::names::rule();
-    part_at(grammar, at, Part::Whole);
-    report_advice::names::change_unbound();
+fn rule(out: Stdout, grammar: &[u8], at: usize) {
+    report_advice::names::rule(out);
+    part_at(out, grammar, at, Part::Whole);
+    report_advice::names::change_unbound(out);
 }
 
-fn elsewhere(grammar: &[u8], at: usize) {
-    report_advice::names::elsewhere();
-    lines::shown(grammar, at);
-    report_advice::names::change_elsewhere();
+fn elsewhere(out: Stdout, grammar: &[u8], at: usize) {
+    report_advice::names::elsewhere(out);
+    lines::shown(out, grammar, at);
+    report_advice::names::change_elsewhere(out);
 }
 
-fn meant(grammar: &[u8], at: usize, near: usize) {
+fn meant(out: Stdout, grammar: &[u8], at: usize, near: usize) {
     if near == at {
         return;
     }
-    say(b"Is ");
-    token(grammar, near);
-    say(b" meant, of ");
-    lines::place(grammar, near);
-    say(b"?\n");
+    say(out, b"Is ");
+    token(out, grammar, near);
+    say(out, b" meant, of ");
+    lines::place(out, grammar, near);
+    say(out, b"?\n");
 }
 
 // A name that is nearly the one at the place.
-fn nearly(grammar: &[u8], at: usize, variable: bool) {
+fn nearly(out: Stdout, grammar: &[u8], at: usize, variable: bool) {
     match text_header::header::header(grammar) {
-        Heading::Rules(base) => meant(grammar, at, nearest(grammar, base, at, variable)),
+        Heading::Rules(base) => meant(out, grammar, at, nearest(grammar, base, at, variable)),
         Heading::Wrong(_) => {}
     }
 }
 
-fn no_rule(grammar: &[u8], at: usize) {
-    report_advice::names::no_rule();
-    nearly(grammar, at, false);
-    report_advice::names::change_no_rule();
+fn no_rule(out: Stdout, grammar: &[u8], at: usize) {
+    report_advice::names::no_rule(out);
+    nearly(out, grammar, at, false);
+    report_advice::names::change_no_rule(out);
 }
 
-fn no_variable(grammar: &[u8], at: usize) {
-    report_advice::names::no_variable();
-    nearly(grammar, at, true);
-    report_advice::names::change_unbound();
+fn no_variable(out: Stdout, grammar: &[u8], at: usize) {
+    report_advice::names::no_variable(out);
+    nearly(out, grammar, at, true);
+    report_advice::names::change_unbound(out);
 }
 
-fn told(grammar: &[u8], name: usize, fault: Fault) {
+fn told(out: Stdout, grammar: &[u8], name: usize, fault: Fault) {
     match fault {
-        Fault::Double(at) => double(grammar, at),
-        Fault::NoRule => no_rule(grammar, name),
-        Fault::Variable(at) => variable(grammar, at),
-        Fault::Twice(at) => twice(grammar, at),
-        Fault::Misplaced => report_advice::names::misplaced(),
-        Fault::Later(at) => later(grammar, at),
-        Fault::Rule(at) => rule(grammar, at),
-        Fault::Elsewhere(at) => elsewhere(grammar, at),
-        Fault::NoVariable => no_variable(grammar, name),
+        Fault::Double(at) => double(out, grammar, at),
+        Fault::NoRule => no_rule(out, grammar, name),
+        Fault::Variable(at) => variable(out, grammar, at),
+        Fault::Twice(at) => twice(out, grammar, at),
+        Fault::Misplaced => report_advice::names::misplaced(out),
+        Fault::Later(at) => later(out, grammar, at),
+        Fault::Rule(at) => rule(out, grammar, at),
+        Fault::Elsewhere(at) => elsewhere(out, grammar, at),
+        Fault::NoVariable => no_variable(out, grammar, name),
     }
 }
 
-fn fault_at(grammar: &[u8], at: usize, end: usize) {
+fn fault_at(out: Stdout, grammar: &[u8], at: usize, end: usize) {
     if is_reserved(grammar, at, end) {
-        report_advice::names::reserved();
+        report_advice::names::reserved(out);
         return;
     }
     match locate(grammar, Query::Name(at)) {
-        Located::Name(fault) => told(grammar, at, fault),
+        Located::Name(fault) => told(out, grammar, at, fault),
         _ => {}
     }
 }
@@ -137,51 +138,51 @@ fn code_at(grammar: &[u8], at: usize, end: usize) -> usize {
     }
 }
 
-fn line(grammar: &[u8], at: usize) {
-    say(b"    ");
-    lines::place(grammar, at);
-    say(b":  ");
-    token(grammar, at);
-    say(b"  ");
-    report_advice::names::brief(code_at(grammar, at, span(Class::Name, grammar, at)));
+fn line(out: Stdout, grammar: &[u8], at: usize) {
+    say(out, b"    ");
+    lines::place(out, grammar, at);
+    say(out, b":  ");
+    token(out, grammar, at);
+    say(out, b"  ");
+    report_advice::names::brief(out, code_at(grammar, at, span(Class::Name, grammar, at)));
 }
 
 fn next(grammar: &[u8], at: usize) -> usize {
     fault_from(grammar, saturating_next(at))
 }
 
-fn left(grammar: &[u8], at: usize) {
+fn left(out: Stdout, grammar: &[u8], at: usize) {
     if at < grammar.len() {
-        say(b"    and more\n");
+        say(out, b"    and more\n");
     }
 }
 
 // At most twenty from a place on.
-fn each(grammar: &[u8], first: usize) {
+fn each(out: Stdout, grammar: &[u8], first: usize) {
     let mut at = first;
     let mut n: usize = 0;
     while n < 20 {
         if grammar.len() <= at {
             return;
         }
-        line(grammar, at);
+        line(out, grammar, at);
         at = next(grammar, at);
         n += 1;
     }
-    left(grammar, at);
+    left(out, grammar, at);
 }
 
 // The names at fault after the first, a line each.
-fn further(grammar: &[u8], at: usize) {
+fn further(out: Stdout, grammar: &[u8], at: usize) {
     if at < grammar.len() {
-        say(b"Further names at fault (some may be right once others are):\n");
-        each(grammar, at);
+        say(out, b"Further names at fault (some may be right once others are):\n");
+        each(out, grammar, at);
     }
 }
 
-pub fn fault(grammar: &[u8], at: usize) {
-    say(b"The name ");
-    token(grammar, at);
-    fault_at(grammar, at, span(Class::Name, grammar, at));
-    further(grammar, next(grammar, at));
+pub fn fault(out: Stdout, grammar: &[u8], at: usize) {
+    say(out, b"The name ");
+    token(out, grammar, at);
+    fault_at(out, grammar, at, span(Class::Name, grammar, at));
+    further(out, grammar, next(grammar, at));
 }

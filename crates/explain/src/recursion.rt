@@ -7,36 +7,37 @@ use report_quoting::quoting::token;
 use report_wording::lines;
 use report_wording::writing::say;
 use table_reach::Recursion;
+use std::io::Stdout;
 
-fn step(grammar: &[u8], uses: &[usize], k: usize) {
+fn step(out: Stdout, grammar: &[u8], uses: &[usize], k: usize) {
     let at = place_of(grammar, number_at(uses, k));
-    say(b"    ");
-    lines::place(grammar, at);
-    say(b":  uses ");
-    token(grammar, at);
-    say(b"\n");
+    say(out, b"    ");
+    lines::place(out, grammar, at);
+    say(out, b":  uses ");
+    token(out, grammar, at);
+    say(out, b"\n");
 }
 
-fn steps(grammar: &[u8], uses: &[usize], count: usize) {
+fn steps(out: Stdout, grammar: &[u8], uses: &[usize], count: usize) {
     let mut k: usize = 0;
     while k < count {
-        step(grammar, uses, k);
+        step(out, grammar, uses, k);
         k += 1;
     }
 }
 
-fn from(grammar: &[u8], table: &[u32], rule: usize) {
+fn from(out: Stdout, grammar: &[u8], table: &[u32], rule: usize) {
     let mut uses = [0usize; 64];
     let count = cycle(table, rule, &mut uses);
-    steps(grammar, &uses, count);
+    steps(out, grammar, &uses, count);
 }
 
-pub fn explained(grammar: &[u8], at: usize) {
+pub fn explained(out: Stdout, grammar: &[u8], at: usize) {
     let words = sets::encoded(grammar).words;
-    report_advice::rest::recursive();
+    report_advice::rest::recursive(out);
     match table_reach::recursive_rule(&words) {
-        Recursion::Rule(rule) => from(grammar, &words, rule),
+        Recursion::Rule(rule) => from(out, grammar, &words, rule),
         Recursion::None => {}
     }
-    report_advice::rest::change_recursive(grammar, at);
+    report_advice::rest::change_recursive(out, grammar, at);
 }

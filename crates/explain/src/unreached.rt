@@ -11,6 +11,7 @@ use report_wording::lines;
 use report_wording::writing::say;
 use text_header::Heading;
 use text_names::names::same;
+use std::io::Stdout;
 
 fn next(n: usize) -> usize {
     if n < 256 {
@@ -24,34 +25,34 @@ fn name_of(grammar: &[u8], table: &[u32], rule: usize) -> usize {
     owner(grammar, place_of(grammar, body_of(table, rule)))
 }
 
-fn used_at(grammar: &[u8], at: usize) {
-    say(b"    ");
-    lines::place(grammar, at);
-    in_rule(grammar, at);
-    say(b":  ");
-    token(grammar, at);
-    say(b"\n");
+fn used_at(out: Stdout, grammar: &[u8], at: usize) {
+    say(out, b"    ");
+    lines::place(out, grammar, at);
+    in_rule(out, grammar, at);
+    say(out, b":  ");
+    token(out, grammar, at);
+    say(out, b"\n");
 }
 
-fn left(j: usize) {
+fn left(out: Stdout, j: usize) {
     if j < 256 {
-        say(b"    and more\n");
+        say(out, b"    and more\n");
     }
 }
 
 // The uses of a rule, at most twenty.
-fn uses(grammar: &[u8], table: &[u32], rule: usize) {
+fn uses(out: Stdout, grammar: &[u8], table: &[u32], rule: usize) {
     let mut j = use_from(table, rule, 0);
     let mut n: usize = 0;
     while n < 20 {
         if 255 < j {
             return;
         }
-        used_at(grammar, place_of(grammar, j));
+        used_at(out, grammar, place_of(grammar, j));
         j = use_from(table, rule, next(j));
         n += 1;
     }
-    left(j);
+    left(out, j);
 }
 
 fn is_near(grammar: &[u8], table: &[u32], marks: &[usize], at: usize, rule: usize) -> bool {
@@ -74,90 +75,90 @@ fn near_rule(grammar: &[u8], table: &[u32], marks: &[usize], at: usize) -> usize
 }
 
 // Rule `rule` has nearly the name at a place.
-fn nearly(grammar: &[u8], table: &[u32], at: usize, rule: usize) {
+fn nearly(out: Stdout, grammar: &[u8], table: &[u32], at: usize, rule: usize) {
     if 63 < rule {
         return;
     }
     let name = name_of(grammar, table, rule);
-    say(b"The rule ");
-    token(grammar, name);
-    say(b", ");
-    lines::place(grammar, name);
-    unreached::nearly(grammar, at);
-    uses(grammar, table, rule);
+    say(out, b"The rule ");
+    token(out, grammar, name);
+    say(out, b", ");
+    lines::place(out, grammar, name);
+    unreached::nearly(out, grammar, at);
+    uses(out, grammar, table, rule);
 }
 
-fn hidden_by(grammar: &[u8], at: usize, variable: usize) {
+fn hidden_by(out: Stdout, grammar: &[u8], at: usize, variable: usize) {
     if variable == at {
         return;
     }
     if same(grammar, variable, at) {
-        unreached::hidden();
-        used_at(grammar, variable);
+        unreached::hidden(out);
+        used_at(out, grammar, variable);
     }
 }
 
 // A variable of the same name.
-fn hidden(grammar: &[u8], at: usize) {
+fn hidden(out: Stdout, grammar: &[u8], at: usize) {
     match text_header::header::header(grammar) {
-        Heading::Rules(base) => hidden_by(grammar, at, nearest(grammar, base, at, true)),
+        Heading::Rules(base) => hidden_by(out, grammar, at, nearest(grammar, base, at, true)),
         Heading::Wrong(_) => {}
     }
 }
 
-fn how(grammar: &[u8], table: &[u32], rule: usize, used: bool) {
+fn how(out: Stdout, grammar: &[u8], table: &[u32], rule: usize, used: bool) {
     if used {
-        unreached::used_in_vain();
-        uses(grammar, table, rule);
+        unreached::used_in_vain(out);
+        uses(out, grammar, table, rule);
         return;
     }
-    unreached::nothing_uses();
+    unreached::nothing_uses(out);
 }
 
-fn first(grammar: &[u8], table: &[u32], marks: &[usize], rule: usize) {
+fn first(out: Stdout, grammar: &[u8], table: &[u32], marks: &[usize], rule: usize) {
     let at = name_of(grammar, table, rule);
     let used = is_used(table, rule);
-    say(b"The rule ");
-    token(grammar, at);
-    say(b" is not reached from the start rule ");
-    token(grammar, name_of(grammar, table, 0));
-    how(grammar, table, rule, used);
-    nearly(grammar, table, at, near_rule(grammar, table, marks, at));
-    hidden(grammar, at);
-    unreached::change(used);
+    say(out, b"The rule ");
+    token(out, grammar, at);
+    say(out, b" is not reached from the start rule ");
+    token(out, grammar, name_of(grammar, table, 0));
+    how(out, grammar, table, rule, used);
+    nearly(out, grammar, table, at, near_rule(grammar, table, marks, at));
+    hidden(out, grammar, at);
+    unreached::change(out, used);
 }
 
-fn line(grammar: &[u8], table: &[u32], rule: usize) {
-    part_at(grammar, name_of(grammar, table, rule), Part::Whole);
-    unreached::brief(is_used(table, rule));
+fn line(out: Stdout, grammar: &[u8], table: &[u32], rule: usize) {
+    part_at(out, grammar, name_of(grammar, table, rule), Part::Whole);
+    unreached::brief(out, is_used(table, rule));
 }
 
-fn each(grammar: &[u8], table: &[u32], marks: &[usize], start: usize) {
+fn each(out: Stdout, grammar: &[u8], table: &[u32], marks: &[usize], start: usize) {
     let mut rule = start;
     let mut n: usize = 0;
     while n < 64 {
         if 63 < rule {
             return;
         }
-        line(grammar, table, rule);
+        line(out, grammar, table, rule);
         rule = unreached_from(table, marks, next(rule));
         n += 1;
     }
 }
 
-fn others(grammar: &[u8], table: &[u32], marks: &[usize], start: usize) {
+fn others(out: Stdout, grammar: &[u8], table: &[u32], marks: &[usize], start: usize) {
     if start < 64 {
-        say(b"Further rules that are not reached:\n");
-        each(grammar, table, marks, start);
+        say(out, b"Further rules that are not reached:\n");
+        each(out, grammar, table, marks, start);
     }
 }
 
-fn told(grammar: &[u8], table: &[u32]) {
+fn told(out: Stdout, grammar: &[u8], table: &[u32]) {
     let mut marks = [0usize; 64];
     reached(table, &mut marks);
     let rule = unreached_from(table, &marks, 1);
-    first(grammar, table, &marks, rule);
-    others(
+    first(out, grammar, table, &marks, rule);
+    others(out, 
         grammar,
         table,
         &marks,
@@ -165,7 +166,7 @@ fn told(grammar: &[u8], table: &[u32]) {
     );
 }
 
-pub fn explained(grammar: &[u8]) {
+pub fn explained(out: Stdout, grammar: &[u8]) {
     let words = sets::encoded(grammar).words;
-    told(grammar, &words);
+    told(out, grammar, &words);
 }

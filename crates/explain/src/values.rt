@@ -5,6 +5,7 @@ use report_measures::words::set_at;
 use report_quoting::quoting::Part;
 use report_wording::writing::say;
 use table_layout::{Construct, construct_at};
+use std::io::Stdout;
 
 // Construct i is a uint or sint whose set of strings is empty; with a variable it has all.
 fn is_empty(table: &[u32], first: &[u64], i: usize) -> bool {
@@ -39,43 +40,43 @@ fn next(n: usize) -> usize {
     256
 }
 
-fn left(i: usize) {
+fn left(out: Stdout, i: usize) {
     if i < 256 {
-        say(b"    and more\n");
+        say(out, b"    and more\n");
     }
 }
 
 // At most twenty.
-fn each(grammar: &[u8], table: &[u32], first: &[u64], start: usize) {
+fn each(out: Stdout, grammar: &[u8], table: &[u32], first: &[u64], start: usize) {
     let mut i = start;
     let mut n: usize = 0;
     while n < 20 {
         if 255 < i {
             return;
         }
-        part_at(grammar, place_of(grammar, i), Part::Field);
+        part_at(out, grammar, place_of(grammar, i), Part::Field);
         i = empty_from(table, first, next(i));
         n += 1;
     }
-    left(i);
+    left(out, i);
 }
 
-fn others(grammar: &[u8], table: &[u32], first: &[u64], start: usize) {
+fn others(out: Stdout, grammar: &[u8], table: &[u32], first: &[u64], start: usize) {
     if start < 256 {
-        say(b"Further fields that have no value:\n");
-        each(grammar, table, first, start);
+        say(out, b"Further fields that have no value:\n");
+        each(out, grammar, table, first, start);
     }
 }
 
-fn told(grammar: &[u8], table: &[u32]) {
+fn told(out: Stdout, grammar: &[u8], table: &[u32]) {
     let mut first = [0u64; 2056];
     sets::first(table, &mut first);
     let i = empty_from(table, &first, 0);
-    others(grammar, table, &first, empty_from(table, &first, next(i)));
+    others(out, grammar, table, &first, empty_from(table, &first, next(i)));
 }
 
-pub fn explained(grammar: &[u8], at: usize) {
-    report_values::values::none_left(grammar, at);
+pub fn explained(out: Stdout, grammar: &[u8], at: usize) {
+    report_values::values::none_left(out, grammar, at);
     let words = sets::encoded(grammar).words;
-    told(grammar, &words);
+    told(out, grammar, &words);
 }

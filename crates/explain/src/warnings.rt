@@ -7,22 +7,23 @@ use report_measures::words::set_at;
 use report_quoting::quoting::{Part, quote};
 use report_wording::lines;
 use report_wording::writing::say;
+use std::io::Stdout;
 
-fn warned(grammar: &[u8], at: usize, part: Part, sentence: &[u8]) {
-    say(b"Warning: ");
-    lines::place(grammar, at);
-    in_rule(grammar, at);
-    say(b":  ");
-    quote(grammar, at, part);
-    say(b"\n    ");
-    say(sentence);
+fn warned(out: Stdout, grammar: &[u8], at: usize, part: Part, sentence: &[u8]) {
+    say(out, b"Warning: ");
+    lines::place(out, grammar, at);
+    in_rule(out, grammar, at);
+    say(out, b":  ");
+    quote(out, grammar, at, part);
+    say(out, b"\n    ");
+    say(out, sentence);
 }
 
 // A range whose set of strings is empty (a uint's or sint's is refused).
-fn field(grammar: &[u8], table: &[u32], first: &[u64], i: usize) {
+fn field(out: Stdout, grammar: &[u8], table: &[u32], first: &[u64], i: usize) {
     if 0 < width_of(table, i) {
         if lookahead::is_empty(set_at(first, i)) {
-            warned(
+            warned(out, 
                 grammar,
                 place_of(grammar, i),
                 Part::Field,
@@ -32,16 +33,16 @@ fn field(grammar: &[u8], table: &[u32], first: &[u64], i: usize) {
     }
 }
 
-fn fields(grammar: &[u8], table: &[u32], first: &[u64]) {
+fn fields(out: Stdout, grammar: &[u8], table: &[u32], first: &[u64]) {
     let mut i: usize = 0;
     while i < 256 {
-        field(grammar, table, first, i);
+        field(out, grammar, table, first, i);
         i += 1;
     }
 }
 
-fn never(grammar: &[u8], i: usize) {
-    warned(
+fn never(out: Stdout, grammar: &[u8], i: usize) {
+    warned(out, 
         grammar,
         place_of(grammar, i),
         Part::Whole,
@@ -49,8 +50,8 @@ fn never(grammar: &[u8], i: usize) {
     );
 }
 
-fn covered(grammar: &[u8], i: usize) {
-    warned(
+fn covered(out: Stdout, grammar: &[u8], i: usize) {
+    warned(out, 
         grammar,
         place_of(grammar, i),
         Part::Whole,
@@ -58,34 +59,34 @@ fn covered(grammar: &[u8], i: usize) {
     );
 }
 
-fn case(grammar: &[u8], table: &[u32], i: usize) {
+fn case(out: Stdout, grammar: &[u8], table: &[u32], i: usize) {
     if never_holds(table, i) {
-        never(grammar, i);
+        never(out, grammar, i);
         return;
     }
     if always_before(table, i) {
-        covered(grammar, i);
+        covered(out, grammar, i);
     }
 }
 
-fn cases(grammar: &[u8], table: &[u32]) {
+fn cases(out: Stdout, grammar: &[u8], table: &[u32]) {
     let mut i: usize = 0;
     while i < 256 {
-        case(grammar, table, i);
+        case(out, grammar, table, i);
         i += 1;
     }
 }
 
-fn whole(first: &[u64]) {
+fn whole(out: Stdout, first: &[u64]) {
     if lookahead::is_empty(set_at(first, 0)) {
-        say(b"Warning: no frame at all matches this grammar.\n");
+        say(out, b"Warning: no frame at all matches this grammar.\n");
     }
 }
 
-pub fn told(grammar: &[u8], table: &[u32]) {
+pub fn told(out: Stdout, grammar: &[u8], table: &[u32]) {
     let mut first = [0u64; 2056];
     sets::first(table, &mut first);
-    whole(&first);
-    fields(grammar, table, &first);
-    cases(grammar, table);
+    whole(out, &first);
+    fields(out, grammar, table, &first);
+    cases(out, grammar, table);
 }

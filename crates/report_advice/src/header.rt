@@ -6,9 +6,10 @@ ghost use Rattle.text_header.specs.declared.Class.{Class};
 use report_wording::writing::say;
 use text_header::Class;
 use text_header::spans::span;
+use std::io::Stdout;
 
-fn empty() {
-    say(
+fn empty(out: Stdout) {
+    say(out, 
         b"The file is empty, or cannot be read.\n\
         What to change: put a grammar into it. It begins with the line\n    \
         dogma_v1 utf-8\n\
@@ -16,23 +17,23 @@ fn empty() {
     );
 }
 
-fn long() {
-    say(
+fn long(out: Stdout) {
+    say(out, 
         b"The grammar has more than 8192 bytes.\n\
         What to change: shorten it. Comments and blanks count too.\n",
     );
 }
 
-pub fn size(grammar: &[u8]) {
+pub fn size(out: Stdout, grammar: &[u8]) {
     if grammar.len() == 0 {
-        empty();
+        empty(out);
     } else {
-        long();
+        long(out);
     }
 }
 
-fn first_line() {
-    say(
+fn first_line(out: Stdout) {
+    say(out, 
         b"The first line of a grammar must be\n    \
         dogma_v1 utf-8\n\
         and nothing else: no blank at its start or end, no byte order mark\n\
@@ -43,8 +44,8 @@ fn first_line() {
     );
 }
 
-fn unended() {
-    say(
+fn unended(out: Stdout) {
+    say(out, 
         b"The text ends in this line.\n\
         What to change: the first line is\n    \
         dogma_v1 utf-8\n\
@@ -52,8 +53,8 @@ fn unended() {
     );
 }
 
-fn header_line() {
-    say(
+fn header_line(out: Stdout) {
+    say(out, 
         b"This line still belongs to the header, and it is no header line.\n\
         What to change: put an empty line (with no blanks) in front of the\n\
         rules; or write a header line as\n    \
@@ -62,8 +63,8 @@ fn header_line() {
     );
 }
 
-fn header_end() {
-    say(
+fn header_end(out: Stdout) {
+    say(out, 
         b"The text ends in its header: no empty line and no rules follow.\n\
         What to change: add an empty line, and then the rules.\n",
     );
@@ -76,22 +77,22 @@ fn last_line(grammar: &[u8], at: usize) -> bool
     grammar.len() <= span(Class::Except(10), grammar, at)
 }
 
-fn wrong_line(grammar: &[u8], at: usize) {
+fn wrong_line(out: Stdout, grammar: &[u8], at: usize) {
     if last_line(grammar, at) {
-        unended();
+        unended(out);
         return;
     }
     if at == 0 {
-        first_line();
+        first_line(out);
         return;
     }
-    header_line();
+    header_line(out);
 }
 
-pub fn wrong(grammar: &[u8], at: usize) {
+pub fn wrong(out: Stdout, grammar: &[u8], at: usize) {
     if at < grammar.len() {
-        wrong_line(grammar, at);
+        wrong_line(out, grammar, at);
         return;
     }
-    header_end();
+    header_end(out);
 }

@@ -2,25 +2,26 @@
 use report_quoting::quoting::token;
 use report_wording::writing::say;
 use text_parsing::terminals::look;
+use std::io::Stdout;
 
-pub fn recursive() {
-    say(b"This rule leads back to itself:\n");
+pub fn recursive(out: Stdout) {
+    say(out, b"This rule leads back to itself:\n");
 }
 
-pub fn change_recursive(grammar: &[u8], at: usize) {
-    say(
+pub fn change_recursive(out: Stdout, grammar: &[u8], at: usize) {
+    say(out, 
         b"What to change: take one of these uses away. What comes again and again\n\
         is written with *, + or {n}: \"A\"+ for a rule that is \"A\" and then itself\n\
         or nothing. Nothing may lead back to the rule ",
     );
-    token(grammar, at);
-    say(b".\n");
+    token(out, grammar, at);
+    say(out, b".\n");
 }
 
-fn large_number(grammar: &[u8], at: usize) {
-    say(b"In this calculation the number ");
-    token(grammar, at);
-    say(
+fn large_number(out: Stdout, grammar: &[u8], at: usize) {
+    say(out, b"In this calculation the number ");
+    token(out, grammar, at);
+    say(out, 
         b" is too large:\n\
         a number is at most 4611686018427387904 (2^62).\n\
         What to change: write a smaller number. Larger values of a field have no\n\
@@ -28,8 +29,8 @@ fn large_number(grammar: &[u8], at: usize) {
     );
 }
 
-fn width() {
-    say(
+fn width(out: Stdout) {
+    say(out, 
         b"The width of a uint or sint is a number of bits from 1 to 64, and where\n\
         its value is bound to a variable at most 62.\n\
         What to change: write such a width. A wider field is two, and the frames\n\
@@ -37,8 +38,8 @@ fn width() {
     );
 }
 
-fn bound_width() {
-    say(
+fn bound_width(out: Stdout) {
+    say(out, 
         b"A field whose value is bound to a variable has at most 62 bits, so that\n\
         the variable can be calculated with; other fields have up to 64.\n\
         What to change: where nothing uses the variable, leave it out: uint(64, ~).\n\
@@ -48,8 +49,8 @@ fn bound_width() {
     );
 }
 
-fn calculation() {
-    say(
+fn calculation(out: Stdout) {
+    say(out, 
         b"This calculation can become too large: with every variable at the largest\n\
         value that its width allows, whatever its set, no part of it may pass 2^62\n\
         (about 4.6 times 10^18).\n\
@@ -97,71 +98,71 @@ fn large_in(grammar: &[u8], at: usize) -> usize {
     grammar.len()
 }
 
-fn calculated(grammar: &[u8], at: usize) {
+fn calculated(out: Stdout, grammar: &[u8], at: usize) {
     let large = large_in(grammar, at);
     if large < grammar.len() {
-        large_number(grammar, large);
+        large_number(out, grammar, large);
         return;
     }
-    calculation();
+    calculation(out);
 }
 
 // A width of 63 or 64 bits is wrong only where it is bound.
-fn wide(bits: usize) {
+fn wide(out: Stdout, bits: usize) {
     match bits {
-        63 => bound_width(),
-        64 => bound_width(),
-        _ => width(),
+        63 => bound_width(out),
+        64 => bound_width(out),
+        _ => width(out),
     }
 }
 
 // 8: only a width is followed by a comma.
-pub fn extent(grammar: &[u8], at: usize) {
+pub fn extent(out: Stdout, grammar: &[u8], at: usize) {
     let terminal = look(grammar, at);
     let next = look(grammar, terminal.end).code;
     if next == 44 {
-        wide(terminal.value);
+        wide(out, terminal.value);
         return;
     }
-    calculated(grammar, at);
+    calculated(out, grammar, at);
 }
 
 // `free`: by a count with a variable.
-pub fn empty_body(free: bool) {
+pub fn empty_body(out: Stdout, free: bool) {
     if free {
-        say(
+        say(out, 
             b"What this sign repeats is taken to be possibly empty; the check does not\n\
             know the values of variables. This is how:\n",
         );
     } else {
-        say(
+        say(out, 
             b"What this sign repeats can take no bits at all, so nobody could say\n\
             how many passes there were. This is how:\n",
         );
     }
 }
 
-pub fn change_empty_body(free: bool) {
-    say(
+pub fn change_empty_body(out: Stdout, free: bool) {
+    say(out, 
         b"What to change: let each pass take at least one bit. A ?, * or {0~..}\n\
         around the whole of what is repeated can go: (\"A\"?)* and (\"A\"?)+ match\n\
         what \"A\"* matches. ",
     );
     if free {
-        say(
+        say(out, 
             b"Where n is never 0, (\"A\" & \"A\"{n - 1})* matches what\n\
             (\"A\"{n})* would match. ",
         );
     }
-    say(
+    say(out, 
         b"Else take this sign away, or let a pass begin with a\n\
         field that is always there: both may change the frames. eod cannot be\n\
         repeated, and a switch only with a default.\n",
     );
 }
 
-pub fn weight() {
-    say(
+pub fn weight(out: Stdout) {
+    say(out, 
         b",\n\
         and at most 65535 is allowed, so that no frame takes too many steps. A\n\
         field weighs 1; a use of a rule 1 more than the rule; a concatenation 1\n\
@@ -171,15 +172,15 @@ pub fn weight() {
     );
 }
 
-pub fn change_weight() {
-    say(
+pub fn change_weight(out: Stdout) {
+    say(out, 
         b"What to change: put fewer repetitions inside of each other, and use\n\
         heavy rules in fewer places.\n",
     );
 }
 
-pub fn table() {
-    say(
+pub fn table(out: Stdout) {
+    say(out, 
         b"The room for the table is too small. This is a fault of the program,\n\
         and not of the grammar.\n\
         What to change: nothing in the grammar. Lend at least 16384 words.\n",

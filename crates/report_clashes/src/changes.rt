@@ -7,6 +7,7 @@ use report_measures::words::{number_at, put_number, set_at};
 use report_wording::writing::{number, say};
 use table_conflicts::Clash;
 use table_layout::{Construct, construct_at, size_of};
+use std::io::Stdout;
 
 fn is_number_field(table: &[u32], i: usize) -> bool {
     match construct_at(table, i) {
@@ -66,14 +67,14 @@ fn counted_both(a: Set, b: Set, k: usize, n: usize) -> usize {
 }
 
 // The window that is shown, and others.
-fn besides(n: usize) {
+fn besides(out: Stdout, n: usize) {
     if n == 2 {
-        say(b"The check finds one more pattern of next bits that the two share.\n");
+        say(out, b"The check finds one more pattern of next bits that the two share.\n");
         return;
     }
     if 2 < n {
-        number(b"The check finds ", n - 1);
-        say(b" more patterns of next bits that the two share.\n");
+        number(out, b"The check finds ", n - 1);
+        say(out, b" more patterns of next bits that the two share.\n");
     }
 }
 
@@ -123,24 +124,24 @@ fn branches(
     n
 }
 
-fn further_title(count: usize) {
+fn further_title(out: Stdout, count: usize) {
     if count == 3 {
-        say(b"A further branch clashes with the two as well:\n");
+        say(out, b"A further branch clashes with the two as well:\n");
     }
     if 3 < count {
-        say(b"Further branches clash with the two as well:\n");
+        say(out, b"Further branches clash with the two as well:\n");
     }
 }
 
-fn each_further(grammar: &[u8], branches: &[usize], count: usize) {
+fn each_further(out: Stdout, grammar: &[u8], branches: &[usize], count: usize) {
     let mut k: usize = 2;
     while k < count {
-        part(grammar, number_at(branches, k));
+        part(out, grammar, number_at(branches, k));
         k += 1;
     }
 }
 
-fn change_branches(
+fn change_branches(out: Stdout, 
     grammar: &[u8],
     table: &[u32],
     follow: &[u64],
@@ -150,17 +151,17 @@ fn change_branches(
     count: usize,
 ) {
     if window < 2 {
-        report_advice::clashes::ends();
+        report_advice::clashes::ends(out);
         return;
     }
     let after = set_at(follow, construct);
-    if rewriting::written(grammar, table, after, branches, count) {
+    if rewriting::written(out, grammar, table, after, branches, count) {
         return;
     }
-    report_advice::clashes::begins(in_front(table, construct));
+    report_advice::clashes::begins(out, in_front(table, construct));
 }
 
-fn shared_branches(
+fn shared_branches(out: Stdout, 
     grammar: &[u8],
     table: &[u32],
     follow: &[u64],
@@ -170,25 +171,25 @@ fn shared_branches(
 ) {
     let mut all = [0usize; 256];
     let count = branches(table, prediction, construct, window, &mut all);
-    besides(common(
+    besides(out, common(
         set_at(prediction, number_at(&all, 0)),
         set_at(prediction, number_at(&all, 1)),
     ));
-    further_title(count);
-    each_further(grammar, &all, count);
-    change_branches(grammar, table, follow, construct, window, &all, count);
+    further_title(out, count);
+    each_further(out, grammar, &all, count);
+    change_branches(out, grammar, table, follow, construct, window, &all, count);
 }
 
-fn shared_passes(follow: &[u64], prediction: &[u64], construct: usize) {
-    besides(common(
+fn shared_passes(out: Stdout, follow: &[u64], prediction: &[u64], construct: usize) {
+    besides(out, common(
         set_at(prediction, next(construct)),
         set_at(follow, construct),
     ));
-    report_advice::clashes::passes();
+    report_advice::clashes::passes(out);
 }
 
 // What else is shared, and what to change.
-pub fn shared(
+pub fn shared(out: Stdout, 
     grammar: &[u8],
     table: &[u32],
     follow: &[u64],
@@ -202,7 +203,7 @@ pub fn shared(
             window,
             first: _,
             second: _,
-        } => shared_branches(grammar, table, follow, prediction, construct, window),
-        Clash::Passes { window: _ } => shared_passes(follow, prediction, construct),
+        } => shared_branches(out, grammar, table, follow, prediction, construct, window),
+        Clash::Passes { window: _ } => shared_passes(out, follow, prediction, construct),
     }
 }

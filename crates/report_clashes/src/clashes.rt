@@ -4,21 +4,22 @@ use report_listing::sets;
 use report_wording::lines;
 use report_wording::writing::say;
 use table_conflicts::Clash;
+use std::io::Stdout;
 
-fn told(grammar: &[u8], table: &[u32], construct: usize, clash: Clash) {
+fn told(out: Stdout, grammar: &[u8], table: &[u32], construct: usize, clash: Clash) {
     let mut first = [0u64; 2056];
     let mut follow = [0u64; 2056];
     let mut prediction = [0u64; 2056];
     table_first_follow::prediction::all(table, &mut first, &mut follow, &mut prediction);
-    sides::explained(grammar, table, &first, &follow, construct, clash);
-    examples::told(table, &first, &follow, construct, clash);
-    changes::shared(grammar, table, &follow, &prediction, construct, clash);
-    others::others(grammar, table, &follow, &prediction, construct);
+    sides::explained(out, grammar, table, &first, &follow, construct, clash);
+    examples::told(out, table, &first, &follow, construct, clash);
+    changes::shared(out, grammar, table, &follow, &prediction, construct, clash);
+    others::others(out, grammar, table, &follow, &prediction, construct);
 }
 
-pub fn conflict(grammar: &[u8], at: usize, construct: usize, clash: Clash) {
-    say(b"refused, number 10: a clash\n");
-    lines::shown(grammar, at);
+pub fn conflict(out: Stdout, grammar: &[u8], at: usize, construct: usize, clash: Clash) {
+    say(out, b"refused, number 10: a clash\n");
+    lines::shown(out, grammar, at);
     let words = sets::encoded(grammar).words;
-    told(grammar, &words, construct, clash);
+    told(out, grammar, &words, construct, clash);
 }

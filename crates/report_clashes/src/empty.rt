@@ -8,6 +8,7 @@ use report_listing::{chains, sets};
 use report_quoting::quoting::{Part, end_of};
 use report_wording::writing::say;
 use text_parsing::terminals::look;
+use std::io::Stdout;
 
 // The place of a repetition's sign.
 fn mark_of(grammar: &[u8], construct: usize) -> usize {
@@ -17,16 +18,16 @@ fn mark_of(grammar: &[u8], construct: usize) -> usize {
 }
 
 // A repetition, and how its body takes nothing; of a body with 8 passes and more that take nothing no list is made.
-fn body(grammar: &[u8], table: &[u32], first: &[u64], construct: usize)
+fn body(out: Stdout, grammar: &[u8], table: &[u32], first: &[u64], construct: usize)
     requires { FirstFamily table.now first.now }
 {
     let mut steps = [0usize; 3072];
-    part_at(grammar, place_of(grammar, construct), Part::Member);
+    part_at(out, grammar, place_of(grammar, construct), Part::Member);
     let count = checked::takes_nothing(table, first, &mut steps, next(construct));
     if count == 0 {
-        say(b"        every part of it may take nothing\n");
+        say(out, b"        every part of it may take nothing\n");
     } else {
-        chains::listed(grammar, table, &steps, count);
+        chains::listed(out, grammar, table, &steps, count);
     }
 }
 
@@ -76,45 +77,45 @@ fn has_others(grammar: &[u8], table: &[u32], first: &[u64], at: usize) -> bool {
     false
 }
 
-fn another(grammar: &[u8], table: &[u32], first: &[u64], i: usize, at: usize)
+fn another(out: Stdout, grammar: &[u8], table: &[u32], first: &[u64], i: usize, at: usize)
     requires { FirstFamily table.now first.now }
 {
     if is_other(grammar, table, first, i, at) {
-        body(grammar, table, first, i);
+        body(out, grammar, table, first, i);
     }
 }
 
-fn each_other(grammar: &[u8], table: &[u32], first: &[u64], at: usize)
+fn each_other(out: Stdout, grammar: &[u8], table: &[u32], first: &[u64], at: usize)
     requires { FirstFamily table.now first.now }
 {
     let mut i: usize = 0;
     while i < 256 {
-        another(grammar, table, first, i, at);
+        another(out, grammar, table, first, i, at);
         i += 1;
     }
 }
 
-fn others(grammar: &[u8], table: &[u32], first: &[u64], at: usize)
+fn others(out: Stdout, grammar: &[u8], table: &[u32], first: &[u64], at: usize)
     requires { FirstFamily table.now first.now }
 {
     if has_others(grammar, table, first, at) {
-        say(b"The same is wrong here:\n");
-        each_other(grammar, table, first, at);
+        say(out, b"The same is wrong here:\n");
+        each_other(out, grammar, table, first, at);
     }
 }
 
-fn told(grammar: &[u8], table: &[u32], at: usize) {
+fn told(out: Stdout, grammar: &[u8], table: &[u32], at: usize) {
     let mut first = [0u64; 2056];
     table_first_follow::first::first(table, &mut first);
     let construct = this(grammar, table, &first, at);
     let free = is_free(table, &first, construct);
-    report_advice::rest::empty_body(free);
-    body(grammar, table, &first, construct);
-    report_advice::rest::change_empty_body(free);
-    others(grammar, table, &first, at);
+    report_advice::rest::empty_body(out, free);
+    body(out, grammar, table, &first, construct);
+    report_advice::rest::change_empty_body(out, free);
+    others(out, grammar, table, &first, at);
 }
 
-pub fn explained(grammar: &[u8], at: usize) {
+pub fn explained(out: Stdout, grammar: &[u8], at: usize) {
     let words = sets::encoded(grammar).words;
-    told(grammar, &words, at);
+    told(out, grammar, &words, at);
 }

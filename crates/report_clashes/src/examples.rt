@@ -13,6 +13,7 @@ use report_measures::words::number_at;
 use report_quoting::windows::binary;
 use report_wording::writing::{hexadecimal, number, say};
 use table_conflicts::Clash;
+use std::io::Stdout;
 
 fn has(steps: &[usize], count: usize, tag: usize) -> bool {
     let mut k: usize = 0;
@@ -109,58 +110,58 @@ fn byte(bits: &[usize], k: usize) -> usize {
     16 * high + low
 }
 
-fn put_byte(bits: &[usize], k: usize) {
-    hexadecimal(b" ", byte(bits, k), 2);
+fn put_byte(out: Stdout, bits: &[usize], k: usize) {
+    hexadecimal(out, b" ", byte(bits, k), 2);
 }
 
-fn bytes(bits: &[usize], count: usize) {
+fn bytes(out: Stdout, bits: &[usize], count: usize) {
     let mut k: usize = 0;
     while k < count {
-        put_byte(bits, k);
+        put_byte(out, bits, k);
         k += 1;
     }
 }
 
-fn digit(b: usize) {
+fn digit(out: Stdout, b: usize) {
     if b == 0 {
-        say(b"0");
+        say(out, b"0");
     } else {
-        say(b"1");
+        say(out, b"1");
     }
 }
 
-fn digits(bits: &[usize], count: usize) {
+fn digits(out: Stdout, bits: &[usize], count: usize) {
     let mut k: usize = 0;
     while k < count {
-        digit(one(bits, k));
+        digit(out, one(bits, k));
         k += 1;
     }
 }
 
 // Whole bytes before it.
-fn aligned(bits: &[usize], count: usize, window: usize) {
-    say(b"For example, a frame that begins with");
-    bytes(bits, count / 8);
-    hexadecimal(b" ", window % 256, 2);
-    say(b": after");
-    bytes(bits, count / 8);
-    hexadecimal(b", ", window % 256, 2);
-    say(b" fits both.\n");
+fn aligned(out: Stdout, bits: &[usize], count: usize, window: usize) {
+    say(out, b"For example, a frame that begins with");
+    bytes(out, bits, count / 8);
+    hexadecimal(out, b" ", window % 256, 2);
+    say(out, b": after");
+    bytes(out, bits, count / 8);
+    hexadecimal(out, b", ", window % 256, 2);
+    say(out, b" fits both.\n");
 }
 
-fn unaligned(bits: &[usize], count: usize, window: usize) {
-    say(b"For example, a frame that begins with the bits ");
-    digits(bits, count);
-    say(b" ");
-    binary(window, 8);
-    number(b": after the first ", count);
-    say(b",\n");
-    binary(window, 8);
-    say(b" fits both.\n");
+fn unaligned(out: Stdout, bits: &[usize], count: usize, window: usize) {
+    say(out, b"For example, a frame that begins with the bits ");
+    digits(out, bits, count);
+    say(out, b" ");
+    binary(out, window, 8);
+    number(out, b": after the first ", count);
+    say(out, b",\n");
+    binary(out, window, 8);
+    say(out, b" fits both.\n");
 }
 
 // With nothing before it the window says it all.
-fn shown(bits: &[usize], count: usize, window: usize) {
+fn shown(out: Stdout, bits: &[usize], count: usize, window: usize) {
     if count == 0 {
         return;
     }
@@ -168,21 +169,21 @@ fn shown(bits: &[usize], count: usize, window: usize) {
         return;
     }
     if count % 8 == 0 {
-        aligned(bits, count, window);
+        aligned(out, bits, count, window);
     } else {
-        unaligned(bits, count, window);
+        unaligned(out, bits, count, window);
     }
 }
 
-fn at(table: &[u32], follow: &[u64], construct: usize, window: usize) {
+fn at(out: Stdout, table: &[u32], follow: &[u64], construct: usize, window: usize) {
     if plain(table, follow) {
         let mut bits = [0usize; 256];
         let count = up_to(table, construct, &mut bits);
-        shown(&bits, count, window);
+        shown(out, &bits, count, window);
     }
 }
 
-fn branches(
+fn branches(out: Stdout, 
     table: &[u32],
     first: &[u64],
     follow: &[u64],
@@ -195,22 +196,22 @@ fn branches(
 {
     if goes(table, first, follow, one, window) {
         if goes(table, first, follow, other, window) {
-            at(table, follow, construct, window);
+            at(out, table, follow, construct, window);
         }
     }
 }
 
-fn passes(table: &[u32], first: &[u64], follow: &[u64], construct: usize, window: usize)
+fn passes(out: Stdout, table: &[u32], first: &[u64], follow: &[u64], construct: usize, window: usize)
     requires { Families table.now first.now follow.now }
 {
     if goes(table, first, follow, next(construct), window) {
         if stops(table, first, follow, construct, window) {
-            at(table, follow, construct, window);
+            at(out, table, follow, construct, window);
         }
     }
 }
 
-pub fn told(table: &[u32], first: &[u64], follow: &[u64], construct: usize, clash: Clash)
+pub fn told(out: Stdout, table: &[u32], first: &[u64], follow: &[u64], construct: usize, clash: Clash)
     requires { Families table.now first.now follow.now }
 {
     match clash {
@@ -219,7 +220,7 @@ pub fn told(table: &[u32], first: &[u64], follow: &[u64], construct: usize, clas
             window,
             first: one,
             second,
-        } => branches(table, first, follow, construct, window, one, second),
-        Clash::Passes { window } => passes(table, first, follow, construct, window),
+        } => branches(out, table, first, follow, construct, window, one, second),
+        Clash::Passes { window } => passes(out, table, first, follow, construct, window),
     }
 }

@@ -8,40 +8,41 @@ use report_quoting::windows;
 use report_wording::lines;
 use report_wording::writing::{number, say};
 use table_conflicts::Clash;
+use std::io::Stdout;
 
-fn also(grammar: &[u8], at: usize) {
-    say(b"    ");
-    lines::place(grammar, at);
-    say(b":  ");
+fn also(out: Stdout, grammar: &[u8], at: usize) {
+    say(out, b"    ");
+    lines::place(out, grammar, at);
+    say(out, b":  ");
 }
 
-fn also_branches(grammar: &[u8], table: &[u32], window: usize, one: usize, other: usize) {
+fn also_branches(out: Stdout, grammar: &[u8], table: &[u32], window: usize, one: usize, other: usize) {
     let at = place_of(grammar, one);
-    also(grammar, at);
-    quote(grammar, at, Part::Branch);
-    say(b"  and  ");
-    quote(grammar, place_of(grammar, other), Part::Branch);
-    say(b"\n        by the check both admit");
-    windows::window(window, starts::start_of(table, one));
+    also(out, grammar, at);
+    quote(out, grammar, at, Part::Branch);
+    say(out, b"  and  ");
+    quote(out, grammar, place_of(grammar, other), Part::Branch);
+    say(out, b"\n        by the check both admit");
+    windows::window(out, window, starts::start_of(table, one));
 }
 
-fn also_passes(grammar: &[u8], table: &[u32], construct: usize, window: usize) {
+fn also_passes(out: Stdout, grammar: &[u8], table: &[u32], construct: usize, window: usize) {
     let at = place_of(grammar, construct);
-    also(grammar, at);
-    quote(grammar, at, Part::Member);
-    say(b"\n        by the check going on and stopping both admit");
-    windows::window(window, starts::turn_of(table, construct));
+    also(out, grammar, at);
+    quote(out, grammar, at, Part::Member);
+    say(out, b"\n        by the check going on and stopping both admit");
+    windows::window(out, window, starts::turn_of(table, construct));
 }
 
-fn another(grammar: &[u8], table: &[u32], construct: usize, clash: Clash) {
+fn another(out: Stdout, grammar: &[u8], table: &[u32], construct: usize, clash: Clash) {
     match clash {
         Clash::None => {}
         Clash::Branches {
             window,
             first,
             second,
-        } => also_branches(grammar, table, window, first, second),
-        Clash::Passes { window } => also_passes(grammar, table, construct, window),
+        } => also_branches(out, grammar, table, window, first, second),
+        Clash::Passes { window } => also_passes(out, grammar, table, construct, window),
     }
 }
 
@@ -76,24 +77,24 @@ fn count_from(table: &[u32], follow: &[u64], prediction: &[u64], from: usize) ->
     n
 }
 
-fn another_at(grammar: &[u8], table: &[u32], follow: &[u64], prediction: &[u64], i: usize) {
-    another(grammar, table, i, sets::clash(table, follow, prediction, i));
+fn another_at(out: Stdout, grammar: &[u8], table: &[u32], follow: &[u64], prediction: &[u64], i: usize) {
+    another(out, grammar, table, i, sets::clash(table, follow, prediction, i));
 }
 
-fn each_from(grammar: &[u8], table: &[u32], follow: &[u64], prediction: &[u64], from: usize) {
+fn each_from(out: Stdout, grammar: &[u8], table: &[u32], follow: &[u64], prediction: &[u64], from: usize) {
     let mut i = from;
     while i < 256 {
-        another_at(grammar, table, follow, prediction, i);
+        another_at(out, grammar, table, follow, prediction, i);
         i += 1;
     }
 }
 
-pub fn others(grammar: &[u8], table: &[u32], follow: &[u64], prediction: &[u64], construct: usize) {
+pub fn others(out: Stdout, grammar: &[u8], table: &[u32], follow: &[u64], prediction: &[u64], construct: usize) {
     let n = count_from(table, follow, prediction, next(construct));
     if n == 0 {
         return;
     }
-    number(b"Further clashes: ", n);
-    say(b". They may be gone once the first is.\n");
-    each_from(grammar, table, follow, prediction, next(construct));
+    number(out, b"Further clashes: ", n);
+    say(out, b". They may be gone once the first is.\n");
+    each_from(out, grammar, table, follow, prediction, next(construct));
 }

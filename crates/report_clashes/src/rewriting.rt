@@ -6,6 +6,7 @@ use report_measures::literals::character;
 use report_measures::words::{number_at, put_number};
 use report_quoting::prefixes;
 use table_layout::{Construct, construct_at};
+use std::io::Stdout;
 
 // The construct that a branch begins with: of a concatenation its first member.
 fn leading(table: &[u32], i: usize) -> usize {
@@ -46,18 +47,18 @@ fn goes_on_so(table: &[u32], after: Set, i: usize, n: usize) -> bool {
 }
 
 // The rest of branch i may be left out, unless what comes after begins like it: then the check could not tell.
-fn optional(grammar: &[u8], table: &[u32], after: Set, i: usize, n: usize, count: usize) {
+fn optional(out: Stdout, grammar: &[u8], table: &[u32], after: Set, i: usize, n: usize, count: usize) {
     if goes_on_so(table, after, i, n) {
-        report_advice::clashes::rest_follows();
+        report_advice::clashes::rest_follows(out);
         return;
     }
-    report_advice::clashes::optional();
-    prefixes::optional(grammar, place_of(grammar, i), n);
-    report_advice::clashes::mends(count);
+    report_advice::clashes::optional(out);
+    prefixes::optional(out, grammar, place_of(grammar, i), n);
+    report_advice::clashes::mends(out, count);
 }
 
 // One of two branches is all that they share.
-fn one_in_other(
+fn one_in_other(out: Stdout, 
     grammar: &[u8],
     table: &[u32],
     after: Set,
@@ -69,18 +70,18 @@ fn one_in_other(
     let b = place_of(grammar, second);
     let n = prefixes::shared(grammar, a, b);
     if prefixes::is_prefix(grammar, a, b, n) {
-        optional(grammar, table, after, second, n, count);
+        optional(out, grammar, table, after, second, n, count);
         return true;
     }
     if prefixes::is_prefix(grammar, b, a, n) {
-        optional(grammar, table, after, first, n, count);
+        optional(out, grammar, table, after, first, n, count);
         return true;
     }
     false
 }
 
 // The first two alone, where not all can be written so.
-fn two(
+fn two(out: Stdout, 
     grammar: &[u8],
     table: &[u32],
     after: Set,
@@ -89,12 +90,12 @@ fn two(
     count: usize,
 ) -> bool {
     if prefixes::fit(grammar, places, 2) {
-        report_advice::clashes::in_front(2);
-        prefixes::written(grammar, places, 2);
-        report_advice::clashes::mends(count);
+        report_advice::clashes::in_front(out, 2);
+        prefixes::written(out, grammar, places, 2);
+        report_advice::clashes::mends(out, count);
         return true;
     }
-    one_in_other(
+    one_in_other(out, 
         grammar,
         table,
         after,
@@ -105,11 +106,11 @@ fn two(
 }
 
 // All of them, where each begins with a literal.
-fn all(grammar: &[u8], table: &[u32], branches: &[usize], places: &[usize], count: usize) -> bool {
+fn all(out: Stdout, grammar: &[u8], table: &[u32], branches: &[usize], places: &[usize], count: usize) -> bool {
     if all_literals(table, branches, count) {
         if prefixes::fit(grammar, places, count) {
-            report_advice::clashes::in_front(count);
-            prefixes::written(grammar, places, count);
+            report_advice::clashes::in_front(out, count);
+            prefixes::written(out, grammar, places, count);
             return true;
         }
     }
@@ -117,7 +118,7 @@ fn all(grammar: &[u8], table: &[u32], branches: &[usize], places: &[usize], coun
 }
 
 // Whether the branches were written anew, or it was said why not. `after`: what may come after the alternative.
-pub fn written(
+pub fn written(out: Stdout, 
     grammar: &[u8],
     table: &[u32],
     after: Set,
@@ -126,11 +127,11 @@ pub fn written(
 ) -> bool {
     let mut spots = [0usize; 256];
     places(grammar, branches, count, &mut spots);
-    if all(grammar, table, branches, &spots, count) {
+    if all(out, grammar, table, branches, &spots, count) {
         return true;
     }
     if all_literals(table, branches, 2) {
-        return two(grammar, table, after, branches, &spots, count);
+        return two(out, grammar, table, after, branches, &spots, count);
     }
     false
 }

@@ -13,6 +13,7 @@ use report_quoting::windows;
 use report_wording::writing::say;
 use table_conflicts::Clash;
 use text_header::bytes::either;
+use std::io::Stdout;
 
 // An alternative that is a branch stands in parentheses.
 fn part_of(kind: usize) -> Part
@@ -25,13 +26,13 @@ fn part_of(kind: usize) -> Part
 }
 
 // A branch, with its place.
-pub fn part(grammar: &[u8], construct: usize) {
+pub fn part(out: Stdout, grammar: &[u8], construct: usize) {
     match locate(grammar, Query::Construct(construct)) {
         Located::Construct {
             place,
             kind,
             count: _,
-        } => part_at(grammar, place, part_of(kind)),
+        } => part_at(out, grammar, place, part_of(kind)),
         _ => {}
     }
 }
@@ -55,7 +56,7 @@ fn is_plain(table: &[u32], construct: usize, count: usize) -> bool {
 }
 
 // How construct i, and what comes after it, admits the window.
-fn goes(
+fn goes(out: Stdout, 
     grammar: &[u8],
     table: &[u32],
     first: &[u64],
@@ -68,7 +69,7 @@ fn goes(
     let mut steps = [0usize; 3072];
     let count = checked::goes(table, first, follow, &mut steps, construct, window);
     if !is_plain(table, construct, count) {
-        chains::listed(grammar, table, &steps, count);
+        chains::listed(out, grammar, table, &steps, count);
     }
 }
 
@@ -81,7 +82,7 @@ fn goes_free(table: &[u32], first: &[u64], follow: &[u64], construct: usize, win
     chains::free(table, &steps, count)
 }
 
-fn stops(
+fn stops(out: Stdout, 
     grammar: &[u8],
     table: &[u32],
     first: &[u64],
@@ -93,7 +94,7 @@ fn stops(
 {
     let mut steps = [0usize; 3072];
     let count = checked::stops(table, first, follow, &mut steps, construct, window);
-    chains::listed(grammar, table, &steps, count);
+    chains::listed(out, grammar, table, &steps, count);
 }
 
 fn stops_free(table: &[u32], first: &[u64], follow: &[u64], construct: usize, window: usize) -> bool
@@ -105,32 +106,32 @@ fn stops_free(table: &[u32], first: &[u64], follow: &[u64], construct: usize, wi
 }
 
 // With a variable on the way the bits may say it after all.
-fn cannot(free: bool) {
+fn cannot(out: Stdout, free: bool) {
     if free {
-        say(b"Here the check cannot tell;\nit does not know the values of variables");
+        say(out, b"Here the check cannot tell;\nit does not know the values of variables");
     } else {
-        say(b"Here they cannot");
+        say(out, b"Here they cannot");
     }
 }
 
 // With a variable on the way the two need not admit it in any frame; they count as if they did.
-fn both_admit(free: bool) {
+fn both_admit(out: Stdout, free: bool) {
     if free {
-        say(b"So both are taken to admit");
+        say(out, b"So both are taken to admit");
     } else {
-        say(b"Both admit");
+        say(out, b"Both admit");
     }
 }
 
-fn turns_admit(free: bool) {
+fn turns_admit(out: Stdout, free: bool) {
     if free {
-        say(b"So going on and stopping are both taken to admit");
+        say(out, b"So going on and stopping are both taken to admit");
     } else {
-        say(b"Going on and stopping both admit");
+        say(out, b"Going on and stopping both admit");
     }
 }
 
-fn branches(
+fn branches(out: Stdout, 
     grammar: &[u8],
     table: &[u32],
     first: &[u64],
@@ -144,16 +145,16 @@ fn branches(
 {
     let a = goes_free(table, first, follow, one, window);
     let free = either(a, goes_free(table, first, follow, other, window));
-    say(b"The next bits of a frame must say which branch of an alternative is\n");
-    say(b"taken. ");
-    cannot(free);
-    say(b":\n");
-    part(grammar, one);
-    goes(grammar, table, first, follow, one, window);
-    part(grammar, other);
-    goes(grammar, table, first, follow, other, window);
-    both_admit(free);
-    windows::window(window, starts::start_of(table, one));
+    say(out, b"The next bits of a frame must say which branch of an alternative is\n");
+    say(out, b"taken. ");
+    cannot(out, free);
+    say(out, b":\n");
+    part(out, grammar, one);
+    goes(out, grammar, table, first, follow, one, window);
+    part(out, grammar, other);
+    goes(out, grammar, table, first, follow, other, window);
+    both_admit(out, free);
+    windows::window(out, window, starts::start_of(table, one));
 }
 
 pub fn next(i: usize) -> usize {
@@ -163,7 +164,7 @@ pub fn next(i: usize) -> usize {
     256
 }
 
-fn passes(
+fn passes(out: Stdout, 
     grammar: &[u8],
     table: &[u32],
     first: &[u64],
@@ -175,19 +176,19 @@ fn passes(
 {
     let a = goes_free(table, first, follow, next(construct), window);
     let free = either(a, stops_free(table, first, follow, construct, window));
-    say(b"Before each pass of ?, *, + or {2~4} the next 8 bits must say whether one\n");
-    say(b"more comes ({4} and {n} are not asked). ");
-    cannot(free);
-    say(b". A pass of\n");
-    part_at(grammar, place_of(grammar, construct), Part::Member);
-    goes(grammar, table, first, follow, next(construct), window);
-    say(b"may come, or what comes after it:\n");
-    stops(grammar, table, first, follow, construct, window);
-    turns_admit(free);
-    windows::window(window, starts::turn_of(table, construct));
+    say(out, b"Before each pass of ?, *, + or {2~4} the next 8 bits must say whether one\n");
+    say(out, b"more comes ({4} and {n} are not asked). ");
+    cannot(out, free);
+    say(out, b". A pass of\n");
+    part_at(out, grammar, place_of(grammar, construct), Part::Member);
+    goes(out, grammar, table, first, follow, next(construct), window);
+    say(out, b"may come, or what comes after it:\n");
+    stops(out, grammar, table, first, follow, construct, window);
+    turns_admit(out, free);
+    windows::window(out, window, starts::turn_of(table, construct));
 }
 
-pub fn explained(
+pub fn explained(out: Stdout, 
     grammar: &[u8],
     table: &[u32],
     first: &[u64],
@@ -203,9 +204,9 @@ pub fn explained(
             window,
             first: one,
             second,
-        } => branches(
+        } => branches(out, 
             grammar, table, first, follow, construct, window, one, second,
         ),
-        Clash::Passes { window } => passes(grammar, table, first, follow, construct, window),
+        Clash::Passes { window } => passes(out, grammar, table, first, follow, construct, window),
     }
 }

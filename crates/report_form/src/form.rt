@@ -10,54 +10,55 @@ use text_header::bytes::{both, either, letter};
 use text_header::spans::byte_at;
 use text_literals::quote;
 use text_parsing::terminals::look;
+use std::io::Stdout;
 
-fn long_name() {
-    say(
+fn long_name(out: Stdout) {
+    say(out, 
         b"This name has more than 32 bytes.\n\
         What to change: shorten it here and wherever it is used.\n",
     );
 }
 
-fn stray(b: u8) {
-    hexadecimal(b"This byte (hexadecimal ", b as usize, 2);
-    say(b") means nothing in the rules.\n");
-    if slips::byte(b) {
+fn stray(out: Stdout, b: u8) {
+    hexadecimal(out, b"This byte (hexadecimal ", b as usize, 2);
+    say(out, b") means nothing in the rules.\n");
+    if slips::byte(out, b) {
         return;
     }
-    say(
+    say(out, 
         b"What to change: take it out, or put it into a comment (from # to the\n\
         line's end). Rules are plain ASCII, and quotes are \" or '.\n",
     );
 }
 
-fn no_token(grammar: &[u8], at: usize) {
+fn no_token(out: Stdout, grammar: &[u8], at: usize) {
     let b = byte_at(grammar, at);
     if quote(b) {
-        literals::fault(grammar, at);
+        literals::fault(out, grammar, at);
         return;
     }
     if letter(b) {
-        long_name();
+        long_name(out);
         return;
     }
-    stray(b);
+    stray(out, b);
 }
 
-fn no_rule() {
-    say(
+fn no_rule(out: Stdout) {
+    say(out, 
         b"The text ends here and has no rule.\n\
         What to change: write at least one rule after the empty line:\n    \
         name = expression ;\n",
     );
 }
 
-fn unfinished(second: usize, last: usize) {
-    say(
+fn unfinished(out: Stdout, second: usize, last: usize) {
+    say(out, 
         b"The text ends here in the middle of a rule. A rule is written\n    \
         name = expression ;\n",
     );
-    expected::told(0, second, last);
-    say(b"What to change: finish the rule.\n");
+    expected::told(out, 0, second, last);
+    say(out, b"What to change: finish the rule.\n");
 }
 
 // What an item, or a repetition of one, can end with.
@@ -69,20 +70,20 @@ fn completes(code: usize) -> bool {
 }
 
 // Outside of brackets a `;` ends a rule; in front of all rules stands as much as one.
-fn end(grammar: &[u8], seen: Context, kind: usize, place: usize) {
+fn end(out: Stdout, grammar: &[u8], seen: Context, kind: usize, place: usize) {
     if both(seen.depth == 0, seen.last == 59) {
-        no_rule();
+        no_rule(out);
         return;
     }
     if both(completes(seen.last), seen.second != 59) {
-        slips::ended(grammar, kind, place);
+        slips::ended(out, grammar, kind, place);
         return;
     }
-    unfinished(seen.second, seen.last);
+    unfinished(out, seen.second, seen.last);
 }
 
-fn repetition() {
-    say(
+fn repetition(out: Stdout) {
+    say(out, 
         b"A repetition (?, *, + or {..}) stands after an item, and an item\n\
         takes only one. In a calculation + and * stand between two numbers.\n\
         What to change: put what is repeated in front of it; for a second\n\
@@ -90,27 +91,27 @@ fn repetition() {
     );
 }
 
-fn deep() {
-    say(
+fn deep(out: Stdout) {
+    say(out, 
         b"Parentheses and brackets, those of uint, sint and var too, go at most 16\n\
         deep. This is the 17th.\n\
         What to change: write what stands in them as a rule of its own.\n",
     );
 }
 
-fn equals() {
-    say(
+fn equals(out: Stdout) {
+    say(out, 
         b"After a rule's name comes =. A rule is written\n    \
         name = expression ;\n\
         What to change: put = here. Or is a ; one too many in front of it?\n",
     );
 }
 
-fn field(code: usize, last: usize) {
+fn field(out: Stdout, code: usize, last: usize) {
     if both(code == 41, last == 2) {
-        say(b"A comma and a set are missing here.\n");
+        say(out, b"A comma and a set are missing here.\n");
     }
-    say(
+    say(out, 
         b"A field is written uint(width, set), or sint(width, set) with a sign: the\n\
         width is one number from 1 to 64, then come a comma and a set, as in\n    \
         uint(8, 0~9 | 20)     sint(8, -1)     uint(8, var(n, 1~8))\n\
@@ -118,8 +119,8 @@ fn field(code: usize, last: usize) {
     );
 }
 
-fn set() {
-    say(
+fn set(out: Stdout) {
+    say(out, 
         b"After the comma comes a set: numbers and ranges with | between them,\n\
         as in 1 | 5~9 | 20~, or ~ for every value. Parentheses stand only\n\
         after !, as in ~ ! (1 | 2).\n\
@@ -127,8 +128,8 @@ fn set() {
     );
 }
 
-fn range() {
-    say(
+fn range(out: Stdout) {
+    say(out, 
         b"A range goes from one literal of a single character to another, as\n\
         in 'a'~'z'.\n\
         What to change: put a single character on each side. For numbers\n\
@@ -136,8 +137,8 @@ fn range() {
     );
 }
 
-fn switch() {
-    say(
+fn switch(out: Stdout) {
+    say(out, 
         b"A switch begins with a case that has a condition; the default, which\n\
         has none, comes last:\n    \
         [n = 1: \"A\"; n = 2: \"B\"; : \"C\";]\n\
@@ -145,8 +146,8 @@ fn switch() {
     );
 }
 
-fn mixed() {
-    say(
+fn mixed(out: Stdout) {
+    say(out, 
         b"Comparisons are joined all by & or all by |. A set takes only |, and\n\
         counts {..} neither.\n\
         What to change: put parentheses around one group of comparisons, as\n\
@@ -154,24 +155,24 @@ fn mixed() {
     );
 }
 
-fn number() {
-    say(
+fn number(out: Stdout) {
+    say(out, 
         b"A number stands only in a uint or sint, in counts {..} and in conditions.\n\
         What to change: write the text in quotes, as in \"5\" (byte 35), or a\n\
         field, as in uint(8, 5) (byte 05).\n",
     );
 }
 
-fn item() {
-    say(
+fn item(out: Stdout) {
+    say(out, 
         b"What to change: put & (then) or | (or) between two items; between two\n\
         numbers | or the sign of a calculation. Or is the ; of the rule before\n\
         it missing? Every rule is name = expression ;.\n",
     );
 }
 
-fn call() {
-    say(
+fn call(out: Stdout) {
+    say(out, 
         b"No ( comes after a name. Only uint(..) and sint(..) are written so, and\n\
         var(..) right after their comma.\n\
         What to change: is uint, sint or var misspelt? Or is & (then) or | (or)\n\
@@ -179,140 +180,140 @@ fn call() {
     );
 }
 
-fn rule_start(code: usize) {
-    say(
+fn rule_start(out: Stdout, code: usize) {
+    say(out, 
         b"The name of a rule must stand here. A rule is written\n    \
         name = expression ;\n",
     );
     if code == 59 {
-        say(b"What to change: this ; is one too many; take it out.\n");
+        say(out, b"What to change: this ; is one too many; take it out.\n");
     } else {
-        say(b"What to change: is a ; one too many in front of it?\n");
+        say(out, b"What to change: is a ; one too many in front of it?\n");
     }
 }
 
-fn sign() {
-    say(
+fn sign(out: Stdout) {
+    say(out, 
         b"What to change: look at what stands in front of it: something is\n\
         missing there, or is one too many. Is each ( [ { closed, and in its\n\
         own rule? Every rule is name = expression ;.\n",
     );
 }
 
-fn general(code: usize, last: usize) {
+fn general(out: Stdout, code: usize, last: usize) {
     if mark(code) {
-        repetition();
+        repetition(out);
         return;
     }
     if both(joins(code), ends_item(last)) {
-        mixed();
+        mixed(out);
         return;
     }
     if both(code == 40, last == 1) {
-        call();
+        call(out);
         return;
     }
     if both(begins_item(code), ends_item(last)) {
-        item();
+        item(out);
         return;
     }
     if code == 2 {
-        number();
+        number(out);
         return;
     }
-    sign();
+    sign(out);
 }
 
-fn bracketed(code: usize, seen: Context) {
+fn bracketed(out: Stdout, code: usize, seen: Context) {
     if in_field(seen.third, seen.second, seen.last) {
-        field(code, seen.last);
+        field(out, code, seen.last);
         return;
     }
     if in_set(seen.second, seen.last) {
-        set();
+        set(out);
         return;
     }
     if seen.last == 91 {
-        switch();
+        switch(out);
         return;
     }
-    general(code, seen.last);
+    general(out, code, seen.last);
 }
 
-fn misplaced(code: usize, seen: Context) {
+fn misplaced(out: Stdout, code: usize, seen: Context) {
     if ranging(code, seen.last) {
-        range();
+        range(out);
         return;
     }
-    bracketed(code, seen);
+    bracketed(out, code, seen);
 }
 
 // Outside of brackets: after a `;`, and after that and a name.
-fn outside(code: usize, seen: Context) {
+fn outside(out: Stdout, code: usize, seen: Context) {
     if seen.last == 59 {
-        rule_start(code);
+        rule_start(out, code);
         return;
     }
     if both(seen.second == 59, seen.last == 1) {
-        equals();
+        equals(out);
         return;
     }
-    misplaced(code, seen);
+    misplaced(out, code, seen);
 }
 
-fn opened(code: usize, seen: Context) {
+fn opened(out: Stdout, code: usize, seen: Context) {
     if both(16 <= seen.depth, either(code == 40, code == 91)) {
-        deep();
+        deep(out);
         return;
     }
     if seen.depth == 0 {
-        outside(code, seen);
+        outside(out, code, seen);
         return;
     }
-    misplaced(code, seen);
+    misplaced(out, code, seen);
 }
 
 // What can stand there, and what is wrong.
-fn not_a_slip(code: usize, seen: Context, kind: usize) {
+fn not_a_slip(out: Stdout, code: usize, seen: Context, kind: usize) {
     if both(seen.depth < 16, both(seen.second != 59, seen.last != 59)) {
-        expected::told(kind, seen.second, seen.last);
+        expected::told(out, kind, seen.second, seen.last);
     }
-    opened(code, seen);
+    opened(out, code, seen);
 }
 
-fn standing(grammar: &[u8], at: usize, code: usize, next: usize, seen: Context, open: Brackets) {
+fn standing(out: Stdout, grammar: &[u8], at: usize, code: usize, next: usize, seen: Context, open: Brackets) {
     let kind = open.kinds % 8;
     if code == 5 {
-        end(grammar, seen, kind, open.end);
+        end(out, grammar, seen, kind, open.end);
         return;
     }
-    say(b"This cannot stand here:  ");
-    token(grammar, at);
-    say(b"\n");
-    if slips::told(grammar, kind, seen.last, code, next, open.end) {
+    say(out, b"This cannot stand here:  ");
+    token(out, grammar, at);
+    say(out, b"\n");
+    if slips::told(out, grammar, kind, seen.last, code, next, open.end) {
         return;
     }
-    not_a_slip(code, seen, kind);
+    not_a_slip(out, code, seen, kind);
 }
 
-fn form_at(grammar: &[u8], base: usize, at: usize, code: usize, next: usize) {
+fn form_at(out: Stdout, grammar: &[u8], base: usize, at: usize, code: usize, next: usize) {
     if code == 4 {
-        no_token(grammar, at);
+        no_token(out, grammar, at);
         return;
     }
     let open = open_at(grammar, base, at);
-    standing(grammar, at, code, next, before(grammar, base, at), open);
+    standing(out, grammar, at, code, next, before(grammar, base, at), open);
 }
 
-fn wrong_at(grammar: &[u8], base: usize, at: usize) {
+fn wrong_at(out: Stdout, grammar: &[u8], base: usize, at: usize) {
     let terminal = look(grammar, at);
     let next = look(grammar, terminal.end).code;
-    form_at(grammar, base, at, terminal.code, next);
+    form_at(out, grammar, base, at, terminal.code, next);
 }
 
-pub fn wrong(grammar: &[u8], at: usize) {
+pub fn wrong(out: Stdout, grammar: &[u8], at: usize) {
     match text_header::header::header(grammar) {
-        Heading::Rules(base) => wrong_at(grammar, base, at),
+        Heading::Rules(base) => wrong_at(out, grammar, base, at),
         Heading::Wrong(_) => {}
     }
 }

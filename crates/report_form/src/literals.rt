@@ -5,18 +5,19 @@ use report_wording::writing::{hexadecimal, number, say};
 use text_header::bytes::{either, printable};
 use text_header::spans::byte_at;
 use text_literals::{Part, reach};
+use std::io::Stdout;
 
-fn long(count: usize) {
-    number(b"This literal has ", count);
-    say(
+fn long(out: Stdout, count: usize) {
+    number(out, b"This literal has ", count);
+    say(out, 
         b" characters. A literal has at most 32.\n\
         What to change: write it as two, with & between them: \"ab\" & \"cd\" is\n\
         \"abcd\".\n",
     );
 }
 
-fn unclosed() {
-    say(
+fn unclosed(out: Stdout) {
+    say(out, 
         b"This literal is not closed. It must end on its line, by the quote that\n\
         opened it.\n\
         What to change: put the quote at its end. A quote inside of it is\n\
@@ -24,54 +25,54 @@ fn unclosed() {
     );
 }
 
-fn empty() {
-    say(
+fn empty(out: Stdout) {
+    say(out, 
         b"This literal is empty. A literal has at least 1 character.\n\
         What to change: take it out, with the & or | beside it. What may be\n\
         left out is written with ?, as in \"A\"?.\n",
     );
 }
 
-fn escape(grammar: &[u8], at: usize) {
-    say(b"In this literal a backslash is not followed as it must be, at\n");
-    lines::shown(grammar, at);
-    say(
+fn escape(out: Stdout, grammar: &[u8], at: usize) {
+    say(out, b"In this literal a backslash is not followed as it must be, at\n");
+    lines::shown(out, grammar, at);
+    say(out, 
         b"What to change: a backslash stands only in \\\\ \\\" \\' and \\[hex], from\n\
         \\[0] to \\[7f]. A line feed is \\[0a]. For a byte from 80 to ff write\n\
         uint(8, 0x80).\n",
     );
 }
 
-fn foreign(grammar: &[u8], at: usize) {
-    hexadecimal(
+fn foreign(out: Stdout, grammar: &[u8], at: usize) {
+    hexadecimal(out, 
         b"In this literal stands a byte (hexadecimal ",
         byte_at(grammar, at) as usize,
         2,
     );
-    say(b") that is no\nprintable ASCII, at\n");
-    lines::shown(grammar, at);
-    say(
+    say(out, b") that is no\nprintable ASCII, at\n");
+    lines::shown(out, grammar, at);
+    say(out, 
         b"What to change: up to 7f write it as \\[hex]: a tab is \\[09]. For a byte\n\
         from 80 to ff write uint(8, 0x80), outside of the literal.\n",
     );
 }
 
 // The first byte that is wrong.
-fn wrong(grammar: &[u8], at: usize, place: usize) {
+fn wrong(out: Stdout, grammar: &[u8], at: usize, place: usize) {
     let b = byte_at(grammar, place);
     if either(b == 10, b == 13) {
-        unclosed();
+        unclosed(out);
         return;
     }
     if !printable(b) {
-        foreign(grammar, place);
+        foreign(out, grammar, place);
         return;
     }
     if place <= saturating_next(at) {
-        empty();
+        empty(out);
         return;
     }
-    escape(grammar, place);
+    escape(out, grammar, place);
 }
 
 fn one_less(n: usize) -> usize {
@@ -81,20 +82,20 @@ fn one_less(n: usize) -> usize {
     0
 }
 
-fn stopped(grammar: &[u8], at: usize, part: Part, count: usize, end: usize) {
+fn stopped(out: Stdout, grammar: &[u8], at: usize, part: Part, count: usize, end: usize) {
     match part {
-        Part::Closed => long(count),
-        Part::Wrong => wrong(grammar, at, one_less(end)),
-        _ => unclosed(),
+        Part::Closed => long(out, count),
+        Part::Wrong => wrong(out, grammar, at, one_less(end)),
+        _ => unclosed(out),
     }
 }
 
-pub fn fault(grammar: &[u8], at: usize) {
+pub fn fault(out: Stdout, grammar: &[u8], at: usize) {
     if at < grammar.len() {
         let extent = reach(grammar, at);
         let part = extent.part;
         let count = extent.count;
         let end = extent.end;
-        stopped(grammar, at, part, count, end);
+        stopped(out, grammar, at, part, count, end);
     }
 }

@@ -3,91 +3,92 @@ use report_quoting::openings::open_before;
 use report_wording::lines;
 use report_wording::writing::say;
 use text_header::bytes::{both, either};
+use std::io::Stdout;
 
-fn equals() {
-    say(
+fn equals(out: Stdout) {
+    say(out, 
         b"= is written once, in conditions too: [n = 1: \"A\";].\n\
         What to change: take one = away.\n",
     );
 }
 
-fn comma() {
-    say(
+fn comma(out: Stdout) {
+    say(out, 
         b"Counts have no comma.\n\
         What to change: from 2 to 3 times is {2~3}, from 2 times on {2~}.\n",
     );
 }
 
-fn calculation() {
-    say(
+fn calculation(out: Stdout) {
+    say(out, 
         b"A calculation has no parentheses.\n\
         What to change: multiply them out: 2 * n - 2 for (n - 1) * 2. * comes\n\
         before + and -.\n",
     );
 }
 
-fn dash() {
-    say(
+fn dash(out: Stdout) {
+    say(out, 
         b"A range of characters is written with ~.\n\
         What to change: 'a'~'z' for 'a'-'z'.\n",
     );
 }
 
-fn both_in_set() {
-    say(
+fn both_in_set(out: Stdout) {
+    say(out, 
         b"In a set the items stand with | between them: a value is one of them.\n\
         What to change: | for &. All of 1 to 9 but 5 is 1~9 ! 5.\n",
     );
 }
 
-fn comma_in_set() {
-    say(
+fn comma_in_set(out: Stdout) {
+    say(out, 
         b"In a set the items stand with | between them.\n\
         What to change: | for the comma: uint(8, 1 | 2 | 5~9).\n",
     );
 }
 
-fn literal_in_formula() {
-    say(
+fn literal_in_formula(out: Stdout) {
+    say(out, 
         b"Sets, counts and conditions have numbers, no characters.\n\
         What to change: write the character's number: 0x41 for \"A\"; or outside\n\
         of uint the literal itself, or a range as 'a'~'z'.\n",
     );
 }
 
-fn semicolon(grammar: &[u8], end: usize) {
-    say(b"The rule before it has no ; at its end:\n");
-    lines::shown(grammar, end);
-    say(b"What to change: put the ; there. Every rule is name = expression ;.\n");
+fn semicolon(out: Stdout, grammar: &[u8], end: usize) {
+    say(out, b"The rule before it has no ; at its end:\n");
+    lines::shown(out, grammar, end);
+    say(out, b"What to change: put the ; there. Every rule is name = expression ;.\n");
 }
 
-fn open_group(grammar: &[u8], end: usize) {
-    say(b"A ) is missing in front of this ;. The ( that is not closed:\n");
-    lines::shown(grammar, open_before(grammar, end));
-    say(b"What to change: close the group, or take its ( away.\n");
+fn open_group(out: Stdout, grammar: &[u8], end: usize) {
+    say(out, b"A ) is missing in front of this ;. The ( that is not closed:\n");
+    lines::shown(out, grammar, open_before(grammar, end));
+    say(out, b"What to change: close the group, or take its ( away.\n");
 }
 
-fn unfinished(grammar: &[u8], end: usize) {
-    say(b"The last rule has no ; at its end:\n");
-    lines::shown(grammar, end);
-    say(b"What to change: put the ; there.\n");
+fn unfinished(out: Stdout, grammar: &[u8], end: usize) {
+    say(out, b"The last rule has no ; at its end:\n");
+    lines::shown(out, grammar, end);
+    say(out, b"What to change: put the ; there.\n");
 }
 
-fn unclosed(grammar: &[u8], end: usize, sign: &[u8]) {
-    say(b"The text ends here, and a ");
-    say(sign);
-    say(b" is missing. The bracket that is not closed:\n");
-    lines::shown(grammar, open_before(grammar, end));
-    say(b"What to change: close the bracket, and end the rule with ;.\n");
+fn unclosed(out: Stdout, grammar: &[u8], end: usize, sign: &[u8]) {
+    say(out, b"The text ends here, and a ");
+    say(out, sign);
+    say(out, b" is missing. The bracket that is not closed:\n");
+    lines::shown(out, grammar, open_before(grammar, end));
+    say(out, b"What to change: close the bracket, and end the rule with ;.\n");
 }
 
-fn open_case(grammar: &[u8], end: usize) {
-    say(
+fn open_case(out: Stdout, grammar: &[u8], end: usize) {
+    say(out, 
         b"The text ends here in a switch: the ; of its case and its ] are missing.\n\
         The switch begins here:\n",
     );
-    lines::shown(grammar, open_before(grammar, end));
-    say(b"What to change: put them there, and end the rule with ;.\n");
+    lines::shown(out, grammar, open_before(grammar, end));
+    say(out, b"What to change: put them there, and end the rule with ;.\n");
 }
 
 fn formula(kind: usize) -> bool {
@@ -99,64 +100,64 @@ fn literal(code: usize) -> bool {
 }
 
 // In a set, by the innermost bracket; whether there was something to say.
-fn in_set(kind: usize, code: usize, last: usize) -> bool {
+fn in_set(out: Stdout, kind: usize, code: usize, last: usize) -> bool {
     if !formula(kind) {
         return false;
     }
     if both(code == 38, either(last == 2, last == 1)) {
-        both_in_set();
+        both_in_set(out);
         return true;
     }
     if literal(code) {
-        literal_in_formula();
+        literal_in_formula(out);
         return true;
     }
     false
 }
 
-fn in_counts(kind: usize, code: usize) -> bool {
+fn in_counts(out: Stdout, kind: usize, code: usize) -> bool {
     if kind != 6 {
         return false;
     }
     if code == 44 {
-        comma();
+        comma(out);
         return true;
     }
     if code == 40 {
-        calculation();
+        calculation(out);
         return true;
     }
     if literal(code) {
-        literal_in_formula();
+        literal_in_formula(out);
         return true;
     }
     false
 }
 
-fn second_comma(kind: usize, code: usize, last: usize) -> bool {
+fn second_comma(out: Stdout, kind: usize, code: usize, last: usize) -> bool {
     if both(
         formula(kind),
         both(code == 44, either(last == 2, last == 1)),
     ) {
-        comma_in_set();
+        comma_in_set(out);
         return true;
     }
     false
 }
 
-fn in_brackets(kind: usize, code: usize, last: usize) -> bool {
-    if in_set(kind, code, last) {
+fn in_brackets(out: Stdout, kind: usize, code: usize, last: usize) -> bool {
+    if in_set(out, kind, code, last) {
         return true;
     }
-    if in_counts(kind, code) {
+    if in_counts(out, kind, code) {
         return true;
     }
-    second_comma(kind, code, last)
+    second_comma(out, kind, code, last)
 }
 
 // Whether the token with this code, after one with the code `last`, is such a slip, which is then said. `next` is the code after it, `end` the end
 // of the token before.
-pub fn told(
+pub fn told(out: Stdout, 
     grammar: &[u8],
     kind: usize,
     last: usize,
@@ -165,22 +166,22 @@ pub fn told(
     end: usize,
 ) -> bool {
     if both(code == 61, last == 61) {
-        equals();
+        equals(out);
         return true;
     }
     if both(code == 45, literal(last)) {
-        dash();
+        dash(out);
         return true;
     }
     if both(kind == 0, both(both(code == 1, next == 61), last != 59)) {
-        semicolon(grammar, end);
+        semicolon(out, grammar, end);
         return true;
     }
     if both(kind == 1, both(code == 59, item_end(last))) {
-        open_group(grammar, end);
+        open_group(out, grammar, end);
         return true;
     }
-    in_brackets(kind, code, last)
+    in_brackets(out, kind, code, last)
 }
 
 // A name, a literal, eod, a closing bracket, a sign of repetition.
@@ -198,18 +199,18 @@ fn item_end(code: usize) -> bool {
 }
 
 // At the text's end, after an item.
-pub fn ended(grammar: &[u8], kind: usize, end: usize) {
+pub fn ended(out: Stdout, grammar: &[u8], kind: usize, end: usize) {
     match kind {
-        0 => unfinished(grammar, end),
-        4 => unclosed(grammar, end, b"]"),
-        5 => open_case(grammar, end),
-        6 => unclosed(grammar, end, b"}"),
-        _ => unclosed(grammar, end, b")"),
+        0 => unfinished(out, grammar, end),
+        4 => unclosed(out, grammar, end, b"]"),
+        5 => open_case(out, grammar, end),
+        6 => unclosed(out, grammar, end, b"}"),
+        _ => unclosed(out, grammar, end, b")"),
     }
 }
 
-fn division() {
-    say(
+fn division(out: Stdout) {
+    say(out, 
         b"There is no division.\n\
         What to change: bind the half itself: uint(8, var(n, ~)) & \"AB\"{n} has\n\
         2 * n + 1 bytes. That changes the frames where the field has the whole.\n\
@@ -217,15 +218,15 @@ fn division() {
     );
 }
 
-fn dots() {
-    say(
+fn dots(out: Stdout) {
+    say(out, 
         b"A range is written with ~, not with dots.\n\
         What to change: 1~5, 'a'~'z', {2~4}.\n",
     );
 }
 
-fn quotes() {
-    say(
+fn quotes(out: Stdout) {
+    say(out, 
         b"Quotes are the plain \" and ', and rules are plain ASCII.\n\
         What to change: type the quotes, dashes and blanks anew; an editor may\n\
         have changed them.\n",
@@ -233,17 +234,17 @@ fn quotes() {
 }
 
 // A byte that means nothing; whether it is one of those that are often meant for something.
-pub fn byte(b: u8) -> bool {
+pub fn byte(out: Stdout, b: u8) -> bool {
     if b == 47 {
-        division();
+        division(out);
         return true;
     }
     if b == 46 {
-        dots();
+        dots(out);
         return true;
     }
     if 127 < b {
-        quotes();
+        quotes(out);
         return true;
     }
     false

@@ -11,166 +11,167 @@ use report_quoting::windows::binary;
 use report_wording::lines;
 use report_wording::writing::say;
 use text_parsing::terminals::look;
+use std::io::Stdout;
 
-fn here(grammar: &[u8], at: usize) {
-    say(b"        ");
-    lines::place(grammar, at);
-    say(b":  ");
+fn here(out: Stdout, grammar: &[u8], at: usize) {
+    say(out, b"        ");
+    lines::place(out, grammar, at);
+    say(out, b":  ");
 }
 
-fn named(grammar: &[u8], at: usize) {
-    say(b"the variable ");
-    token(grammar, first_name(grammar, at));
+fn named(out: Stdout, grammar: &[u8], at: usize) {
+    say(out, b"the variable ");
+    token(out, grammar, first_name(grammar, at));
 }
 
 // A set with a variable.
-fn set_note(grammar: &[u8], at: usize) {
-    say(b"  counts as every value,\n            since its set uses ");
-    named(grammar, look(grammar, look(grammar, at).end).end);
-    say(b"\n");
+fn set_note(out: Stdout, grammar: &[u8], at: usize) {
+    say(out, b"  counts as every value,\n            since its set uses ");
+    named(out, grammar, look(grammar, look(grammar, at).end).end);
+    say(out, b"\n");
 }
 
-fn counts_note(grammar: &[u8], at: usize) {
-    say(b"            (any number of passes counts as possible, also 0, since its count\n");
-    say(b"            uses ");
-    named(grammar, end_of(grammar, at, Part::Field));
-    say(b")\n");
+fn counts_note(out: Stdout, grammar: &[u8], at: usize) {
+    say(out, b"            (any number of passes counts as possible, also 0, since its count\n");
+    say(out, b"            uses ");
+    named(out, grammar, end_of(grammar, at, Part::Field));
+    say(out, b")\n");
 }
 
 // A literal has its bits in every frame, another field in some.
-fn verb(literal: bool, part: bool) {
+fn verb(out: Stdout, literal: bool, part: bool) {
     if literal {
         if part {
-            say(b"  begins with ");
+            say(out, b"  begins with ");
         } else {
-            say(b"  is ");
+            say(out, b"  is ");
         }
         return;
     }
     if part {
-        say(b"  can begin with ");
+        say(out, b"  can begin with ");
     } else {
-        say(b"  can be ");
+        say(out, b"  can be ");
     }
 }
 
 // What the bits are of a sint's values.
-fn sign_of(table: &[u32], i: usize, value: usize) {
+fn sign_of(out: Stdout, table: &[u32], i: usize, value: usize) {
     if is_signed(table, i) {
-        signs::told(value, bits(value), width_of(table, i));
+        signs::told(out, value, bits(value), width_of(table, i));
     }
 }
 
-fn bits_of(table: &[u32], i: usize, value: usize) {
-    verb(is_literal(table, i), bits(value) < width_of(table, i));
-    binary(value, bits(value));
-    sign_of(table, i, value);
-    say(b"\n");
+fn bits_of(out: Stdout, table: &[u32], i: usize, value: usize) {
+    verb(out, is_literal(table, i), bits(value) < width_of(table, i));
+    binary(out, value, bits(value));
+    sign_of(out, table, i, value);
+    say(out, b"\n");
 }
 
-fn field(grammar: &[u8], table: &[u32], i: usize, value: usize) {
+fn field(out: Stdout, grammar: &[u8], table: &[u32], i: usize, value: usize) {
     let at = place_of(grammar, i);
-    here(grammar, at);
-    quote(grammar, at, Part::Field);
+    here(out, grammar, at);
+    quote(out, grammar, at, Part::Field);
     if varies(table, i) {
-        set_note(grammar, at);
+        set_note(out, grammar, at);
     } else {
-        bits_of(table, i, value);
+        bits_of(out, table, i, value);
     }
 }
 
-fn used(grammar: &[u8], i: usize) {
+fn used(out: Stdout, grammar: &[u8], i: usize) {
     let at = place_of(grammar, i);
-    here(grammar, at);
-    token(grammar, at);
-    say(b", the rule of ");
-    lines::place(grammar, definition(grammar, at));
-    say(b"\n");
+    here(out, grammar, at);
+    token(out, grammar, at);
+    say(out, b", the rule of ");
+    lines::place(out, grammar, definition(grammar, at));
+    say(out, b"\n");
 }
 
-fn counts_as(n: usize) {
+fn counts_as(out: Stdout, n: usize) {
     if n == 0 {
-        say(b"  counts as left out\n");
+        say(out, b"  counts as left out\n");
     } else {
-        say(b"  counts as coming\n");
+        say(out, b"  counts as coming\n");
     }
 }
 
-fn repetition(grammar: &[u8], i: usize) {
+fn repetition(out: Stdout, grammar: &[u8], i: usize) {
     let at = place_of(grammar, i);
-    here(grammar, at);
-    quote(grammar, at, Part::Member);
+    here(out, grammar, at);
+    quote(out, grammar, at, Part::Member);
 }
 
 // A body that comes is listed by its fields.
-fn repeated(grammar: &[u8], table: &[u32], i: usize, n: usize) {
+fn repeated(out: Stdout, grammar: &[u8], table: &[u32], i: usize, n: usize) {
     if varies(table, i) {
-        repetition(grammar, i);
-        counts_as(n);
-        counts_note(grammar, place_of(grammar, i));
+        repetition(out, grammar, i);
+        counts_as(out, n);
+        counts_note(out, grammar, place_of(grammar, i));
         return;
     }
     if n == 0 {
-        repetition(grammar, i);
-        say(b"  is left out\n");
+        repetition(out, grammar, i);
+        say(out, b"  is left out\n");
     }
 }
 
-fn ended(grammar: &[u8], i: usize) {
-    here(grammar, place_of(grammar, i));
-    say(b"eod  takes no bits\n");
+fn ended(out: Stdout, grammar: &[u8], i: usize) {
+    here(out, grammar, place_of(grammar, i));
+    say(out, b"eod  takes no bits\n");
 }
 
-fn passed_over(grammar: &[u8], i: usize) {
+fn passed_over(out: Stdout, grammar: &[u8], i: usize) {
     let at = place_of(grammar, i);
-    here(grammar, at);
-    quote(grammar, at, Part::Field);
-    say(b"  takes no bits where no case is\n            true, since it has no default\n");
+    here(out, grammar, at);
+    quote(out, grammar, at, Part::Field);
+    say(out, b"  takes no bits where no case is\n            true, since it has no default\n");
 }
 
 // What comes first needs no word in front.
-fn then(is_first: bool) {
-    say(b"        ");
+fn then(out: Stdout, is_first: bool) {
+    say(out, b"        ");
     if !is_first {
-        say(b"then ");
+        say(out, b"then ");
     }
 }
 
-fn after_use(grammar: &[u8], is_first: bool, i: usize) {
+fn after_use(out: Stdout, grammar: &[u8], is_first: bool, i: usize) {
     let at = place_of(grammar, i);
-    then(is_first);
-    say(b"what comes after ");
-    token(grammar, at);
-    say(b" at ");
-    lines::place(grammar, at);
-    say(b":\n");
+    then(out, is_first);
+    say(out, b"what comes after ");
+    token(out, grammar, at);
+    say(out, b" at ");
+    lines::place(out, grammar, at);
+    say(out, b":\n");
 }
 
-fn further(grammar: &[u8], is_first: bool, i: usize) {
+fn further(out: Stdout, grammar: &[u8], is_first: bool, i: usize) {
     let at = place_of(grammar, i);
-    then(is_first);
-    say(b"a further pass of ");
-    quote(grammar, at, Part::Member);
-    say(b" at ");
-    lines::place(grammar, at);
-    say(b":\n");
+    then(out, is_first);
+    say(out, b"a further pass of ");
+    quote(out, grammar, at, Part::Member);
+    say(out, b" at ");
+    lines::place(out, grammar, at);
+    say(out, b":\n");
 }
 
-fn frame_ends(is_first: bool) {
-    then(is_first);
-    say(b"the frame ends\n");
+fn frame_ends(out: Stdout, is_first: bool) {
+    then(out, is_first);
+    say(out, b"the frame ends\n");
 }
 
-fn step(grammar: &[u8], table: &[u32], is_first: bool, tag: usize, i: usize, value: usize) {
+fn step(out: Stdout, grammar: &[u8], table: &[u32], is_first: bool, tag: usize, i: usize, value: usize) {
     match tag {
-        1 => field(grammar, table, i, value),
-        2 => used(grammar, i),
-        3 => repeated(grammar, table, i, value),
-        4 => ended(grammar, i),
-        8 => passed_over(grammar, i),
-        5 => after_use(grammar, is_first, i),
-        6 => further(grammar, is_first, i),
-        7 => frame_ends(is_first),
+        1 => field(out, grammar, table, i, value),
+        2 => used(out, grammar, i),
+        3 => repeated(out, grammar, table, i, value),
+        4 => ended(out, grammar, i),
+        8 => passed_over(out, grammar, i),
+        5 => after_use(out, grammar, is_first, i),
+        6 => further(out, grammar, is_first, i),
+        7 => frame_ends(out, is_first),
         _ => {}
     }
 }
@@ -223,8 +224,8 @@ pub fn free(table: &[u32], steps: &[usize], count: usize) -> bool {
     false
 }
 
-fn step_at(grammar: &[u8], table: &[u32], steps: &[usize], is_first: bool, k: usize) {
-    step(
+fn step_at(out: Stdout, grammar: &[u8], table: &[u32], steps: &[usize], is_first: bool, k: usize) {
+    step(out, 
         grammar,
         table,
         is_first,
@@ -242,11 +243,11 @@ fn still_first(is_first: bool, tag: usize) -> bool {
     false
 }
 
-pub fn listed(grammar: &[u8], table: &[u32], steps: &[usize], count: usize) {
+pub fn listed(out: Stdout, grammar: &[u8], table: &[u32], steps: &[usize], count: usize) {
     let mut is_first = true;
     let mut k: usize = 0;
     while k < count {
-        step_at(grammar, table, steps, is_first, k);
+        step_at(out, grammar, table, steps, is_first, k);
         is_first = still_first(is_first, tag_at(steps, k));
         k += 1;
     }

@@ -3,6 +3,7 @@ use report_places::{Located, Query, locate};
 use report_quoting::quoting::{Part, quote, token};
 use report_wording::lines;
 use report_wording::writing::say;
+use std::io::Stdout;
 
 // A construct's first byte.
 pub fn place_of(grammar: &[u8], i: usize) -> usize {
@@ -39,16 +40,16 @@ pub fn fault_from(grammar: &[u8], at: usize) -> usize {
 }
 
 // A line of a list: the place, and what stands there.
-pub fn part_at(grammar: &[u8], at: usize, part: Part) {
-    say(b"    ");
-    lines::place(grammar, at);
-    say(b":  ");
-    quote(grammar, at, part);
-    say(b"\n");
+pub fn part_at(out: Stdout, grammar: &[u8], at: usize, part: Part) {
+    say(out, b"    ");
+    lines::place(out, grammar, at);
+    say(out, b":  ");
+    quote(out, grammar, at, part);
+    say(out, b"\n");
 }
 
 // The rule that a place lies in, by its name.
-pub fn in_rule(grammar: &[u8], at: usize) {
-    say(b", in the rule ");
-    token(grammar, owner(grammar, at));
+pub fn in_rule(out: Stdout, grammar: &[u8], at: usize) {
+    say(out, b", in the rule ");
+    token(out, grammar, owner(grammar, at));
 }

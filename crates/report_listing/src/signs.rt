@@ -1,6 +1,7 @@
 // The values of a sint that begin with some bits.
 use report_wording::lines::{saturating_next, saturating_sub};
 use report_wording::writing::{number, say};
+use std::io::Stdout;
 
 // A number below the largest half stays a number when it is doubled.
 fn twice(n: usize) -> usize {
@@ -22,19 +23,19 @@ fn shifted(n: usize, bits: usize) -> usize {
 }
 
 // From `low` to `high` places away from 0, or that place alone.
-fn between(low: usize, high: usize, sign: &[u8]) {
-    say(sign);
-    number(b"", low);
+fn between(out: Stdout, low: usize, high: usize, sign: &[u8]) {
+    say(out, sign);
+    number(out, b"", low);
     if low != high {
-        say(b" to ");
-        say(sign);
-        number(b"", high);
+        say(out, b" to ");
+        say(out, sign);
+        number(out, b"", high);
     }
 }
 
 // Values from 0 up that begin with the number n, `hidden` bits being left.
-fn up(n: usize, hidden: usize) {
-    between(
+fn up(out: Stdout, n: usize, hidden: usize) {
+    between(out, 
         shifted(n, hidden),
         saturating_sub(shifted(saturating_next(n), hidden), 1),
         b"",
@@ -42,8 +43,8 @@ fn up(n: usize, hidden: usize) {
 }
 
 // Values below 0: n is how much the bits that are seen lack to the number after all of them.
-fn down(n: usize, hidden: usize) {
-    between(
+fn down(out: Stdout, n: usize, hidden: usize) {
+    between(out, 
         shifted(n, hidden),
         saturating_next(shifted(saturating_sub(n, 1), hidden)),
         b"-",
@@ -51,18 +52,18 @@ fn down(n: usize, hidden: usize) {
 }
 
 // Of a window, a 1 followed by its bits: the values of so many bits that begin with them.
-pub fn told(window: usize, seen: usize, width: usize) {
+pub fn told(out: Stdout, window: usize, seen: usize, width: usize) {
     let all = shifted(1, seen);
     let first = saturating_sub(window, all);
     let hidden = saturating_sub(width, seen);
     if 0 < hidden {
-        say(b", as do values from ");
+        say(out, b", as do values from ");
     } else {
-        say(b", the value ");
+        say(out, b", the value ");
     }
     if all <= twice(first) {
-        down(saturating_sub(all, first), hidden);
+        down(out, saturating_sub(all, first), hidden);
     } else {
-        up(first, hidden);
+        up(out, first, hidden);
     }
 }

@@ -6,6 +6,7 @@ use report_measures::words::number_at;
 use report_wording::lines;
 use report_wording::lines::saturating_sub;
 use report_wording::writing::{number, say};
+use std::io::Stdout;
 
 // Whether an earlier field has the name of field i.
 fn again(
@@ -41,13 +42,13 @@ fn has(
 }
 
 // The number of a field whose name an earlier one has: no other constant ends with it.
-fn apart(i: usize, again: bool) {
+fn apart(out: Stdout, i: usize, again: bool) {
     if again {
-        number(b"_", i);
+        number(out, b"_", i);
     }
 }
 
-fn constant(
+fn constant(out: Stdout, 
     grammar: &[u8],
     prefix: &[u8],
     named: Named,
@@ -56,18 +57,18 @@ fn constant(
     again: bool,
     value: usize,
 ) {
-    say(b"#define ");
-    say(prefix);
-    spelling::name(grammar, named);
-    say(what);
-    apart(i, again);
-    number(b" ", value);
-    say(b"u");
+    say(out, b"#define ");
+    say(out, prefix);
+    spelling::name(out, grammar, named);
+    say(out, what);
+    apart(out, i, again);
+    number(out, b" ", value);
+    say(out, b"u");
 }
 
-fn variable(grammar: &[u8], prefix: &[u8], named: Named, i: usize, again: bool, binder: usize) {
+fn variable(out: Stdout, grammar: &[u8], prefix: &[u8], named: Named, i: usize, again: bool, binder: usize) {
     if 0 < binder {
-        constant(
+        constant(out, 
             grammar,
             prefix,
             named,
@@ -76,11 +77,11 @@ fn variable(grammar: &[u8], prefix: &[u8], named: Named, i: usize, again: bool, 
             again,
             saturating_sub(binder, 1),
         );
-        say(b"\n");
+        say(out, b"\n");
     }
 }
 
-fn field_named(
+fn field_named(out: Stdout, 
     grammar: &[u8],
     prefix: &[u8],
     table: &[u32],
@@ -89,11 +90,11 @@ fn field_named(
     named: Named,
     again: bool,
 ) {
-    constant(grammar, prefix, named, b"_CONSTRUCT", i, again, i);
-    say(b" /* ");
-    lines::place(grammar, at);
-    say(b" */\n");
-    constant(
+    constant(out, grammar, prefix, named, b"_CONSTRUCT", i, again, i);
+    say(out, b" /* ");
+    lines::place(out, grammar, at);
+    say(out, b" */\n");
+    constant(out, 
         grammar,
         prefix,
         named,
@@ -102,11 +103,11 @@ fn field_named(
         again,
         width_of(table, i),
     );
-    say(b"\n");
-    variable(grammar, prefix, named, i, again, binder_of(table, i));
+    say(out, b"\n");
+    variable(out, grammar, prefix, named, i, again, binder_of(table, i));
 }
 
-fn field_at(
+fn field_at(out: Stdout, 
     grammar: &[u8],
     prefix: &[u8],
     table: &[u32],
@@ -117,7 +118,7 @@ fn field_at(
     if 0 < kind_of(table, i) {
         let named = field(grammar, table, rules, constructs, i);
         let twice = again(grammar, table, rules, constructs, i, named);
-        field_named(
+        field_named(out, 
             grammar,
             prefix,
             table,
@@ -129,51 +130,51 @@ fn field_at(
     }
 }
 
-fn fields(grammar: &[u8], prefix: &[u8], table: &[u32], rules: &[usize], constructs: &[usize]) {
+fn fields(out: Stdout, grammar: &[u8], prefix: &[u8], table: &[u32], rules: &[usize], constructs: &[usize]) {
     let mut i: usize = 0;
     while i < 256 {
-        field_at(grammar, prefix, table, rules, constructs, i);
+        field_at(out, grammar, prefix, table, rules, constructs, i);
         i += 1;
     }
 }
 
 // A line with a name that begins with the start rule's.
-fn whole(grammar: &[u8], prefix: &[u8], before: &[u8], start: usize, what: &[u8]) {
-    say(before);
-    say(prefix);
-    spelling::word(grammar, start);
-    say(what);
+fn whole(out: Stdout, grammar: &[u8], prefix: &[u8], before: &[u8], start: usize, what: &[u8]) {
+    say(out, before);
+    say(out, prefix);
+    spelling::word(out, grammar, start);
+    say(out, what);
 }
 
-fn guarded(grammar: &[u8], prefix: &[u8], start: usize) {
-    say(b"/* Fields and variables of a grammar by their names, for songrafter_field and\n");
-    say(b" * songrafter_value. Printed by `names`: to be printed anew where the grammar\n");
-    say(b" * changes. */\n");
-    whole(grammar, prefix, b"#ifndef ", start, b"_NAMES_H\n");
-    whole(grammar, prefix, b"#define ", start, b"_NAMES_H\n\n");
-    say(b"#include <stddef.h>\n#include <stdint.h>\n\n");
+fn guarded(out: Stdout, grammar: &[u8], prefix: &[u8], start: usize) {
+    say(out, b"/* Fields and variables of a grammar by their names, for songrafter_field and\n");
+    say(out, b" * songrafter_value. Printed by `names`: to be printed anew where the grammar\n");
+    say(out, b" * changes. */\n");
+    whole(out, grammar, prefix, b"#ifndef ", start, b"_NAMES_H\n");
+    whole(out, grammar, prefix, b"#define ", start, b"_NAMES_H\n\n");
+    say(out, b"#include <stddef.h>\n#include <stdint.h>\n\n");
 }
 
-fn bounds(grammar: &[u8], prefix: &[u8], start: usize, weight: usize) {
-    whole(grammar, prefix, b"#define ", start, b"_WEIGHT ");
-    number(b"", weight);
-    say(b"u\n/* So many steps decide a frame of so many bits. */\n");
-    whole(grammar, prefix, b"#define ", start, b"_STEPS(bits) (");
-    number(b"", weight);
-    say(b"u * ((uint64_t)(bits) + 1u))\n");
-    say(b"/* So many words are room for the reading of a frame of so many bytes. */\n");
-    whole(
+fn bounds(out: Stdout, grammar: &[u8], prefix: &[u8], start: usize, weight: usize) {
+    whole(out, grammar, prefix, b"#define ", start, b"_WEIGHT ");
+    number(out, b"", weight);
+    say(out, b"u\n/* So many steps decide a frame of so many bits. */\n");
+    whole(out, grammar, prefix, b"#define ", start, b"_STEPS(bits) (");
+    number(out, b"", weight);
+    say(out, b"u * ((uint64_t)(bits) + 1u))\n");
+    say(out, b"/* So many words are room for the reading of a frame of so many bytes. */\n");
+    whole(out, 
         grammar,
         prefix,
         b"#define ",
         start,
         b"_READING_WORDS(bytes) ",
     );
-    say(b"((size_t)16 * (bytes))\n\n");
+    say(out, b"((size_t)16 * (bytes))\n\n");
 }
 
 // The header of an admitted grammar, with a prefix in front of every name.
-pub fn header(
+pub fn header(out: Stdout, 
     grammar: &[u8],
     prefix: &[u8],
     table: &[u32],
@@ -182,8 +183,8 @@ pub fn header(
     weight: usize,
 ) {
     let start = number_at(rules, 0);
-    guarded(grammar, prefix, start);
-    bounds(grammar, prefix, start, weight);
-    fields(grammar, prefix, table, rules, constructs);
-    say(b"\n#endif\n");
+    guarded(out, grammar, prefix, start);
+    bounds(out, grammar, prefix, start, weight);
+    fields(out, grammar, prefix, table, rules, constructs);
+    say(out, b"\n#endif\n");
 }

@@ -4,6 +4,7 @@ use report_wording::lines::saturating_sub;
 use report_wording::writing::say;
 use text_header::Class;
 use text_header::spans::{byte_at, span};
+use std::io::Stdout;
 
 // A rule's name and a variable's have at most 32 bytes each.
 const MOST_BYTES: usize = 80;
@@ -129,26 +130,26 @@ pub fn same(grammar: &[u8], a: Named, b: Named) -> bool {
     true
 }
 
-fn put(b: u8) {
+fn put(out: Stdout, b: u8) {
     let one = [b];
     if 0 < b {
-        say(&one);
+        say(out, &one);
     }
 }
 
 // The name at a place of the text, in upper case.
-pub fn word(grammar: &[u8], at: usize) {
+pub fn word(out: Stdout, grammar: &[u8], at: usize) {
     let mut k: usize = 0;
     while k < MOST_BYTES {
-        put(letter(grammar, at, k));
+        put(out, letter(grammar, at, k));
         k += 1;
     }
 }
 
-pub fn name(grammar: &[u8], field: Named) {
+pub fn name(out: Stdout, grammar: &[u8], field: Named) {
     let mut k: usize = 0;
     while k < MOST_BYTES {
-        put(byte(grammar, field, k));
+        put(out, byte(grammar, field, k));
         k += 1;
     }
 }

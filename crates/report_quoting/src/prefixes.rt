@@ -3,6 +3,7 @@ use crate::quoting::{Part, end_of};
 use report_wording::writing::{Style, bytes, say};
 use text_header::spans::byte_at;
 use text_parsing::terminals::look;
+use std::io::Stdout;
 
 fn plus(a: usize, b: usize) -> usize {
     if a < 8192 {
@@ -48,9 +49,9 @@ pub fn shared(grammar: &[u8], first: usize, second: usize) -> usize {
 }
 
 // What is left of a branch: its literal without the first n characters, and the rest of it.
-fn rest(grammar: &[u8], at: usize, n: usize) {
-    bytes(Style::Line, grammar, at, plus(at, 1));
-    bytes(
+fn rest(out: Stdout, grammar: &[u8], at: usize, n: usize) {
+    bytes(out, Style::Line, grammar, at, plus(at, 1));
+    bytes(out, 
         Style::Line,
         grammar,
         plus(at, plus(1, n)),
@@ -126,23 +127,23 @@ pub fn is_prefix(grammar: &[u8], whole: usize, other: usize, n: usize) -> bool {
 }
 
 // What is in front, as a literal.
-fn front(grammar: &[u8], at: usize, n: usize) {
-    say(b"\"");
-    bytes(Style::Line, grammar, plus(at, 1), plus(at, plus(1, n)));
-    say(b"\" & ");
+fn front(out: Stdout, grammar: &[u8], at: usize, n: usize) {
+    say(out, b"\"");
+    bytes(out, Style::Line, grammar, plus(at, 1), plus(at, plus(1, n)));
+    say(out, b"\" & ");
 }
 
 // One branch is the first n characters of the other: the rest may be left out.
-pub fn optional(grammar: &[u8], other: usize, n: usize) {
-    front(grammar, other, n);
+pub fn optional(out: Stdout, grammar: &[u8], other: usize, n: usize) {
+    front(out, grammar, other, n);
     if alone(grammar, other) {
-        rest(grammar, other, n);
-        say(b"?\n");
+        rest(out, grammar, other, n);
+        say(out, b"?\n");
         return;
     }
-    say(b"(");
-    rest(grammar, other, n);
-    say(b")?\n");
+    say(out, b"(");
+    rest(out, grammar, other, n);
+    say(out, b")?\n");
 }
 
 fn place(places: &[usize], k: usize) -> usize {
@@ -206,21 +207,21 @@ fn all_apart(grammar: &[u8], places: &[usize], count: usize, n: usize) -> bool {
     true
 }
 
-fn between(k: usize) {
+fn between(out: Stdout, k: usize) {
     if 0 < k {
-        say(b" | ");
+        say(out, b" | ");
     }
 }
 
-fn one_rest(grammar: &[u8], places: &[usize], n: usize, k: usize) {
-    between(k);
-    rest(grammar, place(places, k), n);
+fn one_rest(out: Stdout, grammar: &[u8], places: &[usize], n: usize, k: usize) {
+    between(out, k);
+    rest(out, grammar, place(places, k), n);
 }
 
-fn rests(grammar: &[u8], places: &[usize], count: usize, n: usize) {
+fn rests(out: Stdout, grammar: &[u8], places: &[usize], count: usize, n: usize) {
     let mut k: usize = 0;
     while k < count {
-        one_rest(grammar, places, n, k);
+        one_rest(out, grammar, places, n, k);
         k += 1;
     }
 }
@@ -241,10 +242,10 @@ pub fn fit(grammar: &[u8], places: &[usize], count: usize) -> bool {
     false
 }
 
-pub fn written(grammar: &[u8], places: &[usize], count: usize) {
+pub fn written(out: Stdout, grammar: &[u8], places: &[usize], count: usize) {
     let n = all_share(grammar, places, count);
-    front(grammar, place(places, 0), n);
-    say(b"(");
-    rests(grammar, places, count, n);
-    say(b")\n");
+    front(out, grammar, place(places, 0), n);
+    say(out, b"(");
+    rests(out, grammar, places, count, n);
+    say(out, b")\n");
 }

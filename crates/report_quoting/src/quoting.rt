@@ -9,6 +9,7 @@ use report_wording::walking::nesting;
 use report_wording::writing::{Style, bytes, say};
 use text_header::bytes::{both, either};
 use text_parsing::terminals::look;
+use std::io::Stdout;
 
 // What the part is. A whole expression ends before `;` or a closing bracket, a branch also before `|`, a member also before `&`, a
 // field also before a repetition mark.
@@ -74,37 +75,37 @@ fn ends(part: Part, code: usize, depth: usize) -> bool
 }
 
 // Not in front of the dots of a cut.
-fn blank(room: usize) {
+fn blank(out: Stdout, room: usize) {
     if 1 < room {
-        say(b" ");
+        say(out, b" ");
     }
 }
 
 // The blank between two tokens, and the room after it.
-fn gap(here: usize, start: usize, room: usize) -> usize
+fn gap(out: Stdout, here: usize, start: usize, room: usize) -> usize
     ensures { result ≡ cond (ltb here start) (room - 1) room }
 {
     if here < start {
-        blank(room);
+        blank(out, room);
         return saturating_sub(room, 1);
     }
     room
 }
 
 // The bytes up to a place, as far as there is room for them; whether some are left out.
-fn cut_off(grammar: &[u8], start: usize, end: usize, room: usize) -> bool
+fn cut_off(out: Stdout, grammar: &[u8], start: usize, end: usize, room: usize) -> bool
     ensures { result ≡ ltb room (end - start) }
 {
     let to = cut(start, end, room);
-    bytes(Style::Line, grammar, start, to);
+    bytes(out, Style::Line, grammar, start, to);
     if room < saturating_sub(end, start) {
-        say(b" ...");
+        say(out, b" ...");
         return true;
     }
     false
 }
 
-pub fn quote(grammar: &[u8], at: usize, part: Part) {
+pub fn quote(out: Stdout, grammar: &[u8], at: usize, part: Part) {
     let mut here = at;
     let mut depth = 0;
     let mut room = 60;
@@ -117,8 +118,8 @@ pub fn quote(grammar: &[u8], at: usize, part: Part) {
         if ends(part, code, depth) {
             return;
         }
-        room = gap(here, start, room);
-        if cut_off(grammar, start, end, room) {
+        room = gap(out, here, start, room);
+        if cut_off(out, grammar, start, end, room) {
             return;
         }
         room = saturating_sub(room, saturating_sub(end, start));
@@ -149,6 +150,6 @@ pub fn end_of(grammar: &[u8], at: usize, part: Part) -> usize
 }
 
 // The token at a place.
-pub fn token(grammar: &[u8], at: usize) {
-    cut_off(grammar, at, look(grammar, at).end, 60);
+pub fn token(out: Stdout, grammar: &[u8], at: usize) {
+    cut_off(out, grammar, at, look(grammar, at).end, 60);
 }

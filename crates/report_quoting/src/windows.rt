@@ -3,6 +3,7 @@ ghost use Rattle.std.specs.Prelude.{◌≡◌, ◌%◌, ◌<◌};
 ghost use Rattle.report_wording.specs.Shown.{size_below_16, size_from_16, size_of, digit_of};
 
 use report_wording::writing::{hexadecimal, number, say};
+use std::io::Stdout;
 
 fn size_below_16(window: usize) -> usize
     ensures { result ≡ size_below_16 window }
@@ -56,7 +57,7 @@ fn digit(n: usize) -> u8
     b'1'
 }
 
-pub fn binary(window: usize, n: usize) {
+pub fn binary(out: Stdout, window: usize, n: usize) {
     let digits = [
         digit(window / 128),
         digit(window / 64),
@@ -68,20 +69,20 @@ pub fn binary(window: usize, n: usize) {
         digit(window),
     ];
     if n <= 8 {
-        say(&digits[8 - n..]);
+        say(out, &digits[8 - n..]);
     }
 }
 
-fn character(b: u8) {
+fn character(out: Stdout, b: u8) {
     let one = [b];
     if 32 < b {
         if b < 127 {
-            say(b", the character ");
-            say(&one);
+            say(out, b", the character ");
+            say(out, &one);
         }
     }
     if b == 32 {
-        say(b", a space");
+        say(out, b", a space");
     }
 }
 
@@ -116,74 +117,74 @@ fn digits(n: usize) -> usize {
     2
 }
 
-fn value(window: usize, n: usize) {
+fn value(out: Stdout, window: usize, n: usize) {
     let v = window % power(n);
-    hexadecimal(b" (hexadecimal ", v, digits(n));
-    number(b", decimal ", v);
+    hexadecimal(out, b" (hexadecimal ", v, digits(n));
+    number(out, b", decimal ", v);
     if n == 8 {
-        character(byte(v));
+        character(out, byte(v));
     }
-    say(b").\n");
+    say(out, b").\n");
 }
 
-fn short(n: usize) {
+fn short(out: Stdout, n: usize) {
     if n < 8 {
-        say(b"The pattern has fewer than 8 bits because the frame ends after it.\n");
+        say(out, b"The pattern has fewer than 8 bits because the frame ends after it.\n");
     }
 }
 
-fn into(k: usize) {
-    number(b" (they begin ", k);
-    say(b" bits into a byte).\n");
+fn into(out: Stdout, k: usize) {
+    number(out, b" (they begin ", k);
+    say(out, b" bits into a byte).\n");
 }
 
 // Fewer than 8 bits are all that is left of the frame.
-fn several(n: usize) {
+fn several(out: Stdout, n: usize) {
     if n == 1 {
-        say(b" (the last bit of the frame).\n");
+        say(out, b" (the last bit of the frame).\n");
         return;
     }
     if n < 8 {
-        number(b" (the last ", n);
-        say(b" bits of the frame).\n");
+        number(out, b" (the last ", n);
+        say(out, b" bits of the frame).\n");
         return;
     }
-    say(b" (they can begin at different bits of a byte).\n");
+    say(out, b" (they can begin at different bits of a byte).\n");
 }
 
 // Where the bits begin in a byte is a set of remainders by 8: at one place, at several, or nowhere.
-fn elsewhere(starts: usize, n: usize) {
+fn elsewhere(out: Stdout, starts: usize, n: usize) {
     match starts {
-        0 => say(b" (no frame comes to this place: nothing uses the rule).\n"),
-        2 => into(1),
-        4 => into(2),
-        8 => into(3),
-        16 => into(4),
-        32 => into(5),
-        64 => into(6),
-        128 => into(7),
-        _ => several(n),
+        0 => say(out, b" (no frame comes to this place: nothing uses the rule).\n"),
+        2 => into(out, 1),
+        4 => into(out, 2),
+        8 => into(out, 3),
+        16 => into(out, 4),
+        32 => into(out, 5),
+        64 => into(out, 6),
+        128 => into(out, 7),
+        _ => several(out, n),
     }
 }
 
 // A byte and its character only where a byte begins.
-fn placed(window: usize, n: usize, starts: usize) {
+fn placed(out: Stdout, window: usize, n: usize, starts: usize) {
     if starts == 1 {
-        value(window, n);
+        value(out, window, n);
     } else {
-        elsewhere(starts, n);
+        elsewhere(out, starts, n);
     }
 }
 
 // A full stop and a line's end follow the bits.
-pub fn window(window: usize, starts: usize) {
+pub fn window(out: Stdout, window: usize, starts: usize) {
     let n = size(window);
     if n == 0 {
-        say(b" the frame's end: no bits come next.\n");
+        say(out, b" the frame's end: no bits come next.\n");
         return;
     }
-    say(b" the bits ");
-    binary(window, n);
-    placed(window, n, starts);
-    short(n);
+    say(out, b" the bits ");
+    binary(out, window, n);
+    placed(out, window, n, starts);
+    short(out, n);
 }

@@ -6,6 +6,7 @@ use report_wording::writing::{number, say};
 use term_integers::{at_most, magnitude, negative};
 use text_header::spans::byte_at;
 use text_parsing::terminals::look;
+use std::io::Stdout;
 
 // An item `a` or `a~b`, where each end may be left out. `single`: one number. `from`, `to`: an end is written.
 #[derive(Clone, Copy)]
@@ -117,46 +118,46 @@ fn item_at(grammar: &[u8], at: usize) -> Item {
     }
 }
 
-fn value(before: &[u8], n: i64) {
-    say(before);
+fn value(out: Stdout, before: &[u8], n: i64) {
+    say(out, before);
     if negative(n) {
-        say(b"-");
+        say(out, b"-");
     }
-    number(b"", magnitude(n) as usize);
+    number(out, b"", magnitude(n) as usize);
 }
 
-fn least(before: &[u8], ends: Ends) {
-    say(before);
+fn least(out: Stdout, before: &[u8], ends: Ends) {
+    say(out, before);
     if 0 < ends.below {
-        say(b"-");
+        say(out, b"-");
     }
-    number(b"", ends.below);
+    number(out, b"", ends.below);
 }
 
-fn below(single: bool, high: i64, ends: Ends) {
+fn below(out: Stdout, single: bool, high: i64, ends: Ends) {
     if single {
-        value(b"is ", high);
+        value(out, b"is ", high);
     } else {
-        value(b"ends at ", high);
+        value(out, b"ends at ", high);
     }
-    least(b", below ", ends);
-    say(b"\n");
+    least(out, b", below ", ends);
+    say(out, b"\n");
 }
 
-fn above(single: bool, low: i64, ends: Ends) {
+fn above(out: Stdout, single: bool, low: i64, ends: Ends) {
     if single {
-        value(b"is ", low);
+        value(out, b"is ", low);
     } else {
-        value(b"begins at ", low);
+        value(out, b"begins at ", low);
     }
-    number(b", above ", ends.most);
-    say(b"\n");
+    number(out, b", above ", ends.most);
+    say(out, b"\n");
 }
 
-fn turned(low: i64, high: i64) {
-    value(b"begins at ", low);
-    value(b" and ends at ", high);
-    say(b": its first value comes after its last\n");
+fn turned(out: Stdout, low: i64, high: i64) {
+    value(out, b"begins at ", low);
+    value(out, b" and ends at ", high);
+    say(out, b": its first value comes after its last\n");
 }
 
 fn past(n: i64, ends: Ends) -> bool {
@@ -197,39 +198,39 @@ fn is_above(item: Item, ends: Ends) -> bool {
 }
 
 // Why the item has no value left.
-fn reason(item: Item, ends: Ends) {
+fn reason(out: Stdout, item: Item, ends: Ends) {
     if is_turned(item) {
-        turned(item.low, item.high);
+        turned(out, item.low, item.high);
         return;
     }
     if is_below(item, ends) {
-        below(item.single, item.high, ends);
+        below(out, item.single, item.high, ends);
         return;
     }
     if is_above(item, ends) {
-        above(item.single, item.low, ends);
+        above(out, item.single, item.low, ends);
         return;
     }
-    least(b"its values from ", ends);
-    number(b" to ", ends.most);
-    say(b" are taken away by what stands after !\n");
+    least(out, b"its values from ", ends);
+    number(out, b" to ", ends.most);
+    say(out, b" are taken away by what stands after !\n");
 }
 
-fn line(grammar: &[u8], at: usize, ends: Ends) {
-    say(b"    ");
-    lines::place(grammar, at);
-    say(b":  ");
-    quote(grammar, at, Part::Branch);
-    say(b"\n        ");
-    reason(item_at(grammar, at), ends);
+fn line(out: Stdout, grammar: &[u8], at: usize, ends: Ends) {
+    say(out, b"    ");
+    lines::place(out, grammar, at);
+    say(out, b":  ");
+    quote(out, grammar, at, Part::Branch);
+    say(out, b"\n        ");
+    reason(out, item_at(grammar, at), ends);
 }
 
 // Each item with what is taken away from it, at most twenty.
-fn items(grammar: &[u8], set: usize, ends: Ends) {
+fn items(out: Stdout, grammar: &[u8], set: usize, ends: Ends) {
     let mut at = set;
     let mut n: usize = 0;
     while n < 20 {
-        line(grammar, look(grammar, at).start, ends);
+        line(out, grammar, look(grammar, at).start, ends);
         let next = look(grammar, end_of(grammar, at, Part::Branch));
         if next.code != 124 {
             return;
@@ -237,39 +238,39 @@ fn items(grammar: &[u8], set: usize, ends: Ends) {
         at = next.end;
         n += 1;
     }
-    say(b"    and more\n");
+    say(out, b"    and more\n");
 }
 
-fn change(ends: Ends) {
-    least(b"What to change: let the set have a value from ", ends);
-    number(b" to ", ends.most);
-    say(b".\n");
-    say(b"From 1 to 5 is written 1~5, with the smaller end first; 1-5 is a calculation.\n");
-    say(b"A larger value needs a wider field, of at most 64 bits: that changes the frames.\n");
+fn change(out: Stdout, ends: Ends) {
+    least(out, b"What to change: let the set have a value from ", ends);
+    number(out, b" to ", ends.most);
+    say(out, b".\n");
+    say(out, b"From 1 to 5 is written 1~5, with the smaller end first; 1-5 is a calculation.\n");
+    say(out, b"A larger value needs a wider field, of at most 64 bits: that changes the frames.\n");
     if ends.below == 0 {
-        say(b"A value below 0 needs a sint, which reads the same bits with a sign.\n");
+        say(out, b"A value below 0 needs a sint, which reads the same bits with a sign.\n");
     }
-    say(b"A branch or a case that no frame is to take can be left out.\n");
+    say(out, b"A branch or a case that no frame is to take can be left out.\n");
 }
 
-fn kind(signed: bool) {
+fn kind(out: Stdout, signed: bool) {
     if signed {
-        say(b"This field has no value: a sint");
+        say(out, b"This field has no value: a sint");
     } else {
-        say(b"This field has no value: a uint");
+        say(out, b"This field has no value: a uint");
     }
 }
 
 // The field at a place.
-pub fn none_left(grammar: &[u8], at: usize) {
+pub fn none_left(out: Stdout, grammar: &[u8], at: usize) {
     let signed = is_signed(grammar, at);
     let width = width_of(grammar, at);
     let ends = ends_of(signed, width);
-    kind(signed);
-    number(b" of width ", width);
-    least(b" has the values from ", ends);
-    number(b" to ", ends.most);
-    say(b",\nand its set has none of them:\n");
-    items(grammar, set_of(grammar, at), ends);
-    change(ends);
+    kind(out, signed);
+    number(out, b" of width ", width);
+    least(out, b" has the values from ", ends);
+    number(out, b" to ", ends.most);
+    say(out, b",\nand its set has none of them:\n");
+    items(out, grammar, set_of(grammar, at), ends);
+    change(out, ends);
 }

@@ -5,6 +5,7 @@ ghost use Rattle.report_wording.specs.Lines.{lines_before, line_start, line_end}
 use crate::writing::{Style, bytes, number, say};
 use text_header::Class;
 use text_header::spans::{byte_at, span};
+use std::io::Stdout;
 
 // A line: how many end before it, and the place of its first byte.
 #[derive(Clone, Copy)]
@@ -75,26 +76,26 @@ fn line_end(grammar: &[u8], at: usize) -> usize
 }
 
 // `line L, column C`.
-pub fn place(grammar: &[u8], at: usize) {
+pub fn place(out: Stdout, grammar: &[u8], at: usize) {
     let line = line_of(grammar, at);
     let start = line.start;
-    number(b"line ", saturating_next(line.before));
-    number(b", column ", saturating_next(saturating_sub(at, start)));
+    number(out, b"line ", saturating_next(line.before));
+    number(out, b", column ", saturating_next(saturating_sub(at, start)));
 }
 
-fn left_edge(cut: bool) {
+fn left_edge(out: Stdout, cut: bool) {
     if cut {
-        say(b"... ");
+        say(out, b"... ");
     } else {
-        say(b"    ");
+        say(out, b"    ");
     }
 }
 
-fn right_edge(cut: bool) {
+fn right_edge(out: Stdout, cut: bool) {
     if cut {
-        say(b" ...\n    ");
+        say(out, b" ...\n    ");
     } else {
-        say(b"\n    ");
+        say(out, b"\n    ");
     }
 }
 
@@ -109,21 +110,21 @@ fn from_of(start: usize, at: usize) -> usize
 }
 
 // The line, with a mark under the place.
-fn marked(grammar: &[u8], at: usize) {
+fn marked(out: Stdout, grammar: &[u8], at: usize) {
     let start = line_of(grammar, at).start;
     let end = line_end(grammar, at);
     let from = from_of(start, at);
     let to = cut(from, end, 100);
-    left_edge(start < from);
-    bytes(Style::Line, grammar, from, to);
-    right_edge(to < end);
-    bytes(Style::Under, grammar, from, at);
-    say(b"^\n");
+    left_edge(out, start < from);
+    bytes(out, Style::Line, grammar, from, to);
+    right_edge(out, to < end);
+    bytes(out, Style::Under, grammar, from, at);
+    say(out, b"^\n");
 }
 
 // A heading `line L, column C:`, the line and the mark.
-pub fn shown(grammar: &[u8], at: usize) {
-    place(grammar, at);
-    say(b":\n");
-    marked(grammar, at);
+pub fn shown(out: Stdout, grammar: &[u8], at: usize) {
+    place(out, grammar, at);
+    say(out, b":\n");
+    marked(out, grammar, at);
 }

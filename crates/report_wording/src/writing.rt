@@ -2,7 +2,7 @@
 ghost use Rattle.std.specs.Prelude.{◌≡◌};
 ghost use Rattle.report_wording.specs.Shown.{visible as visibleOf, in_line, under as underOf, styled as styledOf};
 
-use libc::STDOUT_FILENO;
+use std::io::Stdout;
 use text_header::bytes::printable;
 use text_header::spans::byte_at;
 
@@ -13,18 +13,19 @@ pub enum Style {
     Under,
 }
 
-pub fn say(bytes: &[u8]) {
-    io::write_all(STDOUT_FILENO, bytes);
+pub fn say(out: Stdout, bytes: &[u8]) {
+    let _ = out.write_all(bytes);
 }
 
-pub fn number(before: &[u8], n: usize) {
-    say(before);
-    io::print_decimal(STDOUT_FILENO, n as u64);
+pub fn number(out: Stdout, before: &[u8], n: usize) {
+    say(out, before);
+    let _ = out.print(n as u64);
 }
 
-pub fn hexadecimal(before: &[u8], n: usize, digits: usize) {
-    say(before);
-    io::print_hex(STDOUT_FILENO, n as u64, digits);
+pub fn hexadecimal(out: Stdout, before: &[u8], n: usize, digits: usize) {
+    say(out, before);
+    let value = n as u64;
+    let _ = print!(out; "{value:0digits$x}");
 }
 
 // A dot for what cannot be shown.
@@ -64,16 +65,16 @@ fn styled(style: Style, b: u8) -> u8
     }
 }
 
-fn put(b: u8) {
+fn put(out: Stdout, b: u8) {
     let one = [b];
-    say(&one);
+    say(out, &one);
 }
 
 // The bytes of a grammar from one place up to another.
-pub fn bytes(style: Style, grammar: &[u8], from: usize, to: usize) {
+pub fn bytes(out: Stdout, style: Style, grammar: &[u8], from: usize, to: usize) {
     let mut i = from;
     while i < to {
-        put(styled(style, byte_at(grammar, i)));
+        put(out, styled(style, byte_at(grammar, i)));
         i += 1;
     }
 }
