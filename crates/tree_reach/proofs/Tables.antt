@@ -63,6 +63,7 @@ node_known {ns} {a} (node_then n more) (next_kind s k) i l h =
 
 -- each ends where the next begins
 ends_next : {ws : List ℕ} {n : Totals} {l : List Rule} {i : ℕ} {x y : Rule} → RulesIn ws n l → At l i x → At l (suc i) y → last_node ws (n.rules + i) ≡ first_node ws (n.rules + suc i)
+ends_next no_rules x11 _ = elim x11 [ ]
 ends_next (rule_then e f g no_rules) at_first (at_later b) = absurd (omega (arith, at_below b))
 ends_next {ws} {n} (rule_then e f g (rule_then e' f' g' more)) at_first (at_later at_first) =
     ap (last_node ws) (let q : n.rules + 0 ≡ n.rules = omega arith in q) ∙ g ∙ sym f' ∙ ap (first_node ws) (let q : suc n.rules ≡ n.rules + 1 = omega arith in q)
@@ -72,6 +73,7 @@ ends_next {ws} {n} (rule_then e f g more) (at_later {j = i} a) (at_later b) =
 -- and the last at the end
 ends_last : {ws : List ℕ} {n : Totals} {l : List Rule} {i : ℕ} {x : Rule} → RulesIn ws n l → At l i x → suc i ≡ length l → last_node ws (n.rules + i) ≡ (totals n l).all_constructs
 unfolding totals
+ends_last no_rules x11 h = elim x11 [ ]
 ends_last {ws} {n} (rule_then e f g no_rules) at_first h = ap (last_node ws) (let q : n.rules + 0 ≡ n.rules = omega arith in q) ∙ g
 ends_last {ws} {n} (rule_then e f g (rule_then e' f' g' more)) at_first h = absurd (omega arith)
 ends_last {ws} {n} (rule_then e f g more) (at_later {j = i} a) h = ap (last_node ws) (let q : n.rules + suc i ≡ suc n.rules + i = omega arith in q) ∙ ends_last more a (omega arith)
@@ -83,13 +85,15 @@ grows n (x ∷ l) = omega (arith, grows (with_rule n x) l)
 
 first_within : {ws : List ℕ} {n : Totals} (l : List Rule) {j : ℕ} {x : Rule} → RulesIn ws n l → At l j x → first_node ws (n.rules + j) ≤ (totals n l).all_constructs
 unfolding totals
+first_within [] _ x5 = elim x5 [ ]
 first_within {ws} {n} (x ∷ l) (rule_then e f g more) at_first = omega (arith, ap (first_node ws) (let q : n.rules + 0 ≡ n.rules = omega arith in q), f, grows n (x ∷ l))
-first_within {ws} {n} (x ∷ l) (rule_then e f g more) (at_later {j = j} a) = omega (arith, ap (first_node ws) (let q : suc n.rules + j ≡ n.rules + suc j = omega arith in q), first_within l more a)
+first_within {ws} {n} (x ∷ l) (rule_then e f g more) (at_later {j = j} a) = omega (arith, ap (first_node ws) (let q : suc n.rules + j ≡ n.rules + suc j = omega arith in q), first_within {n = with_rule n x} l more a)
 
 last_within : {ws : List ℕ} {n : Totals} (l : List Rule) {j : ℕ} {x : Rule} → RulesIn ws n l → At l j x → last_node ws (n.rules + j) ≤ (totals n l).all_constructs
 unfolding totals
+last_within [] _ x5 = elim x5 [ ]
 last_within {ws} {n} (x ∷ l) (rule_then e f g more) at_first = omega (arith, ap (last_node ws) (let q : n.rules + 0 ≡ n.rules = omega arith in q), g, grows (with_rule n x) l)
-last_within {ws} {n} (x ∷ l) (rule_then e f g more) (at_later {j = j} a) = omega (arith, ap (last_node ws) (let q : suc n.rules + j ≡ n.rules + suc j = omega arith in q), last_within l more a)
+last_within {ws} {n} (x ∷ l) (rule_then e f g more) (at_later {j = j} a) = omega (arith, ap (last_node ws) (let q : suc n.rules + j ≡ n.rules + suc j = omega arith in q), last_within {n = with_rule n x} l more a)
 
 first_upto : (n i : ℕ) (f : ℕ → Bool) → first_of n i f ≤ i + n
 unfolding first_of
