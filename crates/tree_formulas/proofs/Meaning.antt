@@ -15,7 +15,7 @@ use Rattle.basis.proofs.Booleans.{which}
 use Rattle.text_tokens.specs.Numbers.{capped}
 use Rattle.term_words.specs.Numbers.{equals}
 use Rattle.term_words.specs.Steps.{compares}
-use Rattle.term_trees.specs.Trees.{Calculation as Held, value, ValueSet as HeldSet, has, either, Condition as HeldCondition, true_at, both as all_hold, any as one-Holds, repeats}
+use Rattle.term_trees.specs.Trees.{Calculation as Held, plus as added, minus as less_by, times as multiplied, value, ValueSet as HeldSet, has, either, Condition as HeldCondition, true_at, both as all_hold, any as one-Holds, repeats}
 use Rattle.text_shapes.specs.TermShapes.{renamed, renamed_set, renamed_condition, renamed_repeats}
 use Rattle.tree.specs.Lexemes.{Sign}
 use Rattle.tree.specs.Tree.{Primary, number, variable, Operand, plain, opposite, Factors, no_factor, times, Product, product, Summands, no_summand, plus, minus, Calculation, sum, Item, everything, only, between, from, up_to_bound, SetPart, Choices, item, item_but_item, item_but_set, last_choice, or_choices, Counts, exactly, at_least_count, at_most, span, Comparison, equal, unequal, less, at_most_as, greater, at_least_as, TestPart, tests, test, conjuncts, disjuncts, Tests, compare, test_group, one_test, all_of, any_of, last_conjunct, and_conjuncts, last_disjunct, or_disjuncts}
@@ -96,7 +96,7 @@ module _ (g : ℕ → ℕ) (v : List ℤ) (env : Environment) where
   unfolding value renamed held_factors times_value factor_terms
   factors_mean c a no_factor e h = e
   factors_mean c a (times s x more) e (next_fit f h) =
-      factors_mean _ (a *ℤ operand_value env x) more (ap₂ ◌*ℤ◌ e (operand_means x (fit_left (operand_terms x) (factor_terms more) h))) (fit_right (operand_terms x) (factor_terms more) h)
+      factors_mean (multiplied c (held_operand x)) (a *ℤ operand_value env x) more (ap₂ ◌*ℤ◌ e (operand_means x (fit_left (operand_terms x) (factor_terms more) h))) (fit_right (operand_terms x) (factor_terms more) h)
 
   product_means : (x : Product) → AllFit (product_terms x) → value v (renamed g (held_product x)) ≡ product_value env x
   product_means (product x more) h =
@@ -106,9 +106,9 @@ module _ (g : ℕ → ℕ) (v : List ℤ) (env : Environment) where
   unfolding value renamed held_summands sum_value summand_terms
   summands_mean c a no_summand e h = e
   summands_mean c a (plus s x more) e (next_fit f h) =
-      summands_mean _ (a +ℤ product_value env x) more (ap₂ ◌+ℤ◌ e (product_means x (fit_left (product_terms x) (summand_terms more) h))) (fit_right (product_terms x) (summand_terms more) h)
+      summands_mean (added c (held_product x)) (a +ℤ product_value env x) more (ap₂ ◌+ℤ◌ e (product_means x (fit_left (product_terms x) (summand_terms more) h))) (fit_right (product_terms x) (summand_terms more) h)
   summands_mean c a (minus s x more) e (next_fit f h) =
-      summands_mean _ (a -ℤ product_value env x) more (ap₂ ◌-ℤ◌ e (product_means x (fit_left (product_terms x) (summand_terms more) h))) (fit_right (product_terms x) (summand_terms more) h)
+      summands_mean (less_by c (held_product x)) (a -ℤ product_value env x) more (ap₂ ◌-ℤ◌ e (product_means x (fit_left (product_terms x) (summand_terms more) h))) (fit_right (product_terms x) (summand_terms more) h)
 
   pub calculation_means : (x : Calculation) → AllFit (terms_of_calculation x) → value v (renamed g (held_calculation x)) ≡ calculation_value env x
   calculation_means (sum x more) h =
