@@ -8,10 +8,10 @@ pub returns-then-text-gt-MAX_TEXT_BYTES : goal.returns-then-text-gt-MAX_TEXT_BYT
 returns-then-text-gt-MAX_TEXT_BYTES c = too_long c.args.text.now c.args.query c.if-text-gt-MAX_TEXT_BYTES.true
 
 pub locate_from-requires : goal.locate_from-requires
-locate_from-requires c = (rules_inside c.args.text.now c.header.result _ c.header.ensures c.base-1.given.1, c.if-text-gt-MAX_TEXT_BYTES.false)
+locate_from-requires c = (rules_inside c.args.text.now c.header.result _ c.header.ensures c.in-Rules.is, c.if-text-gt-MAX_TEXT_BYTES.false)
 
 pub returns-in-Wrong : goal.returns-in-Wrong
-returns-in-Wrong c = short c.args.text.now c.args.query c.header.result _ Located.Nothing c.header.ensures c.enum_told-1.given.1 c.if-text-gt-MAX_TEXT_BYTES.false refl
+returns-in-Wrong c = short c.args.text.now c.args.query c.header.result _ Located.Nothing c.header.ensures c.in-Wrong.is c.if-text-gt-MAX_TEXT_BYTES.false refl
 
 pub returns-in-Rules : goal.returns-in-Rules
-returns-in-Rules c = short c.args.text.now c.args.query c.header.result _ c.locate_from.result c.header.ensures c.base-1.given.1 c.if-text-gt-MAX_TEXT_BYTES.false c.locate_from.ensures
+returns-in-Rules c = short c.args.text.now c.args.query c.header.result _ c.locate_from.result c.header.ensures c.in-Rules.is c.if-text-gt-MAX_TEXT_BYTES.false c.locate_from.ensures

@@ -24,7 +24,7 @@ returns-in-Alternative c =
     let p = c.has_part.ensures c.if-has_part.true in
     λ h.
     moved_to a.table.now is a.p a.b (a.b + 1) _ refl
-    (moved_branch a.table.now a.p c.requires is _ c.end_of.result a.b (sym c.construct_at.ensures ∙ c.enum_told-1.given.1) c.end_of.ensures.0 (found_part a.table.now (a.p + 1) c.end_of.result a.b p.1.0 p.0 p.1.1) (bottom a.table.now a.items.now a.depth c.if-depth-eq0.true))
+    (moved_branch a.table.now a.p c.requires is _ c.end_of.result a.b (sym c.construct_at.ensures ∙ c.in-Alternative.is) c.end_of.ensures.0 (found_part a.table.now (a.p + 1) c.end_of.result a.b p.1.0 p.0 p.1.1) (bottom a.table.now a.items.now a.depth c.if-depth-eq0.true))
 
 pub returns-in-Switch : goal.returns-in-Switch
 returns-in-Switch c =
@@ -33,7 +33,7 @@ returns-in-Switch c =
     let p = c.has_part.ensures c.if-has_part.true in
     λ h.
     moved_to a.table.now is a.p a.b (a.b + 1) _ refl
-    (moved_case a.table.now a.p c.requires is _ c.end_of.result a.b (sym c.construct_at.ensures ∙ c.enum_told-in-Switch-1.given.1) c.end_of.ensures.0 (found_part a.table.now (a.p + 1) c.end_of.result a.b p.1.0 p.0 p.1.1) (bottom a.table.now a.items.now a.depth c.if-depth-eq0.true))
+    (moved_case a.table.now a.p c.requires is _ c.end_of.result a.b (sym c.construct_at.ensures ∙ c.in-Switch.is) c.end_of.ensures.0 (found_part a.table.now (a.p + 1) c.end_of.result a.b p.1.0 p.0 p.1.1) (bottom a.table.now a.items.now a.depth c.if-depth-eq0.true))
 
 pub returns-in_default : goal.returns-in_default
 returns-in_default c = λ h. absurd (omega (arith, h))

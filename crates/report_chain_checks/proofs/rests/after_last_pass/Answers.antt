@@ -9,7 +9,7 @@ pub returns-in-Repetition : goal.returns-in-Repetition
 returns-in-Repetition c =
     let a = c.args in
     let is = stack a.table.now a.items.now a.depth in
-    λ h. moved_to a.table.now is a.p (a.p + 1) (a.p + 2) _ (omega arith) (moved_last_pass a.table.now a.p c.requires is _ _ (sym c.construct_at.ensures ∙ c.enum_told-1.given.1) (bottom a.table.now a.items.now a.depth c.if-depth-eq0.true))
+    λ h. moved_to a.table.now is a.p (a.p + 1) (a.p + 2) _ (omega arith) (moved_last_pass a.table.now a.p c.requires is _ _ (sym c.construct_at.ensures ∙ c.in-Repetition.is) (bottom a.table.now a.items.now a.depth c.if-depth-eq0.true))
 
 pub returns-in_default : goal.returns-in_default
 returns-in_default c = λ h. absurd (omega (arith, h))

@@ -24,7 +24,7 @@ returns-in-Concatenation c =
     let p = c.has_part.ensures c.if-has_part.true in
     λ h.
     moved_to a.table.now is a.p a.m (a.m + 1) _ refl
-    (moved_member a.table.now a.p c.requires is _ c.end_of-end.result a.m p.1.0 (sym c.construct_at.ensures ∙ c.enum_told-1.given.1) c.end_of-end.ensures.0 p.1.1 (c.others_after.ensures c.if-others_after.true p.0))
+    (moved_member a.table.now a.p c.requires is _ c.end_of-end.result a.m p.1.0 (sym c.construct_at.ensures ∙ c.in-Concatenation.is) c.end_of-end.ensures.0 p.1.1 (c.others_after.ensures c.if-others_after.true p.0))
 
 pub returns-in_default : goal.returns-in_default
 returns-in_default c = λ h. absurd (omega (arith, h))

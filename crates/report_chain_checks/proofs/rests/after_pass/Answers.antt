@@ -27,7 +27,7 @@ returns-in-Repetition c =
     let z : q.result ≡ 0 = c.if-below_copies-eq0.true in
     λ h.
     moved_to a.table.now is a.p (a.p + 1) (a.p + 2) _ (omega arith)
-    (moved_pass a.table.now a.p c.requires is _ _ a.v (sym c.construct_at.ensures ∙ c.enum_told-1.given.1) (omega (arith, c.if-v-eq0.false)) c.if-v-gt8.false
+    (moved_pass a.table.now a.p c.requires is _ _ a.v (sym c.construct_at.ensures ∙ c.in-Repetition.is) (omega (arith, c.if-v-eq0.false)) c.if-v-gt8.false
     (q.ensures (omega (arith, z)) a.table.now ∙ ap (λ (ks : List ℕ). replicate a.v (a.p + 1) ++ ks) (bottom a.table.now a.items.now q.result z)))
 
 pub returns-in_default : goal.returns-in_default

@@ -9,7 +9,7 @@ pub returns-then-body-lt256 : goal.returns-then-body-lt256
 returns-then-body-lt256 c =
     let a = c.args in
     let is = stack a.table.now a.items.now a.depth in
-    λ h. moved_to a.table.now is a.p c.body_of-body.result (c.body_of-body.result + 1) _ (omega arith) (moved_rule a.table.now a.p c.requires is _ c.body_of-body.result (sym c.construct_at.ensures ∙ c.rule-1.given.1) (c.body_of-body.ensures c.if-body-lt256.true) (bottom a.table.now a.items.now a.depth c.if-depth-eq0.true))
+    λ h. moved_to a.table.now is a.p c.body_of-body.result (c.body_of-body.result + 1) _ (omega arith) (moved_rule a.table.now a.p c.requires is _ c.body_of-body.result (sym c.construct_at.ensures ∙ c.in-Use.is) (c.body_of-body.ensures c.if-body-lt256.true) (bottom a.table.now a.items.now a.depth c.if-depth-eq0.true))
 
 pub returns-else-body-lt256 : goal.returns-else-body-lt256
 returns-else-body-lt256 c = λ h. absurd (omega (arith, h))

@@ -21,14 +21,14 @@ returns-in-Alternative c =
     let a = c.args in
     let is = stack a.table.now a.items.now a.depth in
     let q = c.below_part in
-    λ h. made_branch a.table.now a.i c.requires is (stack a.table.now a.items.now q.result) _ c.end_of.result (q.ensures h).0 (sym c.construct_at.ensures ∙ c.enum_told-1.given.1) c.end_of.ensures.0 (q.ensures h).1 (q.ensures h).2
+    λ h. made_branch a.table.now a.i c.requires is (stack a.table.now a.items.now q.result) _ c.end_of.result (q.ensures h).0 (sym c.construct_at.ensures ∙ c.in-Alternative.is) c.end_of.ensures.0 (q.ensures h).1 (q.ensures h).2
 
 pub returns-in-Switch : goal.returns-in-Switch
 returns-in-Switch c =
     let a = c.args in
     let is = stack a.table.now a.items.now a.depth in
     let q = c.below_part-in-Switch in
-    λ h. made_case a.table.now a.i c.requires is (stack a.table.now a.items.now q.result) _ c.end_of-in-Switch.result (q.ensures h).0 (sym c.construct_at.ensures ∙ c.enum_told-in-Switch-1.given.1) c.end_of-in-Switch.ensures.0 (q.ensures h).1 (q.ensures h).2
+    λ h. made_case a.table.now a.i c.requires is (stack a.table.now a.items.now q.result) _ c.end_of-in-Switch.result (q.ensures h).0 (sym c.construct_at.ensures ∙ c.in-Switch.is) c.end_of-in-Switch.ensures.0 (q.ensures h).1 (q.ensures h).2
 
 pub returns-in_default : goal.returns-in_default
 returns-in_default c = λ h. absurd (omega (arith, h))

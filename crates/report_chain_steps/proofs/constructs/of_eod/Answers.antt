@@ -8,7 +8,7 @@ pub returns-in-Eod : goal.returns-in-Eod
 returns-in-Eod c =
     let a = c.args in
     let is = stack a.table.now a.items.now a.depth in
-    λ h. made_eod a.table.now a.i c.requires is (sym c.construct_at.ensures ∙ c.enum_told-1.given.1)
+    λ h. made_eod a.table.now a.i c.requires is (sym c.construct_at.ensures ∙ c.in-Eod.is)
 
 pub returns-in_default : goal.returns-in_default
 returns-in_default c = λ h. absurd (omega (arith, h))

@@ -15,7 +15,7 @@ returns-in-Concatenation c =
     let a = c.args in
     let is = stack a.table.now a.items.now a.depth in
     let q = c.below_parts in
-    λ h. made_members a.table.now a.i c.requires is (stack a.table.now a.items.now q.result) _ c.end_of.result (sym c.construct_at.ensures ∙ c.enum_told-1.given.1) c.end_of.ensures.0 (q.ensures h)
+    λ h. made_members a.table.now a.i c.requires is (stack a.table.now a.items.now q.result) _ c.end_of.result (sym c.construct_at.ensures ∙ c.in-Concatenation.is) c.end_of.ensures.0 (q.ensures h)
 
 pub returns-in_default : goal.returns-in_default
 returns-in_default c = λ h. absurd (omega (arith, h))

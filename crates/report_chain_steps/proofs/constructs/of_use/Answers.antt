@@ -8,7 +8,7 @@ pub returns-then-body-lt256 : goal.returns-then-body-lt256
 returns-then-body-lt256 c =
     let a = c.args in
     let is = stack a.table.now a.items.now a.depth in
-    λ h. made_use a.table.now a.i c.requires is (stack a.table.now a.items.now c.below_top.result) _ c.body_of-body.result (sym c.construct_at.ensures ∙ c.rule-1.given.1) (c.body_of-body.ensures c.if-body-lt256.true) ((c.below_top.ensures h).1 a.table.now)
+    λ h. made_use a.table.now a.i c.requires is (stack a.table.now a.items.now c.below_top.result) _ c.body_of-body.result (sym c.construct_at.ensures ∙ c.in-Use.is) (c.body_of-body.ensures c.if-body-lt256.true) ((c.below_top.ensures h).1 a.table.now)
 
 pub returns-else-body-lt256 : goal.returns-else-body-lt256
 returns-else-body-lt256 c = λ h. absurd (omega (arith, h))

@@ -9,10 +9,10 @@ pub returns-in-None : goal.returns-in-None
 returns-in-None c = λ e. absurd (false≢true e)
 
 pub returns-in-From : goal.returns-in-From
-returns-in-From c = λ e. subst (λ (k : Counted). Fits (allowed k) c.args.n) (sym c.counts-1.given.1) (c.fits_from.ensures e)
+returns-in-From c = λ e. subst (λ (k : Counted). Fits (allowed k) c.args.n) (sym c.in-From.is) (c.fits_from.ensures e)
 
 pub returns-in-Within : goal.returns-in-Within
-returns-in-Within c = λ e. subst (λ (k : Counted). Fits (allowed k) c.args.n) (sym c.counts-in-Within-1.given.1) (c.fits_within.ensures e)
+returns-in-Within c = λ e. subst (λ (k : Counted). Fits (allowed k) c.args.n) (sym c.in-Within.is) (c.fits_within.ensures e)
 
 pub returns-in-Malformed : goal.returns-in-Malformed
 returns-in-Malformed c = λ e. absurd (false≢true e)
