@@ -52,4 +52,4 @@ cases_optional {ns} {i} (case_cases c colon x end more) t h =
     in let at = case_at t k (node_rows false x k) (some_node false x k) (nodes_left M L h)
     in let there : NodesAt ns (i + constructs false x) L = subst (λ (j : ℕ). NodesAt ns (i + j) L) (length_first t k (node_rows false x k) ∙ nodes_counted false x k) (nodes_right M L h)
     in case_later ns i (case_bodies (i + constructs false x) more) (is_case ns i t (length (tests_rows c [])) at.0 at.1 (some_tests c []))
-    ∙ cases_optional more (t + length (tests_rows c [] ++ term_rows x)) there
+    ∙ cases_optional {i = i + constructs false x} more (t + length (tests_rows c [] ++ term_rows x)) there

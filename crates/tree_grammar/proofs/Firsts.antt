@@ -54,7 +54,7 @@ first_right {ns} {i} (r ∷ M) L l (first_then h more) = subst (λ (q : ℕ). No
 
 nodes_like : {ns : List ℕ} {i : ℕ} (M : List NodeRow) → NodesAt ns i M → LikeAt ns i M
 nodes_like [] no_nodes = none_like
-nodes_like (x ∷ M) (node_then h more) = next_like (record { kind_like = h.kind_is; size_like = h.size_is; second_like = h.second_is; how_like = h.how_is }) (nodes_like M more)
+nodes_like {i = i} (x ∷ M) (node_then h more) = next_like (record { kind_like = h.kind_is; size_like = h.size_is; second_like = h.second_is; how_like = h.how_is }) (nodes_like {i = i + 1} M more)
 
 pub first_like : {ns : List ℕ} {i : ℕ} (M : List NodeRow) → FirstAt ns i M → LikeAt ns i M
 first_like [] first_none = none_like

@@ -28,11 +28,11 @@ pub data RowsAt (ts : List ℕ) : ℕ → List TermRow → Type 0 where
 
 pub rows_left : {ts : List ℕ} {k : ℕ} (A B : List TermRow) → RowsAt ts k (A ++ B) → RowsAt ts k A
 rows_left [] B h = no_rows
-rows_left (r ∷ A) B (row_then e more) = row_then e (rows_left A B more)
+rows_left {k = k} (r ∷ A) B (row_then e more) = row_then e (rows_left {k = k + 1} A B more)
 
 pub rows_right : {ts : List ℕ} {k : ℕ} (A B : List TermRow) → RowsAt ts k (A ++ B) → RowsAt ts (k + length A) B
 rows_right {ts} {k} [] B h = subst (λ (q : ℕ). RowsAt ts q B) (let q : k ≡ k + 0 = omega arith in q) h
-rows_right {ts} {k} (r ∷ A) B (row_then e more) = subst (λ (q : ℕ). RowsAt ts q B) (let q : k + 1 + length A ≡ k + suc (length A) = omega arith in q) (rows_right A B more)
+rows_right {ts} {k} (r ∷ A) B (row_then e more) = subst (λ (q : ℕ). RowsAt ts q B) (let q : k + 1 + length A ≡ k + suc (length A) = omega arith in q) (rows_right {k = k + 1} A B more)
 
 rows_from : {ts : List ℕ} (i : ℕ) (A : List TermRow) → ((j : ℕ) → j < length A → TermIs ts (i + j) (get_or A j no_term)) → RowsAt ts i A
 rows_from i [] h = no_rows
@@ -52,8 +52,8 @@ module _ (g : ℕ → ℕ) (numbered : List ℕ → ℕ) where
   pub read_rows : {ts : List ℕ} {k : ℕ} (A : List TermRow) → RowsAt ts k A → map (rename_term g) (read_terms ts k (length A)) ≡ rows_terms g numbered A
   unfolding read_terms
   read_rows [] no_rows = refl
-  read_rows (r ∷ A) (row_then h more) =
-      ap₂ {A = Term} {B = List Term} {C = List Term} (λ x l. x ∷ l) (λ t. rename_term g (term_of (h.tag_is t) (cond (is_use (h.tag_is t)) (h.place_is t) (h.value_is t)) 0)) (read_rows A more)
+  read_rows {k = k} (r ∷ A) (row_then h more) =
+      ap₂ {A = Term} {B = List Term} {C = List Term} (λ x l. x ∷ l) (λ t. rename_term g (term_of (h.tag_is t) (cond (is_use (h.tag_is t)) (h.place_is t) (h.value_is t)) 0)) (read_rows {k = k + 1} A more)
 
 module _ (xs ns ts rs : List ℕ) (r i : ℕ) (numbered : List ℕ → ℕ) where
   -- the number of the variable whose name stands at p

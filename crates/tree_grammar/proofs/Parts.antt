@@ -91,7 +91,7 @@ member_parts {ns} {i} (last_member x) t most l h = last_part ns most i (construc
 member_parts {ns} {i} (and_members x s more) t zero l h = absurd (omega (arith, some_construct false x))
 member_parts {ns} {i} (and_members x s more) t (suc most) l h =
     part_then ns most i (constructs false x) (constructs true more) _ (some_construct false x) (node_sized x t tt (nodes_left (node_rows false x t) (node_rows true more (t + length (term_rows x))) h))
-    (member_parts more (t + length (term_rows x)) most (omega (arith, some_construct false x))
+    (member_parts {i = i + constructs false x} more (t + length (term_rows x)) most (omega (arith, some_construct false x))
     (subst (λ (q : ℕ). NodesAt ns (i + q) (node_rows true more (t + length (term_rows x)))) (nodes_counted false x t) (nodes_right (node_rows false x t) (node_rows true more (t + length (term_rows x))) h)))
 
 pub branch_parts : {ns : List ℕ} {i d : ℕ} (x : Tree expression d) (t most : ℕ) → constructs true x ≤ most → NodesAt ns i (node_rows true x t) → parts_from ns most i (i + constructs true x) ≡ branches i x
@@ -100,7 +100,7 @@ branch_parts {ns} {i} (last_branch x) t most l h = last_part ns most i (construc
 branch_parts {ns} {i} (or_branches x s more) t zero l h = absurd (omega (arith, some_construct false x))
 branch_parts {ns} {i} (or_branches x s more) t (suc most) l h =
     part_then ns most i (constructs false x) (constructs true more) _ (some_construct false x) (node_sized x t tt (nodes_left (node_rows false x t) (node_rows true more (t + length (term_rows x))) h))
-    (branch_parts more (t + length (term_rows x)) most (omega (arith, some_construct false x))
+    (branch_parts {i = i + constructs false x} more (t + length (term_rows x)) most (omega (arith, some_construct false x))
     (subst (λ (q : ℕ). NodesAt ns (i + q) (node_rows true more (t + length (term_rows x)))) (nodes_counted false x t) (nodes_right (node_rows false x t) (node_rows true more (t + length (term_rows x))) h)))
 
 pub case_parts : {ns : List ℕ} {i d : ℕ} (x : Tree cases d) (t most : ℕ) → constructs false x ≤ most → NodesAt ns i (node_rows false x t) → parts_from ns most i (i + constructs false x) ≡ case_bodies i x
@@ -118,5 +118,5 @@ case_parts {ns} {i} (case_cases c colon x end more) t (suc most) l h =
     let M = on_first t (t + length (tests_rows c [])) (node_rows false x (t + length (tests_rows c [])))
     in let L = node_rows false more (t + length (tests_rows c [] ++ term_rows x))
     in part_then ns most i (constructs false x) (constructs false more) _ (some_construct false x) (case_sized x _ _ _ tt (nodes_left M L h))
-    (case_parts more _ most (omega (arith, some_construct false x))
+    (case_parts {i = i + constructs false x} more _ most (omega (arith, some_construct false x))
     (subst (λ (q : ℕ). NodesAt ns (i + q) L) (length_first t (t + length (tests_rows c [])) (node_rows false x (t + length (tests_rows c []))) ∙ nodes_counted false x (t + length (tests_rows c []))) (nodes_right M L h)))
