@@ -1,7 +1,6 @@
 use Prim.Native.Nat.{ℕ, ◌<◌}
 use mathlib.Core.Path.{sym, subst}
 use Rattle.run_actions.proofs.Literals.{ahead_small}
-use Rattle.run_frame.proofs.ahead.Reads as ahead-reads
 use Rattle.run_actions.proofs.ahead.Goals as goal
 
 -- src/lib.rt:228:1

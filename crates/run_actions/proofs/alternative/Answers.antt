@@ -1,5 +1,3 @@
-use Rattle.run_actions.proofs.ahead.Reads as ahead-reads
-use Rattle.run_actions.proofs.branch.Reads as branch-reads
 use Rattle.run_actions.proofs.alternative.Goals as goal
 
 -- src/lib.rt:349:1

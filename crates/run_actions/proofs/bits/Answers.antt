@@ -20,7 +20,7 @@ returns-then-p-width c =
     let n = c.number_at-number in
     let x : ℤ = number_at a.frame.now a.p a.signed a.width in
     let ts = terms_of a.table.now a.start a.end in
-    let is : to_z w64 (of_z w64 n.result) ≡ clamped x = back n.result n.type-inv ∙ n.ensures in
+    let is : to_z w64 (of_z w64 n.result) ≡ clamped x = back n.result n.type_inv ∙ n.ensures in
     let tested : c.set_holds-tested.result ≡ membership a.values.now x a.start ts =
     c.set_holds-tested.ensures ∙ ap (λ (v : ℤ). membership a.values.now v a.start ts) is ∙ membership_clamped a.values.now x a.start ts in
     let bound : to_z w64 (of_z w64 c.kept.result) ≡ kept a.binder x =

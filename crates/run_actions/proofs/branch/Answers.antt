@@ -1,11 +1,9 @@
 use Prim.Native.Nat.{ℕ, ◌+◌, ◌≤◌}
 use native.Mathlib.Omega.{arith}
-use mathlib.Core.Path.{◌≡◌, sym, ◌∙◌, ap}
+use mathlib.Core.Path.{sym, ◌∙◌, ap}
 use Rattle.run_actions.specs.Acts.{branch_act}
 use Rattle.run_actions.proofs.Walks.{positive}
 use Rattle.run_actions.proofs.Parts.{branch_end, branch_hit, branch_missing, branch_next}
-use Rattle.run_actions.proofs.size_at.Reads as size-at-reads
-use Rattle.run_actions.proofs.stored.Reads as stored-reads
 use Rattle.run_actions.proofs.branch.Goals as goal
 
 -- src/lib.rt:82:12

@@ -1,8 +1,6 @@
 use Prim.Native.Nat.{◌-◌}
-use mathlib.Core.Path.{◌≡◌, ◌∙◌}
+use mathlib.Core.Path.{◌≡◌}
 use Rattle.run_actions.specs.Acts.{branch_act}
-use Rattle.run_actions.proofs.size_at.Reads as size-at-reads
-use Rattle.run_actions.proofs.stored.Reads as stored-reads
 use Rattle.run_actions.proofs.branch.Given as goal
 
 abbrev pub invariant-loop-j : goal.invariant-loop-j

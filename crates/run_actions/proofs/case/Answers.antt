@@ -1,13 +1,11 @@
 use Prim.Native.Nat.{ℕ, ◌+◌, ◌≤◌}
 use native.Mathlib.Omega.{arith}
-use mathlib.Core.Path.{◌≡◌, sym, ◌∙◌, ap}
+use mathlib.Core.Path.{sym, ◌∙◌, ap}
 use Rattle.term_evaluation.specs.declared.Tested.{Tested}
 use Rattle.run_actions.specs.Acts.{by_case, case_act}
 use Rattle.run_actions.specs.declared.Act.{Act}
 use Rattle.run_actions.proofs.Walks.{positive}
 use Rattle.run_actions.proofs.Parts.{case_end, case_hit, case_missing, case_next}
-use Rattle.run_actions.proofs.case_holds.Reads as case-holds-reads
-use Rattle.run_actions.proofs.size_at.Reads as size-at-reads
 use Rattle.run_actions.proofs.case.Goals as goal
 
 -- src/lib.rt:122:15
@@ -16,19 +14,19 @@ case_holds-requires c = (omega arith, omega arith)
 
 -- src/lib.rt:124:17
 pub returns-in-Yes : goal.returns-in-Yes
-returns-in-Yes c = sym (case_hit c.args.table.now c.args.end c.args.values.now c.loop-j.j (Act.Enter c.loop-j.j) c.loop-j-test.true (λ rest. ap (λ (t : Tested). by_case t c.loop-j.j rest) (sym c.case_holds.ensures ∙ c.enum_told-1.given.1))) ∙ c.loop-j.invariant
+returns-in-Yes c = sym (case_hit c.args.table.now c.args.end c.args.values.now c.loop-j.j (Act.Enter c.loop-j.j) c.loop-j-test.true (λ rest. ap (λ (t : Tested). by_case t c.loop-j.j rest) (sym c.in-Yes.ensures))) ∙ c.loop-j.invariant
 
 -- src/lib.rt:128:17
 pub returns-in-Malformed : goal.returns-in-Malformed
-returns-in-Malformed c = sym (case_hit c.args.table.now c.args.end c.args.values.now c.loop-j.j Act.Broken c.loop-j-test.true (λ rest. ap (λ (t : Tested). by_case t c.loop-j.j rest) (sym c.case_holds.ensures ∙ c.enum_told-in-Malformed-1.given.1))) ∙ c.loop-j.invariant
+returns-in-Malformed c = sym (case_hit c.args.table.now c.args.end c.args.values.now c.loop-j.j Act.Broken c.loop-j-test.true (λ rest. ap (λ (t : Tested). by_case t c.loop-j.j rest) (sym c.in-Malformed.ensures))) ∙ c.loop-j.invariant
 
 -- src/lib.rt:131:17
 pub returns-in-Overflow : goal.returns-in-Overflow
-returns-in-Overflow c = sym (case_hit c.args.table.now c.args.end c.args.values.now c.loop-j.j Act.Broken c.loop-j-test.true (λ rest. ap (λ (t : Tested). by_case t c.loop-j.j rest) (sym c.case_holds.ensures ∙ c.enum_told-in-Overflow-1.given.1))) ∙ c.loop-j.invariant
+returns-in-Overflow c = sym (case_hit c.args.table.now c.args.end c.args.values.now c.loop-j.j Act.Broken c.loop-j-test.true (λ rest. ap (λ (t : Tested). by_case t c.loop-j.j rest) (sym c.in-Overflow.ensures))) ∙ c.loop-j.invariant
 
 -- src/lib.rt:136:13
 pub returns-then-step-eq0 : goal.returns-then-step-eq0
-returns-then-step-eq0 c = sym (case_missing c.args.table.now c.args.end c.args.values.now c.loop-j.j c.loop-j-test.true (sym c.case_holds.ensures ∙ c.enum_told-in-No-1.given.1) (sym c.size_at-step.ensures.0 ∙ c.if-step-eq0.true)) ∙ c.loop-j.invariant
+returns-then-step-eq0 c = sym (case_missing c.args.table.now c.args.end c.args.values.now c.loop-j.j c.loop-j-test.true (sym c.in-No.ensures) (sym c.size_at-step.ensures.0 ∙ c.if-step-eq0.true)) ∙ c.loop-j.invariant
 
 -- src/lib.rt:121:5
 pub loop-j-smaller : goal.loop-j-smaller
@@ -40,7 +38,7 @@ loop-j-preserved c =
     let e = c.size_at-step.ensures.0 in
     ap (λ (x : ℕ). case_act c.args.table.now c.args.values.now (c.loop-j.j + x) c.args.end) e
     ∙ (sym
-    (case_next c.args.table.now c.args.end c.args.values.now c.loop-j.j c.loop-j-test.true (sym c.case_holds.ensures ∙ c.enum_told-in-No-1.given.1)
+    (case_next c.args.table.now c.args.end c.args.values.now c.loop-j.j c.loop-j-test.true (sym c.in-No.ensures)
     (λ z. c.if-step-eq0.false (e ∙ z)))
     ∙ c.loop-j.invariant)
 

@@ -1,7 +1,4 @@
 use borrow.Author.Tests.{lt-ltb, le-ltb, le-leb, lt-leb}
-use Rattle.run_actions.proofs.terms.Reads as terms-reads
-use Rattle.term_evaluation.proofs.satisfied.Reads as satisfied-reads
-use Rattle.table_layout.proofs.word.Reads as word-reads
 use Rattle.run_actions.proofs.case_holds.Goals as goal
 
 pub returns-then-word-end : goal.returns-then-word-end

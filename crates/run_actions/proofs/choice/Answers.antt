@@ -1,5 +1,4 @@
 use mathlib.Core.Path.{sym, ◌∙◌}
-use Rattle.run_actions.proofs.stored.Reads as stored-reads
 use Rattle.run_actions.proofs.choice.Goals as goal
 
 -- src/lib.rt:179:9

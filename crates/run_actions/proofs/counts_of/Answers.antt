@@ -1,7 +1,4 @@
 use borrow.Author.Tests.{le-leb, lt-leb}
-use Rattle.run_actions.proofs.terms.Reads as terms-reads
-use Rattle.term_evaluation.proofs.counts.count.Reads as count-reads
-use Rattle.table_layout.proofs.word.Reads as word-reads
 use Rattle.run_actions.proofs.counts_of.Goals as goal
 
 pub returns-then-word-end : goal.returns-then-word-end

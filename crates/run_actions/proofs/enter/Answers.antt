@@ -1,5 +1,4 @@
 use borrow.Author.Tests.{lt-ltb, le-ltb}
-use Rattle.table_layout.proofs.word.Reads as word-reads
 use Rattle.run_actions.proofs.enter.Goals as goal
 
 -- src/lib.rt:167:13

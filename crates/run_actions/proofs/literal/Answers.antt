@@ -1,16 +1,15 @@
-use borrow.Author.Tests.{le-leb, le-ltb, lt-leb, lt-ltb}
+use borrow.Author.Tests.{le-leb, lt-leb}
 use mathlib.Core.Path.{sym, ◌∙◌}
-use Rattle.run_actions.proofs.literal_holds.Reads as literal-holds-reads
 use Rattle.run_actions.proofs.literal.Goals as goal
 
 -- src/lib.rt:267:13
 pub returns-then-literal_holds : goal.returns-then-literal_holds
-returns-then-literal_holds c = simp (sym c.literal_holds.ensures ∙ c.if-literal_holds.true, le-leb _ _ c.if-p-n.true, le-ltb _ _ c.if-p-n.true)
+returns-then-literal_holds c = simp (sym c.literal_holds.ensures ∙ c.if-literal_holds.true, le-leb _ _ c.if-p-n.true)
 
 -- src/lib.rt:261:1
 pub returns-else-literal_holds : goal.returns-else-literal_holds
-returns-else-literal_holds c = simp (sym c.literal_holds.ensures ∙ c.if-literal_holds.false, le-leb _ _ c.if-p-n.true, le-ltb _ _ c.if-p-n.true)
+returns-else-literal_holds c = simp (sym c.literal_holds.ensures ∙ c.if-literal_holds.false, le-leb _ _ c.if-p-n.true)
 
 -- src/lib.rt:261:1
 pub returns-else-p-n : goal.returns-else-p-n
-returns-else-p-n c = simp (lt-ltb _ _ c.if-p-n.false, lt-leb _ _ c.if-p-n.false)
+returns-else-p-n c = simp (lt-leb _ _ c.if-p-n.false)

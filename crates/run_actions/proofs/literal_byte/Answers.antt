@@ -2,7 +2,6 @@ use Prim.Native.Nat.{ℕ, ◌<◌, ◌/◌, ◌%◌}
 use native.Mathlib.Omega.{arith}
 use mathlib.Core.Path.{sym, subst, ap₂}
 use lib.Pow.{pow_pos}
-use Rattle.table_layout.proofs.word.Reads as word-reads
 use Rattle.run_actions.proofs.literal_byte.Goals as goal
 
 -- src/lib.rt:242:5

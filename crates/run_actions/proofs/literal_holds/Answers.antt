@@ -3,15 +3,13 @@ use native.Mathlib.Omega.{arith}
 use native.Mathlib.Nat.{sub-zero}
 use borrow.Author.Tests.{eq-eqb, ne_eqb}
 use mathlib.Core.Path.{◌≡◌, sym, ◌∙◌, ap}
-use mathlib.Core.Bool.{true, false}
+use mathlib.Core.Bool.{true, false, ◌&&◌}
 use lib.Dec.{eqb}
 use lib.ListN.{take, drop}
 use Rattle.basis.specs.Bits.{value, frame_bits}
 use Rattle.table_layout.specs.Held.{literal_byte}
 use Rattle.run_actions.specs.Acts.{literal_holds}
 use Rattle.run_actions.proofs.Literals.{literal_more, literal_done}
-use Rattle.run_actions.proofs.literal_byte.Reads as literal-byte-reads
-use Rattle.run_frame.proofs.octet.Reads as octet-reads
 use Rattle.run_actions.proofs.literal_holds.Goals as goal
 
 -- src/lib.rt:251:5

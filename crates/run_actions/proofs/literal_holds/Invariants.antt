@@ -1,8 +1,6 @@
 use Prim.Native.Nat.{◌-◌, ◌≤◌}
-use mathlib.Core.Path.{◌≡◌, ◌∙◌}
+use mathlib.Core.Path.{◌≡◌}
 use Rattle.run_actions.specs.Acts.{literal_holds}
-use Rattle.run_actions.proofs.literal_byte.Reads as literal-byte-reads
-use Rattle.run_frame.proofs.octet.Reads as octet-reads
 use Rattle.run_actions.proofs.literal_holds.Given as goal
 
 abbrev pub invariant-loop-k : goal.invariant-loop-k

@@ -1,9 +1,8 @@
 use Prim.Native.Nat.{ℕ, ◌+◌, ◌≤◌}
 use native.Mathlib.Omega.{arith}
-use mathlib.Core.Path.{◌≡◌, refl, sym, ◌∙◌, ap}
+use mathlib.Core.Path.{refl, sym, ◌∙◌, ap}
 use Rattle.run_actions.proofs.Walks.{positive}
 use Rattle.run_actions.proofs.Parts.{members_from, members_end, members_missing, members_next}
-use Rattle.run_actions.proofs.size_at.Reads as size-at-reads
 use Rattle.run_actions.proofs.members.Goals as goal
 
 -- src/lib.rt:150:5

@@ -1,8 +1,7 @@
 use Prim.Native.Nat.{◌-◌, ◌≤◌}
-use mathlib.Core.Path.{◌≡◌, ◌∙◌}
+use mathlib.Core.Path.{◌≡◌}
 use Rattle.run_actions.specs.Acts.{members_act}
 use Rattle.run_actions.proofs.Parts.{members_from}
-use Rattle.run_actions.proofs.size_at.Reads as size-at-reads
 use Rattle.run_actions.proofs.members.Given as goal
 
 abbrev pub invariant-loop-j : goal.invariant-loop-j

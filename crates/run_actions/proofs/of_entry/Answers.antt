@@ -28,14 +28,13 @@ returns-then-word_within-end c =
 
 pub returns : goal.returns
 returns c =
-    let b = c. in
-    let a = b.before.before.before.before.before.args in
+    let a = c.args in
     let ws = a.table.now in
     let fs = a.frame.now in
     let vs = known_values ws a.values.now in
-    let size = b.before.before.word-within in
+    let size = c.word_within-size in
     let e : leb (a.i + construct_word ws a.i 1) (construct_count ws) ≡ true =
-    ap₂ (λ (x y : ℕ). leb (a.i + x) y) (sym size.ensures.0) (sym b.before.word-within2.ensures.0) ∙ le-leb _ _ b.if1.false in
+    ap₂ (λ (x y : ℕ). leb (a.i + x) y) (sym size.ensures.0) (sym c.word_within.ensures.0) ∙ le-leb _ _ c.if-word_within-end.false in
     let w3 = c.word_within-kind in
     let w4 = c.word_within-a in
     let w5 = c.word_within-b in

@@ -1,7 +1,7 @@
 use borrow.Author.Tests.{le-ltb, lt-ltb, ne_eqb}
 use native.Mathlib.Omega.{arith}
-use mathlib.Core.Path.{◌≡◌, sym, ap, ◌∙◌}
-use mathlib.Core.Bool.{Bool, true, cond, ◌&&◌}
+use mathlib.Core.Path.{sym, ap, ◌∙◌}
+use mathlib.Core.Bool.{Bool, cond, ◌&&◌}
 use lib.Dec.{leb, ltb, eqb}
 use Rattle.basis.specs.Limits.{max_literal_bytes}
 use Rattle.run_actions.specs.Acts.{uint_act}

@@ -1,7 +1,5 @@
 use native.Mathlib.Nat.{add-zero}
 use borrow.Author.Tests.{lt-ltb, le-ltb}
-use Rattle.run_actions.proofs.enter.Reads as enter-reads
-use Rattle.table_layout.proofs.word.Reads as word-reads
 use Rattle.run_actions.proofs.open_rule.Goals as goal
 
 -- src/lib.rt:191:9

@@ -1,5 +1,4 @@
 use borrow.Author.Tests.{le-leb, lt-leb}
-use Rattle.run_frame.proofs.octet.Reads as octet-reads
 use Rattle.run_actions.proofs.range.Goals as goal
 
 -- src/lib.rt:281:17

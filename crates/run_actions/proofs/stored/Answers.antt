@@ -5,7 +5,6 @@ use Rattle.run_actions.specs.Stored.{stored as storedOf}
 use Prim.Native.Nat.{ℕ, ◌<◌}
 use mathlib.Core.Path.{sym, subst}
 use lib.Pow.{pow_pos}
-use Rattle.table_layout.proofs.word.Reads as word-reads
 use Rattle.run_actions.proofs.stored.Goals as goal
 
 -- src/lib.rt:48:5

@@ -1,6 +1,4 @@
 use borrow.Author.Tests.{le-leb, lt-leb}
-use Rattle.run_actions.proofs.bits.Reads as bits-reads
-use Rattle.table_layout.proofs.word.Reads as word-reads
 use Rattle.run_actions.proofs.uint.Goals as goal
 
 pub returns-then-word-end : goal.returns-then-word-end
