@@ -9,9 +9,10 @@ ghost use Rattle.bench.specs.Weights.{Light};
 
 use basis::{MAX_FRAME_BITS, MAX_FRAME_BYTES, TABLE_WORDS};
 use bench_hexadecimal::{Line, MAX_LINE};
-use std::io::Stdout;
 use run_grants::Run;
 use run_matcher::Answer;
+use std::fs::File;
+use std::io::{Stdin, Stdout};
 use text_admission::Admission;
 
 // Two words for each bit of a frame.
@@ -146,7 +147,12 @@ fn answered(out: Stdout, table: &[u32; TABLE_WORDS], weight: usize, line: &[u8])
 fn ended(out: Stdout, table: &[u32; TABLE_WORDS], weight: usize, line: &[u8], held: usize)
     requires { (weight ≤ max_weight) × (held ≤ length line.now) }
 {
-    answered(out, table, weight, text_header::header::content(&line[0..held]));
+    answered(
+        out,
+        table,
+        weight,
+        text_header::header::content(&line[0..held]),
+    );
 }
 
 // A last line without LF is one if it has a byte.
@@ -158,7 +164,13 @@ fn last(out: Stdout, table: &[u32; TABLE_WORDS], weight: usize, line: &[u8], hel
     }
 }
 
-fn line_ended(out: Stdout, table: &[u32; TABLE_WORDS], weight: usize, line: &[u8; LINE_KEPT], held: usize)
+fn line_ended(
+    out: Stdout,
+    table: &[u32; TABLE_WORDS],
+    weight: usize,
+    line: &[u8; LINE_KEPT],
+    held: usize,
+)
     requires { (weight ≤ max_weight) × (held ≤ max_line + 2) }
 {
     ended(out, table, weight, &line[..], held);
@@ -175,7 +187,8 @@ fn keep(line: &mut [u8; LINE_KEPT], held: usize, byte: u8) -> usize
     held
 }
 
-fn take(out: Stdout, 
+fn take(
+    out: Stdout,
     table: &[u32; TABLE_WORDS],
     weight: usize,
     line: &mut [u8; LINE_KEPT],
@@ -192,7 +205,8 @@ fn take(out: Stdout,
     keep(line, held, byte)
 }
 
-fn take_all(out: Stdout, 
+fn take_all(
+    out: Stdout,
     table: &[u32; TABLE_WORDS],
     weight: usize,
     line: &mut [u8; LINE_KEPT],
@@ -211,13 +225,19 @@ fn take_all(out: Stdout,
     held
 }
 
-fn piece(out: Stdout, table: &[u32; TABLE_WORDS], weight: usize, line: &mut [u8; LINE_KEPT], held: usize) -> Step
+fn piece(
+    out: Stdout,
+    from: Stdin,
+    table: &[u32; TABLE_WORDS],
+    weight: usize,
+    line: &mut [u8; LINE_KEPT],
+    held: usize,
+) -> Step
     requires { (weight ≤ max_weight) × (held ≤ max_line + 2) }
     ensures { result.held ≤ max_line + 2 }
 {
-    let mut buffer = io::buffer();
-    let got = libc::read(STDIN_FILENO, &mut buffer);
-    let n = io::count(got, &buffer);
+    let mut buffer = [0u8; 4096];
+    let n = reading::count(&mut &from, &mut buffer);
     let after = take_all(out, table, weight, line, held, &buffer[..n]);
     Step {
         held: after,
@@ -226,7 +246,13 @@ fn piece(out: Stdout, table: &[u32; TABLE_WORDS], weight: usize, line: &mut [u8;
 }
 
 // Nothing says that the input ends, so the turns are counted from a number that no input uses up.
-fn lines(out: Stdout, table: &[u32; TABLE_WORDS], weight: usize, line: &mut [u8; LINE_KEPT]) -> usize
+fn lines(
+    out: Stdout,
+    from: Stdin,
+    table: &[u32; TABLE_WORDS],
+    weight: usize,
+    line: &mut [u8; LINE_KEPT],
+) -> usize
     requires { weight ≤ max_weight }
     ensures { result ≤ max_line + 2 }
 {
@@ -234,7 +260,7 @@ fn lines(out: Stdout, table: &[u32; TABLE_WORDS], weight: usize, line: &mut [u8;
     let mut turns = u64::MAX;
     while 0 < turns {
         turns -= 1;
-        let step = piece(out, table, weight, line, held);
+        let step = piece(out, from, table, weight, line, held);
         held = step.held;
         if step.ended {
             return held;
@@ -243,17 +269,23 @@ fn lines(out: Stdout, table: &[u32; TABLE_WORDS], weight: usize, line: &mut [u8;
     held
 }
 
-fn last_of(out: Stdout, table: &[u32; TABLE_WORDS], weight: usize, line: &[u8; LINE_KEPT], held: usize)
+fn last_of(
+    out: Stdout,
+    table: &[u32; TABLE_WORDS],
+    weight: usize,
+    line: &[u8; LINE_KEPT],
+    held: usize,
+)
     requires { (weight ≤ max_weight) × (held ≤ max_line + 2) }
 {
     last(out, table, weight, &line[..], held);
 }
 
-fn frames(out: Stdout, table: &[u32; TABLE_WORDS], weight: usize)
+fn frames(out: Stdout, from: Stdin, table: &[u32; TABLE_WORDS], weight: usize)
     requires { weight ≤ max_weight }
 {
     let mut line = [0u8; LINE_KEPT];
-    let held = lines(out, table, weight, &mut line);
+    let held = lines(out, from, table, weight, &mut line);
     last_of(out, table, weight, &line, held);
 }
 
@@ -264,31 +296,28 @@ fn admit_text(bytes: &[u8], table: &mut [u32; TABLE_WORDS]) -> Admission
 }
 
 // Of a longer text so many bytes are enough to refuse it.
-fn admit(out: Stdout, fd: i32, table: &mut [u32; TABLE_WORDS]) -> Admission
+fn admit(from: &mut File, table: &mut [u32; TABLE_WORDS]) -> Admission
     ensures { Light result }
 {
     let mut bytes = [0u8; 8193];
-    let n = io::read_full(fd, &mut bytes);
+    let n = reading::read_full(from, &mut bytes);
     admit_text(&bytes[..n], table)
 }
 
-fn admit_file(out: Stdout, table: &mut [u32; TABLE_WORDS]) -> Admission
+fn admit_file(rt: &HostRuntime, table: &mut [u32; TABLE_WORDS]) -> Admission
     ensures { Light result }
 {
-    let fd = os::open_read(b"kiosk.dogma");
-    if fd < 0 {
-        return admit_text(b"", table);
+    match File::open(rt, "kiosk.dogma") {
+        Ok(mut file) => admit(&mut file, table),
+        Err(_) => admit_text(b"", table),
     }
-    let answer = admit(out, fd, table);
-    libc::close(fd);
-    answer
 }
 
-fn start(out: Stdout, answer: Admission, table: &[u32; TABLE_WORDS])
+fn start(out: Stdout, from: Stdin, answer: Admission, table: &[u32; TABLE_WORDS])
     requires { Light answer }
 {
     match answer {
-        Admission::Admitted { weight } => frames(out, table, weight),
+        Admission::Admitted { weight } => frames(out, from, table, weight),
         Admission::Refused {
             number: _,
             place: _,
@@ -304,7 +333,7 @@ fn start(out: Stdout, answer: Admission, table: &[u32; TABLE_WORDS])
 fn main(rt: HostRuntime) {
     let out = rt.stdout();
     let mut table = [0u32; TABLE_WORDS];
-    let answer = admit_file(out, &mut table);
+    let answer = admit_file(&rt, &mut table);
     show_grammar(out, answer);
-    start(out, answer, &table);
+    start(out, rt.stdin(), answer, &table);
 }

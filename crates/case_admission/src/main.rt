@@ -107,6 +107,6 @@ fn main(rt: HostRuntime) {
     let out = rt.stdout();
     let mut buffer = [0u8; 400000];
     let mut table = [0u32; TABLE_WORDS];
-    let n = io::read_full(STDIN_FILENO, &mut buffer);
+    let n = reading::read_full(&mut rt.stdin(), &mut buffer);
     all(out, &buffer[..n], &mut table);
 }

@@ -9,8 +9,8 @@ use report_places::{Located, Query, locate};
 use report_quoting::quoting::{Part, quote};
 use report_wording::lines;
 use report_wording::writing::{number, say};
-use text_header::bytes::either;
 use std::io::Stdout;
+use text_header::bytes::either;
 
 fn field_at(out: Stdout, grammar: &[u8], table: &[u32], construct: usize, at: usize) {
     number(out, b"    construct ", construct);
@@ -92,7 +92,10 @@ pub fn admitted(out: Stdout, grammar: &[u8], weight: usize) {
     number(out, b", constructs ", count);
     say(out, b"\n");
     bound(out, weight);
-    say(out, b"The fields in the text's order, with the numbers that a reading gives:\n");
+    say(
+        out,
+        b"The fields in the text's order, with the numbers that a reading gives:\n",
+    );
     let words = sets::encoded(grammar).words;
     fields(out, grammar, &words, count);
 }

@@ -46,7 +46,8 @@ fn one_more(n: usize) -> usize {
 fn told(out: Stdout, grammar: &[u8], table: &[u32]) {
     let mut sizes = [0usize; 256];
     weights(table, &mut sizes);
-    number(out, 
+    number(
+        out,
         b"The grammar is too heavy: its weight is ",
         one_more(number_at(&sizes, 0)),
     );

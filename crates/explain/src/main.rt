@@ -1,6 +1,8 @@
 // Says what is wrong with each grammar file that it is given (kiosk.dogma, where it is given none), and what to change.
 #![tactic(auto)]
 
+ghost use Rattle.std.specs.Prelude.{◌≤◌, length, IfSome};
+
 use text_admission::Admission;
 
 mod fields;
@@ -14,9 +16,12 @@ mod values;
 mod warnings;
 
 use report_wording::writing::{number, say};
+use std::env::{Env, FillError};
+use std::fs::File;
+use std::io;
+use std::io::{Read, Stdout};
 use table_conflicts::Clash;
 use text_header::spans::spells;
-use std::io::Stdout;
 
 // The last line of each report is for scripts.
 fn status(out: Stdout, word: &[u8], n: usize, middle: &[u8], m: usize) {
@@ -66,70 +71,112 @@ fn explained(out: Stdout, grammar: &[u8]) {
 }
 
 // One byte more than a grammar may have.
-fn read(out: Stdout, fd: i32) {
+fn read<R: Read>(out: Stdout, from: &mut R) {
     let mut buffer = [0u8; 8193];
-    let n = io::read_full(fd, &mut buffer);
+    let n = reading::read_full(from, &mut buffer);
     explained(out, &buffer[..n]);
 }
 
-fn file(out: Stdout, path: &[u8]) {
-    let fd = os::open_read(path);
-    if fd < 0 {
-        os::fail(path);
-        say(out, path);
-        say(out, b": this file cannot be opened\nunread\n");
-        return;
+// The file, or an error that is told to standard error.
+fn opened(rt: &HostRuntime, path: &[u8]) -> io::Result<File> {
+    let Ok(name) = str::from_utf8(path) else {
+        return Err(io::Error::from(io::ErrorKind::InvalidInput));
+    };
+    let answer = File::open(rt, name);
+    if let Err(error) = &answer {
+        let _ = eprintln!(rt; "{name}: {error}");
     }
-    say(out, path);
-    say(out, b": ");
-    read(out, fd);
-    libc::close(fd);
+    answer
+}
+
+fn file(rt: &HostRuntime, path: &[u8]) {
+    let out = rt.stdout();
+    match opened(rt, path) {
+        Ok(mut file) => {
+            say(out, path);
+            say(out, b": ");
+            read(out, &mut file);
+        }
+        Err(_) => {
+            say(out, path);
+            say(out, b": this file cannot be opened\nunread\n");
+        }
+    }
 }
 
 fn help(out: Stdout) {
     say(out, b"usage: explain [FILE]...\n");
-    say(out, b"Says of each grammar FILE whether it is admitted; if not, what is wrong with\n");
-    say(out, b"it, where, and what to change. Without FILE it reads kiosk.dogma; - is standard\n");
+    say(
+        out,
+        b"Says of each grammar FILE whether it is admitted; if not, what is wrong with\n",
+    );
+    say(
+        out,
+        b"it, where, and what to change. Without FILE it reads kiosk.dogma; - is standard\n",
+    );
     say(out, b"input. The last line of each report is one of\n");
     say(out, b"    admitted weight W\n");
-    say(out, b"    refused N at P     N: number of refusal, P: place in bytes, from 0\n");
+    say(
+        out,
+        b"    refused N at P     N: number of refusal, P: place in bytes, from 0\n",
+    );
     say(out, b"    unread             the file cannot be opened\n");
-    say(out, b"tools/explain turns these into the exit statuses 0, 1 and 2.\n");
+    say(
+        out,
+        b"tools/explain turns these into the exit statuses 0, 1 and 2.\n",
+    );
 }
 
-fn word(out: Stdout, path: &[u8]) {
+fn word(rt: &HostRuntime, path: &[u8]) {
+    let out = rt.stdout();
     if spells(false, path, b"--help") {
         help(out);
         return;
     }
     if spells(false, path, b"-") {
         say(out, b"standard input: ");
-        read(out, libc::STDIN_FILENO);
+        read(out, &mut rt.stdin());
         return;
     }
-    file(out, path);
+    file(rt, path);
 }
 
-fn each(out: Stdout, i: usize) {
-    let mut path = io::buffer();
-    let n = os::arg(i, &mut path);
-    word(out, &path[..n]);
+// The argument `i` at the buffer's start, and its length: 0 where it is longer than the buffer. Nothing where there is none.
+fn argument(rt: &HostRuntime, i: usize, buffer: &mut [u8]) -> Option<usize>
+    ensures { IfSome result (λ n. n ≤ length buffer.new) }
+{
+    match rt.arg(i, buffer) {
+        Ok(n) => Some(n),
+        Err(FillError::TooLong) => Some(0),
+        Err(FillError::NotPresent) => None,
+    }
 }
 
-fn every(out: Stdout, count: usize) {
-    let mut i: usize = 1;
-    while i < count {
-        each(out, i);
-        i += 1;
+// Whether there is an argument `i`.
+fn each(rt: &HostRuntime, i: usize) -> bool {
+    let mut path = [0u8; 4096];
+    match argument(rt, i, &mut path) {
+        Some(n) => {
+            word(rt, &path[..n]);
+            true
+        }
+        None => false,
+    }
+}
+
+// The arguments after the first.
+fn every(rt: &HostRuntime) {
+    for i in 2..usize::MAX {
+        if !each(rt, i) {
+            break;
+        }
     }
 }
 
 fn main(rt: HostRuntime) {
-    let out = rt.stdout();
-    let count = os::arg_count();
-    if count < 2 {
-        file(out, b"kiosk.dogma");
+    if !each(&rt, 1) {
+        file(&rt, b"kiosk.dogma");
         return;
     }
-    every(out, count);
+    every(&rt);
 }

@@ -7,10 +7,10 @@ use report_quoting::quoting::{Part, token};
 use report_wording::lines;
 use report_wording::lines::saturating_next;
 use report_wording::writing::say;
+use std::io::Stdout;
 use text_header::spans::span;
 use text_header::{Class, Heading};
 use text_tokens::names::reserved;
-use std::io::Stdout;
 
 fn is_reserved(grammar: &[u8], start: usize, end: usize) -> bool {
     if start <= end {
@@ -175,7 +175,10 @@ fn each(out: Stdout, grammar: &[u8], first: usize) {
 // The names at fault after the first, a line each.
 fn further(out: Stdout, grammar: &[u8], at: usize) {
     if at < grammar.len() {
-        say(out, b"Further names at fault (some may be right once others are):\n");
+        say(
+            out,
+            b"Further names at fault (some may be right once others are):\n",
+        );
         each(out, grammar, at);
     }
 }

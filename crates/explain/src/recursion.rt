@@ -6,8 +6,8 @@ use report_measures::words::number_at;
 use report_quoting::quoting::token;
 use report_wording::lines;
 use report_wording::writing::say;
-use table_reach::Recursion;
 use std::io::Stdout;
+use table_reach::Recursion;
 
 fn step(out: Stdout, grammar: &[u8], uses: &[usize], k: usize) {
     let at = place_of(grammar, number_at(uses, k));

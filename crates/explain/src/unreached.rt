@@ -9,9 +9,9 @@ use report_quoting::nearest::{near, nearest};
 use report_quoting::quoting::{Part, token};
 use report_wording::lines;
 use report_wording::writing::say;
+use std::io::Stdout;
 use text_header::Heading;
 use text_names::names::same;
-use std::io::Stdout;
 
 fn next(n: usize) -> usize {
     if n < 256 {
@@ -123,7 +123,13 @@ fn first(out: Stdout, grammar: &[u8], table: &[u32], marks: &[usize], rule: usiz
     say(out, b" is not reached from the start rule ");
     token(out, grammar, name_of(grammar, table, 0));
     how(out, grammar, table, rule, used);
-    nearly(out, grammar, table, at, near_rule(grammar, table, marks, at));
+    nearly(
+        out,
+        grammar,
+        table,
+        at,
+        near_rule(grammar, table, marks, at),
+    );
     hidden(out, grammar, at);
     unreached::change(out, used);
 }
@@ -158,7 +164,8 @@ fn told(out: Stdout, grammar: &[u8], table: &[u32]) {
     reached(table, &mut marks);
     let rule = unreached_from(table, &marks, 1);
     first(out, grammar, table, &marks, rule);
-    others(out, 
+    others(
+        out,
         grammar,
         table,
         &marks,

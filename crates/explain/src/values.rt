@@ -4,8 +4,8 @@ use report_listing::sets;
 use report_measures::words::set_at;
 use report_quoting::quoting::Part;
 use report_wording::writing::say;
-use table_layout::{Construct, construct_at};
 use std::io::Stdout;
+use table_layout::{Construct, construct_at};
 
 // Construct i is a uint or sint whose set of strings is empty; with a variable it has all.
 fn is_empty(table: &[u32], first: &[u64], i: usize) -> bool {
@@ -72,7 +72,13 @@ fn told(out: Stdout, grammar: &[u8], table: &[u32]) {
     let mut first = [0u64; 2056];
     sets::first(table, &mut first);
     let i = empty_from(table, &first, 0);
-    others(out, grammar, table, &first, empty_from(table, &first, next(i)));
+    others(
+        out,
+        grammar,
+        table,
+        &first,
+        empty_from(table, &first, next(i)),
+    );
 }
 
 pub fn explained(out: Stdout, grammar: &[u8], at: usize) {

@@ -23,7 +23,8 @@ fn warned(out: Stdout, grammar: &[u8], at: usize, part: Part, sentence: &[u8]) {
 fn field(out: Stdout, grammar: &[u8], table: &[u32], first: &[u64], i: usize) {
     if 0 < width_of(table, i) {
         if lookahead::is_empty(set_at(first, i)) {
-            warned(out, 
+            warned(
+                out,
                 grammar,
                 place_of(grammar, i),
                 Part::Field,
@@ -42,7 +43,8 @@ fn fields(out: Stdout, grammar: &[u8], table: &[u32], first: &[u64]) {
 }
 
 fn never(out: Stdout, grammar: &[u8], i: usize) {
-    warned(out, 
+    warned(
+        out,
         grammar,
         place_of(grammar, i),
         Part::Whole,
@@ -51,7 +53,8 @@ fn never(out: Stdout, grammar: &[u8], i: usize) {
 }
 
 fn covered(out: Stdout, grammar: &[u8], i: usize) {
-    warned(out, 
+    warned(
+        out,
         grammar,
         place_of(grammar, i),
         Part::Whole,

@@ -1,13 +1,18 @@
 // Prints a C header with the names of a grammar's fields and variables: of the file that it is given, or of standard input.
 #![tactic(auto)]
 
+ghost use Rattle.std.specs.Prelude.{◌≤◌, length, IfSome};
+
 use report_measures::words::put_number;
 use report_names::{places, printing};
 use report_places::{Located, Query, locate};
 use report_wording::writing::{number, say};
+use std::env::{Env, FillError};
+use std::fs::File;
+use std::io;
+use std::io::{Read, Stdout};
 use text_admission::Admission;
 use text_header::spans::spells;
-use std::io::Stdout;
 
 fn place_of(grammar: &[u8], i: usize) -> usize {
     match locate(grammar, Query::Construct(i)) {
@@ -62,66 +67,90 @@ fn named(out: Stdout, grammar: &[u8], prefix: &[u8]) {
 }
 
 // One byte more than a grammar may have.
-fn read(out: Stdout, fd: i32, prefix: &[u8]) {
+fn read<R: Read>(out: Stdout, from: &mut R, prefix: &[u8]) {
     let mut buffer = [0u8; 8193];
-    let n = io::read_full(fd, &mut buffer);
+    let n = reading::read_full(from, &mut buffer);
     named(out, &buffer[..n], prefix);
 }
 
-fn file(out: Stdout, path: &[u8], prefix: &[u8]) {
-    let fd = os::open_read(path);
-    if fd < 0 {
-        os::fail(path);
-        say(out, b"#error \"the grammar cannot be opened\"\n");
-        return;
+// The file, or an error that is told to standard error.
+fn opened(rt: &HostRuntime, path: &[u8]) -> io::Result<File> {
+    let Ok(name) = str::from_utf8(path) else {
+        return Err(io::Error::from(io::ErrorKind::InvalidInput));
+    };
+    let answer = File::open(rt, name);
+    if let Err(error) = &answer {
+        let _ = eprintln!(rt; "{name}: {error}");
     }
-    read(out, fd, prefix);
-    libc::close(fd);
+    answer
+}
+
+fn file(rt: &HostRuntime, path: &[u8], prefix: &[u8]) {
+    match opened(rt, path) {
+        Ok(mut file) => read(rt.stdout(), &mut file, prefix),
+        Err(_) => say(rt.stdout(), b"#error \"the grammar cannot be opened\"\n"),
+    }
 }
 
 fn help(out: Stdout) {
     say(out, b"usage: names [FILE [PREFIX]]\n");
-    say(out, b"Prints a C header for the grammar FILE: a constant for each field and each\n");
-    say(out, b"variable by its rule and its name, the weight, and macros for the steps and\n");
-    say(out, b"the room that a frame needs. Without FILE it reads kiosk.dogma; - is standard\n");
-    say(out, b"input. PREFIX is put in front of every name, for programs with more than one\n");
-    say(out, b"grammar. Of a grammar that is refused it prints an #error with number and place.\n");
+    say(
+        out,
+        b"Prints a C header for the grammar FILE: a constant for each field and each\n",
+    );
+    say(
+        out,
+        b"variable by its rule and its name, the weight, and macros for the steps and\n",
+    );
+    say(
+        out,
+        b"the room that a frame needs. Without FILE it reads kiosk.dogma; - is standard\n",
+    );
+    say(
+        out,
+        b"input. PREFIX is put in front of every name, for programs with more than one\n",
+    );
+    say(
+        out,
+        b"grammar. Of a grammar that is refused it prints an #error with number and place.\n",
+    );
 }
 
-fn word(out: Stdout, path: &[u8], prefix: &[u8]) {
+fn word(rt: &HostRuntime, path: &[u8], prefix: &[u8]) {
     if spells(false, path, b"--help") {
-        help(out);
+        help(rt.stdout());
         return;
     }
     if spells(false, path, b"-") {
-        read(out, libc::STDIN_FILENO, prefix);
+        read(rt.stdout(), &mut rt.stdin(), prefix);
         return;
     }
-    file(out, path, prefix);
+    file(rt, path, prefix);
 }
 
-fn given(out: Stdout, prefix: &[u8]) {
-    let mut path = io::buffer();
-    let n = os::arg(1, &mut path);
-    word(out, &path[..n], prefix);
+// The argument `i` at the buffer's start, and its length: 0 where it is longer than the buffer. Nothing where there is none.
+fn argument(rt: &HostRuntime, i: usize, buffer: &mut [u8]) -> Option<usize>
+    ensures { IfSome result (λ n. n ≤ length buffer.new) }
+{
+    match rt.arg(i, buffer) {
+        Ok(n) => Some(n),
+        Err(FillError::TooLong) => Some(0),
+        Err(FillError::NotPresent) => None,
+    }
 }
 
-fn prefixed(out: Stdout) {
-    let mut prefix = io::buffer();
-    let n = os::arg(2, &mut prefix);
-    given(out, &prefix[..n]);
+fn prefixed(rt: &HostRuntime, path: &[u8]) {
+    let mut prefix = [0u8; 4096];
+    match argument(rt, 2, &mut prefix) {
+        Some(n) => word(rt, path, &prefix[..n]),
+        None => word(rt, path, b""),
+    }
 }
 
 fn main(rt: HostRuntime) {
-    let out = rt.stdout();
-    let count = os::arg_count();
-    if count < 2 {
-        file(out, b"kiosk.dogma", b"");
-        return;
+    let mut path = [0u8; 4096];
+    match argument(&rt, 1, &mut path) {
+        Some(n) => prefixed(&rt, &path[..n]),
+        None => file(&rt, b"kiosk.dogma", b""),
     }
-    if count < 3 {
-        given(out, b"");
-        return;
-    }
-    prefixed(out);
 }

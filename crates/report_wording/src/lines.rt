@@ -3,9 +3,9 @@ ghost use Rattle.std.specs.Prelude.{◌≡◌, ◌+◌, ◌-◌, min, max};
 ghost use Rattle.report_wording.specs.Lines.{lines_before, line_start, line_end};
 
 use crate::writing::{Style, bytes, number, say};
+use std::io::Stdout;
 use text_header::Class;
 use text_header::spans::{byte_at, span};
-use std::io::Stdout;
 
 // A line: how many end before it, and the place of its first byte.
 #[derive(Clone, Copy)]
@@ -80,7 +80,11 @@ pub fn place(out: Stdout, grammar: &[u8], at: usize) {
     let line = line_of(grammar, at);
     let start = line.start;
     number(out, b"line ", saturating_next(line.before));
-    number(out, b", column ", saturating_next(saturating_sub(at, start)));
+    number(
+        out,
+        b", column ",
+        saturating_next(saturating_sub(at, start)),
+    );
 }
 
 fn left_edge(out: Stdout, cut: bool) {

@@ -1,5 +1,4 @@
 use Prim.Native.Nat.{◌-◌}
-use mathlib.Core.Path.{◌∙◌}
 use Rattle.report_wording.specs.Lines.{Walked}
 use Rattle.report_wording.proofs.lines.line_of.Given as goal
 
