@@ -13,14 +13,14 @@ pub loop-i-init : goal.loop-i-init
 loop-i-init c = (filled_none _, search rules)
 
 pub word_of-requires : goal.word_of-requires
-word_of-requires c = let w = c in (w.before.window-count.ensures.1, w.first_bit.ensures.1, omega (arith, c.loop-i-test.true))
+word_of-requires c = let w = c in (c.window_count-strings.ensures.1, c.first_bit-half.ensures.1, omega (arith, c.loop-i-test.true))
 
 pub loop-i-preserved : goal.loop-i-preserved
 loop-i-preserved c =
     let w = c in
-    let a = w.before.before.before.args in (
+    let a = c.args in (
       filled_more _ _ _ _ (search rules) c.loop-i.invariant.0 (search rules)
-          (c.word_of.ensures a.width a.signed a.start (terms a.words.now a.start a.end) w.window-count.ensures.0 c.first_bit-half.ensures.0 (w.before.first-windows.ensures w.before.before.before.requires)),
+          (c.word_of.ensures a.width a.signed a.start (terms a.words.now a.start a.end) c.window_count-strings.ensures.0 c.first_bit-half.ensures.0 (c.first_windows-marks.ensures c.requires)),
       search rules,
     )
 

@@ -48,19 +48,19 @@ pub returns-in-Alternative : goal.returns-in-Alternative
 unfolding node_of
 returns-in-Alternative c =
     let a = c.args in
-    seed_none a.table.now a.i c.requires c.construct_at.result c.construct_at.ensures c.empty-in-Alternative.result.words (Construct.Alternative c.in-Alternative.field-0) c.in-Alternative.is (λ x s. s) c.empty-in-Alternative.ensures
+    seed_none a.table.now a.i c.requires c.construct_at.result c.construct_at.ensures c.empty-in-Alternative.result.words (Construct.Alternative c.in-Alternative.size) c.in-Alternative.is (λ x s. s) c.empty-in-Alternative.ensures
 
 pub returns-in-Concatenation : goal.returns-in-Concatenation
 unfolding node_of
 returns-in-Concatenation c =
     let a = c.args in
-    seed_none a.table.now a.i c.requires c.construct_at.result c.construct_at.ensures c.empty-in-Concatenation.result.words (Construct.Concatenation c.in-Concatenation.field-0) c.in-Concatenation.is (λ x s. s) c.empty-in-Concatenation.ensures
+    seed_none a.table.now a.i c.requires c.construct_at.result c.construct_at.ensures c.empty-in-Concatenation.result.words (Construct.Concatenation c.in-Concatenation.size) c.in-Concatenation.is (λ x s. s) c.empty-in-Concatenation.ensures
 
 pub returns-in-Repetition : goal.returns-in-Repetition
 unfolding node_of
 returns-in-Repetition c =
     let a = c.args in
-    seed_none a.table.now a.i c.requires c.construct_at.result c.construct_at.ensures c.empty-in-Repetition.result.words (Construct.Repetition c.in-Repetition.field-0 c.in-Repetition.field-1) c.in-Repetition.is (λ x s. s) c.empty-in-Repetition.ensures
+    seed_none a.table.now a.i c.requires c.construct_at.result c.construct_at.ensures c.empty-in-Repetition.result.words (Construct.Repetition c.in-Repetition.size c.in-Repetition.passes) c.in-Repetition.is (λ x s. s) c.empty-in-Repetition.ensures
 
 pub returns-in-Switch : goal.returns-in-Switch
 returns-in-Switch c =
@@ -71,13 +71,13 @@ pub returns-in-Use : goal.returns-in-Use
 unfolding node_of
 returns-in-Use c =
     let a = c.args in
-    seed_none a.table.now a.i c.requires c.construct_at.result c.construct_at.ensures c.empty-in-Use.result.words (Construct.Use c.in-Use.field-0) c.in-Use.is (λ x s. s) c.empty-in-Use.ensures
+    seed_none a.table.now a.i c.requires c.construct_at.result c.construct_at.ensures c.empty-in-Use.result.words (Construct.Use c.in-Use.rule) c.in-Use.is (λ x s. s) c.empty-in-Use.ensures
 
 pub returns-in-Literal : goal.returns-in-Literal
 returns-in-Literal c =
     let a = c.args in
-    seed_literal a.table.now a.i c.requires c.construct_at.result c.construct_at.ensures c.single.result.words c.in-Literal.field-0 c.word.result c.in-Literal.is
-    (fine_as a.table.now a.i c.construct_at.result c.construct_at.ensures (Construct.Literal c.in-Literal.field-0) c.in-Literal.is).1 c.word.ensures.0 c.single.ensures
+    seed_literal a.table.now a.i c.requires c.construct_at.result c.construct_at.ensures c.single.result.words c.in-Literal.length c.word.result c.in-Literal.is
+    (fine_as a.table.now a.i c.construct_at.result c.construct_at.ensures (Construct.Literal c.in-Literal.length) c.in-Literal.is).1 c.word.ensures.0 c.single.ensures
 
 pub returns-in-Range : goal.returns-in-Range
 returns-in-Range c =

@@ -1,4 +1,3 @@
-
 use Rattle.table_first_follow.proofs.first.apply_any.Goals as goal
 
 pub apply-requires : goal.apply-requires

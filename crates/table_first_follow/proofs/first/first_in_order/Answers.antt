@@ -14,7 +14,7 @@ pass-requires c = c.seeds.ensures
 pub loop-more-init : goal.loop-more-init
 loop-more-init c =
     let ws = c.args.table.now in
-    settle_start (first_low ws) (first_of ws) (From (FirstClosed ws) 0) c.pass.new.1.1.0 c.pass.ensures
+    settle_start (first_low ws) (first_of ws) (From (FirstClosed ws) 0) c.pass.new.family c.pass.ensures
 
 pub round-more-requires : goal.round-more-requires
 round-more-requires c = c.loop-more.invariant.between.size
@@ -23,13 +23,13 @@ pub loop-more-smaller : goal.loop-more-smaller
 loop-more-smaller c =
     let ws = c.args.table.now in
     let l = c.loop-more in
-    subst (λ (b : Bool). left_to_do c.round-more.new.1.0 c.round-more.result < left_to_do l.family b) (sym c.loop-more-test.true) (settle_less (first_low ws) (first_of ws) (From (FirstClosed ws) 0) l.family c.round-more.new.1.0 c.round-more.result c.round-more.ensures)
+    subst (λ (b : Bool). left_to_do c.round-more.new.family c.round-more.result < left_to_do l.family b) (sym c.loop-more-test.true) (settle_less (first_low ws) (first_of ws) (From (FirstClosed ws) 0) l.family c.round-more.new.family c.round-more.result c.round-more.ensures)
 
 pub loop-more-preserved : goal.loop-more-preserved
 loop-more-preserved c =
     let ws = c.args.table.now in
     let l = c.loop-more in
-    settle_more (first_low ws) (first_of ws) (From (FirstClosed ws) 0) l.family c.round-more.new.1.0 c.round-more.result
+    settle_more (first_low ws) (first_of ws) (From (FirstClosed ws) 0) l.family c.round-more.new.family c.round-more.result
     (subst (λ (b : Bool). Settling (first_low ws) (first_of ws) (From (FirstClosed ws) 0) l.family b) c.loop-more-test.true l.invariant) c.round-more.ensures
 
 pub shape_of-family : goal.shape_of-family

@@ -18,9 +18,9 @@ pub loop-i-preserved : goal.loop-i-preserved
 loop-i-preserved c =
     let ws = c.args.table.now in
     let l = c.loop-i in (
-      round_turn (first_low ws) (first_of ws) (FirstClosed ws) c.args.family.now l.family c.apply.new.1.0 l.i l.grew c.apply.result c.either-grew.result c.loop-i-test.true c.either-grew.ensures l.invariant.0 c.apply.ensures,
+      round_turn (first_low ws) (first_of ws) (FirstClosed ws) c.args.family.now l.family c.apply.new.family l.i l.grew c.apply.result c.either-grew.result c.loop-i-test.true c.either-grew.ensures l.invariant.0 c.apply.ensures,
       omega (arith, l.invariant.1),
-      c.apply.auto.1.0 ∙ l.invariant.2,
+      c.apply.auto.family ∙ l.invariant.2,
     )
 
 pub shape_of-family : goal.shape_of-family

@@ -13,7 +13,7 @@ store-requires c = omega (arith, c.loop-i.invariant.0.size)
 pub loop-i-preserved : goal.loop-i-preserved
 loop-i-preserved c =
     let l = c.loop-i in
-    (planted_more (first_low c.args.table.now) l.family c.store.new.0 l.i c.seed.result.words c.loop-i-test.true l.invariant.0 c.seed.ensures c.store.ensures, omega (arith, c.loop-i-test.true))
+    (planted_more (first_low c.args.table.now) l.family c.store.new.family l.i c.seed.result.words c.loop-i-test.true l.invariant.0 c.seed.ensures c.store.ensures, omega (arith, c.loop-i-test.true))
 
 pub shape_of-family : goal.shape_of-family
 shape_of-family c = c.loop-i.invariant.0.size ∙ sym c.requires

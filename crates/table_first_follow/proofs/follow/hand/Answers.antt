@@ -18,9 +18,9 @@ pub loop-k-init : goal.loop-k-init
 loop-k-init c =
     let a = c.args in
     let p = c.places-k.ensures in
-    let l = c.places-k.auto.1.1.1.0 in (
+    let l = c.places-k.auto.out in (
       hand_start a.table.now a.joined a.set.words (siblings a.table.now a.start a.end) c.places-k.result a.family.now
-          (placed_length c.places-k.result c.places-k.new.1.1.1.0 (siblings a.table.now a.start a.end) l p.1 p.0) c.requires.0 c.requires.4,
+          (placed_length c.places-k.result c.places-k.new.out (siblings a.table.now a.start a.end) l p.1 p.0) c.requires.0 c.requires.4,
       p.0,
       omega arith,
       p.1,
@@ -44,8 +44,8 @@ loop-k-preserved c =
     let is = siblings a.table.now a.start a.end in
     let n = c.places-k.result in
     let h : l.k - 1 < n = omega (arith, i.2, c.loop-k-test.true) in (
-      hand_more a.table.now a.joined a.set.words is a.first.now c.requires.1 c.requires.3 c.requires.5 l.k _ l.tail.words c.before-tail.result.words a.family.now l.family c.give.new.0 l.grew c.give.result c.either-grew.result
-          c.loop-k-test.true (placed_at n (l.k - 1) c.places-k.new.1.1.1.0 is i.1 h) c.either-grew.ensures i.0 c.give.ensures c.give.auto.0 c.before-tail.ensures,
+      hand_more a.table.now a.joined a.set.words is a.first.now c.requires.1 c.requires.3 c.requires.5 l.k _ l.tail.words c.before-tail.result.words a.family.now l.family c.give.new.family l.grew c.give.result c.either-grew.result
+          c.loop-k-test.true (placed_at n (l.k - 1) c.places-k.new.out is i.1 h) c.either-grew.ensures i.0 c.give.ensures c.give.auto.family c.before-tail.ensures,
       i.1,
       omega (arith, i.2),
       i.3,

@@ -20,4 +20,4 @@ returns c =
     let a = c.args in
     let p = c.requires in
     let e : a.i ≡ opening = omega (arith, p.0, c.if-i-lt-MAX_CONSTRUCTS.false) in
-    opening_pushed a.table.now a.first.now a.family.now p.1 p.2 p.3 a.i p.0 c.set_of-set.result.words c.set_of-set.ensures c.give.new.0 c.give.result c.body_of.result e c.body_of.ensures c.give.ensures
+    opening_pushed a.table.now a.first.now a.family.now p.1 p.2 p.3 a.i p.0 c.set_of-set.result.words c.set_of-set.ensures c.give.new.family c.give.result c.body_of.result e c.body_of.ensures c.give.ensures

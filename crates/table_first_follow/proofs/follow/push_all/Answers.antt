@@ -19,7 +19,7 @@ pub loop-i-preserved : goal.loop-i-preserved
 loop-i-preserved c =
     let ws = c.args.table.now in
     let l = c.loop-i in (
-      round_turn (follow_low ws) (follow_of ws) (λ n words. FollowClosed ws (opening - n) words) c.args.family.now l.family c.push.new.1.1.0 l.i l.grew c.push.result c.either-grew.result c.loop-i-test.true c.either-grew.ensures l.invariant.0 c.push.ensures,
+      round_turn (follow_low ws) (follow_of ws) (λ n words. FollowClosed ws (opening - n) words) c.args.family.now l.family c.push.new.family l.i l.grew c.push.result c.either-grew.result c.loop-i-test.true c.either-grew.ensures l.invariant.0 c.push.ensures,
       omega (arith, l.invariant.1),
       c.push.ensures.keeps l.invariant.2,
     )

@@ -1,4 +1,3 @@
-
 use Rattle.table_first_follow.proofs.follow.push_any.Goals as goal
 
 pub push-requires : goal.push-requires

@@ -48,32 +48,32 @@ returns-in-Branches c =
     let a = c.args in
     let p = c.requires in
     let h : a.i < 257 = omega (arith, p.0) in
-    alternative_pushed a.table.now a.first.now a.family.now p.1 p.2 p.3 a.i h c.set_of-set.result.words c.set_of-set.ensures p.0 _ (c.attributes_of-attributes.ensures ∙ ap attributes_of c.construct_at.ensures) c.hand.new.1.1.0 c.hand.result c.in-Branches.is c.hand.ensures
+    alternative_pushed a.table.now a.first.now a.family.now p.1 p.2 p.3 a.i h c.set_of-set.result.words c.set_of-set.ensures p.0 _ (c.attributes_of-attributes.ensures ∙ ap attributes_of c.construct_at.ensures) c.hand.new.family c.hand.result c.in-Branches.is c.hand.ensures
 
 pub returns-in-Members : goal.returns-in-Members
 returns-in-Members c =
     let a = c.args in
     let p = c.requires in
     let h : a.i < 257 = omega (arith, p.0) in
-    concatenation_pushed a.table.now a.first.now a.family.now p.1 p.2 p.3 a.i h c.set_of-set.result.words c.set_of-set.ensures p.0 _ (c.attributes_of-attributes.ensures ∙ ap attributes_of c.construct_at.ensures) c.hand-in-Members.new.1.1.0 c.hand-in-Members.result c.in-Members.is c.hand-in-Members.ensures
+    concatenation_pushed a.table.now a.first.now a.family.now p.1 p.2 p.3 a.i h c.set_of-set.result.words c.set_of-set.ensures p.0 _ (c.attributes_of-attributes.ensures ∙ ap attributes_of c.construct_at.ensures) c.hand-in-Members.new.family c.hand-in-Members.result c.in-Members.is c.hand-in-Members.ensures
 
 pub returns-in-Body : goal.returns-in-Body
 returns-in-Body c =
     let a = c.args in
     let p = c.requires in
     let h : a.i < 257 = omega (arith, p.0) in
-    repetition_pushed a.table.now a.first.now a.family.now p.1 p.2 p.3 a.i h c.set_of-set.result.words c.set_of-set.ensures p.0 _ (c.attributes_of-attributes.ensures ∙ ap attributes_of c.construct_at.ensures) c.give.new.0 c.give.result _ c.set_of.result.words c.at_least-further.result.words c.join.result.words c.in-Body.is c.set_of.ensures c.at_least-further.ensures c.join.ensures c.give.ensures
+    repetition_pushed a.table.now a.first.now a.family.now p.1 p.2 p.3 a.i h c.set_of-set.result.words c.set_of-set.ensures p.0 _ (c.attributes_of-attributes.ensures ∙ ap attributes_of c.construct_at.ensures) c.give.new.family c.give.result _ c.set_of.result.words c.at_least-further.result.words c.join.result.words c.in-Body.is c.set_of.ensures c.at_least-further.ensures c.join.ensures c.give.ensures
 
 pub returns-in-Cases : goal.returns-in-Cases
 returns-in-Cases c =
     let a = c.args in
     let p = c.requires in
     let h : a.i < 257 = omega (arith, p.0) in
-    switch_pushed a.table.now a.first.now a.family.now p.1 p.2 p.3 a.i h c.set_of-set.result.words c.set_of-set.ensures p.0 _ (c.attributes_of-attributes.ensures ∙ ap attributes_of c.construct_at.ensures) c.hand-in-Cases.new.1.1.0 c.hand-in-Cases.result c.in-Cases.is c.hand-in-Cases.ensures
+    switch_pushed a.table.now a.first.now a.family.now p.1 p.2 p.3 a.i h c.set_of-set.result.words c.set_of-set.ensures p.0 _ (c.attributes_of-attributes.ensures ∙ ap attributes_of c.construct_at.ensures) c.hand-in-Cases.new.family c.hand-in-Cases.result c.in-Cases.is c.hand-in-Cases.ensures
 
 pub returns-in-Rule : goal.returns-in-Rule
 returns-in-Rule c =
     let a = c.args in
     let p = c.requires in
     let h : a.i < 257 = omega (arith, p.0) in
-    rule_pushed a.table.now a.first.now a.family.now p.1 p.2 p.3 a.i h c.set_of-set.result.words c.set_of-set.ensures p.0 _ (c.attributes_of-attributes.ensures ∙ ap attributes_of c.construct_at.ensures) c.give-in-Rule.new.0 c.give-in-Rule.result c.body_of.result c.in-Rule.is c.body_of.ensures c.give-in-Rule.ensures
+    rule_pushed a.table.now a.first.now a.family.now p.1 p.2 p.3 a.i h c.set_of-set.result.words c.set_of-set.ensures p.0 _ (c.attributes_of-attributes.ensures ∙ ap attributes_of c.construct_at.ensures) c.give-in-Rule.new.family c.give-in-Rule.result c.body_of.result c.in-Rule.is c.body_of.ensures c.give-in-Rule.ensures

@@ -13,7 +13,7 @@ store-requires c = omega (arith, c.loop-i.invariant.0.size)
 pub loop-i-preserved : goal.loop-i-preserved
 loop-i-preserved c =
     let l = c.loop-i in
-    (planted_more Started l.family c.store.new.0 l.i c.start.result.words c.loop-i-test.true l.invariant.0 c.start.ensures c.store.ensures, omega (arith, c.loop-i-test.true))
+    (planted_more Started l.family c.store.new.family l.i c.start.result.words c.loop-i-test.true l.invariant.0 c.start.ensures c.store.ensures, omega (arith, c.loop-i-test.true))
 
 pub shape_of-family : goal.shape_of-family
 shape_of-family c = c.loop-i.invariant.0.size ∙ sym c.requires

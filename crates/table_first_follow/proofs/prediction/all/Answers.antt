@@ -7,4 +7,8 @@ returns c =
     let f = c.first_in_order in
     let g = c.follow in
     let p = c.join_all in
-    (f.ensures, (g.ensures, predictions ws f.new.1.1.0 g.new.1.1.1.0 p.new.1.1.0 f.ensures g.ensures p.ensures))
+    record {
+      first_sets = f.ensures;
+      follow_sets = g.ensures;
+      prediction_sets = predictions ws f.new.family g.new.family p.new.family f.ensures g.ensures p.ensures;
+    }

@@ -23,7 +23,7 @@ pub loop-i-preserved : goal.loop-i-preserved
 loop-i-preserved c =
     let a = c.args in
     let l = c.loop-i in (
-      planted_more (Predicting a.first.now a.follow.now) l.family c.store.new.0 l.i c.join-set.result.words c.loop-i-test.true l.invariant.0
+      planted_more (Predicting a.first.now a.follow.now) l.family c.store.new.family l.i c.join-set.result.words c.loop-i-test.true l.invariant.0
           (is_predicting a.first.now a.follow.now c.set_of.result.words c.set_of-in-loop-i.result.words c.join-set.result.words l.i c.set_of.ensures c.set_of-in-loop-i.ensures c.join-set.ensures) c.store.ensures,
       omega (arith, c.loop-i-test.true),
     )

@@ -15,7 +15,7 @@ pub returns-in-Within : goal.returns-in-Within
 returns-in-Within c =
     let a = c.args in
     subst (λ (k : Counted). Is c.within.result.words (Repeated (Has a.body.words) (allowed k))) (sym c.in-Within.is)
-    (is_capped (Has a.body.words) c.within.result.words c.counts-in-Within-1.given.0.0 c.counts-in-Within-1.given.0.1.0 c.capped-least.result c.capped.result c.capped-most.result c.capped-least.ensures c.capped.ensures c.capped-most.ensures c.within.ensures)
+    (is_capped (Has a.body.words) c.within.result.words c.in-Within.low c.in-Within.more c.capped-least.result c.capped.result c.capped-most.result c.capped-least.ensures c.capped.ensures c.capped-most.ensures c.within.ensures)
 
 pub returns-in-Malformed : goal.returns-in-Malformed
 returns-in-Malformed c = is_no_count c.empty-in-Malformed.result.words (Has c.args.body.words) c.args.counts (ap allowed c.in-Malformed.is) c.empty-in-Malformed.ensures
