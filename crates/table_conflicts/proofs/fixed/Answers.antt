@@ -1,4 +1,3 @@
-
 use Rattle.table_conflicts.proofs.fixed.Goals as goal
 
 pub returns-in-Counted : goal.returns-in-Counted

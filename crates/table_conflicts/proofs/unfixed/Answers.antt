@@ -1,4 +1,3 @@
-
 use Rattle.table_conflicts.proofs.unfixed.Goals as goal
 
 pub returns-then-fixed : goal.returns-then-fixed
