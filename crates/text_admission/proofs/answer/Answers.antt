@@ -19,16 +19,16 @@ returns-then-text-gt-MAX_TEXT_BYTES c = refused_early 2 0 c.refused-then-text-gt
 
 -- src/lib.rt:260:34
 pub refused-requires-in-Wrong : goal.refused-requires-in-Wrong
-refused-requires-in-Wrong c = (omega arith, omega (arith, wrong_inside c.args.text.now c.header.result _ c.header.ensures c.place-1.given.1, c.if-text-gt-MAX_TEXT_BYTES.false))
+refused-requires-in-Wrong c = (omega arith, omega (arith, wrong_inside c.args.text.now c.header.result _ c.header.ensures c.in-Wrong.is, c.if-text-gt-MAX_TEXT_BYTES.false))
 
 -- src/lib.rt:261:33
 pub admit_from-requires : goal.admit_from-requires
-admit_from-requires c = (rules_inside c.args.text.now c.header.result _ c.header.ensures c.base-1.given.1, c.if-text-gt-MAX_TEXT_BYTES.false, c.if-table-lt-TABLE_WORDS.false)
+admit_from-requires c = (rules_inside c.args.text.now c.header.result _ c.header.ensures c.in-Rules.is, c.if-text-gt-MAX_TEXT_BYTES.false, c.if-table-lt-TABLE_WORDS.false)
 
 -- src/lib.rt:247:1
 pub returns-in-Wrong : goal.returns-in-Wrong
-returns-in-Wrong c = at_header c.args.text.now c.args.table.now c.header.result _ c.refused-in-Wrong.result c.header.ensures c.place-1.given.1 c.refused-in-Wrong.ensures c.if-table-lt-TABLE_WORDS.false c.if-text-eq0.false c.if-text-gt-MAX_TEXT_BYTES.false
+returns-in-Wrong c = at_header c.args.text.now c.args.table.now c.header.result _ c.refused-in-Wrong.result c.header.ensures c.in-Wrong.is c.refused-in-Wrong.ensures c.if-table-lt-TABLE_WORDS.false c.if-text-eq0.false c.if-text-gt-MAX_TEXT_BYTES.false
 
 -- src/lib.rt:247:1
 pub returns-in-Rules : goal.returns-in-Rules
-returns-in-Rules c = at_rules c.args.text.now c.args.table.now c.admit_from.new.table c.header.result _ c.admit_from.result c.header.ensures c.base-1.given.1 c.if-table-lt-TABLE_WORDS.false c.if-text-eq0.false c.if-text-gt-MAX_TEXT_BYTES.false c.admit_from.ensures
+returns-in-Rules c = at_rules c.args.text.now c.args.table.now c.admit_from.new.table c.header.result _ c.admit_from.result c.header.ensures c.in-Rules.is c.if-table-lt-TABLE_WORDS.false c.if-text-eq0.false c.if-text-gt-MAX_TEXT_BYTES.false c.admit_from.ensures

@@ -19,4 +19,4 @@ pub loop-i-preserved : goal.loop-i-preserved
 loop-i-preserved c = let iff = empty_iff c.args.table.now c.args.first.now c.requires.2 c.loop-i.i (omega (arith, c.loop-i.invariant.2, c.loop-i-test.true)) in (marking_turn c.loop-i.invariant.0 c.empty_body-empty.result (λ e. iff.0 (c.empty_body-empty.ensures.0 e)) (λ b. c.empty_body-empty.ensures.1 (iff.1 b)) (c.min-least.ensures ∙ simp (c.place_if.ensures, c.node_word.ensures)), omega (arith, c.loop-i-test.true), c.loop-i.invariant.2)
 
 pub returns : goal.returns
-returns c = let e : c.loop-i.i ≡ construct_count c.args.table.now = omega (arith, c.loop-i.invariant.1, c.loop-i-test.false, c.word-count.ensures.0) in marking_end c.loop-i.invariant.0 e (λ j. omega (arith, c.shared_slice_known-3-1.given (node_start j + at_second_place)))
+returns c = let e : c.loop-i.i ≡ construct_count c.args.table.now = omega (arith, c.loop-i.invariant.1, c.loop-i-test.false, c.word-count.ensures.0) in marking_end c.loop-i.invariant.0 e (λ j. omega (arith, c.type_inv.nodes (node_start j + at_second_place)))
