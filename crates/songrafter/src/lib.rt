@@ -83,8 +83,7 @@ fn tell(answer: &mut [u64], admission: Admission) -> usize
     }
 }
 
-#[unsafe(no_mangle)]
-pub extern "C" fn songrafter_admit(text: &[u8], table: &mut [u32], answer: &mut [u64]) -> usize
+pub fn songrafter_admit(text: &[u8], table: &mut [u32], answer: &mut [u64]) -> usize
     ensures { Admits text.now table.old table.new answer.old answer.new result }
 {
     let admission = admission_call::admit(text, table);
@@ -114,13 +113,7 @@ fn with_room(number: usize, room: usize) -> usize
     number
 }
 
-#[unsafe(no_mangle)]
-pub extern "C" fn songrafter_open(
-    table: &[u32],
-    frame: &[u8],
-    reading: &[u32],
-    run: &mut [u8],
-) -> usize
+pub fn songrafter_open(table: &[u32], frame: &[u8], reading: &[u32], run: &mut [u8]) -> usize
     ensures { Opens table.now frame.now reading.now run.old run.new result }
 {
     let opening = run_matcher::open(table, frame, reading);
@@ -184,8 +177,7 @@ fn grant_in_place(
     Granted { run, answer }
 }
 
-#[unsafe(no_mangle)]
-pub extern "C" fn songrafter_grant(
+pub fn songrafter_grant(
     table: &[u32],
     frame: &[u8],
     reading: &mut [u32],
@@ -228,8 +220,7 @@ fn tell_field(field: &mut [u64], found: run_fields::Answer) -> usize
     }
 }
 
-#[unsafe(no_mangle)]
-pub extern "C" fn songrafter_field(
+pub fn songrafter_field(
     table: &[u32],
     frame: &[u8],
     reading: &[u32],
@@ -243,44 +234,38 @@ pub extern "C" fn songrafter_field(
 }
 
 // The version of include/songrafter.h that this is: 0.3.0.
-#[unsafe(no_mangle)]
-pub extern "C" fn songrafter_version() -> u32
+pub fn songrafter_version() -> u32
     ensures { result ≡ version }
 {
     3000
 }
 
 // Of a saved run, or of a closed one where the slice is none: verdict, steps taken, fields recorded, position, value of a variable.
-#[unsafe(no_mangle)]
-pub extern "C" fn songrafter_verdict(run: &[u8]) -> u32
+pub fn songrafter_verdict(run: &[u8]) -> u32
     ensures { result ≡ (restored run.now).verdict }
 {
     run_saved::decode(run).verdict
 }
 
-#[unsafe(no_mangle)]
-pub extern "C" fn songrafter_steps(run: &[u8]) -> u64
+pub fn songrafter_steps(run: &[u8]) -> u64
     ensures { result ≡ (restored run.now).steps }
 {
     run_saved::decode(run).steps
 }
 
-#[unsafe(no_mangle)]
-pub extern "C" fn songrafter_fields(run: &[u8]) -> u64
+pub fn songrafter_fields(run: &[u8]) -> u64
     ensures { result ≡ (restored run.now).captures }
 {
     run_saved::decode(run).captures
 }
 
-#[unsafe(no_mangle)]
-pub extern "C" fn songrafter_position(run: &[u8]) -> u64
+pub fn songrafter_position(run: &[u8]) -> u64
     ensures { result ≡ (restored run.now).position }
 {
     run_saved::decode(run).position
 }
 
-#[unsafe(no_mangle)]
-pub extern "C" fn songrafter_value(run: &[u8], k: usize) -> i64
+pub fn songrafter_value(run: &[u8], k: usize) -> i64
     ensures { result ≡ get_or (restored run.now).values k (pos 0) }
 {
     let values = run_saved::decode(run).values;
