@@ -41,7 +41,7 @@ pub loop-i-smaller : goal.loop-i-smaller
 loop-i-smaller c = omega (arith, c.loop-i-test.true)
 
 pub loop-i-preserved : goal.loop-i-preserved
-loop-i-preserved c = let a = c.args in let l = c.loop-i in (one_written a.table.now a.follow.now a.prediction.now l.table c.put.new.0 c.put-in-loop-i.new.0 l.i c.load.result.words c.load-in-loop-i.result.words l.invariant.0 c.load.ensures c.load-in-loop-i.ensures c.put.ensures c.put-in-loop-i.ensures, omega (arith, c.loop-i-test.true))
+loop-i-preserved c = let a = c.args in let l = c.loop-i in (one_written a.table.now a.follow.now a.prediction.now l.table c.put.new.table c.put-in-loop-i.new.table l.i c.load.result.words c.load-in-loop-i.result.words l.invariant.0 c.load.ensures c.load-in-loop-i.ensures c.put.ensures c.put-in-loop-i.ensures, omega (arith, c.loop-i-test.true))
 
 pub returns : goal.returns
 returns c = subst (SetsWritten c.args.table.now c.loop-i.table c.args.follow.now c.args.prediction.now) (let e : c.loop-i.i ≡ c.args.count = omega (arith, c.loop-i-test.false, c.loop-i.invariant.1) in e) c.loop-i.invariant.0
