@@ -71,6 +71,7 @@ fn constructs(grammar: &[u8]) -> usize {
 const BITS_AND_END: usize = MAX_FRAME_BITS + 1;
 
 // The bound on the steps of a run is the weight times one more than the frame's bits.
+#[tactic(auto, unfolding(crate::specs::Report::bound_of))]
 fn steps(weight: usize) -> usize
     ensures { result ≡ bound_of weight }
 {

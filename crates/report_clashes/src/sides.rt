@@ -16,6 +16,7 @@ use text_header::bytes::either;
 use std::io::Stdout;
 
 // An alternative that is a branch stands in parentheses.
+#[tactic(auto, unfolding(crate::specs::Quoted::part_of))]
 fn part_of(kind: usize) -> Part
     ensures { result ≡ part_of kind }
 {
