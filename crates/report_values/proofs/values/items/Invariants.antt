@@ -5,4 +5,4 @@ abbrev pub invariant-loop-n : goal.invariant-loop-n
 invariant-loop-n l = Unit
 
 abbrev pub decreases-loop-n : goal.decreases-loop-n
-decreases-loop-n l = 20 - n
+decreases-loop-n l = 20 - l.n

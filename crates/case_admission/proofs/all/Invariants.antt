@@ -1,8 +1,0 @@
-use Prim.Native.Nat.{◌-◌}
-use Rattle.case_admission.proofs.all.Given as goal
-
-abbrev pub invariant-loop : goal.invariant-loop
-invariant-loop l = Unit
-
-abbrev pub decreases-loop : goal.decreases-loop
-decreases-loop l = 400000 - l.counter
