@@ -47,7 +47,7 @@ listed_none (Step.ends i ∷ l) = refl
 listed_none (Step.leaves i ∷ l) = refl
 listed_none (Step.goes_on i k ∷ l) = refl
 listed_none (Step.frame_end ∷ l) = refl
-listed_none (Step.Passes-over i ∷ l) = refl
+listed_none (Step.passes_over i ∷ l) = refl
 
 longer_by : {ws is : List ℕ} {r : Rest} {x : Bits} {more l : List Step} (n : ℕ) → 0 < n → (q : Longer ws is r x more l) → listed n q.chain ≡ more ++ listed n l
 longer_by zero h q = absurd (omega arith)
