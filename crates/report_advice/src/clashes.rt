@@ -3,7 +3,8 @@ use report_wording::writing::say;
 use std::io::Stdout;
 
 pub fn ends(out: Stdout) {
-    say(out, 
+    say(
+        out,
         b"What to change: let only one of the two match where the frame has\n\
         nothing left. eod matches there, and so does what can be empty: ?, *\n\
         and {0~..}.\n",
@@ -13,13 +14,15 @@ pub fn ends(out: Stdout) {
 // The branches with what they begin with in front, printed after it.
 pub fn in_front(out: Stdout, count: usize) {
     if count == 2 {
-        say(out, 
+        say(
+            out,
             b"What to change: put what both begin with in front of the two, once.\n\
             The frames stay the same. In place of the two branches write\n    ",
         );
         return;
     }
-    say(out, 
+    say(
+        out,
         b"What to change: put what they all begin with in front of them, once.\n\
         The frames stay the same. In place of these branches write\n    ",
     );
@@ -27,7 +30,8 @@ pub fn in_front(out: Stdout, count: usize) {
 
 // One branch is what both begin with.
 pub fn optional(out: Stdout) {
-    say(out, 
+    say(
+        out,
         b"What to change: put what both begin with in front of the two, once, and let\n\
         the rest be left out. The frames stay the same. In place of the two branches\n\
         write\n    ",
@@ -36,7 +40,8 @@ pub fn optional(out: Stdout) {
 
 // The same, but what comes after begins as the rest does.
 pub fn rest_follows(out: Stdout) {
-    say(out, 
+    say(
+        out,
         b"What to change: one branch is what both begin with. To put it in front and\n\
         let the rest be left out, as \"A\" & \"B\"? for \"AB\" | \"A\", does not help here:\n\
         what comes after the alternative can begin as the rest does, so that would\n\
@@ -52,15 +57,22 @@ pub fn rest_follows(out: Stdout) {
 // Only the first two were written anew.
 pub fn mends(out: Stdout, count: usize) {
     if count == 3 {
-        say(out, b"That is for the first two; the further branch still clashes with it.\n");
+        say(
+            out,
+            b"That is for the first two; the further branch still clashes with it.\n",
+        );
     }
     if 3 < count {
-        say(out, b"That is for the first two; the further branches still clash with it.\n");
+        say(
+            out,
+            b"That is for the first two; the further branches still clash with it.\n",
+        );
     }
 }
 
 fn switch(out: Stdout) {
-    say(out, 
+    say(
+        out,
         b"  - Where a field in front says which of the two comes, bind that field where\n    \
         it stands, in the same rule and outside of parentheses, and write the\n    \
         switch in place of the alternative. The frames stay the same:\n    \
@@ -70,7 +82,8 @@ fn switch(out: Stdout) {
 
 // `in_front`: a field may stand in front.
 pub fn begins(out: Stdout, in_front: bool) {
-    say(out, 
+    say(
+        out,
         b"What to change, one of these:\n  \
         - Put what both begin with in front of the two, once. The frames stay the\n    \
         same: \"A\" & (\"B\" | \"C\") for \"AB\" | \"AC\", \"A\" & \"B\"? for \"AB\" | \"A\".\n",
@@ -78,7 +91,8 @@ pub fn begins(out: Stdout, in_front: bool) {
     if in_front {
         switch(out);
     }
-    say(out, 
+    say(
+        out,
         b"  - Where both match the same, take one out; where two sets overlap, take the\n    \
         shared values out of one: 'n'~'z' for 'm'~'z'.\n  \
         - Else the frames may have to change: the two must differ in the next 8 bits.\n",
@@ -86,7 +100,8 @@ pub fn begins(out: Stdout, in_front: bool) {
 }
 
 pub fn passes(out: Stdout) {
-    say(out, 
+    say(
+        out,
         b"What to change, one of these:\n  \
         - Where a field in front says how many passes come, bind it and use it:\n    \
         uint(8, var(n, ~)) & \"A\"{n}. If the number never varies, write {4}. The\n    \

@@ -4,12 +4,13 @@ ghost use Rattle.text_header.specs.Spans.{span_end};
 ghost use Rattle.text_header.specs.declared.Class.{Class};
 
 use report_wording::writing::say;
+use std::io::Stdout;
 use text_header::Class;
 use text_header::spans::span;
-use std::io::Stdout;
 
 fn empty(out: Stdout) {
-    say(out, 
+    say(
+        out,
         b"The file is empty, or cannot be read.\n\
         What to change: put a grammar into it. It begins with the line\n    \
         dogma_v1 utf-8\n\
@@ -18,7 +19,8 @@ fn empty(out: Stdout) {
 }
 
 fn long(out: Stdout) {
-    say(out, 
+    say(
+        out,
         b"The grammar has more than 8192 bytes.\n\
         What to change: shorten it. Comments and blanks count too.\n",
     );
@@ -33,7 +35,8 @@ pub fn size(out: Stdout, grammar: &[u8]) {
 }
 
 fn first_line(out: Stdout) {
-    say(out, 
+    say(
+        out,
         b"The first line of a grammar must be\n    \
         dogma_v1 utf-8\n\
         and nothing else: no blank at its start or end, no byte order mark\n\
@@ -45,7 +48,8 @@ fn first_line(out: Stdout) {
 }
 
 fn unended(out: Stdout) {
-    say(out, 
+    say(
+        out,
         b"The text ends in this line.\n\
         What to change: the first line is\n    \
         dogma_v1 utf-8\n\
@@ -54,7 +58,8 @@ fn unended(out: Stdout) {
 }
 
 fn header_line(out: Stdout) {
-    say(out, 
+    say(
+        out,
         b"This line still belongs to the header, and it is no header line.\n\
         What to change: put an empty line (with no blanks) in front of the\n\
         rules; or write a header line as\n    \
@@ -64,7 +69,8 @@ fn header_line(out: Stdout) {
 }
 
 fn header_end(out: Stdout) {
-    say(out, 
+    say(
+        out,
         b"The text ends in its header: no empty line and no rules follow.\n\
         What to change: add an empty line, and then the rules.\n",
     );

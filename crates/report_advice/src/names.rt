@@ -3,7 +3,8 @@ use report_wording::writing::say;
 use std::io::Stdout;
 
 pub fn reserved(out: Stdout) {
-    say(out, 
+    say(
+        out,
         b" is a reserved word and cannot be a name.\n\
         What to change: choose another name, here and wherever it is used.\n\
         (A field is written uint(8, ~), or sint(8, ~) with a sign, its variable\n\
@@ -16,7 +17,10 @@ pub fn double(out: Stdout) {
 }
 
 pub fn change_double(out: Stdout) {
-    say(out, b"What to change: give one of the two rules another name, or take one out.\n");
+    say(
+        out,
+        b"What to change: give one of the two rules another name, or take one out.\n",
+    );
 }
 
 pub fn no_rule(out: Stdout) {
@@ -24,7 +28,8 @@ pub fn no_rule(out: Stdout) {
 }
 
 pub fn change_no_rule(out: Stdout) {
-    say(out, 
+    say(
+        out,
         b"What to change: write the rule's name as the rule itself has it, in\n\
         the same letter case; or add a rule of this name:\n    \
         name = expression ;\n",
@@ -32,11 +37,15 @@ pub fn change_no_rule(out: Stdout) {
 }
 
 pub fn variable(out: Stdout) {
-    say(out, b" is a variable in this rule, and a rule must stand here. It is bound at\n");
+    say(
+        out,
+        b" is a variable in this rule, and a rule must stand here. It is bound at\n",
+    );
 }
 
 pub fn change_variable(out: Stdout) {
-    say(out, 
+    say(
+        out,
         b"What to change: a variable's value is used in a set, a count or a\n\
         condition, as in \"A\"{n}. If a rule of the same name is meant, give\n\
         the variable another name: it hides the rule.\n",
@@ -44,15 +53,22 @@ pub fn change_variable(out: Stdout) {
 }
 
 pub fn twice(out: Stdout) {
-    say(out, b" is bound twice in this rule. It is already bound at\n");
+    say(
+        out,
+        b" is bound twice in this rule. It is already bound at\n",
+    );
 }
 
 pub fn change_twice(out: Stdout) {
-    say(out, b"What to change: give one of the two variables another name.\n");
+    say(
+        out,
+        b"What to change: give one of the two variables another name.\n",
+    );
 }
 
 pub fn misplaced(out: Stdout) {
-    say(out, 
+    say(
+        out,
         b" cannot be bound here.\n\
         What to change: a field with var(..) must be a member of the rule\n\
         itself, outside of alternatives, parentheses, repetitions and\n\
@@ -63,11 +79,15 @@ pub fn misplaced(out: Stdout) {
 }
 
 pub fn later(out: Stdout) {
-    say(out, b" has no value yet here: it is a variable that is bound only at\n");
+    say(
+        out,
+        b" has no value yet here: it is a variable that is bound only at\n",
+    );
 }
 
 pub fn change_later(out: Stdout) {
-    say(out, 
+    say(
+        out,
         b"What to change: use it in a member that comes after the field that\n\
         binds it. The field's own set cannot use it. To put the field elsewhere\n\
         may change the frames.\n",
@@ -75,15 +95,22 @@ pub fn change_later(out: Stdout) {
 }
 
 pub fn rule(out: Stdout) {
-    say(out, b" is a rule, and a variable or a number must stand here. The rule is\n");
+    say(
+        out,
+        b" is a rule, and a variable or a number must stand here. The rule is\n",
+    );
 }
 
 pub fn elsewhere(out: Stdout) {
-    say(out, b" is a variable of another rule only. It is bound at\n");
+    say(
+        out,
+        b" is a variable of another rule only. It is bound at\n",
+    );
 }
 
 pub fn change_elsewhere(out: Stdout) {
-    say(out, 
+    say(
+        out,
         b"What to change: a variable can be used only in the rule that binds\n\
         it. Bring the field that binds it and what uses it into one rule.\n",
     );
@@ -95,11 +122,17 @@ pub fn brief(out: Stdout, fault: usize) {
         0 => say(out, b"is a reserved word\n"),
         1 => say(out, b"is the name of a rule above\n"),
         2 => say(out, b"belongs to no rule\n"),
-        3 => say(out, b"is a variable of this rule, and a rule must stand here\n"),
+        3 => say(
+            out,
+            b"is a variable of this rule, and a rule must stand here\n",
+        ),
         4 => say(out, b"is bound for the second time in this rule\n"),
         5 => say(out, b"cannot be bound here\n"),
         6 => say(out, b"is used before it is bound\n"),
-        7 => say(out, b"is a rule, and a variable or a number must stand here\n"),
+        7 => say(
+            out,
+            b"is a rule, and a variable or a number must stand here\n",
+        ),
         8 => say(out, b"is a variable of another rule only\n"),
         _ => say(out, b"is no variable of this rule\n"),
     }
@@ -110,7 +143,8 @@ pub fn no_variable(out: Stdout) {
 }
 
 pub fn change_unbound(out: Stdout) {
-    say(out, 
+    say(
+        out,
         b"What to change: write the variable's name as var(..) has it, in the\n\
         same letter case; or bind it in an earlier member of this rule, as in\n    \
         uint(8, var(n, ~)) & \"A\"{n}\n",

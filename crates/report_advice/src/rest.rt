@@ -1,15 +1,16 @@
 // Refusals 1, 7, 8, 9 and 11.
 use report_quoting::quoting::token;
 use report_wording::writing::say;
-use text_parsing::terminals::look;
 use std::io::Stdout;
+use text_parsing::terminals::look;
 
 pub fn recursive(out: Stdout) {
     say(out, b"This rule leads back to itself:\n");
 }
 
 pub fn change_recursive(out: Stdout, grammar: &[u8], at: usize) {
-    say(out, 
+    say(
+        out,
         b"What to change: take one of these uses away. What comes again and again\n\
         is written with *, + or {n}: \"A\"+ for a rule that is \"A\" and then itself\n\
         or nothing. Nothing may lead back to the rule ",
@@ -21,7 +22,8 @@ pub fn change_recursive(out: Stdout, grammar: &[u8], at: usize) {
 fn large_number(out: Stdout, grammar: &[u8], at: usize) {
     say(out, b"In this calculation the number ");
     token(out, grammar, at);
-    say(out, 
+    say(
+        out,
         b" is too large:\n\
         a number is at most 4611686018427387904 (2^62).\n\
         What to change: write a smaller number. Larger values of a field have no\n\
@@ -30,7 +32,8 @@ fn large_number(out: Stdout, grammar: &[u8], at: usize) {
 }
 
 fn width(out: Stdout) {
-    say(out, 
+    say(
+        out,
         b"The width of a uint or sint is a number of bits from 1 to 64, and where\n\
         its value is bound to a variable at most 62.\n\
         What to change: write such a width. A wider field is two, and the frames\n\
@@ -39,7 +42,8 @@ fn width(out: Stdout) {
 }
 
 fn bound_width(out: Stdout) {
-    say(out, 
+    say(
+        out,
         b"A field whose value is bound to a variable has at most 62 bits, so that\n\
         the variable can be calculated with; other fields have up to 64.\n\
         What to change: where nothing uses the variable, leave it out: uint(64, ~).\n\
@@ -50,7 +54,8 @@ fn bound_width(out: Stdout) {
 }
 
 fn calculation(out: Stdout) {
-    say(out, 
+    say(
+        out,
         b"This calculation can become too large: with every variable at the largest\n\
         value that its width allows, whatever its set, no part of it may pass 2^62\n\
         (about 4.6 times 10^18).\n\
@@ -130,12 +135,14 @@ pub fn extent(out: Stdout, grammar: &[u8], at: usize) {
 // `free`: by a count with a variable.
 pub fn empty_body(out: Stdout, free: bool) {
     if free {
-        say(out, 
+        say(
+            out,
             b"What this sign repeats is taken to be possibly empty; the check does not\n\
             know the values of variables. This is how:\n",
         );
     } else {
-        say(out, 
+        say(
+            out,
             b"What this sign repeats can take no bits at all, so nobody could say\n\
             how many passes there were. This is how:\n",
         );
@@ -143,18 +150,21 @@ pub fn empty_body(out: Stdout, free: bool) {
 }
 
 pub fn change_empty_body(out: Stdout, free: bool) {
-    say(out, 
+    say(
+        out,
         b"What to change: let each pass take at least one bit. A ?, * or {0~..}\n\
         around the whole of what is repeated can go: (\"A\"?)* and (\"A\"?)+ match\n\
         what \"A\"* matches. ",
     );
     if free {
-        say(out, 
+        say(
+            out,
             b"Where n is never 0, (\"A\" & \"A\"{n - 1})* matches what\n\
             (\"A\"{n})* would match. ",
         );
     }
-    say(out, 
+    say(
+        out,
         b"Else take this sign away, or let a pass begin with a\n\
         field that is always there: both may change the frames. eod cannot be\n\
         repeated, and a switch only with a default.\n",
@@ -162,7 +172,8 @@ pub fn change_empty_body(out: Stdout, free: bool) {
 }
 
 pub fn weight(out: Stdout) {
-    say(out, 
+    say(
+        out,
         b",\n\
         and at most 65535 is allowed, so that no frame takes too many steps. A\n\
         field weighs 1; a use of a rule 1 more than the rule; a concatenation 1\n\
@@ -173,14 +184,16 @@ pub fn weight(out: Stdout) {
 }
 
 pub fn change_weight(out: Stdout) {
-    say(out, 
+    say(
+        out,
         b"What to change: put fewer repetitions inside of each other, and use\n\
         heavy rules in fewer places.\n",
     );
 }
 
 pub fn table(out: Stdout) {
-    say(out, 
+    say(
+        out,
         b"The room for the table is too small. This is a fault of the program,\n\
         and not of the grammar.\n\
         What to change: nothing in the grammar. Lend at least 16384 words.\n",

@@ -4,14 +4,16 @@ use report_wording::writing::say;
 use std::io::Stdout;
 
 pub fn nothing_uses(out: Stdout) {
-    say(out, 
+    say(
+        out,
         b": nothing uses it.\n\
         No frame has anything of it. Often a name is misspelt where it was to be used.\n",
     );
 }
 
 pub fn used_in_vain(out: Stdout) {
-    say(out, 
+    say(
+        out,
         b": only\n\
         rules use it that are not reached themselves:\n",
     );
@@ -25,19 +27,24 @@ pub fn nearly(out: Stdout, grammar: &[u8], at: usize) {
 }
 
 pub fn hidden(out: Stdout) {
-    say(out, b"A variable has the same name, and in its rule the name means the variable:\n");
+    say(
+        out,
+        b"A variable has the same name, and in its rule the name means the variable:\n",
+    );
 }
 
 pub fn change(out: Stdout, used: bool) {
     if used {
-        say(out, 
+        say(
+            out,
             b"What to change: use it, or one of the rules that use it, in a rule that is\n\
             reached; or take away every rule that is not reached, and the frames stay the\n\
             same.\n",
         );
         return;
     }
-    say(out, 
+    say(
+        out,
         b"What to change: use it in a rule that is reached; or take it away, and the\n\
         frames stay the same.\n",
     );

@@ -5,9 +5,9 @@ use lookahead::Set;
 use report_measures::structure::parent_of;
 use report_measures::words::{number_at, put_number, set_at};
 use report_wording::writing::{number, say};
+use std::io::Stdout;
 use table_conflicts::Clash;
 use table_layout::{Construct, construct_at, size_of};
-use std::io::Stdout;
 
 fn is_number_field(table: &[u32], i: usize) -> bool {
     match construct_at(table, i) {
@@ -69,7 +69,10 @@ fn counted_both(a: Set, b: Set, k: usize, n: usize) -> usize {
 // The window that is shown, and others.
 fn besides(out: Stdout, n: usize) {
     if n == 2 {
-        say(out, b"The check finds one more pattern of next bits that the two share.\n");
+        say(
+            out,
+            b"The check finds one more pattern of next bits that the two share.\n",
+        );
         return;
     }
     if 2 < n {
@@ -141,7 +144,8 @@ fn each_further(out: Stdout, grammar: &[u8], branches: &[usize], count: usize) {
     }
 }
 
-fn change_branches(out: Stdout, 
+fn change_branches(
+    out: Stdout,
     grammar: &[u8],
     table: &[u32],
     follow: &[u64],
@@ -161,7 +165,8 @@ fn change_branches(out: Stdout,
     report_advice::clashes::begins(out, in_front(table, construct));
 }
 
-fn shared_branches(out: Stdout, 
+fn shared_branches(
+    out: Stdout,
     grammar: &[u8],
     table: &[u32],
     follow: &[u64],
@@ -171,25 +176,32 @@ fn shared_branches(out: Stdout,
 ) {
     let mut all = [0usize; 256];
     let count = branches(table, prediction, construct, window, &mut all);
-    besides(out, common(
-        set_at(prediction, number_at(&all, 0)),
-        set_at(prediction, number_at(&all, 1)),
-    ));
+    besides(
+        out,
+        common(
+            set_at(prediction, number_at(&all, 0)),
+            set_at(prediction, number_at(&all, 1)),
+        ),
+    );
     further_title(out, count);
     each_further(out, grammar, &all, count);
     change_branches(out, grammar, table, follow, construct, window, &all, count);
 }
 
 fn shared_passes(out: Stdout, follow: &[u64], prediction: &[u64], construct: usize) {
-    besides(out, common(
-        set_at(prediction, next(construct)),
-        set_at(follow, construct),
-    ));
+    besides(
+        out,
+        common(
+            set_at(prediction, next(construct)),
+            set_at(follow, construct),
+        ),
+    );
     report_advice::clashes::passes(out);
 }
 
 // What else is shared, and what to change.
-pub fn shared(out: Stdout, 
+pub fn shared(
+    out: Stdout,
     grammar: &[u8],
     table: &[u32],
     follow: &[u64],

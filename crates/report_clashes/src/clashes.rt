@@ -3,8 +3,8 @@ use crate::{changes, examples, others, sides};
 use report_listing::sets;
 use report_wording::lines;
 use report_wording::writing::say;
-use table_conflicts::Clash;
 use std::io::Stdout;
+use table_conflicts::Clash;
 
 fn told(out: Stdout, grammar: &[u8], table: &[u32], construct: usize, clash: Clash) {
     let mut first = [0u64; 2056];

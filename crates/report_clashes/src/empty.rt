@@ -7,8 +7,8 @@ use report_listing::places::{part_at, place_of};
 use report_listing::{chains, sets};
 use report_quoting::quoting::{Part, end_of};
 use report_wording::writing::say;
-use text_parsing::terminals::look;
 use std::io::Stdout;
+use text_parsing::terminals::look;
 
 // The place of a repetition's sign.
 fn mark_of(grammar: &[u8], construct: usize) -> usize {

@@ -12,8 +12,8 @@ use report_listing::chains::{tag_at, value_at};
 use report_measures::words::number_at;
 use report_quoting::windows::binary;
 use report_wording::writing::{hexadecimal, number, say};
-use table_conflicts::Clash;
 use std::io::Stdout;
+use table_conflicts::Clash;
 
 fn has(steps: &[usize], count: usize, tag: usize) -> bool {
     let mut k: usize = 0;
@@ -183,7 +183,8 @@ fn at(out: Stdout, table: &[u32], follow: &[u64], construct: usize, window: usiz
     }
 }
 
-fn branches(out: Stdout, 
+fn branches(
+    out: Stdout,
     table: &[u32],
     first: &[u64],
     follow: &[u64],
@@ -201,7 +202,14 @@ fn branches(out: Stdout,
     }
 }
 
-fn passes(out: Stdout, table: &[u32], first: &[u64], follow: &[u64], construct: usize, window: usize)
+fn passes(
+    out: Stdout,
+    table: &[u32],
+    first: &[u64],
+    follow: &[u64],
+    construct: usize,
+    window: usize,
+)
     requires { Families table.now first.now follow.now }
 {
     if goes(table, first, follow, next(construct), window) {
@@ -211,7 +219,14 @@ fn passes(out: Stdout, table: &[u32], first: &[u64], follow: &[u64], construct: 
     }
 }
 
-pub fn told(out: Stdout, table: &[u32], first: &[u64], follow: &[u64], construct: usize, clash: Clash)
+pub fn told(
+    out: Stdout,
+    table: &[u32],
+    first: &[u64],
+    follow: &[u64],
+    construct: usize,
+    clash: Clash,
+)
     requires { Families table.now first.now follow.now }
 {
     match clash {

@@ -7,8 +7,8 @@ use report_quoting::quoting::{Part, quote};
 use report_quoting::windows;
 use report_wording::lines;
 use report_wording::writing::{number, say};
-use table_conflicts::Clash;
 use std::io::Stdout;
+use table_conflicts::Clash;
 
 fn also(out: Stdout, grammar: &[u8], at: usize) {
     say(out, b"    ");
@@ -16,7 +16,14 @@ fn also(out: Stdout, grammar: &[u8], at: usize) {
     say(out, b":  ");
 }
 
-fn also_branches(out: Stdout, grammar: &[u8], table: &[u32], window: usize, one: usize, other: usize) {
+fn also_branches(
+    out: Stdout,
+    grammar: &[u8],
+    table: &[u32],
+    window: usize,
+    one: usize,
+    other: usize,
+) {
     let at = place_of(grammar, one);
     also(out, grammar, at);
     quote(out, grammar, at, Part::Branch);
@@ -30,7 +37,10 @@ fn also_passes(out: Stdout, grammar: &[u8], table: &[u32], construct: usize, win
     let at = place_of(grammar, construct);
     also(out, grammar, at);
     quote(out, grammar, at, Part::Member);
-    say(out, b"\n        by the check going on and stopping both admit");
+    say(
+        out,
+        b"\n        by the check going on and stopping both admit",
+    );
     windows::window(out, window, starts::turn_of(table, construct));
 }
 
@@ -77,11 +87,31 @@ fn count_from(table: &[u32], follow: &[u64], prediction: &[u64], from: usize) ->
     n
 }
 
-fn another_at(out: Stdout, grammar: &[u8], table: &[u32], follow: &[u64], prediction: &[u64], i: usize) {
-    another(out, grammar, table, i, sets::clash(table, follow, prediction, i));
+fn another_at(
+    out: Stdout,
+    grammar: &[u8],
+    table: &[u32],
+    follow: &[u64],
+    prediction: &[u64],
+    i: usize,
+) {
+    another(
+        out,
+        grammar,
+        table,
+        i,
+        sets::clash(table, follow, prediction, i),
+    );
 }
 
-fn each_from(out: Stdout, grammar: &[u8], table: &[u32], follow: &[u64], prediction: &[u64], from: usize) {
+fn each_from(
+    out: Stdout,
+    grammar: &[u8],
+    table: &[u32],
+    follow: &[u64],
+    prediction: &[u64],
+    from: usize,
+) {
     let mut i = from;
     while i < 256 {
         another_at(out, grammar, table, follow, prediction, i);
@@ -89,7 +119,14 @@ fn each_from(out: Stdout, grammar: &[u8], table: &[u32], follow: &[u64], predict
     }
 }
 
-pub fn others(out: Stdout, grammar: &[u8], table: &[u32], follow: &[u64], prediction: &[u64], construct: usize) {
+pub fn others(
+    out: Stdout,
+    grammar: &[u8],
+    table: &[u32],
+    follow: &[u64],
+    prediction: &[u64],
+    construct: usize,
+) {
     let n = count_from(table, follow, prediction, next(construct));
     if n == 0 {
         return;

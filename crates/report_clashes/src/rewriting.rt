@@ -5,8 +5,8 @@ use report_measures::lengths::is_literal;
 use report_measures::literals::character;
 use report_measures::words::{number_at, put_number};
 use report_quoting::prefixes;
-use table_layout::{Construct, construct_at};
 use std::io::Stdout;
+use table_layout::{Construct, construct_at};
 
 // The construct that a branch begins with: of a concatenation its first member.
 fn leading(table: &[u32], i: usize) -> usize {
@@ -47,7 +47,15 @@ fn goes_on_so(table: &[u32], after: Set, i: usize, n: usize) -> bool {
 }
 
 // The rest of branch i may be left out, unless what comes after begins like it: then the check could not tell.
-fn optional(out: Stdout, grammar: &[u8], table: &[u32], after: Set, i: usize, n: usize, count: usize) {
+fn optional(
+    out: Stdout,
+    grammar: &[u8],
+    table: &[u32],
+    after: Set,
+    i: usize,
+    n: usize,
+    count: usize,
+) {
     if goes_on_so(table, after, i, n) {
         report_advice::clashes::rest_follows(out);
         return;
@@ -58,7 +66,8 @@ fn optional(out: Stdout, grammar: &[u8], table: &[u32], after: Set, i: usize, n:
 }
 
 // One of two branches is all that they share.
-fn one_in_other(out: Stdout, 
+fn one_in_other(
+    out: Stdout,
     grammar: &[u8],
     table: &[u32],
     after: Set,
@@ -81,7 +90,8 @@ fn one_in_other(out: Stdout,
 }
 
 // The first two alone, where not all can be written so.
-fn two(out: Stdout, 
+fn two(
+    out: Stdout,
     grammar: &[u8],
     table: &[u32],
     after: Set,
@@ -95,7 +105,8 @@ fn two(out: Stdout,
         report_advice::clashes::mends(out, count);
         return true;
     }
-    one_in_other(out, 
+    one_in_other(
+        out,
         grammar,
         table,
         after,
@@ -106,7 +117,14 @@ fn two(out: Stdout,
 }
 
 // All of them, where each begins with a literal.
-fn all(out: Stdout, grammar: &[u8], table: &[u32], branches: &[usize], places: &[usize], count: usize) -> bool {
+fn all(
+    out: Stdout,
+    grammar: &[u8],
+    table: &[u32],
+    branches: &[usize],
+    places: &[usize],
+    count: usize,
+) -> bool {
     if all_literals(table, branches, count) {
         if prefixes::fit(grammar, places, count) {
             report_advice::clashes::in_front(out, count);
@@ -118,7 +136,8 @@ fn all(out: Stdout, grammar: &[u8], table: &[u32], branches: &[usize], places: &
 }
 
 // Whether the branches were written anew, or it was said why not. `after`: what may come after the alternative.
-pub fn written(out: Stdout, 
+pub fn written(
+    out: Stdout,
     grammar: &[u8],
     table: &[u32],
     after: Set,

@@ -11,9 +11,9 @@ use report_places::{Located, Query, locate};
 use report_quoting::quoting::Part;
 use report_quoting::windows;
 use report_wording::writing::say;
+use std::io::Stdout;
 use table_conflicts::Clash;
 use text_header::bytes::either;
-use std::io::Stdout;
 
 // An alternative that is a branch stands in parentheses.
 #[tactic(auto, unfolding(crate::specs::Quoted::part_of))]
@@ -57,7 +57,8 @@ fn is_plain(table: &[u32], construct: usize, count: usize) -> bool {
 }
 
 // How construct i, and what comes after it, admits the window.
-fn goes(out: Stdout, 
+fn goes(
+    out: Stdout,
     grammar: &[u8],
     table: &[u32],
     first: &[u64],
@@ -83,7 +84,8 @@ fn goes_free(table: &[u32], first: &[u64], follow: &[u64], construct: usize, win
     chains::free(table, &steps, count)
 }
 
-fn stops(out: Stdout, 
+fn stops(
+    out: Stdout,
     grammar: &[u8],
     table: &[u32],
     first: &[u64],
@@ -109,7 +111,10 @@ fn stops_free(table: &[u32], first: &[u64], follow: &[u64], construct: usize, wi
 // With a variable on the way the bits may say it after all.
 fn cannot(out: Stdout, free: bool) {
     if free {
-        say(out, b"Here the check cannot tell;\nit does not know the values of variables");
+        say(
+            out,
+            b"Here the check cannot tell;\nit does not know the values of variables",
+        );
     } else {
         say(out, b"Here they cannot");
     }
@@ -132,7 +137,8 @@ fn turns_admit(out: Stdout, free: bool) {
     }
 }
 
-fn branches(out: Stdout, 
+fn branches(
+    out: Stdout,
     grammar: &[u8],
     table: &[u32],
     first: &[u64],
@@ -146,7 +152,10 @@ fn branches(out: Stdout,
 {
     let a = goes_free(table, first, follow, one, window);
     let free = either(a, goes_free(table, first, follow, other, window));
-    say(out, b"The next bits of a frame must say which branch of an alternative is\n");
+    say(
+        out,
+        b"The next bits of a frame must say which branch of an alternative is\n",
+    );
     say(out, b"taken. ");
     cannot(out, free);
     say(out, b":\n");
@@ -165,7 +174,8 @@ pub fn next(i: usize) -> usize {
     256
 }
 
-fn passes(out: Stdout, 
+fn passes(
+    out: Stdout,
     grammar: &[u8],
     table: &[u32],
     first: &[u64],
@@ -177,7 +187,10 @@ fn passes(out: Stdout,
 {
     let a = goes_free(table, first, follow, next(construct), window);
     let free = either(a, stops_free(table, first, follow, construct, window));
-    say(out, b"Before each pass of ?, *, + or {2~4} the next 8 bits must say whether one\n");
+    say(
+        out,
+        b"Before each pass of ?, *, + or {2~4} the next 8 bits must say whether one\n",
+    );
     say(out, b"more comes ({4} and {n} are not asked). ");
     cannot(out, free);
     say(out, b". A pass of\n");
@@ -189,7 +202,8 @@ fn passes(out: Stdout,
     windows::window(out, window, starts::turn_of(table, construct));
 }
 
-pub fn explained(out: Stdout, 
+pub fn explained(
+    out: Stdout,
     grammar: &[u8],
     table: &[u32],
     first: &[u64],
@@ -205,8 +219,8 @@ pub fn explained(out: Stdout,
             window,
             first: one,
             second,
-        } => branches(out, 
-            grammar, table, first, follow, construct, window, one, second,
+        } => branches(
+            out, grammar, table, first, follow, construct, window, one, second,
         ),
         Clash::Passes { window } => passes(out, grammar, table, first, follow, construct, window),
     }

@@ -3,7 +3,10 @@ use report_wording::writing::say;
 use std::io::Stdout;
 
 fn item(out: Stdout) {
-    say(out, b"Here must come an item: a literal, a rule's name, uint(..), sint(..), eod,\n");
+    say(
+        out,
+        b"Here must come an item: a literal, a rule's name, uint(..), sint(..), eod,\n",
+    );
     say(out, b"( or [.\n");
 }
 
@@ -74,7 +77,8 @@ fn counts(out: Stdout, last: usize) {
         value(out);
         return;
     }
-    say(out, 
+    say(
+        out,
         b"Counts are written {4}, {2~4}, {2~} or {~4}, with numbers, variables\n\
         and + - *.\n",
     );
@@ -85,7 +89,10 @@ fn set(out: Stdout, last: usize) {
         value(out);
         return;
     }
-    say(out, b"A set is written 1 | 5~9 | 20~, or ~ for every value; ~ ! 3 is all but 3.\n");
+    say(
+        out,
+        b"A set is written 1 | 5~9 | 20~, or ~ for every value; ~ ! 3 is all but 3.\n",
+    );
 }
 
 fn condition(out: Stdout, last: usize) {
@@ -93,7 +100,8 @@ fn condition(out: Stdout, last: usize) {
         value(out);
         return;
     }
-    say(out, 
+    say(
+        out,
         b"A case is written n = 1: expression;, with a condition of = != < <= > >=\n\
         in front of the colon.\n",
     );

@@ -5,15 +5,16 @@ use report_quoting::brackets::{Brackets, open_at};
 use report_quoting::quoting::{mark, token};
 use report_wording::walking::{Context, before};
 use report_wording::writing::{hexadecimal, say};
+use std::io::Stdout;
 use text_header::Heading;
 use text_header::bytes::{both, either, letter};
 use text_header::spans::byte_at;
 use text_literals::quote;
 use text_parsing::terminals::look;
-use std::io::Stdout;
 
 fn long_name(out: Stdout) {
-    say(out, 
+    say(
+        out,
         b"This name has more than 32 bytes.\n\
         What to change: shorten it here and wherever it is used.\n",
     );
@@ -25,7 +26,8 @@ fn stray(out: Stdout, b: u8) {
     if slips::byte(out, b) {
         return;
     }
-    say(out, 
+    say(
+        out,
         b"What to change: take it out, or put it into a comment (from # to the\n\
         line's end). Rules are plain ASCII, and quotes are \" or '.\n",
     );
@@ -45,7 +47,8 @@ fn no_token(out: Stdout, grammar: &[u8], at: usize) {
 }
 
 fn no_rule(out: Stdout) {
-    say(out, 
+    say(
+        out,
         b"The text ends here and has no rule.\n\
         What to change: write at least one rule after the empty line:\n    \
         name = expression ;\n",
@@ -53,7 +56,8 @@ fn no_rule(out: Stdout) {
 }
 
 fn unfinished(out: Stdout, second: usize, last: usize) {
-    say(out, 
+    say(
+        out,
         b"The text ends here in the middle of a rule. A rule is written\n    \
         name = expression ;\n",
     );
@@ -83,7 +87,8 @@ fn end(out: Stdout, grammar: &[u8], seen: Context, kind: usize, place: usize) {
 }
 
 fn repetition(out: Stdout) {
-    say(out, 
+    say(
+        out,
         b"A repetition (?, *, + or {..}) stands after an item, and an item\n\
         takes only one. In a calculation + and * stand between two numbers.\n\
         What to change: put what is repeated in front of it; for a second\n\
@@ -92,7 +97,8 @@ fn repetition(out: Stdout) {
 }
 
 fn deep(out: Stdout) {
-    say(out, 
+    say(
+        out,
         b"Parentheses and brackets, those of uint, sint and var too, go at most 16\n\
         deep. This is the 17th.\n\
         What to change: write what stands in them as a rule of its own.\n",
@@ -100,7 +106,8 @@ fn deep(out: Stdout) {
 }
 
 fn equals(out: Stdout) {
-    say(out, 
+    say(
+        out,
         b"After a rule's name comes =. A rule is written\n    \
         name = expression ;\n\
         What to change: put = here. Or is a ; one too many in front of it?\n",
@@ -111,7 +118,8 @@ fn field(out: Stdout, code: usize, last: usize) {
     if both(code == 41, last == 2) {
         say(out, b"A comma and a set are missing here.\n");
     }
-    say(out, 
+    say(
+        out,
         b"A field is written uint(width, set), or sint(width, set) with a sign: the\n\
         width is one number from 1 to 64, then come a comma and a set, as in\n    \
         uint(8, 0~9 | 20)     sint(8, -1)     uint(8, var(n, 1~8))\n\
@@ -120,7 +128,8 @@ fn field(out: Stdout, code: usize, last: usize) {
 }
 
 fn set(out: Stdout) {
-    say(out, 
+    say(
+        out,
         b"After the comma comes a set: numbers and ranges with | between them,\n\
         as in 1 | 5~9 | 20~, or ~ for every value. Parentheses stand only\n\
         after !, as in ~ ! (1 | 2).\n\
@@ -129,7 +138,8 @@ fn set(out: Stdout) {
 }
 
 fn range(out: Stdout) {
-    say(out, 
+    say(
+        out,
         b"A range goes from one literal of a single character to another, as\n\
         in 'a'~'z'.\n\
         What to change: put a single character on each side. For numbers\n\
@@ -138,7 +148,8 @@ fn range(out: Stdout) {
 }
 
 fn switch(out: Stdout) {
-    say(out, 
+    say(
+        out,
         b"A switch begins with a case that has a condition; the default, which\n\
         has none, comes last:\n    \
         [n = 1: \"A\"; n = 2: \"B\"; : \"C\";]\n\
@@ -147,7 +158,8 @@ fn switch(out: Stdout) {
 }
 
 fn mixed(out: Stdout) {
-    say(out, 
+    say(
+        out,
         b"Comparisons are joined all by & or all by |. A set takes only |, and\n\
         counts {..} neither.\n\
         What to change: put parentheses around one group of comparisons, as\n\
@@ -156,7 +168,8 @@ fn mixed(out: Stdout) {
 }
 
 fn number(out: Stdout) {
-    say(out, 
+    say(
+        out,
         b"A number stands only in a uint or sint, in counts {..} and in conditions.\n\
         What to change: write the text in quotes, as in \"5\" (byte 35), or a\n\
         field, as in uint(8, 5) (byte 05).\n",
@@ -164,7 +177,8 @@ fn number(out: Stdout) {
 }
 
 fn item(out: Stdout) {
-    say(out, 
+    say(
+        out,
         b"What to change: put & (then) or | (or) between two items; between two\n\
         numbers | or the sign of a calculation. Or is the ; of the rule before\n\
         it missing? Every rule is name = expression ;.\n",
@@ -172,7 +186,8 @@ fn item(out: Stdout) {
 }
 
 fn call(out: Stdout) {
-    say(out, 
+    say(
+        out,
         b"No ( comes after a name. Only uint(..) and sint(..) are written so, and\n\
         var(..) right after their comma.\n\
         What to change: is uint, sint or var misspelt? Or is & (then) or | (or)\n\
@@ -181,19 +196,27 @@ fn call(out: Stdout) {
 }
 
 fn rule_start(out: Stdout, code: usize) {
-    say(out, 
+    say(
+        out,
         b"The name of a rule must stand here. A rule is written\n    \
         name = expression ;\n",
     );
     if code == 59 {
-        say(out, b"What to change: this ; is one too many; take it out.\n");
+        say(
+            out,
+            b"What to change: this ; is one too many; take it out.\n",
+        );
     } else {
-        say(out, b"What to change: is a ; one too many in front of it?\n");
+        say(
+            out,
+            b"What to change: is a ; one too many in front of it?\n",
+        );
     }
 }
 
 fn sign(out: Stdout) {
-    say(out, 
+    say(
+        out,
         b"What to change: look at what stands in front of it: something is\n\
         missing there, or is one too many. Is each ( [ { closed, and in its\n\
         own rule? Every rule is name = expression ;.\n",
@@ -281,7 +304,15 @@ fn not_a_slip(out: Stdout, code: usize, seen: Context, kind: usize) {
     opened(out, code, seen);
 }
 
-fn standing(out: Stdout, grammar: &[u8], at: usize, code: usize, next: usize, seen: Context, open: Brackets) {
+fn standing(
+    out: Stdout,
+    grammar: &[u8],
+    at: usize,
+    code: usize,
+    next: usize,
+    seen: Context,
+    open: Brackets,
+) {
     let kind = open.kinds % 8;
     if code == 5 {
         end(out, grammar, seen, kind, open.end);
@@ -302,7 +333,15 @@ fn form_at(out: Stdout, grammar: &[u8], base: usize, at: usize, code: usize, nex
         return;
     }
     let open = open_at(grammar, base, at);
-    standing(out, grammar, at, code, next, before(grammar, base, at), open);
+    standing(
+        out,
+        grammar,
+        at,
+        code,
+        next,
+        before(grammar, base, at),
+        open,
+    );
 }
 
 fn wrong_at(out: Stdout, grammar: &[u8], base: usize, at: usize) {

@@ -2,14 +2,15 @@
 use report_wording::lines;
 use report_wording::lines::saturating_next;
 use report_wording::writing::{hexadecimal, number, say};
+use std::io::Stdout;
 use text_header::bytes::{either, printable};
 use text_header::spans::byte_at;
 use text_literals::{Part, reach};
-use std::io::Stdout;
 
 fn long(out: Stdout, count: usize) {
     number(out, b"This literal has ", count);
-    say(out, 
+    say(
+        out,
         b" characters. A literal has at most 32.\n\
         What to change: write it as two, with & between them: \"ab\" & \"cd\" is\n\
         \"abcd\".\n",
@@ -17,7 +18,8 @@ fn long(out: Stdout, count: usize) {
 }
 
 fn unclosed(out: Stdout) {
-    say(out, 
+    say(
+        out,
         b"This literal is not closed. It must end on its line, by the quote that\n\
         opened it.\n\
         What to change: put the quote at its end. A quote inside of it is\n\
@@ -26,7 +28,8 @@ fn unclosed(out: Stdout) {
 }
 
 fn empty(out: Stdout) {
-    say(out, 
+    say(
+        out,
         b"This literal is empty. A literal has at least 1 character.\n\
         What to change: take it out, with the & or | beside it. What may be\n\
         left out is written with ?, as in \"A\"?.\n",
@@ -34,9 +37,13 @@ fn empty(out: Stdout) {
 }
 
 fn escape(out: Stdout, grammar: &[u8], at: usize) {
-    say(out, b"In this literal a backslash is not followed as it must be, at\n");
+    say(
+        out,
+        b"In this literal a backslash is not followed as it must be, at\n",
+    );
     lines::shown(out, grammar, at);
-    say(out, 
+    say(
+        out,
         b"What to change: a backslash stands only in \\\\ \\\" \\' and \\[hex], from\n\
         \\[0] to \\[7f]. A line feed is \\[0a]. For a byte from 80 to ff write\n\
         uint(8, 0x80).\n",
@@ -44,14 +51,16 @@ fn escape(out: Stdout, grammar: &[u8], at: usize) {
 }
 
 fn foreign(out: Stdout, grammar: &[u8], at: usize) {
-    hexadecimal(out, 
+    hexadecimal(
+        out,
         b"In this literal stands a byte (hexadecimal ",
         byte_at(grammar, at) as usize,
         2,
     );
     say(out, b") that is no\nprintable ASCII, at\n");
     lines::shown(out, grammar, at);
-    say(out, 
+    say(
+        out,
         b"What to change: up to 7f write it as \\[hex]: a tab is \\[09]. For a byte\n\
         from 80 to ff write uint(8, 0x80), outside of the literal.\n",
     );

@@ -2,25 +2,28 @@
 use report_quoting::openings::open_before;
 use report_wording::lines;
 use report_wording::writing::say;
-use text_header::bytes::{both, either};
 use std::io::Stdout;
+use text_header::bytes::{both, either};
 
 fn equals(out: Stdout) {
-    say(out, 
+    say(
+        out,
         b"= is written once, in conditions too: [n = 1: \"A\";].\n\
         What to change: take one = away.\n",
     );
 }
 
 fn comma(out: Stdout) {
-    say(out, 
+    say(
+        out,
         b"Counts have no comma.\n\
         What to change: from 2 to 3 times is {2~3}, from 2 times on {2~}.\n",
     );
 }
 
 fn calculation(out: Stdout) {
-    say(out, 
+    say(
+        out,
         b"A calculation has no parentheses.\n\
         What to change: multiply them out: 2 * n - 2 for (n - 1) * 2. * comes\n\
         before + and -.\n",
@@ -28,28 +31,32 @@ fn calculation(out: Stdout) {
 }
 
 fn dash(out: Stdout) {
-    say(out, 
+    say(
+        out,
         b"A range of characters is written with ~.\n\
         What to change: 'a'~'z' for 'a'-'z'.\n",
     );
 }
 
 fn both_in_set(out: Stdout) {
-    say(out, 
+    say(
+        out,
         b"In a set the items stand with | between them: a value is one of them.\n\
         What to change: | for &. All of 1 to 9 but 5 is 1~9 ! 5.\n",
     );
 }
 
 fn comma_in_set(out: Stdout) {
-    say(out, 
+    say(
+        out,
         b"In a set the items stand with | between them.\n\
         What to change: | for the comma: uint(8, 1 | 2 | 5~9).\n",
     );
 }
 
 fn literal_in_formula(out: Stdout) {
-    say(out, 
+    say(
+        out,
         b"Sets, counts and conditions have numbers, no characters.\n\
         What to change: write the character's number: 0x41 for \"A\"; or outside\n\
         of uint the literal itself, or a range as 'a'~'z'.\n",
@@ -59,13 +66,22 @@ fn literal_in_formula(out: Stdout) {
 fn semicolon(out: Stdout, grammar: &[u8], end: usize) {
     say(out, b"The rule before it has no ; at its end:\n");
     lines::shown(out, grammar, end);
-    say(out, b"What to change: put the ; there. Every rule is name = expression ;.\n");
+    say(
+        out,
+        b"What to change: put the ; there. Every rule is name = expression ;.\n",
+    );
 }
 
 fn open_group(out: Stdout, grammar: &[u8], end: usize) {
-    say(out, b"A ) is missing in front of this ;. The ( that is not closed:\n");
+    say(
+        out,
+        b"A ) is missing in front of this ;. The ( that is not closed:\n",
+    );
     lines::shown(out, grammar, open_before(grammar, end));
-    say(out, b"What to change: close the group, or take its ( away.\n");
+    say(
+        out,
+        b"What to change: close the group, or take its ( away.\n",
+    );
 }
 
 fn unfinished(out: Stdout, grammar: &[u8], end: usize) {
@@ -79,16 +95,23 @@ fn unclosed(out: Stdout, grammar: &[u8], end: usize, sign: &[u8]) {
     say(out, sign);
     say(out, b" is missing. The bracket that is not closed:\n");
     lines::shown(out, grammar, open_before(grammar, end));
-    say(out, b"What to change: close the bracket, and end the rule with ;.\n");
+    say(
+        out,
+        b"What to change: close the bracket, and end the rule with ;.\n",
+    );
 }
 
 fn open_case(out: Stdout, grammar: &[u8], end: usize) {
-    say(out, 
+    say(
+        out,
         b"The text ends here in a switch: the ; of its case and its ] are missing.\n\
         The switch begins here:\n",
     );
     lines::shown(out, grammar, open_before(grammar, end));
-    say(out, b"What to change: put them there, and end the rule with ;.\n");
+    say(
+        out,
+        b"What to change: put them there, and end the rule with ;.\n",
+    );
 }
 
 fn formula(kind: usize) -> bool {
@@ -157,7 +180,8 @@ fn in_brackets(out: Stdout, kind: usize, code: usize, last: usize) -> bool {
 
 // Whether the token with this code, after one with the code `last`, is such a slip, which is then said. `next` is the code after it, `end` the end
 // of the token before.
-pub fn told(out: Stdout, 
+pub fn told(
+    out: Stdout,
     grammar: &[u8],
     kind: usize,
     last: usize,
@@ -210,7 +234,8 @@ pub fn ended(out: Stdout, grammar: &[u8], kind: usize, end: usize) {
 }
 
 fn division(out: Stdout) {
-    say(out, 
+    say(
+        out,
         b"There is no division.\n\
         What to change: bind the half itself: uint(8, var(n, ~)) & \"AB\"{n} has\n\
         2 * n + 1 bytes. That changes the frames where the field has the whole.\n\
@@ -219,14 +244,16 @@ fn division(out: Stdout) {
 }
 
 fn dots(out: Stdout) {
-    say(out, 
+    say(
+        out,
         b"A range is written with ~, not with dots.\n\
         What to change: 1~5, 'a'~'z', {2~4}.\n",
     );
 }
 
 fn quotes(out: Stdout) {
-    say(out, 
+    say(
+        out,
         b"Quotes are the plain \" and ', and rules are plain ASCII.\n\
         What to change: type the quotes, dashes and blanks anew; an editor may\n\
         have changed them.\n",

@@ -10,8 +10,8 @@ use report_quoting::variables::first_name;
 use report_quoting::windows::binary;
 use report_wording::lines;
 use report_wording::writing::say;
-use text_parsing::terminals::look;
 use std::io::Stdout;
+use text_parsing::terminals::look;
 
 fn here(out: Stdout, grammar: &[u8], at: usize) {
     say(out, b"        ");
@@ -26,13 +26,19 @@ fn named(out: Stdout, grammar: &[u8], at: usize) {
 
 // A set with a variable.
 fn set_note(out: Stdout, grammar: &[u8], at: usize) {
-    say(out, b"  counts as every value,\n            since its set uses ");
+    say(
+        out,
+        b"  counts as every value,\n            since its set uses ",
+    );
     named(out, grammar, look(grammar, look(grammar, at).end).end);
     say(out, b"\n");
 }
 
 fn counts_note(out: Stdout, grammar: &[u8], at: usize) {
-    say(out, b"            (any number of passes counts as possible, also 0, since its count\n");
+    say(
+        out,
+        b"            (any number of passes counts as possible, also 0, since its count\n",
+    );
     say(out, b"            uses ");
     named(out, grammar, end_of(grammar, at, Part::Field));
     say(out, b")\n");
@@ -126,7 +132,10 @@ fn passed_over(out: Stdout, grammar: &[u8], i: usize) {
     let at = place_of(grammar, i);
     here(out, grammar, at);
     quote(out, grammar, at, Part::Field);
-    say(out, b"  takes no bits where no case is\n            true, since it has no default\n");
+    say(
+        out,
+        b"  takes no bits where no case is\n            true, since it has no default\n",
+    );
 }
 
 // What comes first needs no word in front.
@@ -162,7 +171,15 @@ fn frame_ends(out: Stdout, is_first: bool) {
     say(out, b"the frame ends\n");
 }
 
-fn step(out: Stdout, grammar: &[u8], table: &[u32], is_first: bool, tag: usize, i: usize, value: usize) {
+fn step(
+    out: Stdout,
+    grammar: &[u8],
+    table: &[u32],
+    is_first: bool,
+    tag: usize,
+    i: usize,
+    value: usize,
+) {
     match tag {
         1 => field(out, grammar, table, i, value),
         2 => used(out, grammar, i),
@@ -225,7 +242,8 @@ pub fn free(table: &[u32], steps: &[usize], count: usize) -> bool {
 }
 
 fn step_at(out: Stdout, grammar: &[u8], table: &[u32], steps: &[usize], is_first: bool, k: usize) {
-    step(out, 
+    step(
+        out,
         grammar,
         table,
         is_first,

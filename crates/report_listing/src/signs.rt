@@ -35,7 +35,8 @@ fn between(out: Stdout, low: usize, high: usize, sign: &[u8]) {
 
 // Values from 0 up that begin with the number n, `hidden` bits being left.
 fn up(out: Stdout, n: usize, hidden: usize) {
-    between(out, 
+    between(
+        out,
         shifted(n, hidden),
         saturating_sub(shifted(saturating_next(n), hidden), 1),
         b"",
@@ -44,7 +45,8 @@ fn up(out: Stdout, n: usize, hidden: usize) {
 
 // Values below 0: n is how much the bits that are seen lack to the number after all of them.
 fn down(out: Stdout, n: usize, hidden: usize) {
-    between(out, 
+    between(
+        out,
         shifted(n, hidden),
         saturating_next(shifted(saturating_sub(n, 1), hidden)),
         b"-",

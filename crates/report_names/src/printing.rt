@@ -48,7 +48,8 @@ fn apart(out: Stdout, i: usize, again: bool) {
     }
 }
 
-fn constant(out: Stdout, 
+fn constant(
+    out: Stdout,
     grammar: &[u8],
     prefix: &[u8],
     named: Named,
@@ -66,9 +67,18 @@ fn constant(out: Stdout,
     say(out, b"u");
 }
 
-fn variable(out: Stdout, grammar: &[u8], prefix: &[u8], named: Named, i: usize, again: bool, binder: usize) {
+fn variable(
+    out: Stdout,
+    grammar: &[u8],
+    prefix: &[u8],
+    named: Named,
+    i: usize,
+    again: bool,
+    binder: usize,
+) {
     if 0 < binder {
-        constant(out, 
+        constant(
+            out,
             grammar,
             prefix,
             named,
@@ -81,7 +91,8 @@ fn variable(out: Stdout, grammar: &[u8], prefix: &[u8], named: Named, i: usize, 
     }
 }
 
-fn field_named(out: Stdout, 
+fn field_named(
+    out: Stdout,
     grammar: &[u8],
     prefix: &[u8],
     table: &[u32],
@@ -94,7 +105,8 @@ fn field_named(out: Stdout,
     say(out, b" /* ");
     lines::place(out, grammar, at);
     say(out, b" */\n");
-    constant(out, 
+    constant(
+        out,
         grammar,
         prefix,
         named,
@@ -107,7 +119,8 @@ fn field_named(out: Stdout,
     variable(out, grammar, prefix, named, i, again, binder_of(table, i));
 }
 
-fn field_at(out: Stdout, 
+fn field_at(
+    out: Stdout,
     grammar: &[u8],
     prefix: &[u8],
     table: &[u32],
@@ -118,7 +131,8 @@ fn field_at(out: Stdout,
     if 0 < kind_of(table, i) {
         let named = field(grammar, table, rules, constructs, i);
         let twice = again(grammar, table, rules, constructs, i, named);
-        field_named(out, 
+        field_named(
+            out,
             grammar,
             prefix,
             table,
@@ -130,7 +144,14 @@ fn field_at(out: Stdout,
     }
 }
 
-fn fields(out: Stdout, grammar: &[u8], prefix: &[u8], table: &[u32], rules: &[usize], constructs: &[usize]) {
+fn fields(
+    out: Stdout,
+    grammar: &[u8],
+    prefix: &[u8],
+    table: &[u32],
+    rules: &[usize],
+    constructs: &[usize],
+) {
     let mut i: usize = 0;
     while i < 256 {
         field_at(out, grammar, prefix, table, rules, constructs, i);
@@ -147,8 +168,14 @@ fn whole(out: Stdout, grammar: &[u8], prefix: &[u8], before: &[u8], start: usize
 }
 
 fn guarded(out: Stdout, grammar: &[u8], prefix: &[u8], start: usize) {
-    say(out, b"/* Fields and variables of a grammar by their names, for songrafter_field and\n");
-    say(out, b" * songrafter_value. Printed by `names`: to be printed anew where the grammar\n");
+    say(
+        out,
+        b"/* Fields and variables of a grammar by their names, for songrafter_field and\n",
+    );
+    say(
+        out,
+        b" * songrafter_value. Printed by `names`: to be printed anew where the grammar\n",
+    );
     say(out, b" * changes. */\n");
     whole(out, grammar, prefix, b"#ifndef ", start, b"_NAMES_H\n");
     whole(out, grammar, prefix, b"#define ", start, b"_NAMES_H\n\n");
@@ -158,12 +185,19 @@ fn guarded(out: Stdout, grammar: &[u8], prefix: &[u8], start: usize) {
 fn bounds(out: Stdout, grammar: &[u8], prefix: &[u8], start: usize, weight: usize) {
     whole(out, grammar, prefix, b"#define ", start, b"_WEIGHT ");
     number(out, b"", weight);
-    say(out, b"u\n/* So many steps decide a frame of so many bits. */\n");
+    say(
+        out,
+        b"u\n/* So many steps decide a frame of so many bits. */\n",
+    );
     whole(out, grammar, prefix, b"#define ", start, b"_STEPS(bits) (");
     number(out, b"", weight);
     say(out, b"u * ((uint64_t)(bits) + 1u))\n");
-    say(out, b"/* So many words are room for the reading of a frame of so many bytes. */\n");
-    whole(out, 
+    say(
+        out,
+        b"/* So many words are room for the reading of a frame of so many bytes. */\n",
+    );
+    whole(
+        out,
         grammar,
         prefix,
         b"#define ",
@@ -174,7 +208,8 @@ fn bounds(out: Stdout, grammar: &[u8], prefix: &[u8], start: usize, weight: usiz
 }
 
 // The header of an admitted grammar, with a prefix in front of every name.
-pub fn header(out: Stdout, 
+pub fn header(
+    out: Stdout,
     grammar: &[u8],
     prefix: &[u8],
     table: &[u32],

@@ -2,9 +2,9 @@
 use crate::fields::Named;
 use report_wording::lines::saturating_sub;
 use report_wording::writing::say;
+use std::io::Stdout;
 use text_header::Class;
 use text_header::spans::{byte_at, span};
-use std::io::Stdout;
 
 // A rule's name and a variable's have at most 32 bytes each.
 const MOST_BYTES: usize = 80;

@@ -1,9 +1,9 @@
 // Branches that begin with literals, written anew with what all of them begin with in front.
 use crate::quoting::{Part, end_of};
 use report_wording::writing::{Style, bytes, say};
+use std::io::Stdout;
 use text_header::spans::byte_at;
 use text_parsing::terminals::look;
-use std::io::Stdout;
 
 fn plus(a: usize, b: usize) -> usize {
     if a < 8192 {
@@ -51,7 +51,8 @@ pub fn shared(grammar: &[u8], first: usize, second: usize) -> usize {
 // What is left of a branch: its literal without the first n characters, and the rest of it.
 fn rest(out: Stdout, grammar: &[u8], at: usize, n: usize) {
     bytes(out, Style::Line, grammar, at, plus(at, 1));
-    bytes(out, 
+    bytes(
+        out,
         Style::Line,
         grammar,
         plus(at, plus(1, n)),

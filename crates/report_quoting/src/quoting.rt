@@ -7,9 +7,9 @@ use basis::MAX_TEXT_BYTES;
 use report_wording::lines::{cut, saturating_sub};
 use report_wording::walking::nesting;
 use report_wording::writing::{Style, bytes, say};
+use std::io::Stdout;
 use text_header::bytes::{both, either};
 use text_parsing::terminals::look;
-use std::io::Stdout;
 
 // What the part is. A whole expression ends before `;` or a closing bracket, a branch also before `|`, a member also before `&`, a
 // field also before a repetition mark.

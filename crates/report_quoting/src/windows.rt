@@ -129,7 +129,10 @@ fn value(out: Stdout, window: usize, n: usize) {
 
 fn short(out: Stdout, n: usize) {
     if n < 8 {
-        say(out, b"The pattern has fewer than 8 bits because the frame ends after it.\n");
+        say(
+            out,
+            b"The pattern has fewer than 8 bits because the frame ends after it.\n",
+        );
     }
 }
 
@@ -155,7 +158,10 @@ fn several(out: Stdout, n: usize) {
 // Where the bits begin in a byte is a set of remainders by 8: at one place, at several, or nowhere.
 fn elsewhere(out: Stdout, starts: usize, n: usize) {
     match starts {
-        0 => say(out, b" (no frame comes to this place: nothing uses the rule).\n"),
+        0 => say(
+            out,
+            b" (no frame comes to this place: nothing uses the rule).\n",
+        ),
         2 => into(out, 1),
         4 => into(out, 2),
         8 => into(out, 3),

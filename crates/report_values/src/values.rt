@@ -3,10 +3,10 @@ use crate::calculations::{begins, worked_out};
 use report_quoting::quoting::{Part, end_of, quote};
 use report_wording::lines;
 use report_wording::writing::{number, say};
+use std::io::Stdout;
 use term_integers::{at_most, magnitude, negative};
 use text_header::spans::byte_at;
 use text_parsing::terminals::look;
-use std::io::Stdout;
 
 // An item `a` or `a~b`, where each end may be left out. `single`: one number. `from`, `to`: an end is written.
 #[derive(Clone, Copy)]
@@ -245,12 +245,24 @@ fn change(out: Stdout, ends: Ends) {
     least(out, b"What to change: let the set have a value from ", ends);
     number(out, b" to ", ends.most);
     say(out, b".\n");
-    say(out, b"From 1 to 5 is written 1~5, with the smaller end first; 1-5 is a calculation.\n");
-    say(out, b"A larger value needs a wider field, of at most 64 bits: that changes the frames.\n");
+    say(
+        out,
+        b"From 1 to 5 is written 1~5, with the smaller end first; 1-5 is a calculation.\n",
+    );
+    say(
+        out,
+        b"A larger value needs a wider field, of at most 64 bits: that changes the frames.\n",
+    );
     if ends.below == 0 {
-        say(out, b"A value below 0 needs a sint, which reads the same bits with a sign.\n");
+        say(
+            out,
+            b"A value below 0 needs a sint, which reads the same bits with a sign.\n",
+        );
     }
-    say(out, b"A branch or a case that no frame is to take can be left out.\n");
+    say(
+        out,
+        b"A branch or a case that no frame is to take can be left out.\n",
+    );
 }
 
 fn kind(out: Stdout, signed: bool) {
