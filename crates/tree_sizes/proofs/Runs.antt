@@ -43,14 +43,16 @@ stop_left B (stop_later s) = stop_later (stop_left B s)
 -- behind other rows
 pub stop_right : {i at o : ℕ} (A : List TermRow) {B : List TermRow} → Stop (i + length A) B at o → Stop i (A ++ B) at o
 stop_right {i} {at} {o} [] {B} s = subst (λ (k : ℕ). Stop k B at o) (let z : i + 0 ≡ i = omega arith in z) s
-stop_right {i} {at} {o} (r ∷ A) {B} s = stop_later (stop_right A (subst (λ (k : ℕ). Stop k B at o) (let z : i + suc (length A) ≡ i + 1 + length A = omega arith in z) s))
+stop_right {i} {at} {o} (r ∷ A) {B} s = stop_later (stop_right {i = i + 1} A (subst (λ (k : ℕ). Stop k B at o) (let z : i + suc (length A) ≡ i + 1 + length A = omega arith in z) s))
 
 -- a mark changes no place
 pub stop_marked : {i at o : ℕ} (A : List TermRow) → Stop i A at o → Stop i (last_marked A) at o
 unfolding last_marked
+stop_marked [] x' = elim x' [ ]
+stop_marked (r ∷ []) (stop_later s) = elim s [ ]
 stop_marked (r ∷ []) (stop_here e f) = stop_here e f
 stop_marked (r ∷ q ∷ A) (stop_here e f) = stop_here e f
-stop_marked (r ∷ q ∷ A) (stop_later s) = stop_later (stop_marked (q ∷ A) s)
+stop_marked {i = i} (r ∷ q ∷ A) (stop_later s) = stop_later (stop_marked {i = i + 1} (q ∷ A) s)
 
 stop_from : {i at o : ℕ} {A : List TermRow} → Stop i A at o → i ≤ at
 stop_from (stop_here e f) = omega arith
@@ -58,6 +60,7 @@ stop_from (stop_later s) = omega (arith, stop_from s)
 
 -- the stored first byte of the row's calculation
 pub stop_origin : {ts : List ℕ} {f i at o : ℕ} {A : List TermRow} → RowsAt ts f A → Stop i A at o → term_origin ts (f + (at - i)) ≡ o
+stop_origin Rattle.tree_grammar.proofs.Lists.no_rows x4 = elim x4 [ ]
 stop_origin {ts} {f} {i} {at} {o} (row_then h more) (stop_here e g) = ap (term_origin ts) (let z : f + (at - i) ≡ f = omega arith in z) ∙ h.origin_is ∙ g
 stop_origin {ts} {f} {i} {at} {o} (row_then h more) (stop_later s) =
     ap (term_origin ts) (let z : f + (at - i) ≡ f + 1 + (at - (i + 1)) = omega (arith, stop_from s) in z) ∙ stop_origin more s

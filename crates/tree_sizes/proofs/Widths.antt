@@ -121,7 +121,7 @@ module _ {xs ns ts rs ws : List ℕ} {n r : ℕ} (words : Words xs ns ts rs n r 
   unfolding bound_in is_among cut_in number-among
   variable_size b y no_step no_nodes few q m e = let z : ◌≡◌ {A = ℕ} 0 1 = cc in absurd (omega arith)
   variable_size b y (a_formula s) h few q m e = variable_size b y s h few q m e
-  variable_size b y (a_use {r = x} d p g s) (node_then h more) few q m e = variable_size b y s more (omega arith) (passed h (use_binder x d) q) m e
+  variable_size {a = a} b y (a_use {r = x} d p g s) (node_then h more) few q m e = variable_size {a = a + 1} b y s more (omega arith) (passed h (use_binder x d) q) m e
   variable_size b y (a_field d p f v s) (node_then h more) few q m e = variable_size b y s more (omega arith) (passed h p q) m e
   variable_size {a} b y (a_binder {r = x} {n = w} {x = u} {signed = signed} {l = l} d p f v o z g s) (node_then h more) few q m e =
       ⊎_elim

@@ -70,7 +70,7 @@ module _ (p : ℕ) where
     unfolding Hits gathered
     widths_found {a} no_step no_nodes = (λ x. among_none p a (width_found xs ns) x, λ x. absurd x)
     widths_found (a_formula s) h = widths_found s h
-    widths_found {a} (a_use {M = M} e f g s) (node_then h more) = later (length M) a (no_width a (ap (λ (k : ℕ). eqb k 8) (h.kind_is ∙ e))) (widths_found s more)
+    widths_found {a} (a_use {M = M} e f g s) (node_then h more) = later (length M) a (no_width a (ap (λ (k : ℕ). eqb k 8) (h.kind_is ∙ e))) (widths_found {a = a + 1} s more)
     widths_found {a} (a_field {M = M} {n = n} {l = l} e q f v s) (node_then h more) = wide max_width a (length M) n l (omega arith) (most_by h ∙ ap (λ (c : Bool). cond c max_bound_width max_width) q) (h.kind_is ∙ e) (h.first_is ∙ f) v (widths_found s more)
     widths_found {a} (a_binder {M = M} {n = n} {l = l} e q f v o u y s) (node_then h more) = wide max_bound_width a (length M) n l (omega arith) (most_by h ∙ ap (λ (c : Bool). cond c max_bound_width max_width) q) (h.kind_is ∙ e) (h.first_is ∙ f) v (widths_found s more)
     widths_found {a} (another {M = M} e q s) (node_then h more) = later (length M) a (no_width a (ap (λ (k : ℕ). eqb k 8) h.kind_is ∙ q)) (widths_found s more)
