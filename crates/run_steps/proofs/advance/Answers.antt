@@ -1,9 +1,8 @@
 use Prim.Native.Nat.{◌-◌}
 use native.Mathlib.Omega.{arith}
-use mathlib.Core.Path.{◌≡◌, refl, sym, ap, subst, ◌∙◌}
+use mathlib.Core.Path.{refl, sym, ap, subst, ◌∙◌}
 use Rattle.run_steps.specs.Steps.{whole, steps_of, Fits}
 use Rattle.run_steps.proofs.Running.{step_fits, steps_stay, steps_next, steps_none}
-use Rattle.run_steps.proofs.step.Reads as step-reads
 use Rattle.run_steps.proofs.advance.Goals as goal
 
 -- src/lib.rt:350:5
@@ -32,7 +31,7 @@ loop-left-smaller c = omega (arith, c.loop-left-test.true)
 
 -- src/lib.rt:350:5
 pub loop-left-preserved : goal.loop-left-preserved
-loop-left-preserved c = (ap (steps_of c.args.table.now c.args.frame.now (c.loop-left.left - 1)) c.step-run.ensures ∙ (sym (steps_next c.args.table.now c.args.frame.now c.loop-left.left (whole c.loop-left.constructs c.loop-left.passes c.loop-left.values c.loop-left.reading c.loop-left.run) c.loop-left-test.true) ∙ c.loop-left.invariant.0), subst (Fits c.args.frame.now) (sym c.step-run.ensures) (step_fits c.args.table.now c.args.frame.now (whole c.loop-left.constructs c.loop-left.passes c.loop-left.values c.loop-left.reading c.loop-left.run) c.loop-left.invariant.1), c.step-run.auto.1.1.1.1.1.0 ∙ c.loop-left.invariant.2)
+loop-left-preserved c = (ap (steps_of c.args.table.now c.args.frame.now (c.loop-left.left - 1)) c.step-run.ensures ∙ (sym (steps_next c.args.table.now c.args.frame.now c.loop-left.left (whole c.loop-left.constructs c.loop-left.passes c.loop-left.values c.loop-left.reading c.loop-left.run) c.loop-left-test.true) ∙ c.loop-left.invariant.0), subst (Fits c.args.frame.now) (sym c.step-run.ensures) (step_fits c.args.table.now c.args.frame.now (whole c.loop-left.constructs c.loop-left.passes c.loop-left.values c.loop-left.reading c.loop-left.run) c.loop-left.invariant.1), c.step-run.auto.reading ∙ c.loop-left.invariant.2)
 
 -- src/lib.rt:335:1
 pub shape_of-reading : goal.shape_of-reading

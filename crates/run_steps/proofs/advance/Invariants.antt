@@ -1,7 +1,6 @@
-use mathlib.Core.Path.{◌≡◌, ◌∙◌}
+use mathlib.Core.Path.{◌≡◌}
 use lib.ListN.{length}
 use Rattle.run_steps.specs.Steps.{whole, steps_of, Fits}
-use Rattle.run_steps.proofs.step.Reads as step-reads
 use Rattle.run_steps.proofs.advance.Given as goal
 
 abbrev pub invariant-loop-left : goal.invariant-loop-left

@@ -4,7 +4,6 @@ use native.Mathlib.Nat.{mul-le-mul}
 use lib.ListN.{length}
 use borrow.Author.Tests.{le-leb, lt-leb}
 use Rattle.basis.specs.Limits.{max_weight, max_frame_bits}
-use Rattle.table_layout.proofs.word.Reads as word-reads
 use Rattle.run_steps.proofs.bounded.Goals as goal
 
 -- src/lib.rt:77:30

@@ -1,7 +1,4 @@
 use borrow.Author.Tests.{lt-ltb, le-ltb}
-use Rattle.run_steps.proofs.again.Reads as again-reads
-use Rattle.run_steps.proofs.broken.Reads as broken-reads
-use Rattle.run_steps.proofs.taken.Reads as taken-reads
 use Rattle.run_steps.proofs.do_again.Goals as goal
 
 pub returns-then-count-ge-MAX_ENTRIES : goal.returns-then-count-ge-MAX_ENTRIES

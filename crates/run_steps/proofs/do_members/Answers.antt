@@ -1,7 +1,4 @@
 use borrow.Author.Tests.{le-leb, lt-leb}
-use Rattle.run_steps.proofs.broken.Reads as broken-reads
-use Rattle.run_steps.proofs.place.Reads as place-reads
-use Rattle.run_steps.proofs.taken.Reads as taken-reads
 use Rattle.run_steps.proofs.do_members.Goals as goal
 
 -- src/lib.rt:151:9

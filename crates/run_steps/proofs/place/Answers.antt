@@ -1,11 +1,10 @@
 use Prim.Native.Nat.{ℕ, ◌+◌, ◌-◌, ◌≤◌}
 use native.Mathlib.Omega.{arith}
-use mathlib.Core.Path.{◌≡◌, refl, sym, ◌∙◌, ap}
+use mathlib.Core.Path.{refl, sym, ◌∙◌, ap}
 use lib.ListN.{set}
 use Rattle.run_actions.proofs.Walks.{positive}
 use Rattle.run_steps.specs.Steps.{placed}
 use Rattle.run_steps.proofs.Places.{placed_end, placed_full, placed_missing, placed_next}
-use Rattle.run_actions.proofs.size_at.Reads as size-at-reads
 use Rattle.run_steps.proofs.place.Goals as goal
 
 -- src/lib.rt:125:5

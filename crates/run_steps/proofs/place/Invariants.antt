@@ -1,8 +1,7 @@
 use Prim.Native.Nat.{ℕ, ◌-◌, ◌≤◌}
-use mathlib.Core.Path.{◌≡◌, ◌∙◌}
+use mathlib.Core.Path.{◌≡◌}
 use Rattle.basis.specs.Limits.{max_entries}
 use Rattle.run_steps.specs.Steps.{placed}
-use Rattle.run_actions.proofs.size_at.Reads as size-at-reads
 use Rattle.run_steps.proofs.place.Given as goal
 
 abbrev pub invariant-loop-j : goal.invariant-loop-j

@@ -3,9 +3,6 @@ use native.Mathlib.Omega.{arith}
 use borrow.Author.Tests.{ne_eqb}
 use Rattle.run_steps.specs.Steps.{step_of}
 use Rattle.run_steps.proofs.Bounds.{bound_small}
-use Rattle.run_steps.proofs.bounded.Reads as bounded-reads
-use Rattle.run_steps.proofs.broken.Reads as broken-reads
-use Rattle.run_steps.proofs.take_first.Reads as take-first-reads
 use Rattle.run_steps.proofs.step.Goals as goal
 
 -- src/lib.rt:310:17

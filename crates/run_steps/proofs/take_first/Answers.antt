@@ -3,15 +3,11 @@ use native.Mathlib.Omega.{arith}
 use borrow.Author.Tests.{le-leb, lt-leb}
 use Rattle.run_actions.specs.Acts.{Doable}
 use Rattle.run_actions.proofs.Doing.{doable}
-use Rattle.run_actions.proofs.decide.Reads as decide-reads
-use Rattle.run_steps.proofs.broken.Reads as broken-reads
-use Rattle.run_steps.proofs.do_act.Reads as do-act-reads
-use Rattle.run_steps.proofs.first_of.Reads as first-of-reads
 use Rattle.run_steps.proofs.take_first.Goals as goal
 
 -- src/lib.rt:286:9
 pub do_act-requires : goal.do_act-requires
-do_act-requires c = (omega arith, omega arith, omega arith, omega arith, omega arith, omega arith, omega arith, omega arith, subst (Doable _ _ _) (sym c.decide-act.ensures) (doable _ _ _ _ _ _))
+do_act-requires c = (omega arith, omega arith, omega arith, omega arith, omega arith, omega arith, omega arith, omega arith, subst (Doable c.args.table.now c.args.frame.now c.args.head.position) (sym c.decide-act.ensures) (doable _ _ _ _ _ _))
 
 -- src/lib.rt:286:9
 pub returns-then-i-le-OPENING : goal.returns-then-i-le-OPENING

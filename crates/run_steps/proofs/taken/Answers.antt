@@ -1,6 +1,5 @@
 use Prim.Native.Nat.{ℕ, ◌+◌}
 use mathlib.Core.Path.{ap}
-use Rattle.run_steps.proofs.verdict.Reads as verdict-reads
 use Rattle.run_steps.proofs.taken.Goals as goal
 
 -- src/lib.rt:56:1
