@@ -3,7 +3,7 @@ use mathlib.Core.Bool.{false≢true}
 use Prim.Native.Nat.{ℕ}
 use mathlib.Core.Path.{◌≡◌, subst, ◌∙◌}
 use Rattle.report_chain_steps.specs.Replayed.{row, stack, FirstOf}
-use Rattle.report_chain_steps.proofs.Readiness.{none_ready, rows_ready, unless}
+use Rattle.report_chain_steps.proofs.Readiness.{none_ready, rows_ready}
 use Rattle.report_chain_checks.proofs.starts.ready.Goals as goal
 
 pub loop-d-init : goal.loop-d-init
@@ -18,7 +18,7 @@ loop-d-preserved c =
     let a = c.args in
     let l = c.loop-d in (
       omega (arith, c.loop-d-test.true),
-      λ ws s. rows_ready ws a.items.now l.d (subst (λ (k : ℕ). FirstOf ws (row ws k)) c.number_at.ensures (c.row_ready.ensures (unless c.row_ready.result c.if-not-row_ready.false) ws s)) (l.invariant.1 ws s),
+      λ ws s. rows_ready ws a.items.now l.d (subst (λ (k : ℕ). FirstOf ws (row ws k)) c.number_at.ensures (c.row_ready.ensures c.if-not-row_ready.false ws s)) (l.invariant.1 ws s),
     )
 
 pub returns : goal.returns
