@@ -1,6 +1,4 @@
 use borrow.Author.Tests.{lt-ltb, le-ltb}
-use Rattle.run_fields.proofs.in_frame.Reads as in-frame-reads
-use Rattle.run_fields.proofs.width_at.Reads as width-at-reads
 use Rattle.run_fields.proofs.at.Goals as goal
 
 -- src/lib.rt:97:9

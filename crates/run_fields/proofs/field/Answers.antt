@@ -2,8 +2,6 @@ use Prim.Native.Nat.{◌+◌, ◌*◌, ◌≤◌, ◌<◌}
 use native.Mathlib.Omega.{arith}
 use lib.ListN.{length}
 use borrow.Author.Tests.{lt-ltb, le-ltb, le-leb, lt-leb}
-use Rattle.run_fields.proofs.at.Reads as at_reads
-use Rattle.table_layout.proofs.word.Reads as word-reads
 use Rattle.run_fields.proofs.field.Goals as goal
 
 -- src/lib.rt:107:9

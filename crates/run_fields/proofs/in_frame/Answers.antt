@@ -1,5 +1,4 @@
 use borrow.Author.Tests.{eq-eqb, ne_eqb, le-leb, lt-leb}
-use Rattle.run_fields.proofs.value_at.Reads as value-at-reads
 use Rattle.run_fields.proofs.in_frame.Goals as goal
 
 -- src/lib.rt:79:9

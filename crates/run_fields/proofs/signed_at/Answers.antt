@@ -1,4 +1,4 @@
-use mathlib.Core.Path.{◌≡◌, ap, ◌∙◌}
+use mathlib.Core.Path.{ap, ◌∙◌}
 use Rattle.table_layout.specs.declared.Attributes.{Attributes}
 use Rattle.run_fields.specs.Fields.{field_signed}
 use Rattle.run_fields.proofs.signed_at.Goals as goal

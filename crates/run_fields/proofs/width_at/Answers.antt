@@ -3,8 +3,6 @@ use mathlib.Core.Path.{sym, ap, subst, ◌∙◌}
 use Rattle.table_layout.specs.declared.Construct.{Construct}
 use Rattle.run_fields.specs.Fields.{field_width}
 use Rattle.run_fields.proofs.Widths.{width_small}
-use Rattle.run_fields.proofs.width_of.Reads as width-of-reads
-use Rattle.table_layout.proofs.construct_at.Reads as construct-at-reads
 use Rattle.run_fields.proofs.width_at.Goals as goal
 
 -- src/lib.rt:60:5

@@ -7,12 +7,12 @@ use Rattle.run_fields.proofs.width_of.Goals as goal
 
 -- src/lib.rt:44:42
 pub overflow_mul-result : goal.overflow_mul-result
-overflow_mul-result c = let h = subst (λ (x : Construct). field_width x ≤ 256) c.construct-1.given.1 c.requires in omega (arith, h)
+overflow_mul-result c = let h = subst (λ (x : Construct). field_width x ≤ 256) c.in-Literal.is c.requires in omega (arith, h)
 
 -- src/lib.rt:33:1
 pub returns-in-Literal : goal.returns-in-Literal
-returns-in-Literal c = sym (ap field_width c.construct-1.given.1)
+returns-in-Literal c = sym (ap field_width c.in-Literal.is)
 
 -- src/lib.rt:33:1
 pub returns-in-Uint : goal.returns-in-Uint
-returns-in-Uint c = sym (ap field_width c.construct-in-Uint-1.given.1)
+returns-in-Uint c = sym (ap field_width c.in-Uint.is)
