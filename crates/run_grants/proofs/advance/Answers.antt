@@ -5,7 +5,6 @@ use mathlib.Core.List.{List}
 use lib.Seq.{take_all}
 use Rattle.basis.specs.Limits.{table_words}
 use Rattle.run_grants.specs.Runs.{grant_of}
-use Rattle.run_grants.proofs.advance_words.Reads as advance-words-reads
 use Rattle.run_grants.proofs.advance.Goals as goal
 
 -- src/lib.rt:241:9

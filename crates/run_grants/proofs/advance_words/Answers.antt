@@ -1,3 +1,4 @@
+use Rattle.std.proofs.Common.{rules}
 use Rattle.run_grants.proofs.Taken.{steps_in, steps_near, same_parts}
 use Rattle.run_grants.proofs.Fitting.{fitting_fits}
 use Rattle.run_grants.specs.Runs.{head_of, whole_of, after_steps, grant_of}
@@ -7,9 +8,6 @@ use borrow.Author.Tests.{le-leb, lt-leb}
 use native.Mathlib.Omega.{arith}
 use Prim.Native.Nat.{ℕ, ◌≤◌}
 use lib.ListN.{length-map}
-use Rattle.run_grants.proofs.fits.Reads as fits-reads
-use Rattle.run_grants.proofs.put_together.Reads as put-together-reads
-use Rattle.run_steps.proofs.advance.Reads as advance-reads
 use Rattle.run_grants.proofs.advance_words.Goals as goal
 
 -- src/lib.rt:191:9
@@ -19,7 +17,7 @@ returns-then-frame-gt-MAX_FRAME_BYTES c = simp (lt-leb _ _ c.if-frame-gt-MAX_FRA
 
 -- src/lib.rt:209:13
 pub advance-head-requires : goal.advance-head-requires
-advance-head-requires c = let x = fitting_fits c.args.table.now c.args.frame.now c.args.run.constructs c.args.run.passes c.args.run.values c.args.reading.now (head_of c.args.run) (sym (length-map c.args.run.constructs (λ (x : ℕ). x)) ∙ c.well-formed.1.1.1.0.1.1.1.1.1.1.1.0.1.0.1) (sym (length-map c.args.run.passes (λ (x : ℕ). x)) ∙ c.well-formed.1.1.1.0.1.1.1.1.1.1.1.1.0.1.0.1) (sym c.fits.ensures ∙ c.if-fits.true) in (x.0, c.if-frame-gt-MAX_FRAME_BYTES.false, x.1)
+advance-head-requires c = let x = fitting_fits c.args.table.now c.args.frame.now c.args.run.constructs c.args.run.passes c.args.run.values c.args.reading.now (head_of c.args.run) (sym (length-map c.args.run.constructs (λ (x : ℕ). x)) ∙ search rules) (sym (length-map c.args.run.passes (λ (x : ℕ). x)) ∙ search rules) (sym c.fits.ensures ∙ c.if-fits.true) in (x.0, c.if-frame-gt-MAX_FRAME_BYTES.false, x.1)
 
 -- src/lib.rt:219:21
 pub overflow_sub-taken : goal.overflow_sub-taken

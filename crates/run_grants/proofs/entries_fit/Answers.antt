@@ -1,10 +1,8 @@
 use Prim.Native.Nat.{◌-◌, ◌≤◌}
 use native.Mathlib.Omega.{arith}
-use borrow.Author.Tests.{not-true, not-false}
-use mathlib.Core.Path.{◌≡◌, refl, sym, ◌∙◌}
+use mathlib.Core.Path.{refl, sym, ◌∙◌}
 use Rattle.basis.specs.Limits.{max_entries}
 use Rattle.run_grants.proofs.Fitting.{entries_turn, entries_stop, entries_none}
-use Rattle.run_grants.proofs.entry_fits.Reads as entry-fits-reads
 use Rattle.run_grants.proofs.entries_fit.Goals as goal
 
 -- src/lib.rt:67:5
@@ -25,7 +23,7 @@ bounds-passes-left c = omega (arith, c.loop-left-test.true, c.loop-left.invarian
 
 -- src/lib.rt:70:13
 pub returns-then-not-entry_fits : goal.returns-then-not-entry_fits
-returns-then-not-entry_fits c = sym (sym c.loop-left.invariant.1 ∙ entries_stop c.args.table.now c.args.bits c.args.constructs.now c.args.passes.now c.loop-left.left c.loop-left-test.true (sym c.entry_fits.ensures ∙ not-true c.entry_fits.result c.if-not-entry_fits.true))
+returns-then-not-entry_fits c = sym (sym c.loop-left.invariant.1 ∙ entries_stop c.args.table.now c.args.bits c.args.constructs.now c.args.passes.now c.loop-left.left c.loop-left-test.true (sym c.entry_fits.ensures ∙ c.if-not-entry_fits.true))
 
 -- src/lib.rt:67:5
 pub loop-left-smaller : goal.loop-left-smaller
@@ -33,7 +31,7 @@ loop-left-smaller c = omega (arith, c.loop-left-test.true)
 
 -- src/lib.rt:67:5
 pub loop-left-preserved : goal.loop-left-preserved
-loop-left-preserved c = ((let z : c.loop-left.left - 1 ≤ max_entries = omega (arith, c.loop-left.invariant.0) in z), entries_turn c.args.table.now c.args.bits c.args.constructs.now c.args.passes.now c.loop-left.left c.loop-left-test.true (sym c.entry_fits.ensures ∙ not-false c.entry_fits.result c.if-not-entry_fits.false) ∙ c.loop-left.invariant.1)
+loop-left-preserved c = ((let z : c.loop-left.left - 1 ≤ max_entries = omega (arith, c.loop-left.invariant.0) in z), entries_turn c.args.table.now c.args.bits c.args.constructs.now c.args.passes.now c.loop-left.left c.loop-left-test.true (sym c.entry_fits.ensures ∙ c.if-not-entry_fits.false) ∙ c.loop-left.invariant.1)
 
 -- src/lib.rt:56:1
 pub returns : goal.returns

@@ -1,8 +1,7 @@
 use Prim.Native.Nat.{◌≤◌}
-use mathlib.Core.Path.{◌≡◌, ◌∙◌}
+use mathlib.Core.Path.{◌≡◌}
 use Rattle.basis.specs.Limits.{max_entries}
 use Rattle.run_grants.specs.Runs.{entries_fit}
-use Rattle.run_grants.proofs.entry_fits.Reads as entry-fits-reads
 use Rattle.run_grants.proofs.entries_fit.Given as goal
 
 abbrev pub invariant-loop-left : goal.invariant-loop-left

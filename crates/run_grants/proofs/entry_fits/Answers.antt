@@ -1,7 +1,6 @@
 use lib.Dec.{ltb}
 use mathlib.Core.Path.{ap}
 use borrow.Author.Tests.{lt-ltb, le-ltb, le-leb, lt-leb, eq-eqb, ne_eqb}
-use Rattle.table_layout.proofs.word.Reads as word-reads
 use Rattle.run_grants.proofs.entry_fits.Goals as goal
 
 -- src/lib.rt:46:13

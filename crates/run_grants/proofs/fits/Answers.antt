@@ -1,7 +1,5 @@
 use Rattle.run_grants.specs.Runs.{fitting}
 use borrow.Author.Tests.{le-leb, lt-leb}
-use Rattle.run_grants.proofs.entries_fit.Reads as entries-fit-reads
-use Rattle.run_grants.proofs.room_fits.Reads as room-fits-reads
 use Rattle.run_grants.proofs.fits.Goals as goal
 
 -- src/lib.rt:105:9
