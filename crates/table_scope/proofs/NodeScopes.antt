@@ -22,7 +22,8 @@ use Rattle.table_layout.specs.declared.Construct.{Construct}
 use Rattle.table_wellformed.specs.Checks.{size_at}
 use Rattle.table_wellformed.specs.Rules.{body, rule_end, binder_of}
 use Rattle.table_structure.proofs.Facts.{Laid}
-use Rattle.table_structure.proofs.PartLaws.{parts_of, tiled}
+use Rattle.table_structure.proofs.PartLaws.{parts_of}
+use Rattle.table_structure.proofs.Tilings.{tiled}
 use Rattle.table_structure.proofs.Owners.{part_within}
 use Rattle.table_structure.proofs.StaticLaw.{case_listed}
 use Rattle.table_structure.proofs.Binding.{Bound, Visible, bound_in, top_members}

@@ -12,7 +12,8 @@ use Rattle.table_layout.proofs.Views.{Parted, parted}
 use Rattle.table_wellformed.specs.Laid.{laid}
 use Rattle.table_structure.proofs.Tiles.{Tiles as Row, none, more}
 use Rattle.table_structure.proofs.Facts.{Laid, facts}
-use Rattle.table_structure.proofs.PartLaws.{Tiled, tiled}
+use Rattle.table_structure.proofs.PartLaws.{Tiled}
+use Rattle.table_structure.proofs.Tilings.{tiled}
 use Rattle.table_structure.proofs.RuleLaws.{rule_fact}
 use Rattle.table_structure.proofs.NodeFacts.{use_names, body_exists, missing_past}
 use Rattle.table_weights.specs.Ruled.{size_at, Tiles, Filled, Ruled}

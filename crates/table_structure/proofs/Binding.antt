@@ -27,7 +27,8 @@ use Rattle.table_wellformed.specs.Rules.{body, rule_end, binder_of, named_back, 
 use Rattle.table_wellformed.proofs.Walks.{one_step, at_once}
 use Rattle.table_structure.proofs.Facts.{Laid, each, lt_of_ne}
 use Rattle.table_structure.proofs.Tiles.{Tiles, none, more}
-use Rattle.table_structure.proofs.PartLaws.{Tiled, tiled}
+use Rattle.table_structure.proofs.PartLaws.{Tiled}
+use Rattle.table_structure.proofs.Tilings.{tiled}
 use Rattle.table_structure.proofs.RuleLaws.{next_begins, last_ends, rule_fact, rule_within}
 use Rattle.term_evaluation.proofs.Reading.{OperationReads, TermReads, Reads}
 

@@ -2,6 +2,7 @@
 pub mod Tiles
 pub mod Facts
 pub mod PartLaws
+pub mod Tilings
 pub mod RuleLaws
 pub mod Owners
 pub mod StaticLaw

@@ -15,7 +15,8 @@ use Rattle.table_wellformed.specs.Checks.{size_at}
 use Rattle.table_wellformed.specs.Rules.{body, rule_end}
 use Rattle.table_structure.proofs.Tiles.{Holds, Apart, same, before, behind, within, apart, covered}
 use Rattle.table_structure.proofs.Facts.{Laid, lt_of_ne}
-use Rattle.table_structure.proofs.PartLaws.{parts_of, tiled}
+use Rattle.table_structure.proofs.PartLaws.{parts_of}
+use Rattle.table_structure.proofs.Tilings.{tiled}
 use Rattle.table_structure.proofs.RuleLaws.{rule_of, rule_fact, rules_apart}
 
 -- p is a part of construct o

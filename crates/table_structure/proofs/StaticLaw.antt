@@ -12,7 +12,7 @@ use native.Mathlib.Omega.{arith}
 use lib.Dec.{ltb, eqb}
 use lib.IntN.{ℤ, pos, negsuc}
 use lib.ListN.{length, take}
-use Rattle.basis.specs.Bits.{Bits, value}
+use Rattle.basis.specs.Bits.{Bits}
 use Rattle.basis.specs.Patterns.{pattern_value}
 use Rattle.basis.specs.Counts.{Allows, exactly}
 use Rattle.basis.proofs.Booleans.{which, picked}
