@@ -7,4 +7,4 @@ use Rattle.songrafter.proofs.tell_field.Goals as goal
 
 -- src/lib.rt:212:1
 pub returns-in-Found : goal.returns-in-Found
-returns-in-Found c = (sym (ap number_of c.found-1.given.1), c.put_four.ensures ∙ sym (ap (λ (x : Answer). sets c.args.field.now 0 (told x)) c.found-1.given.1))
+returns-in-Found c = (sym (ap number_of c.in-Found.is), c.put_four.ensures ∙ sym (ap (λ (x : Answer). sets c.args.field.now 0 (told x)) c.in-Found.is))
