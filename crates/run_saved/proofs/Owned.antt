@@ -1,7 +1,7 @@
 -- What the type of an array says of each element.
 -- Assumes nothing.
 use Prim.Native.Nat.{ℕ, zero, suc}
-use mathlib.Core.List.{List, [], ◌∷◌, map}
+use mathlib.Core.List.{List, [], ◌∷◌}
 use lib.ListN.{get_or}
 use base.Fml.{Fml}
 use mir.Val.{Val}
@@ -9,7 +9,7 @@ use denote.Shadow.{shadow}
 use denote.Array.{each}
 
 pub owned_each : {A : Type 0} (own : A → List Val → Fml) (P : A → Type 0) (d : A) → P d → ((x : A) (vs : List Val) → shadow (own x vs) → P x)
-    → (xs : List A) (us : List Val) → shadow (each A own (map (λ (x : A). x) xs) us) → (i : ℕ) → P (get_or xs i d)
+    → (xs : List A) (us : List Val) → shadow (each A own xs us) → (i : ℕ) → P (get_or xs i d)
 owned_each own P d p k [] us h i = p
 owned_each own P d p k (x ∷ xs) [] h i = absurd h
 owned_each own P d p k (x ∷ xs) (u ∷ us) h zero = k x (u ∷ []) h.0

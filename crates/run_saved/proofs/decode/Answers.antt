@@ -2,11 +2,6 @@ use mathlib.Core.Path.{sym, ap, ◌∙◌}
 use Rattle.run_saved.specs.Saved.{encoded}
 use Rattle.run_saved.proofs.Trips.{encoded_decoded}
 use Rattle.run_saved.proofs.Saving.{restored_is, restored_not, all_read}
-use Rattle.run_grants.proofs.closed.Reads as closed-reads
-use Rattle.run_saved.proofs.read.Reads as read-reads
-use Rattle.run_saved.proofs.read_values.Reads as read-values-reads
-use Rattle.run_saved.proofs.read_word.Reads as read-word-reads
-use Rattle.run_saved.proofs.read_words.Reads as read-words-reads
 use Rattle.run_saved.proofs.decode.Goals as goal
 
 -- src/lib.rt:134:9

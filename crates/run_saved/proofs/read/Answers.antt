@@ -1,6 +1,5 @@
 use Prim.Native.Nat.{◌+◌, ◌-◌}
 use native.Mathlib.Omega.{arith}
-use mathlib.Core.Path.{◌≡◌}
 use lib.ListN.{drop}
 use Rattle.run_saved.proofs.Bytes.{read_turn, read_small, read_none, read_all}
 use Rattle.run_saved.proofs.read.Goals as goal

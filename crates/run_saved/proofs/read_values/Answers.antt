@@ -5,13 +5,11 @@ use Rattle.basis.specs.Limits.{max_variables}
 use Rattle.run_saved.proofs.Patterns.{read_back}
 use Prim.Native.Nat.{◌+◌, ◌*◌, ◌-◌}
 use native.Mathlib.Omega.{arith}
-use mathlib.Core.Path.{◌≡◌, refl, sym, ap, ◌∙◌}
+use mathlib.Core.Path.{refl, sym, ap, ◌∙◌}
 use lib.ListN.{drop, set, replicate, length-set, length-replicate}
 use lib.Seq.{sets}
 use Rattle.run_saved.specs.Saved.{numbers, whole}
 use Rattle.run_saved.proofs.Bytes.{numbers_start, numbers_turn, numbers_end}
-use Rattle.run_saved.proofs.read.Reads as read-reads
-use Rattle.run_saved.proofs.signed.Reads as signed-Reads
 use Rattle.run_saved.proofs.read_values.Goals as goal
 
 -- src/lib.rt:109:5

@@ -1,11 +1,9 @@
 use Rattle.basis.specs.Limits.{max_variables}
 use Prim.Native.Nat.{◌+◌, ◌*◌, ◌-◌, ◌≤◌}
-use mathlib.Core.Path.{◌≡◌, ◌∙◌}
+use mathlib.Core.Path.{◌≡◌}
 use lib.ListN.{length, drop}
 use lib.Seq.{sets}
 use Rattle.run_saved.specs.Saved.{numbers, whole}
-use Rattle.run_saved.proofs.read.Reads as read-reads
-use Rattle.run_saved.proofs.signed.Reads as signed-Reads
 use Rattle.run_saved.proofs.read_values.Given as goal
 
 abbrev pub invariant-loop-i : goal.invariant-loop-i

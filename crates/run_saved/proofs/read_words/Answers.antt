@@ -1,12 +1,11 @@
 use Prim.Native.Nat.{ℕ, ◌+◌, ◌*◌, ◌-◌}
 use native.Mathlib.Omega.{arith}
-use mathlib.Core.Path.{◌≡◌, refl, sym, ap, ◌∙◌}
+use mathlib.Core.Path.{refl, sym, ap, ◌∙◌}
 use lib.ListN.{drop, set, replicate, length-set, length-replicate}
 use lib.Seq.{sets}
 use Rattle.basis.specs.Limits.{max_entries}
 use Rattle.run_saved.specs.Saved.{numbers, plain}
 use Rattle.run_saved.proofs.Bytes.{numbers_start, numbers_turn, numbers_end}
-use Rattle.run_saved.proofs.read_word.Reads as read-word-reads
 use Rattle.run_saved.proofs.read_words.Goals as goal
 
 -- src/lib.rt:53:5

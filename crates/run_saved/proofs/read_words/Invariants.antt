@@ -1,10 +1,9 @@
 use Prim.Native.Nat.{◌+◌, ◌*◌, ◌-◌, ◌≤◌}
-use mathlib.Core.Path.{◌≡◌, ◌∙◌}
+use mathlib.Core.Path.{◌≡◌}
 use lib.ListN.{length, drop}
 use lib.Seq.{sets}
 use Rattle.basis.specs.Limits.{max_entries}
 use Rattle.run_saved.specs.Saved.{numbers, plain}
-use Rattle.run_saved.proofs.read_word.Reads as read-word-reads
 use Rattle.run_saved.proofs.read_words.Given as goal
 
 abbrev pub invariant-loop-i : goal.invariant-loop-i

@@ -3,8 +3,6 @@ use Prim.Native.Nat.{◌-◌, ◌^◌, suc}
 use mathlib.Core.Path.{◌≡◌, ap, sym, ◌∙◌}
 use native.Mathlib.Omega.{arith}
 use lib.IntN.{negsuc}
-use Rattle.run_saved.proofs.negative.Reads as negative-reads
-use Rattle.term_integers.proofs.signed.Reads as signed-Reads
 use Rattle.run_saved.proofs.signed.Goals as goal
 
 -- src/lib.rt:81:1

@@ -6,8 +6,6 @@ use mathlib.Core.Bool.{true, false, not}
 use native.Mathlib.Omega.{arith}
 use lib.IntN.{ℤ, nat_abs}
 use lib.Signed.{non_neg}
-use Rattle.term_integers.proofs.magnitude.Reads as magnitude-reads
-use Rattle.term_integers.proofs.negative.Reads as negative-reads
 use Rattle.run_saved.proofs.unsigned.Goals as goal
 
 -- src/lib.rt:97:33
