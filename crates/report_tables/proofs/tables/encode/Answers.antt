@@ -13,4 +13,4 @@ pub returns-in-Wrong : goal.returns-in-Wrong
 returns-in-Wrong c = let s = c in (λ l base e st n. wrong_header s.args.text.now c.header.result _ base c.header.ensures c.in-Wrong.is e, s.requires)
 
 pub returns-in-Rules : goal.returns-in-Rules
-returns-in-Rules c = let s = c in text_encoded s.args.text.now c.encode_from.new.1.1.0 c.header.result _ c.encode_from.result c.if-text-gt-MAX_TEXT_BYTES.false c.header.ensures c.in-Rules.is c.encode_from.ensures
+returns-in-Rules c = let s = c in text_encoded s.args.text.now c.encode_from.new.words c.header.result _ c.encode_from.result c.if-text-gt-MAX_TEXT_BYTES.false c.header.ensures c.in-Rules.is c.encode_from.ensures

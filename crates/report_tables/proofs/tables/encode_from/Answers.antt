@@ -6,4 +6,4 @@ use Rattle.report_tables.specs.Tables.{Encoding}
 use Rattle.report_tables.proofs.tables.encode_from.Goals as goal
 
 pub returns : goal.returns
-returns c = let s = c in subst (λ (xs : List ℕ). Encoding xs c.encode_rules.new.1.0 c.encode_rules.result) (rest s.args.text.now s.args.base) c.encode_rules.ensures
+returns c = let s = c in subst (λ (xs : List ℕ). Encoding xs c.encode_rules.new.words c.encode_rules.result) (rest s.args.text.now s.args.base) c.encode_rules.ensures
