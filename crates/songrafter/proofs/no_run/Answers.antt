@@ -3,7 +3,6 @@ use mathlib.Core.Bool.{Bool, cond}
 use borrow.Author.Tests.{lt-ltb, le-ltb}
 use lib.ListN.{length}
 use Rattle.basis.specs.Limits.{max_frame_bytes}
-use Rattle.songrafter.proofs.put_count.Reads as put-count-reads
 use Rattle.songrafter.proofs.no_run.Goals as goal
 
 -- src/lib.rt:159:9

@@ -3,7 +3,6 @@ use mathlib.Core.Path.{ap, ◌∙◌}
 use mathlib.Core.List.{List}
 use lib.ListN.{set}
 use Rattle.songrafter.proofs.put.Reads as put_reads
-use Rattle.songrafter.proofs.put_four.Reads as put-four-reads
 use Rattle.songrafter.proofs.put_five.Goals as goal
 
 pub returns : goal.returns

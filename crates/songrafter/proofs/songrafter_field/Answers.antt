@@ -3,7 +3,6 @@ use lib.Seq.{sets}
 use Rattle.run_fields.specs.Fields.{number_of, told}
 use Rattle.run_fields.specs.declared.Answer.{Answer}
 use Rattle.run_fields.proofs.field.Reads as field_reads
-use Rattle.songrafter.proofs.tell_field.Reads as tell-field-reads
 use Rattle.songrafter.proofs.songrafter_field.Goals as goal
 
 -- src/lib.rt:232:1

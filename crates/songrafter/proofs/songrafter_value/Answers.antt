@@ -4,7 +4,6 @@ use lib.ListN.{get_or}
 use Rattle.term_integers.proofs.Laws.{back}
 use Rattle.run_grants.specs.declared.Run.{Run}
 use Rattle.songrafter.proofs.CallLaws.{values_end}
-use Rattle.run_saved.proofs.decode.Reads as decode-reads
 use Rattle.songrafter.proofs.songrafter_value.Goals as goal
 
 -- src/lib.rt:236:9

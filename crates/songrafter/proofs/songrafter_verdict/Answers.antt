@@ -1,6 +1,5 @@
 use mathlib.Core.Path.{ap}
 use Rattle.run_grants.specs.declared.Run.{Run}
-use Rattle.run_saved.proofs.decode.Reads as decode-reads
 use Rattle.songrafter.proofs.songrafter_verdict.Goals as goal
 
 -- src/lib.rt:202:1

@@ -3,8 +3,6 @@ use lib.Seq.{sets}
 use Rattle.text_admission.specs.Answers.{number_of}
 use Rattle.text_admission.specs.declared.Admission.{Admission}
 use Rattle.text_admission.specs.Answers.{told}
-use Rattle.songrafter.proofs.put_five.Reads as put-five-reads
-use Rattle.songrafter.proofs.tell_clash.Reads as tell-clash-reads
 use Rattle.songrafter.proofs.tell.Goals as goal
 
 -- src/lib.rt:54:1

@@ -2,7 +2,6 @@ use mathlib.Core.Path.{sym, ap, ◌∙◌}
 use lib.Seq.{sets}
 use Rattle.table_conflicts.specs.declared.Clash.{Clash}
 use Rattle.text_admission.specs.Answers.{told_clash}
-use Rattle.songrafter.proofs.put_five.Reads as put-five-reads
 use Rattle.songrafter.proofs.tell_clash.Goals as goal
 
 -- src/lib.rt:39:1

@@ -2,7 +2,6 @@ use mathlib.Core.Path.{sym, ap, ◌∙◌}
 use lib.Seq.{sets}
 use Rattle.run_fields.specs.Fields.{number_of, told}
 use Rattle.run_fields.specs.declared.Answer.{Answer}
-use Rattle.songrafter.proofs.put_four.Reads as put-four-reads
 use Rattle.songrafter.proofs.tell_field.Goals as goal
 
 -- src/lib.rt:212:1
