@@ -119,7 +119,7 @@ pub data Kiosk (table frame : List ℕ) : (run reading : List ℕ) (gs : List Gr
 
 -- "A grant handed the run's own table, frame and reading is never refused": taken[0] is then "the smaller of its grant and the steps still missing
 -- until decided", `needed` in all and `before` granted before. The refused ones "count 0 and change nothing".
-unfoldable pub EachCounts : (needed before : ℕ) {table frame : List ℕ} (run reading : List ℕ) {gs : List Grant} {run' reading' : List ℕ} → Kiosk table frame run reading gs run' reading' → Type 0
+unfoldable pub EachCounts : (needed : ℕ) {table frame : List ℕ} (before : ℕ) (run reading : List ℕ) {gs : List Grant} {run' reading' : List ℕ} → Kiosk table frame run reading gs run' reading' → Type 0
 EachCounts needed before run reading no_call = Unit {0}
 EachCounts needed before run reading (own_call reading₁ run₁ taken taken₁ steps number g cs) =
     (number ≡ 0) × (taken₁ ≡ set taken 0 (min steps (needed - before))) × EachCounts needed (before + steps) run₁ reading₁ cs
