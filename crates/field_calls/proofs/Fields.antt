@@ -1,9 +1,9 @@
 -- From what is told of a run's fields to the calls.
 -- Assumes nothing.
-use Prim.Native.Nat.{ℕ, ◌<◌}
+use Prim.Native.Nat.{ℕ}
 use native.Mathlib.Omega.{arith}
-use mathlib.Core.Path.{◌≡◌, refl, sym, ◌∙◌, ap, subst}
-use mathlib.Core.List.{List, [], ◌∷◌}
+use mathlib.Core.Path.{◌≡◌, sym, subst}
+use mathlib.Core.List.{List}
 use lib.ListN.{length}
 use lib.Seq.{sets}
 use Rattle.run_grants.specs.declared.Run.{Run}
@@ -12,14 +12,14 @@ use Rattle.run_fields.specs.Fields.{field_of, number_of, told}
 use Rattle.run_fields.specs.declared.Answer.{Answer}
 use Rattle.run_matcher.specs.Opening as opening
 use Rattle.run_matcher.specs.declared.Answer as matcher
-use Rattle.run_matcher.specs.Conditions.{Grant, run_kept, reading_kept, here}
+use Rattle.run_matcher.specs.Conditions.{run_kept, here}
 use Rattle.run_readings.specs.Told.{Filled, Told}
 use Rattle.run_readings.proofs.Filling.{each_told}
 use Rattle.run_readings.proofs.Told.{told_of}
-use Rattle.songrafter.specs.Calls.{Admits, Opens, number_with_room, TellsField}
-use Rattle.conditions.specs.Calls.{Kiosk, Lived, Life}
+use Rattle.songrafter.specs.Calls.{number_with_room}
+use Rattle.conditions.specs.Calls.{Life}
 use Rattle.conditions.proofs.Calls.{calls_3}
-use Rattle.field_calls.specs.Fields.{Tells, FieldsOf, FieldCalls}
+use Rattle.field_calls.specs.Fields.{Tells, FieldCalls}
 
 -- an opening that answers 0 has opened a run
 opened : (ws fs rs : List ℕ) (room : ℕ) (a : matcher.Answer) → opening.Answered ws fs rs a → 0 ≡ number_with_room (opening.number_of a) room → opening.Opened ws fs rs

@@ -1,7 +1,7 @@
 -- Document 01's bench sheet, K1 to K11: a table from text to answer, steps, values and reading. `Says` is what is claimed of a row, from the promises of
 -- `admission::admit`, `run_matcher::open` and `run_grants::grant`; `sheet` (`proofs/Sheet.antt`) proves it of every row.
 -- Assumes nothing.
-use Rattle.std.specs.Prelude.{ℕ, ◌+◌, ◌*◌, ◌-◌, ◌≤◌, ◌≡◌, List, [], ◌∷◌, ◌++◌, map, pos, length, drop, replicate}
+use Rattle.std.specs.Prelude.{ℕ, ◌*◌, ◌-◌, ◌≤◌, ◌≡◌, List, [], ◌∷◌, ◌++◌, map, pos, length, drop, replicate}
 use Prim.Native.Char.{code}
 use Prim.Native.String.{String, [] as end, ◌∷◌ as ◌then◌}
 use Rattle.std.proofs.Math.Option.{some}
@@ -14,7 +14,7 @@ use Rattle.admission.specs.Promised.{Promised}
 use Rattle.run_matcher.specs.Opening.{Opened}
 use Rattle.run_matcher.specs.Conditions.{Grant, granted, Kept, run_kept, reading_kept, OthersRefused, start, here}
 
--- ---- texts: "Each text is `dogma_v1 utf_8`, LF, LF, then the rules from byte 16."
+-- ---- texts: "Each text is `dogma_v1 utf-8`, LF, LF, then the rules from byte 16."
 
 -- a character below 128 is one byte
 unfoldable pub bytes : String → List ℕ
