@@ -41,7 +41,7 @@ fn first_line(out: Stdout) {
         dogma_v1 utf-8\n\
         and nothing else: no blank at its start or end, no byte order mark\n\
         in front of it. (More blanks between the two words, and capitals in\n\
-        utf_8, are right too.)\n\
+        utf-8, are right too.)\n\
         What to change: write it so. An empty line must end the header,\n\
         before the rules.\n",
     );

@@ -122,7 +122,8 @@ fn judge_conflicts(table: &[u32], first: &[u64], follow: &[u64], prediction: &[u
     judge_weight(table, first)
 }
 
-// 9 to 13: the first construct whose repeated body may be empty
+// 9 to 13: the first construct whose repeated body may be empty. Not inlined, so that its frame does not stand on that of the sets' making.
+#[inline(never)]
 fn judge_bodies(table: &[u32], first: &[u64], follow: &[u64], prediction: &[u64]) -> Judgement
     requires { Passed8 table.now × (length first.now ≡ family_words) × (length follow.now ≡ family_words) × (length prediction.now ≡ family_words) × FirstSets table.now first.now × FollowSets table.now follow.now × PredictionSets table.now prediction.now }
     ensures { Judged table.now result }
