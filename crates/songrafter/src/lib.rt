@@ -2,13 +2,14 @@
 // answered or refused by document 01's numbers. include/songrafter.h says the same in C.
 #![tactic(auto)]
 
-ghost use Rattle.std.specs.Prelude.{◌≡◌, [], ◌∷◌, length, get_or, set, pos};
+ghost use Rattle.std.specs.Prelude.{true, eqb, ◌≡◌, [], ◌∷◌, length, get_or, set, pos};
 ghost use Rattle.std.proofs.lemmas.List.Edits.{sets};
 ghost use Rattle.text_admission.specs.Answers.{number_of};
 ghost use Rattle.run_matcher.specs.Opening.{number_of as opening_number};
 ghost use Rattle.table_layout.specs.Places.{table_of};
 ghost use Rattle.run_grants.specs.Runs.{after, grant_of, number_of as grant-number, taken_of};
-ghost use Rattle.run_saved.specs.Saved.{restored};
+ghost use Rattle.run_saved.specs.Saved.{restored, stored, saved_bytes};
+ghost use Rattle.run_matcher.specs.Opening.{run_given, Answered};
 ghost use Rattle.run_fields.specs.Fields.{number_of as field-number, told as told-field};
 ghost use Rattle.songrafter.specs.Calls.{Admits, number_with_room, Opens, no_run_number, Grants, TellsField, version};
 ghost use Rattle.text_admission.specs.Answers.{told_clash, told};
@@ -113,14 +114,39 @@ fn with_room(number: usize, room: usize) -> usize
     number
 }
 
+// The answer alone: its frame has the room of the sets, and is gone when a run is made.
+#[inline(never)]
+fn answer_of(table: &[u32], frame: &[u8], reading: &[u32]) -> Answer
+    ensures { Answered table.now frame.now reading.now result }
+{
+    let opening = run_matcher::open(table, frame, reading);
+    opening.answer
+}
+
+fn run_of(answer: Answer) -> Run
+    ensures { result ≡ run_given answer }
+{
+    match answer {
+        Answer::Unsound => run_grants::closed(),
+        Answer::LongFrame => run_grants::closed(),
+        Answer::SmallReading => run_grants::closed(),
+        Answer::Opened => run_grants::opened(),
+    }
+}
+
+#[inline(never)]
+fn put_run(answer: Answer, run: &mut [u8]) -> bool
+    ensures { (run.new ≡ stored (run_given answer) run.old) × (result ≡ eqb (length run.old) saved_bytes) × (result ≡ true → restored run.new ≡ run_given answer) }
+{
+    run_saved::encode(run_of(answer), run)
+}
+
 pub fn songrafter_open(table: &[u32], frame: &[u8], reading: &[u32], run: &mut [u8]) -> usize
     ensures { Opens table.now frame.now reading.now run.old run.new result }
 {
-    let opening = run_matcher::open(table, frame, reading);
-    let answer = opening.answer;
-    let opened = opening.run;
+    let answer = answer_of(table, frame, reading);
     let room = run.len();
-    run_saved::encode(opened, run);
+    put_run(answer, run);
     with_room(opening_number(answer), room)
 }
 

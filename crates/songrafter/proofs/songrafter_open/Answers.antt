@@ -9,4 +9,4 @@ use Rattle.songrafter.proofs.songrafter_open.Goals as goal
 
 -- src/lib.rt:108:1
 pub returns : goal.returns
-returns c = let run = c.args.run.now in record { answer = c.open-opening.result.answer; answered = c.open-opening.ensures.1; number_is = c.with_room.ensures ∙ ap (λ (n : ℕ). number_with_room n (length run)) c.opening_number.ensures; run_is = c.encode.ensures.0 ∙ ap (λ (r : Run). stored r run) c.open-opening.ensures.0; run_length = c.encode.auto.out; read_back = λ h. c.encode.ensures.2 (c.encode.ensures.1 ∙ eq-eqb (length run) saved_bytes h) ∙ c.open-opening.ensures.0 }
+returns c = let run = c.args.run.now in record { answer = c.answer_of-answer.result; answered = c.answer_of-answer.ensures; number_is = c.with_room.ensures ∙ ap (λ (n : ℕ). number_with_room n (length run)) c.opening_number.ensures; run_is = c.put_run.ensures.0; run_length = c.put_run.auto.run; read_back = λ h. c.put_run.ensures.2 (c.put_run.ensures.1 ∙ eq-eqb (length run) saved_bytes h) }
