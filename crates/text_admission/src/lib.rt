@@ -128,6 +128,7 @@ fn is_admitted(answer: Admission) -> bool
 }
 
 // An admitted grammar's table goes to the caller.
+#[tactic(auto, using(crate::proofs::Handing::copied, crate::proofs::Handing::untouched))]
 fn handed_over(answer: Admission, words: &[u32], table: &mut [u32]) -> Admission
     requires { (length words.now ≡ table_words) × (table_words ≤ length table.old) }
     ensures { (result ≡ answer) × HandedOver answer words.now table.old table.new }

@@ -55,6 +55,7 @@ fn sign_kind(b: u8) -> Kind
     }
 }
 
+#[tactic(auto, using(text_header::proofs::Runs::span_grows), unfolding(crate::specs::Tokens::name_token))]
 fn name(text: &[u8], at: usize) -> Token
     ensures { result ≡ name_token text.now at }
 {

@@ -15,7 +15,7 @@ shape_of-reading-then-run-ne0 c = c.loop-left.invariant.2
 
 -- src/lib.rt:352:13
 pub returns-then-run-ne0 : goal.returns-then-run-ne0
-returns-then-run-ne0 c = sym (steps_stay c.args.table.now c.args.frame.now c.loop-left.left c.loop-left.constructs c.loop-left.passes c.loop-left.values c.loop-left.reading c.loop-left.run c.if-run-ne0.true) ∙ c.loop-left.invariant.0
+returns-then-run-ne0 c = sym (steps_stay c.args.table.now c.args.frame.now c.loop-left.left c.loop-left.constructs c.loop-left.passes c.loop-left.values c.loop-left.reading c.loop-left.run (λ e. omega (arith, e, c.if-run-ne0.true))) ∙ c.loop-left.invariant.0
 
 -- src/lib.rt:354:9
 pub step-run-requires : goal.step-run-requires

@@ -15,7 +15,7 @@ returns-then-text-eq0 c = refused_early 2 0 c.refused-then-text-eq0.ensures (wro
 
 -- src/lib.rt:257:9
 pub returns-then-text-gt-MAX_TEXT_BYTES : goal.returns-then-text-gt-MAX_TEXT_BYTES
-returns-then-text-gt-MAX_TEXT_BYTES c = refused_early 2 0 c.refused-then-text-gt-MAX_TEXT_BYTES.ensures (wrong_size c.if-table-lt-TABLE_WORDS.false (inr c.if-text-gt-MAX_TEXT_BYTES.true)) refl
+returns-then-text-gt-MAX_TEXT_BYTES c = refused_early 2 0 c.refused-then-text-gt-MAX_TEXT_BYTES.ensures (wrong_size c.if-table-lt-TABLE_WORDS.false (inr (omega (arith, c.if-text-gt-MAX_TEXT_BYTES.true)))) refl
 
 -- src/lib.rt:260:34
 pub refused-requires-in-Wrong : goal.refused-requires-in-Wrong
@@ -23,12 +23,12 @@ refused-requires-in-Wrong c = (omega arith, omega (arith, wrong_inside c.args.te
 
 -- src/lib.rt:261:33
 pub admit_from-requires : goal.admit_from-requires
-admit_from-requires c = (rules_inside c.args.text.now c.header.result _ c.header.ensures c.in-Rules.is, c.if-text-gt-MAX_TEXT_BYTES.false, c.if-table-lt-TABLE_WORDS.false)
+admit_from-requires c = (rules_inside c.args.text.now c.header.result _ c.header.ensures c.in-Rules.is, omega (arith, c.if-text-gt-MAX_TEXT_BYTES.false), c.if-table-lt-TABLE_WORDS.false)
 
 -- src/lib.rt:247:1
 pub returns-in-Wrong : goal.returns-in-Wrong
-returns-in-Wrong c = at_header c.args.text.now c.args.table.now c.header.result _ c.refused-in-Wrong.result c.header.ensures c.in-Wrong.is c.refused-in-Wrong.ensures c.if-table-lt-TABLE_WORDS.false c.if-text-eq0.false c.if-text-gt-MAX_TEXT_BYTES.false
+returns-in-Wrong c = at_header c.args.text.now c.args.table.now c.header.result _ c.refused-in-Wrong.result c.header.ensures c.in-Wrong.is c.refused-in-Wrong.ensures c.if-table-lt-TABLE_WORDS.false c.if-text-eq0.false (omega (arith, c.if-text-gt-MAX_TEXT_BYTES.false))
 
 -- src/lib.rt:247:1
 pub returns-in-Rules : goal.returns-in-Rules
-returns-in-Rules c = at_rules c.args.text.now c.args.table.now c.admit_from.new.table c.header.result _ c.admit_from.result c.header.ensures c.in-Rules.is c.if-table-lt-TABLE_WORDS.false c.if-text-eq0.false c.if-text-gt-MAX_TEXT_BYTES.false c.admit_from.ensures
+returns-in-Rules c = at_rules c.args.text.now c.args.table.now c.admit_from.new.table c.header.result _ c.admit_from.result c.header.ensures c.in-Rules.is c.if-table-lt-TABLE_WORDS.false c.if-text-eq0.false (omega (arith, c.if-text-gt-MAX_TEXT_BYTES.false)) c.admit_from.ensures

@@ -1,10 +1,11 @@
+use native.Mathlib.Omega.{arith}
 use Rattle.text_parsing.proofs.Steps.{paren_reads, paren_deep}
 use Rattle.text_parsing.proofs.reading.open.Goals as goal
 
 -- src/reading.rt:92:9
 pub returns-then-d-lt-MAX_NESTING : goal.returns-then-d-lt-MAX_NESTING
-returns-then-d-lt-MAX_NESTING c = paren_reads c.if-d-lt-MAX_NESTING.true c.want.ensures.0
+returns-then-d-lt-MAX_NESTING c = paren_reads (omega (arith, c.if-d-lt-MAX_NESTING.true)) c.want.ensures.0
 
 -- src/reading.rt:88:1
 pub returns : goal.returns
-returns c = paren_deep c.if-d-lt-MAX_NESTING.false c.failed.ensures
+returns c = paren_deep (omega (arith, c.if-d-lt-MAX_NESTING.false)) c.failed.ensures
