@@ -217,10 +217,8 @@ fn take_all(
     ensures { result ≤ max_line + 2 }
 {
     let mut held = before;
-    let mut i = 0;
-    while i < piece.len() {
+    for i in 0..piece.len() {
         held = take(out, table, weight, line, held, piece[i]);
-        i += 1;
     }
     held
 }
@@ -257,9 +255,7 @@ fn lines(
     ensures { result ≤ max_line + 2 }
 {
     let mut held = 0;
-    let mut turns = u64::MAX;
-    while 0 < turns {
-        turns -= 1;
+    for _turns in 0..u64::MAX {
         let step = piece(out, from, table, weight, line, held);
         held = step.held;
         if step.ended {

@@ -8,7 +8,7 @@ ghost use Rattle.bench_hexadecimal.specs.Lines.{is_frame, line_of, number_of, by
 
 use basis::MAX_FRAME_BYTES;
 use text_header::Class;
-use text_header::bytes::{both, digit_value};
+use text_header::bytes::digit_value;
 use text_header::spans::span;
 
 // The characters that a line may have.
@@ -36,13 +36,15 @@ pub fn number(line: Line) -> u64
     }
 }
 
+#[tactic(auto, unfolding(crate::specs::Lines::is_frame))]
 fn whole(line: &[u8]) -> bool
     ensures { result ≡ is_frame line.now }
 {
     let digits = span(Class::Digit(16), line, 0);
-    both(line.len() % 2 == 0, digits == line.len())
+    line.len() % 2 == 0 && digits == line.len()
 }
 
+#[tactic(auto, unfolding(crate::specs::Lines::line_of))]
 pub fn classify(line: &[u8]) -> Line
     ensures { result ≡ line_of line.now }
 {
@@ -58,7 +60,7 @@ pub fn classify(line: &[u8]) -> Line
 fn low_bits(digit: u8) -> u8
     ensures { (result ≡ digit_of digit % 16) × (result < 16) }
 {
-    digit_value(digit) % 16
+    digit_value(digit).unwrap_or(0)
 }
 
 fn byte(high: u8, low: u8) -> u8
@@ -75,9 +77,7 @@ pub fn decode(line: &[u8], bytes: &mut [u8])
     ensures { bytes.new ≡ sets bytes.old 0 (bytes_of line.now) }
 {
     let n = line.len() / 2;
-    let mut k = 0;
-    while k < n {
+    for k in 0..n {
         bytes[k] = byte(line[2 * k], line[2 * k + 1]);
-        k += 1;
     }
 }

@@ -7,14 +7,12 @@ use std::io::Stdout;
 // How many words can be one more, and leave the table laid out.
 fn changes(table: &mut [u32; TABLE_WORDS]) -> u64 {
     let mut still: u64 = 0;
-    let mut k = 0;
-    while k < TABLE_WORDS {
+    for k in 0..TABLE_WORDS {
         let w = table[k];
         if changed(table, k, w) {
             still = more(still);
         }
         case_tables::put(table, k, w);
-        k += 1;
     }
     still
 }

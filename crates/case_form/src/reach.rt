@@ -2,7 +2,6 @@
 use crate::printing::{number, text};
 use basis::{MAX_CONSTRUCTS, MAX_RULES};
 use std::io::Stdout;
-use table_reach::Recursion;
 
 fn header(table: &mut [u32; 2624], rules: u32, constructs: u32) {
     table[1] = rules;
@@ -27,10 +26,10 @@ fn construct(table: &mut [u32; 2624], i: usize, kind: u32, size: u32, operand: u
 fn report(out: Stdout, name: &[u8], table: &[u32; 2624]) {
     text(out, name);
     match table_reach::recursive_rule(table) {
-        Recursion::Rule(r) => {
+        Some(r) => {
             number(out, b": reaches itself: rule ", r);
         }
-        Recursion::None => {
+        None => {
             let weighing = table_weights::weigh(table);
             number(out, b": weight ", weighing.grammar as usize);
         }
@@ -76,21 +75,17 @@ fn later_cycle(out: Stdout) {
 // r0 = r1 & r1; r1 = r2 & r2; … ; the last is a literal.
 fn chain(out: Stdout, rules: usize) {
     let mut table = [0u32; 2624];
-    let mut r = 0;
-    while r < 63 {
+    for r in 0..63 {
         if r + 1 < rules {
             rule(&mut table, r + 1, 3 * (r as u32) + 3);
             construct(&mut table, 3 * r, 2, 3, 0);
             construct(&mut table, 3 * r + 1, 5, 1, r as u32 + 1);
             construct(&mut table, 3 * r + 2, 5, 1, r as u32 + 1);
         }
-        r += 1;
     }
-    if 0 < rules {
-        if rules < 64 {
-            construct(&mut table, 3 * (rules - 1), 6, 1, 1);
-            header(&mut table, rules as u32, 3 * (rules as u32) - 2);
-        }
+    if 0 < rules && rules < 64 {
+        construct(&mut table, 3 * (rules - 1), 6, 1, 1);
+        header(&mut table, rules as u32, 3 * (rules as u32) - 2);
     }
     number(out, b"rules ", rules);
     report(out, b", each used twice by the one before", &table);

@@ -6,8 +6,7 @@ use basis::TABLE_WORDS;
 use std::io::Stdout;
 use table_conflicts::Clash;
 use table_first_follow::FAMILY_WORDS;
-use table_judge::Judgement;
-use table_reach::Recursion;
+use table_judge::Fault;
 
 fn text(out: Stdout, bytes: &[u8]) {
     let _ = out.write_all(bytes);
@@ -34,17 +33,17 @@ fn show_clash(out: Stdout, clash: Clash) {
     }
 }
 
-fn show_judgement(out: Stdout, judgement: Judgement) {
+fn show_judgement(out: Stdout, judgement: Result<usize, Fault>) {
     match judgement {
-        Judgement::EmptyBody { construct } => number(out, b" 9 at construct ", construct),
-        Judgement::Conflict { construct, clash } => {
+        Ok(weight) => number(out, b" weight ", weight),
+        Err(Fault::EmptyBody { construct }) => number(out, b" 9 at construct ", construct),
+        Err(Fault::Conflict { construct, clash }) => {
             number(out, b" 10 at construct ", construct);
             show_clash(out, clash);
         }
-        Judgement::Overweight => text(out, b" 11"),
-        Judgement::Unreached { rule } => number(out, b" 12 at rule ", rule),
-        Judgement::NoValue { construct } => number(out, b" 13 at construct ", construct),
-        Judgement::Passes { weight } => number(out, b" weight ", weight),
+        Err(Fault::Overweight) => text(out, b" 11"),
+        Err(Fault::Unreached { rule }) => number(out, b" 12 at rule ", rule),
+        Err(Fault::NoValue { construct }) => number(out, b" 13 at construct ", construct),
     }
 }
 
@@ -52,8 +51,8 @@ fn show_judgement(out: Stdout, judgement: Judgement) {
 fn show_form(out: Stdout, table: &[u32; TABLE_WORDS]) {
     if table_wellformed::laid(&table[..]) {
         match table_reach::recursive_rule(&table[..]) {
-            Recursion::Rule(rule) => number(out, b" 7 at rule ", rule),
-            Recursion::None => number(
+            Some(rule) => number(out, b" 7 at rule ", rule),
+            None => number(
                 out,
                 b" 8 at construct ",
                 table_sizes::first_oversized(&table[..]),
@@ -93,14 +92,12 @@ fn changed(table: &mut [u32; TABLE_WORDS], k: usize, w: u32) -> bool {
 // How many words can be one more, and leave the table sound.
 fn changes(table: &mut [u32; TABLE_WORDS]) -> usize {
     let mut still = 0;
-    let mut k = 0;
-    while k < TABLE_WORDS {
+    for k in 0..TABLE_WORDS {
         let w = table[k];
         if changed(table, k, w) {
             still = more(still);
         }
         case_tables::put(table, k, w);
-        k += 1;
     }
     still
 }
@@ -116,10 +113,8 @@ fn show(out: Stdout, name: &[u8], table: &mut [u32; TABLE_WORDS]) {
 }
 
 fn clear(table: &mut [u32; TABLE_WORDS]) {
-    let mut k = 0;
-    while k < TABLE_WORDS {
+    for k in 0..TABLE_WORDS {
         table[k] = 0;
-        k += 1;
     }
 }
 

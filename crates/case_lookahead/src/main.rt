@@ -1,7 +1,7 @@
 // The lookahead sets on the cases that document 01 singles out. A set is written as its eight words, word 0 first.
 #![tactic(auto)]
 
-use lookahead::{Common, Set, passes, spans};
+use lookahead::{Set, passes, spans};
 use std::io::Stdout;
 
 fn line(out: Stdout, text: &[u8]) {
@@ -27,23 +27,21 @@ fn ask(out: Stdout, text: &[u8], answer: bool) {
 fn show(out: Stdout, text: &[u8], set: Set) {
     let words = set.words;
     line(out, text);
-    let mut i = 0;
-    while i < 8 {
+    for i in 0..8 {
         line(out, b" ");
         let word = words[i];
         let _ = print!(out; "{word:x}");
-        i += 1;
     }
     line(out, b"\n");
 }
 
 fn least(out: Stdout, text: &[u8], a: Set, b: Set) {
     match lookahead::least_common(a, b) {
-        Common::Nothing => {
+        None => {
             line(out, text);
             line(out, b" none\n");
         }
-        Common::Least(n) => say(out, text, n),
+        Some(n) => say(out, text, n),
     }
 }
 

@@ -32,13 +32,11 @@ fn show_capture(out: Stdout, reading: &[u32; 512], k: usize) {
 
 // The words of the reading that were recorded.
 fn show_reading(out: Stdout, reading: &[u32; 512], captures: u64) {
-    let mut k: u64 = 0;
-    while k < 256 {
+    for k in 0u64..256 {
         if captures <= k {
             return;
         }
         show_capture(out, reading, k as usize);
-        k += 1;
     }
 }
 

@@ -23,7 +23,7 @@ fn show_answer(out: Stdout, answer: Answer) {
 fn complete(table: &mut [u32; TABLE_WORDS]) {
     let mut first = [0u64; 2056];
     if table_judge::formed(&table[..]) {
-        table_fill::complete(&mut table[..], &mut first);
+        let _ = table_fill::complete(&mut table[..], &mut first);
     }
 }
 

@@ -4,9 +4,9 @@
 ghost use Rattle.std.specs.Prelude.{◌^◌, ◌≤◌, ◌<◌};
 
 use std::io::Stdout;
-use term_evaluation::{Calculated, Counted, Tested};
-use term_sizes::Sized;
-use term_words::Kind;
+use term_evaluation::Allowed;
+use term_sizes::SizeError;
+use term_words::{Kind, TermError};
 
 fn text(out: Stdout, bytes: &[u8]) {
     let _ = out.write_all(bytes);
@@ -23,51 +23,55 @@ fn whole(out: Stdout, z: i64) {
     natural(out, term_integers::magnitude(z));
 }
 
-fn calculated(out: Stdout, name: &[u8], answer: Calculated) {
+fn wrong(out: Stdout, error: TermError) {
+    match error {
+        TermError::Malformed => text(out, b"malformed"),
+        TermError::Overflow => text(out, b"overflow"),
+    }
+}
+
+fn calculated(out: Stdout, name: &[u8], answer: Result<i64, TermError>) {
     text(out, name);
     match answer {
-        Calculated::Number(z) => whole(out, z),
-        Calculated::Malformed => text(out, b"malformed"),
-        Calculated::Overflow => text(out, b"overflow"),
+        Ok(z) => whole(out, z),
+        Err(error) => wrong(out, error),
     }
     text(out, b"\n");
 }
 
-fn counted(out: Stdout, name: &[u8], answer: Counted) {
+fn counted(out: Stdout, name: &[u8], answer: Result<Allowed, TermError>) {
     text(out, name);
     match answer {
-        Counted::None => text(out, b"none"),
-        Counted::From { low } => {
+        Ok(Allowed::None) => text(out, b"none"),
+        Ok(Allowed::From { low }) => {
             natural(out, low);
             text(out, b" and more");
         }
-        Counted::Within { low, more } => {
+        Ok(Allowed::Within { low, more }) => {
             natural(out, low);
             text(out, b" and up to ");
             natural(out, more);
             text(out, b" more");
         }
-        Counted::Malformed => text(out, b"malformed"),
-        Counted::Overflow => text(out, b"overflow"),
+        Err(error) => wrong(out, error),
     }
     text(out, b"\n");
 }
 
-fn tested(out: Stdout, answer: Tested) {
+fn tested(out: Stdout, answer: Result<bool, TermError>) {
     match answer {
-        Tested::No => text(out, b"-"),
-        Tested::Yes => text(out, b"x"),
-        Tested::Malformed => text(out, b"malformed"),
-        Tested::Overflow => text(out, b"overflow"),
+        Ok(false) => text(out, b"-"),
+        Ok(true) => text(out, b"x"),
+        Err(error) => wrong(out, error),
     }
 }
 
-fn sized(out: Stdout, name: &[u8], answer: Sized) {
+fn sized(out: Stdout, name: &[u8], answer: Result<(), SizeError>) {
     text(out, name);
     match answer {
-        Sized::Passes => text(out, b"passes"),
-        Sized::Malformed => text(out, b"malformed"),
-        Sized::Exceeds(at) => {
+        Ok(()) => text(out, b"passes"),
+        Err(SizeError::Malformed) => text(out, b"malformed"),
+        Err(SizeError::Exceeds(at)) => {
             text(out, b"exceeds at term ");
             natural(out, at as u64);
         }
@@ -79,13 +83,11 @@ fn sized(out: Stdout, name: &[u8], answer: Sized) {
 fn members(out: Stdout, name: &[u8], words: &[u32], end: usize) {
     text(out, name);
     let none = [0i64; 1];
-    let mut value: u64 = 0;
-    while value < 12 {
+    for value in 0u64..12 {
         tested(
             out,
             term_evaluation::contains(words, 0, end, &none, term_integers::signed(value)),
         );
-        value += 1;
     }
     text(out, b"\n");
 }
@@ -107,8 +109,7 @@ fn first_windows(words: &[u32], end: usize, width: u32, signed: bool) -> Windows
     let mut greatest: u64 = 0;
     let strings = term_prefixes::window_count(width);
     let half = term_prefixes::first_bit(width, signed);
-    let mut number: u64 = 1;
-    while number < 512 {
+    for number in 1u64..512 {
         if term_prefixes::leads(&marks, strings, half, number) {
             if least == 0 {
                 least = number;
@@ -116,7 +117,6 @@ fn first_windows(words: &[u32], end: usize, width: u32, signed: bool) -> Windows
             greatest = number;
             count += 1;
         }
-        number += 1;
     }
     Windows {
         count,
@@ -146,13 +146,11 @@ fn list_windows(out: Stdout, name: &[u8], words: &[u32], end: usize, width: u32,
     let marks = term_prefixes::first_windows(words, 0, end, width, signed);
     let strings = term_prefixes::window_count(width);
     let half = term_prefixes::first_bit(width, signed);
-    let mut number: u64 = 1;
-    while number < 512 {
+    for number in 1u64..512 {
         if term_prefixes::leads(&marks, strings, half, number) {
             text(out, b" ");
             natural(out, number);
         }
-        number += 1;
     }
     text(out, b"\n");
 }
@@ -546,12 +544,10 @@ fn patterns_of_signed(out: Stdout) {
 
 fn condition(out: Stdout, name: &[u8], words: &[u32], end: usize) {
     text(out, name);
-    let mut value: u64 = 0;
-    while value < 6 {
+    for value in 0u64..6 {
         let at = term_integers::signed(value);
         let values = [at; 1];
         tested(out, term_evaluation::satisfied(words, 0, end, &values));
-        value += 1;
     }
     text(out, b"\n");
 }

@@ -48,11 +48,8 @@ fn literal(out: Stdout, rules: &[u8], at: usize) {
     if at < rules.len() {
         let mut bytes = [0u8; MAX_LITERAL_BYTES];
         text_literals::spell(rules, at, &mut bytes);
-        let n = text_literals::count_at(rules, at);
-        for k in 0..MAX_LITERAL_BYTES {
-            if k < n {
-                character(out, bytes[k]);
-            }
+        for c in bytes.iter().take(text_literals::count_at(rules, at)) {
+            character(out, *c);
         }
     }
 }
@@ -60,72 +57,45 @@ fn literal(out: Stdout, rules: &[u8], at: usize) {
 // A name; a reserved word with its number.
 fn name(out: Stdout, rules: &[u8], start: usize, end: usize) {
     text(out, b"name");
-    if start <= end {
-        if end <= rules.len() {
-            let word = text_tokens::names::reserved(&rules[start..end]);
-            if 0 < word {
-                text(out, b" reserved ");
-                natural(out, word as u64);
-            }
+    if start <= end && end <= rules.len() {
+        let word = text_tokens::names::reserved(&rules[start..end]);
+        if 0 < word {
+            text(out, b" reserved ");
+            natural(out, word as u64);
         }
     }
 }
 
-// A sign's byte, with 128 more where `=` follows; other kinds below 32.
-fn code(kind: Kind) -> u8 {
-    match kind {
-        Kind::Name => 0,
-        Kind::Number => 1,
-        Kind::Literal => 2,
-        Kind::Fault => 3,
-        Kind::End => 4,
-        Kind::Unequal => 161,
-        Kind::AtMost => 188,
-        Kind::AtLeast => 190,
-        Kind::Equal => 61,
-        Kind::Semicolon => 59,
-        Kind::Bar => 124,
-        Kind::Ampersand => 38,
-        Kind::OpenParen => 40,
-        Kind::CloseParen => 41,
-        Kind::OpenBracket => 91,
-        Kind::CloseBracket => 93,
-        Kind::OpenBrace => 123,
-        Kind::CloseBrace => 125,
-        Kind::Question => 63,
-        Kind::Star => 42,
-        Kind::Plus => 43,
-        Kind::Minus => 45,
-        Kind::Tilde => 126,
-        Kind::Bang => 33,
-        Kind::Comma => 44,
-        Kind::Colon => 58,
-        Kind::Less => 60,
-        Kind::Greater => 62,
-    }
-}
-
-fn sign(out: Stdout, code: u8) {
-    if code < 128 {
-        let one = [code];
-        text(out, &one);
-    } else {
-        let one = [code - 128];
-        text(out, &one);
-        text(out, b"=");
-    }
-}
-
 fn described(out: Stdout, rules: &[u8], token: Token) {
-    let start = token.start;
-    let kind = token.kind;
-    match code(kind) {
-        0 => name(out, rules, start, token.end),
-        1 => number(out, rules, start),
-        2 => literal(out, rules, start),
-        3 => text(out, b"fault"),
-        4 => text(out, b"end"),
-        other => sign(out, other),
+    match token.kind {
+        Kind::Name => name(out, rules, token.start, token.end),
+        Kind::Number => number(out, rules, token.start),
+        Kind::Literal => literal(out, rules, token.start),
+        Kind::Fault => text(out, b"fault"),
+        Kind::End => text(out, b"end"),
+        Kind::Equal => text(out, b"="),
+        Kind::Semicolon => text(out, b";"),
+        Kind::Bar => text(out, b"|"),
+        Kind::Ampersand => text(out, b"&"),
+        Kind::OpenParen => text(out, b"("),
+        Kind::CloseParen => text(out, b")"),
+        Kind::OpenBracket => text(out, b"["),
+        Kind::CloseBracket => text(out, b"]"),
+        Kind::OpenBrace => text(out, b"{"),
+        Kind::CloseBrace => text(out, b"}"),
+        Kind::Question => text(out, b"?"),
+        Kind::Star => text(out, b"*"),
+        Kind::Plus => text(out, b"+"),
+        Kind::Minus => text(out, b"-"),
+        Kind::Tilde => text(out, b"~"),
+        Kind::Bang => text(out, b"!"),
+        Kind::Comma => text(out, b","),
+        Kind::Colon => text(out, b":"),
+        Kind::Less => text(out, b"<"),
+        Kind::Greater => text(out, b">"),
+        Kind::Unequal => text(out, b"!="),
+        Kind::AtMost => text(out, b"<="),
+        Kind::AtLeast => text(out, b">="),
     }
 }
 

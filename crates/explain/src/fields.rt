@@ -10,7 +10,6 @@ use report_quoting::quoting::{Part, quote};
 use report_wording::lines;
 use report_wording::writing::{number, say};
 use std::io::Stdout;
-use text_header::bytes::either;
 
 fn field_at(out: Stdout, grammar: &[u8], table: &[u32], construct: usize, at: usize) {
     number(out, b"    construct ", construct);
@@ -28,41 +27,21 @@ fn field_at(out: Stdout, grammar: &[u8], table: &[u32], construct: usize, at: us
 fn is_field(kind: usize) -> bool
     ensures { result ≡ is_field kind }
 {
-    either(kind == 6, either(kind == 7, kind == 8))
-}
-
-fn field_of(out: Stdout, grammar: &[u8], table: &[u32], construct: usize, kind: usize, at: usize) {
-    if is_field(kind) {
-        field_at(out, grammar, table, construct, at);
-    }
+    kind == 6 || kind == 7 || kind == 8
 }
 
 fn field(out: Stdout, grammar: &[u8], table: &[u32], construct: usize) {
     match locate(grammar, Query::Construct(construct)) {
-        Located::Construct {
-            place,
-            kind,
-            count: _,
-        } => field_of(out, grammar, table, construct, kind, place),
+        Located::Construct { place, kind, .. } if is_field(kind) => {
+            field_at(out, grammar, table, construct, place)
+        }
         _ => {}
-    }
-}
-
-fn fields(out: Stdout, grammar: &[u8], table: &[u32], count: usize) {
-    let mut i = 0;
-    while i < count {
-        field(out, grammar, table, i);
-        i += 1;
     }
 }
 
 fn constructs(grammar: &[u8]) -> usize {
     match locate(grammar, Query::Construct(0)) {
-        Located::Construct {
-            place: _,
-            kind: _,
-            count,
-        } => count,
+        Located::Construct { count, .. } => count,
         _ => 0,
     }
 }
@@ -76,9 +55,10 @@ fn steps(weight: usize) -> usize
     ensures { result ≡ bound_of weight }
 {
     if weight <= MAX_WEIGHT {
-        return weight * BITS_AND_END;
+        weight * BITS_AND_END
+    } else {
+        0
     }
-    0
 }
 
 fn bound(out: Stdout, weight: usize) {
@@ -98,5 +78,7 @@ pub fn admitted(out: Stdout, grammar: &[u8], weight: usize) {
         b"The fields in the text's order, with the numbers that a reading gives:\n",
     );
     let words = sets::encoded(grammar).words;
-    fields(out, grammar, &words, count);
+    for i in 0..count {
+        field(out, grammar, &words, i);
+    }
 }

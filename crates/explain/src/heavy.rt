@@ -24,15 +24,13 @@ fn one(out: Stdout, grammar: &[u8], table: &[u32], weights: &[usize], rule: usiz
 }
 
 fn heaviest(out: Stdout, grammar: &[u8], table: &[u32], weights: &[usize]) {
-    let mut last: usize = 64;
-    let mut n: usize = 0;
-    while n < 4 {
+    let mut last: Option<usize> = None;
+    for _ in 0..4usize {
         last = next_heaviest(table, weights, last);
-        if 63 < last {
-            return;
+        match last {
+            Some(rule) => one(out, grammar, table, weights, rule),
+            None => return,
         }
-        one(out, grammar, table, weights, last);
-        n += 1;
     }
 }
 

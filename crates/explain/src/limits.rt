@@ -2,27 +2,19 @@
 use report_places::{Located, Query, locate};
 use std::io::Stdout;
 
-fn more(out: Stdout, rules: usize, constructs: usize) {
+fn told(out: Stdout, rules: usize, constructs: usize, terms: usize, variables: usize) {
     if 64 < rules {
         report_advice::limits::rules(out);
     }
     if 256 < constructs {
         report_advice::limits::constructs(out);
     }
-}
-
-fn within(out: Stdout, terms: usize, variables: usize) {
     if 1024 < terms {
         report_advice::limits::terms(out);
     }
     if 64 < variables {
         report_advice::limits::variables(out);
     }
-}
-
-fn totals(out: Stdout, rules: usize, constructs: usize, terms: usize, variables: usize) {
-    more(out, rules, constructs);
-    within(out, terms, variables);
 }
 
 pub fn passed(out: Stdout, grammar: &[u8], at: usize) {
@@ -32,7 +24,7 @@ pub fn passed(out: Stdout, grammar: &[u8], at: usize) {
             constructs,
             terms,
             variables,
-        } => totals(out, rules, constructs, terms, variables),
+        } => told(out, rules, constructs, terms, variables),
         _ => {}
     }
 }

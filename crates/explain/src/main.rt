@@ -105,25 +105,16 @@ fn file(rt: &HostRuntime, path: &[u8]) {
 }
 
 fn help(out: Stdout) {
-    say(out, b"usage: explain [FILE]...\n");
     say(
         out,
-        b"Says of each grammar FILE whether it is admitted; if not, what is wrong with\n",
-    );
-    say(
-        out,
-        b"it, where, and what to change. Without FILE it reads kiosk.dogma; - is standard\n",
-    );
-    say(out, b"input. The last line of each report is one of\n");
-    say(out, b"    admitted weight W\n");
-    say(
-        out,
-        b"    refused N at P     N: number of refusal, P: place in bytes, from 0\n",
-    );
-    say(out, b"    unread             the file cannot be opened\n");
-    say(
-        out,
-        b"tools/explain turns these into the exit statuses 0, 1 and 2.\n",
+        b"usage: explain [FILE]...\n\
+        Says of each grammar FILE whether it is admitted; if not, what is wrong with\n\
+        it, where, and what to change. Without FILE it reads kiosk.dogma; - is standard\n\
+        input. The last line of each report is one of\n    \
+        admitted weight W\n    \
+        refused N at P     N: number of refusal, P: place in bytes, from 0\n    \
+        unread             the file cannot be opened\n\
+        tools/explain turns these into the exit statuses 0, 1 and 2.\n",
     );
 }
 

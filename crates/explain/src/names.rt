@@ -5,7 +5,6 @@ use report_places::{Located, Query, locate};
 use report_quoting::nearest::nearest;
 use report_quoting::quoting::{Part, token};
 use report_wording::lines;
-use report_wording::lines::saturating_next;
 use report_wording::writing::say;
 use std::io::Stdout;
 use text_header::spans::span;
@@ -13,12 +12,7 @@ use text_header::{Class, Heading};
 use text_tokens::names::reserved;
 
 fn is_reserved(grammar: &[u8], start: usize, end: usize) -> bool {
-    if start <= end {
-        if end <= grammar.len() {
-            return 0 < reserved(&grammar[start..end]);
-        }
-    }
-    false
+    start <= end && end <= grammar.len() && 0 < reserved(&grammar[start..end])
 }
 
 fn double(out: Stdout, grammar: &[u8], at: usize) {
@@ -57,21 +51,20 @@ fn elsewhere(out: Stdout, grammar: &[u8], at: usize) {
     report_advice::names::change_elsewhere(out);
 }
 
-fn meant(out: Stdout, grammar: &[u8], at: usize, near: usize) {
-    if near == at {
-        return;
+fn meant(out: Stdout, grammar: &[u8], near: Option<usize>) {
+    if let Some(place) = near {
+        say(out, b"Is ");
+        token(out, grammar, place);
+        say(out, b" meant, of ");
+        lines::place(out, grammar, place);
+        say(out, b"?\n");
     }
-    say(out, b"Is ");
-    token(out, grammar, near);
-    say(out, b" meant, of ");
-    lines::place(out, grammar, near);
-    say(out, b"?\n");
 }
 
 // A name that is nearly the one at the place.
 fn nearly(out: Stdout, grammar: &[u8], at: usize, variable: bool) {
     match text_header::header::header(grammar) {
-        Heading::Rules(base) => meant(out, grammar, at, nearest(grammar, base, at, variable)),
+        Heading::Rules(base) => meant(out, grammar, nearest(grammar, base, at, variable)),
         Heading::Wrong(_) => {}
     }
 }
@@ -147,39 +140,28 @@ fn line(out: Stdout, grammar: &[u8], at: usize) {
     report_advice::names::brief(out, code_at(grammar, at, span(Class::Name, grammar, at)));
 }
 
-fn next(grammar: &[u8], at: usize) -> usize {
-    fault_from(grammar, saturating_next(at))
+fn next(grammar: &[u8], at: usize) -> Option<usize> {
+    fault_from(grammar, at.saturating_add(1))
 }
 
-fn left(out: Stdout, grammar: &[u8], at: usize) {
-    if at < grammar.len() {
-        say(out, b"    and more\n");
-    }
-}
-
-// At most twenty from a place on.
-fn each(out: Stdout, grammar: &[u8], first: usize) {
-    let mut at = first;
-    let mut n: usize = 0;
-    while n < 20 {
-        if grammar.len() <= at {
-            return;
-        }
-        line(out, grammar, at);
-        at = next(grammar, at);
-        n += 1;
-    }
-    left(out, grammar, at);
-}
-
-// The names at fault after the first, a line each.
+// The names at fault after the first, a line each, at most twenty.
 fn further(out: Stdout, grammar: &[u8], at: usize) {
-    if at < grammar.len() {
+    let mut fault = next(grammar, at);
+    if fault.is_some() {
         say(
             out,
             b"Further names at fault (some may be right once others are):\n",
         );
-        each(out, grammar, at);
+    }
+    for _ in 0..20usize {
+        let Some(place) = fault else {
+            return;
+        };
+        line(out, grammar, place);
+        fault = next(grammar, place);
+    }
+    if fault.is_some() {
+        say(out, b"    and more\n");
     }
 }
 
@@ -187,5 +169,5 @@ pub fn fault(out: Stdout, grammar: &[u8], at: usize) {
     say(out, b"The name ");
     token(out, grammar, at);
     fault_at(out, grammar, at, span(Class::Name, grammar, at));
-    further(out, grammar, next(grammar, at));
+    further(out, grammar, at);
 }

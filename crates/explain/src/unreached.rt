@@ -14,10 +14,7 @@ use text_header::Heading;
 use text_names::names::same;
 
 fn next(n: usize) -> usize {
-    if n < 256 {
-        return n + 1;
-    }
-    256
+    n.saturating_add(1).min(256)
 }
 
 // Where the name of a rule stands.
@@ -34,51 +31,32 @@ fn used_at(out: Stdout, grammar: &[u8], at: usize) {
     say(out, b"\n");
 }
 
-fn left(out: Stdout, j: usize) {
-    if j < 256 {
+// The uses of a rule, at most twenty.
+fn uses(out: Stdout, grammar: &[u8], table: &[u32], rule: usize) {
+    let mut start = 0;
+    for _ in 0..20usize {
+        let Some(j) = use_from(table, rule, start) else {
+            return;
+        };
+        used_at(out, grammar, place_of(grammar, j));
+        start = next(j);
+    }
+    if use_from(table, rule, start).is_some() {
         say(out, b"    and more\n");
     }
 }
 
-// The uses of a rule, at most twenty.
-fn uses(out: Stdout, grammar: &[u8], table: &[u32], rule: usize) {
-    let mut j = use_from(table, rule, 0);
-    let mut n: usize = 0;
-    while n < 20 {
-        if 255 < j {
-            return;
-        }
-        used_at(out, grammar, place_of(grammar, j));
-        j = use_from(table, rule, next(j));
-        n += 1;
-    }
-    left(out, j);
-}
-
 fn is_near(grammar: &[u8], table: &[u32], marks: &[usize], at: usize, rule: usize) -> bool {
-    if number_at(marks, rule) == 1 {
-        return near(grammar, name_of(grammar, table, rule), at);
-    }
-    false
+    number_at(marks, rule) == 1 && near(grammar, name_of(grammar, table, rule), at)
 }
 
-// The first rule that is reached and used, and has nearly the name at a place; 64 where there is none.
-fn near_rule(grammar: &[u8], table: &[u32], marks: &[usize], at: usize) -> usize {
-    let mut rule: usize = 1;
-    while rule < 64 {
-        if is_near(grammar, table, marks, at, rule) {
-            return rule;
-        }
-        rule += 1;
-    }
-    64
+// The first rule that is reached and used, and has nearly the name at a place.
+fn near_rule(grammar: &[u8], table: &[u32], marks: &[usize], at: usize) -> Option<usize> {
+    (1..64).find(|&rule| is_near(grammar, table, marks, at, rule))
 }
 
 // Rule `rule` has nearly the name at a place.
 fn nearly(out: Stdout, grammar: &[u8], table: &[u32], at: usize, rule: usize) {
-    if 63 < rule {
-        return;
-    }
     let name = name_of(grammar, table, rule);
     say(out, b"The rule ");
     token(out, grammar, name);
@@ -88,13 +66,13 @@ fn nearly(out: Stdout, grammar: &[u8], table: &[u32], at: usize, rule: usize) {
     uses(out, grammar, table, rule);
 }
 
-fn hidden_by(out: Stdout, grammar: &[u8], at: usize, variable: usize) {
-    if variable == at {
-        return;
-    }
-    if same(grammar, variable, at) {
-        unreached::hidden(out);
-        used_at(out, grammar, variable);
+fn hidden_by(out: Stdout, grammar: &[u8], at: usize, variable: Option<usize>) {
+    match variable {
+        Some(variable) if same(grammar, variable, at) => {
+            unreached::hidden(out);
+            used_at(out, grammar, variable);
+        }
+        _ => {}
     }
 }
 
@@ -110,9 +88,9 @@ fn how(out: Stdout, grammar: &[u8], table: &[u32], rule: usize, used: bool) {
     if used {
         unreached::used_in_vain(out);
         uses(out, grammar, table, rule);
-        return;
+    } else {
+        unreached::nothing_uses(out);
     }
-    unreached::nothing_uses(out);
 }
 
 fn first(out: Stdout, grammar: &[u8], table: &[u32], marks: &[usize], rule: usize) {
@@ -123,13 +101,9 @@ fn first(out: Stdout, grammar: &[u8], table: &[u32], marks: &[usize], rule: usiz
     say(out, b" is not reached from the start rule ");
     token(out, grammar, name_of(grammar, table, 0));
     how(out, grammar, table, rule, used);
-    nearly(
-        out,
-        grammar,
-        table,
-        at,
-        near_rule(grammar, table, marks, at),
-    );
+    if let Some(near) = near_rule(grammar, table, marks, at) {
+        nearly(out, grammar, table, at, near);
+    }
     hidden(out, grammar, at);
     unreached::change(out, used);
 }
@@ -139,38 +113,28 @@ fn line(out: Stdout, grammar: &[u8], table: &[u32], rule: usize) {
     unreached::brief(out, is_used(table, rule));
 }
 
-fn each(out: Stdout, grammar: &[u8], table: &[u32], marks: &[usize], start: usize) {
-    let mut rule = start;
-    let mut n: usize = 0;
-    while n < 64 {
-        if 63 < rule {
+// The rules from `start` on.
+fn others(out: Stdout, grammar: &[u8], table: &[u32], marks: &[usize], start: usize) {
+    let mut from = start;
+    for _ in 0..64usize {
+        let Some(rule) = unreached_from(table, marks, from) else {
             return;
+        };
+        if from == start {
+            say(out, b"Further rules that are not reached:\n");
         }
         line(out, grammar, table, rule);
-        rule = unreached_from(table, marks, next(rule));
-        n += 1;
-    }
-}
-
-fn others(out: Stdout, grammar: &[u8], table: &[u32], marks: &[usize], start: usize) {
-    if start < 64 {
-        say(out, b"Further rules that are not reached:\n");
-        each(out, grammar, table, marks, start);
+        from = next(rule);
     }
 }
 
 fn told(out: Stdout, grammar: &[u8], table: &[u32]) {
     let mut marks = [0usize; 64];
     reached(table, &mut marks);
-    let rule = unreached_from(table, &marks, 1);
-    first(out, grammar, table, &marks, rule);
-    others(
-        out,
-        grammar,
-        table,
-        &marks,
-        unreached_from(table, &marks, next(rule)),
-    );
+    if let Some(rule) = unreached_from(table, &marks, 1) {
+        first(out, grammar, table, &marks, rule);
+        others(out, grammar, table, &marks, next(rule));
+    }
 }
 
 pub fn explained(out: Stdout, grammar: &[u8]) {

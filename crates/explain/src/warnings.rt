@@ -21,62 +21,37 @@ fn warned(out: Stdout, grammar: &[u8], at: usize, part: Part, sentence: &[u8]) {
 
 // A range whose set of strings is empty (a uint's or sint's is refused).
 fn field(out: Stdout, grammar: &[u8], table: &[u32], first: &[u64], i: usize) {
-    if 0 < width_of(table, i) {
-        if lookahead::is_empty(set_at(first, i)) {
-            warned(
-                out,
-                grammar,
-                place_of(grammar, i),
-                Part::Field,
-                b"admits no value: no frame matches where it must come.\n",
-            );
-        }
+    if 0 < width_of(table, i) && lookahead::is_empty(set_at(first, i)) {
+        warned(
+            out,
+            grammar,
+            place_of(grammar, i),
+            Part::Field,
+            b"admits no value: no frame matches where it must come.\n",
+        );
     }
 }
 
 fn fields(out: Stdout, grammar: &[u8], table: &[u32], first: &[u64]) {
-    let mut i: usize = 0;
-    while i < 256 {
+    for i in 0..256 {
         field(out, grammar, table, first, i);
-        i += 1;
     }
-}
-
-fn never(out: Stdout, grammar: &[u8], i: usize) {
-    warned(
-        out,
-        grammar,
-        place_of(grammar, i),
-        Part::Whole,
-        b"is a case that is never chosen: its condition never holds.\n",
-    );
-}
-
-fn covered(out: Stdout, grammar: &[u8], i: usize) {
-    warned(
-        out,
-        grammar,
-        place_of(grammar, i),
-        Part::Whole,
-        b"is a case that is never chosen: one before it always is.\n",
-    );
 }
 
 fn case(out: Stdout, grammar: &[u8], table: &[u32], i: usize) {
-    if never_holds(table, i) {
-        never(out, grammar, i);
+    let sentence: &[u8] = if never_holds(table, i) {
+        b"is a case that is never chosen: its condition never holds.\n"
+    } else if always_before(table, i) {
+        b"is a case that is never chosen: one before it always is.\n"
+    } else {
         return;
-    }
-    if always_before(table, i) {
-        covered(out, grammar, i);
-    }
+    };
+    warned(out, grammar, place_of(grammar, i), Part::Whole, sentence);
 }
 
 fn cases(out: Stdout, grammar: &[u8], table: &[u32]) {
-    let mut i: usize = 0;
-    while i < 256 {
+    for i in 0..256 {
         case(out, grammar, table, i);
-        i += 1;
     }
 }
 

@@ -13,7 +13,7 @@ use Rattle.basis.proofs.Numbers.{number_pos, number_small, named}
 use Rattle.lookahead.specs.Sets.{bit, member, Has}
 use Rattle.lookahead.specs.Least.{LeastCommon}
 use Rattle.lookahead.specs.Inner.{Lowest, Cleared}
-use Rattle.lookahead.specs.declared.Common.TheVariants.{Nothing, Least}
+use Rattle.std.specs.Prelude.{Some, None}
 use Rattle.lookahead.proofs.BitLaws.{bit-and, bit_none}
 use Rattle.lookahead.proofs.SetLaws.{member_at, member_lt}
 
@@ -46,10 +46,10 @@ module _ (a x y : List ℕ) (c : Cleared a x) where
         absurd (omega (arith, f (number s) (omega arith), e, p.1, q.1))
   ]
 
-  pub least_none : Apart x y 512 → LeastCommon a y Nothing
+  pub least_none : Apart x y 512 → LeastCommon a y None
   least_none f s p q = omega (arith, apart_string 512 s f p q, number_small s p.0)
 
-  pub least_found : (i t w : ℕ) → i < 8 → w ≡ bit_and (get_or x i 0) (get_or y i 0) → Lowest w t → Apart x y (64 * i) → LeastCommon a y (Least (64 * i + t))
+  pub least_found : (i t w : ℕ) → i < 8 → w ≡ bit_and (get_or x i 0) (get_or y i 0) → Lowest w t → Apart x y (64 * i) → LeastCommon a y (Some (64 * i + t))
   least_found i t w h e l f = (found, λ s p q. apart_string (64 * i + t) s (apart_up x y i t w (omega (arith, l.within)) e l.below f) p q)
     where
       n : ℕ

@@ -21,13 +21,6 @@ pub struct Set {
     pub words: [u64; 8],
 }
 
-// The least string of two sets, by its number.
-#[derive(Clone, Copy)]
-pub enum Common {
-    Nothing,
-    Least(usize),
-}
-
 // The number of a field's lookahead string: its leading 8 bits, or all of them if there are fewer, most significant bit first.
 pub fn number_of(value: u32, width: u32) -> usize
     ensures { result ≡ number (lookahead (bits_of width value)) }
@@ -52,10 +45,8 @@ pub fn single(n: usize) -> Set
     ensures { Is result.words (λ (s : Bits). (length s ≤ 8) × (number s ≡ n)) }
 {
     let mut words = [0u64; 8];
-    if 0 < n {
-        if n < 512 {
-            words[n / 64] = 1 << (n % 64);
-        }
+    if 0 < n && n < 512 {
+        words[n / 64] = 1 << (n % 64);
     }
     Set { words }
 }
@@ -66,25 +57,21 @@ pub fn insert(set: Set, n: usize) -> Set
     ensures { Is result.words (Union (Has set.words) (λ (s : Bits). (length s ≤ 8) × (number s ≡ n))) }
 {
     let mut x = set.words;
-    if 0 < n {
-        if n < 512 {
-            x[n / 64] = words::or(x[n / 64], 1 << (n % 64));
-        }
+    if 0 < n && n < 512 {
+        x[n / 64] |= 1 << (n % 64);
     }
     Set { words: x }
 }
 
 // Whether the string with number n is in the set; no other number is.
+#[tactic(auto, using(crate::proofs::SetLaws::no_number))]
 pub fn contains(set: Set, n: usize) -> bool
     ensures { Decides result ((s : Bits) × (number s ≡ n) × Has set.words s) }
 {
-    if n == 0 {
+    if n == 0 || 512 <= n {
         return false;
     }
-    if n < 512 {
-        return (set.words[n / 64] >> (n % 64)) % 2 == 1;
-    }
-    false
+    (set.words[n / 64] >> (n % 64)) % 2 == 1
 }
 
 pub fn has_empty_string(set: Set) -> bool
@@ -99,10 +86,8 @@ pub fn union(a: Set, b: Set) -> Set
     let x = a.words;
     let y = b.words;
     let mut out = [0u64; 8];
-    let mut i = 0;
-    while i < 8 {
-        out[i] = words::or(x[i], y[i]);
-        i += 1;
+    for i in 0..8 {
+        out[i] = x[i] | y[i];
     }
     out[0] = words::even(out[0]);
     Set { words: out }
@@ -114,41 +99,34 @@ pub fn equal(a: Set, b: Set) -> bool
 {
     let x = a.words;
     let y = b.words;
-    let mut i = 0;
-    while i < 8 {
+    for i in 0..8 {
         if x[i] != y[i] {
             return false;
         }
-        i += 1;
     }
     true
 }
 
-// "Trailing zeros of the and of two words give the least shared window."
-pub fn least_common(a: Set, b: Set) -> Common
+// The least string of two sets, by its number. "Trailing zeros of the and of two words give the least shared window."
+pub fn least_common(a: Set, b: Set) -> Option<usize>
     ensures { LeastCommon a.words b.words result }
 {
     let mut x = a.words;
     let y = b.words;
     x[0] = words::even(x[0]);
-    let mut i = 0;
-    while i < 8 {
-        let w = words::and(x[i], y[i]);
+    for i in 0..8 {
+        let w = x[i] & y[i];
         if 0 < w {
-            return Common::Least(64 * i + words::trailing_zeros(w));
+            return Some(64 * i + words::trailing_zeros(w));
         }
-        i += 1;
     }
-    Common::Nothing
+    None
 }
 
 pub fn is_empty(set: Set) -> bool
     ensures { Decides result ((s : Bits) → Has set.words s → ⊥) }
 {
-    match least_common(set, set) {
-        Common::Nothing => true,
-        Common::Least(_) => false,
-    }
+    least_common(set, set).is_none()
 }
 
 // Every string of a followed by every string of b, cut at 8 bits. A result of 8 bits ends in a prefix of a string of b, a shorter one in a whole string.
@@ -160,10 +138,8 @@ fn join_words(a: Set, b: Set) -> Set
     x[0] = words::even(x[0]);
     let p = prefixes::prefixes(&y);
     let mut out = [0u64; 8];
-    let mut i = 0;
-    while i < 8 {
+    for i in 0..8 {
         out[i] = pieces::joined_word(&x, &y, &p, i);
-        i += 1;
     }
     Set { words: out }
 }
@@ -173,14 +149,8 @@ fn only_long(set: Set) -> bool
     ensures { result ≡ true → OnlyLong set.words }
 {
     let x = set.words;
-    if x[0] == 0 {
-        if x[1] == 0 {
-            if x[2] == 0 {
-                if x[3] == 0 {
-                    return true;
-                }
-            }
-        }
+    if x[0] == 0 && x[1] == 0 && x[2] == 0 && x[3] == 0 {
+        return true;
     }
     false
 }
@@ -191,8 +161,8 @@ fn join_long(a: Set, b: Set) -> Set
     ensures { Is result.words (Joined (Has a.words) (Has b.words)) }
 {
     match least_common(b, b) {
-        Common::Nothing => empty(),
-        Common::Least(_) => union(a, a),
+        None => empty(),
+        Some(_) => union(a, a),
     }
 }
 

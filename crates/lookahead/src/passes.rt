@@ -9,7 +9,7 @@ use super::Set;
 fn capped(k: usize) -> usize
     ensures { result ≡ min k 8 }
 {
-    if k < 8 { k } else { 8 }
+    k.min(8)
 }
 
 pub fn exactly(body: Set, k: usize) -> Set
@@ -17,10 +17,8 @@ pub fn exactly(body: Set, k: usize) -> Set
 {
     let n = capped(k);
     let mut out = super::single(1);
-    let mut i = 0;
-    while i < n {
+    for _i in 0..n {
         out = super::join(body, out);
-        i += 1;
     }
     out
 }
@@ -32,11 +30,9 @@ fn few(body: Set, low: usize, high: usize) -> Set
 {
     let mut last = exactly(body, low);
     let mut out = last;
-    let mut k = low;
-    while k < high {
+    for _k in low..high {
         last = super::join(body, last);
         out = super::union(out, last);
-        k += 1;
     }
     out
 }

@@ -5,15 +5,13 @@ ghost use Rattle.std.specs.Int.Bits.{bit_and, bit_or};
 ghost use Rattle.lookahead.specs.Sets.{bit};
 ghost use Rattle.lookahead.specs.Inner.{Fields, Run, Product, Piece, Word, JoinedWord};
 
-use super::words;
-
 // The 2^e bits of the numbers from x * 2^e on. They never cross a word.
 fn run(set: &[u64; 8], x: usize, e: u32) -> u64
     requires { (e ≤ 6) × (x * 2 ^ e < 512) }
     ensures { Run set.now x e result }
 {
     if e == 6 {
-        return words::same(set[x]);
+        return set[x];
     }
     let first = x << e;
     (set[first / 64] >> (first % 64)) & ((1 << (1u32 << e)) - 1)
@@ -100,10 +98,8 @@ fn word(a: &[u64; 8], b: &[u64; 8], r: usize) -> u64
     ensures { Word a.now b.now r result }
 {
     let mut out = 0;
-    let mut j = 0u32;
-    while j < 9 {
+    for j in 0u32..9 {
         out |= piece(a, b, r, j);
-        j += 1;
     }
     out
 }

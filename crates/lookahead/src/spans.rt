@@ -33,11 +33,7 @@ fn reach(n: usize, i: usize) -> usize
     requires { i ≤ 8 }
     ensures { result ≡ min (n - 64 * i) 64 }
 {
-    if n <= 64 * i {
-        return 0;
-    }
-    let m = n - 64 * i;
-    if m < 64 { m } else { 64 }
+    n.saturating_sub(64 * i).min(64)
 }
 
 // From low up to below past.
@@ -45,10 +41,8 @@ fn between(low: usize, past: usize) -> [u64; 8]
     ensures { Filled (λ i w. Stripe (min (low - 64 * i) 64) (min (past - 64 * i) 64) w) 8 result }
 {
     let mut out = [0u64; 8];
-    let mut i = 0;
-    while i < 8 {
+    for i in 0..8 {
         out[i] = stripe(reach(low, i), reach(past, i));
-        i += 1;
     }
     out
 }
@@ -56,9 +50,7 @@ fn between(low: usize, past: usize) -> [u64; 8]
 pub fn span(low: usize, high: usize) -> Set
     ensures { Is result.words (λ (s : Bits). (length s ≤ 8) × (low ≤ number s) × (number s ≤ high)) }
 {
-    let from = if 0 < low { low } else { 1 };
-    let past = if high < 511 { high + 1 } else { 512 };
     Set {
-        words: between(from, past),
+        words: between(low.max(1), high.min(511) + 1),
     }
 }

@@ -1,19 +1,6 @@
 // Operations on one word. A result is known to be a word, which an element of an array is not.
 ghost use Rattle.std.specs.Prelude.{◌≡◌, ◌*◌, ◌/◌, ◌<◌};
-ghost use Rattle.std.specs.Int.Bits.{bit_and, bit_or};
 ghost use Rattle.lookahead.specs.Inner.{Lowest};
-
-pub fn or(a: u64, b: u64) -> u64
-    ensures { result ≡ bit_or a b }
-{
-    a | b
-}
-
-pub fn and(a: u64, b: u64) -> u64
-    ensures { result ≡ bit_and a b }
-{
-    a & b
-}
 
 // The word with bit 0 clear.
 pub fn even(w: u64) -> u64

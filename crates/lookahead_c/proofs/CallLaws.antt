@@ -10,7 +10,7 @@ use Rattle.basis.proofs.Numbers.{number_pos}
 use Rattle.lookahead.specs.Sets.{Has, Is, SameWords}
 use Rattle.lookahead_slices.specs.Family.{part, Stored}
 use Rattle.lookahead.specs.Least.{LeastCommon}
-use Rattle.lookahead.specs.declared.Common.TheVariants.{Nothing, Least as Found}
+use Rattle.std.specs.Prelude.{Option, Some, None, unwrap_or}
 use Rattle.lookahead.proofs.SetLaws.{same_strings}
 use Rattle.lookahead_c.specs.Calls.{Way, Made, Least}
 
@@ -25,12 +25,16 @@ pub no_room : (sets : List ℕ) → length sets < 16 → Least sets 0
 no_room sets h = record { no_room = λ l. refl; found = λ l p. absurd (omega arith); least = λ l. absurd (omega arith) }
 
 module _ (sets x y : List ℕ) (p : x ≡ part 0 sets) (q : y ≡ part 1 sets) where
-  pub none : LeastCommon x y Nothing → Least sets 0
+  none : LeastCommon x y None → Least sets 0
   none i =
-      let j : LeastCommon (part 0 sets) (part 1 sets) Nothing = subst₂ (λ (a b : List ℕ). LeastCommon a b Nothing) p q i in
+      let j : LeastCommon (part 0 sets) (part 1 sets) None = subst₂ (λ (a b : List ℕ). LeastCommon a b None) p q i in
       record { no_room = λ l. refl; found = λ l z. absurd (omega arith); least = λ l s a b. absurd (j s a b) }
 
-  pub some : (n : ℕ) → 16 ≤ length sets → LeastCommon x y (Found n) → Least sets n
+  some : (n : ℕ) → 16 ≤ length sets → LeastCommon x y (Some n) → Least sets n
   some n h i =
-      let j : LeastCommon (part 0 sets) (part 1 sets) (Found n) = subst₂ (λ (a b : List ℕ). LeastCommon a b (Found n)) p q i in
+      let j : LeastCommon (part 0 sets) (part 1 sets) (Some n) = subst₂ (λ (a b : List ℕ). LeastCommon a b (Some n)) p q i in
       record { no_room = λ l. absurd (omega arith); found = λ l z. j.0; least = λ l s a b. (omega (arith, number_pos j.0.0, j.0.1), j.1 s a b) }
+
+  pub least_or : (o : Option ℕ) (n : ℕ) → 16 ≤ length sets → LeastCommon x y o → n ≡ unwrap_or o 0 → Least sets n
+  least_or None n h i e = rw e (none i)
+  least_or (Some m) n h i e = rw e (some m h i)

@@ -4,7 +4,6 @@
 ghost use Rattle.lookahead.specs.Sets.{Joined, Union};
 ghost use Rattle.lookahead_c.specs.Calls.{Made, Least, Adds, Narrowed};
 
-use lookahead::Common;
 use lookahead_slices::{family, narrow};
 
 #[unsafe(no_mangle)]
@@ -40,10 +39,7 @@ pub extern "C" fn lookahead_c_least(sets: &[u64]) -> usize
     if sets.len() < 16 {
         return 0;
     }
-    match lookahead::least_common(family::load(sets, 0), family::load(sets, 1)) {
-        Common::Nothing => 0,
-        Common::Least(n) => n,
-    }
+    lookahead::least_common(family::load(sets, 0), family::load(sets, 1)).unwrap_or(0)
 }
 
 // Adds the second set to the first, and says whether that changed it.
@@ -63,10 +59,7 @@ pub extern "C" fn lookahead_c_add(sets: &mut [u64]) -> bool
 pub extern "C" fn lookahead_c_narrow(set: &[u64], table: &mut [u32]) -> bool
     ensures { Narrowed set.now table.old table.new result }
 {
-    if set.len() < 8 {
-        return false;
-    }
-    if table.len() < 16 {
+    if set.len() < 8 || table.len() < 16 {
         return false;
     }
     narrow::put(table, 0, family::load(set, 0));

@@ -2,19 +2,15 @@
 ghost use Rattle.std.specs.Prelude.{◌≡◌, ◌+◌, ◌*◌, ◌≤◌, length};
 ghost use Rattle.lookahead_slices.specs.Family.{part, Added, Stored};
 
-use lookahead::{Set, words};
+use lookahead::Set;
 
 pub fn load(family: &[u64], i: usize) -> Set
     requires { 8 * i + 8 ≤ length family.now }
     ensures { result.words ≡ part i family.now }
 {
-    let mut out = [0u64; 8];
-    let mut k = 0;
-    while k < 8 {
-        out[k] = words::same(family[8 * i + k]);
-        k += 1;
-    }
-    Set { words: out }
+    let mut words = [0u64; 8];
+    words.copy_from_slice(&family[8 * i..8 * i + 8]);
+    Set { words }
 }
 
 pub fn store(family: &mut [u64], i: usize, set: Set)
@@ -22,10 +18,8 @@ pub fn store(family: &mut [u64], i: usize, set: Set)
     ensures { Stored family.old family.new i set.words }
 {
     let x = set.words;
-    let mut k = 0;
-    while k < 8 {
+    for k in 0..8 {
         family[8 * i + k] = x[k];
-        k += 1;
     }
 }
 
@@ -36,15 +30,13 @@ pub fn add(family: &mut [u64], i: usize, set: Set) -> bool
 {
     let x = set.words;
     let mut grew = false;
-    let mut k = 0;
-    while k < 8 {
+    for k in 0..8 {
         let old = family[8 * i + k];
-        let new = words::or(old, x[k]);
+        let new = old | x[k];
         if old < new {
             family[8 * i + k] = new;
             grew = true;
         }
-        k += 1;
     }
     grew
 }

@@ -17,10 +17,8 @@ pub fn put(table: &mut [u32], at: usize, set: Set)
     ensures { Put table.old table.new at set.words }
 {
     let x = set.words;
-    let mut k = 0;
-    while k < 16 {
+    for k in 0..16 {
         table[at + k] = half(x[k / 2], k);
-        k += 1;
     }
 }
 
@@ -30,12 +28,10 @@ pub fn same(table: &[u32], at: usize, set: Set) -> bool
     ensures { Decides result (StandsAt table.now at set.words) }
 {
     let x = set.words;
-    let mut k = 0;
-    while k < 16 {
+    for k in 0..16 {
         if table[at + k] != half(x[k / 2], k) {
             return false;
         }
-        k += 1;
     }
     true
 }

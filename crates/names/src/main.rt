@@ -3,10 +3,10 @@
 
 ghost use Rattle.std.specs.Prelude.{◌≤◌, length, IfSome};
 
-use report_measures::words::put_number;
-use report_names::{places, printing};
+use report_names::printing::Header;
+use report_names::{Admitted, places};
 use report_places::{Located, Query, locate};
-use report_wording::writing::{number, say};
+use report_wording::writing::say;
 use std::env::{Env, FillError};
 use std::fs::File;
 use std::io;
@@ -16,47 +16,46 @@ use text_header::spans::spells;
 
 fn place_of(grammar: &[u8], i: usize) -> usize {
     match locate(grammar, Query::Construct(i)) {
-        Located::Construct {
-            place,
-            kind: _,
-            count: _,
-        } => place,
+        Located::Construct { place, .. } => place,
         _ => 0,
     }
 }
 
 fn constructs(grammar: &[u8], count: usize, found: &mut [usize]) {
-    let mut i: usize = 0;
-    while i < count {
-        put_number(found, i, place_of(grammar, i));
-        i += 1;
+    for (i, place) in found.iter_mut().enumerate().take(count) {
+        *place = place_of(grammar, i);
     }
 }
 
-fn admitted(out: Stdout, grammar: &[u8], prefix: &[u8], table: &[u32], weight: usize) {
+fn admitted<'a>(out: Stdout, grammar: &'a [u8], prefix: &'a [u8], table: &'a [u32], weight: usize) {
     let mut rules = [0usize; 64];
     let mut found = [0usize; 256];
     places::rules(grammar, &mut rules);
     constructs(grammar, table_layout::word(table, 2), &mut found);
-    printing::header(out, grammar, prefix, table, &rules, &found, weight);
+    let admitted = Admitted {
+        grammar,
+        table,
+        rules: &rules,
+        constructs: &found,
+    };
+    Header {
+        out,
+        prefix,
+        admitted,
+    }
+    .print(weight);
 }
 
 // A program that includes it is not compiled.
 fn refused(out: Stdout, n: usize, place: usize) {
-    number(out, b"#error \"the grammar is refused: number ", n);
-    number(out, b" at byte ", place);
-    say(out, b"\"\n");
+    let _ = println!(out; "#error \"the grammar is refused: number {n} at byte {place}\"");
 }
 
 fn answered(out: Stdout, grammar: &[u8], prefix: &[u8], table: &[u32], answer: Admission) {
     match answer {
         Admission::Admitted { weight } => admitted(out, grammar, prefix, table, weight),
         Admission::Refused { number, place } => refused(out, number, place),
-        Admission::Conflict {
-            place,
-            construct: _,
-            clash: _,
-        } => refused(out, 10, place),
+        Admission::Conflict { place, .. } => refused(out, 10, place),
     }
 }
 
@@ -93,26 +92,14 @@ fn file(rt: &HostRuntime, path: &[u8], prefix: &[u8]) {
 }
 
 fn help(out: Stdout) {
-    say(out, b"usage: names [FILE [PREFIX]]\n");
     say(
         out,
-        b"Prints a C header for the grammar FILE: a constant for each field and each\n",
-    );
-    say(
-        out,
-        b"variable by its rule and its name, the weight, and macros for the steps and\n",
-    );
-    say(
-        out,
-        b"the room that a frame needs. Without FILE it reads kiosk.dogma; - is standard\n",
-    );
-    say(
-        out,
-        b"input. PREFIX is put in front of every name, for programs with more than one\n",
-    );
-    say(
-        out,
-        b"grammar. Of a grammar that is refused it prints an #error with number and place.\n",
+        b"usage: names [FILE [PREFIX]]\n\
+        Prints a C header for the grammar FILE: a constant for each field and each\n\
+        variable by its rule and its name, the weight, and macros for the steps and\n\
+        the room that a frame needs. Without FILE it reads kiosk.dogma; - is standard\n\
+        input. PREFIX is put in front of every name, for programs with more than one\n\
+        grammar. Of a grammar that is refused it prints an #error with number and place.\n",
     );
 }
 

@@ -19,13 +19,13 @@ pub fn in_front(out: Stdout, count: usize) {
             b"What to change: put what both begin with in front of the two, once.\n\
             The frames stay the same. In place of the two branches write\n    ",
         );
-        return;
+    } else {
+        say(
+            out,
+            b"What to change: put what they all begin with in front of them, once.\n\
+            The frames stay the same. In place of these branches write\n    ",
+        );
     }
-    say(
-        out,
-        b"What to change: put what they all begin with in front of them, once.\n\
-        The frames stay the same. In place of these branches write\n    ",
-    );
 }
 
 // One branch is what both begin with.

@@ -27,7 +27,7 @@ fn long(out: Stdout) {
 }
 
 pub fn size(out: Stdout, grammar: &[u8]) {
-    if grammar.len() == 0 {
+    if grammar.is_empty() {
         empty(out);
     } else {
         long(out);
@@ -86,19 +86,17 @@ fn last_line(grammar: &[u8], at: usize) -> bool
 fn wrong_line(out: Stdout, grammar: &[u8], at: usize) {
     if last_line(grammar, at) {
         unended(out);
-        return;
-    }
-    if at == 0 {
+    } else if at == 0 {
         first_line(out);
-        return;
+    } else {
+        header_line(out);
     }
-    header_line(out);
 }
 
 pub fn wrong(out: Stdout, grammar: &[u8], at: usize) {
     if at < grammar.len() {
         wrong_line(out, grammar, at);
-        return;
+    } else {
+        header_end(out);
     }
-    header_end(out);
 }

@@ -1,4 +1,5 @@
 // Refusals 1, 7, 8, 9 and 11.
+use basis::MAX_TEXT_BYTES;
 use report_quoting::quoting::token;
 use report_wording::writing::say;
 use std::io::Stdout;
@@ -68,55 +69,36 @@ fn calculation(out: Stdout) {
 
 // A number, a name, or a sign of a calculation.
 fn belongs(code: usize) -> bool {
-    match code {
-        1 => true,
-        2 => true,
-        42 => true,
-        43 => true,
-        45 => true,
-        _ => false,
-    }
+    matches!(code, 1 | 2 | 42 | 43 | 45)
 }
 
-fn is_large(code: usize, value: usize) -> bool {
-    if code == 2 {
-        return 4611686018427387904 < value;
-    }
-    false
-}
-
-// The first number past 2^62 of the calculation at a place; the text's length where it has none.
-fn large_in(grammar: &[u8], at: usize) -> usize {
+// The first number past 2^62 of the calculation at a place.
+fn large_in(grammar: &[u8], at: usize) -> Option<usize> {
     let mut here = at;
-    let mut tokens: usize = 0;
-    while tokens < 8192 {
+    for _tokens in 0..MAX_TEXT_BYTES {
         let terminal = look(grammar, here);
-        if is_large(terminal.code, terminal.value) {
-            return terminal.start;
+        if terminal.code == 2 && 4611686018427387904 < terminal.value {
+            return Some(terminal.start);
         }
         if !belongs(terminal.code) {
-            return grammar.len();
+            break;
         }
         here = terminal.end;
-        tokens += 1;
     }
-    grammar.len()
+    None
 }
 
 fn calculated(out: Stdout, grammar: &[u8], at: usize) {
-    let large = large_in(grammar, at);
-    if large < grammar.len() {
-        large_number(out, grammar, large);
-        return;
+    match large_in(grammar, at) {
+        Some(place) => large_number(out, grammar, place),
+        None => calculation(out),
     }
-    calculation(out);
 }
 
 // A width of 63 or 64 bits is wrong only where it is bound.
 fn wide(out: Stdout, bits: usize) {
     match bits {
-        63 => bound_width(out),
-        64 => bound_width(out),
+        63 | 64 => bound_width(out),
         _ => width(out),
     }
 }
@@ -124,12 +106,11 @@ fn wide(out: Stdout, bits: usize) {
 // 8: only a width is followed by a comma.
 pub fn extent(out: Stdout, grammar: &[u8], at: usize) {
     let terminal = look(grammar, at);
-    let next = look(grammar, terminal.end).code;
-    if next == 44 {
+    if look(grammar, terminal.end).code == 44 {
         wide(out, terminal.value);
-        return;
+    } else {
+        calculated(out, grammar, at);
     }
-    calculated(out, grammar, at);
 }
 
 // `free`: by a count with a variable.

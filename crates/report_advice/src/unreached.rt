@@ -41,20 +41,20 @@ pub fn change(out: Stdout, used: bool) {
             reached; or take away every rule that is not reached, and the frames stay the\n\
             same.\n",
         );
-        return;
+    } else {
+        say(
+            out,
+            b"What to change: use it in a rule that is reached; or take it away, and the\n\
+            frames stay the same.\n",
+        );
     }
-    say(
-        out,
-        b"What to change: use it in a rule that is reached; or take it away, and the\n\
-        frames stay the same.\n",
-    );
 }
 
 // A few words on a further rule.
 pub fn brief(out: Stdout, used: bool) {
     if used {
         say(out, b"        only rules use it that are not reached\n");
-        return;
+    } else {
+        say(out, b"        nothing uses it\n");
     }
-    say(out, b"        nothing uses it\n");
 }

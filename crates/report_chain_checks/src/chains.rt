@@ -72,23 +72,13 @@ fn all(
 fn is_whole(at: Place, rest: usize, window: usize) -> bool
     ensures { result ≡ true → (at.rest ≡ rest) × (at.left ≡ 8) × (at.seen ≡ window) }
 {
-    if at.rest == rest {
-        if at.left == 8 {
-            return at.seen == window;
-        }
-    }
-    false
+    at.rest == rest && at.left == 8 && at.seen == window
 }
 
 fn is_one(items: &[usize], at: Place, i: usize) -> bool
     ensures { result ≡ true → (at.depth ≡ 1) × (i < max_constructs) × (get_or items.now 1 0 ≡ i) }
 {
-    if at.depth == 1 {
-        if i < 256 {
-            return number_at(items, 1) == i;
-        }
-    }
-    false
+    at.depth == 1 && i < 256 && number_at(items, 1) == i
 }
 
 fn yields(
@@ -127,10 +117,8 @@ fn yields_after(
     ensures { result ≡ true → YieldsAfter (held table.now) i (string window) (told steps.now 0 count) }
 {
     let at = all(table, first, follow, steps, items, count, depth, window);
-    if i < 256 {
-        if at.depth == 0 {
-            return is_whole(at, i + 1, window);
-        }
+    if i < 256 && at.depth == 0 {
+        return is_whole(at, i + 1, window);
     }
     false
 }

@@ -48,13 +48,7 @@ fn put_moved(table: &[u32], items: &[usize], at: Place, tag: usize, i: usize, v:
 
 // Tags 5, 6 and 11 to 13 are about what follows.
 fn is_moved(tag: usize) -> bool {
-    if tag == 5 {
-        return true;
-    }
-    if tag == 6 {
-        return true;
-    }
-    10 < tag
+    tag == 5 || tag == 6 || 10 < tag
 }
 
 // One entry.
@@ -110,12 +104,10 @@ pub fn replayed(
     ensures { result.depth < no_depth → (n : ℕ) → Tail table.now items.old start (told steps.now count n) → Tail table.now items.new result (told steps.now 0 (count + n)) }
 {
     let mut at = start;
-    let mut k = count;
-    while 0 < k {
+    for k in (0..count).rev() {
         if NO_DEPTH <= at.depth {
             return at;
         }
-        k -= 1;
         at = entry_at(table, first, steps, items, at, k);
     }
     at

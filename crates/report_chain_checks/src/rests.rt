@@ -49,7 +49,7 @@ fn after_pass(table: &[u32], items: &[usize], depth: usize, p: usize, v: usize) 
     }
     if below_copies(items, depth, p + 1, v) == 0 {
         match construct_at(table, p) {
-            Construct::Repetition { size: _, passes: _ } => p + 2,
+            Construct::Repetition { .. } => p + 2,
             _ => 0,
         }
     } else {
@@ -64,7 +64,7 @@ fn after_last_pass(table: &[u32], items: &[usize], depth: usize, p: usize) -> us
 {
     if depth == 0 {
         match construct_at(table, p) {
-            Construct::Repetition { size: _, passes: _ } => p + 2,
+            Construct::Repetition { .. } => p + 2,
             _ => 0,
         }
     } else {
@@ -96,7 +96,7 @@ fn after_member(table: &[u32], items: &[usize], depth: usize, p: usize, m: usize
     if has_part(table, p + 1, end, m) {
         if others_after(table, items, depth, m, end) {
             match construct_at(table, p) {
-                Construct::Concatenation { size: _ } => m + 1,
+                Construct::Concatenation { .. } => m + 1,
                 _ => 0,
             }
         } else {
@@ -115,8 +115,8 @@ fn after_branch(table: &[u32], items: &[usize], depth: usize, p: usize, b: usize
     if depth == 0 {
         if has_part(table, p + 1, end_of(table, p), b) {
             match construct_at(table, p) {
-                Construct::Alternative { size: _ } => b + 1,
-                Construct::Switch { size: _ } => b + 1,
+                Construct::Alternative { .. } => b + 1,
+                Construct::Switch { .. } => b + 1,
                 _ => 0,
             }
         } else {

@@ -49,10 +49,8 @@ fn ready(first: &[u64], items: &[usize], depth: usize) -> bool
     requires { (length first.now ≡ family_words) × (depth ≤ no_depth) }
     ensures { result ≡ true → (ws : List ℕ) → FirstSets ws first.now → FirstOf ws (stack ws items.now depth) }
 {
-    let mut d = 0;
-    while d < depth {
-        d += 1;
-        if !row_ready(first, number_at(items, d)) {
+    for d in 0..depth {
+        if !row_ready(first, number_at(items, d + 1)) {
             return false;
         }
     }
@@ -64,14 +62,8 @@ fn can_begin(table: &[u32], first: &[u64], i: usize, v: usize) -> bool
     requires { (length first.now ≡ family_words) × FirstSets table.now first.now }
     ensures { result ≡ true → (i < max_constructs) × (1 < v) × (v < 512) × BeginsWith table.now i (string v) }
 {
-    if i < 256 {
-        if 1 < v {
-            if v < 512 {
-                if is_field(table, i) {
-                    return some_begins(set_of(first, i), v);
-                }
-            }
-        }
+    if i < 256 && 1 < v && v < 512 && is_field(table, i) {
+        return some_begins(set_of(first, i), v);
     }
     false
 }
@@ -81,12 +73,8 @@ fn goes_on(first: &[u64], follow: &[u64], items: &[usize], depth: usize, j: usiz
     requires { (length first.now ≡ family_words) × (length follow.now ≡ family_words) }
     ensures { result ≡ true → (ws : List ℕ) → FirstSets ws first.now → FollowSets ws follow.now → FirstOf ws (stack ws items.now depth) × FollowOf ws j }
 {
-    if j < 256 {
-        if depth <= 1024 {
-            if ready(first, items, depth) {
-                return has_some(follow, j);
-            }
-        }
+    if j < 256 && depth <= 1024 && ready(first, items, depth) {
+        return has_some(follow, j);
     }
     false
 }
@@ -111,15 +99,13 @@ pub fn at_field(
     if depth == 0 {
         return failed();
     }
-    if goes_on(first, follow, items, depth - 1, bottom - 256) {
-        if can_begin(table, first, i, v) {
-            return Place {
-                depth: put(items, depth - 1, i),
-                rest: bottom - 255,
-                left: bits(v),
-                seen: v,
-            };
-        }
+    if goes_on(first, follow, items, depth - 1, bottom - 256) && can_begin(table, first, i, v) {
+        return Place {
+            depth: put(items, depth - 1, i),
+            rest: bottom - 255,
+            left: bits(v),
+            seen: v,
+        };
     }
     failed()
 }
@@ -129,15 +115,13 @@ pub fn at_end(table: &[u32], window: usize) -> Place
     ensures { result.depth < no_depth → (items : List ℕ) → Tail table.now items result (leaves opening ∷ frame_end ∷ []) }
 {
     let body = body_of(table, 0);
-    if body < 256 {
-        if window < 256 {
-            return Place {
-                depth: 0,
-                rest: body + 1,
-                left: 8 - bits(window),
-                seen: 1,
-            };
-        }
+    if body < 256 && window < 256 {
+        return Place {
+            depth: 0,
+            rest: body + 1,
+            left: 8 - bits(window),
+            seen: 1,
+        };
     }
     failed()
 }

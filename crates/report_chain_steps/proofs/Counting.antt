@@ -1,6 +1,6 @@
 -- Which passes fit a repetition's counts.
 -- Assumes nothing.
-use Prim.Native.Nat.{ℕ, ◌+◌, ◌-◌, ◌≤◌, ◌<◌, min}
+use Prim.Native.Nat.{ℕ, ◌-◌, ◌≤◌, ◌<◌, min}
 use mathlib.Core.Path.{◌≡◌, ap, ◌∙◌, subst}
 use mathlib.Core.List.{List, ◌++◌}
 use native.Mathlib.Omega.{arith}
@@ -8,7 +8,7 @@ use native.Mathlib.Decide.{ℕ_discrete}
 use borrow.Author.Tests.{eq-eqb, ne_eqb}
 use lib.ListN.{replicate}
 use Rattle.basis.specs.Counts.{Counts, from, within, Allows}
-use Rattle.report_chain_steps.specs.Replayed.{least_count, passes_of, Fits}
+use Rattle.report_chain_steps.specs.Replayed.{passes_of, Fits}
 
 pub from_many : (low n : ℕ) → n ≡ 8 → Fits (from low) n
 from_many low n e = (omega arith, rw (eq-eqb n 8 e) (omega arith))

@@ -16,10 +16,9 @@ use Rattle.table_layout.specs.Held.{held, node_of, HeldNode}
 use Rattle.table_layout.specs.declared.Construct.{Construct}
 use Rattle.table_first_follow.proofs.HeldLaws.{node_inside}
 use Rattle.theory.specs.Derivation.{construct, members}
-use Rattle.theory.specs.Lookahead.{First, Follow}
+use Rattle.theory.specs.Lookahead.{First}
 use Rattle.table_first_follow.specs.Rounds.{strings}
-use Rattle.table_first_follow.specs.Sets.{FirstSets, FollowSets}
-use Rattle.report_chain_meaning.specs.Chains.{Step, after, Spells}
+use Rattle.table_first_follow.specs.Sets.{FirstSets}
 use Rattle.report_chains.specs.Strings.{string, Begun}
 use Rattle.report_chain_meaning.proofs.Finding.{FoundAfter, found, found_after, then_after}
 use Rattle.report_chain_steps.specs.Replayed.{row, stack, past_eight, least_count, counts_at, FirstOf, FollowOf, IsField, is_field, Pattern, pattern, BeginsWith, begins_with}

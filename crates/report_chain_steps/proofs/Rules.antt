@@ -2,7 +2,7 @@
 -- Assumes nothing.
 use Prim.Native.Nat.{ℕ, zero, suc, ◌+◌, ◌-◌, ◌≤◌, ◌<◌, min}
 use mathlib.Core.Path.{◌≡◌, refl, sym, ap, ◌∙◌, subst}
-use mathlib.Core.Bool.{Bool, true}
+use mathlib.Core.Bool.{true}
 use mathlib.Core.List.Memᴰ
 use mathlib.Core.List.{List, [], ◌∷◌, ◌++◌, append-nil, append_assoc}
 use native.Mathlib.Omega.{arith}
@@ -21,7 +21,7 @@ use Rattle.table_first_follow.specs.Parts.{siblings}
 use Rattle.table_first_follow.proofs.HeldLaws.{node_inside}
 use Rattle.table_first_follow.proofs.PartLaws.{parts_siblings, siblings_first, siblings_next}
 use Rattle.report_chain_meaning.specs.Chains.{Step, enters, repeats, ends, leaves, goes_on, passes_over, Rest, after, Spells, listed}
-use Rattle.report_chain_steps.specs.Replayed.{stack, Longer, Made, Moved}
+use Rattle.report_chain_steps.specs.Replayed.{stack, Made, Moved}
 
 in_middle : (before : List ℕ) (b : ℕ) (more : List ℕ) → b ∈ before ++ b ∷ more
 in_middle [] b more = Memᴰ.head refl

@@ -1,13 +1,12 @@
 -- Laws of the stack of constructs still to be read.
 -- Assumes nothing.
-use Prim.Native.Nat.{ℕ, zero, suc, ◌+◌, ◌-◌, ◌≤◌, ◌<◌}
+use Prim.Native.Nat.{ℕ, zero, suc, ◌+◌, ◌-◌, ◌<◌}
 use mathlib.Core.Path.{◌≡◌, refl, sym, ap, ap₂, ◌∙◌}
 use mathlib.Core.List.{List, [], ◌∷◌, ◌++◌, append_assoc}
 use native.Mathlib.Omega.{arith}
 use borrow.Author.Tests.{lt-ltb, le-ltb, eq-eqb, ne_eqb}
 use lib.ListN.{length, get_or, set, replicate, replicate-append-replicate}
 use lib.Seq.{get_or-set_same, get_or-set_other}
-use Rattle.basis.specs.Counts.{Counts}
 use Rattle.basis.specs.Limits.{max_constructs}
 use Rattle.table_layout.specs.Constructs.{construct_at}
 use Rattle.report_chain_steps.specs.Replayed.{row, stack, past_eight, least_count, counts_at, passes_of}

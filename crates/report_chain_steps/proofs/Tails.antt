@@ -2,7 +2,7 @@
 -- Assumes nothing.
 use Prim.Native.Nat.{ℕ, zero, suc, ◌+◌, ◌-◌, ◌*◌, ◌^◌, ◌≤◌, ◌<◌, min}
 use mathlib.Core.Path.{◌≡◌, refl, sym, ap, ap₂, ◌∙◌, subst}
-use mathlib.Core.Bool.{Bool, true}
+use mathlib.Core.Bool.{true}
 use mathlib.Core.List.{List, [], ◌∷◌, ◌++◌, append-nil}
 use native.Mathlib.Omega.{arith}
 use native.Mathlib.Numerals.{add-one}
@@ -12,7 +12,7 @@ use Rattle.basis.specs.Bits.{Bits, append_digits, value}
 use Rattle.basis.specs.Limits.{max_constructs}
 use Rattle.basis.specs.Lookahead.{lookahead, number}
 use Rattle.basis.proofs.Numbers.{number_append, number_value}
-use Rattle.table_layout.specs.Held.{held, node_of, use_node, opening, Context, Values}
+use Rattle.table_layout.specs.Held.{held, opening}
 use Rattle.table_layout.specs.Places.{rule_word}
 use Rattle.table_first_follow.proofs.HeldLaws.{node_opening}
 use Rattle.report_chain_meaning.specs.Chains.{Step, takes, leaves, frame_end, Rest, after, Spells, listed, Lists}

@@ -44,9 +44,7 @@ fn of_repetition(table: &[u32], items: &[usize], depth: usize, i: usize, n: usiz
     ensures { MadeAt table.now items.now depth result i (repeats i n ∷ []) }
 {
     match construct_at(table, i) {
-        Construct::Repetition { size: _, passes } => {
-            below_passes(table, items, depth, i, passes, n)
-        }
+        Construct::Repetition { passes, .. } => { below_passes(table, items, depth, i, passes, n) }
         _ => NO_DEPTH,
     }
 }
@@ -67,7 +65,7 @@ fn of_no_case(table: &[u32], items: &[usize], depth: usize, i: usize) -> usize
     ensures { MadeAt table.now items.now depth result i (passes_over i ∷ []) }
 {
     match construct_at(table, i) {
-        Construct::Switch { size: _ } => {
+        Construct::Switch { .. } => {
             if no_default(table, i + 1, end_of(table, i)) {
                 return depth;
             }
@@ -83,12 +81,10 @@ fn of_branch(table: &[u32], items: &[usize], depth: usize, i: usize) -> usize
     ensures { MadeAt table.now items.now depth result i [] }
 {
     match construct_at(table, i) {
-        Construct::Alternative { size: _ } => {
+        Construct::Alternative { .. } => {
             below_part(table, items, depth, i + 1, end_of(table, i))
         }
-        Construct::Switch { size: _ } => {
-            below_part(table, items, depth, i + 1, end_of(table, i))
-        }
+        Construct::Switch { .. } => { below_part(table, items, depth, i + 1, end_of(table, i)) }
         _ => NO_DEPTH,
     }
 }
@@ -98,7 +94,7 @@ fn of_members(table: &[u32], items: &[usize], depth: usize, i: usize) -> usize
     ensures { MadeAt table.now items.now depth result i [] }
 {
     match construct_at(table, i) {
-        Construct::Concatenation { size: _ } => {
+        Construct::Concatenation { .. } => {
             below_parts(table, items, depth, i + 1, end_of(table, i))
         }
         _ => NO_DEPTH,
@@ -112,23 +108,13 @@ pub fn made(table: &[u32], items: &[usize], depth: usize, tag: usize, i: usize, 
     if 256 <= i {
         return NO_DEPTH;
     }
-    if tag == 2 {
-        return of_use(table, items, depth, i);
+    match tag {
+        2 => of_use(table, items, depth, i),
+        3 => of_repetition(table, items, depth, i, v),
+        4 => of_eod(table, items, depth, i),
+        8 => of_no_case(table, items, depth, i),
+        9 => of_branch(table, items, depth, i),
+        10 => of_members(table, items, depth, i),
+        _ => NO_DEPTH,
     }
-    if tag == 3 {
-        return of_repetition(table, items, depth, i, v);
-    }
-    if tag == 4 {
-        return of_eod(table, items, depth, i);
-    }
-    if tag == 8 {
-        return of_no_case(table, items, depth, i);
-    }
-    if tag == 9 {
-        return of_branch(table, items, depth, i);
-    }
-    if tag == 10 {
-        return of_members(table, items, depth, i);
-    }
-    NO_DEPTH
 }

@@ -9,7 +9,8 @@ ghost use Rattle.report_chain_steps.specs.Replayed.{no_depth, stack, counts_at a
 use crate::NO_DEPTH;
 use crate::stack::{below_copies, below_past_eight};
 use table_layout::{LITERALS_AT, Passes, TERMS_AT};
-use term_evaluation::Counted;
+use term_evaluation::Allowed;
+use term_words::TermError;
 
 // The words of the terms.
 fn term_words(table: &[u32]) -> &[u32]
@@ -26,24 +27,24 @@ fn term_words(table: &[u32]) -> &[u32]
 }
 
 // The counts that the terms from `start` up to `end` allow; with a variable, all.
-fn counted(table: &[u32], start: usize, end: usize) -> Counted
+fn counted(table: &[u32], start: usize, end: usize) -> Result<Allowed, TermError>
     ensures { allowed result ≡ passesStatic table.now (Passes.Counted start end) }
 {
     let words = term_words(table);
     if term_evaluation::variables::has_variable(words, start, end) {
-        return Counted::From { low: 0 };
+        return Ok(Allowed::From { low: 0 });
     }
     let none = [0i64; 1];
     term_evaluation::counts::count(words, start, end, &none[0..0])
 }
 
-fn static_counts(table: &[u32], passes: Passes) -> Counted
+fn static_counts(table: &[u32], passes: Passes) -> Result<Allowed, TermError>
     ensures { allowed result ≡ passesStatic table.now passes }
 {
     match passes {
-        Passes::Optional => Counted::Within { low: 0, more: 1 },
-        Passes::Any => Counted::From { low: 0 },
-        Passes::Some => Counted::From { low: 1 },
+        Passes::Optional => Ok(Allowed::Within { low: 0, more: 1 }),
+        Passes::Any => Ok(Allowed::From { low: 0 }),
+        Passes::Some => Ok(Allowed::From { low: 1 }),
         Passes::Counted { start, end } => counted(table, start, end),
     }
 }
@@ -74,15 +75,16 @@ fn fits_within(low: u64, more: u64, n: usize) -> bool
 }
 
 // Whether n passes are among the counts; eight stand for eight or more.
-fn fits(counts: Counted, n: usize) -> bool
+fn fits(counts: Result<Allowed, TermError>, n: usize) -> bool
     ensures { result ≡ true → Fits (allowed counts) n }
 {
-    match counts {
-        Counted::None => false,
-        Counted::From { low } => fits_from(low, n),
-        Counted::Within { low, more } => fits_within(low, more, n),
-        Counted::Malformed => false,
-        Counted::Overflow => false,
+    let Ok(allowed) = counts else {
+        return false;
+    };
+    match allowed {
+        Allowed::None => false,
+        Allowed::From { low } => fits_from(low, n),
+        Allowed::Within { low, more } => fits_within(low, more, n),
     }
 }
 

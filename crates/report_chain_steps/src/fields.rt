@@ -21,15 +21,9 @@ pub fn is_field(table: &[u32], i: usize) -> bool
     ensures { result ≡ true → IsField ((held table.now).node i) }
 {
     match construct_at(table, i) {
-        Construct::Literal { length: _ } => true,
-        Construct::Range { low: _, high: _ } => true,
-        Construct::Uint {
-            signed: _,
-            width: _,
-            start: _,
-            end: _,
-            binder: _,
-        } => true,
+        Construct::Literal { .. } => true,
+        Construct::Range { .. } => true,
+        Construct::Uint { .. } => true,
         _ => false,
     }
 }
@@ -39,10 +33,8 @@ fn has_bits(table: &[u32], first: &[u64], i: usize, v: usize) -> bool
     requires { (i < max_constructs) × (length first.now ≡ family_words) }
     ensures { result ≡ true → IsField ((held table.now).node i) × (v < 256) × ((s : Bits) × (number s ≡ v) × strings first.now i s) }
 {
-    if v < 256 {
-        if is_field(table, i) {
-            return lookahead::contains(set_of(first, i), v);
-        }
+    if v < 256 && is_field(table, i) {
+        return lookahead::contains(set_of(first, i), v);
     }
     false
 }
@@ -88,21 +80,13 @@ pub fn field(
 {
     let left = at.left;
     let seen = at.seen;
-    if i < 256 {
-        if left <= 8 {
-            if seen < 512 {
-                if has_bits(table, first, i, v) {
-                    if 0 < v {
-                        return Place {
-                            depth: put(items, at.depth, i),
-                            rest: at.rest,
-                            left: left + bits(v),
-                            seen: appended(v, seen),
-                        };
-                    }
-                }
-            }
-        }
+    if i < 256 && left <= 8 && seen < 512 && has_bits(table, first, i, v) && 0 < v {
+        return Place {
+            depth: put(items, at.depth, i),
+            rest: at.rest,
+            left: left + bits(v),
+            seen: appended(v, seen),
+        };
     }
     failed()
 }

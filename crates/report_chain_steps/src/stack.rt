@@ -10,13 +10,9 @@ use crate::words::number_at;
 pub fn put(items: &mut [usize], depth: usize, i: usize) -> usize
     ensures { result < no_depth → (depth < no_depth) × (i < max_constructs) × ((ws : List ℕ) → stack ws items.new result ≡ i ∷ stack ws items.old depth) }
 {
-    if depth < 1000 {
-        if i < 256 {
-            if depth + 1 < items.len() {
-                items[depth + 1] = i;
-                return depth + 1;
-            }
-        }
+    if depth < 1000 && i < 256 && depth + 1 < items.len() {
+        items[depth + 1] = i;
+        return depth + 1;
     }
     NO_DEPTH
 }
@@ -25,14 +21,8 @@ pub fn put(items: &mut [usize], depth: usize, i: usize) -> usize
 pub fn below_top(items: &[usize], depth: usize, b: usize) -> usize
     ensures { result < no_depth → (depth < no_depth) × ((ws : List ℕ) → stack ws items.now depth ≡ b ∷ stack ws items.now result) }
 {
-    if 0 < depth {
-        if depth < NO_DEPTH {
-            if b < 256 {
-                if number_at(items, depth) == b {
-                    return depth - 1;
-                }
-            }
-        }
+    if 0 < depth && depth < NO_DEPTH && b < 256 && number_at(items, depth) == b {
+        return depth - 1;
     }
     NO_DEPTH
 }
@@ -42,9 +32,7 @@ pub fn below_copies(items: &[usize], depth: usize, b: usize, n: usize) -> usize
     ensures { result < no_depth → (ws : List ℕ) → stack ws items.now depth ≡ replicate n b ++ stack ws items.now result }
 {
     let mut d = depth;
-    let mut k = n;
-    while 0 < k {
-        k -= 1;
+    for _k in 0..n {
         d = below_top(items, d, b);
     }
     d
@@ -54,14 +42,8 @@ pub fn below_copies(items: &[usize], depth: usize, b: usize, n: usize) -> usize
 pub fn below_past_eight(items: &[usize], depth: usize, i: usize) -> usize
     ensures { result < no_depth → (ws : List ℕ) → stack ws items.now depth ≡ past_eight ws i ++ stack ws items.now result }
 {
-    if 0 < depth {
-        if depth < NO_DEPTH {
-            if i < 256 {
-                if number_at(items, depth) == 512 + i {
-                    return depth - 1;
-                }
-            }
-        }
+    if 0 < depth && depth < NO_DEPTH && i < 256 && number_at(items, depth) == 512 + i {
+        return depth - 1;
     }
     NO_DEPTH
 }

@@ -1,6 +1,6 @@
 -- Strings of at most 8 bits by their numbers: "Its number is a 1 followed by its bits".
 -- Assumes nothing.
-use Rattle.std.specs.Prelude.{ℕ, ◌/◌, ◌^◌, ◌≡◌, cond, List, ltb, length, take}
+use Rattle.std.specs.Prelude.{ℕ, ◌/◌, ◌^◌, ◌≡◌, cond, List, ltb}
 use Rattle.basis.specs.Bits.{Bits, bits_of}
 use Rattle.basis.specs.Lookahead.{number}
 use Rattle.lookahead.specs.Sets.{Has}

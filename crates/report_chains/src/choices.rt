@@ -2,14 +2,14 @@
 use crate::entries::{Chain, closed, push, strings_of};
 use crate::strings::fits;
 use lookahead::Set;
-use report_measures::words::{number_at, put_number, set_at};
-use table_layout::{construct_at, size_of};
+use report_measures::structure::parts_from;
+use report_measures::words::{number_at, set_at};
 
 fn with(first: &[u64], rest: Set, i: usize) -> Set {
     lookahead::join(set_at(first, i), rest)
 }
 
-// The first part from `start` up to `end` that fits with the rest; `end` where none does.
+// The first part from `start` up to `end` that fits with the rest.
 pub fn fitting(
     table: &[u32],
     first: &[u64],
@@ -18,34 +18,8 @@ pub fn fitting(
     rest: Set,
     target: usize,
     whole: bool,
-) -> usize {
-    let mut at = start;
-    let mut n: usize = 0;
-    while n < 256 {
-        if end <= at {
-            return end;
-        }
-        if fits(with(first, rest, at), target, whole) {
-            return at;
-        }
-        at = after_part(table, at, end);
-        n += 1;
-    }
-    end
-}
-
-// The part after one.
-pub fn after_part(table: &[u32], at: usize, end: usize) -> usize {
-    let size = size_of(construct_at(table, at));
-    if size == 0 {
-        return end;
-    }
-    if at < 512 {
-        if size < 512 {
-            return at + size;
-        }
-    }
-    end
+) -> Option<usize> {
+    parts_from(table, start, end).find(|&part| fits(with(first, rest, part), target, whole))
 }
 
 pub fn choose(
@@ -58,24 +32,20 @@ pub fn choose(
     end: usize,
 ) -> Chain {
     let rest = strings_of(sets, chain.depth);
-    let part = fitting(table, first, start, end, rest, chain.target, chain.whole);
-    if part < end {
-        return push(items, sets, chain, part, set_at(first, part));
+    match fitting(table, first, start, end, rest, chain.target, chain.whole) {
+        Some(part) => push(items, sets, chain, part, set_at(first, part)),
+        None => closed(chain),
     }
-    closed(chain)
 }
 
 // The numbers of the parts from `start` up to `end`; how many there are.
 fn parts(table: &[u32], start: usize, end: usize, out: &mut [usize]) -> usize {
-    let mut at = start;
-    let mut n: usize = 0;
-    while n < 256 {
-        if end <= at {
-            return n;
+    let mut n = 0;
+    for part in parts_from(table, start, end) {
+        if n < out.len() {
+            out[n] = part;
+            n += 1;
         }
-        put_number(out, n, at);
-        at = after_part(table, at, end);
-        n += 1;
     }
     n
 }
@@ -91,37 +61,32 @@ pub fn push_parts(
     end: usize,
 ) -> Chain {
     let mut places = [0usize; 256];
-    let mut k = parts(table, start, end, &mut places);
     let mut all = chain;
-    while 0 < k {
-        k -= 1;
+    let count = parts(table, start, end, &mut places);
+    for k in (0..count).rev() {
         let part = number_at(&places, k);
         all = push(items, sets, all, part, set_at(first, part));
     }
     all
 }
 
-// The least number of passes from `low` to `high` that fits with the rest; 9 where none does.
-pub fn passes(body: Set, rest: Set, low: usize, high: usize, target: usize, whole: bool) -> usize {
+// The least number of passes from `low` to `high` that fits with the rest.
+pub fn passes(
+    body: Set,
+    rest: Set,
+    low: usize,
+    high: usize,
+    target: usize,
+    whole: bool,
+) -> Option<usize> {
     let mut set = rest;
-    let mut k: usize = 0;
-    while k < 9 {
-        if within(k, low, high) {
-            if fits(set, target, whole) {
-                return k;
-            }
+    for k in 0..9 {
+        if low <= k && k <= high && fits(set, target, whole) {
+            return Some(k);
         }
         set = lookahead::join(body, set);
-        k += 1;
     }
-    9
-}
-
-fn within(k: usize, low: usize, high: usize) -> bool {
-    if low <= k {
-        return k <= high;
-    }
-    false
+    None
 }
 
 pub fn push_passes(
@@ -133,10 +98,8 @@ pub fn push_passes(
     n: usize,
 ) -> Chain {
     let mut all = chain;
-    let mut k: usize = 0;
-    while k < n {
+    for _k in 0..n {
         all = push(items, sets, all, body, set);
-        k += 1;
     }
     all
 }

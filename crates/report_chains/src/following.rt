@@ -1,9 +1,8 @@
 // What comes after a construct is taken off the list, and what it is made of put on.
-use crate::choices::{after_part, passes, push_parts, push_passes};
-use crate::constructs::{next, sum};
-use crate::entries::{Chain, closed, noted, push};
+use crate::choices::{passes, push_parts, push_passes};
+use crate::entries::{Chain, Tag, closed, noted, push};
 use crate::uses::use_before;
-use report_measures::structure::{parent_of, rule_of};
+use report_measures::structure::{after as after_part, end_of, next, parent_of, rule_of};
 use report_measures::words::set_at;
 use table_layout::{Construct, construct_at};
 
@@ -31,24 +30,16 @@ fn after_rule(
     chain: Chain,
     rule: usize,
 ) -> Chain {
-    if ends(rule, chain.target, chain.whole) {
-        return closed(noted(steps, chain, 7, 0, 0));
+    if rule == 0 && chain.target == 1 && chain.whole {
+        return closed(noted(steps, chain, Tag::FrameEnd, 0, 0));
     }
-    let user = use_before(table, follow, rule, chain.target, chain.whole);
-    if user == 256 {
-        return closed(chain);
-    }
-    let told = noted(steps, chain, 5, user, rule);
-    push_after(follow, items, sets, told, user)
-}
-
-fn ends(rule: usize, target: usize, whole: bool) -> bool {
-    if rule == 0 {
-        if target == 1 {
-            return whole;
+    match use_before(table, follow, rule, chain.target, chain.whole) {
+        Some(user) => {
+            let told = noted(steps, chain, Tag::Leaves, user, rule);
+            push_after(follow, items, sets, told, user)
         }
+        None => closed(chain),
     }
-    false
 }
 
 // After a pass: further passes, and what comes after the repetition.
@@ -63,19 +54,18 @@ fn after_pass(
 ) -> Chain {
     let body = next(p);
     let set = set_at(first, body);
-    let n = passes(set, set_at(follow, p), 0, 8, chain.target, chain.whole);
-    if n == 9 {
+    let Some(n) = passes(set, set_at(follow, p), 0, 8, chain.target, chain.whole) else {
         return closed(chain);
-    }
+    };
     let all = push_after(follow, items, sets, more(steps, chain, p, n), p);
     push_passes(items, sets, all, body, set, n)
 }
 
 fn more(steps: &mut [usize], chain: Chain, p: usize, n: usize) -> Chain {
     if n == 0 {
-        return noted(steps, chain, 13, next(p), 0);
+        return noted(steps, chain, Tag::LastPass, next(p), 0);
     }
-    noted(steps, chain, 6, p, n)
+    noted(steps, chain, Tag::GoesOn, p, n)
 }
 
 fn after_member(
@@ -90,7 +80,7 @@ fn after_member(
     size: usize,
 ) -> Chain {
     let all = push_after(follow, items, sets, chain, p);
-    let end = sum(p, size);
+    let end = end_of(p, size);
     push_parts(
         table,
         first,
@@ -116,13 +106,17 @@ fn after_in(
 ) -> Chain {
     match construct_at(table, p) {
         Construct::Concatenation { size } => {
-            let told = noted(steps, chain, 11, i, 0);
+            let told = noted(steps, chain, Tag::MemberEnd, i, 0);
             after_member(table, first, follow, items, sets, told, i, p, size)
         }
-        Construct::Repetition { size: _, passes: _ } => {
-            after_pass(first, follow, items, sets, steps, chain, p)
-        }
-        _ => push_after(follow, items, sets, noted(steps, chain, 12, i, 0), p),
+        Construct::Repetition { .. } => { after_pass(first, follow, items, sets, steps, chain, p) }
+        _ => push_after(
+            follow,
+            items,
+            sets,
+            noted(steps, chain, Tag::BranchEnd, i, 0),
+            p,
+        ),
     }
 }
 
@@ -136,9 +130,11 @@ pub fn after(
     chain: Chain,
     i: usize,
 ) -> Chain {
-    let p = parent_of(table, i);
-    if p == 256 {
-        return after_rule(table, follow, items, sets, steps, chain, rule_of(table, i));
+    if let Some(p) = parent_of(table, i) {
+        return after_in(table, first, follow, items, sets, steps, chain, i, p);
     }
-    after_in(table, first, follow, items, sets, steps, chain, i, p)
+    match rule_of(table, i) {
+        Some(rule) => after_rule(table, follow, items, sets, steps, chain, rule),
+        None => closed(chain),
+    }
 }

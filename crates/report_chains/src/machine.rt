@@ -1,7 +1,7 @@
 // A list of what is still to come, the first on top. Each entry has the strings of itself with all that comes after it; what is left of the window
 // always fits the strings on top.
 use crate::constructs::construct;
-use crate::entries::{Chain, less_one, popped, push};
+use crate::entries::{Chain, popped, push};
 use crate::following::{after, push_after};
 use report_measures::words::{number_at, set_at};
 
@@ -15,8 +15,8 @@ fn step(
     steps: &mut [usize],
     chain: Chain,
 ) -> Chain {
-    let item = number_at(items, less_one(chain.depth));
     let rest = popped(chain);
+    let item = number_at(items, rest.depth);
     if item < 256 {
         return construct(table, first, items, sets, steps, rest, item);
     }
@@ -24,13 +24,6 @@ fn step(
         return after(table, first, follow, items, sets, steps, rest, item - 256);
     }
     rest
-}
-
-fn runs(chain: Chain) -> bool {
-    if chain.open {
-        return 0 < chain.depth;
-    }
-    false
 }
 
 fn run(
@@ -43,25 +36,13 @@ fn run(
     start: Chain,
 ) -> Chain {
     let mut chain = start;
-    let mut n: usize = 0;
-    while n < 4096 {
-        if !runs(chain) {
+    for _n in 0..4096 {
+        if !chain.open || chain.depth == 0 {
             return chain;
         }
         chain = step(table, first, follow, items, sets, steps, chain);
-        n += 1;
     }
     chain
-}
-
-fn started(target: usize, whole: bool) -> Chain {
-    Chain {
-        depth: 0,
-        target,
-        whole,
-        count: 0,
-        open: true,
-    }
 }
 
 // How many steps are listed, and how many entries are still to come.
@@ -71,10 +52,35 @@ pub struct Listing {
     pub depth: usize,
 }
 
-fn found(chain: Chain) -> Listing {
+// How the window is spelt by `construct`, where it is given, and then by what comes after `behind`, where that is.
+fn found(
+    table: &[u32],
+    first: &[u64],
+    follow: &[u64],
+    steps: &mut [usize],
+    items: &mut [usize],
+    construct: Option<usize>,
+    behind: Option<usize>,
+    window: usize,
+) -> Listing {
+    let mut sets = [0u64; 4096];
+    let mut chain = Chain {
+        depth: 0,
+        target: window,
+        whole: window < 256,
+        count: 0,
+        open: true,
+    };
+    if let Some(i) = behind {
+        chain = push_after(follow, items, &mut sets, chain, i);
+    }
+    if let Some(i) = construct {
+        chain = push(items, &mut sets, chain, i, set_at(first, i));
+    }
+    let last = run(table, first, follow, items, &mut sets, steps, chain);
     Listing {
-        count: chain.count,
-        depth: chain.depth,
+        count: last.count,
+        depth: last.depth,
     }
 }
 
@@ -88,11 +94,7 @@ pub fn goes(
     i: usize,
     window: usize,
 ) -> Listing {
-    let mut sets = [0u64; 4096];
-    let after = push_after(follow, items, &mut sets, started(window, window < 256), i);
-    let both = push(items, &mut sets, after, i, set_at(first, i));
-    let chain = run(table, first, follow, items, &mut sets, steps, both);
-    found(chain)
+    found(table, first, follow, steps, items, Some(i), Some(i), window)
 }
 
 // How what comes after construct i spells the window.
@@ -105,10 +107,7 @@ pub fn stops(
     i: usize,
     window: usize,
 ) -> Listing {
-    let mut sets = [0u64; 4096];
-    let after = push_after(follow, items, &mut sets, started(window, window < 256), i);
-    let chain = run(table, first, follow, items, &mut sets, steps, after);
-    found(chain)
+    found(table, first, follow, steps, items, None, Some(i), window)
 }
 
 // How construct i takes no bits.
@@ -120,8 +119,5 @@ pub fn takes_nothing(
     items: &mut [usize],
     i: usize,
 ) -> Listing {
-    let mut sets = [0u64; 4096];
-    let both = push(items, &mut sets, started(1, true), i, set_at(first, i));
-    let chain = run(table, first, follow, items, &mut sets, steps, both);
-    found(chain)
+    found(table, first, follow, steps, items, Some(i), None, 1)
 }

@@ -52,30 +52,21 @@ fn power(n: usize) -> usize
     }
 }
 
-fn less(a: usize, b: usize) -> usize {
-    if b <= a {
-        return a - b;
-    }
-    0
-}
-
 // The first bits of a string, as far as it has them.
 pub fn head(n: usize, width: usize) -> usize {
-    n / power(less(bits(n), width))
+    n / power(bits(n).saturating_sub(width))
 }
 
 fn plus(a: usize, b: usize) -> usize {
-    if a <= 256 {
-        if b <= 256 {
-            return a + b;
-        }
+    if a <= 256 && b <= 256 {
+        return a + b;
     }
     1
 }
 
 // The bits after the first ones.
 pub fn tail(n: usize, width: usize) -> usize {
-    let p = power(less(bits(n), width));
+    let p = power(bits(n).saturating_sub(width));
     plus(n % p, p)
 }
 
@@ -83,32 +74,10 @@ pub fn tail(n: usize, width: usize) -> usize {
 fn begins(n: usize, with: usize) -> bool
     ensures { result ≡ true → Begun n with }
 {
-    if n == with {
-        return true;
-    }
-    if n / 2 == with {
-        return true;
-    }
-    if n / 4 == with {
-        return true;
-    }
-    if n / 8 == with {
-        return true;
-    }
-    if n / 16 == with {
-        return true;
-    }
-    if n / 32 == with {
-        return true;
-    }
-    if n / 64 == with {
-        return true;
-    }
-    if n / 128 == with {
-        return true;
-    }
-    if n / 256 == with {
-        return true;
+    for k in 0usize..9 {
+        if n >> k == with {
+            return true;
+        }
     }
     false
 }
@@ -126,12 +95,10 @@ fn begun(set: Set, n: usize, target: usize) -> bool
 pub fn some_begins(set: Set, target: usize) -> bool
     ensures { result ≡ true → SomeBegins set.words target }
 {
-    let mut n = 1;
-    while n < 512 {
+    for n in 1..512 {
         if begun(set, n, target) {
             return true;
         }
-        n += 1;
     }
     false
 }

@@ -13,8 +13,7 @@ use text_parsing::terminals::look;
 // The place of a repetition's sign.
 fn mark_of(grammar: &[u8], construct: usize) -> usize {
     let end = end_of(grammar, place_of(grammar, construct), Part::Field);
-    let terminal = look(grammar, end);
-    terminal.start
+    look(grammar, end).start
 }
 
 // A repetition, and how its body takes nothing; of a body with 8 passes and more that take nothing no list is made.
@@ -40,74 +39,36 @@ fn is_free(table: &[u32], first: &[u64], construct: usize) -> bool
     chains::free(table, &steps, count)
 }
 
+// The repetitions whose body may be empty, by where their sign stands.
 fn is_here(grammar: &[u8], table: &[u32], first: &[u64], i: usize, at: usize) -> bool {
-    if sets::empty_body(table, first, i) {
-        return mark_of(grammar, i) == at;
-    }
-    false
-}
-
-// The repetition whose sign stands at a place; 256 where there is none.
-fn this(grammar: &[u8], table: &[u32], first: &[u64], at: usize) -> usize {
-    let mut i: usize = 0;
-    while i < 256 {
-        if is_here(grammar, table, first, i, at) {
-            return i;
-        }
-        i += 1;
-    }
-    256
+    sets::empty_body(table, first, i) && mark_of(grammar, i) == at
 }
 
 fn is_other(grammar: &[u8], table: &[u32], first: &[u64], i: usize, at: usize) -> bool {
-    if sets::empty_body(table, first, i) {
-        return mark_of(grammar, i) != at;
-    }
-    false
-}
-
-fn has_others(grammar: &[u8], table: &[u32], first: &[u64], at: usize) -> bool {
-    let mut i: usize = 0;
-    while i < 256 {
-        if is_other(grammar, table, first, i, at) {
-            return true;
-        }
-        i += 1;
-    }
-    false
-}
-
-fn another(out: Stdout, grammar: &[u8], table: &[u32], first: &[u64], i: usize, at: usize)
-    requires { FirstFamily table.now first.now }
-{
-    if is_other(grammar, table, first, i, at) {
-        body(out, grammar, table, first, i);
-    }
-}
-
-fn each_other(out: Stdout, grammar: &[u8], table: &[u32], first: &[u64], at: usize)
-    requires { FirstFamily table.now first.now }
-{
-    let mut i: usize = 0;
-    while i < 256 {
-        another(out, grammar, table, first, i, at);
-        i += 1;
-    }
+    sets::empty_body(table, first, i) && mark_of(grammar, i) != at
 }
 
 fn others(out: Stdout, grammar: &[u8], table: &[u32], first: &[u64], at: usize)
     requires { FirstFamily table.now first.now }
 {
-    if has_others(grammar, table, first, at) {
-        say(out, b"The same is wrong here:\n");
-        each_other(out, grammar, table, first, at);
+    let mut is_first = true;
+    for i in 0..256 {
+        if is_other(grammar, table, first, i, at) {
+            if is_first {
+                say(out, b"The same is wrong here:\n");
+            }
+            is_first = false;
+            body(out, grammar, table, first, i);
+        }
     }
 }
 
 fn told(out: Stdout, grammar: &[u8], table: &[u32], at: usize) {
     let mut first = [0u64; 2056];
     table_first_follow::first::first(table, &mut first);
-    let construct = this(grammar, table, &first, at);
+    let construct = (0..256)
+        .find(|&i| is_here(grammar, table, &first, i, at))
+        .unwrap_or(256);
     let free = is_free(table, &first, construct);
     report_advice::rest::empty_body(out, free);
     body(out, grammar, table, &first, construct);

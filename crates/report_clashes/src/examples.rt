@@ -8,7 +8,7 @@ use report_chain_checks::chains as checked;
 use report_chains::strings::bits;
 use report_examples::plain::{plain, used_once};
 use report_examples::prefix::up_to;
-use report_listing::chains::{tag_at, value_at};
+use report_listing::chains::step_at;
 use report_measures::words::number_at;
 use report_quoting::windows::binary;
 use report_wording::writing::{hexadecimal, number, say};
@@ -16,59 +16,28 @@ use std::io::Stdout;
 use table_conflicts::Clash;
 
 fn has(steps: &[usize], count: usize, tag: usize) -> bool {
-    let mut k: usize = 0;
-    while k < count {
-        if tag_at(steps, k) == tag {
-            return true;
-        }
-        k += 1;
-    }
-    false
-}
-
-fn sum(a: usize, b: usize) -> usize {
-    if a < 1000 {
-        if b < 1000 {
-            return a + b;
-        }
-    }
-    1000
-}
-
-fn spelt(steps: &[usize], k: usize, n: usize) -> usize {
-    if tag_at(steps, k) == 1 {
-        return sum(n, bits(value_at(steps, k)));
-    }
-    n
+    (0..count).any(|k| step_at(steps, k).tag == tag)
 }
 
 // How many bits of the window the fields have.
 fn total(steps: &[usize], count: usize) -> usize {
     let mut n: usize = 0;
-    let mut k: usize = 0;
-    while k < count {
-        n = spelt(steps, k, n);
-        k += 1;
+    for k in 0..count {
+        let step = step_at(steps, k);
+        if step.tag == 1 {
+            n = n.saturating_add(bits(step.value));
+        }
     }
     n
 }
 
 fn stays(table: &[u32], steps: &[usize], count: usize) -> bool {
-    if has(steps, count, 6) {
-        return false;
-    }
-    if has(steps, count, 5) {
-        return used_once(table);
-    }
-    true
+    !has(steps, count, 6) && (!has(steps, count, 5) || used_once(table))
 }
 
 // A chain that spells a window of 8 bits.
 fn certain(table: &[u32], steps: &[usize], count: usize) -> bool {
-    if total(steps, count) == 8 {
-        return stays(table, steps, count);
-    }
-    false
+    total(steps, count) == 8 && stays(table, steps, count)
 }
 
 fn goes(table: &[u32], first: &[u64], follow: &[u64], i: usize, window: usize) -> bool
@@ -110,31 +79,15 @@ fn byte(bits: &[usize], k: usize) -> usize {
     16 * high + low
 }
 
-fn put_byte(out: Stdout, bits: &[usize], k: usize) {
-    hexadecimal(out, b" ", byte(bits, k), 2);
-}
-
 fn bytes(out: Stdout, bits: &[usize], count: usize) {
-    let mut k: usize = 0;
-    while k < count {
-        put_byte(out, bits, k);
-        k += 1;
-    }
-}
-
-fn digit(out: Stdout, b: usize) {
-    if b == 0 {
-        say(out, b"0");
-    } else {
-        say(out, b"1");
+    for k in 0..count {
+        hexadecimal(out, b" ", byte(bits, k), 2);
     }
 }
 
 fn digits(out: Stdout, bits: &[usize], count: usize) {
-    let mut k: usize = 0;
-    while k < count {
-        digit(out, one(bits, k));
-        k += 1;
+    for k in 0..count {
+        number(out, b"", one(bits, k));
     }
 }
 
@@ -162,10 +115,7 @@ fn unaligned(out: Stdout, bits: &[usize], count: usize, window: usize) {
 
 // With nothing before it the window says it all.
 fn shown(out: Stdout, bits: &[usize], count: usize, window: usize) {
-    if count == 0 {
-        return;
-    }
-    if 192 < count {
+    if count == 0 || 192 < count {
         return;
     }
     if count % 8 == 0 {
@@ -178,8 +128,9 @@ fn shown(out: Stdout, bits: &[usize], count: usize, window: usize) {
 fn at(out: Stdout, table: &[u32], follow: &[u64], construct: usize, window: usize) {
     if plain(table, follow) {
         let mut bits = [0usize; 256];
-        let count = up_to(table, construct, &mut bits);
-        shown(out, &bits, count, window);
+        if let Some(count) = up_to(table, construct, &mut bits) {
+            shown(out, &bits, count, window);
+        }
     }
 }
 
@@ -195,10 +146,8 @@ fn branches(
 )
     requires { Families table.now first.now follow.now }
 {
-    if goes(table, first, follow, one, window) {
-        if goes(table, first, follow, other, window) {
-            at(out, table, follow, construct, window);
-        }
+    if goes(table, first, follow, one, window) && goes(table, first, follow, other, window) {
+        at(out, table, follow, construct, window);
     }
 }
 
@@ -212,10 +161,10 @@ fn passes(
 )
     requires { Families table.now first.now follow.now }
 {
-    if goes(table, first, follow, next(construct), window) {
-        if stops(table, first, follow, construct, window) {
-            at(out, table, follow, construct, window);
-        }
+    if goes(table, first, follow, next(construct), window)
+        && stops(table, first, follow, construct, window)
+    {
+        at(out, table, follow, construct, window);
     }
 }
 

@@ -56,67 +56,11 @@ fn another(out: Stdout, grammar: &[u8], table: &[u32], construct: usize, clash: 
     }
 }
 
-fn is_clash(clash: Clash) -> bool {
-    match clash {
-        Clash::None => false,
-        _ => true,
-    }
-}
-
-fn clashes_at(table: &[u32], follow: &[u64], prediction: &[u64], i: usize) -> bool {
-    is_clash(sets::clash(table, follow, prediction, i))
-}
-
-fn counted(table: &[u32], follow: &[u64], prediction: &[u64], i: usize, n: usize) -> usize {
-    if clashes_at(table, follow, prediction, i) {
-        if n < 256 {
-            return n + 1;
-        }
-    }
-    n
-}
-
 // How many constructs from one on have a clash.
 fn count_from(table: &[u32], follow: &[u64], prediction: &[u64], from: usize) -> usize {
-    let mut n: usize = 0;
-    let mut i = from;
-    while i < 256 {
-        n = counted(table, follow, prediction, i, n);
-        i += 1;
-    }
-    n
-}
-
-fn another_at(
-    out: Stdout,
-    grammar: &[u8],
-    table: &[u32],
-    follow: &[u64],
-    prediction: &[u64],
-    i: usize,
-) {
-    another(
-        out,
-        grammar,
-        table,
-        i,
-        sets::clash(table, follow, prediction, i),
-    );
-}
-
-fn each_from(
-    out: Stdout,
-    grammar: &[u8],
-    table: &[u32],
-    follow: &[u64],
-    prediction: &[u64],
-    from: usize,
-) {
-    let mut i = from;
-    while i < 256 {
-        another_at(out, grammar, table, follow, prediction, i);
-        i += 1;
-    }
+    (from..256)
+        .filter(|&i| !matches!(sets::clash(table, follow, prediction, i), Clash::None))
+        .count()
 }
 
 pub fn others(
@@ -133,5 +77,13 @@ pub fn others(
     }
     number(out, b"Further clashes: ", n);
     say(out, b". They may be gone once the first is.\n");
-    each_from(out, grammar, table, follow, prediction, next(construct));
+    for i in next(construct)..256 {
+        another(
+            out,
+            grammar,
+            table,
+            i,
+            sets::clash(table, follow, prediction, i),
+        );
+    }
 }

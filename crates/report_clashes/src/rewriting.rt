@@ -3,7 +3,6 @@ use lookahead::Set;
 use report_listing::places::place_of;
 use report_measures::lengths::is_literal;
 use report_measures::literals::character;
-use report_measures::words::{number_at, put_number};
 use report_quoting::prefixes;
 use std::io::Stdout;
 use table_layout::{Construct, construct_at};
@@ -11,34 +10,16 @@ use table_layout::{Construct, construct_at};
 // The construct that a branch begins with: of a concatenation its first member.
 fn leading(table: &[u32], i: usize) -> usize {
     match construct_at(table, i) {
-        Construct::Concatenation { size: _ } => { if i < 256 { i + 1 } else { i } }
+        Construct::Concatenation { .. } => i.saturating_add(1),
         _ => i,
     }
 }
 
 // Each of the branches begins with a literal.
-fn all_literals(table: &[u32], branches: &[usize], count: usize) -> bool {
-    let mut k: usize = 0;
-    while k < count {
-        if !is_literal(table, leading(table, number_at(branches, k))) {
-            return false;
-        }
-        k += 1;
-    }
-    true
-}
-
-fn place_into(grammar: &[u8], branches: &[usize], k: usize, out: &mut [usize]) {
-    put_number(out, k, place_of(grammar, number_at(branches, k)));
-}
-
-// The places of the branches.
-fn places(grammar: &[u8], branches: &[usize], count: usize, out: &mut [usize]) {
-    let mut k: usize = 0;
-    while k < count {
-        place_into(grammar, branches, k, out);
-        k += 1;
-    }
+fn all_literals(table: &[u32], branches: &[usize]) -> bool {
+    branches
+        .iter()
+        .all(|&i| is_literal(table, leading(table, i)))
 }
 
 // Whether what comes after the alternative may begin as the literal of branch i goes on after n characters.
@@ -97,60 +78,39 @@ fn two(
     after: Set,
     branches: &[usize],
     places: &[usize],
-    count: usize,
 ) -> bool {
-    if prefixes::fit(grammar, places, 2) {
+    let count = branches.len();
+    let pair = places.get(..2).unwrap_or(places);
+    if prefixes::fit(grammar, pair) {
         report_advice::clashes::in_front(out, 2);
-        prefixes::written(out, grammar, places, 2);
+        prefixes::written(out, grammar, pair);
         report_advice::clashes::mends(out, count);
         return true;
     }
-    one_in_other(
-        out,
-        grammar,
-        table,
-        after,
-        number_at(branches, 0),
-        number_at(branches, 1),
-        count,
-    )
+    match branches {
+        [first, second, ..] => one_in_other(out, grammar, table, after, *first, *second, count),
+        _ => false,
+    }
 }
 
 // All of them, where each begins with a literal.
-fn all(
-    out: Stdout,
-    grammar: &[u8],
-    table: &[u32],
-    branches: &[usize],
-    places: &[usize],
-    count: usize,
-) -> bool {
-    if all_literals(table, branches, count) {
-        if prefixes::fit(grammar, places, count) {
-            report_advice::clashes::in_front(out, count);
-            prefixes::written(out, grammar, places, count);
-            return true;
-        }
+fn all(out: Stdout, grammar: &[u8], table: &[u32], branches: &[usize], places: &[usize]) -> bool {
+    let fits = all_literals(table, branches) && prefixes::fit(grammar, places);
+    if fits {
+        report_advice::clashes::in_front(out, branches.len());
+        prefixes::written(out, grammar, places);
     }
-    false
+    fits
 }
 
 // Whether the branches were written anew, or it was said why not. `after`: what may come after the alternative.
-pub fn written(
-    out: Stdout,
-    grammar: &[u8],
-    table: &[u32],
-    after: Set,
-    branches: &[usize],
-    count: usize,
-) -> bool {
-    let mut spots = [0usize; 256];
-    places(grammar, branches, count, &mut spots);
-    if all(out, grammar, table, branches, &spots, count) {
-        return true;
+pub fn written(out: Stdout, grammar: &[u8], table: &[u32], after: Set, branches: &[usize]) -> bool {
+    let mut places = [0usize; 256];
+    for (place, i) in places.iter_mut().zip(branches) {
+        *place = place_of(grammar, *i);
     }
-    if all_literals(table, branches, 2) {
-        return two(out, grammar, table, after, branches, &spots, count);
-    }
-    false
+    let places = places.get(..branches.len()).unwrap_or(&[]);
+    all(out, grammar, table, branches, places)
+        || all_literals(table, branches.get(..2).unwrap_or(branches))
+            && two(out, grammar, table, after, branches, places)
 }

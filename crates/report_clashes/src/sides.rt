@@ -6,6 +6,8 @@ ghost use Rattle.report_clashes.specs.Quoted.{part_of};
 use report_chain_checks::chains as checked;
 use report_listing::chains;
 use report_listing::places::{part_at, place_of};
+use report_measures::counts::varies;
+use report_measures::lengths::{is_signed, width_of};
 use report_measures::starts;
 use report_places::{Located, Query, locate};
 use report_quoting::quoting::Part;
@@ -13,47 +15,31 @@ use report_quoting::windows;
 use report_wording::writing::say;
 use std::io::Stdout;
 use table_conflicts::Clash;
-use text_header::bytes::either;
 
 // An alternative that is a branch stands in parentheses.
 #[tactic(auto, unfolding(crate::specs::Quoted::part_of))]
 fn part_of(kind: usize) -> Part
     ensures { result ≡ part_of kind }
 {
-    if kind == 1 {
-        return Part::Whole;
-    }
-    Part::Branch
+    if kind == 1 { Part::Whole } else { Part::Branch }
 }
 
 // A branch, with its place.
 pub fn part(out: Stdout, grammar: &[u8], construct: usize) {
     match locate(grammar, Query::Construct(construct)) {
-        Located::Construct {
-            place,
-            kind,
-            count: _,
-        } => part_at(out, grammar, place, part_of(kind)),
+        Located::Construct { place, kind, .. } => part_at(out, grammar, place, part_of(kind)),
         _ => {}
     }
 }
 
 // A field whose bits are all that there is to be told of it: of a sint the value is told too.
 fn is_told(table: &[u32], construct: usize) -> bool {
-    if report_measures::lengths::is_signed(table, construct) {
-        return false;
-    }
-    !report_measures::counts::varies(table, construct)
+    !is_signed(table, construct) && !varies(table, construct)
 }
 
 // A branch that is a field needs no further word.
 fn is_plain(table: &[u32], construct: usize, count: usize) -> bool {
-    if count == 1 {
-        if 0 < report_measures::lengths::width_of(table, construct) {
-            return is_told(table, construct);
-        }
-    }
-    false
+    count == 1 && 0 < width_of(table, construct) && is_told(table, construct)
 }
 
 // How construct i, and what comes after it, admits the window.
@@ -150,8 +136,8 @@ fn branches(
 )
     requires { Families table.now first.now follow.now }
 {
-    let a = goes_free(table, first, follow, one, window);
-    let free = either(a, goes_free(table, first, follow, other, window));
+    let free = goes_free(table, first, follow, one, window)
+        || goes_free(table, first, follow, other, window);
     say(
         out,
         b"The next bits of a frame must say which branch of an alternative is\n",
@@ -168,10 +154,7 @@ fn branches(
 }
 
 pub fn next(i: usize) -> usize {
-    if i < 256 {
-        return i + 1;
-    }
-    256
+    i.saturating_add(1).min(256)
 }
 
 fn passes(
@@ -185,8 +168,8 @@ fn passes(
 )
     requires { Families table.now first.now follow.now }
 {
-    let a = goes_free(table, first, follow, next(construct), window);
-    let free = either(a, stops_free(table, first, follow, construct, window));
+    let free = goes_free(table, first, follow, next(construct), window)
+        || stops_free(table, first, follow, construct, window);
     say(
         out,
         b"Before each pass of ?, *, + or {2~4} the next 8 bits must say whether one\n",

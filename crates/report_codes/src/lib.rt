@@ -4,65 +4,49 @@
 ghost use Rattle.std.specs.Prelude.{◌≡◌};
 ghost use Rattle.report_codes.specs.Codes.{begins_item, ends_item, is_literal, is_ranging, in_field, in_set, is_joining};
 
-use text_header::bytes::{both, either};
-
 // Names, numbers, literals, and what opens an item.
 pub fn begins_item(code: usize) -> bool
     ensures { result ≡ begins_item code }
 {
-    either(
-        both(1 <= code, code <= 3),
-        either(both(6 <= code, code <= 9), either(code == 40, code == 91)),
-    )
+    (1 <= code && code <= 3) || (6 <= code && code <= 9) || code == 40 || code == 91
 }
 
 // A name, a number, a literal, a closing bracket.
 pub fn ends_item(code: usize) -> bool
     ensures { result ≡ ends_item code }
 {
-    either(
-        either(both(1 <= code, code <= 3), code == 7),
-        either(
-            code == 9,
-            either(code == 41, either(code == 93, code == 125)),
-        ),
-    )
+    (1 <= code && code <= 3) || code == 7 || code == 9 || code == 41 || code == 93 || code == 125
 }
 
+#[tactic(auto, unfolding(crate::specs::Codes::is_literal))]
 pub fn literal_code(code: usize) -> bool
     ensures { result ≡ is_literal code }
 {
-    either(code == 3, code == 9)
+    code == 3 || code == 9
 }
 
 pub fn ranging(code: usize, last: usize) -> bool
     ensures { result ≡ is_ranging code last }
 {
-    either(
-        both(code == 126, literal_code(last)),
-        both(last == 126, literal_code(code)),
-    )
+    (code == 126 && literal_code(last)) || (last == 126 && literal_code(code))
 }
 
 // `uint(`, or `uint(` and a width.
 pub fn in_field(third: usize, second: usize, last: usize) -> bool
     ensures { result ≡ in_field third second last }
 {
-    either(
-        both(second == 6, last == 40),
-        both(third == 6, both(second == 40, last == 2)),
-    )
+    (second == 6 && last == 40) || (third == 6 && second == 40 && last == 2)
 }
 
 // A width and a comma; a variable's name and a comma.
 pub fn in_set(second: usize, last: usize) -> bool
     ensures { result ≡ in_set second last }
 {
-    both(last == 44, either(second == 2, second == 1))
+    last == 44 && (second == 2 || second == 1)
 }
 
 pub fn joins(code: usize) -> bool
     ensures { result ≡ is_joining code }
 {
-    either(code == 38, code == 124)
+    code == 38 || code == 124
 }

@@ -1,43 +1,18 @@
-// A value of each field, and how few bits each construct can take. A value from 0 up is its own number, 4096 is none, and 4097 + n is -1 - n, whose bits
-// are those of n turned round. 100000 is more bits than any example has.
-ghost use Rattle.std.specs.Prelude.{◌≤◌};
-
+// A value of each field, and how few bits each construct can take.
 use report_measures::counts::{counts_of, term_words};
-use report_measures::lengths::after;
-use report_measures::structure::body_of;
+use report_measures::structure::{body_of, next, parts_of};
 use report_measures::words::{number_at, put_number};
 use table_layout::{Construct, Passes, construct_at};
-use term_evaluation::Tested;
-use term_integers::Checked;
 
-fn is_in(words: &[u32], start: usize, end: usize, v: u32) -> bool {
-    holds(words, start, end, v as i64)
-}
-
-fn kept(res: Checked) -> i64 {
-    match res {
-        Checked::Exact(n) => n,
-        Checked::Overflow => 0,
-    }
-}
-
-// -1 - n
-fn below(n: u32) -> i64 {
-    let opposite = kept(term_integers::negate(n as i64));
-    kept(term_integers::add(opposite, -1))
-}
-
-// Whether -1 - n is in the set.
-fn is_in_below(words: &[u32], start: usize, end: usize, n: u32) -> bool {
-    holds(words, start, end, below(n))
-}
+// More bits than any example has.
+pub const NEVER: usize = 100000;
 
 fn holds(words: &[u32], start: usize, end: usize, v: i64) -> bool {
     let none = [0i64; 1];
-    match term_evaluation::contains(words, start, end, &none[0..0], v) {
-        Tested::Yes => true,
-        _ => false,
-    }
+    matches!(
+        term_evaluation::contains(words, start, end, &none[0..0], v),
+        Ok(true)
+    )
 }
 
 // Values of a field of some bits that are tried.
@@ -59,260 +34,150 @@ fn values_of(width: usize) -> u32 {
     }
 }
 
-fn least_in(words: &[u32], start: usize, end: usize, limit: u32) -> usize {
-    let mut v: u32 = 0;
-    while v < limit {
-        if is_in(words, start, end, v) {
-            return v as usize;
+fn least_in(words: &[u32], start: usize, end: usize, limit: u32) -> Option<i64> {
+    for n in 0..limit {
+        let value = n as i64;
+        if holds(words, start, end, value) {
+            return Some(value);
         }
-        v += 1;
     }
-    4096
-}
-
-// The number that stands for -1 - n.
-fn number_below(n: u32) -> usize {
-    if n < 4096 {
-        return 4097 + n as usize;
-    }
-    4096
+    None
 }
 
 // The value below 0 that is next to it.
-fn greatest_below(words: &[u32], start: usize, end: usize, limit: u32) -> usize {
-    let mut n: u32 = 0;
-    while n < limit {
-        if is_in_below(words, start, end, n) {
-            return number_below(n);
+fn greatest_below(words: &[u32], start: usize, end: usize, limit: u32) -> Option<i64> {
+    for n in 0..limit {
+        let value = -1 - n as i64;
+        if holds(words, start, end, value) {
+            return Some(value);
         }
-        n += 1;
     }
-    4096
+    None
 }
 
 // Of a signed field half of the patterns are values below 0.
-fn with_sign(words: &[u32], start: usize, end: usize, limit: u32) -> usize {
-    let value = least_in(words, start, end, limit);
-    if value < 4096 {
-        return value;
+fn with_sign(words: &[u32], start: usize, end: usize, limit: u32) -> Option<i64> {
+    match least_in(words, start, end, limit) {
+        Some(value) => Some(value),
+        None => greatest_below(words, start, end, limit),
     }
-    greatest_below(words, start, end, limit)
 }
 
-fn in_range(low: usize, high: usize) -> usize {
-    if low <= high {
-        return low;
-    }
-    4096
-}
-
-fn less_one(n: usize) -> usize {
-    if 0 < n {
-        return n - 1;
-    }
-    0
-}
-
-fn in_set(table: &[u32], signed: bool, width: usize, start: usize, end: usize) -> usize {
+fn in_set(table: &[u32], signed: bool, width: usize, start: usize, end: usize) -> Option<i64> {
     let words = term_words(table);
     if term_evaluation::variables::has_variable(words, start, end) {
-        return 4096;
+        return None;
     }
     if signed {
-        return with_sign(words, start, end, values_of(less_one(width)));
+        return with_sign(words, start, end, values_of(width.saturating_sub(1)));
     }
     least_in(words, start, end, values_of(width))
 }
 
-fn value_of(table: &[u32], i: usize) -> usize {
+fn value_of(table: &[u32], i: usize) -> Option<i64> {
     match construct_at(table, i) {
-        Construct::Range { low, high } => in_range(low, high),
+        Construct::Range { low, high } if low <= high => i64::try_from(low).ok(),
         Construct::Uint {
             signed,
             width,
             start,
             end,
-            binder: _,
+            ..
         } => in_set(table, signed, width, start, end),
-        _ => 0,
+        _ => None,
     }
 }
 
-pub fn values(table: &[u32], out: &mut [usize]) {
-    let mut i: usize = 0;
-    while i < 256 {
-        let value = value_of(table, i);
-        put_number(out, i, value);
-        i += 1;
+pub fn values(table: &[u32], out: &mut [Option<i64>; 256]) {
+    for i in 0..256 {
+        out[i] = value_of(table, i);
     }
+}
+
+// The value of field i.
+pub fn value_at(values: &[Option<i64>; 256], i: usize) -> Option<i64> {
+    if i < 256 { values[i] } else { None }
 }
 
 fn sum(a: usize, b: usize) -> usize {
-    if a < 10000 {
-        if b < 10000 {
-            return a + b;
-        }
+    if a < 10000 && b < 10000 {
+        return a + b;
     }
-    100000
+    NEVER
 }
 
-fn least_of(a: usize, b: usize) -> usize {
-    if a < b {
-        return a;
-    }
-    b
+fn members(table: &[u32], least: &[usize], i: usize) -> usize {
+    parts_of(table, i).fold(0, |bits, part| sum(bits, number_at(least, part)))
 }
 
-fn combined(joined: bool, a: usize, b: usize) -> usize {
-    if joined {
-        return sum(a, b);
-    }
-    least_of(a, b)
+fn branches(table: &[u32], least: &[usize], i: usize) -> usize {
+    parts_of(table, i).fold(NEVER, |bits, part| number_at(least, part).min(bits))
 }
 
-fn neutral(joined: bool) -> usize {
-    if joined {
-        return 0;
+// The least number of passes, where it is below 8 and can be said.
+pub fn low(table: &[u32], passes: Passes) -> Option<usize> {
+    let counts = counts_of(table, passes)?;
+    if counts.low <= counts.high && counts.low < 8 {
+        return Some(counts.low);
     }
-    100000
+    None
 }
 
-fn gathered(table: &[u32], least: &[usize], start: usize, end: usize, joined: bool) -> usize {
-    let mut out = neutral(joined);
-    let mut at = start;
-    let mut n: usize = 0;
-    while n < 256 {
-        if end <= at {
-            return out;
-        }
-        out = combined(joined, out, number_at(least, at));
-        at = after(table, at, end);
-        n += 1;
+fn times(bits: usize, passes: Option<usize>) -> usize {
+    match passes {
+        Some(0) => 0,
+        Some(n) if bits < 10000 => bits.saturating_mul(n),
+        _ => NEVER,
     }
-    out
 }
 
-pub fn end_of(i: usize, size: usize) -> usize {
-    if i < 256 {
-        if size <= 256 {
-            return i + size;
-        }
-    }
-    i
-}
-
-pub fn next(i: usize) -> usize {
-    if i < 256 {
-        return i + 1;
-    }
-    256
-}
-
-// The least number of passes; 8 where there are as many, or it cannot be said.
-pub fn low(table: &[u32], passes: Passes) -> usize {
-    let counts = counts_of(table, passes);
-    if counts.free {
-        return 8;
-    }
-    if counts.high < counts.low {
-        return 8;
-    }
-    counts.low
-}
-
-fn times(bits: usize, n: usize) -> usize {
-    if bits < 10000 {
-        return match n {
-            0 => 0,
-            1 => bits,
-            2 => 2 * bits,
-            3 => 3 * bits,
-            4 => 4 * bits,
-            5 => 5 * bits,
-            6 => 6 * bits,
-            7 => 7 * bits,
-            _ => 100000,
-        };
-    }
-    if n == 0 {
-        return 0;
-    }
-    100000
-}
-
-fn fixed(value: usize, bits: usize) -> usize {
-    if value == 4096 {
-        return 100000;
-    }
-    bits
+fn fixed(value: Option<i64>, bits: usize) -> usize {
+    if value.is_some() { bits } else { NEVER }
 }
 
 fn bytes(length: usize) -> usize {
-    if length <= 32 {
-        return 8 * length;
-    }
-    100000
+    if length <= 32 { 8 * length } else { NEVER }
 }
 
-fn bits_of(table: &[u32], values: &[usize], least: &[usize], i: usize) -> usize {
+fn bits_of(table: &[u32], values: &[Option<i64>; 256], least: &[usize], i: usize) -> usize {
     match construct_at(table, i) {
-        Construct::Alternative { size } => gathered(table, least, next(i), end_of(i, size), false),
-        Construct::Concatenation { size } => gathered(table, least, next(i), end_of(i, size), true),
-        Construct::Repetition { size: _, passes } => {
+        Construct::Alternative { .. } => branches(table, least, i),
+        Construct::Concatenation { .. } => members(table, least, i),
+        Construct::Repetition { passes, .. } => {
             times(number_at(least, next(i)), low(table, passes))
         }
         Construct::Use { rule } => number_at(least, body_of(table, rule)),
         Construct::Literal { length } => bytes(length),
-        Construct::Range { low: _, high: _ } => fixed(number_at(values, i), 8),
-        Construct::Uint {
-            signed: _,
-            width,
-            start: _,
-            end: _,
-            binder: _,
-        } => fixed(number_at(values, i), width),
-        _ => 100000,
+        Construct::Range { .. } => fixed(value_at(values, i), 8),
+        Construct::Uint { width, .. } => fixed(value_at(values, i), width),
+        _ => NEVER,
     }
 }
 
 // From the last construct down.
-fn round(table: &[u32], values: &[usize], least: &mut [usize]) {
-    let mut i = 256;
-    while 0 < i {
-        i -= 1;
+fn round(table: &[u32], values: &[Option<i64>; 256], least: &mut [usize]) {
+    for i in (0..256).rev() {
         let bits = bits_of(table, values, least, i);
         put_number(least, i, bits);
     }
 }
 
 // Rules lead to each other at most 64 deep.
-pub fn least(table: &[u32], values: &[usize], least: &mut [usize]) {
-    let mut n: usize = 0;
-    while n < 65 {
+pub fn least(table: &[u32], values: &[Option<i64>; 256], least: &mut [usize]) {
+    for _n in 0..65 {
         round(table, values, least);
-        n += 1;
     }
 }
 
-// The branch with the fewest bits.
-pub fn shortest(table: &[u32], least: &[usize], start: usize, end: usize) -> usize {
-    let mut best = start;
-    let mut at = start;
-    let mut n: usize = 0;
-    while n < 256 {
-        if end <= at {
-            return best;
-        }
-        best = shorter(least, best, at);
-        at = after(table, at, end);
-        n += 1;
-    }
-    best
+// The branch of construct i with the fewest bits.
+pub fn shortest(table: &[u32], least: &[usize], i: usize) -> usize {
+    parts_of(table, i).fold(next(i), |best, part| shorter(least, best, part))
 }
 
 fn shorter(least: &[usize], a: usize, b: usize) -> usize {
     if number_at(least, b) < number_at(least, a) {
-        return b;
+        b
+    } else {
+        a
     }
-    a
 }

@@ -1,25 +1,22 @@
 // What is wrong with a name that is not reserved (refusal 6), and how much a grammar has up to a rule (refusal 5). Places here count from the
 // first byte of the rules.
-ghost use Rattle.std.specs.Prelude.{◌≡◌, ◌-◌, ◌≤◌, length};
+ghost use Rattle.std.specs.Prelude.{◌≡◌, ◌≤◌, length};
 ghost use Rattle.text_store.specs.Words.{nodes_room, rules_room};
 ghost use Rattle.basis.specs.Limits.{max_rules};
 ghost use Rattle.report_faults.specs.Faults.{from_base, after_if, rule_after, rule_number, rule_if, first_rule, binder_if, first_binder, names_at, node_if, node_at, use_fault, binder_fault, variable_fault, node_fault, name_fault};
 
 use crate::Fault;
-use text_header::bytes::{both, either};
-use text_names::counting::{min, place_if};
+use text_names::counting::place_if;
 use text_names::names::{binds, same};
 use text_store::words::{binder, node_word, rule_word};
 use text_store::{BOUND_AT, FIRST_NODE, KIND, LAST_NODE, NAMED_AT, PLACE, RULES_KEPT};
 
 // A place in the whole text. No place stays none.
+#[tactic(auto, unfolding(crate::specs::Faults::from_base))]
 pub fn from(base: usize, p: usize) -> usize
     ensures { result ≡ from_base base p }
 {
-    if p <= 18446744073709551615 - base {
-        return base + p;
-    }
-    18446744073709551615
+    base.saturating_add(p)
 }
 
 fn after_if(rules: &[usize], p: usize, k: usize) -> usize
@@ -34,22 +31,11 @@ fn rule_after(rules: &[usize], count: usize, p: usize) -> usize
     requires { length rules.now ≡ rules_room }
     ensures { result ≡ rule_after rules.now count p }
 {
-    let mut least = 18446744073709551615;
-    let mut k = 0;
-    while k < count {
-        least = min(least, after_if(rules, p, k));
-        k += 1;
+    let mut least = usize::MAX;
+    for k in 0..count {
+        least = least.min(after_if(rules, p, k));
     }
     least
-}
-
-fn one_less(n: usize) -> usize
-    ensures { result ≡ n - 1 }
-{
-    if 0 < n {
-        return n - 1;
-    }
-    0
 }
 
 // The rule that p lies in. Of rules past the limit only the first is kept.
@@ -57,8 +43,8 @@ pub fn rule_number(rules: &[usize], count: usize, p: usize) -> usize
     requires { length rules.now ≡ rules_room }
     ensures { (result ≡ rule_number rules.now count p) × (result ≤ max_rules) }
 {
-    let kept = min(count, RULES_KEPT);
-    one_less(min(rule_after(rules, kept, p), kept))
+    let kept = count.min(RULES_KEPT);
+    rule_after(rules, kept, p).min(kept).saturating_sub(1)
 }
 
 fn rule_if(text: &[u8], rules: &[usize], p: usize, j: usize) -> usize
@@ -74,11 +60,9 @@ pub fn first_rule(text: &[u8], rules: &[usize], count: usize, p: usize) -> usize
     requires { length rules.now ≡ rules_room }
     ensures { result ≡ first_rule text.now rules.now count p }
 {
-    let mut least = 18446744073709551615;
-    let mut j = 0;
-    while j < count {
-        least = min(least, rule_if(text, rules, p, j));
-        j += 1;
+    let mut least = usize::MAX;
+    for j in 0..count {
+        least = least.min(rule_if(text, rules, p, j));
     }
     least
 }
@@ -95,27 +79,21 @@ fn first_binder(text: &[u8], nodes: &[usize], a: usize, e: usize, p: usize) -> u
     requires { length nodes.now ≡ nodes_room }
     ensures { result ≡ first_binder text.now nodes.now a e p }
 {
-    let mut least = 18446744073709551615;
-    let mut j = a;
-    while j < e {
-        least = min(least, binder_if(text, nodes, p, j));
-        j += 1;
+    let mut least = usize::MAX;
+    for j in a..e {
+        least = least.min(binder_if(text, nodes, p, j));
     }
     least
 }
 
 // Whether node j uses the rule whose name stands at p, or binds that name.
+#[tactic(auto, unfolding(crate::specs::Faults::names_at))]
 fn names_at(nodes: &[usize], p: usize, j: usize) -> bool
     requires { length nodes.now ≡ nodes_room }
     ensures { result ≡ names_at nodes.now p j }
 {
-    either(
-        both(
-            node_word(nodes, j, KIND) == 5,
-            node_word(nodes, j, PLACE) == p,
-        ),
-        both(binder(nodes, j), node_word(nodes, j, BOUND_AT) == p),
-    )
+    (node_word(nodes, j, KIND) == 5 && node_word(nodes, j, PLACE) == p)
+        || (binder(nodes, j) && node_word(nodes, j, BOUND_AT) == p)
 }
 
 fn node_if(nodes: &[usize], p: usize, j: usize) -> usize
@@ -130,52 +108,54 @@ fn node_at(nodes: &[usize], a: usize, e: usize, p: usize) -> usize
     requires { length nodes.now ≡ nodes_room }
     ensures { result ≡ node_at nodes.now a e p }
 {
-    let mut least = 18446744073709551615;
-    let mut j = a;
-    while j < e {
-        least = min(least, node_if(nodes, p, j));
-        j += 1;
+    let mut least = usize::MAX;
+    for j in a..e {
+        least = least.min(node_if(nodes, p, j));
     }
     least
 }
 
 // A rule's name is expected; a variable of that name is bound at v.
+#[tactic(auto, unfolding(crate::specs::Faults::use_fault))]
 fn use_fault(base: usize, v: usize) -> Fault
     ensures { result ≡ use_fault base v }
 {
-    if v < 18446744073709551615 {
+    if v < usize::MAX {
         return Fault::Variable(from(base, v));
     }
     Fault::NoRule
 }
 
 // A binder; the name is bound before it at v.
+#[tactic(auto, unfolding(crate::specs::Faults::binder_fault))]
 fn binder_fault(base: usize, v: usize) -> Fault
     ensures { result ≡ binder_fault base v }
 {
-    if v < 18446744073709551615 {
+    if v < usize::MAX {
         return Fault::Twice(from(base, v));
     }
     Fault::Misplaced
 }
 
 // A variable is expected; it is bound in its rule at v, a rule has its name at q, it is bound anywhere at w.
+#[tactic(auto, unfolding(crate::specs::Faults::variable_fault))]
 fn variable_fault(base: usize, v: usize, q: usize, w: usize) -> Fault
     ensures { result ≡ variable_fault base v q w }
 {
-    if v < 18446744073709551615 {
+    if v < usize::MAX {
         return Fault::Later(from(base, v));
     }
-    if q < 18446744073709551615 {
+    if q < usize::MAX {
         return Fault::Rule(from(base, q));
     }
-    if w < 18446744073709551615 {
+    if w < usize::MAX {
         return Fault::Elsewhere(from(base, w));
     }
     Fault::NoVariable
 }
 
 // The name of node i, in a rule whose nodes go from a up to e.
+#[tactic(auto, unfolding(crate::specs::Faults::node_fault))]
 fn node_fault(
     text: &[u8],
     nodes: &[usize],
@@ -195,6 +175,7 @@ fn node_fault(
 }
 
 // The name at p, of `count` rules and `constructs` nodes.
+#[tactic(auto, unfolding(crate::specs::Faults::fault_in))]
 pub fn name_fault(
     text: &[u8],
     nodes: &[usize],
@@ -214,7 +195,7 @@ pub fn name_fault(
     if rule_word(rules, k, NAMED_AT) == p {
         return Fault::Double(from(base, first_rule(text, rules, k, p)));
     }
-    if i < 18446744073709551615 {
+    if i < usize::MAX {
         return node_fault(text, nodes, base, a, e, i, p);
     }
     variable_fault(

@@ -1,13 +1,13 @@
 // Refusal 4: a token that cannot stand where it does.
 use crate::{expected, literals, slips};
 use report_codes::{begins_item, ends_item, in_field, in_set, joins, ranging};
-use report_quoting::brackets::{Brackets, open_at};
+use report_quoting::brackets::{Before, Kind, open_at};
 use report_quoting::quoting::{mark, token};
 use report_wording::walking::{Context, before};
 use report_wording::writing::{hexadecimal, say};
 use std::io::Stdout;
 use text_header::Heading;
-use text_header::bytes::{both, either, letter};
+use text_header::bytes::letter;
 use text_header::spans::byte_at;
 use text_literals::quote;
 use text_parsing::terminals::look;
@@ -23,27 +23,24 @@ fn long_name(out: Stdout) {
 fn stray(out: Stdout, b: u8) {
     hexadecimal(out, b"This byte (hexadecimal ", b as usize, 2);
     say(out, b") means nothing in the rules.\n");
-    if slips::byte(out, b) {
-        return;
+    if !slips::byte(out, b) {
+        say(
+            out,
+            b"What to change: take it out, or put it into a comment (from # to the\n\
+            line's end). Rules are plain ASCII, and quotes are \" or '.\n",
+        );
     }
-    say(
-        out,
-        b"What to change: take it out, or put it into a comment (from # to the\n\
-        line's end). Rules are plain ASCII, and quotes are \" or '.\n",
-    );
 }
 
 fn no_token(out: Stdout, grammar: &[u8], at: usize) {
     let b = byte_at(grammar, at);
     if quote(b) {
         literals::fault(out, grammar, at);
-        return;
-    }
-    if letter(b) {
+    } else if letter(b) {
         long_name(out);
-        return;
+    } else {
+        stray(out, b);
     }
-    stray(out, b);
 }
 
 fn no_rule(out: Stdout) {
@@ -61,29 +58,24 @@ fn unfinished(out: Stdout, second: usize, last: usize) {
         b"The text ends here in the middle of a rule. A rule is written\n    \
         name = expression ;\n",
     );
-    expected::told(out, 0, second, last);
+    expected::told(out, None, second, last);
     say(out, b"What to change: finish the rule.\n");
 }
 
 // What an item, or a repetition of one, can end with.
 fn completes(code: usize) -> bool {
-    either(
-        either(code == 63, code == 42),
-        either(code == 43, ends_item(code)),
-    )
+    matches!(code, 63 | 42 | 43) || ends_item(code)
 }
 
 // Outside of brackets a `;` ends a rule; in front of all rules stands as much as one.
-fn end(out: Stdout, grammar: &[u8], seen: Context, kind: usize, place: usize) {
-    if both(seen.depth == 0, seen.last == 59) {
+fn end(out: Stdout, grammar: &[u8], seen: Context, open: Before) {
+    if seen.depth == 0 && seen.last == 59 {
         no_rule(out);
-        return;
+    } else if completes(seen.last) && seen.second != 59 {
+        slips::ended(out, grammar, open);
+    } else {
+        unfinished(out, seen.second, seen.last);
     }
-    if both(completes(seen.last), seen.second != 59) {
-        slips::ended(out, grammar, kind, place);
-        return;
-    }
-    unfinished(out, seen.second, seen.last);
 }
 
 fn repetition(out: Stdout) {
@@ -115,7 +107,7 @@ fn equals(out: Stdout) {
 }
 
 fn field(out: Stdout, code: usize, last: usize) {
-    if both(code == 41, last == 2) {
+    if code == 41 && last == 2 {
         say(out, b"A comma and a set are missing here.\n");
     }
     say(
@@ -226,82 +218,60 @@ fn sign(out: Stdout) {
 fn general(out: Stdout, code: usize, last: usize) {
     if mark(code) {
         repetition(out);
-        return;
-    }
-    if both(joins(code), ends_item(last)) {
+    } else if joins(code) && ends_item(last) {
         mixed(out);
-        return;
-    }
-    if both(code == 40, last == 1) {
+    } else if code == 40 && last == 1 {
         call(out);
-        return;
-    }
-    if both(begins_item(code), ends_item(last)) {
+    } else if begins_item(code) && ends_item(last) {
         item(out);
-        return;
-    }
-    if code == 2 {
+    } else if code == 2 {
         number(out);
-        return;
+    } else {
+        sign(out);
     }
-    sign(out);
-}
-
-fn bracketed(out: Stdout, code: usize, seen: Context) {
-    if in_field(seen.third, seen.second, seen.last) {
-        field(out, code, seen.last);
-        return;
-    }
-    if in_set(seen.second, seen.last) {
-        set(out);
-        return;
-    }
-    if seen.last == 91 {
-        switch(out);
-        return;
-    }
-    general(out, code, seen.last);
 }
 
 fn misplaced(out: Stdout, code: usize, seen: Context) {
     if ranging(code, seen.last) {
         range(out);
-        return;
+    } else if in_field(seen.third, seen.second, seen.last) {
+        field(out, code, seen.last);
+    } else if in_set(seen.second, seen.last) {
+        set(out);
+    } else if seen.last == 91 {
+        switch(out);
+    } else {
+        general(out, code, seen.last);
     }
-    bracketed(out, code, seen);
 }
 
-// Outside of brackets: after a `;`, and after that and a name.
-fn outside(out: Stdout, code: usize, seen: Context) {
-    if seen.last == 59 {
-        rule_start(out, code);
-        return;
-    }
-    if both(seen.second == 59, seen.last == 1) {
-        equals(out);
-        return;
-    }
-    misplaced(out, code, seen);
-}
-
+// Outside of brackets a token comes after a `;`, or after that and a name.
 fn opened(out: Stdout, code: usize, seen: Context) {
-    if both(16 <= seen.depth, either(code == 40, code == 91)) {
+    let is_outside = seen.depth == 0;
+    if 16 <= seen.depth && matches!(code, 40 | 91) {
         deep(out);
-        return;
+    } else if is_outside && seen.last == 59 {
+        rule_start(out, code);
+    } else if is_outside && seen.second == 59 && seen.last == 1 {
+        equals(out);
+    } else {
+        misplaced(out, code, seen);
     }
-    if seen.depth == 0 {
-        outside(out, code, seen);
-        return;
-    }
-    misplaced(out, code, seen);
 }
 
 // What can stand there, and what is wrong.
-fn not_a_slip(out: Stdout, code: usize, seen: Context, kind: usize) {
-    if both(seen.depth < 16, both(seen.second != 59, seen.last != 59)) {
+fn not_a_slip(out: Stdout, code: usize, seen: Context, kind: Option<Kind>) {
+    if seen.depth < 16 && seen.second != 59 && seen.last != 59 {
         expected::told(out, kind, seen.second, seen.last);
     }
     opened(out, code, seen);
+}
+
+fn kind_of(open: Before) -> Option<Kind> {
+    match open.innermost {
+        Some(bracket) => Some(bracket.kind),
+        None => None,
+    }
 }
 
 fn standing(
@@ -311,43 +281,35 @@ fn standing(
     code: usize,
     next: usize,
     seen: Context,
-    open: Brackets,
+    open: Before,
 ) {
-    let kind = open.kinds % 8;
     if code == 5 {
-        end(out, grammar, seen, kind, open.end);
+        end(out, grammar, seen, open);
         return;
     }
     say(out, b"This cannot stand here:  ");
     token(out, grammar, at);
     say(out, b"\n");
-    if slips::told(out, grammar, kind, seen.last, code, next, open.end) {
-        return;
+    if !slips::told(out, grammar, open, seen.last, code, next) {
+        not_a_slip(out, code, seen, kind_of(open));
     }
-    not_a_slip(out, code, seen, kind);
-}
-
-fn form_at(out: Stdout, grammar: &[u8], base: usize, at: usize, code: usize, next: usize) {
-    if code == 4 {
-        no_token(out, grammar, at);
-        return;
-    }
-    let open = open_at(grammar, base, at);
-    standing(
-        out,
-        grammar,
-        at,
-        code,
-        next,
-        before(grammar, base, at),
-        open,
-    );
 }
 
 fn wrong_at(out: Stdout, grammar: &[u8], base: usize, at: usize) {
     let terminal = look(grammar, at);
-    let next = look(grammar, terminal.end).code;
-    form_at(out, grammar, base, at, terminal.code, next);
+    if terminal.code == 4 {
+        no_token(out, grammar, at);
+        return;
+    }
+    standing(
+        out,
+        grammar,
+        at,
+        terminal.code,
+        look(grammar, terminal.end).code,
+        before(grammar, base, at),
+        open_at(grammar, base, at),
+    );
 }
 
 pub fn wrong(out: Stdout, grammar: &[u8], at: usize) {

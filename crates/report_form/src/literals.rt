@@ -1,11 +1,10 @@
 // Refusal 4: what is wrong with a literal.
 use report_wording::lines;
-use report_wording::lines::saturating_next;
 use report_wording::writing::{hexadecimal, number, say};
 use std::io::Stdout;
-use text_header::bytes::{either, printable};
+use text_header::bytes::printable;
 use text_header::spans::byte_at;
-use text_literals::{Part, reach};
+use text_literals::{Extent, Part, reach};
 
 fn long(out: Stdout, count: usize) {
     number(out, b"This literal has ", count);
@@ -69,42 +68,27 @@ fn foreign(out: Stdout, grammar: &[u8], at: usize) {
 // The first byte that is wrong.
 fn wrong(out: Stdout, grammar: &[u8], at: usize, place: usize) {
     let b = byte_at(grammar, place);
-    if either(b == 10, b == 13) {
+    if b == b'\n' || b == b'\r' {
         unclosed(out);
-        return;
-    }
-    if !printable(b) {
+    } else if !printable(b) {
         foreign(out, grammar, place);
-        return;
-    }
-    if place <= saturating_next(at) {
+    } else if place <= at.saturating_add(1) {
         empty(out);
-        return;
+    } else {
+        escape(out, grammar, place);
     }
-    escape(out, grammar, place);
 }
 
-fn one_less(n: usize) -> usize {
-    if 0 < n {
-        return n - 1;
-    }
-    0
-}
-
-fn stopped(out: Stdout, grammar: &[u8], at: usize, part: Part, count: usize, end: usize) {
-    match part {
-        Part::Closed => long(out, count),
-        Part::Wrong => wrong(out, grammar, at, one_less(end)),
+fn stopped(out: Stdout, grammar: &[u8], at: usize, extent: Extent) {
+    match extent.part {
+        Part::Closed => long(out, extent.count),
+        Part::Wrong => wrong(out, grammar, at, extent.end.saturating_sub(1)),
         _ => unclosed(out),
     }
 }
 
 pub fn fault(out: Stdout, grammar: &[u8], at: usize) {
     if at < grammar.len() {
-        let extent = reach(grammar, at);
-        let part = extent.part;
-        let count = extent.count;
-        let end = extent.end;
-        stopped(out, grammar, at, part, count, end);
+        stopped(out, grammar, at, reach(grammar, at));
     }
 }

@@ -1,9 +1,8 @@
 // Refusal 4: slips that are often made, by name.
-use report_quoting::openings::open_before;
+use report_quoting::brackets::{Before, Bracket, Kind};
 use report_wording::lines;
 use report_wording::writing::say;
 use std::io::Stdout;
-use text_header::bytes::{both, either};
 
 fn equals(out: Stdout) {
     say(
@@ -72,12 +71,12 @@ fn semicolon(out: Stdout, grammar: &[u8], end: usize) {
     );
 }
 
-fn open_group(out: Stdout, grammar: &[u8], end: usize) {
+fn open_group(out: Stdout, grammar: &[u8], place: usize) {
     say(
         out,
         b"A ) is missing in front of this ;. The ( that is not closed:\n",
     );
-    lines::shown(out, grammar, open_before(grammar, end));
+    lines::shown(out, grammar, place);
     say(
         out,
         b"What to change: close the group, or take its ( away.\n",
@@ -90,146 +89,119 @@ fn unfinished(out: Stdout, grammar: &[u8], end: usize) {
     say(out, b"What to change: put the ; there.\n");
 }
 
-fn unclosed(out: Stdout, grammar: &[u8], end: usize, sign: &[u8]) {
+fn unclosed(out: Stdout, grammar: &[u8], place: usize, sign: &[u8]) {
     say(out, b"The text ends here, and a ");
     say(out, sign);
     say(out, b" is missing. The bracket that is not closed:\n");
-    lines::shown(out, grammar, open_before(grammar, end));
+    lines::shown(out, grammar, place);
     say(
         out,
         b"What to change: close the bracket, and end the rule with ;.\n",
     );
 }
 
-fn open_case(out: Stdout, grammar: &[u8], end: usize) {
+fn open_case(out: Stdout, grammar: &[u8], place: usize) {
     say(
         out,
         b"The text ends here in a switch: the ; of its case and its ] are missing.\n\
         The switch begins here:\n",
     );
-    lines::shown(out, grammar, open_before(grammar, end));
+    lines::shown(out, grammar, place);
     say(
         out,
         b"What to change: put them there, and end the rule with ;.\n",
     );
 }
 
-fn formula(kind: usize) -> bool {
-    either(kind == 2, either(kind == 3, kind == 7))
-}
-
 fn literal(code: usize) -> bool {
-    either(code == 3, code == 9)
+    code == 3 || code == 9
 }
 
-// In a set, by the innermost bracket; whether there was something to say.
-fn in_set(out: Stdout, kind: usize, code: usize, last: usize) -> bool {
-    if !formula(kind) {
-        return false;
-    }
-    if both(code == 38, either(last == 2, last == 1)) {
+// In a set, where an item ends; whether there was something to say.
+fn in_set(out: Stdout, last: usize, code: usize) -> bool {
+    let is_behind = last == 2 || last == 1;
+    if code == 38 && is_behind {
         both_in_set(out);
-        return true;
-    }
-    if literal(code) {
+    } else if literal(code) {
         literal_in_formula(out);
-        return true;
-    }
-    false
-}
-
-fn in_counts(out: Stdout, kind: usize, code: usize) -> bool {
-    if kind != 6 {
+    } else if code == 44 && is_behind {
+        comma_in_set(out);
+    } else {
         return false;
     }
+    true
+}
+
+fn in_counts(out: Stdout, code: usize) -> bool {
     if code == 44 {
         comma(out);
-        return true;
-    }
-    if code == 40 {
+    } else if code == 40 {
         calculation(out);
-        return true;
-    }
-    if literal(code) {
+    } else if literal(code) {
         literal_in_formula(out);
-        return true;
+    } else {
+        return false;
     }
-    false
+    true
 }
 
-fn second_comma(out: Stdout, kind: usize, code: usize, last: usize) -> bool {
-    if both(
-        formula(kind),
-        both(code == 44, either(last == 2, last == 1)),
-    ) {
-        comma_in_set(out);
-        return true;
-    }
-    false
-}
-
-fn in_brackets(out: Stdout, kind: usize, code: usize, last: usize) -> bool {
-    if in_set(out, kind, code, last) {
-        return true;
-    }
-    if in_counts(out, kind, code) {
-        return true;
-    }
-    second_comma(out, kind, code, last)
-}
-
-// Whether the token with this code, after one with the code `last`, is such a slip, which is then said. `next` is the code after it, `end` the end
-// of the token before.
+// Whether the token with this code, after one with the code `last`, is such a slip, which is then said. `next` is the code after it.
 pub fn told(
     out: Stdout,
     grammar: &[u8],
-    kind: usize,
+    before: Before,
     last: usize,
     code: usize,
     next: usize,
-    end: usize,
 ) -> bool {
-    if both(code == 61, last == 61) {
+    if code == 61 && last == 61 {
         equals(out);
         return true;
     }
-    if both(code == 45, literal(last)) {
+    if code == 45 && literal(last) {
         dash(out);
         return true;
     }
-    if both(kind == 0, both(both(code == 1, next == 61), last != 59)) {
-        semicolon(out, grammar, end);
-        return true;
+    match before.innermost {
+        None if code == 1 && next == 61 && last != 59 => {
+            semicolon(out, grammar, before.end);
+            true
+        }
+        None => false,
+        Some(bracket) => in_bracket(out, grammar, bracket, last, code),
     }
-    if both(kind == 1, both(code == 59, item_end(last))) {
-        open_group(out, grammar, end);
-        return true;
+}
+
+fn in_bracket(out: Stdout, grammar: &[u8], bracket: Bracket, last: usize, code: usize) -> bool {
+    match bracket.kind {
+        Kind::Group if code == 59 && item_end(last) => {
+            open_group(out, grammar, bracket.place);
+            true
+        }
+        Kind::Field | Kind::Variable | Kind::Formula => in_set(out, last, code),
+        Kind::Counts => in_counts(out, code),
+        Kind::Group | Kind::Switch | Kind::Case => false,
     }
-    in_brackets(out, kind, code, last)
 }
 
 // A name, a literal, eod, a closing bracket, a sign of repetition.
 fn item_end(code: usize) -> bool {
-    either(
-        either(code == 1, either(literal(code), code == 7)),
-        either(
-            either(code == 41, code == 93),
-            either(
-                code == 125,
-                either(code == 63, either(code == 42, code == 43)),
-            ),
-        ),
-    )
+    literal(code) || matches!(code, 1 | 7 | 41 | 93 | 125 | 63 | 42 | 43)
 }
 
 // At the text's end, after an item.
-pub fn ended(out: Stdout, grammar: &[u8], kind: usize, end: usize) {
+pub fn ended(out: Stdout, grammar: &[u8], before: Before) {
+    let Some(Bracket { kind, place }) = before.innermost else {
+        unfinished(out, grammar, before.end);
+        return;
+    };
     match kind {
-        0 => unfinished(out, grammar, end),
-        4 => unclosed(out, grammar, end, b"]"),
-        5 => open_case(out, grammar, end),
-        6 => unclosed(out, grammar, end, b"}"),
-        _ => unclosed(out, grammar, end, b")"),
+        Kind::Switch => unclosed(out, grammar, place, b"]"),
+        Kind::Case => open_case(out, grammar, place),
+        Kind::Counts => unclosed(out, grammar, place, b"}"),
+        Kind::Group | Kind::Field | Kind::Variable | Kind::Formula => {
+            unclosed(out, grammar, place, b")")
+        }
     }
 }
 
@@ -262,17 +234,11 @@ fn quotes(out: Stdout) {
 
 // A byte that means nothing; whether it is one of those that are often meant for something.
 pub fn byte(out: Stdout, b: u8) -> bool {
-    if b == 47 {
-        division(out);
-        return true;
+    match b {
+        b'/' => division(out),
+        b'.' => dots(out),
+        128.. => quotes(out),
+        _ => return false,
     }
-    if b == 46 {
-        dots(out);
-        return true;
-    }
-    if 127 < b {
-        quotes(out);
-        return true;
-    }
-    false
+    true
 }

@@ -4,7 +4,7 @@ ghost use Rattle.text_names.specs.Names.{name_place, term_place};
 ghost use Rattle.text_store.specs.Words.{nodes_room, terms_room, rules_room};
 ghost use Rattle.report_further.specs.Further.{not_before, term_from, list_from, node_from, nodes_from, rule_from, next_fault};
 
-use text_names::counting::{min, place_if};
+use text_names::counting::place_if;
 use text_names::names::{binder_fault, rule_fault, use_fault, variable_fault};
 use text_store::words::{binder, node_word, rule_word, term_word, variable};
 use text_store::{
@@ -39,7 +39,7 @@ fn name_place(
         let p = node_word(nodes, i, BOUND_AT);
         return place_if(binder_fault(text, nodes, a, i, p), p);
     }
-    18446744073709551615
+    usize::MAX
 }
 
 fn term_place(text: &[u8], nodes: &[usize], terms: &[usize], a: usize, i: usize, t: usize) -> usize
@@ -47,10 +47,10 @@ fn term_place(text: &[u8], nodes: &[usize], terms: &[usize], a: usize, i: usize,
     ensures { result ≡ term_place text.now nodes.now terms.now a i t }
 {
     let p = term_word(terms, t, TERM_PLACE);
-    if variable(term_word(terms, t, TAG)) {
-        return place_if(variable_fault(text, nodes, a, i, p), p);
-    }
-    18446744073709551615
+    place_if(
+        variable(term_word(terms, t, TAG)) && variable_fault(text, nodes, a, i, p),
+        p,
+    )
 }
 
 fn term_from(
@@ -82,11 +82,9 @@ fn list_from(
     requires { (length nodes.now ≡ nodes_room) × (length terms.now ≡ terms_room) }
     ensures { result ≡ list_from start text.now nodes.now terms.now a i f g }
 {
-    let mut least = 18446744073709551615;
-    let mut t = f;
-    while t < g {
-        least = min(least, term_from(text, nodes, terms, start, a, i, t));
-        t += 1;
+    let mut least = usize::MAX;
+    for t in f..g {
+        least = least.min(term_from(text, nodes, terms, start, a, i, t));
     }
     least
 }
@@ -126,7 +124,7 @@ fn node_from(
         node_word(nodes, i, OWN_FROM),
         node_word(nodes, i, OWN_END),
     );
-    min(own, min(tested, listed))
+    own.min(tested.min(listed))
 }
 
 // The nodes of a rule.
@@ -143,14 +141,9 @@ fn nodes_from(
     requires { (length nodes.now ≡ nodes_room) × (length terms.now ≡ terms_room) × (length rules.now ≡ rules_room) }
     ensures { result ≡ nodes_from start text.now nodes.now terms.now rules.now count a e }
 {
-    let mut least = 18446744073709551615;
-    let mut i = a;
-    while i < e {
-        least = min(
-            least,
-            node_from(text, nodes, terms, rules, start, count, a, e, i),
-        );
-        i += 1;
+    let mut least = usize::MAX;
+    for i in a..e {
+        least = least.min(node_from(text, nodes, terms, rules, start, count, a, e, i));
     }
     least
 }
@@ -181,7 +174,7 @@ fn rule_from(
         rule_word(rules, k, FIRST_NODE),
         rule_word(rules, k, LAST_NODE),
     );
-    min(own, inner)
+    own.min(inner)
 }
 
 // The least place from `start` on of a name at fault, among `count` rules.
@@ -196,11 +189,9 @@ pub fn next_fault(
     requires { (length nodes.now ≡ nodes_room) × (length terms.now ≡ terms_room) × (length rules.now ≡ rules_room) }
     ensures { result ≡ next_fault start text.now nodes.now terms.now rules.now count }
 {
-    let mut least = 18446744073709551615;
-    let mut k = 0;
-    while k < count {
-        least = min(least, rule_from(text, nodes, terms, rules, start, count, k));
-        k += 1;
+    let mut least = usize::MAX;
+    for k in 0..count {
+        least = least.min(rule_from(text, nodes, terms, rules, start, count, k));
     }
     least
 }

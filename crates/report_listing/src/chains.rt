@@ -37,27 +37,20 @@ fn set_note(out: Stdout, grammar: &[u8], at: usize) {
 fn counts_note(out: Stdout, grammar: &[u8], at: usize) {
     say(
         out,
-        b"            (any number of passes counts as possible, also 0, since its count\n",
+        b"            (any number of passes counts as possible, also 0, since its count\n            \
+        uses ",
     );
-    say(out, b"            uses ");
     named(out, grammar, end_of(grammar, at, Part::Field));
     say(out, b")\n");
 }
 
 // A literal has its bits in every frame, another field in some.
 fn verb(out: Stdout, literal: bool, part: bool) {
-    if literal {
-        if part {
-            say(out, b"  begins with ");
-        } else {
-            say(out, b"  is ");
-        }
-        return;
-    }
-    if part {
-        say(out, b"  can begin with ");
-    } else {
-        say(out, b"  can be ");
+    match (literal, part) {
+        (true, true) => say(out, b"  begins with "),
+        (true, false) => say(out, b"  is "),
+        (false, true) => say(out, b"  can begin with "),
+        (false, false) => say(out, b"  can be "),
     }
 }
 
@@ -115,9 +108,7 @@ fn repeated(out: Stdout, grammar: &[u8], table: &[u32], i: usize, n: usize) {
         repetition(out, grammar, i);
         counts_as(out, n);
         counts_note(out, grammar, place_of(grammar, i));
-        return;
-    }
-    if n == 0 {
+    } else if n == 0 {
         repetition(out, grammar, i);
         say(out, b"  is left out\n");
     }
@@ -171,102 +162,61 @@ fn frame_ends(out: Stdout, is_first: bool) {
     say(out, b"the frame ends\n");
 }
 
-fn step(
-    out: Stdout,
-    grammar: &[u8],
-    table: &[u32],
-    is_first: bool,
-    tag: usize,
-    i: usize,
-    value: usize,
-) {
-    match tag {
-        1 => field(out, grammar, table, i, value),
-        2 => used(out, grammar, i),
-        3 => repeated(out, grammar, table, i, value),
-        4 => ended(out, grammar, i),
-        8 => passed_over(out, grammar, i),
-        5 => after_use(out, grammar, is_first, i),
-        6 => further(out, grammar, is_first, i),
-        7 => frame_ends(out, is_first),
-        _ => {}
+// A step of a chain: a field that is taken (1), a use (2), a repetition (3), the frame's end (4), what comes after a use (5), a further pass (6), the end of
+// a chain (7), a switch where no case is true (8); its construct, and a window or a count.
+#[derive(Clone, Copy)]
+pub struct Step {
+    pub tag: usize,
+    pub construct: usize,
+    pub value: usize,
+}
+
+impl Step {
+    // What comes first needs no word in front.
+    fn print(&self, out: Stdout, grammar: &[u8], table: &[u32], is_first: bool) {
+        match self.tag {
+            1 => field(out, grammar, table, self.construct, self.value),
+            2 => used(out, grammar, self.construct),
+            3 => repeated(out, grammar, table, self.construct, self.value),
+            4 => ended(out, grammar, self.construct),
+            8 => passed_over(out, grammar, self.construct),
+            5 => after_use(out, grammar, is_first, self.construct),
+            6 => further(out, grammar, is_first, self.construct),
+            7 => frame_ends(out, is_first),
+            _ => {}
+        }
+    }
+
+    // A set or a count with a variable.
+    fn is_free(&self, table: &[u32]) -> bool {
+        matches!(self.tag, 1 | 3) && varies(table, self.construct)
     }
 }
 
-fn is_free(table: &[u32], tag: usize, i: usize) -> bool {
-    if tag == 1 {
-        return varies(table, i);
-    }
-    if tag == 3 {
-        return varies(table, i);
-    }
-    false
+fn number_of(steps: &[usize], k: usize, n: usize) -> usize {
+    number_at(steps, k.saturating_mul(3).saturating_add(n))
 }
 
-// The three numbers of step k.
-pub fn tag_at(steps: &[usize], k: usize) -> usize {
-    if k < 1024 {
-        return number_at(steps, 3 * k);
+// Step k: three numbers.
+pub fn step_at(steps: &[usize], k: usize) -> Step {
+    Step {
+        tag: number_of(steps, k, 0),
+        construct: number_of(steps, k, 1),
+        value: number_of(steps, k, 2),
     }
-    0
-}
-
-fn construct_of(steps: &[usize], k: usize) -> usize {
-    if k < 1024 {
-        return number_at(steps, 3 * k + 1);
-    }
-    0
-}
-
-pub fn value_at(steps: &[usize], k: usize) -> usize {
-    if k < 1024 {
-        return number_at(steps, 3 * k + 2);
-    }
-    0
-}
-
-fn free_at(table: &[u32], steps: &[usize], k: usize) -> bool {
-    is_free(table, tag_at(steps, k), construct_of(steps, k))
 }
 
 // Whether a set or a count with a variable is among the steps.
 pub fn free(table: &[u32], steps: &[usize], count: usize) -> bool {
-    let mut k: usize = 0;
-    while k < count {
-        if free_at(table, steps, k) {
-            return true;
-        }
-        k += 1;
-    }
-    false
-}
-
-fn step_at(out: Stdout, grammar: &[u8], table: &[u32], steps: &[usize], is_first: bool, k: usize) {
-    step(
-        out,
-        grammar,
-        table,
-        is_first,
-        tag_at(steps, k),
-        construct_of(steps, k),
-        value_at(steps, k),
-    );
+    (0..count).any(|k| step_at(steps, k).is_free(table))
 }
 
 // Entries from 9 on are not printed.
-fn still_first(is_first: bool, tag: usize) -> bool {
-    if is_first {
-        return 8 < tag;
-    }
-    false
-}
-
 pub fn listed(out: Stdout, grammar: &[u8], table: &[u32], steps: &[usize], count: usize) {
     let mut is_first = true;
-    let mut k: usize = 0;
-    while k < count {
-        step_at(out, grammar, table, steps, is_first, k);
-        is_first = still_first(is_first, tag_at(steps, k));
-        k += 1;
+    for k in 0..count {
+        let step = step_at(steps, k);
+        step.print(out, grammar, table, is_first);
+        is_first = is_first && 8 < step.tag;
     }
 }

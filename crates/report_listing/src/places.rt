@@ -8,11 +8,7 @@ use std::io::Stdout;
 // A construct's first byte.
 pub fn place_of(grammar: &[u8], i: usize) -> usize {
     match locate(grammar, Query::Construct(i)) {
-        Located::Construct {
-            place,
-            kind: _,
-            count: _,
-        } => place,
+        Located::Construct { place, .. } => place,
         _ => 0,
     }
 }
@@ -20,7 +16,7 @@ pub fn place_of(grammar: &[u8], i: usize) -> usize {
 fn name_at(grammar: &[u8], query: Query) -> usize {
     match locate(grammar, query) {
         Located::Place(place) => place,
-        _ => 18446744073709551615,
+        _ => usize::MAX,
     }
 }
 
@@ -35,8 +31,11 @@ pub fn definition(grammar: &[u8], at: usize) -> usize {
 }
 
 // The first name at fault from a place on.
-pub fn fault_from(grammar: &[u8], at: usize) -> usize {
-    name_at(grammar, Query::Fault(at))
+pub fn fault_from(grammar: &[u8], at: usize) -> Option<usize> {
+    match locate(grammar, Query::Fault(at)) {
+        Located::Place(place) if place < grammar.len() => Some(place),
+        _ => None,
+    }
 }
 
 // A line of a list: the place, and what stands there.

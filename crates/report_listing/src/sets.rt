@@ -6,26 +6,15 @@ use table_conflicts::Clash;
 
 // The clash of construct i.
 pub fn clash(table: &[u32], follow: &[u64], prediction: &[u64], i: usize) -> Clash {
-    if i < 256 {
-        if 16384 <= table.len() {
-            if follow.len() == 2056 {
-                if prediction.len() == 2056 {
-                    return table_conflicts::conflict(table, follow, prediction, i);
-                }
-            }
-        }
+    if i < 256 && 16384 <= table.len() && follow.len() == 2056 && prediction.len() == 2056 {
+        return table_conflicts::conflict(table, follow, prediction, i);
     }
     Clash::None
 }
 
 // Whether construct i is a repetition whose body may be empty.
 pub fn empty_body(table: &[u32], first: &[u64], i: usize) -> bool {
-    if i < 256 {
-        if first.len() == 2056 {
-            return table_conflicts::empty_body(table, first, i);
-        }
-    }
-    false
+    i < 256 && first.len() == 2056 && table_conflicts::empty_body(table, first, i)
 }
 
 pub fn first(table: &[u32], family: &mut [u64]) {

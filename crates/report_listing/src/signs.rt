@@ -1,23 +1,17 @@
 // The values of a sint that begin with some bits.
-use report_wording::lines::{saturating_next, saturating_sub};
 use report_wording::writing::{number, say};
 use std::io::Stdout;
 
 // A number below the largest half stays a number when it is doubled.
 fn twice(n: usize) -> usize {
-    if n < 9223372036854775808 {
-        return 2 * n;
-    }
-    n
+    n.checked_mul(2).unwrap_or(n)
 }
 
 // n times 2 to so many bits.
 fn shifted(n: usize, bits: usize) -> usize {
     let mut out = n;
-    let mut k: usize = 0;
-    while k < bits {
+    for _k in 0..bits {
         out = twice(out);
-        k += 1;
     }
     out
 }
@@ -38,7 +32,7 @@ fn up(out: Stdout, n: usize, hidden: usize) {
     between(
         out,
         shifted(n, hidden),
-        saturating_sub(shifted(saturating_next(n), hidden), 1),
+        shifted(n.saturating_add(1), hidden).saturating_sub(1),
         b"",
     );
 }
@@ -48,7 +42,7 @@ fn down(out: Stdout, n: usize, hidden: usize) {
     between(
         out,
         shifted(n, hidden),
-        saturating_next(shifted(saturating_sub(n, 1), hidden)),
+        shifted(n.saturating_sub(1), hidden).saturating_add(1),
         b"-",
     );
 }
@@ -56,15 +50,15 @@ fn down(out: Stdout, n: usize, hidden: usize) {
 // Of a window, a 1 followed by its bits: the values of so many bits that begin with them.
 pub fn told(out: Stdout, window: usize, seen: usize, width: usize) {
     let all = shifted(1, seen);
-    let first = saturating_sub(window, all);
-    let hidden = saturating_sub(width, seen);
+    let first = window.saturating_sub(all);
+    let hidden = width.saturating_sub(seen);
     if 0 < hidden {
         say(out, b", as do values from ");
     } else {
         say(out, b", the value ");
     }
     if all <= twice(first) {
-        down(out, saturating_sub(all, first), hidden);
+        down(out, all.saturating_sub(first), hidden);
     } else {
         up(out, first, hidden);
     }

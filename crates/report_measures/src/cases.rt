@@ -1,102 +1,52 @@
 // Cases of a switch that are never chosen, as far as conditions without variables say it.
 use crate::counts::term_words;
-use crate::lengths::after;
-use crate::structure::parent_of;
-use table_layout::{Construct, construct_at, word};
-use term_evaluation::Tested;
+use crate::structure::{next, parent_of, parts_from};
+use table_layout::{CONSTRUCTS_AT, Construct, construct_at, word};
 
-// What is known of a condition.
-#[derive(Clone, Copy)]
-pub enum Known {
-    Open,
-    Holds,
-    Fails,
-}
-
-fn worked_out(table: &[u32], start: usize, end: usize) -> Known {
+// Whether a condition holds, as far as it is known.
+fn worked_out(table: &[u32], start: usize, end: usize) -> Option<bool> {
     let words = term_words(table);
     if term_evaluation::variables::has_variable(words, start, end) {
-        return Known::Open;
+        return None;
     }
     let none = [0i64; 1];
     match term_evaluation::satisfied(words, start, end, &none[0..0]) {
-        Tested::Yes => Known::Holds,
-        Tested::No => Known::Fails,
-        Tested::Malformed => Known::Open,
-        Tested::Overflow => Known::Open,
+        Ok(holds) => Some(holds),
+        Err(_) => None,
     }
 }
 
 // The condition of case j; a default has none, and holds.
-fn condition(table: &[u32], j: usize) -> Known {
+fn condition(table: &[u32], j: usize) -> Option<bool> {
     if 255 < j {
-        return Known::Open;
+        return None;
     }
-    let start = word(table, 576 + 8 * j + 6);
-    let end = word(table, 576 + 8 * j + 7);
+    let start = word(table, CONSTRUCTS_AT + 8 * j + 6);
+    let end = word(table, CONSTRUCTS_AT + 8 * j + 7);
     if end <= start {
-        return Known::Holds;
+        return Some(true);
     }
     worked_out(table, start, end)
 }
 
-fn holds(table: &[u32], j: usize) -> bool {
-    match condition(table, j) {
-        Known::Holds => true,
-        _ => false,
+// The switch that construct j is a case of.
+fn switch_of(table: &[u32], j: usize) -> Option<usize> {
+    let p = parent_of(table, j)?;
+    if matches!(construct_at(table, p), Construct::Switch { .. }) {
+        return Some(p);
     }
-}
-
-fn next(i: usize) -> usize {
-    if i < 256 {
-        return i + 1;
-    }
-    256
-}
-
-// Whether a case of the switch p before case j holds always.
-fn holds_before(table: &[u32], p: usize, j: usize) -> bool {
-    let mut at = next(p);
-    let mut n: usize = 0;
-    while n < 256 {
-        if j <= at {
-            return false;
-        }
-        if holds(table, at) {
-            return true;
-        }
-        at = after(table, at, j);
-        n += 1;
-    }
-    false
-}
-
-fn is_switch(table: &[u32], p: usize) -> bool {
-    match construct_at(table, p) {
-        Construct::Switch { size: _ } => true,
-        _ => false,
-    }
-}
-
-fn is_case(table: &[u32], j: usize) -> bool {
-    is_switch(table, parent_of(table, j))
+    None
 }
 
 // Construct j is a case whose condition holds never.
 pub fn never_holds(table: &[u32], j: usize) -> bool {
-    if is_case(table, j) {
-        return match condition(table, j) {
-            Known::Fails => true,
-            _ => false,
-        };
-    }
-    false
+    switch_of(table, j).is_some() && condition(table, j) == Some(false)
 }
 
 // Construct j is a case, and one before it is chosen always.
 pub fn always_before(table: &[u32], j: usize) -> bool {
-    if is_case(table, j) {
-        return holds_before(table, parent_of(table, j), j);
+    match switch_of(table, j) {
+        Some(p) => parts_from(table, next(p), j).any(|at| condition(table, at) == Some(true)),
+        None => false,
     }
-    false
 }

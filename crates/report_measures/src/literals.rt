@@ -1,27 +1,14 @@
 // The characters of literals.
 ghost use Rattle.std.specs.Prelude.{◌<◌};
 
-use table_layout::word;
-
-fn shift(k: usize) -> usize
-    ensures { 0 < result }
-{
-    match k {
-        0 => 1,
-        1 => 256,
-        2 => 65536,
-        _ => 16777216,
-    }
-}
+use table_layout::{LITERALS_AT, word};
 
 // Character k of the literal i.
 pub fn character(table: &[u32], i: usize, k: usize) -> usize
     ensures { result < 256 }
 {
-    if i < 256 {
-        if k < 32 {
-            return word(table, 5696 + 8 * i + k / 4) / shift(k % 4) % 256;
-        }
+    if i < 256 && k < 32 {
+        return (word(table, LITERALS_AT + 8 * i + k / 4) >> (8 * (k % 4))) % 256;
     }
     0
 }

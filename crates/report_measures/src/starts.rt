@@ -1,7 +1,7 @@
 // At which bit of a byte constructs begin: sets of remainders by 8, a bit for each.
-use crate::lengths::{after, lengths};
+use crate::lengths::lengths;
 use crate::remainders::{star, sum, union};
-use crate::structure::body_of;
+use crate::structure::{body_of, next, parts_of};
 use crate::words::{number_at, put_number};
 use table_layout::{Construct, Passes, construct_at};
 
@@ -10,50 +10,21 @@ fn give(starts: &mut [usize], i: usize, set: usize) {
     put_number(starts, i, all);
 }
 
-fn end_of(i: usize, size: usize) -> usize {
-    if i < 256 {
-        if size <= 256 {
-            return i + size;
-        }
-    }
-    i
-}
-
-fn next(i: usize) -> usize {
-    if i < 256 {
-        return i + 1;
-    }
-    256
-}
-
-fn following(joined: bool, set: usize, length: usize) -> usize {
-    if joined {
-        return sum(set, length);
-    }
-    set
-}
-
-// Each part gets where it begins.
+// Each part gets where it begins; of a concatenation behind the parts before it.
 fn hand(
     table: &[u32],
     lengths: &[usize],
     starts: &mut [usize],
-    start: usize,
-    end: usize,
+    i: usize,
     set: usize,
     joined: bool,
 ) {
     let mut here = set;
-    let mut at = start;
-    let mut n: usize = 0;
-    while n < 256 {
-        if end <= at {
-            return;
-        }
+    for at in parts_of(table, i) {
         give(starts, at, here);
-        here = following(joined, here, number_at(lengths, at));
-        at = after(table, at, end);
-        n += 1;
+        if joined {
+            here = sum(here, number_at(lengths, at));
+        }
     }
 }
 
@@ -68,37 +39,14 @@ fn pass(set: usize, length: usize, passes: Passes) -> usize {
 fn hand_on(table: &[u32], lengths: &[usize], starts: &mut [usize], i: usize) {
     let set = number_at(starts, i);
     match construct_at(table, i) {
-        Construct::Alternative { size } => hand(
-            table,
-            lengths,
-            starts,
-            next(i),
-            end_of(i, size),
-            set,
-            false,
-        ),
-        Construct::Concatenation { size } => hand(
-            table,
-            lengths,
-            starts,
-            next(i),
-            end_of(i, size),
-            set,
-            true,
-        ),
-        Construct::Repetition { size: _, passes } => give(
+        Construct::Alternative { .. } | Construct::Switch { .. } => {
+            hand(table, lengths, starts, i, set, false)
+        }
+        Construct::Concatenation { .. } => hand(table, lengths, starts, i, set, true),
+        Construct::Repetition { passes, .. } => give(
             starts,
             next(i),
             pass(set, number_at(lengths, next(i)), passes),
-        ),
-        Construct::Switch { size } => hand(
-            table,
-            lengths,
-            starts,
-            next(i),
-            end_of(i, size),
-            set,
-            false,
         ),
         Construct::Use { rule } => give(starts, body_of(table, rule), set),
         _ => {}
@@ -106,19 +54,15 @@ fn hand_on(table: &[u32], lengths: &[usize], starts: &mut [usize], i: usize) {
 }
 
 fn round(table: &[u32], lengths: &[usize], starts: &mut [usize]) {
-    let mut i = 0;
-    while i < 256 {
+    for i in 0..256 {
         hand_on(table, lengths, starts, i);
-        i += 1;
     }
 }
 
 fn rounds(table: &[u32], lengths: &[usize], starts: &mut [usize]) {
     put_number(starts, 0, 1);
-    let mut n: usize = 0;
-    while n < 65 {
+    for _n in 0..65 {
         round(table, lengths, starts);
-        n += 1;
     }
 }
 

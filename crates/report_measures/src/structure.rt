@@ -1,46 +1,95 @@
-// Who holds a construct, which rule it is the body of, and where that is used.
-use table_layout::{Construct, construct_at, size_of, word};
+// Who holds a construct, what its parts are, which rule it is the body of, and where that is used.
+ghost use Rattle.std.specs.Prelude.{◌<◌, ◌-◌};
+ghost use Rattle.std.specs.Iterator.{at_most};
+
+use table_layout::{Construct, RULES_AT, construct_at, size_of, word};
+
+// Parts of a construct, the first first.
+#[derive(Drop)]
+pub struct Parts<'a> {
+    table: &'a [u32],
+    at: usize,
+    end: usize,
+}
+
+impl<'a> Iterator for Parts<'a> {
+    type Item = usize;
+
+    ghost remaining = { λ s. at_most (s.end - s.at) };
+
+    fn next(&mut self) -> Option<usize> {
+        let at = self.at;
+        if self.end <= at {
+            return None;
+        }
+        self.at = after(self.table, at, self.end);
+        Some(at)
+    }
+}
+
+// The part after one.
+pub fn after(table: &[u32], at: usize, end: usize) -> usize
+    ensures { at < end → at < result }
+{
+    let size = size_of(construct_at(table, at));
+    if 0 < size && at < 512 && size < 512 {
+        return at + size;
+    }
+    end
+}
+
+// The parts from `start` up to `end`.
+pub fn parts_from<'a>(table: &'a [u32], start: usize, end: usize) -> Parts<'a> {
+    Parts {
+        table,
+        at: start,
+        end,
+    }
+}
+
+// The parts of construct i.
+pub fn parts_of<'a>(table: &'a [u32], i: usize) -> Parts<'a> {
+    parts_from(table, next(i), end_of(i, size_of(construct_at(table, i))))
+}
+
+// The number after construct i, which is that of its first part.
+pub fn next(i: usize) -> usize {
+    if i < 256 { i + 1 } else { 256 }
+}
+
+// The number after construct i and all below it.
+pub fn end_of(i: usize, size: usize) -> usize {
+    if i < 256 && size <= 256 {
+        return i + size;
+    }
+    i
+}
 
 fn holds(table: &[u32], j: usize, i: usize) -> bool {
-    if j < i {
-        return i - j < size_of(construct_at(table, j));
-    }
-    false
+    j < i && i - j < size_of(construct_at(table, j))
 }
 
-// The construct that has i as a part; 256 where i is a rule's body.
-pub fn parent_of(table: &[u32], i: usize) -> usize {
-    let mut j = i;
-    while 0 < j {
-        j -= 1;
-        if holds(table, j, i) {
-            return j;
-        }
-    }
-    256
+// The construct that has i as a part; a rule's body has none.
+pub fn parent_of(table: &[u32], i: usize) -> Option<usize> {
+    (0..i).rev().find(|&j| holds(table, j, i))
 }
 
-// The construct that is a rule's body.
+// The construct that is a rule's body; 256 where there is no such rule.
 pub fn body_of(table: &[u32], rule: usize) -> usize {
     if rule < 64 {
-        return word(table, 64 + 4 * rule);
+        return word(table, RULES_AT + 4 * rule);
     }
     256
 }
 
-// The rule whose body construct i is; 64 where it is none's.
-pub fn rule_of(table: &[u32], i: usize) -> usize {
-    let count = word(table, 1);
-    let mut k: usize = 0;
-    while k < 64 {
-        if k < count {
-            if body_of(table, k) == i {
-                return k;
-            }
-        }
-        k += 1;
-    }
-    64
+// How many rules there are.
+pub fn rules(table: &[u32]) -> usize {
+    word(table, 1).min(64)
+}
+
+// The rule whose body construct i is.
+pub fn rule_of(table: &[u32], i: usize) -> Option<usize> {
+    (0..rules(table)).find(|&k| body_of(table, k) == i)
 }
 
 // Whether construct j uses the rule.
@@ -53,12 +102,5 @@ pub fn is_use(table: &[u32], j: usize, rule: usize) -> bool {
 
 // Whether a construct uses the rule.
 pub fn is_used(table: &[u32], rule: usize) -> bool {
-    let mut j: usize = 0;
-    while j < 256 {
-        if is_use(table, j, rule) {
-            return true;
-        }
-        j += 1;
-    }
-    false
+    (0..256).any(|j| is_use(table, j, rule))
 }

@@ -1,5 +1,4 @@
 // Where the names of rules and variables stand in an admitted text.
-use report_measures::words::put_number;
 use report_quoting::quoting::{Part, end_of};
 use text_header::Heading;
 use text_parsing::terminals::look;
@@ -14,11 +13,9 @@ fn next_rule(grammar: &[u8], at: usize) -> usize {
 
 fn rules_from(grammar: &[u8], base: usize, rules: &mut [usize]) {
     let mut at = look(grammar, base).start;
-    let mut k: usize = 0;
-    while k < 64 {
-        put_number(rules, k, at);
+    for name in rules {
+        *name = at;
         at = next_rule(grammar, at);
-        k += 1;
     }
 }
 
@@ -33,10 +30,8 @@ pub fn rules(grammar: &[u8], rules: &mut [usize]) {
 // The name that the uint or sint at `at` binds: behind `uint ( width , var (`.
 pub fn bound(grammar: &[u8], at: usize) -> usize {
     let mut here = at;
-    let mut n: usize = 0;
-    while n < 6 {
+    for _n in 0..6 {
         here = look(grammar, here).end;
-        n += 1;
     }
     look(grammar, here).start
 }

@@ -1,155 +1,92 @@
 // A field's name as a C identifier: its rule's name, and its variable's or its kind with a number, in upper case.
-use crate::fields::Named;
-use report_wording::lines::saturating_sub;
-use report_wording::writing::say;
+use crate::fields::{Kind, Named, Own};
+use report_wording::writing::{number, say};
 use std::io::Stdout;
 use text_header::Class;
-use text_header::spans::{byte_at, span};
+use text_header::spans::span;
 
 // A rule's name and a variable's have at most 32 bytes each.
 const MOST_BYTES: usize = 80;
 
-fn upper(b: u8) -> u8 {
-    if 97 <= b {
-        if b <= 122 {
-            return b - 32;
-        }
-    }
-    b
+// The name at a place of the text.
+fn name_at(grammar: &[u8], at: usize) -> &[u8] {
+    grammar
+        .get(at..span(Class::Name, grammar, at))
+        .unwrap_or(&[])
 }
 
-fn plus(a: usize, b: usize) -> usize {
-    if a < 8192 {
-        if b < 8192 {
-            return a + b;
-        }
+fn kind_name(kind: Kind) -> &'static [u8] {
+    match kind {
+        Kind::Literal => b"LITERAL_",
+        Kind::Range => b"RANGE_",
+        Kind::Uint => b"UINT_",
+        Kind::Sint => b"SINT_",
     }
-    8192
-}
-
-// How many bytes the name at a place of the text has.
-fn length(grammar: &[u8], at: usize) -> usize {
-    saturating_sub(span(Class::Name, grammar, at), at)
-}
-
-// Byte k of the name at a place of the text; 0 past its end.
-fn letter(grammar: &[u8], at: usize, k: usize) -> u8 {
-    if k < length(grammar, at) {
-        return upper(byte_at(grammar, plus(at, k)));
-    }
-    0
 }
 
 // The last digit of a number.
 fn units(n: usize) -> u8 {
-    48 + (n % 10) as u8
+    b'0' + (n % 10) as u8
 }
 
-// Digit k of a number below 1,000; 0 past its last.
-fn digit(n: usize, k: usize) -> u8 {
-    if k == 0 {
-        return leading(n);
+// Digit k of a number below 1,000.
+fn digit(n: usize, k: usize) -> Option<u8> {
+    match (n, k) {
+        (0..=9, 0) | (10..=99, 1) | (100.., 2) => Some(units(n)),
+        (10..=99, 0) | (100.., 1) => Some(units(n / 10)),
+        (100.., 0) => Some(units(n / 100)),
+        _ => None,
     }
-    if k == 1 {
-        return second(n);
-    }
-    if k == 2 {
-        if 100 <= n {
-            return units(n);
+}
+
+// Byte k of a word.
+fn letter(word: &[u8], k: usize) -> Option<u8> {
+    Some(word.get(k)?.to_ascii_uppercase())
+}
+
+// Byte k of what is told of a field behind its rule.
+fn own(grammar: &[u8], own: Own, k: usize) -> Option<u8> {
+    match own {
+        Own::Variable(at) => letter(name_at(grammar, at), k),
+        Own::Counted(kind, n) => {
+            let word = kind_name(kind);
+            match word.get(k) {
+                Some(b) => Some(*b),
+                None => digit(n, k.saturating_sub(word.len())),
+            }
         }
     }
-    0
 }
 
-fn leading(n: usize) -> u8 {
-    if n < 10 {
-        return units(n);
+// Byte k of a field's name.
+fn byte(grammar: &[u8], field: Named, k: usize) -> Option<u8> {
+    let rule = name_at(grammar, field.rule);
+    if k < rule.len() {
+        return letter(rule, k);
     }
-    if n < 100 {
-        return units(n / 10);
+    if k == rule.len() {
+        return Some(b'_');
     }
-    units(n / 100)
-}
-
-fn second(n: usize) -> u8 {
-    if n < 10 {
-        return 0;
-    }
-    if n < 100 {
-        return units(n);
-    }
-    units(n / 10)
-}
-
-// Byte k of a word, and behind it of a number.
-fn numbered(word: &[u8], n: usize, k: usize) -> u8 {
-    if k < word.len() {
-        return byte_at(word, k);
-    }
-    digit(n, saturating_sub(k, word.len()))
-}
-
-fn by_kind(kind: usize, n: usize, k: usize) -> u8 {
-    match kind {
-        6 => numbered(b"LITERAL_", n, k),
-        7 => numbered(b"RANGE_", n, k),
-        12 => numbered(b"SINT_", n, k),
-        _ => numbered(b"UINT_", n, k),
-    }
-}
-
-// Byte k of what is told of the field behind its rule.
-fn tail(grammar: &[u8], field: Named, k: usize) -> u8 {
-    if 0 < field.bound {
-        return letter(grammar, field.bound, k);
-    }
-    by_kind(field.kind, field.ordinal, k)
-}
-
-// Byte k of a field's name; 0 past its end.
-fn byte(grammar: &[u8], field: Named, k: usize) -> u8 {
-    let n = length(grammar, field.rule);
-    if k < n {
-        return letter(grammar, field.rule, k);
-    }
-    if k == n {
-        return b'_';
-    }
-    tail(grammar, field, saturating_sub(k, plus(n, 1)))
+    own(grammar, field.own, k - rule.len() - 1)
 }
 
 // Whether two fields have one name.
 pub fn same(grammar: &[u8], a: Named, b: Named) -> bool {
-    let mut k: usize = 0;
-    while k < MOST_BYTES {
-        if byte(grammar, a, k) != byte(grammar, b, k) {
-            return false;
-        }
-        k += 1;
-    }
-    true
-}
-
-fn put(out: Stdout, b: u8) {
-    let one = [b];
-    if 0 < b {
-        say(out, &one);
-    }
+    (0..MOST_BYTES).all(|k| byte(grammar, a, k) == byte(grammar, b, k))
 }
 
 // The name at a place of the text, in upper case.
 pub fn word(out: Stdout, grammar: &[u8], at: usize) {
-    let mut k: usize = 0;
-    while k < MOST_BYTES {
-        put(out, letter(grammar, at, k));
-        k += 1;
+    for b in name_at(grammar, at) {
+        say(out, &[b.to_ascii_uppercase()]);
     }
 }
 
 pub fn name(out: Stdout, grammar: &[u8], field: Named) {
-    let mut k: usize = 0;
-    while k < MOST_BYTES {
-        put(out, byte(grammar, field, k));
-        k += 1;
+    word(out, grammar, field.rule);
+    say(out, b"_");
+    match field.own {
+        Own::Variable(at) => word(out, grammar, at),
+        Own::Counted(kind, n) => number(out, kind_name(kind), n),
     }
 }

@@ -3,7 +3,6 @@
 
 pub mod brackets;
 pub mod nearest;
-pub mod openings;
 pub mod prefixes;
 pub mod quoting;
 pub mod variables;

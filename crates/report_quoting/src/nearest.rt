@@ -1,169 +1,91 @@
 // A name that is nearly another one: the same but for letter case, or for one byte that is wrong, missing, too many, or two that changed places.
-use report_wording::lines::saturating_sub;
+use basis::MAX_TEXT_BYTES;
 use text_header::Class;
-use text_header::bytes::either;
-use text_header::spans::{byte_at, span};
+use text_header::spans::span;
 use text_parsing::terminals::look;
 
-fn folded(b: u8) -> u8 {
-    if 65 <= b {
-        if b <= 90 {
-            return b + 32;
-        }
-    }
-    b
+// The name at a place.
+fn name_at(grammar: &[u8], at: usize) -> &[u8] {
+    grammar
+        .get(at..span(Class::Name, grammar, at))
+        .unwrap_or(&[])
 }
 
-fn plus(a: usize, b: usize) -> usize {
-    if a < 8192 {
-        if b < 8192 {
-            return a + b;
-        }
-    }
-    8192
+fn same(a: u8, b: u8) -> bool {
+    a.eq_ignore_ascii_case(&b)
 }
 
-fn same(grammar: &[u8], a: usize, b: usize) -> bool {
-    folded(byte_at(grammar, a)) == folded(byte_at(grammar, b))
+// How many bytes two names begin with alike.
+fn alike(a: &[u8], b: &[u8]) -> usize {
+    a.iter().zip(b).take_while(|(x, y)| same(**x, **y)).count()
 }
 
-fn least(a: usize, b: usize) -> usize {
-    if a < b {
-        return a;
-    }
-    b
+// How many bytes they end with alike.
+fn alike_back(a: &[u8], b: &[u8]) -> usize {
+    a.iter()
+        .rev()
+        .zip(b.iter().rev())
+        .take_while(|(x, y)| same(**x, **y))
+        .count()
 }
 
-// How many bytes two names begin with alike, at most n.
-fn alike(grammar: &[u8], a: usize, b: usize, n: usize) -> usize {
-    let mut k: usize = 0;
-    while k < 32 {
-        if n <= k {
-            return k;
-        }
-        if !same(grammar, plus(a, k), plus(b, k)) {
-            return k;
-        }
-        k += 1;
+// What is left of two names without the bytes that they begin with alike, and then without those that they end with alike.
+fn near_by(a: &[u8], b: &[u8]) -> bool {
+    match (a, b) {
+        ([] | [_], [] | [_]) => true,
+        ([a, b], [x, y]) => same(*a, *y) && same(*b, *x),
+        _ => false,
     }
-    k
 }
 
-// How many bytes before two places are alike, at most n.
-fn alike_back(grammar: &[u8], a: usize, b: usize, n: usize) -> usize {
-    let mut k: usize = 0;
-    while k < 32 {
-        if n <= k {
-            return k;
-        }
-        if !same(
-            grammar,
-            saturating_sub(a, plus(k, 1)),
-            saturating_sub(b, plus(k, 1)),
-        ) {
-            return k;
-        }
-        k += 1;
-    }
-    k
+fn without(name: &[u8], first: usize, last: usize) -> &[u8] {
+    name.get(first..name.len().saturating_sub(last))
+        .unwrap_or(&[])
 }
 
-fn swapped(grammar: &[u8], a: usize, b: usize) -> bool {
-    if same(grammar, a, plus(b, 1)) {
-        return same(grammar, plus(a, 1), b);
-    }
-    false
-}
-
-// Of la and lb bytes, alike in p at the start.
-fn near_by(grammar: &[u8], a: usize, b: usize, la: usize, lb: usize, p: usize) -> bool {
-    let rest = least(saturating_sub(la, p), saturating_sub(lb, p));
-    let s = alike_back(grammar, plus(a, la), plus(b, lb), rest);
-    let both = plus(plus(p, s), 1);
-    if either(la < lb, lb < la) {
-        return least(la, lb) < both;
-    }
-    if la <= both {
-        return true;
-    }
-    if la == plus(both, 1) {
-        return swapped(grammar, plus(a, p), plus(b, p));
-    }
-    false
-}
-
-fn near_of(grammar: &[u8], a: usize, b: usize, la: usize, lb: usize) -> bool {
-    if 1 < saturating_sub(la, lb) {
-        return false;
-    }
-    if 1 < saturating_sub(lb, la) {
-        return false;
-    }
-    near_by(grammar, a, b, la, lb, alike(grammar, a, b, least(la, lb)))
+fn near_of(a: &[u8], b: &[u8]) -> bool {
+    let first = alike(a, b);
+    let last = alike_back(without(a, first, 0), without(b, first, 0));
+    near_by(without(a, first, last), without(b, first, last))
 }
 
 // Names of at least three bytes.
 pub fn near(grammar: &[u8], a: usize, b: usize) -> bool {
-    let la = saturating_sub(span(Class::Name, grammar, a), a);
-    let lb = saturating_sub(span(Class::Name, grammar, b), b);
-    if least(la, lb) < 3 {
-        return false;
-    }
-    near_of(grammar, a, b, la, lb)
+    let a = name_at(grammar, a);
+    let b = name_at(grammar, b);
+    3 <= a.len().min(b.len()) && near_of(a, b)
 }
 
 // Whether a name is defined: as a rule's after `;`, or as a variable's after `var(`.
 fn defined(second: usize, last: usize, next: usize, variable: bool) -> bool {
     if variable {
-        if second == 8 {
-            return last == 40;
-        }
-        return false;
+        second == 8 && last == 40
+    } else {
+        last == 59 && next == 61
     }
-    if last == 59 {
-        return next == 61;
-    }
-    false
 }
 
-// The first rule's name, or variable's, that is nearly the name at a place; that place itself where there is none.
-pub fn nearest(grammar: &[u8], base: usize, at: usize, variable: bool) -> usize {
+// The first rule's name, or variable's, that is nearly the name at a place.
+pub fn nearest(grammar: &[u8], base: usize, at: usize, variable: bool) -> Option<usize> {
     let mut here = base;
     let mut second: usize = 59;
     let mut last: usize = 59;
-    let mut tokens: usize = 0;
-    while tokens < 8192 {
+    for _tokens in 0..MAX_TEXT_BYTES {
         let terminal = look(grammar, here);
-        let code = terminal.code;
-        let start = terminal.start;
-        let end = terminal.end;
-        if code == 5 {
-            return at;
+        if terminal.code == 5 {
+            break;
         }
-        if candidate(
-            grammar,
-            code,
-            start,
-            at,
-            defined(second, last, look(grammar, end).code, variable),
-        ) {
-            return start;
+        let next = look(grammar, terminal.end).code;
+        if terminal.code == 1
+            && terminal.start != at
+            && defined(second, last, next, variable)
+            && near(grammar, terminal.start, at)
+        {
+            return Some(terminal.start);
         }
         second = last;
-        last = code;
-        here = end;
-        tokens += 1;
+        last = terminal.code;
+        here = terminal.end;
     }
-    at
-}
-
-fn candidate(grammar: &[u8], code: usize, start: usize, at: usize, defined: bool) -> bool {
-    if code == 1 {
-        if defined {
-            if start != at {
-                return near(grammar, start, at);
-            }
-        }
-    }
-    false
+    None
 }

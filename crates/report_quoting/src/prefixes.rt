@@ -5,105 +5,61 @@ use std::io::Stdout;
 use text_header::spans::byte_at;
 use text_parsing::terminals::look;
 
-fn plus(a: usize, b: usize) -> usize {
-    if a < 8192 {
-        if b < 8192 {
-            return a + b;
-        }
-    }
-    8192
-}
-
 // A byte of a literal that stands for itself.
 fn plain(b: u8) -> bool {
-    if b == 92 {
-        return false;
-    }
-    if b == 34 {
-        return false;
-    }
-    if b == 39 {
-        return false;
-    }
-    32 <= b
+    b' ' <= b && !matches!(b, b'\\' | b'"' | b'\'')
 }
 
-fn same(grammar: &[u8], a: usize, b: usize) -> bool {
-    let x = byte_at(grammar, a);
-    if plain(x) {
-        return x == byte_at(grammar, b);
-    }
-    false
+// The place of a literal's character n, behind its quote.
+fn character(at: usize, n: usize) -> usize {
+    at.saturating_add(1).saturating_add(n)
+}
+
+fn character_at(grammar: &[u8], at: usize, n: usize) -> u8 {
+    byte_at(grammar, character(at, n))
 }
 
 // How many characters two literals begin with alike, up to 32.
 pub fn shared(grammar: &[u8], first: usize, second: usize) -> usize {
-    let mut n: usize = 0;
-    while n < 32 {
-        if !same(grammar, plus(first, plus(1, n)), plus(second, plus(1, n))) {
+    for n in 0..32 {
+        let b = character_at(grammar, first, n);
+        if !plain(b) || b != character_at(grammar, second, n) {
             return n;
         }
-        n += 1;
     }
-    n
+    32
 }
 
 // What is left of a branch: its literal without the first n characters, and the rest of it.
 fn rest(out: Stdout, grammar: &[u8], at: usize, n: usize) {
-    bytes(out, Style::Line, grammar, at, plus(at, 1));
+    bytes(out, Style::Line, grammar, at, at.saturating_add(1));
     bytes(
         out,
         Style::Line,
         grammar,
-        plus(at, plus(1, n)),
+        character(at, n),
         end_of(grammar, at, Part::Branch),
     );
 }
 
 // Something of the literal is left after n characters.
 fn longer(grammar: &[u8], at: usize, n: usize) -> bool {
-    plus(at, plus(2, n)) < look(grammar, at).end
+    character(at, n).saturating_add(1) < look(grammar, at).end
 }
 
 // No comment and no line's end.
-fn in_line(grammar: &[u8], from: usize, to: usize) -> bool {
-    let mut i = from;
-    while i < to {
-        if breaks(byte_at(grammar, i)) {
-            return false;
-        }
-        i += 1;
-    }
-    true
-}
-
-fn breaks(b: u8) -> bool {
-    if b < 32 {
-        return true;
-    }
-    b == 35
+fn in_line(part: &[u8]) -> bool {
+    part.iter().all(|&b| b' ' <= b && b != b'#')
 }
 
 fn short(grammar: &[u8], at: usize) -> bool {
     let end = end_of(grammar, at, Part::Branch);
-    if end < plus(at, 60) {
-        return in_line(grammar, at, end);
-    }
-    false
+    end < at.saturating_add(60) && in_line(grammar.get(at..end).unwrap_or(&[]))
 }
 
 // The literal goes on with a character that stands for itself: an escape may be the same character as the other's.
 fn goes_on(grammar: &[u8], at: usize, n: usize) -> bool {
-    if longer(grammar, at, n) {
-        if plain(byte_at(grammar, plus(at, plus(1, n)))) {
-            return short(grammar, at);
-        }
-    }
-    false
-}
-
-fn next_byte(grammar: &[u8], at: usize, n: usize) -> u8 {
-    byte_at(grammar, plus(at, plus(1, n)))
+    longer(grammar, at, n) && plain(character_at(grammar, at, n)) && short(grammar, at)
 }
 
 // The branch is its literal.
@@ -113,24 +69,23 @@ fn alone(grammar: &[u8], at: usize) -> bool {
 
 // One branch is all that the two share, and the other goes on.
 pub fn is_prefix(grammar: &[u8], whole: usize, other: usize, n: usize) -> bool {
-    if n == 0 {
-        return false;
-    }
-    if longer(grammar, whole, n) {
-        return false;
-    }
-    if alone(grammar, whole) {
-        if longer(grammar, other, n) {
-            return short(grammar, other);
-        }
-    }
-    false
+    0 < n
+        && !longer(grammar, whole, n)
+        && alone(grammar, whole)
+        && longer(grammar, other, n)
+        && short(grammar, other)
 }
 
 // What is in front, as a literal.
 fn front(out: Stdout, grammar: &[u8], at: usize, n: usize) {
     say(out, b"\"");
-    bytes(out, Style::Line, grammar, plus(at, 1), plus(at, plus(1, n)));
+    bytes(
+        out,
+        Style::Line,
+        grammar,
+        character(at, 0),
+        character(at, n),
+    );
     say(out, b"\" & ");
 }
 
@@ -147,106 +102,62 @@ pub fn optional(out: Stdout, grammar: &[u8], other: usize, n: usize) {
     say(out, b")?\n");
 }
 
-fn place(places: &[usize], k: usize) -> usize {
-    if k < places.len() {
-        return places[k];
-    }
-    0
-}
-
-fn least(a: usize, b: usize) -> usize {
-    if a < b {
-        return a;
-    }
-    b
-}
-
-// How many characters the first `count` branches begin with alike.
-fn all_share(grammar: &[u8], places: &[usize], count: usize) -> usize {
-    let mut n: usize = 32;
-    let mut k: usize = 1;
-    while k < count {
-        n = least(n, shared(grammar, place(places, 0), place(places, k)));
-        k += 1;
+// How many characters all branches begin with alike.
+fn all_share(grammar: &[u8], places: &[usize]) -> usize {
+    let mut n = 32;
+    if let Some((first, others)) = places.split_first() {
+        for other in others {
+            n = n.min(shared(grammar, *first, *other));
+        }
     }
     n
 }
 
 // Whether each goes on after n characters.
-fn all_go_on(grammar: &[u8], places: &[usize], count: usize, n: usize) -> bool {
-    let mut k: usize = 0;
-    while k < count {
-        if !goes_on(grammar, place(places, k), n) {
+fn all_go_on(grammar: &[u8], places: &[usize], n: usize) -> bool {
+    places.iter().all(|&at| goes_on(grammar, at, n))
+}
+
+// Whether none of the others goes on as the branch at a place does.
+fn apart(grammar: &[u8], at: usize, others: &[usize], n: usize) -> bool {
+    let b = character_at(grammar, at, n);
+    others
+        .iter()
+        .all(|&other| character_at(grammar, other, n) != b)
+}
+
+fn all_apart(grammar: &[u8], places: &[usize], n: usize) -> bool {
+    for (k, at) in places.iter().enumerate() {
+        if !apart(grammar, *at, &places[k + 1..], n) {
             return false;
         }
-        k += 1;
     }
     true
 }
 
-// Whether none of the later ones goes on as branch k does.
-fn apart(grammar: &[u8], places: &[usize], count: usize, n: usize, k: usize) -> bool {
-    let b = next_byte(grammar, place(places, k), n);
-    let mut j = plus(k, 1);
-    while j < count {
-        if next_byte(grammar, place(places, j), n) == b {
-            return false;
+fn rests(out: Stdout, grammar: &[u8], places: &[usize], n: usize) {
+    for (k, at) in places.iter().enumerate() {
+        if 0 < k {
+            say(out, b" | ");
         }
-        j += 1;
-    }
-    true
-}
-
-fn all_apart(grammar: &[u8], places: &[usize], count: usize, n: usize) -> bool {
-    let mut k: usize = 0;
-    while k < count {
-        if !apart(grammar, places, count, n, k) {
-            return false;
-        }
-        k += 1;
-    }
-    true
-}
-
-fn between(out: Stdout, k: usize) {
-    if 0 < k {
-        say(out, b" | ");
-    }
-}
-
-fn one_rest(out: Stdout, grammar: &[u8], places: &[usize], n: usize, k: usize) {
-    between(out, k);
-    rest(out, grammar, place(places, k), n);
-}
-
-fn rests(out: Stdout, grammar: &[u8], places: &[usize], count: usize, n: usize) {
-    let mut k: usize = 0;
-    while k < count {
-        one_rest(out, grammar, places, n, k);
-        k += 1;
+        rest(out, grammar, *at, n);
     }
 }
 
 // Whether the branches could be written so, the first n characters of all in front: all go on after them, each with another character. Six
 // are as many as a reader takes in.
-pub fn fit(grammar: &[u8], places: &[usize], count: usize) -> bool {
-    let n = all_share(grammar, places, count);
-    if n == 0 {
-        return false;
-    }
-    if 6 < count {
-        return false;
-    }
-    if all_go_on(grammar, places, count, n) {
-        return all_apart(grammar, places, count, n);
-    }
-    false
+pub fn fit(grammar: &[u8], places: &[usize]) -> bool {
+    let n = all_share(grammar, places);
+    0 < n && places.len() <= 6 && all_go_on(grammar, places, n) && all_apart(grammar, places, n)
 }
 
-pub fn written(out: Stdout, grammar: &[u8], places: &[usize], count: usize) {
-    let n = all_share(grammar, places, count);
-    front(out, grammar, place(places, 0), n);
+pub fn written(out: Stdout, grammar: &[u8], places: &[usize]) {
+    let n = all_share(grammar, places);
+    let Some(first) = places.first() else {
+        return;
+    };
+    front(out, grammar, *first, n);
     say(out, b"(");
-    rests(out, grammar, places, count, n);
+    rests(out, grammar, places, n);
     say(out, b")\n");
 }

@@ -4,11 +4,10 @@ ghost use Rattle.basis.specs.Limits.{max_text_bytes};
 ghost use Rattle.report_quoting.specs.Parts.{is_never, ends_whole, ends_branch, ends_member, is_mark, ends_at, ends as endsOf, part_end};
 
 use basis::MAX_TEXT_BYTES;
-use report_wording::lines::{cut, saturating_sub};
+use report_wording::lines::cut;
 use report_wording::walking::nesting;
 use report_wording::writing::{Style, bytes, say};
 use std::io::Stdout;
-use text_header::bytes::{both, either};
 use text_parsing::terminals::look;
 
 // What the part is. A whole expression ends before `;` or a closing bracket, a branch also before `|`, a member also before `&`, a
@@ -22,39 +21,41 @@ pub enum Part {
 }
 
 // The text's end, and a token that can stand nowhere.
+#[tactic(auto, unfolding(crate::specs::Parts::is_never))]
 fn never(code: usize) -> bool
     ensures { result ≡ is_never code }
 {
-    either(code == 4, code == 5)
+    code == 4 || code == 5
 }
 
 // ; ) ]
+#[tactic(auto, unfolding(crate::specs::Parts::ends_whole))]
 fn whole(code: usize) -> bool
     ensures { result ≡ ends_whole code }
 {
-    either(code == 59, either(code == 41, code == 93))
+    code == 59 || code == 41 || code == 93
 }
 
+#[tactic(auto, unfolding(crate::specs::Parts::ends_branch))]
 fn branch(code: usize) -> bool
     ensures { result ≡ ends_branch code }
 {
-    either(code == 124, whole(code))
+    code == 124 || whole(code)
 }
 
+#[tactic(auto, unfolding(crate::specs::Parts::ends_member))]
 fn member(code: usize) -> bool
     ensures { result ≡ ends_member code }
 {
-    either(code == 38, branch(code))
+    code == 38 || branch(code)
 }
 
 // ? * + {
+#[tactic(auto, unfolding(crate::specs::Parts::is_mark))]
 pub fn mark(code: usize) -> bool
     ensures { result ≡ is_mark code }
 {
-    either(
-        either(code == 63, code == 42),
-        either(code == 43, code == 123),
-    )
+    code == 63 || code == 42 || code == 43 || code == 123
 }
 
 fn ends_at(part: Part, code: usize) -> bool
@@ -64,14 +65,14 @@ fn ends_at(part: Part, code: usize) -> bool
         Part::Whole => whole(code),
         Part::Branch => branch(code),
         Part::Member => member(code),
-        Part::Field => either(mark(code), member(code)),
+        Part::Field => mark(code) || member(code),
     }
 }
 
 fn ends(part: Part, code: usize, depth: usize) -> bool
     ensures { result ≡ endsOf part code depth }
 {
-    either(never(code), both(depth == 0, ends_at(part, code)))
+    never(code) || depth == 0 && ends_at(part, code)
 }
 
 // Not in front of the dots of a cut.
@@ -87,9 +88,10 @@ fn gap(out: Stdout, here: usize, start: usize, room: usize) -> usize
 {
     if here < start {
         blank(out, room);
-        return saturating_sub(room, 1);
+        room.saturating_sub(1)
+    } else {
+        room
     }
-    room
 }
 
 // The bytes up to a place, as far as there is room for them; whether some are left out.
@@ -98,34 +100,29 @@ fn cut_off(out: Stdout, grammar: &[u8], start: usize, end: usize, room: usize) -
 {
     let to = cut(start, end, room);
     bytes(out, Style::Line, grammar, start, to);
-    if room < saturating_sub(end, start) {
+    let is_cut = room < end.saturating_sub(start);
+    if is_cut {
         say(out, b" ...");
-        return true;
     }
-    false
+    is_cut
 }
 
 pub fn quote(out: Stdout, grammar: &[u8], at: usize, part: Part) {
     let mut here = at;
     let mut depth = 0;
     let mut room = 60;
-    let mut tokens: usize = 0;
-    while tokens < 61 {
+    for _tokens in 0..61 {
         let terminal = look(grammar, here);
-        let code = terminal.code;
-        let start = terminal.start;
-        let end = terminal.end;
-        if ends(part, code, depth) {
+        if ends(part, terminal.code, depth) {
             return;
         }
-        room = gap(out, here, start, room);
-        if cut_off(out, grammar, start, end, room) {
+        room = gap(out, here, terminal.start, room);
+        if cut_off(out, grammar, terminal.start, terminal.end, room) {
             return;
         }
-        room = saturating_sub(room, saturating_sub(end, start));
-        depth = nesting(code, depth);
-        here = end;
-        tokens += 1;
+        room = room.saturating_sub(terminal.end.saturating_sub(terminal.start));
+        depth = nesting(terminal.code, depth);
+        here = terminal.end;
     }
 }
 
@@ -135,16 +132,13 @@ pub fn end_of(grammar: &[u8], at: usize, part: Part) -> usize
 {
     let mut here = at;
     let mut depth = 0;
-    let mut tokens: usize = 0;
-    while tokens < MAX_TEXT_BYTES {
+    for _tokens in 0..MAX_TEXT_BYTES {
         let terminal = look(grammar, here);
-        let code = terminal.code;
-        if ends(part, code, depth) {
+        if ends(part, terminal.code, depth) {
             return here;
         }
-        depth = nesting(code, depth);
+        depth = nesting(terminal.code, depth);
         here = terminal.end;
-        tokens += 1;
     }
     here
 }

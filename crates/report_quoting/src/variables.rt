@@ -11,22 +11,21 @@ fn behind_bound(grammar: &[u8], at: usize) -> usize {
 
 fn next(grammar: &[u8], code: usize, start: usize, end: usize) -> usize {
     if code == 8 {
-        return behind_bound(grammar, start);
+        behind_bound(grammar, start)
+    } else {
+        end
     }
-    end
 }
 
 // The place of the first name from a place on, but for one that is bound there.
 pub fn first_name(grammar: &[u8], at: usize) -> usize {
     let mut here = at;
-    let mut n: usize = 0;
-    while n < 1024 {
+    for _n in 0..1024 {
         let terminal = look(grammar, here);
         if terminal.code == 1 {
             return terminal.start;
         }
         here = next(grammar, terminal.code, terminal.start, terminal.end);
-        n += 1;
     }
     here
 }

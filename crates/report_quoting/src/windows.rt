@@ -5,56 +5,55 @@ ghost use Rattle.report_wording.specs.Shown.{size_below_16, size_from_16, size_o
 use report_wording::writing::{hexadecimal, number, say};
 use std::io::Stdout;
 
+#[tactic(auto, unfolding(report_wording::specs::Shown::size_below_16))]
 fn size_below_16(window: usize) -> usize
     ensures { result ≡ size_below_16 window }
 {
     if window < 2 {
-        return 0;
+        0
+    } else if window < 4 {
+        1
+    } else if window < 8 {
+        2
+    } else {
+        3
     }
-    if window < 4 {
-        return 1;
-    }
-    if window < 8 {
-        return 2;
-    }
-    3
 }
 
+#[tactic(auto, unfolding(report_wording::specs::Shown::size_from_16))]
 fn size_from_16(window: usize) -> usize
     ensures { result ≡ size_from_16 window }
 {
     if window < 32 {
-        return 4;
+        4
+    } else if window < 64 {
+        5
+    } else if window < 128 {
+        6
+    } else if window < 256 {
+        7
+    } else {
+        8
     }
-    if window < 64 {
-        return 5;
-    }
-    if window < 128 {
-        return 6;
-    }
-    if window < 256 {
-        return 7;
-    }
-    8
 }
 
 // How many bits it has.
+#[tactic(auto, unfolding(report_wording::specs::Shown::size_of))]
 fn size(window: usize) -> usize
     ensures { result ≡ size_of window }
 {
     if window < 16 {
-        return size_below_16(window);
+        size_below_16(window)
+    } else {
+        size_from_16(window)
     }
-    size_from_16(window)
 }
 
+#[tactic(auto, unfolding(report_wording::specs::Shown::digit_of))]
 fn digit(n: usize) -> u8
     ensures { result ≡ digit_of n }
 {
-    if n % 2 == 0 {
-        return b'0';
-    }
-    b'1'
+    if n % 2 == 0 { b'0' } else { b'1' }
 }
 
 pub fn binary(out: Stdout, window: usize, n: usize) {
@@ -74,14 +73,10 @@ pub fn binary(out: Stdout, window: usize, n: usize) {
 }
 
 fn character(out: Stdout, b: u8) {
-    let one = [b];
-    if 32 < b {
-        if b < 127 {
-            say(out, b", the character ");
-            say(out, &one);
-        }
-    }
-    if b == 32 {
+    if b.is_ascii_graphic() {
+        say(out, b", the character ");
+        say(out, &[b]);
+    } else if b == b' ' {
         say(out, b", a space");
     }
 }
@@ -111,10 +106,7 @@ fn power(n: usize) -> usize
 
 // Two digits from five bits on.
 fn digits(n: usize) -> usize {
-    if n < 5 {
-        return 1;
-    }
-    2
+    if n < 5 { 1 } else { 2 }
 }
 
 fn value(out: Stdout, window: usize, n: usize) {
@@ -145,14 +137,12 @@ fn into(out: Stdout, k: usize) {
 fn several(out: Stdout, n: usize) {
     if n == 1 {
         say(out, b" (the last bit of the frame).\n");
-        return;
-    }
-    if n < 8 {
+    } else if n < 8 {
         number(out, b" (the last ", n);
         say(out, b" bits of the frame).\n");
-        return;
+    } else {
+        say(out, b" (they can begin at different bits of a byte).\n");
     }
-    say(out, b" (they can begin at different bits of a byte).\n");
 }
 
 // Where the bits begin in a byte is a set of remainders by 8: at one place, at several, or nowhere.

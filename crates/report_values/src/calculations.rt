@@ -1,5 +1,4 @@
 // A calculation without variables, worked out from the text. Where it passes 2^62, which is refusal 8, it counts as 0.
-use term_integers::Checked;
 use text_parsing::terminals::look;
 
 // Its value, and the place behind its last token.
@@ -17,11 +16,8 @@ struct State {
     open: bool,
 }
 
-fn kept(res: Checked) -> i64 {
-    match res {
-        Checked::Exact(n) => n,
-        Checked::Overflow => 0,
-    }
+fn kept(res: Option<i64>) -> i64 {
+    res.unwrap_or(0)
 }
 
 fn opposite(n: i64) -> i64 {
@@ -35,17 +31,17 @@ fn total(state: State) -> i64 {
 fn times(state: State, value: usize) -> State {
     let n = kept(term_integers::whole(value as u64));
     State {
-        sum: state.sum,
         product: kept(term_integers::multiply(state.product, n)),
         open: false,
+        ..state
     }
 }
 
 fn signed(state: State) -> State {
     State {
-        sum: state.sum,
         product: opposite(state.product),
         open: true,
+        ..state
     }
 }
 
@@ -67,9 +63,8 @@ fn minus(state: State) -> State {
 
 fn factor(state: State) -> State {
     State {
-        sum: state.sum,
-        product: state.product,
         open: true,
+        ..state
     }
 }
 
@@ -84,13 +79,7 @@ fn stepped(state: State, code: usize, value: usize) -> State {
 
 // A number, or a sign of a calculation.
 fn belongs(code: usize) -> bool {
-    match code {
-        2 => true,
-        42 => true,
-        43 => true,
-        45 => true,
-        _ => false,
-    }
+    matches!(code, 2 | 42 | 43 | 45)
 }
 
 // The calculation at a place.
@@ -101,8 +90,7 @@ pub fn worked_out(grammar: &[u8], at: usize) -> Worked {
         open: true,
     };
     let mut here = at;
-    let mut tokens: usize = 0;
-    while tokens < 8192 {
+    for _tokens in 0..8192 {
         let terminal = look(grammar, here);
         let code = terminal.code;
         if !belongs(code) {
@@ -113,7 +101,6 @@ pub fn worked_out(grammar: &[u8], at: usize) -> Worked {
         }
         state = stepped(state, code, terminal.value);
         here = terminal.end;
-        tokens += 1;
     }
     Worked {
         value: total(state),
@@ -123,9 +110,5 @@ pub fn worked_out(grammar: &[u8], at: usize) -> Worked {
 
 // Whether a calculation may begin with the token.
 pub fn begins(code: usize) -> bool {
-    match code {
-        2 => true,
-        45 => true,
-        _ => false,
-    }
+    matches!(code, 2 | 45)
 }

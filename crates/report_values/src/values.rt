@@ -8,14 +8,12 @@ use term_integers::{at_most, magnitude, negative};
 use text_header::spans::byte_at;
 use text_parsing::terminals::look;
 
-// An item `a` or `a~b`, where each end may be left out. `single`: one number. `from`, `to`: an end is written.
+// An item `a` or `a~b`, where each end may be left out. `single`: one number.
 #[derive(Clone, Copy)]
 struct Item {
     single: bool,
-    from: bool,
-    low: i64,
-    to: bool,
-    high: i64,
+    low: Option<i64>,
+    high: Option<i64>,
 }
 
 // The values of a width: from -`below` to `most`.
@@ -28,10 +26,8 @@ struct Ends {
 // The place behind a number of tokens.
 fn behind(grammar: &[u8], at: usize, count: usize) -> usize {
     let mut here = at;
-    let mut n: usize = 0;
-    while n < count {
+    for _n in 0..count {
         here = look(grammar, here).end;
-        n += 1;
     }
     here
 }
@@ -77,43 +73,34 @@ fn ends_of(signed: bool, width: usize) -> Ends {
     }
 }
 
-// A range whose lower end is known, at the token behind its `~`.
-fn range(grammar: &[u8], from: bool, low: i64, at: usize) -> Item {
-    if begins(look(grammar, at).code) {
-        let high = worked_out(grammar, at).value;
-        return Item {
-            single: false,
-            from,
-            low,
-            to: true,
-            high,
-        };
-    }
+// A range whose lower end is read, at the token behind its `~`.
+fn range(grammar: &[u8], low: Option<i64>, at: usize) -> Item {
+    let high = if begins(look(grammar, at).code) {
+        Some(worked_out(grammar, at).value)
+    } else {
+        None
+    };
     Item {
         single: false,
-        from,
         low,
-        to: false,
-        high: 0,
+        high,
     }
 }
 
 fn item_at(grammar: &[u8], at: usize) -> Item {
     let first = look(grammar, at);
     if first.code == 126 {
-        return range(grammar, false, 0, first.end);
+        return range(grammar, None, first.end);
     }
     let worked = worked_out(grammar, at);
-    let low = worked.value;
+    let low = Some(worked.value);
     let next = look(grammar, worked.end);
     if next.code == 126 {
-        return range(grammar, true, low, next.end);
+        return range(grammar, low, next.end);
     }
     Item {
         single: true,
-        from: true,
         low,
-        to: true,
         high: low,
     }
 }
@@ -161,54 +148,31 @@ fn turned(out: Stdout, low: i64, high: i64) {
 }
 
 fn past(n: i64, ends: Ends) -> bool {
-    if negative(n) {
-        return false;
-    }
-    ends.most < magnitude(n) as usize
+    !negative(n) && ends.most < magnitude(n) as usize
 }
 
 fn before(n: i64, ends: Ends) -> bool {
-    if negative(n) {
-        return ends.below < magnitude(n) as usize;
-    }
-    false
-}
-
-fn is_turned(item: Item) -> bool {
-    if item.from {
-        if item.to {
-            return !at_most(item.low, item.high);
-        }
-    }
-    false
-}
-
-fn is_below(item: Item, ends: Ends) -> bool {
-    if item.to {
-        return before(item.high, ends);
-    }
-    false
-}
-
-fn is_above(item: Item, ends: Ends) -> bool {
-    if item.from {
-        return past(item.low, ends);
-    }
-    false
+    negative(n) && ends.below < magnitude(n) as usize
 }
 
 // Why the item has no value left.
 fn reason(out: Stdout, item: Item, ends: Ends) {
-    if is_turned(item) {
-        turned(out, item.low, item.high);
+    if let (Some(low), Some(high)) = (item.low, item.high)
+        && !at_most(low, high)
+    {
+        turned(out, low, high);
         return;
     }
-    if is_below(item, ends) {
-        below(out, item.single, item.high, ends);
+    if let Some(high) = item.high
+        && before(high, ends)
+    {
+        below(out, item.single, high, ends);
         return;
     }
-    if is_above(item, ends) {
-        above(out, item.single, item.low, ends);
+    if let Some(low) = item.low
+        && past(low, ends)
+    {
+        above(out, item.single, low, ends);
         return;
     }
     least(out, b"its values from ", ends);
@@ -228,15 +192,13 @@ fn line(out: Stdout, grammar: &[u8], at: usize, ends: Ends) {
 // Each item with what is taken away from it, at most twenty.
 fn items(out: Stdout, grammar: &[u8], set: usize, ends: Ends) {
     let mut at = set;
-    let mut n: usize = 0;
-    while n < 20 {
+    for _n in 0..20usize {
         line(out, grammar, look(grammar, at).start, ends);
         let next = look(grammar, end_of(grammar, at, Part::Branch));
         if next.code != 124 {
             return;
         }
         at = next.end;
-        n += 1;
     }
     say(out, b"    and more\n");
 }

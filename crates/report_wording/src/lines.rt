@@ -18,32 +18,21 @@ struct Line {
 pub fn saturating_sub(a: usize, b: usize) -> usize
     ensures { result ≡ a - b }
 {
-    if b <= a {
-        return a - b;
-    }
-    0
+    a.saturating_sub(b)
 }
 
 // n + 1, where there is such a number.
 pub fn saturating_next(n: usize) -> usize
     ensures { result ≡ min (n + 1) 18446744073709551615 }
 {
-    if n < 18446744073709551615 {
-        return n + 1;
-    }
-    n
+    n.saturating_add(1)
 }
 
 // At most `most` bytes from a place up to another.
 pub fn cut(from: usize, to: usize, most: usize) -> usize
     ensures { result ≡ min (from + most) to }
 {
-    if from <= to {
-        if most < to - from {
-            return from + most;
-        }
-    }
-    to
+    from.saturating_add(most).min(to)
 }
 
 // The line that a place is in.
@@ -52,13 +41,11 @@ fn line_of(grammar: &[u8], at: usize) -> Line
 {
     let mut before = 0;
     let mut start = 0;
-    let mut i = 0;
-    while i < at {
+    for i in 0..at {
         if byte_at(grammar, i) == b'\n' {
             before += 1;
             start = i + 1;
         }
-        i += 1;
     }
     Line { before, start }
 }
@@ -68,22 +55,22 @@ fn line_end(grammar: &[u8], at: usize) -> usize
     ensures { result ≡ line_end grammar.now at }
 {
     let end = span(Class::Except(10), grammar, at);
-    let last = saturating_sub(end, 1);
+    let last = end.saturating_sub(1);
     if byte_at(grammar, last) == b'\r' {
-        return last;
+        last
+    } else {
+        end
     }
-    end
 }
 
 // `line L, column C`.
 pub fn place(out: Stdout, grammar: &[u8], at: usize) {
-    let line = line_of(grammar, at);
-    let start = line.start;
-    number(out, b"line ", saturating_next(line.before));
+    let Line { before, start } = line_of(grammar, at);
+    number(out, b"line ", before.saturating_add(1));
     number(
         out,
         b", column ",
-        saturating_next(saturating_sub(at, start)),
+        at.saturating_sub(start).saturating_add(1),
     );
 }
 
@@ -107,10 +94,7 @@ fn right_edge(out: Stdout, cut: bool) {
 fn from_of(start: usize, at: usize) -> usize
     ensures { result ≡ max start (at - 60) }
 {
-    if 60 < saturating_sub(at, start) {
-        return saturating_sub(at, 60);
-    }
-    start
+    start.max(at.saturating_sub(60))
 }
 
 // The line, with a mark under the place.

@@ -4,9 +4,7 @@ ghost use Rattle.basis.specs.Limits.{max_text_bytes};
 ghost use Rattle.report_wording.specs.Nesting.{is_opening, is_closing, nested};
 ghost use Rattle.report_wording.specs.Walking.{started, stepped as steppedOf, before_from};
 
-use crate::lines::{saturating_next, saturating_sub};
 use basis::MAX_TEXT_BYTES;
-use text_header::bytes::either;
 use text_parsing::terminals::look;
 
 // How many ( and [ are open, and the codes of the last three tokens. In front of the rules stands as much as a `;`.
@@ -19,30 +17,33 @@ pub struct Context {
 }
 
 // ( [
+#[tactic(auto, unfolding(crate::specs::Nesting::is_opening))]
 fn opens(code: usize) -> bool
     ensures { result ≡ is_opening code }
 {
-    either(code == 40, code == 91)
+    code == 40 || code == 91
 }
 
 // ) ]
+#[tactic(auto, unfolding(crate::specs::Nesting::is_closing))]
 fn closes(code: usize) -> bool
     ensures { result ≡ is_closing code }
 {
-    either(code == 41, code == 93)
+    code == 41 || code == 93
 }
 
 // How deep brackets are nested after a token.
+#[tactic(auto, unfolding(crate::specs::Nesting::nested))]
 pub fn nesting(code: usize, depth: usize) -> usize
     ensures { result ≡ nested code depth }
 {
     if opens(code) {
-        return saturating_next(depth);
+        depth.saturating_add(1)
+    } else if closes(code) {
+        depth.saturating_sub(1)
+    } else {
+        depth
     }
-    if closes(code) {
-        return saturating_sub(depth, 1);
-    }
-    depth
 }
 
 fn start() -> Context
@@ -73,15 +74,13 @@ pub fn before(grammar: &[u8], base: usize, at: usize) -> Context
 {
     let mut here = base;
     let mut seen = start();
-    let mut tokens: usize = 0;
-    while tokens < MAX_TEXT_BYTES {
+    for _tokens in 0..MAX_TEXT_BYTES {
         let terminal = look(grammar, here);
         if at <= terminal.start {
             return seen;
         }
         seen = stepped(seen, terminal.code);
         here = terminal.end;
-        tokens += 1;
     }
     seen
 }

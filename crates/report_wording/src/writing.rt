@@ -29,33 +29,28 @@ pub fn hexadecimal(out: Stdout, before: &[u8], n: usize, digits: usize) {
 }
 
 // A dot for what cannot be shown.
+#[tactic(auto, unfolding(crate::specs::Shown::visible))]
 fn visible(b: u8) -> u8
     ensures { result ≡ visibleOf b }
 {
-    if printable(b) {
-        return b;
-    }
-    b'.'
+    if printable(b) { b } else { b'.' }
 }
 
+#[tactic(auto, unfolding(crate::specs::Shown::in_line))]
 fn line(b: u8) -> u8
     ensures { result ≡ in_line b }
 {
-    if b == b'\t' {
-        return b;
-    }
-    visible(b)
+    if b == b'\t' { b } else { visible(b) }
 }
 
+#[tactic(auto, unfolding(crate::specs::Shown::under))]
 fn under(b: u8) -> u8
     ensures { result ≡ underOf b }
 {
-    if b == b'\t' {
-        return b;
-    }
-    b' '
+    if b == b'\t' { b } else { b' ' }
 }
 
+#[tactic(auto, unfolding(crate::specs::Shown::styled))]
 fn styled(style: Style, b: u8) -> u8
     ensures { result ≡ styledOf style b }
 {
@@ -66,15 +61,12 @@ fn styled(style: Style, b: u8) -> u8
 }
 
 fn put(out: Stdout, b: u8) {
-    let one = [b];
-    say(out, &one);
+    say(out, &[b]);
 }
 
 // The bytes of a grammar from one place up to another.
 pub fn bytes(out: Stdout, style: Style, grammar: &[u8], from: usize, to: usize) {
-    let mut i = from;
-    while i < to {
+    for i in from..to {
         put(out, styled(style, byte_at(grammar, i)));
-        i += 1;
     }
 }

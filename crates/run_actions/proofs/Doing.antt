@@ -14,8 +14,6 @@ use Rattle.basis.specs.Limits.{max_constructs, max_variables}
 use Rattle.basis.specs.Bits.{value, frame_bits}
 use Rattle.basis.proofs.Booleans.{both_true, which, picked_true}
 use Rattle.term_evaluation.specs.Meaning.{membership}
-use Rattle.term_evaluation.specs.declared.Counted.{Counted}
-use Rattle.term_evaluation.specs.declared.Tested.{Tested}
 use Rattle.table_layout.specs.Places.{rule_word, rule_count, construct_count}
 use Rattle.table_layout.specs.Constructs.{construct_at}
 use Rattle.table_layout.specs.Held.{terms_of, size_of, opening}
@@ -24,6 +22,9 @@ use Rattle.run_actions.specs.Stored.{stored, prediction_at, follow_at}
 use Rattle.table_layout.proofs.Bounds.{Fine, fine}
 use Rattle.run_actions.specs.Acts.{in_table, whole_in_table, terms_in_table, binder_in_table, known_values, enter, open_rule, ahead_at, bits_of, walk, by_branch, branch_act, case_test, by_case, case_act, members_act, by_lookahead, choice_act, turn_act, counted, literal_holds, literal_act, range_act, by_set, kept, number_at, bits_act, construct_act, act_of, part_count, Doable}
 use Rattle.run_actions.specs.declared.Act.{Act}
+use Rattle.std.specs.Prelude.{Result, Ok, Err}
+use Rattle.term_words.specs.declared.TermError.{TermError}
+use Rattle.term_evaluation.specs.declared.Allowed.{Allowed}
 
 -- a walk gives what its end, a missing part and each visit give
 module _ {A : Type 0} (P : A → Type 0) (visit : ℕ → A → A) (done broken : A) (ws : List ℕ) (end : ℕ) (d : P done) (b : P broken) (v : (j : ℕ) (rest : A) → j < end → P rest → P (visit j rest)) where
@@ -106,11 +107,10 @@ module _ (ws fs : List ℕ) (vs : List ℤ) (p : ℕ) where
     case_good : (j : ℕ) → Good (case_act ws vs j end)
     case_good j = walk_keeps Good (λ i rest. by_case (case_test ws vs i) i rest) Act.Leave Act.Broken ws end tt tt (λ i rest m h. visit i rest (case_test ws vs i) m h) (end - j) j
       where
-        visit : (i : ℕ) (rest : Act) (t : Tested) → i < end → Good rest → Good (by_case t i rest)
-        visit i rest Tested.Yes m h = part_good i m
-        visit i rest Tested.No m h = h
-        visit i rest Tested.Malformed m h = tt
-        visit i rest Tested.Overflow m h = tt
+        visit : (i : ℕ) (rest : Act) (t : Result Bool TermError) → i < end → Good rest → Good (by_case t i rest)
+        visit i rest (Ok true) m h = part_good i m
+        visit i rest (Ok false) m h = h
+        visit i rest (Err e) m h = tt
 
     members_good : (start : ℕ) → Good (members_act ws start end)
     members_good start =
@@ -130,14 +130,13 @@ module _ (ws fs : List ℕ) (vs : List ℤ) (p : ℕ) where
         by false true = tt
         by false false = tt
 
-    turn_good : (n k : ℕ) (c : Counted) → Good (turn_act ws n i k c)
-    turn_good n k Counted.None = tt
-    turn_good n k (Counted.From low) = picked_true Good (ltb k low) (Act.Again (i + 1)) (choice_act ws n i) (λ e. body_good) (choice_good n)
-    turn_good n k (Counted.Within low more) =
+    turn_good : (n k : ℕ) (c : Result Allowed TermError) → Good (turn_act ws n i k c)
+    turn_good n k (Ok Allowed.None) = tt
+    turn_good n k (Ok (Allowed.From low)) = picked_true Good (ltb k low) (Act.Again (i + 1)) (choice_act ws n i) (λ e. body_good) (choice_good n)
+    turn_good n k (Ok (Allowed.Within low more)) =
         picked_true Good (ltb k low) (Act.Again (i + 1)) (cond (leb (low + more) k) Act.Leave (choice_act ws n i)) (λ e. body_good)
         (picked_true Good (leb (low + more) k) Act.Leave (choice_act ws n i) (λ e. tt) (choice_good n))
-    turn_good n k Counted.Malformed = tt
-    turn_good n k Counted.Overflow = tt
+    turn_good n k (Err e) = tt
 
   literal_good : (i n : ℕ) → 1 ≤ n → Good (literal_act ws fs p i n)
   literal_good i n some =
@@ -150,16 +149,15 @@ module _ (ws fs : List ℕ) (vs : List ℤ) (p : ℕ) where
       picked_true Good (leb (p + 8) (bits_of fs)) (cond (leb low v && leb v high) (Act.Take 8 0 (pos 0)) Act.Fail) Act.Fail
       (λ e. picked_true Good (leb low v && leb v high) (Act.Take 8 0 (pos 0)) Act.Fail (λ h. (leb-true (p + 8) (bits_of fs) e, omega arith, omega arith)) tt) tt
 
-  set_good : (t : Tested) (width binder : ℕ) (n : ℤ) → p + width ≤ bits_of fs → binder ≤ max_variables → 1 ≤ width → Good (by_set t width binder n)
-  set_good Tested.Yes width binder n a b d = (a, b, d)
-  set_good Tested.No width binder n a b d = tt
-  set_good Tested.Malformed width binder n a b d = tt
-  set_good Tested.Overflow width binder n a b d = tt
+  set_good : (t : Result Bool TermError) (width binder : ℕ) (n : ℤ) → p + width ≤ bits_of fs → binder ≤ max_variables → 1 ≤ width → Good (by_set t width binder n)
+  set_good (Ok true) width binder n a b d = (a, b, d)
+  set_good (Ok false) width binder n a b d = tt
+  set_good (Err e) width binder n a b d = tt
 
   uint_good : (signed : Bool) (width start end binder : ℕ) → binder ≤ max_variables → 1 ≤ width → Good (bits_act ws fs vs p signed width start end binder)
   uint_good signed width start end binder m some =
       let v : ℤ = number_at fs p signed width in
-      let t : Tested = membership vs v start (terms_of ws start end) in
+      let t : Result Bool TermError = membership vs v start (terms_of ws start end) in
       picked_true Good (leb (p + width) (bits_of fs)) (by_set t width binder (kept binder v)) Act.Fail
       (λ e. set_good t width binder (kept binder v) (leb-true (p + width) (bits_of fs) e) m some) tt
 

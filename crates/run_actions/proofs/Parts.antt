@@ -5,13 +5,14 @@ use mathlib.Core.Path.{◌≡◌, ◌∙◌, ap}
 use mathlib.Core.Bool.{Bool, true, false}
 use mathlib.Core.List.{List}
 use lib.IntN.{ℤ}
-use Rattle.term_evaluation.specs.declared.Tested.{Tested}
 use Rattle.table_layout.specs.Constructs.{construct_at}
 use Rattle.table_layout.specs.Held.{size_of}
 use Rattle.run_actions.specs.Stored.{stored, prediction_at}
 use Rattle.run_actions.specs.Acts.{walk, by_branch, branch_act, case_test, by_case, case_act}
 use Rattle.run_actions.specs.declared.Act.{Act}
 use Rattle.run_actions.proofs.Walks.{walk_end, walk_missing, walk_part, walk_first}
+use Rattle.std.specs.Prelude.{Result, Ok}
+use Rattle.term_words.specs.declared.TermError.{TermError}
 
 module _ (ws : List ℕ) (end : ℕ) where
   abbrev size : ℕ → ℕ
@@ -44,11 +45,11 @@ module _ (ws : List ℕ) (end : ℕ) where
     pub case_hit : (j : ℕ) (a : Act) → j < end → ((rest : Act) → by_case (case_test ws vs j) j rest ≡ a) → case_act ws vs j end ≡ a
     case_hit j a l h = let x = walk_first visit_case Act.Leave Act.Broken ws end j l in x.1 ∙ h x.0
 
-    pub case_missing : (j : ℕ) → j < end → case_test ws vs j ≡ Tested.No → size j ≡ 0 → case_act ws vs j end ≡ Act.Broken
-    case_missing j l e z = walk_missing visit_case Act.Leave Act.Broken ws end j l z ∙ ap (λ (t : Tested). by_case t j Act.Broken) e
+    pub case_missing : (j : ℕ) → j < end → case_test ws vs j ≡ Ok false → size j ≡ 0 → case_act ws vs j end ≡ Act.Broken
+    case_missing j l e z = walk_missing visit_case Act.Leave Act.Broken ws end j l z ∙ ap (λ (t : Result Bool TermError). by_case t j Act.Broken) e
 
-    pub case_next : (j : ℕ) → j < end → case_test ws vs j ≡ Tested.No → (size j ≡ 0 → ⊥) → case_act ws vs j end ≡ case_act ws vs (j + size j) end
-    case_next j l e z = walk_part visit_case Act.Leave Act.Broken ws end j l z ∙ ap (λ (t : Tested). by_case t j (case_act ws vs (j + size j) end)) e
+    pub case_next : (j : ℕ) → j < end → case_test ws vs j ≡ Ok false → (size j ≡ 0 → ⊥) → case_act ws vs j end ≡ case_act ws vs (j + size j) end
+    case_next j l e z = walk_part visit_case Act.Leave Act.Broken ws end j l z ∙ ap (λ (t : Result Bool TermError). by_case t j (case_act ws vs (j + size j) end)) e
 
   module _ (start : ℕ) where
     -- the members from j on, where n stand before it

@@ -10,7 +10,6 @@ use lib.IntN.{ℤ}
 use borrow.Author.Tests.{eqb-true, lt-ltb}
 use Rattle.basis.specs.Limits.{max_constructs, max_variables, max_width, max_bound_width}
 use Rattle.basis.proofs.Booleans.{which, picked}
-use Rattle.term_evaluation.specs.declared.Counted.{Counted}
 use Rattle.table_layout.specs.Places.{construct_word, construct_count}
 use Rattle.table_layout.specs.Constructs.{listed, widest_for, leaf_of, without_parts, construct_of, construct_at}
 use Rattle.table_layout.specs.Held.{size_of}
@@ -20,6 +19,9 @@ use Rattle.table_layout.specs.declared.Construct.{Construct}
 use Rattle.table_layout.specs.declared.Passes.{Passes}
 use Rattle.run_actions.specs.Acts.{whole_in_table, ahead_at, counted, turn_act, literal_act, range_act, uint_act, construct_act}
 use Rattle.run_actions.specs.declared.Act.{Act}
+use Rattle.std.specs.Prelude.{Ok, Err}
+use Rattle.term_words.specs.declared.TermError.{TermError}
+use Rattle.term_evaluation.specs.declared.Allowed.{Allowed}
 
 same_cond : {A : Type 0} (b : Bool) (x y : A) → x ≡ y → cond b x y ≡ y
 same_cond true x y e = e
@@ -35,7 +37,7 @@ by_size i size n x act m (inr e) =
 -- a repetition: of one against the layout the counts are malformed
 pub repeats : (ws fs : List ℕ) (vs : List ℤ) (p i k size start end : ℕ) (a b c d : Bool)
     → turn_act ws (ahead_at fs p) i k
-    (cond a (Counted.Within 0 1) (cond b (Counted.From 0) (cond c (Counted.From 1) (cond d (counted ws vs (Passes.Counted start end)) Counted.Malformed))))
+    (cond a (Ok (Allowed.Within 0 1)) (cond b (Ok (Allowed.From 0)) (cond c (Ok (Allowed.From 1)) (cond d (counted ws vs (Passes.Counted start end)) (Err TermError.Malformed)))))
     ≡ construct_act ws fs vs p i k
     (cond a (Construct.Repetition size Passes.Optional)
     (cond b (Construct.Repetition size Passes.Any)

@@ -5,15 +5,13 @@
 -- and itself again; at or past its greatest, nothing; between, by go or stop, in neither no match. Literal, range, uint and eod compare".
 -- Broken where "a table entry missing or against the layout, a calculation past 2^62" is met.
 -- Assumes nothing.
-use Rattle.std.specs.Prelude.{ℕ, zero, suc, ◌+◌, ◌*◌, ◌-◌, ◌≤◌, ◌<◌, ◌≡◌, Bool, true, false, cond, ◌&&◌, List, leb, ltb, eqb, ℤ, pos, length, take, drop}
+use Rattle.std.specs.Prelude.{ℕ, zero, suc, ◌+◌, ◌*◌, ◌-◌, ◌≤◌, ◌<◌, ◌≡◌, Bool, true, false, cond, ◌&&◌, List, leb, ltb, eqb, ℤ, pos, length, take, drop, Result, Ok, Err}
 use Rattle.basis.specs.Limits.{max_constructs, max_variables}
 use Rattle.basis.specs.Bits.{value, frame_bits, same}
 use Rattle.basis.specs.Patterns.{pattern_value}
 use Rattle.basis.specs.Lookahead.{lookahead, number}
 use Rattle.term_evaluation.specs.Meaning.{membership, condition}
 use Rattle.term_evaluation.specs.Counts.{counts}
-use Rattle.term_evaluation.specs.declared.Counted.{Counted}
-use Rattle.term_evaluation.specs.declared.Tested.{Tested}
 use Rattle.table_layout.specs.Places.{rule_word, construct_word, rule_count, construct_count, variable_count, term_count}
 use Rattle.table_layout.specs.Constructs.{construct_at}
 use Rattle.table_layout.specs.Held.{term_words, terms_of, size_of, literal_bytes, opening}
@@ -21,6 +19,8 @@ use Rattle.table_layout.specs.declared.Construct.{Construct}
 use Rattle.table_layout.specs.declared.Passes.{Passes}
 use Rattle.run_actions.specs.Stored.{stored, prediction_at, follow_at}
 use Rattle.run_actions.specs.declared.Act.{Act}
+use Rattle.term_words.specs.declared.TermError.{TermError}
+use Rattle.term_evaluation.specs.declared.Allowed.{Allowed}
 
 -- "An entry isn't in the table": a number past the limit or past the table's count
 abbrev pub in_table : List ℕ → ℕ → Bool
@@ -78,18 +78,17 @@ abbrev pub branch_act : List ℕ → ℕ → ℕ → ℕ → Act
 branch_act ws n j end = walk (λ i rest. by_branch (stored ws (prediction_at i) n) i rest) Act.Fail Act.Broken (end - j) ws j end
 
 -- the first true case; one without a condition is the default
-abbrev pub case_test : List ℕ → List ℤ → ℕ → Tested
+abbrev pub case_test : List ℕ → List ℤ → ℕ → Result Bool TermError
 case_test ws vs j =
     cond (ltb (construct_word ws j 6) (construct_word ws j 7))
-    (cond (terms_in_table ws (construct_word ws j 7)) (condition vs (construct_word ws j 6) (terms_of ws (construct_word ws j 6) (construct_word ws j 7))) Tested.Malformed)
-    Tested.Yes
+    (cond (terms_in_table ws (construct_word ws j 7)) (condition vs (construct_word ws j 6) (terms_of ws (construct_word ws j 6) (construct_word ws j 7))) (Err TermError.Malformed))
+    (Ok true)
 
 -- a true case is taken; "a calculation past 2^62" and terms against the layout are broken
-abbrev pub by_case : Tested → ℕ → Act → Act
-by_case Tested.Yes j rest = Act.Enter j
-by_case Tested.No j rest = rest
-by_case Tested.Malformed j rest = Act.Broken
-by_case Tested.Overflow j rest = Act.Broken
+abbrev pub by_case : Result Bool TermError → ℕ → Act → Act
+by_case (Ok true) j rest = Act.Enter j
+by_case (Ok false) j rest = rest
+by_case (Err e) j rest = Act.Broken
 
 -- "a switch its case"; with no true case and no default it "takes no bits and goes on" (Req 02)
 abbrev pub case_act : List ℕ → List ℤ → ℕ → ℕ → Act
@@ -112,19 +111,18 @@ abbrev pub choice_act : List ℕ → ℕ → ℕ → Act
 choice_act ws n i = by_lookahead (stored ws (prediction_at (i + 1)) n) (stored ws (follow_at i) n) (i + 1)
 
 -- "with no count allowed, no match; else, below its least count, its body and itself again; at or past its greatest, nothing"
-abbrev pub turn_act : List ℕ → ℕ → ℕ → ℕ → Counted → Act
-turn_act ws n i k Counted.None = Act.Fail
-turn_act ws n i k (Counted.From low) = cond (ltb k low) (Act.Again (i + 1)) (choice_act ws n i)
-turn_act ws n i k (Counted.Within low more) = cond (ltb k low) (Act.Again (i + 1)) (cond (leb (low + more) k) Act.Leave (choice_act ws n i))
-turn_act ws n i k Counted.Malformed = Act.Broken
-turn_act ws n i k Counted.Overflow = Act.Broken
+abbrev pub turn_act : List ℕ → ℕ → ℕ → ℕ → Result Allowed TermError → Act
+turn_act ws n i k (Ok Allowed.None) = Act.Fail
+turn_act ws n i k (Ok (Allowed.From low)) = cond (ltb k low) (Act.Again (i + 1)) (choice_act ws n i)
+turn_act ws n i k (Ok (Allowed.Within low more)) = cond (ltb k low) (Act.Again (i + 1)) (cond (leb (low + more) k) Act.Leave (choice_act ws n i))
+turn_act ws n i k (Err e) = Act.Broken
 
 -- the counts that a repetition allows at these values, by how it is written
-abbrev pub counted : List ℕ → List ℤ → Passes → Counted
-counted ws vs Passes.Optional = Counted.Within 0 1
-counted ws vs Passes.Any = Counted.From 0
-counted ws vs Passes.Some = Counted.From 1
-counted ws vs (Passes.Counted start end) = cond (terms_in_table ws end) (counts vs (term_words ws) start end) Counted.Malformed
+abbrev pub counted : List ℕ → List ℤ → Passes → Result Allowed TermError
+counted ws vs Passes.Optional = Ok (Allowed.Within 0 1)
+counted ws vs Passes.Any = Ok (Allowed.From 0)
+counted ws vs Passes.Some = Ok (Allowed.From 1)
+counted ws vs (Passes.Counted start end) = cond (terms_in_table ws end) (counts vs (term_words ws) start end) (Err TermError.Malformed)
 
 -- ---- fields: "no match on a difference or too few bits"
 
@@ -150,11 +148,10 @@ kept zero n = pos 0
 kept (suc x) n = n
 
 -- a value that is in the set is taken; "a calculation past 2^62" and terms against the layout are broken
-abbrev pub by_set : Tested → ℕ → ℕ → ℤ → Act
-by_set Tested.Yes width binder n = Act.Take width binder n
-by_set Tested.No width binder n = Act.Fail
-by_set Tested.Malformed width binder n = Act.Broken
-by_set Tested.Overflow width binder n = Act.Broken
+abbrev pub by_set : Result Bool TermError → ℕ → ℕ → ℤ → Act
+by_set (Ok true) width binder n = Act.Take width binder n
+by_set (Ok false) width binder n = Act.Fail
+by_set (Err e) width binder n = Act.Broken
 
 -- the number that so many bits from bit p on are
 abbrev pub number_at : List ℕ → ℕ → Bool → ℕ → ℤ

@@ -1,7 +1,7 @@
 // What a step does with the first entry of a run's list, decided by reading alone.
 #![tactic(auto)]
 
-ghost use Rattle.std.specs.Prelude.{◌≡◌, true, cond, ◌&&◌, ℕ, ◌+◌, ◌*◌, ◌^◌, ◌≤◌, ◌<◌, leb, ltb, eqb, length, take, drop};
+ghost use Rattle.std.specs.Prelude.{◌≡◌, Ok, Err, true, cond, ◌&&◌, ℕ, ◌+◌, ◌*◌, ◌^◌, ◌≤◌, ◌<◌, leb, ltb, eqb, length, take, drop};
 ghost use Rattle.basis.specs.Limits.{max_rules, max_constructs, max_literal_bytes, max_width, max_bound_width, table_words, max_frame_bytes};
 ghost use Rattle.basis.specs.Bits.{value, frame_bits};
 ghost use Rattle.table_layout.specs.Constructs.{listed as listed_of, inner_of, leaf_of, construct_of, construct_at};
@@ -14,8 +14,9 @@ ghost use Rattle.run_actions.specs.Acts.{in_table, whole_in_table, known_values,
 
 use basis::{MAX_CONSTRUCTS, MAX_LITERAL_BYTES, MAX_RULES};
 use table_layout::{CONSTRUCTS_AT, LITERALS_AT, OPENING, Passes, RULES_AT, SETS_AT, TERMS_AT};
-use term_evaluation::{Counted, Tested};
+use term_evaluation::Allowed;
 use term_integers::power;
+use term_words::TermError;
 
 // What a step is to do.
 #[derive(Clone, Copy)]
@@ -93,7 +94,7 @@ fn terms(table: &[u32]) -> &[u32]
 }
 
 // Whether the case j of a switch is to be taken; one without a condition is the default.
-fn case_holds(table: &[u32], values: &[i64], j: usize) -> Tested
+fn case_holds(table: &[u32], values: &[i64], j: usize) -> Result<bool, TermError>
     requires { (table_words ≤ length table.now) × (j < max_constructs) }
     ensures { result ≡ case_test table.now values.now j }
 {
@@ -101,11 +102,11 @@ fn case_holds(table: &[u32], values: &[i64], j: usize) -> Tested
     let end = table_layout::word(table, CONSTRUCTS_AT + 8 * j + 7);
     if start < end {
         if table_layout::word(table, 4) < end {
-            return Tested::Malformed;
+            return Err(TermError::Malformed);
         }
         return term_evaluation::satisfied(terms(table), start, end, values);
     }
-    Tested::Yes
+    Ok(true)
 }
 
 // The first case to be taken; with none, and no default, the run goes on.
@@ -115,17 +116,11 @@ fn case(table: &[u32], values: &[i64], start: usize, end: usize) -> Act
 {
     let mut j = start;
     while j < end {
-        match case_holds(table, values, j) {
-            Tested::Yes => {
-                return Act::Enter { construct: j };
-            }
-            Tested::No => {}
-            Tested::Malformed => {
-                return Act::Broken;
-            }
-            Tested::Overflow => {
-                return Act::Broken;
-            }
+        let Ok(holds) = case_holds(table, values, j) else {
+            return Act::Broken;
+        };
+        if holds {
+            return Act::Enter { construct: j };
         }
         let step = size_at(table, j);
         if step == 0 {
@@ -158,10 +153,8 @@ fn members(table: &[u32], start: usize, end: usize) -> Act
 fn enter(table: &[u32], i: usize) -> Act
     ensures { result ≡ enterOf table.now i }
 {
-    if i < MAX_CONSTRUCTS {
-        if i < table_layout::word(table, 2) {
-            return Act::Enter { construct: i };
-        }
+    if i < MAX_CONSTRUCTS && i < table_layout::word(table, 2) {
+        return Act::Enter { construct: i };
     }
     Act::Broken
 }
@@ -192,30 +185,40 @@ fn choice(table: &[u32], n: u64, i: usize) -> Act
 }
 
 // How many passes the terms from `start` up to `end` allow, if the table has them.
-fn counts_of(table: &[u32], values: &[i64], start: usize, end: usize) -> Counted
+fn counts_of(table: &[u32], values: &[i64], start: usize, end: usize) -> Result<Allowed, TermError>
     requires { table_words ≤ length table.now }
     ensures { result ≡ countedOf table.now values.now (Passes.Counted start end) }
 {
     if table_layout::word(table, 4) < end {
-        return Counted::Malformed;
+        return Err(TermError::Malformed);
     }
     term_evaluation::counts::count(terms(table), start, end, values)
 }
 
 // What a repetition with k passes begun does.
-fn turn(table: &[u32], frame: &[u8], p: usize, i: usize, k: u64, counts: Counted) -> Act
+fn turn(
+    table: &[u32],
+    frame: &[u8],
+    p: usize,
+    i: usize,
+    k: u64,
+    counts: Result<Allowed, TermError>,
+) -> Act
     requires { (i + 1 < max_constructs) × (p ≤ 8 * length frame.now) × (length frame.now ≤ max_frame_bytes) }
     ensures { result ≡ turn_act table.now (ahead_at frame.now p) i k counts }
 {
-    match counts {
-        Counted::None => Act::Fail,
-        Counted::From { low } => {
+    let Ok(allowed) = counts else {
+        return Act::Broken;
+    };
+    match allowed {
+        Allowed::None => Act::Fail,
+        Allowed::From { low } => {
             if k < low {
                 return Act::Again { body: i + 1 };
             }
             choice(table, ahead(frame, p), i)
         }
-        Counted::Within { low, more } => {
+        Allowed::Within { low, more } => {
             if k < low {
                 return Act::Again { body: i + 1 };
             }
@@ -224,8 +227,6 @@ fn turn(table: &[u32], frame: &[u8], p: usize, i: usize, k: u64, counts: Counted
             }
             choice(table, ahead(frame, p), i)
         }
-        Counted::Malformed => Act::Broken,
-        Counted::Overflow => Act::Broken,
     }
 }
 
@@ -252,13 +253,11 @@ fn literal_holds(table: &[u32], frame: &[u8], p: usize, i: usize, n: usize) -> b
     requires { (p + 8 * n ≤ 8 * length frame.now) × (length frame.now ≤ max_frame_bytes) × (i < max_constructs) × (n ≤ max_literal_bytes) }
     ensures { result ≡ literal_holds table.now frame.now p i 0 n }
 {
-    let mut k = 0;
-    while k < n {
+    for k in 0..n {
         let want = literal_byte(table, i, k);
         if run_frame::octet(frame, p + 8 * k) != want {
             return false;
         }
-        k += 1;
     }
     true
 }
@@ -267,14 +266,12 @@ fn literal(table: &[u32], frame: &[u8], p: usize, i: usize, n: usize) -> Act
     requires { (p ≤ 8 * length frame.now) × (length frame.now ≤ max_frame_bytes) × (i < max_constructs) × (n ≤ max_literal_bytes) }
     ensures { result ≡ literal_act table.now frame.now p i n }
 {
-    if p + 8 * n <= 8 * frame.len() {
-        if literal_holds(table, frame, p, i, n) {
-            return Act::Take {
-                width: 8 * n,
-                binder: 0,
-                value: 0,
-            };
-        }
+    if p + 8 * n <= 8 * frame.len() && literal_holds(table, frame, p, i, n) {
+        return Act::Take {
+            width: 8 * n,
+            binder: 0,
+            value: 0,
+        };
     }
     Act::Fail
 }
@@ -285,14 +282,12 @@ fn range(frame: &[u8], p: usize, low: usize, high: usize) -> Act
 {
     if p + 8 <= 8 * frame.len() {
         let v = run_frame::octet(frame, p) as usize;
-        if low <= v {
-            if v <= high {
-                return Act::Take {
-                    width: 8,
-                    binder: 0,
-                    value: 0,
-                };
-            }
+        if low <= v && v <= high {
+            return Act::Take {
+                width: 8,
+                binder: 0,
+                value: 0,
+            };
         }
     }
     Act::Fail
@@ -355,7 +350,13 @@ fn number_at(frame: &[u8], p: usize, signed: bool, width: usize) -> i64
 }
 
 // Whether a number is in the set of these terms.
-fn set_holds(table: &[u32], values: &[i64], start: usize, end: usize, number: i64) -> Tested
+fn set_holds(
+    table: &[u32],
+    values: &[i64],
+    start: usize,
+    end: usize,
+    number: i64,
+) -> Result<bool, TermError>
     requires { table_words ≤ length table.now }
     ensures { result ≡ membership values.now number start (terms_of table.now start end) }
 {
@@ -366,24 +367,20 @@ fn set_holds(table: &[u32], values: &[i64], start: usize, end: usize, number: i6
 fn kept(binder: usize, number: i64) -> i64
     ensures { result ≡ keptOf binder number }
 {
-    if 0 < binder {
-        return number;
-    }
-    0
+    if 0 < binder { number } else { 0 }
 }
 
-fn by_set(tested: Tested, width: usize, binder: usize, value: i64) -> Act
+fn by_set(tested: Result<bool, TermError>, width: usize, binder: usize, value: i64) -> Act
     ensures { result ≡ by_set tested width binder value }
 {
     match tested {
-        Tested::Yes => Act::Take {
+        Ok(true) => Act::Take {
             width,
             binder,
             value,
         },
-        Tested::No => Act::Fail,
-        Tested::Malformed => Act::Broken,
-        Tested::Overflow => Act::Broken,
+        Ok(false) => Act::Fail,
+        Err(_) => Act::Broken,
     }
 }
 
@@ -405,25 +402,23 @@ fn alternative(table: &[u32], frame: &[u8], p: usize, i: usize, size: usize) -> 
 }
 
 // How many passes a repetition's words allow; where they say none the table is against its layout.
-fn passes_told(table: &[u32], values: &[i64], how: usize, start: usize, end: usize) -> Counted
+fn passes_told(
+    table: &[u32],
+    values: &[i64],
+    how: usize,
+    start: usize,
+    end: usize,
+) -> Result<Allowed, TermError>
     requires { table_words ≤ length table.now }
-    ensures { result ≡ cond (eqb how 1) (Counted.Within 0 1) (cond (eqb how 2) (Counted.From 0) (cond (eqb how 3) (Counted.From 1) (cond (eqb how 4 && listed_of start end) (countedOf table.now values.now (Passes.Counted start end)) Counted.Malformed))) }
+    ensures { result ≡ cond (eqb how 1) (Ok (Allowed.Within 0 1)) (cond (eqb how 2) (Ok (Allowed.From 0)) (cond (eqb how 3) (Ok (Allowed.From 1)) (cond (eqb how 4 && listed_of start end) (countedOf table.now values.now (Passes.Counted start end)) (Err TermError.Malformed)))) }
 {
-    if how == 1 {
-        return Counted::Within { low: 0, more: 1 };
+    match how {
+        1 => Ok(Allowed::Within { low: 0, more: 1 }),
+        2 => Ok(Allowed::From { low: 0 }),
+        3 => Ok(Allowed::From { low: 1 }),
+        4 if table_layout::listed(start, end) => counts_of(table, values, start, end),
+        _ => Err(TermError::Malformed),
     }
-    if how == 2 {
-        return Counted::From { low: 0 };
-    }
-    if how == 3 {
-        return Counted::From { low: 1 };
-    }
-    if how == 4 {
-        if table_layout::listed(start, end) {
-            return counts_of(table, values, start, end);
-        }
-    }
-    Counted::Malformed
 }
 
 // What a construct with parts does, by its words.
@@ -443,16 +438,12 @@ fn of_inner(
     requires { (table_words ≤ length table.now) × (2 ≤ size) × (i + size ≤ max_constructs) × (p ≤ 8 * length frame.now) × (length frame.now ≤ max_frame_bytes) }
     ensures { result ≡ construct_act table.now frame.now values.now p i k (inner_of kind size a b c) }
 {
-    if kind == 2 {
-        return members(table, i + 1, i + size);
+    match kind {
+        2 => members(table, i + 1, i + size),
+        3 => turn(table, frame, p, i, k, passes_told(table, values, a, b, c)),
+        1 => alternative(table, frame, p, i, size),
+        _ => case(table, values, i + 1, i + size),
     }
-    if kind == 3 {
-        return turn(table, frame, p, i, k, passes_told(table, values, a, b, c));
-    }
-    if kind == 1 {
-        return alternative(table, frame, p, i, size);
-    }
-    case(table, values, i + 1, i + size)
 }
 
 // What a construct without parts does, by its words.
@@ -500,10 +491,7 @@ fn of_leaf(
 fn is_number(kind: usize) -> bool
     ensures { result ≡ cond (eqb kind 8) true (eqb kind 12) }
 {
-    if kind == 8 {
-        return true;
-    }
-    kind == 12
+    kind == 8 || kind == 12
 }
 
 // A literal whose length is within its limits.
@@ -511,13 +499,11 @@ fn of_literal(table: &[u32], frame: &[u8], p: usize, i: usize, n: usize) -> Act
     requires { (p ≤ 8 * length frame.now) × (length frame.now ≤ max_frame_bytes) × (i < max_constructs) }
     ensures { result ≡ cond (leb 1 n && leb n max_literal_bytes) (literal_act table.now frame.now p i n) Act.Broken }
 {
-    if n < 1 {
-        return Act::Broken;
+    if 1 <= n && n <= MAX_LITERAL_BYTES {
+        literal(table, frame, p, i, n)
+    } else {
+        Act::Broken
     }
-    if MAX_LITERAL_BYTES < n {
-        return Act::Broken;
-    }
-    literal(table, frame, p, i, n)
 }
 
 // A range whose characters are within their limits.
@@ -525,13 +511,11 @@ fn of_range(frame: &[u8], p: usize, low: usize, high: usize) -> Act
     requires { (p ≤ 8 * length frame.now) × (length frame.now ≤ max_frame_bytes) }
     ensures { result ≡ cond (ltb low 128 && ltb high 128) (range_act frame.now p low high) Act.Broken }
 {
-    if 128 <= low {
-        return Act::Broken;
+    if low < 128 && high < 128 {
+        range(frame, p, low, high)
+    } else {
+        Act::Broken
     }
-    if 128 <= high {
-        return Act::Broken;
-    }
-    range(frame, p, low, high)
 }
 
 // What a construct does, by its words.

@@ -38,22 +38,10 @@ fn width_of(construct: Construct) -> usize
     ensures { result ≡ field_width construct }
 {
     match construct {
-        Construct::Missing => 0,
-        Construct::Alternative { size: _ } => 0,
-        Construct::Concatenation { size: _ } => 0,
-        Construct::Repetition { size: _, passes: _ } => 0,
-        Construct::Switch { size: _ } => 0,
-        Construct::Use { rule: _ } => 0,
         Construct::Literal { length } => 8 * length,
-        Construct::Range { low: _, high: _ } => 8,
-        Construct::Uint {
-            signed: _,
-            width,
-            start: _,
-            end: _,
-            binder: _,
-        } => width,
-        Construct::Eod => 0,
+        Construct::Range { .. } => 8,
+        Construct::Uint { width, .. } => width,
+        _ => 0,
     }
 }
 

@@ -21,10 +21,8 @@ fn bytes(frame: &[u8], q: usize, n: usize) -> u64
     ensures { (result ≡ bytes_value frame.now q n) × (result < 2 ^ (8 * n)) }
 {
     let mut sum: u64 = 0;
-    let mut i = 0;
-    while i < n {
+    for i in 0..n {
         sum = sum * 256 + wide(frame[q + i]);
-        i += 1;
     }
     sum
 }
@@ -88,12 +86,8 @@ pub fn bits(frame: &[u8], p: usize, w: usize) -> u64
 {
     let q = p / 8;
     let r = p % 8;
-    if 0 < w {
-        if r + w <= 64 {
-            if q + 8 <= frame.len() {
-                return (eight(frame, q) << r) >> (64 - w);
-            }
-        }
+    if 0 < w && r + w <= 64 && q + 8 <= frame.len() {
+        return (eight(frame, q) << r) >> (64 - w);
     }
     bits_by_parts(frame, p, w)
 }

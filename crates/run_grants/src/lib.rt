@@ -87,15 +87,8 @@ fn entry_fits(table: &[u32], bits: usize, construct: u32, passes: u32) -> bool
     ensures { result ≡ entry_fits table.now bits construct passes }
 {
     let i = construct as usize;
-    if passes as usize <= bits + 1 {
-        if i == OPENING {
-            return true;
-        }
-        if i < MAX_CONSTRUCTS {
-            return i < table_layout::word(table, 2);
-        }
-    }
-    false
+    passes as usize <= bits + 1
+        && (i == OPENING || (i < MAX_CONSTRUCTS && i < table_layout::word(table, 2)))
 }
 
 // Whether all pending entries are so.
@@ -109,9 +102,7 @@ fn entries_fit(
     requires { (bits ≤ max_frame_bits) × (count ≤ max_entries) }
     ensures { result ≡ entries_fit table.now bits constructs.now passes.now count }
 {
-    let mut left = count;
-    while 0 < left {
-        left -= 1;
+    for left in (0..count).rev() {
         if !entry_fits(table, bits, constructs[left], passes[left]) {
             return false;
         }

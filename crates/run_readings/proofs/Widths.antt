@@ -10,8 +10,6 @@ use lib.ListN.{take, drop}
 use Rattle.basis.specs.Bits.{value, frame_bits}
 use Rattle.basis.proofs.Booleans.{either_way}
 use Rattle.term_evaluation.specs.Meaning.{membership}
-use Rattle.term_evaluation.specs.declared.Counted.{Counted}
-use Rattle.term_evaluation.specs.declared.Tested.{Tested}
 use Rattle.table_layout.specs.Places.{rule_word, rule_count}
 use Rattle.table_layout.specs.Constructs.{construct_at}
 use Rattle.table_layout.specs.Held.{terms_of, opening}
@@ -21,6 +19,9 @@ use Rattle.run_actions.specs.Acts.{in_table, whole_in_table, terms_in_table, bin
 use Rattle.run_actions.specs.declared.Act.{Act}
 use Rattle.run_actions.proofs.Doing.{walk_keeps}
 use Rattle.run_fields.specs.Fields.{field_width}
+use Rattle.std.specs.Prelude.{Result, Ok, Err}
+use Rattle.term_words.specs.declared.TermError.{TermError}
+use Rattle.term_evaluation.specs.declared.Allowed.{Allowed}
 
 -- an act that takes a field takes w bits
 abbrev pub Wide : ℕ → Act → Type 0
@@ -46,11 +47,10 @@ module _ (w : ℕ) (ws fs : List ℕ) (vs : List ℤ) (p : ℕ) where
   case_wide : (j end : ℕ) → Wide w (case_act ws vs j end)
   case_wide j end = walk_keeps (Wide w) (λ i rest. by_case (case_test ws vs i) i rest) Act.Leave Act.Broken ws end tt tt (λ i rest m h. visit i rest (case_test ws vs i) h) (end - j) j
     where
-      visit : (i : ℕ) (rest : Act) (t : Tested) → Wide w rest → Wide w (by_case t i rest)
-      visit i rest Tested.Yes h = tt
-      visit i rest Tested.No h = h
-      visit i rest Tested.Malformed h = tt
-      visit i rest Tested.Overflow h = tt
+      visit : (i : ℕ) (rest : Act) (t : Result Bool TermError) → Wide w rest → Wide w (by_case t i rest)
+      visit i rest (Ok true) h = tt
+      visit i rest (Ok false) h = h
+      visit i rest (Err e) h = tt
 
   members_wide : (start end : ℕ) → Wide w (members_act ws start end)
   members_wide start end =
@@ -65,18 +65,16 @@ module _ (w : ℕ) (ws fs : List ℕ) (vs : List ℤ) (p : ℕ) where
       by false true = tt
       by false false = tt
 
-  turn_wide : (n i k : ℕ) (c : Counted) → Wide w (turn_act ws n i k c)
-  turn_wide n i k Counted.None = tt
-  turn_wide n i k (Counted.From low) = either_way (Wide w) (ltb k low) tt (choice_wide n i)
-  turn_wide n i k (Counted.Within low more) = either_way (Wide w) (ltb k low) tt (either_way (Wide w) (leb (low + more) k) tt (choice_wide n i))
-  turn_wide n i k Counted.Malformed = tt
-  turn_wide n i k Counted.Overflow = tt
+  turn_wide : (n i k : ℕ) (c : Result Allowed TermError) → Wide w (turn_act ws n i k c)
+  turn_wide n i k (Ok Allowed.None) = tt
+  turn_wide n i k (Ok (Allowed.From low)) = either_way (Wide w) (ltb k low) tt (choice_wide n i)
+  turn_wide n i k (Ok (Allowed.Within low more)) = either_way (Wide w) (ltb k low) tt (either_way (Wide w) (leb (low + more) k) tt (choice_wide n i))
+  turn_wide n i k (Err e) = tt
 
-set_wide : (w binder : ℕ) (n : ℤ) (t : Tested) → Wide w (by_set t w binder n)
-set_wide w binder n Tested.Yes = refl
-set_wide w binder n Tested.No = tt
-set_wide w binder n Tested.Malformed = tt
-set_wide w binder n Tested.Overflow = tt
+set_wide : (w binder : ℕ) (n : ℤ) (t : Result Bool TermError) → Wide w (by_set t w binder n)
+set_wide w binder n (Ok true) = refl
+set_wide w binder n (Ok false) = tt
+set_wide w binder n (Err e) = tt
 
 -- by what the construct is
 construct_wide : (ws fs : List ℕ) (vs : List ℤ) (p i k : ℕ) (c : Construct) → Wide (field_width c) (construct_act ws fs vs p i k c)

@@ -12,8 +12,6 @@ use lib.IntN.{ℤ, pos}
 use Rattle.basis.proofs.Booleans.{which}
 use Rattle.term_evaluation.specs.Meaning.{condition}
 use Rattle.term_evaluation.specs.Counts.{counts}
-use Rattle.term_evaluation.specs.declared.Counted.{Counted}
-use Rattle.term_evaluation.specs.declared.Tested.{Tested}
 use Rattle.theory.specs.Machine.{Turn, fail, again, leave, by_lookahead, turn, choose}
 use Rattle.table_layout.specs.Places.{construct_word}
 use Rattle.table_layout.specs.Held.{term_words, terms_of, parts, allowed, is_yes, passes_allowed, first_case, no_default}
@@ -22,6 +20,9 @@ use Rattle.run_actions.specs.Stored.{stored, prediction_at, follow_at}
 use Rattle.run_actions.specs.Acts.{terms_in_table, by_branch, branch_act, case_test, by_case, case_act, by_lookahead as act-by-lookahead, turn_act, counted, by_set}
 use Rattle.run_actions.specs.declared.Act.{Act}
 use Rattle.run_refinement.proofs.Walks.{Definite, Visit, chosen_act, found_chosen}
+use Rattle.std.specs.Prelude.{Result, Ok, Err}
+use Rattle.term_words.specs.declared.TermError.{TermError}
+use Rattle.term_evaluation.specs.declared.Allowed.{Allowed}
 
 -- what the grammar's switch goes by: a case's condition holds, or it has none
 abbrev case_holds : List ℕ → List ℤ → ℕ → Bool
@@ -57,18 +58,18 @@ by_branch_visit : (j : ℕ) (t : Bool) → Visit j t (λ rest. by_branch t j res
 by_branch_visit j true = Visit.takes refl (λ rest. refl)
 by_branch_visit j false = Visit.passes refl (λ rest. refl)
 
-by_case_visit : (j : ℕ) (t : Tested) → Visit j (is_yes t) (λ rest. by_case t j rest)
-by_case_visit j Tested.Yes = Visit.takes refl (λ rest. refl)
-by_case_visit j Tested.No = Visit.passes refl (λ rest. refl)
-by_case_visit j Tested.Malformed = Visit.breaks (λ rest. refl)
-by_case_visit j Tested.Overflow = Visit.breaks (λ rest. refl)
+by_case_visit : (j : ℕ) (t : Result Bool TermError) → Visit j (is_yes t) (λ rest. by_case t j rest)
+by_case_visit j (Ok true) = Visit.takes refl (λ rest. refl)
+by_case_visit j (Ok false) = Visit.passes refl (λ rest. refl)
+by_case_visit j (Err TermError.Malformed) = Visit.breaks (λ rest. refl)
+by_case_visit j (Err TermError.Overflow) = Visit.breaks (λ rest. refl)
 
 -- a case's test is that, where its terms are in the table
 case_visit : (ws : List ℕ) (vs : List ℤ) (j : ℕ) → Visit j (case_holds ws vs j) (λ rest. by_case (case_test ws vs j) j rest)
 case_visit ws vs j =
     by (ltb (construct_word ws j 6) (construct_word ws j 7)) (terms_in_table ws (construct_word ws j 7)) (condition vs (construct_word ws j 6) (terms_of ws (construct_word ws j 6) (construct_word ws j 7)))
   where
-    by : (s t : Bool) (x : Tested) → Visit j (cond s (is_yes x) true) (λ rest. by_case (cond s (cond t x Tested.Malformed) Tested.Yes) j rest)
+    by : (s t : Bool) (x : Result Bool TermError) → Visit j (cond s (is_yes x) true) (λ rest. by_case (cond s (cond t x (Err TermError.Malformed)) (Ok true)) j rest)
     by true true x = by_case_visit j x
     by true false x = Visit.breaks (λ rest. refl)
     by false t x = Visit.takes refl (λ rest. refl)
@@ -94,21 +95,21 @@ turned_lookahead b true e = refl
 turned_lookahead b false true = refl
 turned_lookahead b false false = refl
 
-pub turn_turned : (ws : List ℕ) (n i k : ℕ) (c : Counted) → Definite (turn_act ws n i k c)
+pub turn_turned : (ws : List ℕ) (n i k : ℕ) (c : Result Allowed TermError) → Definite (turn_act ws n i k c)
     → turn_act ws n i k c ≡ turned (i + 1) (turn (allowed c) k (stored ws (prediction_at (i + 1)) n) (stored ws (follow_at i) n))
 unfolding turn
-turn_turned ws n i k Counted.None s = refl
-turn_turned ws n i k (Counted.From low) s =
+turn_turned ws n i k (Ok Allowed.None) s = refl
+turn_turned ws n i k (Ok (Allowed.From low)) s =
     elim (which (ltb k low)) [ inl t ↦ rw (t, turn) | inr t ↦ rw (t, turn) (turned_lookahead (i + 1) (stored ws (prediction_at (i + 1)) n) (stored ws (follow_at i) n)) ]
-turn_turned ws n i k (Counted.Within low more) s =
+turn_turned ws n i k (Ok (Allowed.Within low more)) s =
     elim (which (ltb k low)) [
       | inl t ↦ rw (t, turn)
       | inr t ↦
           elim (which (leb (low + more) k))
           [ inl u ↦ rw (t, u, turn) | inr u ↦ rw (t, u, turn) (turned_lookahead (i + 1) (stored ws (prediction_at (i + 1)) n) (stored ws (follow_at i) n)) ]
     ]
-turn_turned ws n i k Counted.Malformed s = absurd (s refl)
-turn_turned ws n i k Counted.Overflow s = absurd (s refl)
+turn_turned ws n i k (Err TermError.Malformed) s = absurd (s refl)
+turn_turned ws n i k (Err TermError.Overflow) s = absurd (s refl)
 
 -- counts whose terms are in the table are the grammar's
 pub counted_allowed : (ws : List ℕ) (vs : List ℤ) (n i k : ℕ) (p : Passes) → Definite (turn_act ws n i k (counted ws vs p)) → allowed (counted ws vs p) ≡ passes_allowed ws p vs
@@ -117,14 +118,14 @@ counted_allowed ws vs n i k Passes.Any s = refl
 counted_allowed ws vs n i k Passes.Some s = refl
 counted_allowed ws vs n i k (Passes.Counted start end) s = by (terms_in_table ws end) s
   where
-    by : (t : Bool) → Definite (turn_act ws n i k (cond t (counts vs (term_words ws) start end) Counted.Malformed)) → allowed (cond t (counts vs (term_words ws) start end) Counted.Malformed) ≡ allowed (counts vs (term_words ws) start end)
+    by : (t : Bool) → Definite (turn_act ws n i k (cond t (counts vs (term_words ws) start end) (Err TermError.Malformed))) → allowed (cond t (counts vs (term_words ws) start end) (Err TermError.Malformed)) ≡ allowed (counts vs (term_words ws) start end)
     by true d = refl
     by false d = absurd (d refl)
 
 -- a test by itself
-abbrev pub tested : Bool → Tested
-tested true = Tested.Yes
-tested false = Tested.No
+abbrev pub tested : Bool → Result Bool TermError
+tested true = Ok true
+tested false = Ok false
 
 pub tested_yes : (t : Bool) → is_yes (tested t) ≡ t
 tested_yes true = refl

@@ -17,7 +17,6 @@ use Rattle.basis.specs.Counts.{Counts, within}
 use Rattle.basis.proofs.Frames.{frame_length}
 use Rattle.basis.proofs.Booleans.{which}
 use Rattle.term_evaluation.specs.Meaning.{membership}
-use Rattle.term_evaluation.specs.declared.Tested.{Tested}
 use Rattle.theory.specs.Grammar.{alternative, concatenation, repetition, switch, field, eod}
 use Rattle.theory.specs.Derivation.{Capture}
 use Rattle.theory.specs.Machine.{entry, state, Turn, fail, again, leave, turn, choose, entries, act}
@@ -34,6 +33,8 @@ use Rattle.run_refinement.proofs.Answers.{branch_chosen, case_chosen, no_case_ta
 use Rattle.table_structure.proofs.StaticLaw.{literal_long}
 use Rattle.run_refinement.proofs.Walks.{Definite, chosen_act, Row, row_parts, row_of}
 use Rattle.run_refinement.proofs.Values.{act_same}
+use Rattle.std.specs.Prelude.{Result, Ok, Err}
+use Rattle.term_words.specs.declared.TermError.{TermError}
 
 -- members that are put are all the parts, counted
 abbrev pub Membered : List ℕ → Act → Type 0
@@ -136,20 +137,20 @@ module _ (ws fs : List ℕ) (vs : List ℤ) (p i k : ℕ) (others : List HeldEnt
       does_guarded (use_node ws r) (ltb r (rule_count ws)) (enter ws b) (does_guarded (use_node ws r) (in_table ws b) (Act.Enter b) (λ h. record { agrees = refl; members = tt }))
 
   -- a field: so many bits are left, and they are right
-  does_set : (w binder : ℕ) (n : ℤ) (admits : Context → Values → Bits → Bool) (static : Bits → Bool) (binds : Context → Values → Bits → Values) (t : Tested)
+  does_set : (w binder : ℕ) (n : ℤ) (admits : Context → Values → Bits → Bool) (static : Bits → Bool) (binds : Context → Values → Bits → Values) (t : Result Bool TermError)
       → leb w (length rest) ≡ true → is_yes t ≡ admits first_context vs (take w rest) → bound binder vs n ≡ binds first_context vs (take w rest) → Definite (by_set t w binder n)
       → Does (field (λ bits. w) admits static binds) (by_set t w binder n)
   unfolding act
-  does_set w binder n admits static binds Tested.Yes l y b s =
+  does_set w binder n admits static binds (Ok true) l y b s =
       record {
         agrees =
             rw (l, ← y, act)
             (ap (λ (v : Values). some (state others (drop w rest) (p + w) v (rc ++ (record { construct = i; first_bit = p } ∷ [])))) (sym b));
         members = tt;
       }
-  does_set w binder n admits static binds Tested.No l y b s = record { agrees = rw (l, ← y, act); members = tt }
-  does_set w binder n admits static binds Tested.Malformed l y b s = absurd (s refl)
-  does_set w binder n admits static binds Tested.Overflow l y b s = absurd (s refl)
+  does_set w binder n admits static binds (Ok false) l y b s = record { agrees = rw (l, ← y, act); members = tt }
+  does_set w binder n admits static binds (Err TermError.Malformed) l y b s = absurd (s refl)
+  does_set w binder n admits static binds (Err TermError.Overflow) l y b s = absurd (s refl)
 
   does_short : (w : ℕ) (admits : Context → Values → Bits → Bool) (static : Bits → Bool) (binds : Context → Values → Bits → Values) → leb w (length rest) ≡ false → Does (field (λ bits. w) admits static binds) Act.Fail
   unfolding act
@@ -159,7 +160,7 @@ module _ (ws fs : List ℕ) (vs : List ℤ) (p i k : ℕ) (others : List HeldEnt
     rest_length : length rest ≡ bits_of fs - p
     rest_length = length-drop p (frame_bits fs) ∙ ap (◌- p) (frame_length fs)
 
-    does_field : (w binder : ℕ) (n : ℤ) (admits : Context → Values → Bits → Bool) (static : Bits → Bool) (binds : Context → Values → Bits → Values) (t : Tested)
+    does_field : (w binder : ℕ) (n : ℤ) (admits : Context → Values → Bits → Bool) (static : Bits → Bool) (binds : Context → Values → Bits → Values) (t : Result Bool TermError)
         → is_yes t ≡ admits first_context vs (take w rest) → bound binder vs n ≡ binds first_context vs (take w rest) → Definite (cond (leb (p + w) (bits_of fs)) (by_set t w binder n) Act.Fail)
         → Does (field (λ bits. w) admits static binds) (cond (leb (p + w) (bits_of fs)) (by_set t w binder n) Act.Fail)
     does_field w binder n admits static binds t y b s =

@@ -16,7 +16,6 @@ use Rattle.term_words.specs.declared.Kind.{Kind}
 use Rattle.term_evaluation.specs.Meaning.{run}
 use Rattle.term_evaluation.specs.Counts.{tallied}
 use Rattle.term_sizes.specs.Sizes.{sizes, count_sizes}
-use Rattle.term_sizes.specs.declared.Sized.{Sized}
 use Rattle.table_layout.specs.Places.{construct_word, construct_count, term_count}
 use Rattle.table_layout.specs.Constructs.{construct_at}
 use Rattle.table_layout.specs.Held.{Context, term_words, terms_of}
@@ -24,6 +23,8 @@ use Rattle.table_layout.specs.declared.Construct.{Construct}
 use Rattle.table_layout.specs.declared.Passes.{Passes}
 use Rattle.table_wellformed.specs.Lists.{own_start, own_end, begins, after, after_condition, lists_begin, after_lists, lists_from}
 use Rattle.run_refinement.proofs.Reliable.{Reliable, counts_answer, set_answers}
+use Rattle.std.specs.Prelude.{Ok, Err, Result, ⊤}
+use Rattle.term_sizes.specs.declared.SizeError.{SizeError}
 
 -- the next list begins no earlier, and where there is a list it begins at that list's end
 after_more : (p start end : ℕ) → begins p start end ≡ true → p ≤ after p start end
@@ -87,24 +88,24 @@ module _ (ws : List ℕ) where
       ]
 
 -- a list that comes to an answer has a term
-some_set : (widest : List ℤ) (ws : List ℕ) (start end : ℕ) → sizes Kind.Set widest start (terms_of ws start end) ≡ Sized.Passes → start < end
+some_set : (widest : List ℤ) (ws : List ℕ) (start end : ℕ) → sizes Kind.Set widest start (terms_of ws start end) ≡ Ok tt → start < end
 unfolding sizes run terms_from
 some_set widest ws start end h =
     elim (dec_lt start end) [
       | yes l ↦ l
       | no l ↦
           let z : end - start ≡ 0 = omega arith in
-          let y : Sized.Malformed ≡ Sized.Passes = subst (λ (n : ℕ). sizes Kind.Set widest start (terms_from (term_words ws) start n) ≡ Sized.Passes) z h in
+          let y : ◌≡◌ {A = Result ⊤ SizeError} (Err SizeError.Malformed) (Ok tt) = subst (λ (n : ℕ). sizes Kind.Set widest start (terms_from (term_words ws) start n) ≡ Ok tt) z h in
           let w : ◌≡◌ {A = ℕ} 0 1 = cc in absurd (omega arith)
     ]
 
-some_counts : (widest : List ℤ) (ws : List ℕ) (start end : ℕ) → count_sizes widest (term_words ws) start end ≡ Sized.Passes → start < end
+some_counts : (widest : List ℤ) (ws : List ℕ) (start end : ℕ) → count_sizes widest (term_words ws) start end ≡ Ok tt → start < end
 unfolding count_sizes tallied
 some_counts widest ws start end h =
     elim (dec_lt start end) [
       | yes l ↦ l
       | no l ↦
-          let y : Sized.Malformed ≡ Sized.Passes = rw (le-ltb start end (omega arith)) at h in
+          let y : ◌≡◌ {A = Result ⊤ SizeError} (Err SizeError.Malformed) (Ok tt) = rw (le-ltb start end (omega arith)) at h in
           let w : ◌≡◌ {A = ℕ} 0 1 = cc in absurd (omega arith)
     ]
 

@@ -17,8 +17,6 @@ use Rattle.basis.specs.Patterns.{greatest_size}
 use Rattle.basis.proofs.Booleans.{which, either_way}
 use Rattle.term_evaluation.specs.Meaning.{membership}
 use Rattle.term_evaluation.specs.Counts.{counts, shown}
-use Rattle.term_evaluation.specs.declared.Counted.{Counted}
-use Rattle.term_evaluation.specs.declared.Tested.{Tested}
 use Rattle.term_sizes.specs.Inside.{Inside}
 use Rattle.term_sizes.proofs.Theorems.{set_passes, condition_passes, counts_pass}
 use Rattle.table_layout.specs.Places.{rule_word, construct_word, variable_word, rule_count, construct_count, variable_count, term_count}
@@ -40,6 +38,8 @@ use Rattle.run_refinement.proofs.Widths.{binder_width, read_within}
 use Rattle.run_refinement.proofs.Reliable.{Reliable, condition_answers, counts_answer, set_answers}
 use Rattle.run_refinement.proofs.Ends.{condition_ends, counts_end, set_ends}
 use Rattle.run_refinement.proofs.Values.{condition_known, set_known, counts_known}
+use Rattle.std.specs.Prelude.{Result, Ok}
+use Rattle.term_words.specs.declared.TermError.{TermError}
 
 -- a binder's values: 1 + a variable whose size is at least that of the value; 0 binds none
 abbrev pub Binds : List ℤ → ℕ → ℤ → Type 0
@@ -133,7 +133,7 @@ module _ (ws : List ℕ) (widest : List ℤ) {weight rooms : Context → ℕ →
   case_safe j end l = walk_holds Good (λ i rest. by_case (case_test ws us i) i rest) Act.Leave Act.Broken ws end tt (there end l) (λ i rest m h. visit i rest (tested i (omega arith)) m h) (end - j) j
     where
       -- a case's condition comes to an answer
-      tested : (i : ℕ) → i < construct_count ws → (case_test ws us i ≡ Tested.No) ⊎ (case_test ws us i ≡ Tested.Yes)
+      tested : (i : ℕ) → i < construct_count ws → (case_test ws us i ≡ Ok false) ⊎ (case_test ws us i ≡ Ok true)
       tested i h =
           elim (which (ltb (construct_word ws i 6) (construct_word ws i 7))) [
             | inl t ↦
@@ -142,7 +142,7 @@ module _ (ws : List ℕ) (widest : List ℤ) {weight rooms : Context → ℕ →
             | inr t ↦ inr (rw t)
           ]
 
-      visit : (i : ℕ) (rest : Act) → (case_test ws us i ≡ Tested.No) ⊎ (case_test ws us i ≡ Tested.Yes) → i < end → Good rest → Good (by_case (case_test ws us i) i rest)
+      visit : (i : ℕ) (rest : Act) → (case_test ws us i ≡ Ok false) ⊎ (case_test ws us i ≡ Ok true) → i < end → Good rest → Good (by_case (case_test ws us i) i rest)
       visit i rest (inl e) m h = rw e h
       visit i rest (inr e) m h = rw e (omega arith)
 
@@ -169,7 +169,7 @@ module _ (ws : List ℕ) (widest : List ℤ) {weight rooms : Context → ℕ →
   counts_shown i n Passes.Some h e = (from 1, refl)
   counts_shown i n (Passes.Counted start end) h e = rw (le-leb end (term_count ws) (counts_end r i h n start end e), counts_known r.laid vs i h n start end e) (counts_pass vs widest inside (term_words ws) start end (counts_answer r i n start end h e))
 
-  set_safe : (t : Tested) (width binder : ℕ) (n : ℤ) → (t ≡ Tested.No) ⊎ (t ≡ Tested.Yes) → Binds widest binder n → Good (by_set t width binder n)
+  set_safe : (t : Result Bool TermError) (width binder : ℕ) (n : ℤ) → (t ≡ Ok false) ⊎ (t ≡ Ok true) → Binds widest binder n → Good (by_set t width binder n)
   set_safe t width binder n (inl e) b = rw e tt
   set_safe t width binder n (inr e) b = rw e b
 
@@ -190,7 +190,7 @@ module _ (ws : List ℕ) (widest : List ℤ) {weight rooms : Context → ℕ →
       either_way Good (leb (p + 8) (bits_of fs)) (either_way Good (leb low v && leb v high) tt tt) tt
   construct_safe i k (Construct.Uint signed width start end binder) h e =
       let v : ℤ = number_at fs p signed width in
-      let t : Tested = membership us v start (terms_of ws start end) in
+      let t : Result Bool TermError = membership us v start (terms_of ws start end) in
       rw (le-leb end (term_count ws) (set_ends r i h signed width start end binder e), le-leb binder (variable_count ws) (binder_counted i signed width start end binder h e))
       (either_way Good (leb (p + width) (bits_of fs))
       (set_safe t width binder (kept binder v) (rw (set_known r.laid vs i h signed width start end binder e v) (set_passes vs widest inside v start (terms_of ws start end) (set_answers r i signed width start end binder h e)))

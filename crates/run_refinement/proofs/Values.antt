@@ -19,15 +19,11 @@ use Rattle.term_words.specs.declared.Kind.{Kind}
 use Rattle.term_words.specs.declared.Mode.{Mode}
 use Rattle.term_words.specs.declared.Numbers.{Numbers}
 use Rattle.term_words.specs.declared.Operation.{Operation}
-use Rattle.term_words.specs.declared.Outcome.{Outcome}
 use Rattle.term_words.specs.declared.Term.{Term}
-use Rattle.term_words.specs.declared.Trial.{Trial}
 use Rattle.term_evaluation.specs.Meaning.{next, run, verdict_of, membership, condition}
 use Rattle.term_evaluation.specs.Counts.{form_of, calculations_end, of_trial, tally_end, tallied, counts}
-use Rattle.term_evaluation.specs.declared.Counted.{Counted}
 use Rattle.term_evaluation.specs.declared.Ended.{Ended}
 use Rattle.term_evaluation.specs.declared.Form.{Form}
-use Rattle.term_evaluation.specs.declared.Tested.{Tested}
 use Rattle.table_layout.specs.Places.{rule_word, rule_count, construct_word, construct_count, variable_count}
 use Rattle.table_layout.specs.Constructs.{construct_at}
 use Rattle.table_layout.specs.Held.{term_words, terms_of, size_of}
@@ -41,6 +37,9 @@ use Rattle.table_structure.proofs.Binding.{Visible, condition_reads, own_reads}
 use Rattle.run_actions.specs.Acts.{terms_in_table, binder_in_table, known_values, ahead_at, bits_of, walk, case_test, by_case, turn_act, counted, kept, by_set, number_at, uint_act, construct_act}
 use Rattle.run_actions.specs.declared.Act.{Act}
 use Rattle.run_refinement.proofs.Walks.{Definite}
+use Rattle.std.specs.Prelude.{Result, Ok, Err}
+use Rattle.term_words.specs.declared.TermError.{TermError}
+use Rattle.term_evaluation.specs.declared.Allowed.{Allowed}
 
 -- malformed, or the same
 abbrev pub Fewer : {A : Type 0} → A → A → A → Type 0
@@ -64,13 +63,13 @@ module _ (n : ℕ) (env : List ℤ) where
         | no h ↦ rw (le-ltb y (length short) (omega arith), le-ltb y (length env) (omega arith)) refl
       ]
 
-  variable_fewer : (y : ℕ) (s : Numbers) → Fewer Outcome.Malformed (variable_of short y s) (variable_of env y s)
+  variable_fewer : (y : ℕ) (s : Numbers) → Fewer (Err TermError.Malformed) (variable_of short y s) (variable_of env y s)
   unfolding variable_of
   variable_fewer y s =
       let z : length short ≡ min n (length env) = length-take n env in
       elim (dec_lt y n) [ yes l ↦ inr (variable_same y l s) | no l ↦ inl (rw (le-ltb y (length short) (omega arith)) refl) ]
 
-  operate_fewer : (m : Mode) (o : Operation) (s : Numbers) → Fewer Outcome.Malformed (operate_of m short o s) (operate_of m env o s)
+  operate_fewer : (m : Mode) (o : Operation) (s : Numbers) → Fewer (Err TermError.Malformed) (operate_of m short o s) (operate_of m env o s)
   operate_fewer m (Operation.Variable y) s = variable_fewer y s
   operate_fewer m (Operation.Number n) s = inr refl
   operate_fewer m Operation.Add s = inr refl
@@ -79,13 +78,13 @@ module _ (n : ℕ) (env : List ℤ) where
   operate_fewer m Operation.Negate s = inr refl
   operate_fewer m Operation.Unknown s = inr refl
 
-  part_fewer : (m : Mode) (o : Operation) (s : Numbers) (t : ℕ) → Fewer Trial.Malformed (after_of (operate_of m short o s) t) (after_of (operate_of m env o s) t)
+  part_fewer : (m : Mode) (o : Operation) (s : Numbers) (t : ℕ) → Fewer (Err TermError.Malformed) (after_of (operate_of m short o s) t) (after_of (operate_of m env o s) t)
   part_fewer m o s t = fewer_map (λ x. after_of x t) (operate_fewer m o s)
 
-  single_fewer : (m : Mode) (v : ℤ) (o : Operation) (s : Numbers) (t : ℕ) → Fewer Trial.Malformed (operated v (operate_of m short o s) t) (operated v (operate_of m env o s) t)
+  single_fewer : (m : Mode) (v : ℤ) (o : Operation) (s : Numbers) (t : ℕ) → Fewer (Err TermError.Malformed) (operated v (operate_of m short o s) t) (operated v (operate_of m env o s) t)
   single_fewer m v o s t = fewer_map (λ x. operated v x t) (operate_fewer m o s)
 
-  step_fewer : (k : Kind) (m : Mode) (v : ℤ) (x : Term) (s : Numbers) (t : ℕ) → Fewer Trial.Malformed (step_of k m short v x s t) (step_of k m env v x s t)
+  step_fewer : (k : Kind) (m : Mode) (v : ℤ) (x : Term) (s : Numbers) (t : ℕ) → Fewer (Err TermError.Malformed) (step_of k m short v x s t) (step_of k m env v x s t)
   step_fewer Kind.Calculation m v (Term.Part o) s t = part_fewer m o s t
   step_fewer Kind.Calculation m v (Term.Single o) s t = inr refl
   step_fewer Kind.Calculation m v Term.All s t = inr refl
@@ -122,16 +121,16 @@ module _ (n : ℕ) (env : List ℤ) where
 
   -- a list that ended as malformed, or the same
   abbrev EndFewer : Ended → Ended → Type 0
-  EndFewer x y = (x.trial ≡ Trial.Malformed) ⊎ (x ≡ y)
+  EndFewer x y = (x.trial ≡ Err TermError.Malformed) ⊎ (x ≡ y)
 
-  next_fewer : (go go' : Numbers → ℕ → Ended) → ((s : Numbers) (t : ℕ) → EndFewer (go s t) (go' s t)) → (i : ℕ) (r : Trial) → EndFewer (next go i r) (next go' i r)
-  next_fewer go go' h i (Trial.Running s t) = h s t
-  next_fewer go go' h i Trial.Malformed = inr refl
-  next_fewer go go' h i Trial.Overflow = inr refl
+  next_fewer : (go go' : Numbers → ℕ → Ended) → ((s : Numbers) (t : ℕ) → EndFewer (go s t) (go' s t)) → (i : ℕ) (r : Result (Numbers × ℕ) TermError) → EndFewer (next go i r) (next go' i r)
+  next_fewer go go' h i (Ok (s, t)) = h s t
+  next_fewer go go' h i (Err TermError.Malformed) = inr refl
+  next_fewer go go' h i (Err TermError.Overflow) = inr refl
 
-  after_step : (go go' : Numbers → ℕ → Ended) (i : ℕ) (r r' : Trial) → ((s : Numbers) (t : ℕ) → EndFewer (go s t) (go' s t)) → Fewer Trial.Malformed r r' → EndFewer (next go i r) (next go' i r')
-  after_step go go' i r r' h (inl e) = inl (ap (λ (x : Trial). (next go i x).trial) e)
-  after_step go go' i r r' h (inr e) = subst (λ (x : Trial). EndFewer (next go i r) (next go' i x)) e (next_fewer go go' h i r)
+  after_step : (go go' : Numbers → ℕ → Ended) (i : ℕ) (r r' : Result (Numbers × ℕ) TermError) → ((s : Numbers) (t : ℕ) → EndFewer (go s t) (go' s t)) → Fewer (Err TermError.Malformed) r r' → EndFewer (next go i r) (next go' i r')
+  after_step go go' i r r' h (inl e) = inl (ap (λ (x : Result (Numbers × ℕ) TermError). (next go i x).trial) e)
+  after_step go go' i r r' h (inr e) = subst (λ (x : Result (Numbers × ℕ) TermError). EndFewer (next go i r) (next go' i x)) e (next_fewer go go' h i r)
 
   run_fewer : (k : Kind) (m : Mode) (v : ℤ) (i : ℕ) (xs : List Term) (s : Numbers) (t : ℕ) → EndFewer (run k m short v i xs s t) (run k m env v i xs s t)
   unfolding run
@@ -139,19 +138,19 @@ module _ (n : ℕ) (env : List ℤ) where
   run_fewer k m v i (x ∷ xs) s t =
       after_step (λ s' t'. run k m short v (i + 1) xs s' t') (λ s' t'. run k m env v (i + 1) xs s' t') i (step_of k m short v x s t) (step_of k m env v x s t) (λ s' t'. run_fewer k m v (i + 1) xs s' t') (step_fewer k m v x s t)
 
-  ended : {A : Type 0} (f : Trial → A) {x y : Ended} → EndFewer x y → Fewer (f Trial.Malformed) (f x.trial) (f y.trial)
+  ended : {A : Type 0} (f : Result (Numbers × ℕ) TermError → A) {x y : Ended} → EndFewer x y → Fewer (f (Err TermError.Malformed)) (f x.trial) (f y.trial)
   ended f (inl e) = inl (ap f e)
   ended f (inr e) = inr (ap (λ (x : Ended). f x.trial) e)
 
-  pub membership_fewer : (v : ℤ) (i : ℕ) (xs : List Term) → Fewer Tested.Malformed (membership short v i xs) (membership env v i xs)
+  pub membership_fewer : (v : ℤ) (i : ℕ) (xs : List Term) → Fewer (Err TermError.Malformed) (membership short v i xs) (membership env v i xs)
   unfolding membership
   membership_fewer v i xs = ended verdict_of (run_fewer Kind.Set Mode.Values v i xs Numbers.Zero 1)
 
-  pub condition_fewer : (i : ℕ) (xs : List Term) → Fewer Tested.Malformed (condition short i xs) (condition env i xs)
+  pub condition_fewer : (i : ℕ) (xs : List Term) → Fewer (Err TermError.Malformed) (condition short i xs) (condition env i xs)
   unfolding condition
   condition_fewer i xs = ended verdict_of (run_fewer Kind.Condition Mode.Values (pos 0) i xs Numbers.Zero 1)
 
-  pub counts_fewer : (ws : List ℕ) (start end : ℕ) → Fewer Counted.Malformed (counts short ws start end) (counts env ws start end)
+  pub counts_fewer : (ws : List ℕ) (start end : ℕ) → Fewer (Err TermError.Malformed) (counts short ws start end) (counts env ws start end)
   unfolding counts tallied
   counts_fewer ws start end = by (ltb start end) (worked short) (worked env) (ended (of_trial f) (run_fewer Kind.Calculation Mode.Values (pos 0) start (terms ws start last) Numbers.Zero 1))
     where
@@ -164,8 +163,8 @@ module _ (n : ℕ) (env : List ℤ) where
       worked : List ℤ → Ended
       worked values = run Kind.Calculation Mode.Values values (pos 0) start (terms ws start last) Numbers.Zero 1
 
-      by : (t : Bool) (x y : Ended) → Fewer Counted.Malformed (of_trial f x.trial) (of_trial f y.trial)
-          → Fewer Counted.Malformed (cond t (tally_end f x) (record { counted = Counted.Malformed; at = start })).counted (cond t (tally_end f y) (record { counted = Counted.Malformed; at = start })).counted
+      by : (t : Bool) (x y : Ended) → Fewer (Err TermError.Malformed) (of_trial f x.trial) (of_trial f y.trial)
+          → Fewer (Err TermError.Malformed) (cond t (tally_end f x) (record { counted = Err TermError.Malformed; at = start })).counted (cond t (tally_end f y) (record { counted = Err TermError.Malformed; at = start })).counted
       by true x y h = h
       by false x y h = inr refl
 
@@ -178,20 +177,19 @@ module _ (ws fs : List ℕ) (vs : List ℤ) (p i k : ℕ) where
   abbrev n : ℕ
   n = variable_count ws
 
-  by_case_same : (j : ℕ) (rest rest' : Act) (t t' : Tested) → Fewer Tested.Malformed t t' → (Definite rest → rest ≡ rest') → Definite (by_case t j rest) → by_case t j rest ≡ by_case t' j rest'
-  by_case_same j rest rest' t t' (inl e) h s = absurd (s (ap (λ (x : Tested). by_case x j rest) e))
-  by_case_same j rest rest' t t' (inr e) h s = subst (λ (x : Tested). by_case t j rest ≡ by_case x j rest') e (alike t s)
+  by_case_same : (j : ℕ) (rest rest' : Act) (t t' : Result Bool TermError) → Fewer (Err TermError.Malformed) t t' → (Definite rest → rest ≡ rest') → Definite (by_case t j rest) → by_case t j rest ≡ by_case t' j rest'
+  by_case_same j rest rest' t t' (inl e) h s = absurd (s (ap (λ (x : Result Bool TermError). by_case x j rest) e))
+  by_case_same j rest rest' t t' (inr e) h s = subst (λ (x : Result Bool TermError). by_case t j rest ≡ by_case x j rest') e (alike t s)
     where
-      alike : (x : Tested) → Definite (by_case x j rest) → by_case x j rest ≡ by_case x j rest'
-      alike Tested.Yes d = refl
-      alike Tested.No d = h d
-      alike Tested.Malformed d = refl
-      alike Tested.Overflow d = refl
+      alike : (x : Result Bool TermError) → Definite (by_case x j rest) → by_case x j rest ≡ by_case x j rest'
+      alike (Ok true) d = refl
+      alike (Ok false) d = h d
+      alike (Err e) d = refl
 
-  case_fewer : (j : ℕ) → Fewer Tested.Malformed (case_test ws us j) (case_test ws vs j)
+  case_fewer : (j : ℕ) → Fewer (Err TermError.Malformed) (case_test ws us j) (case_test ws vs j)
   case_fewer j = by (ltb (construct_word ws j 6) (construct_word ws j 7)) (terms_in_table ws (construct_word ws j 7)) (condition_fewer n vs (construct_word ws j 6) (terms_of ws (construct_word ws j 6) (construct_word ws j 7)))
     where
-      by : (s t : Bool) {x y : Tested} → Fewer Tested.Malformed x y → Fewer Tested.Malformed (cond s (cond t x Tested.Malformed) Tested.Yes) (cond s (cond t y Tested.Malformed) Tested.Yes)
+      by : (s t : Bool) {x y : Result Bool TermError} → Fewer (Err TermError.Malformed) x y → Fewer (Err TermError.Malformed) (cond s (cond t x (Err TermError.Malformed)) (Ok true)) (cond s (cond t y (Err TermError.Malformed)) (Ok true))
       by true true h = h
       by true false h = inr refl
       by false t h = inr refl
@@ -211,17 +209,17 @@ module _ (ws fs : List ℕ) (vs : List ℤ) (p i k : ℕ) where
         | inr e ↦ rw (e, walk) refl
       ]
 
-  turn_same : (c c' : Counted) → Fewer Counted.Malformed c c' → Definite (turn_act ws (ahead_at fs p) i k c) → turn_act ws (ahead_at fs p) i k c ≡ turn_act ws (ahead_at fs p) i k c'
+  turn_same : (c c' : Result Allowed TermError) → Fewer (Err TermError.Malformed) c c' → Definite (turn_act ws (ahead_at fs p) i k c) → turn_act ws (ahead_at fs p) i k c ≡ turn_act ws (ahead_at fs p) i k c'
   turn_same c c' (inl e) s = absurd (s (ap (turn_act ws (ahead_at fs p) i k) e))
   turn_same c c' (inr e) s = ap (turn_act ws (ahead_at fs p) i k) e
 
-  counted_fewer : (q : Passes) → Fewer Counted.Malformed (counted ws us q) (counted ws vs q)
+  counted_fewer : (q : Passes) → Fewer (Err TermError.Malformed) (counted ws us q) (counted ws vs q)
   counted_fewer Passes.Optional = inr refl
   counted_fewer Passes.Any = inr refl
   counted_fewer Passes.Some = inr refl
   counted_fewer (Passes.Counted start end) = by (terms_in_table ws end) (counts_fewer n vs (term_words ws) start end)
     where
-      by : (t : Bool) {x y : Counted} → Fewer Counted.Malformed x y → Fewer Counted.Malformed (cond t x Counted.Malformed) (cond t y Counted.Malformed)
+      by : (t : Bool) {x y : Result Allowed TermError} → Fewer (Err TermError.Malformed) x y → Fewer (Err TermError.Malformed) (cond t x (Err TermError.Malformed)) (cond t y (Err TermError.Malformed))
       by true h = h
       by false h = inr refl
 
@@ -231,10 +229,10 @@ module _ (ws fs : List ℕ) (vs : List ℤ) (p i k : ℕ) where
       v : ℤ
       v = kept binder (number_at fs p signed width)
 
-      by : (a b : Bool) {x y : Tested} → Fewer Tested.Malformed x y → Definite (cond a (cond b (by_set x width binder v) Act.Fail) Act.Broken)
+      by : (a b : Bool) {x y : Result Bool TermError} → Fewer (Err TermError.Malformed) x y → Definite (cond a (cond b (by_set x width binder v) Act.Fail) Act.Broken)
           → cond a (cond b (by_set x width binder v) Act.Fail) Act.Broken ≡ cond a (cond b (by_set y width binder v) Act.Fail) Act.Broken
-      by true true (inl e) s = absurd (s (ap (λ (t : Tested). by_set t width binder v) e))
-      by true true (inr e) s = ap (λ (t : Tested). by_set t width binder v) e
+      by true true (inl e) s = absurd (s (ap (λ (t : Result Bool TermError). by_set t width binder v) e))
+      by true true (inr e) s = ap (λ (t : Result Bool TermError). by_set t width binder v) e
       by true false h s = refl
       by false b h s = refl
 

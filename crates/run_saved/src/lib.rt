@@ -26,9 +26,7 @@ fn read(bytes: &[u8], at: usize, width: usize) -> u64
     ensures { (result ≡ number width (drop at bytes.now)) × (result < 256 ^ width) }
 {
     let mut n = 0u64;
-    let mut left = width;
-    while 0 < left {
-        left -= 1;
+    for left in (0..width).rev() {
         n = 256 * n + (bytes[at + left] as u64);
     }
     n
@@ -40,11 +38,9 @@ fn write(out: &mut [u8], at: usize, width: usize, number: u64)
     ensures { out.new ≡ sets out.old at (bytes width number) }
 {
     let mut n = number;
-    let mut i = 0;
-    while i < width {
+    for i in 0..width {
         out[at + i] = (n % 256) as u8;
         n = n / 256;
-        i += 1;
     }
 }
 
@@ -61,11 +57,9 @@ fn read_words(bytes: &[u8], at: usize) -> [u32; MAX_ENTRIES]
     ensures { result ≡ numbers plain 4 max_entries (drop at bytes.now) }
 {
     let mut words = [0u32; MAX_ENTRIES];
-    let mut i = 0usize;
-    while i < MAX_ENTRIES {
+    for i in 0usize..MAX_ENTRIES {
         let word = read_word(bytes, at + 4 * i);
         words[i] = word;
-        i += 1;
     }
     words
 }
@@ -74,10 +68,8 @@ fn write_words(out: &mut [u8], at: usize, words: &[u32])
     requires { at + 4 * length words.now ≤ length out.old }
     ensures { out.new ≡ sets out.old at (listed plain 4 words.now) }
 {
-    let mut i = 0;
-    while i < words.len() {
+    for i in 0..words.len() {
         write(out, at + 4 * i, 4, words[i] as u64);
-        i += 1;
     }
 }
 
@@ -117,11 +109,9 @@ fn read_values(bytes: &[u8], at: usize) -> [i64; MAX_VARIABLES]
     ensures { result ≡ numbers whole 8 max_variables (drop at bytes.now) }
 {
     let mut values = [0i64; MAX_VARIABLES];
-    let mut i = 0usize;
-    while i < MAX_VARIABLES {
+    for i in 0usize..MAX_VARIABLES {
         let value = signed(read(bytes, at + 8 * i, 8));
         values[i] = value;
-        i += 1;
     }
     values
 }
@@ -130,11 +120,9 @@ fn write_values(out: &mut [u8], at: usize, values: &[i64])
     requires { at + 8 * length values.now ≤ length out.old }
     ensures { out.new ≡ sets out.old at (listed pattern 8 values.now) }
 {
-    let mut i = 0;
-    while i < values.len() {
+    for i in 0..values.len() {
         let value = values[i];
         write(out, at + 8 * i, 8, unsigned(value));
-        i += 1;
     }
 }
 

@@ -27,13 +27,7 @@ pub struct Head {
 fn broken(head: Head) -> Head
     ensures { result ≡ breakOf head }
 {
-    Head {
-        position: head.position,
-        count: head.count,
-        captures: head.captures,
-        steps: head.steps,
-        verdict: 4,
-    }
+    Head { verdict: 4, ..head }
 }
 
 fn failed(head: Head) -> Head
@@ -41,11 +35,9 @@ fn failed(head: Head) -> Head
     ensures { result ≡ failOf head }
 {
     Head {
-        position: head.position,
-        count: head.count,
-        captures: head.captures,
         steps: head.steps + 1,
         verdict: 2,
+        ..head
     }
 }
 
@@ -202,10 +194,7 @@ fn do_again(
     ensures { AgainDone frame.now constructs.old passes.old head k body constructs.new passes.new result }
 {
     let count = head.count;
-    if MAX_ENTRIES <= count {
-        return broken(head);
-    }
-    if 8 * frame.len() + 1 <= k as usize {
+    if MAX_ENTRIES <= count || 8 * frame.len() + 1 <= k as usize {
         return broken(head);
     }
     again(constructs, passes, count, k, body);
@@ -328,18 +317,15 @@ pub fn step(
     ensures { whole constructs.new passes.new values.new reading.new result ≡ step_of table.now frame.now (whole constructs.old passes.old values.old reading.old head) }
 {
     let verdict = head.verdict;
-    if verdict == 0 {
-        let steps = head.steps;
-        if bounded(table, frame, steps) {
-            let count = head.count;
-            if count == 0 {
-                return broken(head);
-            }
-            return take_first(table, frame, constructs, passes, values, reading, head);
-        }
-        return broken(head);
+    if verdict != 0 {
+        return head;
     }
-    head
+    let steps = head.steps;
+    let count = head.count;
+    if bounded(table, frame, steps) && 0 < count {
+        return take_first(table, frame, constructs, passes, values, reading, head);
+    }
+    broken(head)
 }
 
 // So many steps, or as many as there are until the run is decided.
@@ -357,13 +343,11 @@ pub fn advance(
     ensures { whole constructs.new passes.new values.new reading.new result ≡ steps_of table.now frame.now grant (whole constructs.old passes.old values.old reading.old head) }
 {
     let mut run = head;
-    let mut left = grant;
-    while 0 < left {
+    for _i in 0..grant {
         if run.verdict != 0 {
             return run;
         }
         run = step(table, frame, constructs, passes, values, reading, run);
-        left -= 1;
     }
     run
 }

@@ -9,17 +9,14 @@ ghost use Rattle.table_first_follow.specs.Parts.{siblings};
 ghost use Rattle.table_conflicts.specs.Conflicts.{HasNumber};
 ghost use Rattle.table_conflicts.specs.Windows.{Lowest, lower_of, Shared, FirstFrom};
 
-use lookahead::{Common, Set};
+use lookahead::Set;
 use table_first_follow::parts::{set_of, size_at};
 
 // The least number of the strings in both sets; 0 where there are none.
 pub fn shared(a: Set, b: Set) -> usize
     ensures { Lowest (λ (x : Bits). Has a.words x × Has b.words x) result }
 {
-    match lookahead::least_common(a, b) {
-        Common::Nothing => 0,
-        Common::Least(n) => n,
-    }
+    lookahead::least_common(a, b).unwrap_or(0)
 }
 
 fn lower(a: usize, b: usize) -> usize

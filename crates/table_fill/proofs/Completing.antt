@@ -24,7 +24,7 @@ use Rattle.table_first_follow.specs.Sets.{FollowSets, PredictionSets, sets_held}
 use Rattle.table_first_follow.proofs.HeldLaws.{node_opening}
 use Rattle.table_judge.specs.Judged.{Passed7, Judged}
 use Rattle.table_judge.specs.Sound.{Stands, Sound}
-use Rattle.table_judge.specs.declared.Judgement.{Judgement}
+use Rattle.std.specs.Prelude.{Ok}
 use Rattle.table_hypotheses.specs.OneTable.{Alike, Ended}
 use Rattle.table_hypotheses.proofs.EndedWords.{ended_of}
 use Rattle.table_hypotheses.proofs.PassedLocal.{sound_local}
@@ -38,7 +38,7 @@ use_weighs ws w = omega arith
 weighs_some : (ws : List ℕ) (w : Context → ℕ → ℕ) → Weighs (held ws) w → 1 ≤ w first_context opening
 weighs_some ws w k = let e : w first_context opening ≡ weigh w first_context (use_node ws 0) = k first_context opening ∙ ap (weigh w first_context) (node_opening ws opening refl) in omega (arith, e, use_weighs ws w)
 
-module _ (ws middle last follow prediction : List ℕ) (weight : ℕ) (j : Judged ws (Judgement.Passes weight)) (fs : FollowSets ws follow) (ps : PredictionSets ws prediction)
+module _ (ws middle last follow prediction : List ℕ) (weight : ℕ) (j : Judged ws (Ok weight)) (fs : FollowSets ws follow) (ps : PredictionSets ws prediction)
     (w : SetsWritten ws middle follow prediction (construct_count ws)) (e : last ≡ set middle 5 weight) where
   passed7 : Passed7 ws
   passed7 = j.0.passed.passed.passed

@@ -10,7 +10,7 @@ ghost use Rattle.table_fill.specs.Completed.{SetsWritten, Completed};
 
 use lookahead_slices::{family, narrow};
 use table_first_follow::FAMILY_WORDS;
-use table_judge::Judgement;
+use table_judge::Fault;
 use table_layout::{SETS_AT, word};
 
 // The two sets of the first `count` constructs.
@@ -18,11 +18,9 @@ fn write_sets(table: &mut [u32], follow: &[u64], prediction: &[u64], count: usiz
     requires { (table_words ≤ length table.old) × (length follow.now ≡ family_words) × (length prediction.now ≡ family_words) × (count ≤ max_constructs) }
     ensures { SetsWritten table.old table.new follow.now prediction.now count }
 {
-    let mut i = 0;
-    while i < count {
+    for i in 0..count {
         narrow::put(table, SETS_AT + 32 * i, family::load(prediction, i));
         narrow::put(table, SETS_AT + 32 * i + 16, family::load(follow, i));
-        i += 1;
     }
 }
 
@@ -35,24 +33,16 @@ fn write_weight(table: &mut [u32], weight: usize)
 
 // Judges words that pass 5 to 8 and completes those that pass. The weight's word and the sets' words may hold anything that is laid out;
 // the FIRST sets are left in `first`.
-pub fn complete(table: &mut [u32], first: &mut [u64]) -> Judgement
+pub fn complete(table: &mut [u32], first: &mut [u64]) -> Result<usize, Fault>
     requires { Passed8 table.old × (length first.old ≡ family_words) }
     ensures judged { Judged table.old result × FirstSets table.old first.new }
     ensures completed { Completed table.old table.new result }
 {
     let mut follow = [0u64; FAMILY_WORDS];
     let mut prediction = [0u64; FAMILY_WORDS];
-    match table_judge::judge(table, first, &mut follow, &mut prediction) {
-        Judgement::EmptyBody { construct } => Judgement::EmptyBody { construct },
-        Judgement::Conflict { construct, clash } => Judgement::Conflict { construct, clash },
-        Judgement::Overweight => Judgement::Overweight,
-        Judgement::Unreached { rule } => Judgement::Unreached { rule },
-        Judgement::NoValue { construct } => Judgement::NoValue { construct },
-        Judgement::Passes { weight } => {
-            let count = word(table, 2);
-            write_sets(table, &follow, &prediction, count);
-            write_weight(table, weight);
-            Judgement::Passes { weight }
-        }
-    }
+    let weight = table_judge::judge(table, first, &mut follow, &mut prediction)?;
+    let count = word(table, 2);
+    write_sets(table, &follow, &prediction, count);
+    write_weight(table, weight);
+    Ok(weight)
 }

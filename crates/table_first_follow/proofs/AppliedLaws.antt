@@ -23,12 +23,14 @@ use Rattle.table_layout.specs.declared.Below.{Below}
 use Rattle.table_layout.specs.declared.Attributes.{Attributes}
 use Rattle.table_layout.specs.declared.Passes as Times
 use Rattle.table_layout.proofs.Views.{is_by, quiet_node}
-use Rattle.term_evaluation.specs.declared.Counted.{Counted}
 use Rattle.table_first_follow.specs.Rules.{Family, Some, Members, Applied}
 use Rattle.table_first_follow.specs.Rounds.{strings}
 use Rattle.table_first_follow.specs.Parts.{siblings, Gathered}
 use Rattle.table_first_follow.proofs.HeldLaws.{node_inside, node_opening}
 use Rattle.table_first_follow.proofs.PartLaws.{parts_siblings, united, joint, disjoint}
+use Rattle.std.specs.Prelude.{Result}
+use Rattle.term_words.specs.declared.TermError.{TermError}
+use Rattle.term_evaluation.specs.declared.Allowed.{Allowed}
 
 -- ---- the words of the terms, of a table that may be too short
 
@@ -93,7 +95,7 @@ module _ (ws words : List ℕ) (i : ℕ) (h : i < 256) (a : Attributes) (e : a �
         (is_map out (Gathered true F (siblings ws (i + 1) (i + a.size))) (Members F (siblings ws (i + 1) (i + a.size)))
         (λ x. (joint F (siblings ws (i + 1) (i + a.size)) x, disjoint F (siblings ws (i + 1) (i + a.size)) x)) s))
 
-    pub of_repetition : (passes : Times.Passes) (counts : Counted) (set : List ℕ) → a.below ≡ Below.Body passes → allowed counts ≡ passes_static ws passes
+    pub of_repetition : (passes : Times.Passes) (counts : Result Allowed TermError) (set : List ℕ) → a.below ≡ Below.Body passes → allowed counts ≡ passes_static ws passes
         → Is set (F (i + 1)) → Is out (Repeated (Has set) (allowed counts)) → Right
     unfolding node_of
     of_repetition passes counts set p q s o =

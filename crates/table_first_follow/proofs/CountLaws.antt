@@ -8,10 +8,12 @@ use borrow.Author.Tests.{le-leb}
 use Rattle.basis.specs.Bits.{Bits}
 use Rattle.basis.specs.Counts.{Counts, between, within}
 use Rattle.table_layout.specs.Held.{allowed}
-use Rattle.term_evaluation.specs.declared.Counted.{Counted}
 use Rattle.lookahead.specs.Sets.{Is, Repeated}
 use Rattle.lookahead.proofs.LanguageLaws.{Strings}
 use Rattle.lookahead.proofs.PassLaws.{is_map, is_within}
+use Rattle.std.specs.Prelude.{Result}
+use Rattle.term_words.specs.declared.TermError.{TermError}
+use Rattle.term_evaluation.specs.declared.Allowed.{Allowed}
 
 between_within : (low more : ℕ) → between low (low + more) ≡ within low more
 unfolding between
@@ -23,6 +25,6 @@ module _ (A : Strings) (x : List ℕ) where
       subst (λ (k : Counts). Is x (Repeated A k)) (between_within low more) (is_within A x low (low + more) l h (omega arith) el (omega arith) s)
 
 -- counts that allow nothing
-pub is_no_count : (x : List ℕ) (A : Strings) (counts : Counted) → allowed counts ≡ Counts.none → Is x (λ (s : Bits). ⊥) → Is x (Repeated A (allowed counts))
+pub is_no_count : (x : List ℕ) (A : Strings) (counts : Result Allowed TermError) → allowed counts ≡ Counts.none → Is x (λ (s : Bits). ⊥) → Is x (Repeated A (allowed counts))
 is_no_count x A counts e s =
     subst (λ (k : Counts). Is x (Repeated A k)) (sym e) (is_map x (λ (t : Bits). ⊥) (Repeated A Counts.none) (λ t. ((λ z. absurd z), (λ q. q.1))) s)

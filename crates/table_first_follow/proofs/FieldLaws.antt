@@ -33,7 +33,6 @@ use Rattle.table_layout.specs.Held.{held, node_of, HeldNode, parts, no_default, 
 use Rattle.table_layout.specs.declared.Construct.{Construct}
 use Rattle.term_evaluation.specs.Meaning.{membership}
 use Rattle.term_evaluation.specs.Variables.{has_variable}
-use Rattle.term_evaluation.specs.declared.Tested.{Tested}
 use Rattle.term_prefixes.specs.Prefixes.{admits}
 use Rattle.term_membership.specs.Members.{holds}
 use Rattle.term_membership.specs.Members as Members
@@ -44,6 +43,8 @@ use Rattle.table_first_follow.specs.Parts.{siblings, Neutral}
 use Rattle.table_layout.proofs.Bounds.{missing_past}
 use Rattle.table_first_follow.proofs.HeldLaws.{node_inside, node_opening}
 use Rattle.table_first_follow.proofs.PartLaws.{parts_siblings}
+use Rattle.std.specs.Prelude.{Result, Ok, Err}
+use Rattle.term_words.specs.declared.TermError.{TermError}
 
 -- ---- strings gathered by their numbers
 
@@ -130,11 +131,10 @@ module _ (b : ℕ) (bs : List ℕ) where
 
 -- ---- uints
 
-yes_same : (t : Tested) → is_yes t ≡ Members.is_yes t
-yes_same Tested.No = refl
-yes_same Tested.Yes = refl
-yes_same Tested.Malformed = refl
-yes_same Tested.Overflow = refl
+yes_same : (t : Result Bool TermError) → is_yes t ≡ Members.is_yes t
+yes_same (Ok false) = refl
+yes_same (Ok true) = refl
+yes_same (Err e) = refl
 
 module _ (ws : List ℕ) (start end : ℕ) where
   static_admits : (n : ℤ) → in_static_set ws start end n ≡ admits start (terms_of ws start end) n

@@ -20,10 +20,8 @@ fn numbered(low: usize, high: usize) -> Set
     ensures { Is result.words (Numbered low high Any) }
 {
     let mut out = lookahead::empty();
-    let mut n = low;
-    while n < high {
+    for n in low..high {
         out = lookahead::insert(out, n);
-        n += 1;
     }
     out
 }
@@ -60,10 +58,8 @@ fn leading(words: &[u32], start: usize, end: usize, width: u32, signed: bool) ->
     let strings = term_prefixes::window_count(width);
     let half = term_prefixes::first_bit(width, signed);
     let mut out = [0u64; 8];
-    let mut i = 0;
-    while i < 8 {
+    for i in 0..8 {
         out[i] = word_of(&marks, strings, half, 64 * i as u64);
-        i += 1;
     }
     Set { words: out }
 }

@@ -3,7 +3,6 @@ ghost use Rattle.std.specs.Prelude.{◌≡◌, ◌<◌, length};
 ghost use Rattle.table_first_follow.specs.Rounds.{Between, FirstStep, FirstClosed, From, first_low as firstLow, first_of as first_of};
 ghost use Rattle.table_first_follow.specs.Sets.{FirstSets, sets_held, family_words};
 
-use crate::parts::either;
 use crate::{SETS_HELD, fields, order, rules};
 
 // What the rule of construct i makes of the sets is added to its own; whether a word grew.
@@ -21,10 +20,8 @@ fn round(table: &[u32], family: &mut [u64]) -> bool
     ensures { FirstStep table.now (From (FirstClosed table.now) 0) family.old family.new result }
 {
     let mut grew = false;
-    let mut i = SETS_HELD;
-    while 0 < i {
-        i -= 1;
-        grew = either(grew, apply(table, family, i));
+    for i in (0..SETS_HELD).rev() {
+        grew |= apply(table, family, i);
     }
     grew
 }
@@ -34,10 +31,8 @@ fn seeds(table: &[u32], family: &mut [u64])
     requires { length family.old ≡ family_words }
     ensures { Between (firstLow table.now) (first_of table.now) family.new }
 {
-    let mut i = 0;
-    while i < SETS_HELD {
+    for i in 0..SETS_HELD {
         lookahead_slices::family::store(family, i, fields::seed(table, i));
-        i += 1;
     }
 }
 
@@ -56,10 +51,8 @@ fn pass(table: &[u32], order: &[usize], family: &mut [u64])
     requires { Between (firstLow table.now) (first_of table.now) family.old }
     ensures { Between (firstLow table.now) (first_of table.now) family.new }
 {
-    let mut k = 0;
-    while k < order.len() {
+    for k in 0..order.len() {
         apply_any(table, family, order[k]);
-        k += 1;
     }
 }
 

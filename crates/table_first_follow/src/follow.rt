@@ -7,7 +7,6 @@ ghost use Rattle.table_first_follow.specs.Rounds.{Between, strings, within, firs
 ghost use Rattle.table_first_follow.specs.Follows.{Given, Before, Handed, Started, StartSets};
 ghost use Rattle.table_first_follow.specs.Sets.{FirstSets, FollowSets, sets_held, family_words};
 
-use crate::parts::either;
 use crate::{SETS_HELD, parts, rules};
 use basis::MAX_CONSTRUCTS;
 use lookahead::Set;
@@ -49,13 +48,12 @@ fn hand(
     ensures { FollowStep table.now (λ words. Handed joined (first_of table.now) (Has set.words) (within words) (siblings table.now start end)) family.old family.new result }
 {
     let mut places = [0usize; MAX_CONSTRUCTS];
-    let mut k = parts::places(table, start, end, &mut places);
     let mut tail = set;
     let mut grew = false;
-    while 0 < k {
-        k -= 1;
+    let count = parts::places(table, start, end, &mut places);
+    for k in (0..count).rev() {
         let m = places[k];
-        grew = either(grew, give(family, m, tail));
+        grew |= give(family, m, tail);
         tail = before(first, m, tail, joined);
     }
     grew
@@ -101,10 +99,8 @@ fn push_all(table: &[u32], first: &[u64], family: &mut [u64]) -> bool
     ensures { FollowStep table.now (From (FollowClosed table.now) 0) family.old family.new result }
 {
     let mut grew = false;
-    let mut i = SETS_HELD;
-    while 0 < i {
-        i -= 1;
-        grew = either(grew, push(table, first, family, OPENING - i));
+    for i in (0..SETS_HELD).rev() {
+        grew |= push(table, first, family, OPENING - i);
     }
     grew
 }
@@ -123,10 +119,8 @@ fn starts(family: &mut [u64])
     requires { length family.old ≡ family_words }
     ensures { StartSets family.new }
 {
-    let mut i = 0;
-    while i < SETS_HELD {
+    for i in 0..SETS_HELD {
         lookahead_slices::family::store(family, i, start(i));
-        i += 1;
     }
 }
 
@@ -145,9 +139,7 @@ fn pass(table: &[u32], order: &[usize], first: &[u64], family: &mut [u64])
     requires { (length first.now ≡ family_words) × FirstSets table.now first.now × Between (followLow table.now) (followOf table.now) family.old }
     ensures { Between (followLow table.now) (followOf table.now) family.new }
 {
-    let mut k = order.len();
-    while 0 < k {
-        k -= 1;
+    for k in (0..order.len()).rev() {
         push_any(table, first, family, order[k]);
     }
 }

@@ -59,9 +59,7 @@ fn place(table: &[u32], order: &mut [usize], row: u64, old: Placed, r: usize) ->
 // Every rule that is ready, from the last to the first.
 fn place_ready(table: &[u32], order: &mut [usize], rows: &[u64; MAX_RULES], old: Placed) -> Placed {
     let mut placed = old;
-    let mut r = at_most(MAX_RULES, word(table, 1));
-    while 0 < r {
-        r -= 1;
+    for r in (0..at_most(MAX_RULES, word(table, 1))).rev() {
         placed = place(table, order, rows[r], placed, r);
     }
     placed

@@ -1,5 +1,5 @@
 // The parts of a construct: its first is the next number, and each is as far after the one before as that one is large.
-ghost use Rattle.std.specs.Prelude.{◌≡◌, ◌||◌, ◌≤◌, ◌<◌, ltb, length, take};
+ghost use Rattle.std.specs.Prelude.{◌≡◌, ◌≤◌, ◌<◌, ltb, length, take};
 ghost use Rattle.table_first_follow.specs.Sets.{family_words};
 ghost use Rattle.basis.specs.Limits.{max_constructs};
 ghost use Rattle.lookahead.specs.Sets.{Has, Is};
@@ -86,15 +86,14 @@ pub fn no_default(table: &[u32], start: usize, end: usize) -> bool
 {
     let mut at = start;
     while at < end {
-        if conditioned(table, at) {
-            let size = size_at(table, at);
-            if size == 0 {
-                return true;
-            }
-            at += size;
-        } else {
+        if !conditioned(table, at) {
             return false;
         }
+        let size = size_at(table, at);
+        if size == 0 {
+            return true;
+        }
+        at += size;
     }
     true
 }
@@ -116,10 +115,4 @@ pub fn places(table: &[u32], start: usize, end: usize, out: &mut [usize]) -> usi
         at += size;
     }
     n
-}
-
-pub fn either(a: bool, b: bool) -> bool
-    ensures { result ≡ (a || b) }
-{
-    if a { true } else { b }
 }

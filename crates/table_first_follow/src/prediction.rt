@@ -9,11 +9,9 @@ fn join_all(first: &[u64], follow: &[u64], family: &mut [u64])
     requires { (length first.now ≡ family_words) × (length follow.now ≡ family_words) × (length family.old ≡ family_words) }
     ensures { JoinedSets first.now follow.now family.new }
 {
-    let mut i = 0;
-    while i < SETS_HELD {
+    for i in 0..SETS_HELD {
         let set = lookahead::join(parts::set_of(first, i), parts::set_of(follow, i));
         lookahead_slices::family::store(family, i, set);
-        i += 1;
     }
 }
 

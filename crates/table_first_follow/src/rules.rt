@@ -12,7 +12,8 @@ use crate::parts;
 use basis::MAX_CONSTRUCTS;
 use lookahead::Set;
 use table_layout::{Below, LITERALS_AT, Passes, RULES_AT, TERMS_AT, attributes_of, construct_at};
-use term_evaluation::Counted;
+use term_evaluation::Allowed;
+use term_words::TermError;
 
 // The words of the terms.
 pub fn term_words(table: &[u32]) -> &[u32]
@@ -29,24 +30,24 @@ pub fn term_words(table: &[u32]) -> &[u32]
 }
 
 // The counts that the terms from `start` up to `end` allow; with a variable, all.
-fn counted(table: &[u32], start: usize, end: usize) -> Counted
+fn counted(table: &[u32], start: usize, end: usize) -> Result<Allowed, TermError>
     ensures { allowed result ≡ passesStatic table.now (Passes.Counted start end) }
 {
     let words = term_words(table);
     if term_evaluation::variables::has_variable(words, start, end) {
-        return Counted::From { low: 0 };
+        return Ok(Allowed::From { low: 0 });
     }
     let none = [0i64; 1];
     term_evaluation::counts::count(words, start, end, &none[0..0])
 }
 
-fn static_counts(table: &[u32], passes: Passes) -> Counted
+fn static_counts(table: &[u32], passes: Passes) -> Result<Allowed, TermError>
     ensures { allowed result ≡ passesStatic table.now passes }
 {
     match passes {
-        Passes::Optional => Counted::Within { low: 0, more: 1 },
-        Passes::Any => Counted::From { low: 0 },
-        Passes::Some => Counted::From { low: 1 },
+        Passes::Optional => Ok(Allowed::Within { low: 0, more: 1 }),
+        Passes::Any => Ok(Allowed::From { low: 0 }),
+        Passes::Some => Ok(Allowed::From { low: 1 }),
         Passes::Counted { start, end } => counted(table, start, end),
     }
 }
@@ -58,19 +59,20 @@ fn capped(k: u64) -> usize
     if k < 8 { k as usize } else { 8 }
 }
 
-fn repeated(body: Set, counts: Counted) -> Set
+fn repeated(body: Set, counts: Result<Allowed, TermError>) -> Set
     ensures { Is result.words (Repeated (Has body.words) (allowed counts)) }
 {
-    match counts {
-        Counted::None => lookahead::empty(),
-        Counted::From { low } => lookahead::passes::at_least(body, low as usize),
-        Counted::Within { low, more } => {
+    let Ok(allowed) = counts else {
+        return lookahead::empty();
+    };
+    match allowed {
+        Allowed::None => lookahead::empty(),
+        Allowed::From { low } => lookahead::passes::at_least(body, low as usize),
+        Allowed::Within { low, more } => {
             let least = capped(low);
             let most = capped((least + capped(more)) as u64);
             lookahead::passes::within(body, least, most)
         }
-        Counted::Malformed => lookahead::empty(),
-        Counted::Overflow => lookahead::empty(),
     }
 }
 

@@ -15,21 +15,21 @@ use Rattle.term_words.specs.declared.Mode.{Mode}
 use Rattle.term_words.specs.declared.Numbers.{Numbers}
 use Rattle.term_words.specs.declared.Operation.{Operation}
 use Rattle.term_words.specs.declared.Term.{Term}
-use Rattle.term_words.specs.declared.Trial.{Trial}
 use Rattle.term_evaluation.specs.Meaning.{next, run}
 use Rattle.term_evaluation.specs.Counts.{form_of, calculations_end, of_trial, tallied}
 use Rattle.term_evaluation.specs.declared.Form.{Form}
 use Rattle.term_evaluation.specs.declared.Ended.{Ended}
 use Rattle.term_evaluation.proofs.Runs.{goes}
 use Rattle.term_sizes.specs.Sizes.{judged, of_counted, sizes, count_sizes}
-use Rattle.term_sizes.specs.declared.Sized.{Sized}
 use Rattle.table_structure.proofs.Facts.{lt_of_ne}
 use Rattle.term_words.proofs.KnownTerms.{KnownOperation, KnownTerm}
+use Rattle.std.specs.Prelude.{Result, Ok, Err}
+use Rattle.term_words.specs.declared.TermError.{TermError}
 
-abbrev Runs : Trial → Type 0
-Runs (Trial.Running s t) = Unit {0}
-Runs Trial.Malformed = ⊥
-Runs Trial.Overflow = ⊥
+abbrev Runs : Result (Numbers × ℕ) TermError → Type 0
+Runs (Ok (s, t)) = Unit {0}
+Runs (Err TermError.Malformed) = ⊥
+Runs (Err TermError.Overflow) = ⊥
 
 -- ---- a step
 
@@ -77,45 +77,45 @@ module _ (k : Kind) (m : Mode) (env : List ℤ) (v : ℤ) (ws : List ℕ) (end :
   Ran i s t = Runs (run k m env v i (terms ws i end) s t).trial
 
   -- the first of the rest, and those after it
-  split : (i j : ℕ) (s : Numbers) (t : ℕ) (r : Trial) → step_of k m env v (term_at ws i) s t ≡ r
+  split : (i j : ℕ) (s : Numbers) (t : ℕ) (r : Result (Numbers × ℕ) TermError) → step_of k m env v (term_at ws i) s t ≡ r
       → Runs (next (λ (s' : Numbers) (t' : ℕ). run k m env v (i + 1) (terms ws (i + 1) end) s' t') i r).trial
       → ((s' : Numbers) (t' : ℕ) → Ran (i + 1) s' t' → i + 1 ≤ j → KnownTerm (term_at ws j)) → i ≤ j → KnownTerm (term_at ws j)
-  split i j s t (Trial.Running s' t') e h on low =
+  split i j s t (Ok (s', t')) e h on low =
       elim (ℕ_discrete i j) [
         | yes q ↦ subst (λ (n : ℕ). KnownTerm (term_at ws n)) q (step_known k m env v (term_at ws i) s t (rw e tt))
         | no q ↦ on s' t' h (lt_of_ne i j low q)
       ]
-  split i j s t Trial.Malformed e h on low = absurd h
-  split i j s t Trial.Overflow e h on low = absurd h
+  split i j s t (Err TermError.Malformed) e h on low = absurd h
+  split i j s t (Err TermError.Overflow) e h on low = absurd h
 
   run_known : (n i j : ℕ) (s : Numbers) (t : ℕ) → end ≤ i + n → Ran i s t → i ≤ j → j < end → KnownTerm (term_at ws j)
   run_known zero i j s t e h low high = absurd (omega arith)
   run_known (suc n) i j s t e h low high =
-      let r : Trial = step_of k m env v (term_at ws i) s t in
+      let r : Result (Numbers × ℕ) TermError = step_of k m env v (term_at ws i) s t in
       split i j s t r refl (subst (λ (x : Ended). Runs x.trial) (goes k m env v ws i end s t (omega arith) r refl) h)
       (λ s' t' h' low'. run_known n (i + 1) j s' t' (omega arith) h' low' high) low
 
 -- ---- lists that pass
 
-judged_runs : (k : Kind) (r : Trial) (at : ℕ) → judged k r at ≡ Sized.Passes → Runs r
-judged_runs k (Trial.Running s t) at e = tt
-judged_runs Kind.Calculation Trial.Malformed at e = let z : ◌≡◌ {A = ℕ} 0 1 = cc in absurd (omega arith)
-judged_runs Kind.Set Trial.Malformed at e = let z : ◌≡◌ {A = ℕ} 0 1 = cc in absurd (omega arith)
-judged_runs Kind.Condition Trial.Malformed at e = let z : ◌≡◌ {A = ℕ} 0 1 = cc in absurd (omega arith)
-judged_runs Kind.Calculation Trial.Overflow at e = let z : ◌≡◌ {A = ℕ} 0 1 = cc in absurd (omega arith)
-judged_runs Kind.Set Trial.Overflow at e = let z : ◌≡◌ {A = ℕ} 0 1 = cc in absurd (omega arith)
-judged_runs Kind.Condition Trial.Overflow at e = let z : ◌≡◌ {A = ℕ} 0 1 = cc in absurd (omega arith)
+judged_runs : (k : Kind) (r : Result (Numbers × ℕ) TermError) (at : ℕ) → judged k r at ≡ Ok tt → Runs r
+judged_runs k (Ok (s, t)) at e = tt
+judged_runs Kind.Calculation (Err TermError.Malformed) at e = let z : ◌≡◌ {A = ℕ} 0 1 = cc in absurd (omega arith)
+judged_runs Kind.Set (Err TermError.Malformed) at e = let z : ◌≡◌ {A = ℕ} 0 1 = cc in absurd (omega arith)
+judged_runs Kind.Condition (Err TermError.Malformed) at e = let z : ◌≡◌ {A = ℕ} 0 1 = cc in absurd (omega arith)
+judged_runs Kind.Calculation (Err TermError.Overflow) at e = let z : ◌≡◌ {A = ℕ} 0 1 = cc in absurd (omega arith)
+judged_runs Kind.Set (Err TermError.Overflow) at e = let z : ◌≡◌ {A = ℕ} 0 1 = cc in absurd (omega arith)
+judged_runs Kind.Condition (Err TermError.Overflow) at e = let z : ◌≡◌ {A = ℕ} 0 1 = cc in absurd (omega arith)
 
-pub list_known : (k : Kind) (widest : List ℤ) (ws : List ℕ) (start end : ℕ) → sizes k widest start (terms ws start end) ≡ Sized.Passes → (j : ℕ) → start ≤ j → j < end → KnownTerm (term_at ws j)
+pub list_known : (k : Kind) (widest : List ℤ) (ws : List ℕ) (start end : ℕ) → sizes k widest start (terms ws start end) ≡ Ok tt → (j : ℕ) → start ≤ j → j < end → KnownTerm (term_at ws j)
 unfolding sizes
 list_known k widest ws start end e j low high =
     let r = run k Mode.Sizes widest (pos 0) start (terms ws start end) Numbers.Zero 1 in
     run_known k Mode.Sizes widest (pos 0) ws end (end - start) start j Numbers.Zero 1 (omega arith) (judged_runs k r.trial r.at e) low high
 
-counted_runs : (f : Form) (r : Trial) (at : ℕ) → of_counted (of_trial f r) at ≡ Sized.Passes → Runs r
-counted_runs f (Trial.Running s t) at e = tt
-counted_runs f Trial.Malformed at e = let z : ◌≡◌ {A = ℕ} 0 1 = cc in absurd (omega arith)
-counted_runs f Trial.Overflow at e = let z : ◌≡◌ {A = ℕ} 0 1 = cc in absurd (omega arith)
+counted_runs : (f : Form) (r : Result (Numbers × ℕ) TermError) (at : ℕ) → of_counted (of_trial f r) at ≡ Ok tt → Runs r
+counted_runs f (Ok (s, t)) at e = tt
+counted_runs f (Err TermError.Malformed) at e = let z : ◌≡◌ {A = ℕ} 0 1 = cc in absurd (omega arith)
+counted_runs f (Err TermError.Overflow) at e = let z : ◌≡◌ {A = ℕ} 0 1 = cc in absurd (omega arith)
 
 -- the calculations of counts go up to their end, or up to a last term that is known
 abbrev LastKnown : Form → ℕ → ℕ → Term → Type 0
@@ -134,7 +134,7 @@ last_known Term.And last end = inl refl
 last_known (Term.Compare k) last end = inl refl
 last_known Term.Bad last end = inl refl
 
-pub counts_known : (widest : List ℤ) (ws : List ℕ) (start end : ℕ) → start < end → count_sizes widest ws start end ≡ Sized.Passes → (j : ℕ) → start ≤ j → j < end → KnownTerm (term_at ws j)
+pub counts_known : (widest : List ℤ) (ws : List ℕ) (start end : ℕ) → start < end → count_sizes widest ws start end ≡ Ok tt → (j : ℕ) → start ≤ j → j < end → KnownTerm (term_at ws j)
 unfolding count_sizes tallied
 counts_known widest ws start end some e j low high =
     let f : Form = form_of (term_at ws (end - 1)) in

@@ -14,7 +14,6 @@ use Rattle.term_words.specs.declared.Kind.{Kind}
 use Rattle.term_evaluation.specs.Meaning.{membership}
 use Rattle.term_evaluation.specs.Variables.{has_variable}
 use Rattle.term_sizes.specs.Sizes.{sizes, count_sizes}
-use Rattle.term_sizes.specs.declared.Sized.{Sized}
 use Rattle.theory.specs.Grammar.{Grammar}
 use Rattle.theory.specs.Lookahead.{Follow, Predicted, Conflict, EmptyBody}
 use Rattle.theory.specs.Weight.{Weighs}
@@ -33,6 +32,7 @@ use Rattle.table_hypotheses.specs.OneTable.{Alike, Ended}
 use Rattle.table_hypotheses.proofs.HeldLocal.{construct_words, rule_words, variable_words, constructs_same, terms_same, held_local}
 use Rattle.table_hypotheses.proofs.LaidLocal.{header_same}
 use Rattle.table_hypotheses.proofs.RulesLocal.{rule_end_same, laid_local}
+use Rattle.std.specs.Prelude.{Ok}
 
 pub alike_back : {ws ws' : List ℕ} → Alike ws ws' → Alike ws' ws
 alike_back a = record { long = a.long'; long' = a.long; same = λ k h e. sym (a.same k h e) }
@@ -79,7 +79,7 @@ module _ {ws ws' : List ℕ} (a : Alike ws ws') where
   condition_size_same i h =
       let from = construct_words a i 6 h (omega arith) in
       let upto = construct_words a i 7 h (omega arith) in
-      λ t. cond (ltb (from t) (upto t)) (sizes Kind.Condition (widest_local t) (from t) (terms (terms_same a t) (from t) (upto t))) Sized.Passes
+      λ t. cond (ltb (from t) (upto t)) (sizes Kind.Condition (widest_local t) (from t) (terms (terms_same a t) (from t) (upto t))) (Ok tt)
 
   list_size_same : (o : OwnList) → list_size ws o ≡ list_size ws' o
   list_size_same OwnList.None = refl

@@ -12,7 +12,6 @@ use Rattle.basis.specs.Limits.{max_variables, max_entries}
 use Rattle.basis.proofs.Booleans.{either_first, either_second}
 use Rattle.term_words.specs.declared.Kind.{Kind}
 use Rattle.term_sizes.specs.Sizes.{sizes}
-use Rattle.term_sizes.specs.declared.Sized.{Sized}
 use Rattle.theory.specs.Weight.{Weighs, Outweighs, HasRoom}
 use Rattle.table_layout.specs.Places.{construct_word, variable_word, construct_count, weight_of}
 use Rattle.table_layout.specs.Constructs.{construct_at}
@@ -30,6 +29,8 @@ use Rattle.table_sizes.proofs.WidestLaws.{widest_length}
 use Rattle.run_refinement.proofs.Reliable.{Reliable}
 use Rattle.table_judge.specs.Sound.{Sound}
 use Rattle.table_hypotheses.proofs.Hypothesis.{laid_of_sound, hypotheses_of}
+use Rattle.std.specs.Prelude.{Err}
+use Rattle.term_sizes.specs.declared.SizeError.{SizeError}
 
 -- ---- refusal 8
 
@@ -41,12 +42,12 @@ widest_each (suc n) ws x (suc k) y h e = widest_each n ws (x + 1) k y (omega ari
 
 module _ (ws : List ℕ) (within : (i : ℕ) → i < construct_count ws → oversized ws i ≡ true → ⊥) where
   condition_within : (i : ℕ) → i < construct_count ws → construct_word ws i 6 < construct_word ws i 7
-      → (at : ℕ) → sizes Kind.Condition (widest ws) (construct_word ws i 6) (terms_of ws (construct_word ws i 6) (construct_word ws i 7)) ≡ Sized.Exceeds at → ⊥
+      → (at : ℕ) → sizes Kind.Condition (widest ws) (construct_word ws i 6) (terms_of ws (construct_word ws i 6) (construct_word ws i 7)) ≡ Err (SizeError.Exceeds at) → ⊥
   condition_within i h l at e =
-      let f : condition_size ws i ≡ Sized.Exceeds at = rw (lt-ltb (construct_word ws i 6) (construct_word ws i 7) l) e in
+      let f : condition_size ws i ≡ (Err (SizeError.Exceeds at)) = rw (lt-ltb (construct_word ws i 6) (construct_word ws i 7) l) e in
       within i h (either_first (exceeds (condition_size ws i)) (exceeds (own_size ws (construct_at ws i))) (ap exceeds f))
 
-  own_within : (i : ℕ) → i < construct_count ws → (c : Construct) → construct_at ws i ≡ c → (at : ℕ) → own_size ws c ≡ Sized.Exceeds at → ⊥
+  own_within : (i : ℕ) → i < construct_count ws → (c : Construct) → construct_at ws i ≡ c → (at : ℕ) → own_size ws c ≡ Err (SizeError.Exceeds at) → ⊥
   own_within i h c e at f =
       within i h (either_second (exceeds (condition_size ws i)) (exceeds (own_size ws (construct_at ws i))) (ap (λ (d : Construct). exceeds (own_size ws d)) e ∙ ap exceeds f))
 

@@ -17,7 +17,8 @@ use Rattle.table_weights.proofs.Theorems.{weights_exist}
 use Rattle.table_conflicts.specs.Conflicts.{Conflicting}
 use Rattle.table_judge.specs.Judged.{Least, Passed7, Passed8, Judged}
 use Rattle.table_judge.specs.Sound.{SetsStand, Sound}
-use Rattle.table_judge.specs.declared.Judgement.{Judgement}
+use Rattle.table_judge.specs.declared.Fault.{Fault}
+use Rattle.std.specs.Prelude.{Ok, Err}
 
 -- the one function that gives the weights
 module _ (ws : List ℕ) (p : Passed7 ws) where
@@ -35,13 +36,13 @@ module _ (ws : List ℕ) where
   pub unformed : (r : Bool) → r ≡ false → Decides r (Passed8 ws) → Decides false (Sound ws)
   unformed r e d = unsound (λ s. false≢true (sym e ∙ d.1 s.passed.passed.passed))
 
-  pub empty_body : (i : ℕ) → Judged ws (Judgement.EmptyBody i) → Decides false (Sound ws)
+  empty_body : (i : ℕ) → Judged ws (Err (Fault.EmptyBody i)) → Decides false (Sound ws)
   empty_body i j = unsound (λ s. s.passed.passed.no_empty_body i j.1.holds)
 
-  pub conflict : (i : ℕ) → Least ws (Conflicting ws) i → Decides false (Sound ws)
+  conflict : (i : ℕ) → Least ws (Conflicting ws) i → Decides false (Sound ws)
   conflict i l = unsound (λ s. s.passed.no_conflict i l.holds)
 
-  pub overweight : Judged ws Judgement.Overweight → Decides false (Sound ws)
+  overweight : Judged ws (Err Fault.Overweight) → Decides false (Sound ws)
   overweight j =
       unsound
       (λ s.
@@ -50,13 +51,20 @@ module _ (ws : List ℕ) where
       let b : weight_at ws opening ≡ weight_of ws = s.weight (weight_of_all ws p) (gives ws p) in
       omega (arith, (facts ws p.laid_out).counts.weight))
 
-  pub unreached : (rule : ℕ) → Judged ws (Judgement.Unreached rule) → Decides false (Sound ws)
+  unreached : (rule : ℕ) → Judged ws (Err (Fault.Unreached rule)) → Decides false (Sound ws)
   unreached rule j = unsound (λ s. s.reached rule j.2.0)
 
-  pub no_value : (i : ℕ) → Judged ws (Judgement.NoValue i) → Decides false (Sound ws)
+  no_value : (i : ℕ) → Judged ws (Err (Fault.NoValue i)) → Decides false (Sound ws)
   no_value i j = unsound (λ s. s.valued i j.3.holds)
 
-module _ (ws : List ℕ) (weight : ℕ) (j : Judged ws (Judgement.Passes weight)) where
+  pub refused : (fault : Fault) → Judged ws (Err fault) → Decides false (Sound ws)
+  refused (Fault.EmptyBody i) j = empty_body i j
+  refused (Fault.Conflict i clash) j = conflict i j.1
+  refused Fault.Overweight j = overweight j
+  refused (Fault.Unreached rule) j = unreached rule j
+  refused (Fault.NoValue i) j = no_value i j
+
+module _ (ws : List ℕ) (weight : ℕ) (j : Judged ws (Ok weight)) where
   pub other_weight : (weight ≡ weight_of ws → ⊥) → Decides false (Sound ws)
   other_weight n =
       let p = j.0.passed.passed.passed in

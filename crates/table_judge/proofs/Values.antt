@@ -22,8 +22,6 @@ use Rattle.table_layout.specs.Constructs.{construct_at}
 use Rattle.table_layout.specs.Attributes.{attributes_of}
 use Rattle.table_layout.specs.Held.{HeldNode, held, node_of, uint_node, terms_of, in_set, in_static_set}
 use Rattle.table_layout.specs.declared.Construct.{Construct}
-use Rattle.table_layout.specs.declared.Passes.{Passes}
-use Rattle.table_layout.specs.declared.OwnList.{OwnList}
 use Rattle.table_layout.proofs.Views.{Operands, operands}
 use Rattle.table_first_follow.specs.Rounds.{strings}
 use Rattle.table_first_follow.specs.Sets.{FirstSets}

@@ -1,6 +1,6 @@
 -- The judgement over a table's words: "1 to 11 are tried in order", then 12 and 13 (Req 06). 5 and 6, and 8's limits of widths, are what the layout asks (`laid`).
 -- Assumes nothing.
-use Rattle.std.specs.Prelude.{ℕ, ◌≤◌, ◌<◌, ◌≡◌, Bool, true, false, List, [], length}
+use Rattle.std.specs.Prelude.{ℕ, Result, Ok, Err, ◌≤◌, ◌<◌, ◌≡◌, Bool, true, false, List, [], length}
 use Rattle.basis.specs.Limits.{max_weight}
 use Rattle.basis.specs.Bits.{Bits}
 use Rattle.basis.specs.Patterns.{pattern_value}
@@ -15,16 +15,16 @@ use Rattle.table_wellformed.specs.Laid.{laid}
 use Rattle.table_reach.specs.Reaching.{Acyclic, AllReached, FirstUnreached}
 use Rattle.table_sizes.specs.Measures.{oversized}
 use Rattle.table_conflicts.specs.Conflicts.{Conflicting, Answered}
-use Rattle.table_judge.specs.declared.Judgement.{Judgement}
+use Rattle.table_judge.specs.declared.Fault.{Fault}
 
 -- this paper's number; 0 is none
-abbrev pub number_of : Judgement → ℕ
-number_of (Judgement.EmptyBody construct) = 9
-number_of (Judgement.Conflict construct clash) = 10
-number_of Judgement.Overweight = 11
-number_of (Judgement.Unreached rule) = 12
-number_of (Judgement.NoValue construct) = 13
-number_of (Judgement.Passes weight) = 0
+abbrev pub number_of : Result ℕ Fault → ℕ
+number_of (Err (Fault.EmptyBody construct)) = 9
+number_of (Err (Fault.Conflict construct clash)) = 10
+number_of (Err Fault.Overweight) = 11
+number_of (Err (Fault.Unreached rule)) = 12
+number_of (Err (Fault.NoValue construct)) = 13
+number_of (Ok weight) = 0
 
 -- the least construct with the property
 pub record Least (ws : List ℕ) (P : ℕ → Type 0) (i : ℕ) : Type 0 where
@@ -81,15 +81,15 @@ module _ (ws : List ℕ) where
     pub none_left : (s : Bits) → length s ≡ width → in_set ws start end [] (pattern_value signed s) ≡ false
 
   -- the first of 9 to 13 that is given, or the weight
-  abbrev pub Judged : Judgement → Type 0
+  abbrev pub Judged : Result ℕ Fault → Type 0
   -- 9: "repeated body has the empty first window"
-  Judged (Judgement.EmptyBody construct) = Passed8 × Least ws (EmptyBody (held ws)) construct
+  Judged (Err (Fault.EmptyBody construct)) = Passed8 × Least ws (EmptyBody (held ws)) construct
   -- 10: "clash; the answer carries the least common window"
-  Judged (Judgement.Conflict construct clash) = Passed9 × Least ws (Conflicting ws) construct × Answered ws construct clash
+  Judged (Err (Fault.Conflict construct clash)) = Passed9 × Least ws (Conflicting ws) construct × Answered ws construct clash
   -- 11: "weight over 65,535"
-  Judged Judgement.Overweight = Passed10 × Weighing ws (λ n. max_weight < n)
+  Judged (Err Fault.Overweight) = Passed10 × Weighing ws (λ n. max_weight < n)
   -- 12: "a rule not reached from the start rule, at the first such name"
-  Judged (Judgement.Unreached rule) = Passed10 × Light × FirstUnreached ws rule
+  Judged (Err (Fault.Unreached rule)) = Passed10 × Light × FirstUnreached ws rule
   -- 13: "a uint whose set has no variable and no value left, at the uint"
-  Judged (Judgement.NoValue construct) = Passed10 × Light × AllReached ws × Least ws Valueless construct
-  Judged (Judgement.Passes weight) = Passed10 × Weighing ws (λ n. n ≡ weight) × (weight ≤ max_weight) × AllReached ws × None Valueless
+  Judged (Err (Fault.NoValue construct)) = Passed10 × Light × AllReached ws × Least ws Valueless construct
+  Judged (Ok weight) = Passed10 × Weighing ws (λ n. n ≡ weight) × (weight ≤ max_weight) × AllReached ws × None Valueless

@@ -2,7 +2,6 @@
 -- Assumes nothing.
 use Rattle.std.specs.Prelude.{ℕ, ◌≤◌, ◌≡◌, List}
 use Rattle.basis.specs.Limits.{max_weight}
-use Rattle.table_reach.specs.Reaching.{AllReached}
 use Rattle.table_judge.specs.Judged.{Passed10, Weighing}
 
 -- the weight is at most 65,535 (not 11)
@@ -10,8 +9,3 @@ pub record Passed11 (ws : List ℕ) (weight : ℕ) : Type 0 where
   pub passed : Passed10 ws
   pub weighs : Weighing ws (λ n. n ≡ weight)
   pub limited : weight ≤ max_weight
-
--- and every rule is reached (not 12)
-pub record Passed12 (ws : List ℕ) (weight : ℕ) : Type 0 where
-  pub passed : Passed11 ws weight
-  pub reached : AllReached ws

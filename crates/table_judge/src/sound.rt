@@ -6,7 +6,7 @@ ghost use Rattle.table_layout.specs.Places.{construct_count};
 ghost use Rattle.table_first_follow.specs.Sets.{FollowSets, PredictionSets, family_words};
 ghost use Rattle.table_judge.specs.Sound.{Sound, SoundTable, SetsStand};
 
-use crate::{Judgement, formed, judge};
+use crate::{formed, judge};
 use basis::TABLE_WORDS;
 use lookahead_slices::{family, narrow};
 use table_first_follow::FAMILY_WORDS;
@@ -29,11 +29,8 @@ fn all_stand(table: &[u32], follow: &[u64], prediction: &[u64]) -> bool
     ensures { Decides result ((i : ℕ) → i < construct_count table.now → SetsStand table.now i) }
 {
     let count = word(table, 2);
-    let mut i = 0;
-    while i < count {
-        if stands(table, follow, prediction, i) {
-            i += 1;
-        } else {
+    for i in 0..count {
+        if !stands(table, follow, prediction, i) {
             return false;
         }
     }
@@ -51,20 +48,8 @@ fn sound_words(table: &[u32]) -> bool
     let mut follow = [0u64; FAMILY_WORDS];
     let mut prediction = [0u64; FAMILY_WORDS];
     match judge(table, &mut first, &mut follow, &mut prediction) {
-        Judgement::EmptyBody { construct: _ } => false,
-        Judgement::Conflict {
-            construct: _,
-            clash: _,
-        } => false,
-        Judgement::Overweight => false,
-        Judgement::Unreached { rule: _ } => false,
-        Judgement::NoValue { construct: _ } => false,
-        Judgement::Passes { weight } => {
-            if weight == word(table, 5) {
-                return all_stand(table, &follow, &prediction);
-            }
-            false
-        }
+        Ok(weight) => weight == word(table, 5) && all_stand(table, &follow, &prediction),
+        Err(_) => false,
     }
 }
 

@@ -1,6 +1,6 @@
 -- The grammar that a list of words holds: any words at all. A construct that is missing is one that nothing derives.
 -- Assumes nothing.
-use Rattle.std.specs.Prelude.{ℕ, zero, suc, ◌+◌, ◌*◌, ◌-◌, ◌/◌, ◌%◌, ◌^◌, Bool, true, false, cond, ◌&&◌, List, [], ◌∷◌, leb, ltb, eqb, ℤ, pos, length, take, drop, set, replicate}
+use Rattle.std.specs.Prelude.{ℕ, zero, suc, ◌+◌, ◌*◌, ◌-◌, ◌/◌, ◌%◌, ◌^◌, Bool, true, false, cond, ◌&&◌, List, [], ◌∷◌, leb, ltb, eqb, ℤ, pos, length, take, drop, set, replicate, Result, Ok, Err}
 use Rattle.std.proofs.Math.Option.{Option, none, some}
 use Rattle.basis.specs.Limits.{max_constructs, max_variables, max_terms}
 use Rattle.basis.specs.Bits.{value, frame_bits, same}
@@ -10,16 +10,16 @@ use Rattle.term_words.specs.Words.{term_at, terms}
 use Rattle.term_evaluation.specs.Meaning.{membership, condition}
 use Rattle.term_evaluation.specs.Counts.{counts, form_of}
 use Rattle.term_evaluation.specs.Variables.{has_variable}
-use Rattle.term_evaluation.specs.declared.Counted.{Counted}
 use Rattle.term_evaluation.specs.declared.Form.{Form}
 use Rattle.term_words.specs.declared.Term.{Term}
-use Rattle.term_evaluation.specs.declared.Tested.{Tested}
 use Rattle.theory.specs.Grammar.{Node, alternative, concatenation, repetition, switch, use_of, field, eod, Grammar}
 use Rattle.table_layout.specs.Places.{word, rule_word, construct_word, literals_at, terms_at}
 use Rattle.table_layout.specs.Constructs.{construct_at}
 use Rattle.table_layout.specs.Attributes.{attributes_of}
 use Rattle.table_layout.specs.declared.Construct.{Construct}
 use Rattle.table_layout.specs.declared.Passes.{Passes}
+use Rattle.term_words.specs.declared.TermError.{TermError}
+use Rattle.term_evaluation.specs.declared.Allowed.{Allowed}
 
 -- what a pending entry carries: nothing
 abbrev pub Context : Type 0
@@ -59,19 +59,17 @@ parts (suc most) ws j end =
 -- ---- counts, conditions and sets, worked out; where that fails nothing is allowed, true or contained
 
 -- the counts of an answer
-abbrev pub allowed : Counted → Counts
-allowed Counted.None = Counts.none
-allowed (Counted.From low) = from low
-allowed (Counted.Within low more) = within low more
-allowed Counted.Malformed = Counts.none
-allowed Counted.Overflow = Counts.none
+abbrev pub allowed : Result Allowed TermError → Counts
+allowed (Ok Allowed.None) = Counts.none
+allowed (Ok (Allowed.From low)) = from low
+allowed (Ok (Allowed.Within low more)) = within low more
+allowed (Err e) = Counts.none
 
 -- the test was worked out, and holds
-abbrev pub is_yes : Tested → Bool
-is_yes Tested.No = false
-is_yes Tested.Yes = true
-is_yes Tested.Malformed = false
-is_yes Tested.Overflow = false
+abbrev pub is_yes : Result Bool TermError → Bool
+is_yes (Ok false) = false
+is_yes (Ok true) = true
+is_yes (Err e) = false
 
 -- how many passes a repetition allows at these values
 abbrev pub passes_allowed : List ℕ → Passes → Values → Counts

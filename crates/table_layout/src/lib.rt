@@ -131,10 +131,7 @@ pub fn branches(i: usize, size: usize) -> bool
     requires { i < max_constructs }
     ensures { result ≡ branchesOf i size }
 {
-    if size < 2 {
-        return false;
-    }
-    if MAX_CONSTRUCTS < size {
+    if size < 2 || MAX_CONSTRUCTS < size {
         return false;
     }
     i + size <= MAX_CONSTRUCTS
@@ -144,57 +141,31 @@ pub fn branches(i: usize, size: usize) -> bool
 pub fn listed(start: usize, end: usize) -> bool
     ensures { result ≡ listed_of start end }
 {
-    if end < start {
-        return false;
-    }
-    end <= MAX_TERMS
+    start <= end && end <= MAX_TERMS
 }
 
 fn repetition(size: usize, how: usize, start: usize, end: usize) -> Construct
     ensures { result ≡ repetition_of size how start end }
 {
-    if how == 1 {
-        return Construct::Repetition {
-            size,
-            passes: Passes::Optional,
-        };
-    }
-    if how == 2 {
-        return Construct::Repetition {
-            size,
-            passes: Passes::Any,
-        };
-    }
-    if how == 3 {
-        return Construct::Repetition {
-            size,
-            passes: Passes::Some,
-        };
-    }
-    if how == 4 {
-        if listed(start, end) {
-            return Construct::Repetition {
-                size,
-                passes: Passes::Counted { start, end },
-            };
-        }
-    }
-    Construct::Missing
+    let passes = match how {
+        1 => Passes::Optional,
+        2 => Passes::Any,
+        3 => Passes::Some,
+        4 if listed(start, end) => Passes::Counted { start, end },
+        _ => return Construct::Missing,
+    };
+    Construct::Repetition { size, passes }
 }
 
 fn inner(kind: usize, size: usize, a: usize, b: usize, c: usize) -> Construct
     ensures { result ≡ inner_of kind size a b c }
 {
-    if kind == 1 {
-        return Construct::Alternative { size };
+    match kind {
+        1 => Construct::Alternative { size },
+        2 => Construct::Concatenation { size },
+        3 => repetition(size, a, b, c),
+        _ => Construct::Switch { size },
     }
-    if kind == 2 {
-        return Construct::Concatenation { size };
-    }
-    if kind == 3 {
-        return repetition(size, a, b, c);
-    }
-    Construct::Switch { size }
 }
 
 // How wide what binds a variable, or none, may be.
@@ -210,86 +181,59 @@ fn widest_for(binder: usize) -> usize
 fn uint(signed: bool, width: usize, start: usize, end: usize, binder: usize) -> Construct
     ensures { result ≡ uint_of signed width start end binder }
 {
-    if width < 1 {
-        return Construct::Missing;
-    }
-    let most = widest_for(binder);
-    if most < width {
-        return Construct::Missing;
-    }
-    if listed(start, end) {
-        if binder <= MAX_VARIABLES {
-            return Construct::Uint {
-                signed,
-                width,
-                start,
-                end,
-                binder,
-            };
+    if uint_fits(width, start, end, binder) {
+        Construct::Uint {
+            signed,
+            width,
+            start,
+            end,
+            binder,
         }
+    } else {
+        Construct::Missing
     }
-    Construct::Missing
 }
 
 fn literal(length: usize) -> Construct
     ensures { result ≡ literal_of length }
 {
-    if length < 1 {
-        return Construct::Missing;
+    if 1 <= length && length <= MAX_LITERAL_BYTES {
+        Construct::Literal { length }
+    } else {
+        Construct::Missing
     }
-    if MAX_LITERAL_BYTES < length {
-        return Construct::Missing;
-    }
-    Construct::Literal { length }
 }
 
 fn range(low: usize, high: usize) -> Construct
     ensures { result ≡ range_of low high }
 {
-    if 128 <= low {
-        return Construct::Missing;
+    if low < 128 && high < 128 {
+        Construct::Range { low, high }
+    } else {
+        Construct::Missing
     }
-    if 128 <= high {
-        return Construct::Missing;
-    }
-    Construct::Range { low, high }
 }
 
 fn leaf(kind: usize, a: usize, b: usize, c: usize, d: usize) -> Construct
     ensures { result ≡ leaf_of kind a b c d }
 {
-    if kind == 5 {
-        if a < MAX_RULES {
-            return Construct::Use { rule: a };
-        }
-        return Construct::Missing;
+    match kind {
+        5 if a < MAX_RULES => Construct::Use { rule: a },
+        6 => literal(a),
+        7 => range(a, b),
+        8 => uint(false, a, b, c, d),
+        9 => Construct::Eod,
+        12 => uint(true, a, b, c, d),
+        _ => Construct::Missing,
     }
-    if kind == 6 {
-        return literal(a);
-    }
-    if kind == 7 {
-        return range(a, b);
-    }
-    if kind == 8 {
-        return uint(false, a, b, c, d);
-    }
-    if kind == 9 {
-        return Construct::Eod;
-    }
-    if kind == 12 {
-        return uint(true, a, b, c, d);
-    }
-    Construct::Missing
 }
 
+#[tactic(auto, unfolding(crate::specs::Constructs::construct_of))]
 fn decoded(i: usize, kind: usize, size: usize, a: usize, b: usize, c: usize, d: usize) -> Construct
     requires { i < max_constructs }
     ensures { result ≡ construct_of i kind size a b c d }
 {
-    if kind < 1 {
-        return without_parts(kind, size, a, b, c, d);
-    }
-    if 4 < kind {
+    if kind < 1 || 4 < kind {
         return without_parts(kind, size, a, b, c, d);
     }
     if branches(i, size) {
@@ -331,10 +275,8 @@ fn counts_list(passes: Passes) -> OwnList
     ensures { result ≡ counts_list passes }
 {
     match passes {
-        Passes::Optional => OwnList::None,
-        Passes::Any => OwnList::None,
-        Passes::Some => OwnList::None,
         Passes::Counted { start, end } => OwnList::Counts { start, end },
+        _ => OwnList::None,
     }
 }
 
@@ -412,16 +354,7 @@ pub fn attributes_of(construct: Construct) -> Attributes
             0,
             false,
         ),
-        Construct::Range { low: _, high: _ } => row(
-            1,
-            Below::Nothing,
-            OwnList::None,
-            64,
-            0,
-            0,
-            0,
-            false,
-        ),
+        Construct::Range { .. } => row(1, Below::Nothing, OwnList::None, 64, 0, 0, 0, false),
         Construct::Uint {
             signed,
             width,
@@ -454,21 +387,11 @@ pub fn size_of(construct: Construct) -> usize
 fn repetition_size(size: usize, how: usize, start: usize, end: usize) -> usize
     ensures { result ≡ size_of (repetition_of size how start end) }
 {
-    if how == 1 {
-        return size;
+    match how {
+        1 | 2 | 3 => size,
+        4 if listed(start, end) => size,
+        _ => 0,
     }
-    if how == 2 {
-        return size;
-    }
-    if how == 3 {
-        return size;
-    }
-    if how == 4 {
-        if listed(start, end) {
-            return size;
-        }
-    }
-    0
 }
 
 fn inner_size(kind: usize, size: usize, a: usize, b: usize, c: usize) -> usize
@@ -484,17 +407,7 @@ fn inner_size(kind: usize, size: usize, a: usize, b: usize, c: usize) -> usize
 pub fn uint_fits(width: usize, start: usize, end: usize, binder: usize) -> bool
     ensures { result ≡ ((leb 1 width && leb width (widest_for binder)) && (listed_of start end && leb binder max_variables)) }
 {
-    if width < 1 {
-        return false;
-    }
-    let most = widest_for(binder);
-    if most < width {
-        return false;
-    }
-    if listed(start, end) {
-        return binder <= MAX_VARIABLES;
-    }
-    false
+    1 <= width && width <= widest_for(binder) && listed(start, end) && binder <= MAX_VARIABLES
 }
 
 // A sint's is the same.
@@ -502,33 +415,26 @@ fn uint_size(width: usize, start: usize, end: usize, binder: usize) -> usize
     ensures { result ≡ size_of (uint_of false width start end binder) }
 {
     if uint_fits(width, start, end, binder) {
-        return 1;
+        1
+    } else {
+        0
     }
-    0
 }
 
 fn literal_size(length: usize) -> usize
     ensures { result ≡ size_of (literal_of length) }
 {
-    if length < 1 {
-        return 0;
+    if 1 <= length && length <= MAX_LITERAL_BYTES {
+        1
+    } else {
+        0
     }
-    if MAX_LITERAL_BYTES < length {
-        return 0;
-    }
-    1
 }
 
 fn range_size(low: usize, high: usize) -> usize
     ensures { result ≡ size_of (range_of low high) }
 {
-    if 128 <= low {
-        return 0;
-    }
-    if 128 <= high {
-        return 0;
-    }
-    1
+    if low < 128 && high < 128 { 1 } else { 0 }
 }
 
 // Fields and uses are what most parts are.
@@ -538,25 +444,14 @@ fn leaf_size(kind: usize, a: usize, b: usize, c: usize, d: usize) -> usize
     if kind == 8 {
         return uint_size(a, b, c, d);
     }
-    if kind == 5 {
-        if a < MAX_RULES {
-            return 1;
-        }
-        return 0;
+    match kind {
+        5 if a < MAX_RULES => 1,
+        6 => literal_size(a),
+        7 => range_size(a, b),
+        9 => 1,
+        12 => uint_size(a, b, c, d),
+        _ => 0,
     }
-    if kind == 6 {
-        return literal_size(a);
-    }
-    if kind == 7 {
-        return range_size(a, b);
-    }
-    if kind == 9 {
-        return 1;
-    }
-    if kind == 12 {
-        return uint_size(a, b, c, d);
-    }
-    0
 }
 
 fn decoded_size(i: usize, kind: usize, size: usize, a: usize, b: usize, c: usize, d: usize) -> usize

@@ -1,5 +1,6 @@
 -- What the functions work out is which rules reach which.
 -- Assumes nothing.
+use Rattle.std.specs.Prelude.{Option, Some, None}
 use Prim.Native.Nat.{ℕ, ◌-◌, ◌≤◌, ◌<◌, min}
 use native.Mathlib.Omega.{arith}
 use native.Mathlib.Decide.{dec_lt}
@@ -18,8 +19,6 @@ use Rattle.table_layout.proofs.Views.{parted, use_by}
 use Rattle.lookahead.specs.Sets.{bit}
 use Rattle.table_reach.specs.Reaching.{body_of, rule_end, Uses, Reaches, Found, Unreached, Covered}
 use Rattle.table_reach.specs.Closure.{used_rule, calls, uses_between, uses, closure, Matrix, Diagonal, from_start, StartRow}
-use Rattle.table_reach.specs.declared.Recursion.{Recursion}
-use Rattle.table_reach.specs.declared.Coverage.{Coverage}
 use Rattle.table_reach.proofs.Searches.{some_binary, some_found, some_there}
 use Rattle.table_reach.proofs.Closures.{Chain, closure_binary, chain_closure, closure_least}
 use Rattle.table_reach.proofs.Constructs.{use_below}
@@ -93,9 +92,9 @@ module _ (ws : List ℕ) where
     none_there : (q : ℕ) → bit (get_or rows q 0) q ≡ 0 → Reaches ws q q → ⊥
     none_there q e a = let h : q < max_rules = reaches_below a in omega (arith, m.entry q q h h, reach_there a)
 
-    pub found : (x : Recursion) → Diagonal rows x → Found ws x
-    found Recursion.None d = λ q a. none_there q (d q (reaches_below a)) a
-    found (Recursion.Rule r) d = (reach_found r r d.0 (sym (m.entry r r d.0 d.0) ∙ d.1), λ q h a. none_there q (d.2 q h) a)
+    pub found : (x : Option ℕ) → Diagonal rows x → Found ws x
+    found None d = λ q a. none_there q (d q (reaches_below a)) a
+    found (Some r) d = (reach_found r r d.0 (sym (m.entry r r d.0 d.0) ∙ d.1), λ q h a. none_there q (d.2 q h) a)
 
     -- row 0 has the bits of the rules that the start rule reaches
     row_reaches : (q : ℕ) → from_start rows q ≡ true → Reaches ws 0 q
@@ -113,9 +112,9 @@ module _ (ws : List ℕ) where
     another q u = elim (dec_lt 0 q) [ yes h ↦ h | no h ↦ absurd (u.other (omega arith)) ]
 
     -- the first rule that row 0 does not have is the first that is not reached
-    pub covered : (count : ℕ) → count ≡ rule_count ws → (x : Coverage) → StartRow rows count x → Covered ws x
-    covered count c Coverage.All d = λ q u. u.unreached (row_reaches q (d q (another q u) (omega (arith, u.there))))
-    covered count c (Coverage.Without r) d = (
+    pub covered : (count : ℕ) → count ≡ rule_count ws → (x : Option ℕ) → StartRow rows count x → Covered ws x
+    covered count c None d = λ q u. u.unreached (row_reaches q (d q (another q u) (omega (arith, u.there))))
+    covered count c (Some r) d = (
       record { there = omega (arith, d.1); other = λ e. omega (arith, d.0); unreached = λ a. false≢true (sym d.2 ∙ reaches_row r a) },
       λ q h u. u.unreached (row_reaches q (d.3 q (another q u) h)),
     )

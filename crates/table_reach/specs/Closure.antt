@@ -1,6 +1,6 @@
 -- How the rules that a rule reaches are worked out, each answer a number 0 or 1. The laws under `proofs/` say that this is `Reaches`.
 -- Assumes nothing.
-use Rattle.std.specs.Prelude.{ℕ, zero, suc, ◌+◌, ◌-◌, ◌<◌, ◌≤◌, max, min, ◌≡◌, Bool, true, false, cond, ◌&&◌, List, ltb, eqb, length, get_or}
+use Rattle.std.specs.Prelude.{Option, Some, None, ℕ, zero, suc, ◌+◌, ◌-◌, ◌<◌, ◌≤◌, max, min, ◌≡◌, Bool, true, false, cond, ◌&&◌, List, ltb, eqb, length, get_or}
 use Rattle.basis.specs.Limits.{max_rules, max_constructs}
 use Rattle.table_layout.specs.Places.{rule_count}
 use Rattle.table_layout.specs.Constructs.{construct_at}
@@ -8,8 +8,6 @@ use Rattle.table_layout.specs.Attributes.{attributes_of}
 use Rattle.table_layout.specs.declared.Construct.{Construct}
 use Rattle.lookahead.specs.Sets.{bit}
 use Rattle.table_reach.specs.Reaching.{body_of, rule_end}
-use Rattle.table_reach.specs.declared.Recursion.{Recursion}
-use Rattle.table_reach.specs.declared.Coverage.{Coverage}
 
 -- whether f is 1 at one of n numbers from i on
 unfoldable pub some_of : ℕ → (ℕ → ℕ) → ℕ → ℕ
@@ -49,15 +47,15 @@ pub record Mended (before after : List ℕ) (via k n : ℕ) : Type 0 where
   pub kept : (i : ℕ) → n ≤ i → get_or after i 0 ≡ get_or before i 0
 
 -- the first row that has its own bit
-abbrev pub Diagonal : List ℕ → Recursion → Type 0
-Diagonal rows Recursion.None = (q : ℕ) → q < max_rules → bit (get_or rows q 0) q ≡ 0
-Diagonal rows (Recursion.Rule r) = (r < max_rules) × (bit (get_or rows r 0) r ≡ 1) × ((q : ℕ) → q < r → bit (get_or rows q 0) q ≡ 0)
+abbrev pub Diagonal : List ℕ → Option ℕ → Type 0
+Diagonal rows None = (q : ℕ) → q < max_rules → bit (get_or rows q 0) q ≡ 0
+Diagonal rows (Some r) = (r < max_rules) × (bit (get_or rows r 0) r ≡ 1) × ((q : ℕ) → q < r → bit (get_or rows q 0) q ≡ 0)
 
 -- q is one of 64 rules, and row 0 has its bit
 abbrev pub from_start : List ℕ → ℕ → Bool
 from_start rows q = ltb q max_rules && eqb (bit (get_or rows 0 0) q) 1
 
 -- the first of the rules from 1 up to `count` that row 0 does not have
-abbrev pub StartRow : List ℕ → ℕ → Coverage → Type 0
-StartRow rows count Coverage.All = (q : ℕ) → 1 ≤ q → q < count → from_start rows q ≡ true
-StartRow rows count (Coverage.Without r) = (1 ≤ r) × (r < count) × (from_start rows r ≡ false) × ((q : ℕ) → 1 ≤ q → q < r → from_start rows q ≡ true)
+abbrev pub StartRow : List ℕ → ℕ → Option ℕ → Type 0
+StartRow rows count None = (q : ℕ) → 1 ≤ q → q < count → from_start rows q ≡ true
+StartRow rows count (Some r) = (1 ≤ r) × (r < count) × (from_start rows r ≡ false) × ((q : ℕ) → 1 ≤ q → q < r → from_start rows q ≡ true)

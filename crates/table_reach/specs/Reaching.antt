@@ -1,12 +1,10 @@
 -- Which rules reach which: refusal 7, "rule reaches itself", at the "first such rule", and refusal 12 (Req 06), "a rule not reached from the start rule". Every written use
 -- counts, also under `{0}` and in rules that nothing uses.
 -- Assumes nothing.
-use Rattle.std.specs.Prelude.{ℕ, ◌+◌, ◌<◌, ◌≤◌, ◌≡◌, cond, List, ltb}
+use Rattle.std.specs.Prelude.{Option, Some, None, ℕ, ◌+◌, ◌<◌, ◌≤◌, ◌≡◌, cond, List, ltb}
 use Rattle.table_layout.specs.Places.{rule_word, rule_count, construct_count}
 use Rattle.table_layout.specs.Constructs.{construct_at}
 use Rattle.table_layout.specs.declared.Construct.{Construct}
-use Rattle.table_reach.specs.declared.Recursion.{Recursion}
-use Rattle.table_reach.specs.declared.Coverage.{Coverage}
 
 -- the construct that is rule r's body
 abbrev pub body_of : List ℕ → ℕ → ℕ
@@ -34,9 +32,9 @@ abbrev pub Acyclic : List ℕ → Type 0
 Acyclic ws = (r : ℕ) → Reaches ws r r → ⊥
 
 -- what an answer says: refusal 7 is given exactly where there is a rule, and that is the first
-abbrev pub Found : List ℕ → Recursion → Type 0
-Found ws Recursion.None = Acyclic ws
-Found ws (Recursion.Rule r) = Reaches ws r r × ((q : ℕ) → q < r → Reaches ws q q → ⊥)
+abbrev pub Found : List ℕ → Option ℕ → Type 0
+Found ws None = Acyclic ws
+Found ws (Some r) = Reaches ws r r × ((q : ℕ) → q < r → Reaches ws q q → ⊥)
 
 -- rule r is not the start rule, and that does not reach it
 pub record Unreached (ws : List ℕ) (r : ℕ) : Type 0 where
@@ -53,6 +51,6 @@ abbrev pub FirstUnreached : List ℕ → ℕ → Type 0
 FirstUnreached ws r = Unreached ws r × ((q : ℕ) → q < r → Unreached ws q → ⊥)
 
 -- what an answer says: refusal 12 is given exactly where there is such a rule, and that is the first
-abbrev pub Covered : List ℕ → Coverage → Type 0
-Covered ws Coverage.All = AllReached ws
-Covered ws (Coverage.Without r) = FirstUnreached ws r
+abbrev pub Covered : List ℕ → Option ℕ → Type 0
+Covered ws None = AllReached ws
+Covered ws (Some r) = FirstUnreached ws r

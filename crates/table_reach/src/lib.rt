@@ -9,22 +9,8 @@ use table_layout::word;
 
 pub mod reaching;
 
-// The first rule that reaches itself.
-#[derive(Clone, Copy)]
-pub enum Recursion {
-    None,
-    Rule(usize),
-}
-
-// Whether the start rule reaches every other; or the first that it does not.
-#[derive(Clone, Copy)]
-pub enum Coverage {
-    All,
-    Without(usize),
-}
-
-// Refusal 7, over any words.
-pub fn recursive_rule(table: &[u32]) -> Recursion
+// Refusal 7, over any words: the first rule that reaches itself.
+pub fn recursive_rule(table: &[u32]) -> Option<usize>
     ensures { Found table.now result }
 {
     let mut rows = [0u64; MAX_RULES];
@@ -32,8 +18,8 @@ pub fn recursive_rule(table: &[u32]) -> Recursion
     reaching::first_on_diagonal(&rows)
 }
 
-// Refusal 12, over any words.
-pub fn unreached_rule(table: &[u32]) -> Coverage
+// Refusal 12, over any words: the first rule that the start rule does not reach.
+pub fn unreached_rule(table: &[u32]) -> Option<usize>
     ensures { Covered table.now result }
 {
     let mut rows = [0u64; MAX_RULES];
@@ -45,8 +31,5 @@ pub fn unreached_rule(table: &[u32]) -> Coverage
 pub fn at_most(most: usize, n: usize) -> usize
     ensures { result ≡ min most n }
 {
-    if most < n {
-        return most;
-    }
-    n
+    most.min(n)
 }

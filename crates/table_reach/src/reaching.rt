@@ -5,7 +5,7 @@ ghost use Rattle.lookahead.specs.Sets.{bit};
 ghost use Rattle.table_reach.specs.Reaching.{rule_end};
 ghost use Rattle.table_reach.specs.Closure.{used_rule, uses_between, uses, closure, Matrix, Mended, Diagonal, from_start, StartRow};
 
-use super::{Coverage, Recursion, at_most};
+use super::at_most;
 use basis::{MAX_CONSTRUCTS, MAX_RULES};
 use table_layout::{Construct, RULES_AT, attributes_of, construct_at, word};
 
@@ -38,10 +38,8 @@ fn row_between(table: &[u32], first: usize, end: usize) -> u64
     ensures { (q : ℕ) → q < max_rules → bit result q ≡ uses_between table.now first end q }
 {
     let mut row = 0u64;
-    let mut i = first;
-    while i < end {
+    for i in first..end {
         row = with_use(row, rule_used(construct_at(table, i)));
-        i += 1;
     }
     row
 }
@@ -76,10 +74,8 @@ pub fn fill(table: &[u32], rows: &mut [u64; MAX_RULES])
     requires { length rows.old ≡ max_rules }
     ensures { Matrix rows.new (uses table.now) }
 {
-    let mut r = 0;
-    while r < MAX_RULES {
+    for r in 0..MAX_RULES {
         rows[r] = row_of(table, r);
-        r += 1;
     }
 }
 
@@ -98,10 +94,8 @@ fn through(rows: &mut [u64; MAX_RULES], via: u64, k: usize)
     requires { (length rows.old ≡ max_rules) × (k < max_rules) }
     ensures { Mended rows.old rows.new via k max_rules }
 {
-    let mut i = 0;
-    while i < MAX_RULES {
+    for i in 0..MAX_RULES {
         rows[i] = mended(rows[i], via, k);
-        i += 1;
     }
 }
 
@@ -110,11 +104,9 @@ fn close(rows: &mut [u64; MAX_RULES])
     requires { length rows.old ≡ max_rules }
     ensures { (u : ℕ → ℕ → ℕ) → Matrix rows.old u → Matrix rows.new (closure u max_rules) }
 {
-    let mut k = 0;
-    while k < MAX_RULES {
+    for k in 0..MAX_RULES {
         let via = rows[k];
         through(rows, via, k);
-        k += 1;
     }
 }
 
@@ -127,40 +119,32 @@ pub fn rows_of(table: &[u32], rows: &mut [u64; MAX_RULES])
     close(rows);
 }
 
-pub fn first_on_diagonal(rows: &[u64; MAX_RULES]) -> Recursion
+pub fn first_on_diagonal(rows: &[u64; MAX_RULES]) -> Option<usize>
     ensures { Diagonal rows.now result }
 {
-    let mut r = 0;
-    while r < MAX_RULES {
+    for r in 0..MAX_RULES {
         if has(rows[r], r) {
-            return Recursion::Rule(r);
+            return Some(r);
         }
-        r += 1;
     }
-    Recursion::None
+    None
 }
 
 // Whether a rule is one of 64, and the start rule reaches it.
 fn reached(rows: &[u64; MAX_RULES], q: usize) -> bool
     ensures { result ≡ from_start rows.now q }
 {
-    if q < MAX_RULES {
-        return has(rows[0], q);
-    }
-    false
+    q < MAX_RULES && has(rows[0], q)
 }
 
 // The first of the rules from 1 up to `count` that the start rule does not reach.
-pub fn first_not_reached(rows: &[u64; MAX_RULES], count: usize) -> Coverage
+pub fn first_not_reached(rows: &[u64; MAX_RULES], count: usize) -> Option<usize>
     ensures { StartRow rows.now count result }
 {
-    let mut r = 1;
-    while r < count {
-        if reached(rows, r) {
-            r += 1;
-        } else {
-            return Coverage::Without(r);
+    for r in 1..count {
+        if !reached(rows, r) {
+            return Some(r);
         }
     }
-    Coverage::All
+    None
 }

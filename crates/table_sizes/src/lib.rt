@@ -9,29 +9,23 @@ ghost use Rattle.table_sizes.specs.Measures.{largest as largestOf, widest as wid
 
 use basis::{MAX_BOUND_WIDTH, MAX_VARIABLES};
 use table_layout::{OwnList, attributes_of, construct_at, word};
-use table_wellformed::checks::{construct_word, either, variable_word};
+use table_wellformed::checks::{construct_word, variable_word};
 use table_wellformed::lists::term_words;
 use term_integers::{power, signed};
-use term_sizes::{Sized, measure, measure_counts};
+use term_sizes::{SizeError, measure, measure_counts};
 use term_words::Kind;
 
 // A width within the limit of a binder.
 fn bound_width(width: usize) -> u64
     ensures { result ≡ min max_bound_width width }
 {
-    if width < MAX_BOUND_WIDTH {
-        return width as u64;
-    }
-    MAX_BOUND_WIDTH as u64
+    width.min(MAX_BOUND_WIDTH) as u64
 }
 
 fn one_less(width: u64) -> u64
     ensures { result ≡ (width - 1) }
 {
-    if width < 1 {
-        return 0;
-    }
-    width - 1
+    width.saturating_sub(1)
 }
 
 // The size of the value of a width that is farthest from 0.
@@ -55,16 +49,18 @@ pub fn widest(table: &[u32]) -> Extents
     ensures { result.sizes ≡ widestOf table.now }
 {
     let mut sizes = [0i64; MAX_VARIABLES];
-    let mut x = 0;
-    while x < MAX_VARIABLES {
+    for x in 0..MAX_VARIABLES {
         sizes[x] = largest(variable_word(table, x, 1), variable_word(table, x, 2));
-        x += 1;
     }
     Extents { sizes }
 }
 
 // The sizes in a construct's condition.
-pub fn condition_sizes(table: &[u32], widest: &[i64; MAX_VARIABLES], i: usize) -> Sized
+pub fn condition_sizes(
+    table: &[u32],
+    widest: &[i64; MAX_VARIABLES],
+    i: usize,
+) -> Result<(), SizeError>
     requires { (table_words ≤ length table.now) × (i ≤ 4294967296) × (widest.now ≡ widestOf table.now) }
     ensures { result ≡ condition_size table.now i }
 {
@@ -73,38 +69,32 @@ pub fn condition_sizes(table: &[u32], widest: &[i64; MAX_VARIABLES], i: usize) -
     if start < end {
         return measure(Kind::Condition, term_words(table), start, end, widest);
     }
-    Sized::Passes
+    Ok(())
 }
 
-fn list_sizes(table: &[u32], widest: &[i64; 64], own: OwnList) -> Sized
-    requires { (16384 ≤ length table.now) × (widest.now ≡ widestOf table.now) }
+fn list_sizes(table: &[u32], widest: &[i64; MAX_VARIABLES], own: OwnList) -> Result<(), SizeError>
+    requires { (table_words ≤ length table.now) × (widest.now ≡ widestOf table.now) }
     ensures { result ≡ list_size table.now own }
 {
     match own {
-        OwnList::None => Sized::Passes,
+        OwnList::None => Ok(()),
         OwnList::Counts { start, end } => measure_counts(term_words(table), start, end, widest),
         OwnList::Set { start, end } => measure(Kind::Set, term_words(table), start, end, widest),
     }
 }
 
 // The sizes in its own list of terms.
-pub fn own_sizes(table: &[u32], widest: &[i64; MAX_VARIABLES], i: usize) -> Sized
+pub fn own_sizes(table: &[u32], widest: &[i64; MAX_VARIABLES], i: usize) -> Result<(), SizeError>
     requires { (table_words ≤ length table.now) × (widest.now ≡ widestOf table.now) }
     ensures { result ≡ own_size table.now (construct_at table.now i) }
 {
-    let attributes = attributes_of(construct_at(table, i));
-    let own = attributes.own;
-    list_sizes(table, widest, own)
+    list_sizes(table, widest, attributes_of(construct_at(table, i)).own)
 }
 
-fn exceeds(sized: Sized) -> bool
+fn exceeds(sized: Result<(), SizeError>) -> bool
     ensures { result ≡ exceedsOf sized }
 {
-    match sized {
-        Sized::Passes => false,
-        Sized::Malformed => false,
-        Sized::Exceeds(_) => true,
-    }
+    matches!(sized, Err(SizeError::Exceeds(_)))
 }
 
 // Whether a size in one of its lists may pass 2^62.
@@ -112,10 +102,7 @@ fn oversized(table: &[u32], widest: &[i64; MAX_VARIABLES], i: usize) -> bool
     requires { (table_words ≤ length table.now) × (i ≤ 4294967296) × (widest.now ≡ widestOf table.now) }
     ensures { result ≡ oversizedOf table.now i }
 {
-    either(
-        exceeds(condition_sizes(table, widest, i)),
-        exceeds(own_sizes(table, widest, i)),
-    )
+    exceeds(condition_sizes(table, widest, i)) || exceeds(own_sizes(table, widest, i))
 }
 
 // The first construct with such a size; their number where there is none.
@@ -123,8 +110,7 @@ pub fn first_oversized(table: &[u32]) -> usize
     requires { table_words ≤ length table.now }
     ensures { LeastOf (λ (i : ℕ). oversizedOf table.now i ≡ true) (construct_count table.now) result }
 {
-    let sizes = widest(table).sizes;
-    search(table, &sizes)
+    search(table, &widest(table).sizes)
 }
 
 fn search(table: &[u32], widest: &[i64; MAX_VARIABLES]) -> usize
@@ -132,12 +118,10 @@ fn search(table: &[u32], widest: &[i64; MAX_VARIABLES]) -> usize
     ensures { LeastOf (λ (i : ℕ). oversizedOf table.now i ≡ true) (construct_count table.now) result }
 {
     let count = word(table, 2);
-    let mut i = 0;
-    while i < count {
+    for i in 0..count {
         if oversized(table, widest, i) {
             return i;
         }
-        i += 1;
     }
     count
 }

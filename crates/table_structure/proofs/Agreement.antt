@@ -15,7 +15,6 @@ use lib.Seq.{get_or-set_same, get_or-set_other}
 use Rattle.term_words.specs.Numbers.{bounded, kept}
 use Rattle.term_words.specs.Steps.{variable_of}
 use Rattle.term_evaluation.specs.Meaning.{condition}
-use Rattle.term_words.specs.declared.Outcome.{Outcome}
 use Rattle.theory.specs.Grammar.{◌∈◌}
 use Rattle.table_layout.specs.Places.{rule_count, construct_word}
 use Rattle.table_layout.specs.Constructs.{construct_at}
@@ -27,6 +26,8 @@ use Rattle.table_wellformed.specs.Rules.{body, rule_end}
 use Rattle.table_structure.proofs.Facts.{Laid}
 use Rattle.term_evaluation.proofs.Reading.{Reads, Same, membership_same, condition_same, counts_same}
 use Rattle.table_structure.proofs.Binding.{Visible, condition_reads, own_reads}
+use Rattle.std.specs.Prelude.{Err}
+use Rattle.term_words.specs.declared.TermError.{TermError}
 
 -- two lists of values that are as long and agree on the variables of P
 pub record Agreeing (P : ℕ → Type 0) (v v' : Values) : Type 0 where
@@ -36,8 +37,8 @@ pub record Agreeing (P : ℕ → Type 0) (v v' : Values) : Type 0 where
 pub agree_same : {P : ℕ → Type 0} {v v' : Values} → Agreeing P v v' → Same P v v'
 unfolding variable_of
 agree_same {P} {v} {v'} a y p s =
-    ap (λ (n : ℕ). cond (ltb y n) (kept s (bounded (get_or v y (pos 0)))) Outcome.Malformed) a.lengths
-    ∙ ap (λ (z : ℤ). cond (ltb y (length v')) (kept s (bounded z)) Outcome.Malformed) (a.values y p)
+    ap (λ (n : ℕ). cond (ltb y n) (kept s (bounded (get_or v y (pos 0)))) (Err TermError.Malformed)) a.lengths
+    ∙ ap (λ (z : ℤ). cond (ltb y (length v')) (kept s (bounded z)) (Err TermError.Malformed)) (a.values y p)
 
 module _ {ws : List ℕ} (l : Laid ws) (r i : ℕ) (h : r < rule_count ws) (low : body ws r ≤ i) (high : i < rule_end ws r 0) where
   own_list : (c : Construct) → construct_at ws i ≡ c → Reads (Visible ws r i) (term_words ws) (own_start c) (own_end c)

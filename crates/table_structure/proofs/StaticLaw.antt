@@ -21,12 +21,10 @@ use Rattle.term_evaluation.specs.Meaning.{run, condition}
 use Rattle.term_evaluation.specs.declared.Tally.{Tally}
 use Rattle.term_evaluation.specs.Counts.{shown, form_of, calculations_end, of_numbers, of_trial, tallied_by, tallied, counts}
 use Rattle.term_evaluation.specs.Variables.{has_variable}
-use Rattle.term_evaluation.specs.declared.Counted.{Counted}
 use Rattle.term_evaluation.specs.declared.Form.{Form}
 use Rattle.term_words.specs.declared.Kind.{Kind}
 use Rattle.term_words.specs.declared.Mode.{Mode}
 use Rattle.term_words.specs.declared.Numbers.{Numbers}
-use Rattle.term_words.specs.declared.Trial.{Trial}
 use Rattle.theory.specs.Grammar.{alternative, concatenation, repetition, switch, use_of, field, eod, ◌∈◌}
 use Rattle.theory.specs.Hypotheses.{Static}
 use Rattle.table_layout.specs.Places.{construct_word}
@@ -36,6 +34,9 @@ use Rattle.table_layout.specs.declared.Construct.{Construct}
 use Rattle.table_layout.specs.declared.Passes.{Passes}
 use Rattle.table_layout.proofs.Bounds.{Fine, fine}
 use Rattle.term_evaluation.proofs.Reading.{membership_constant, counts_constant}
+use Rattle.std.specs.Prelude.{Result, Ok, Err}
+use Rattle.term_words.specs.declared.TermError.{TermError}
+use Rattle.term_evaluation.specs.declared.Allowed.{Allowed}
 
 -- what is asked of a node
 abbrev StaticOf : HeldNode → Type 0
@@ -83,10 +84,10 @@ exact_numbers (Numbers.Two a b) j k x y = absurd x
 exact_numbers (Numbers.Three a b c) j k x y = absurd x
 exact_numbers (Numbers.Four a b c d) j k x y = absurd x
 
-exact_trial : (r : Trial) (j k : ℕ) → Allows (allowed (of_trial Form.Exact r)) j → Allows (allowed (of_trial Form.Exact r)) k → j ≡ k
-exact_trial (Trial.Running s t) j k x y = exact_numbers s j k x y
-exact_trial Trial.Malformed j k x y = absurd x
-exact_trial Trial.Overflow j k x y = absurd x
+exact_trial : (r : Result (Numbers × ℕ) TermError) (j k : ℕ) → Allows (allowed (of_trial Form.Exact r)) j → Allows (allowed (of_trial Form.Exact r)) k → j ≡ k
+exact_trial (Ok (s, t)) j k x y = exact_numbers s j k x y
+exact_trial (Err TermError.Malformed) j k x y = absurd x
+exact_trial (Err TermError.Overflow) j k x y = absurd x
 
 is_exact_count : (f : Form) → is_exact f ≡ true → f ≡ Form.Exact
 is_exact_count Form.Exact e = refl
@@ -94,14 +95,14 @@ is_exact_count Form.Open e = let z : ◌≡◌ {A = ℕ} 0 1 = cc in absurd (ome
 is_exact_count Form.UpTo e = let z : ◌≡◌ {A = ℕ} 0 1 = cc in absurd (omega arith)
 is_exact_count Form.Closed e = let z : ◌≡◌ {A = ℕ} 0 1 = cc in absurd (omega arith)
 
-abbrev Once : Counted → Type 0
+abbrev Once : Result Allowed TermError → Type 0
 Once c = (j k : ℕ) → Allows (allowed c) j → Allows (allowed c) k → j ≡ k
 
-chosen_once : (b : Bool) (c : Tally) (start : ℕ) → Once c.counted → Once (cond b c (record { counted = Counted.Malformed; at = start })).counted
+chosen_once : (b : Bool) (c : Tally) (start : ℕ) → Once c.counted → Once (cond b c (record { counted = Err TermError.Malformed; at = start })).counted
 chosen_once true c start h = h
 chosen_once false c start h = λ j k x y. absurd x
 
-form_once : (f : Form) → f ≡ Form.Exact → (r : Trial) → Once (of_trial f r)
+form_once : (f : Form) → f ≡ Form.Exact → (r : Result (Numbers × ℕ) TermError) → Once (of_trial f r)
 form_once f h r = rw h (exact_trial r)
 
 counts_once : (ws : List ℕ) (start end : ℕ) (v : Values) → is_exact (form_of (term_at ws (end - 1))) ≡ true → Once (counts v ws start end)

@@ -95,9 +95,7 @@ fn sweep(table: &[u32], weights: &mut [u32], n: usize) -> bool
     ensures { (weights.new ≡ swept table.now n weights.old) × (result ≡ false → weights.new ≡ weights.old) }
 {
     let mut changed = false;
-    let mut i = n;
-    while 0 < i {
-        i -= 1;
+    for i in (0..n).rev() {
         let weight = weigh_at(table, weights, i);
         if word(weights, i) != weight {
             weights[i] = weight as u32;

@@ -1,11 +1,10 @@
 -- The lists of terms: each stands where the one before it ends, and is well formed for its kind.
 -- Assumes nothing.
-use Rattle.std.specs.Prelude.{ℕ, zero, suc, ◌+◌, ◌*◌, ◌-◌, Bool, true, false, cond, ◌&&◌, ◌||◌, List, ltb, eqb, ℤ, pos, replicate}
+use Rattle.std.specs.Prelude.{ℕ, zero, suc, ◌+◌, ◌*◌, Bool, true, false, cond, ◌&&◌, ◌||◌, List, ltb, eqb, ℤ, pos, replicate, Result, Ok, Err, ⊤}
 use Rattle.basis.specs.Limits.{max_variables}
 use Rattle.term_words.specs.Words.{terms}
 use Rattle.term_words.specs.declared.Kind.{Kind}
 use Rattle.term_sizes.specs.Sizes.{sizes, count_sizes}
-use Rattle.term_sizes.specs.declared.Sized.{Sized}
 use Rattle.table_layout.specs.Places.{word, terms_at, construct_count, term_count, construct_word}
 use Rattle.table_layout.specs.Constructs.{construct_at}
 use Rattle.table_layout.specs.Attributes.{attributes_of}
@@ -13,6 +12,7 @@ use Rattle.table_layout.specs.Held.{term_words}
 use Rattle.table_layout.specs.declared.Construct.{Construct}
 use Rattle.table_layout.specs.declared.OwnList.{OwnList}
 use Rattle.table_wellformed.specs.Checks.{limited}
+use Rattle.term_sizes.specs.declared.SizeError.{SizeError}
 
 -- ---- a construct's own list: the counts of `{…}`, the set of a uint; 0, 0 where it has none
 
@@ -70,10 +70,10 @@ lists_laid ws = lists_from (construct_count ws) ws 0 0
 
 -- ---- each well formed for its kind; that its sizes stay within 2^62 is refusal 8, and asked elsewhere
 
-abbrev pub formed : Sized → Bool
-formed Sized.Passes = true
-formed Sized.Malformed = false
-formed (Sized.Exceeds at) = true
+abbrev pub formed : Result ⊤ SizeError → Bool
+formed (Ok u) = true
+formed (Err SizeError.Malformed) = false
+formed (Err (SizeError.Exceeds at)) = true
 
 -- a list's form does not depend on the values: all are 0
 abbrev pub zero_values : List ℤ

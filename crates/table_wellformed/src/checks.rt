@@ -1,5 +1,5 @@
 // Tests of many words at once, and words by their place.
-ghost use Rattle.std.specs.Prelude.{◌≡◌, cond, ◌&&◌, ◌||◌, ◌+◌, ◌*◌, ◌-◌, ◌<◌, ◌≤◌};
+ghost use Rattle.std.specs.Prelude.{◌≡◌, ◌+◌, ◌*◌, ◌-◌, ◌<◌, ◌≤◌};
 ghost use Rattle.basis.specs.Limits.{max_constructs};
 ghost use Rattle.table_layout.specs.Places.{rule_word, variable_word, construct_word};
 ghost use Rattle.table_layout.specs.Held.{size_of};
@@ -7,48 +7,18 @@ ghost use Rattle.table_wellformed.specs.Checks.{limited as limitedOf, all_zero, 
 
 use table_layout::{CONSTRUCTS_AT, Construct, RULES_AT, VARIABLES_AT, construct_at, word};
 
-pub fn both(a: bool, b: bool) -> bool
-    ensures { result ≡ (a && b) }
-{
-    if a {
-        return b;
-    }
-    false
-}
-
-pub fn either(a: bool, b: bool) -> bool
-    ensures { result ≡ (a || b) }
-{
-    if a {
-        return true;
-    }
-    b
-}
-
-pub fn choose(test: bool, a: usize, b: usize) -> usize
-    ensures { result ≡ cond test a b }
-{
-    if test {
-        return a;
-    }
-    b
-}
-
 pub fn limited(low: usize, n: usize, high: usize) -> bool
     ensures { result ≡ limitedOf low n high }
 {
-    both(low <= n, n <= high)
+    low <= n && n <= high
 }
 
 // Whether the words from `start` up to `end` are 0.
 pub fn zeros(table: &[u32], start: usize, end: usize) -> bool
     ensures { result ≡ all_zero table.now start end }
 {
-    let mut k = start;
-    while k < end {
-        if word(table, k) == 0 {
-            k += 1;
-        } else {
+    for k in start..end {
+        if word(table, k) != 0 {
             return false;
         }
     }

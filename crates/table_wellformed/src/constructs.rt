@@ -5,7 +5,7 @@ ghost use Rattle.table_layout.specs.Places.{construct_count};
 ghost use Rattle.table_wellformed.specs.Checks.{from_to};
 ghost use Rattle.table_wellformed.specs.Laid.{operands_zero, second_part, construct_end, chain_laid, passes_laid, repetition_laid, switch_laid, kind_laid, literal_length, literal_byte, byte_laid, construct_laid};
 
-use crate::checks::{both, choose, size_at, zeros};
+use crate::checks::{size_at, zeros};
 use crate::lists::{condition_formed, counts_formed, list_formed};
 use crate::names::named_back;
 use crate::parts::parts;
@@ -37,10 +37,7 @@ fn chain(table: &[u32], i: usize) -> bool
     ensures { result ≡ chain_laid table.now i }
 {
     let end = i + size_at(table, i);
-    both(
-        operands_zero(table, i, 2),
-        both(second_part(table, i) < end, parts(table, false, i + 1, end)),
-    )
+    operands_zero(table, i, 2) && second_part(table, i) < end && parts(table, false, i + 1, end)
 }
 
 fn passes_laid(table: &[u32], i: usize, passes: Passes) -> bool
@@ -48,12 +45,10 @@ fn passes_laid(table: &[u32], i: usize, passes: Passes) -> bool
     ensures { result ≡ passes_laid table.now i passes }
 {
     match passes {
-        Passes::Optional => operands_zero(table, i, 3),
-        Passes::Any => operands_zero(table, i, 3),
-        Passes::Some => operands_zero(table, i, 3),
         Passes::Counted { start, end } => {
-            both(operands_zero(table, i, 5), counts_formed(table, start, end))
+            operands_zero(table, i, 5) && counts_formed(table, start, end)
         }
+        _ => operands_zero(table, i, 3),
     }
 }
 
@@ -62,13 +57,7 @@ fn repetition(table: &[u32], i: usize, passes: Passes) -> bool
     ensures { result ≡ repetition_laid table.now i passes }
 {
     let end = i + size_at(table, i);
-    both(
-        passes_laid(table, i, passes),
-        both(
-            second_part(table, i) == end,
-            parts(table, false, i + 1, end),
-        ),
-    )
+    passes_laid(table, i, passes) && second_part(table, i) == end && parts(table, false, i + 1, end)
 }
 
 fn switch(table: &[u32], i: usize) -> bool
@@ -76,7 +65,7 @@ fn switch(table: &[u32], i: usize) -> bool
     ensures { result ≡ switch_laid table.now i }
 {
     let end = i + size_at(table, i);
-    both(operands_zero(table, i, 2), parts(table, true, i + 1, end))
+    operands_zero(table, i, 2) && parts(table, true, i + 1, end)
 }
 
 fn kind(table: &[u32], i: usize, construct: Construct) -> bool
@@ -85,23 +74,18 @@ fn kind(table: &[u32], i: usize, construct: Construct) -> bool
 {
     match construct {
         Construct::Missing => false,
-        Construct::Alternative { size: _ } => chain(table, i),
-        Construct::Concatenation { size: _ } => chain(table, i),
-        Construct::Repetition { size: _, passes } => repetition(table, i, passes),
-        Construct::Switch { size: _ } => switch(table, i),
-        Construct::Use { rule } => both(rule < word(table, 1), operands_zero(table, i, 3)),
-        Construct::Literal { length: _ } => operands_zero(table, i, 3),
-        Construct::Range { low: _, high: _ } => operands_zero(table, i, 4),
+        Construct::Alternative { .. } | Construct::Concatenation { .. } => chain(table, i),
+        Construct::Repetition { passes, .. } => repetition(table, i, passes),
+        Construct::Switch { .. } => switch(table, i),
+        Construct::Use { rule } => rule < word(table, 1) && operands_zero(table, i, 3),
+        Construct::Literal { .. } => operands_zero(table, i, 3),
+        Construct::Range { .. } => operands_zero(table, i, 4),
         Construct::Uint {
-            signed: _,
-            width: _,
             start,
             end,
             binder,
-        } => both(
-            named_back(table, i, binder),
-            list_formed(Kind::Set, table, start, end),
-        ),
+            ..
+        } => named_back(table, i, binder) && list_formed(Kind::Set, table, start, end),
         Construct::Eod => operands_zero(table, i, 2),
     }
 }
@@ -116,16 +100,12 @@ fn power(k: usize) -> usize
     requires { k < 4 }
     ensures { (result ≡ 256 ^ k) × (0 < result) }
 {
-    if k == 0 {
-        return 1;
+    match k {
+        0 => 1,
+        1 => 256,
+        2 => 65536,
+        _ => 16777216,
     }
-    if k == 1 {
-        return 256;
-    }
-    if k == 2 {
-        return 65536;
-    }
-    16777216
 }
 
 fn byte(table: &[u32], i: usize, n: usize, k: usize) -> bool
@@ -133,7 +113,8 @@ fn byte(table: &[u32], i: usize, n: usize, k: usize) -> bool
     ensures { result ≡ byte_laid table.now i n k }
 {
     let value = word(table, LITERALS_AT + 8 * i + k / 4) / power(k % 4) % 256;
-    value < choose(k < n, 128, 1)
+    let limit = if k < n { 128 } else { 1 };
+    value < limit
 }
 
 // Whether construct i has n bytes below 128 in the area of literals, and zeros after them.
@@ -141,11 +122,8 @@ fn bytes(table: &[u32], i: usize, n: usize) -> bool
     requires { i ≤ 4294967296 }
     ensures { result ≡ from_to 0 max_literal_bytes (byte_laid table.now i n) }
 {
-    let mut k = 0;
-    while k < MAX_LITERAL_BYTES {
-        if byte(table, i, n, k) {
-            k += 1;
-        } else {
+    for k in 0..MAX_LITERAL_BYTES {
+        if !byte(table, i, n, k) {
             return false;
         }
     }
@@ -157,13 +135,9 @@ fn construct_laid(table: &[u32], i: usize) -> bool
     ensures { result ≡ construct_laid table.now i }
 {
     let construct = construct_at(table, i);
-    both(
-        kind(table, i, construct),
-        both(
-            bytes(table, i, literal_length(construct)),
-            condition_formed(table, i),
-        ),
-    )
+    kind(table, i, construct)
+        && bytes(table, i, literal_length(construct))
+        && condition_formed(table, i)
 }
 
 pub fn constructs(table: &[u32]) -> bool
@@ -171,11 +145,8 @@ pub fn constructs(table: &[u32]) -> bool
     ensures { result ≡ from_to 0 (construct_count table.now) (construct_laid table.now) }
 {
     let count = word(table, 2);
-    let mut i = 0;
-    while i < count {
-        if construct_laid(table, i) {
-            i += 1;
-        } else {
+    for i in 0..count {
+        if !construct_laid(table, i) {
             return false;
         }
     }

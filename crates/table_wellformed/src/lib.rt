@@ -6,7 +6,7 @@ ghost use Rattle.basis.specs.Limits.{max_constructs, table_words};
 ghost use Rattle.table_layout.specs.Places.{construct_count};
 ghost use Rattle.table_wellformed.specs.Laid.{counts_limited, headed as headedOf, rest_zero, placed as placed_of, laid as laid_of};
 
-use crate::checks::{both, limited, zeros};
+use crate::checks::{limited, zeros};
 use crate::constructs::constructs;
 use crate::lists::{lists, terms_laid};
 use crate::names::names;
@@ -24,25 +24,20 @@ mod rules;
 fn counts(table: &[u32]) -> bool
     ensures { result ≡ counts_limited table.now }
 {
-    both(
-        both(
-            limited(1, word(table, 1), MAX_RULES),
-            limited(1, word(table, 2), MAX_CONSTRUCTS),
-        ),
-        both(word(table, 3) <= MAX_VARIABLES, word(table, 4) <= MAX_TERMS),
-    )
+    limited(1, word(table, 1), MAX_RULES)
+        && limited(1, word(table, 2), MAX_CONSTRUCTS)
+        && word(table, 3) <= MAX_VARIABLES
+        && word(table, 4) <= MAX_TERMS
 }
 
+#[tactic(auto, unfolding(crate::specs::Laid::headed))]
 fn headed(table: &[u32]) -> bool
     ensures { result ≡ headedOf table.now }
 {
-    both(
-        both(word(table, 0) == 1399811687, counts(table)),
-        both(
-            limited(1, word(table, 5), MAX_WEIGHT),
-            zeros(table, 6, RULES_AT),
-        ),
-    )
+    word(table, 0) == 1399811687
+        && counts(table)
+        && limited(1, word(table, 5), MAX_WEIGHT)
+        && zeros(table, 6, RULES_AT)
 }
 
 // Everything past the counts is 0.
@@ -50,45 +45,26 @@ fn rest(table: &[u32]) -> bool
     ensures { result ≡ rest_zero table.now }
 {
     let constructs = word(table, 2);
-    both(
-        both(
-            zeros(table, RULES_AT + 4 * word(table, 1), VARIABLES_AT),
-            zeros(table, VARIABLES_AT + 4 * word(table, 3), CONSTRUCTS_AT),
-        ),
-        both(
-            both(
-                zeros(table, CONSTRUCTS_AT + 8 * constructs, TERMS_AT),
-                zeros(table, TERMS_AT + 3 * word(table, 4), LITERALS_AT),
-            ),
-            both(
-                zeros(table, LITERALS_AT + 8 * constructs, SETS_AT),
-                zeros(table, SETS_AT + 32 * constructs, TABLE_WORDS),
-            ),
-        ),
-    )
+    zeros(table, RULES_AT + 4 * word(table, 1), VARIABLES_AT)
+        && zeros(table, VARIABLES_AT + 4 * word(table, 3), CONSTRUCTS_AT)
+        && zeros(table, CONSTRUCTS_AT + 8 * constructs, TERMS_AT)
+        && zeros(table, TERMS_AT + 3 * word(table, 4), LITERALS_AT)
+        && zeros(table, LITERALS_AT + 8 * constructs, SETS_AT)
+        && zeros(table, SETS_AT + 32 * constructs, TABLE_WORDS)
 }
 
+#[tactic(auto, unfolding(crate::specs::Laid::placed))]
 fn placed(table: &[u32]) -> bool
     requires { (table_words ≤ length table.now) × (construct_count table.now ≤ max_constructs) }
     ensures { result ≡ placed_of table.now }
 {
-    both(
-        both(rest(table), rules(table)),
-        both(constructs(table), both(lists(table), terms_laid(table))),
-    )
+    rest(table) && rules(table) && constructs(table) && lists(table) && terms_laid(table)
 }
 
 // Whether a table is laid out as docs/TABLE.md says, its sets and its weight apart.
+#[tactic(auto, unfolding(crate::specs::Laid::laid))]
 pub fn laid(table: &[u32]) -> bool
     ensures { result ≡ laid_of table.now }
 {
-    if table.len() < TABLE_WORDS {
-        return false;
-    }
-    if headed(table) {
-        if placed(table) {
-            return names(table);
-        }
-    }
-    false
+    TABLE_WORDS <= table.len() && headed(table) && placed(table) && names(table)
 }

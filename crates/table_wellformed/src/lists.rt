@@ -6,10 +6,10 @@ ghost use Rattle.table_layout.specs.Held.{term_words};
 ghost use Rattle.table_wellformed.specs.Checks.{from_to};
 ghost use Rattle.table_wellformed.specs.Lists.{list_start, list_end, own_start, own_end, begins as beginsOf, after as after_of, lists_begin, after_lists, lists_laid, formed as formedOf, list_formed, counts_formed, condition_formed, has_low, has_high, term_laid};
 
-use crate::checks::{both, choose, construct_word, either, limited};
+use crate::checks::{construct_word, limited};
 use basis::MAX_VARIABLES;
 use table_layout::{Construct, LITERALS_AT, OwnList, TERMS_AT, attributes_of, construct_at, word};
-use term_sizes::{Sized, measure, measure_counts};
+use term_sizes::{SizeError, measure, measure_counts};
 use term_words::Kind;
 
 fn list_start(own: OwnList) -> usize
@@ -17,8 +17,7 @@ fn list_start(own: OwnList) -> usize
 {
     match own {
         OwnList::None => 0,
-        OwnList::Counts { start, end: _ } => start,
-        OwnList::Set { start, end: _ } => start,
+        OwnList::Counts { start, .. } | OwnList::Set { start, .. } => start,
     }
 }
 
@@ -27,8 +26,7 @@ fn list_end(own: OwnList) -> usize
 {
     match own {
         OwnList::None => 0,
-        OwnList::Counts { start: _, end } => end,
-        OwnList::Set { start: _, end } => end,
+        OwnList::Counts { end, .. } | OwnList::Set { end, .. } => end,
     }
 }
 
@@ -36,33 +34,26 @@ fn list_end(own: OwnList) -> usize
 pub fn own_start(construct: Construct) -> usize
     ensures { result ≡ own_start construct }
 {
-    let attributes = attributes_of(construct);
-    let own = attributes.own;
-    list_start(own)
+    list_start(attributes_of(construct).own)
 }
 
 // Where it ends.
 pub fn own_end(construct: Construct) -> usize
     ensures { result ≡ own_end construct }
 {
-    let attributes = attributes_of(construct);
-    let own = attributes.own;
-    list_end(own)
+    list_end(attributes_of(construct).own)
 }
 
 fn begins(p: usize, start: usize, end: usize) -> bool
     ensures { result ≡ beginsOf p start end }
 {
-    if start < end {
-        return start == p;
-    }
-    true
+    end <= start || start == p
 }
 
 fn after(p: usize, start: usize, end: usize) -> usize
     ensures { result ≡ after_of p start end }
 {
-    choose(start < end, end, p)
+    if start < end { end } else { p }
 }
 
 fn lists_begin(table: &[u32], i: usize, p: usize) -> bool
@@ -73,10 +64,7 @@ fn lists_begin(table: &[u32], i: usize, p: usize) -> bool
     let end = construct_word(table, i, 7);
     let next = after(p, start, end);
     let construct = construct_at(table, i);
-    both(
-        begins(p, start, end),
-        begins(next, own_start(construct), own_end(construct)),
-    )
+    begins(p, start, end) && begins(next, own_start(construct), own_end(construct))
 }
 
 fn after_lists(table: &[u32], i: usize, p: usize) -> usize
@@ -93,15 +81,12 @@ pub fn lists(table: &[u32]) -> bool
     ensures { result ≡ lists_laid table.now }
 {
     let count = word(table, 2);
-    let mut i = 0;
     let mut p = 0;
-    while i < count {
-        if lists_begin(table, i, p) {
-            p = after_lists(table, i, p);
-            i += 1;
-        } else {
+    for i in 0..count {
+        if !lists_begin(table, i, p) {
             return false;
         }
+        p = after_lists(table, i, p);
     }
     p == word(table, 4)
 }
@@ -114,14 +99,10 @@ pub fn term_words(table: &[u32]) -> &[u32]
     &table[TERMS_AT..LITERALS_AT]
 }
 
-fn formed(sized: Sized) -> bool
+fn formed(sized: Result<(), SizeError>) -> bool
     ensures { result ≡ formedOf sized }
 {
-    match sized {
-        Sized::Passes => true,
-        Sized::Malformed => false,
-        Sized::Exceeds(_) => true,
-    }
+    !matches!(sized, Err(SizeError::Malformed))
 }
 
 // Whether the terms from `start` up to `end` are well formed.
@@ -147,22 +128,19 @@ pub fn condition_formed(table: &[u32], i: usize) -> bool
 {
     let start = construct_word(table, i, 6);
     let end = construct_word(table, i, 7);
-    if start < end {
-        return list_formed(Kind::Condition, table, start, end);
-    }
-    true
+    end <= start || list_formed(Kind::Condition, table, start, end)
 }
 
 fn low_used(tag: usize) -> bool
     ensures { result ≡ has_low tag }
 {
-    either(limited(1, tag, 2), limited(33, tag, 34))
+    limited(1, tag, 2) || limited(33, tag, 34)
 }
 
 fn high_used(tag: usize) -> bool
     ensures { result ≡ has_high tag }
 {
-    either(tag == 1, tag == 33)
+    tag == 1 || tag == 33
 }
 
 fn term(table: &[u32], t: usize) -> bool
@@ -171,10 +149,7 @@ fn term(table: &[u32], t: usize) -> bool
 {
     let at = TERMS_AT + 3 * t;
     let tag = word(table, at);
-    both(
-        either(low_used(tag), word(table, at + 1) == 0),
-        either(high_used(tag), word(table, at + 2) == 0),
-    )
+    (low_used(tag) || word(table, at + 1) == 0) && (high_used(tag) || word(table, at + 2) == 0)
 }
 
 // Whether the words that a term does not use are 0.
@@ -182,11 +157,8 @@ pub fn terms_laid(table: &[u32]) -> bool
     ensures { result ≡ from_to 0 (term_count table.now) (term_laid table.now) }
 {
     let count = word(table, 4);
-    let mut t = 0;
-    while t < count {
-        if term(table, t) {
-            t += 1;
-        } else {
+    for t in 0..count {
+        if !term(table, t) {
             return false;
         }
     }

@@ -4,7 +4,7 @@ ghost use Rattle.basis.specs.Limits.{table_words};
 ghost use Rattle.table_wellformed.specs.Checks.{size_at};
 ghost use Rattle.table_wellformed.specs.Rules.{next_variable, binder_of, named_back, sign_word, variable_laid, member_laid, binders_from, has_members, is_concatenation, members_at, binders_laid, visible as visibleOf, operation_named, term_named, list_named, construct_named, uses_laid, names_laid};
 
-use crate::checks::{both, choose, construct_word, rule_word, size_at, variable_word, zeros};
+use crate::checks::{construct_word, rule_word, size_at, variable_word, zeros};
 use crate::lists::{own_end, own_start, term_words};
 use crate::rules::rule_end;
 use table_layout::{Below, Construct, VARIABLES_AT, attributes_of, construct_at, word};
@@ -21,20 +21,18 @@ fn binder(construct: Construct) -> usize
 fn sign(construct: Construct) -> usize
     ensures { result ≡ sign_word construct }
 {
-    choose(attributes_of(construct).signed, 1, 0)
+    if attributes_of(construct).signed {
+        1
+    } else {
+        0
+    }
 }
 
 // Whether the variable of construct i's binder names i.
 pub fn named_back(table: &[u32], i: usize, binder: usize) -> bool
     ensures { result ≡ named_back table.now i binder }
 {
-    if binder == 0 {
-        return true;
-    }
-    if word(table, 3) < binder {
-        return false;
-    }
-    variable_word(table, binder - 1, 0) == i
+    binder == 0 || (binder <= word(table, 3) && variable_word(table, binder - 1, 0) == i)
 }
 
 // Whether construct j binds variable x.
@@ -43,30 +41,18 @@ fn variable(table: &[u32], x: usize, j: usize) -> bool
     ensures { result ≡ variable_laid table.now x j }
 {
     let at = VARIABLES_AT + 4 * x;
-    both(
-        both(
-            binder(construct_at(table, j)) == x + 1,
-            variable_word(table, x, 0) == j,
-        ),
-        both(
-            both(
-                variable_word(table, x, 1) == construct_word(table, j, 2),
-                variable_word(table, x, 2) == sign(construct_at(table, j)),
-            ),
-            zeros(table, at + 3, at + 4),
-        ),
-    )
+    binder(construct_at(table, j)) == x + 1
+        && variable_word(table, x, 0) == j
+        && variable_word(table, x, 1) == construct_word(table, j, 2)
+        && variable_word(table, x, 2) == sign(construct_at(table, j))
+        && zeros(table, at + 3, at + 4)
 }
 
 fn member(table: &[u32], x: usize, j: usize) -> bool
     requires { (x ≤ 8589934592) × (j ≤ 4294967296) }
     ensures { result ≡ (ltb 0 (size_at table.now j) && member_laid table.now j x) }
 {
-    let present = 0 < size_at(table, j);
-    if 0 < binder(construct_at(table, j)) {
-        return both(present, variable(table, x, j));
-    }
-    both(present, true)
+    0 < size_at(table, j) && (binder(construct_at(table, j)) == 0 || variable(table, x, j))
 }
 
 fn next_variable(table: &[u32], j: usize, x: usize) -> usize
@@ -74,9 +60,10 @@ fn next_variable(table: &[u32], j: usize, x: usize) -> usize
     ensures { (result ≡ next_variable table.now j x) × (result ≤ x + 1) }
 {
     if 0 < binder(construct_at(table, j)) {
-        return x + 1;
+        x + 1
+    } else {
+        x
     }
-    x
 }
 
 // Whether the constructs from `start` up to `end` bind the variables from `first` up to `last`, in order.
@@ -87,12 +74,11 @@ fn binders(table: &[u32], start: usize, end: usize, first: usize, last: usize) -
     let mut j = start;
     let mut x = first;
     while j < end {
-        if member(table, x, j) {
-            x = next_variable(table, j, x);
-            j += size_at(table, j);
-        } else {
+        if !member(table, x, j) {
             return false;
         }
+        x = next_variable(table, j, x);
+        j += size_at(table, j);
     }
     x == last
 }
@@ -100,22 +86,13 @@ fn binders(table: &[u32], start: usize, end: usize, first: usize, last: usize) -
 fn has_members(below: Below) -> bool
     ensures { result ≡ has_members below }
 {
-    match below {
-        Below::Nothing => false,
-        Below::Branches => false,
-        Below::Members => true,
-        Below::Body { passes: _ } => false,
-        Below::Cases => false,
-        Below::Rule => false,
-    }
+    matches!(below, Below::Members)
 }
 
 fn concatenates(construct: Construct) -> bool
     ensures { result ≡ is_concatenation construct }
 {
-    let attributes = attributes_of(construct);
-    let below = attributes.below;
-    has_members(below)
+    has_members(attributes_of(construct).below)
 }
 
 // The first of rule r's constructs that may bind.
@@ -124,7 +101,11 @@ fn members_at(table: &[u32], r: usize) -> usize
     ensures { result ≡ members_at table.now r }
 {
     let body = rule_word(table, r, 0);
-    choose(concatenates(construct_at(table, body)), body + 1, body)
+    if concatenates(construct_at(table, body)) {
+        body + 1
+    } else {
+        body
+    }
 }
 
 fn rule_binders(table: &[u32], r: usize) -> bool
@@ -145,10 +126,7 @@ fn visible(table: &[u32], first: usize, last: usize, i: usize, y: usize) -> bool
     requires { last ≤ 4294967296 }
     ensures { result ≡ visibleOf table.now first last i y }
 {
-    if last <= y {
-        return false;
-    }
-    both(first <= y, variable_word(table, y, 0) < i)
+    first <= y && y < last && variable_word(table, y, 0) < i
 }
 
 fn operation_visible(
@@ -162,13 +140,8 @@ fn operation_visible(
     ensures { result ≡ operation_named table.now first last i operation }
 {
     match operation {
-        Operation::Number(_) => true,
         Operation::Variable(y) => visible(table, first, last, i, y),
-        Operation::Add => true,
-        Operation::Subtract => true,
-        Operation::Multiply => true,
-        Operation::Negate => true,
-        Operation::Unknown => true,
+        _ => true,
     }
 }
 
@@ -177,17 +150,10 @@ fn term_visible(table: &[u32], first: usize, last: usize, i: usize, term: Term) 
     ensures { result ≡ term_named table.now first last i term }
 {
     match term {
-        Term::Part(operation) => operation_visible(table, first, last, i, operation),
-        Term::Single(operation) => operation_visible(table, first, last, i, operation),
-        Term::All => true,
-        Term::Range => true,
-        Term::From => true,
-        Term::UpTo => true,
-        Term::Or => true,
-        Term::Except => true,
-        Term::And => true,
-        Term::Compare(_) => true,
-        Term::Bad => true,
+        Term::Part(operation) | Term::Single(operation) => {
+            operation_visible(table, first, last, i, operation)
+        }
+        _ => true,
     }
 }
 
@@ -204,11 +170,8 @@ fn list_visible(
     ensures { result ≡ list_named table.now first last i start end }
 {
     let words = term_words(table);
-    let mut t = start;
-    while t < end {
-        if term_visible(table, first, last, i, term_at(words, t)) {
-            t += 1;
-        } else {
+    for t in start..end {
+        if !term_visible(table, first, last, i, term_at(words, t)) {
             return false;
         }
     }
@@ -222,17 +185,15 @@ fn construct_visible(table: &[u32], first: usize, last: usize, i: usize) -> bool
     let construct = construct_at(table, i);
     let start = construct_word(table, i, 6);
     let end = construct_word(table, i, 7);
-    both(
-        list_visible(table, first, last, i, start, end),
-        list_visible(
+    list_visible(table, first, last, i, start, end)
+        && list_visible(
             table,
             first,
             last,
             i,
             own_start(construct),
             own_end(construct),
-        ),
-    )
+        )
 }
 
 fn rule_uses(table: &[u32], r: usize) -> bool
@@ -242,15 +203,20 @@ fn rule_uses(table: &[u32], r: usize) -> bool
     let first = rule_word(table, r, 1);
     let last = rule_end(table, r, 1);
     let end = rule_end(table, r, 0);
-    let mut i = rule_word(table, r, 0);
-    while i < end {
-        if construct_visible(table, first, last, i) {
-            i += 1;
-        } else {
+    let start = rule_word(table, r, 0);
+    for i in start..end {
+        if !construct_visible(table, first, last, i) {
             return false;
         }
     }
     true
+}
+
+fn rule_named(table: &[u32], r: usize) -> bool
+    requires { (table_words ≤ length table.now) × (r < 4294967296) }
+    ensures { result ≡ (binders_laid table.now r && uses_laid table.now r) }
+{
+    rule_binders(table, r) && rule_uses(table, r)
 }
 
 pub fn names(table: &[u32]) -> bool
@@ -258,11 +224,8 @@ pub fn names(table: &[u32]) -> bool
     ensures { result ≡ names_laid table.now }
 {
     let count = word(table, 1);
-    let mut r = 0;
-    while r < count {
-        if both(rule_binders(table, r), rule_uses(table, r)) {
-            r += 1;
-        } else {
+    for r in 0..count {
+        if !rule_named(table, r) {
             return false;
         }
     }

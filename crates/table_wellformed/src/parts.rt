@@ -4,7 +4,7 @@ ghost use Rattle.basis.specs.Limits.{max_constructs};
 ghost use Rattle.table_wellformed.specs.Checks.{size_at};
 ghost use Rattle.table_wellformed.specs.Parts.{conditioned as conditionedOf, unconditioned as unconditionedOf, default_at, part_laid, parts_laid};
 
-use crate::checks::{both, construct_word, either, size_at};
+use crate::checks::{construct_word, size_at};
 use table_layout::word;
 
 fn conditioned(table: &[u32], i: usize) -> bool
@@ -13,27 +13,21 @@ fn conditioned(table: &[u32], i: usize) -> bool
 {
     let start = construct_word(table, i, 6);
     let end = construct_word(table, i, 7);
-    both(start < end, end <= word(table, 4))
+    start < end && end <= word(table, 4)
 }
 
 pub fn unconditioned(table: &[u32], i: usize) -> bool
     requires { i ≤ 4294967296 }
     ensures { result ≡ unconditionedOf table.now i }
 {
-    both(
-        construct_word(table, i, 6) == 0,
-        construct_word(table, i, 7) == 0,
-    )
+    construct_word(table, i, 6) == 0 && construct_word(table, i, 7) == 0
 }
 
 fn default_case(table: &[u32], first: usize, j: usize, end: usize) -> bool
     requires { j ≤ 2 * max_constructs }
     ensures { result ≡ default_at table.now first j end }
 {
-    both(
-        both(first < j, j + size_at(table, j) == end),
-        unconditioned(table, j),
-    )
+    first < j && j + size_at(table, j) == end && unconditioned(table, j)
 }
 
 fn part(table: &[u32], switch: bool, first: usize, j: usize, end: usize) -> bool
@@ -42,12 +36,9 @@ fn part(table: &[u32], switch: bool, first: usize, j: usize, end: usize) -> bool
 {
     let present = 0 < size_at(table, j);
     if switch {
-        return both(
-            present,
-            either(conditioned(table, j), default_case(table, first, j, end)),
-        );
+        return present && (conditioned(table, j) || default_case(table, first, j, end));
     }
-    both(present, unconditioned(table, j))
+    present && unconditioned(table, j)
 }
 
 // Whether the parts from `first` on fill what is left up to `end`.
@@ -57,11 +48,10 @@ pub fn parts(table: &[u32], switch: bool, first: usize, end: usize) -> bool
 {
     let mut j = first;
     while j < end {
-        if part(table, switch, first, j, end) {
-            j += size_at(table, j);
-        } else {
+        if !part(table, switch, first, j, end) {
             return false;
         }
+        j += size_at(table, j);
     }
     j == end
 }

@@ -4,7 +4,7 @@ ghost use Rattle.table_layout.specs.Places.{rule_count};
 ghost use Rattle.table_wellformed.specs.Checks.{from_to};
 ghost use Rattle.table_wellformed.specs.Rules.{rule_end, rule_laid, rules_laid};
 
-use crate::checks::{both, choose, rule_word, size_at};
+use crate::checks::{rule_word, size_at};
 use crate::parts::unconditioned;
 use table_layout::word;
 
@@ -26,24 +26,19 @@ fn rule(table: &[u32], r: usize) -> bool
     let body = rule_word(table, r, 0);
     let end = rule_end(table, r, 0);
     let variables = rule_word(table, r, 1) + rule_word(table, r, 2);
-    both(
-        both(body < end, body + size_at(table, body) == end),
-        both(
-            variables == rule_end(table, r, 1),
-            both(rule_word(table, r, 3) == 0, unconditioned(table, body)),
-        ),
-    )
+    body < end
+        && body + size_at(table, body) == end
+        && variables == rule_end(table, r, 1)
+        && rule_word(table, r, 3) == 0
+        && unconditioned(table, body)
 }
 
 fn each_rule(table: &[u32]) -> bool
     ensures { result ≡ from_to 0 (rule_count table.now) (rule_laid table.now) }
 {
     let count = word(table, 1);
-    let mut r = 0;
-    while r < count {
-        if rule(table, r) {
-            r += 1;
-        } else {
+    for r in 0..count {
+        if !rule(table, r) {
             return false;
         }
     }
@@ -53,8 +48,5 @@ fn each_rule(table: &[u32]) -> bool
 pub fn rules(table: &[u32]) -> bool
     ensures { result ≡ rules_laid table.now }
 {
-    both(
-        both(rule_word(table, 0, 0) == 0, rule_word(table, 0, 1) == 0),
-        each_rule(table),
-    )
+    rule_word(table, 0, 0) == 0 && rule_word(table, 0, 1) == 0 && each_rule(table)
 }

@@ -15,23 +15,20 @@ use Rattle.basis.specs.Bits.{Bits, digit}
 use Rattle.basis.specs.Patterns.{pattern_value, offset, place}
 use Rattle.basis.proofs.PatternLaws.{place_less, value_place, offset_small}
 use Rattle.term_integers.specs.Wholes.{bounded, equals}
-use Rattle.term_integers.specs.declared.Checked.{Checked}
 use Rattle.term_words.specs.Numbers.{top_of, pair_of, pushed, kept, difference_of, opposite_of}
 use Rattle.term_words.specs.Tests.{noted, combined, joins}
-use Rattle.term_words.specs.Steps.{variable_of, binary, unary, operate_of, after_of, test_top, test_pair, equal_to, within, from, up_to, operated, step_of}
+use Rattle.term_words.specs.Steps.{variable_of, binary, unary, operate_of, after_of, test_top, test_pair, operated, step_of}
 use Rattle.term_words.specs.declared.Joint.{Joint}
 use Rattle.term_words.specs.declared.Kind.{Kind}
 use Rattle.term_words.specs.declared.Mode.{Mode}
 use Rattle.term_words.specs.declared.Numbers.{Numbers}
 use Rattle.term_words.specs.declared.Operation.{Operation}
-use Rattle.term_words.specs.declared.Outcome.{Outcome}
-use Rattle.term_words.specs.declared.Pair.{Pair}
 use Rattle.term_words.specs.declared.Term.{Term}
-use Rattle.term_words.specs.declared.Top.{Top}
-use Rattle.term_words.specs.declared.Trial.{Trial}
 use Rattle.term_evaluation.specs.Meaning.{next, run, verdict_of, membership}
 use Rattle.term_evaluation.specs.Patterns.{clamped}
 use Rattle.term_evaluation.specs.declared.Ended.{Ended}
+use Rattle.std.specs.Prelude.{Option, Some, None, Result, Ok, Err}
+use Rattle.term_words.specs.declared.TermError.{TermError}
 
 -- ---- numbers within 2^62
 
@@ -94,23 +91,21 @@ AllSmall (Numbers.Two a b) = Small a × Small b
 AllSmall (Numbers.Three a b c) = Small a × Small b × Small c
 AllSmall (Numbers.Four a b c d) = Small a × Small b × Small c × Small d
 
-abbrev SmallTop : Top → Type 0
-SmallTop (Top.Of rest a) = AllSmall rest × Small a
-SmallTop Top.Short = Unit {0}
+abbrev SmallTop : Option (Numbers × ℤ) → Type 0
+SmallTop (Some (rest, a)) = AllSmall rest × Small a
+SmallTop None = Unit {0}
 
-abbrev SmallPair : Pair → Type 0
-SmallPair (Pair.Of rest a b) = AllSmall rest × Small a × Small b
-SmallPair Pair.Short = Unit {0}
+abbrev SmallPair : Option (Numbers × ℤ × ℤ) → Type 0
+SmallPair (Some (rest, a, b)) = AllSmall rest × Small a × Small b
+SmallPair None = Unit {0}
 
-abbrev SmallOutcome : Outcome → Type 0
-SmallOutcome (Outcome.Stack s) = AllSmall s
-SmallOutcome Outcome.Malformed = Unit {0}
-SmallOutcome Outcome.Overflow = Unit {0}
+abbrev SmallOutcome : Result Numbers TermError → Type 0
+SmallOutcome (Ok s) = AllSmall s
+SmallOutcome (Err e) = Unit {0}
 
-abbrev SmallTrial : Trial → Type 0
-SmallTrial (Trial.Running s t) = AllSmall s
-SmallTrial Trial.Malformed = Unit {0}
-SmallTrial Trial.Overflow = Unit {0}
+abbrev SmallTrial : Result (Numbers × ℕ) TermError → Type 0
+SmallTrial (Ok (s, t)) = AllSmall s
+SmallTrial (Err e) = Unit {0}
 
 top_small : (s : Numbers) → AllSmall s → SmallTop (top_of s)
 top_small Numbers.Zero h = tt
@@ -138,23 +133,23 @@ keep_small : (s : Numbers) (z : ℤ) → AllSmall s → SmallOutcome (kept s (bo
 unfolding bounded
 keep_small s z h = go (leb (nat_abs z) (2 ^ 62)) refl
   where
-    go : (t : Bool) → leb (nat_abs z) (2 ^ 62) ≡ t → SmallOutcome (kept s (cond t (Checked.Exact z) Checked.Overflow))
+    go : (t : Bool) → leb (nat_abs z) (2 ^ 62) ≡ t → SmallOutcome (kept s (cond t (Some z) None))
     go true e = push_small s z h (leb-true (nat_abs z) (2 ^ 62) e)
     go false e = tt
 
-binary_small : (f : ℤ → ℤ → ℤ) (p : Pair) → SmallPair p → SmallOutcome (binary f p)
-binary_small f (Pair.Of rest a b) h = keep_small rest (f a b) h.0
-binary_small f Pair.Short h = tt
+binary_small : (f : ℤ → ℤ → ℤ) (p : Option (Numbers × ℤ × ℤ)) → SmallPair p → SmallOutcome (binary f p)
+binary_small f (Some (rest, a, b)) h = keep_small rest (f a b) h.0
+binary_small f None h = tt
 
-unary_small : (f : ℤ → ℤ) (p : Top) → SmallTop p → SmallOutcome (unary f p)
-unary_small f (Top.Of rest a) h = keep_small rest (f a) h.0
-unary_small f Top.Short h = tt
+unary_small : (f : ℤ → ℤ) (p : Option (Numbers × ℤ)) → SmallTop p → SmallOutcome (unary f p)
+unary_small f (Some (rest, a)) h = keep_small rest (f a) h.0
+unary_small f None h = tt
 
 variable_small : (env : List ℤ) (k : ℕ) (s : Numbers) → AllSmall s → SmallOutcome (variable_of env k s)
 unfolding variable_of
 variable_small env k s h = go (ltb k (length env))
   where
-    go : (t : Bool) → SmallOutcome (cond t (kept s (bounded (get_or env k (pos 0)))) Outcome.Malformed)
+    go : (t : Bool) → SmallOutcome (cond t (kept s (bounded (get_or env k (pos 0)))) (Err TermError.Malformed))
     go true = keep_small s (get_or env k (pos 0)) h
     go false = tt
 
@@ -171,7 +166,7 @@ note_small : (s : Numbers) (t : ℕ) (b : Bool) → AllSmall s → SmallTrial (n
 unfolding noted
 note_small s t b h = go (ltb t (2 ^ 62))
   where
-    go : (u : Bool) → SmallTrial (cond u (Trial.Running s (t * 2 + digit b)) Trial.Malformed)
+    go : (u : Bool) → SmallTrial (cond u (Ok (s, t * 2 + digit b)) (Err TermError.Malformed))
     go true = h
     go false = tt
 
@@ -179,23 +174,23 @@ combine_small : (j : Joint) (s : Numbers) (t : ℕ) → AllSmall s → SmallTria
 unfolding combined
 combine_small j s t h = go (ltb t 4)
   where
-    go : (u : Bool) → SmallTrial (cond u Trial.Malformed (noted s (t / 4) (joins j (eqb (t / 2 % 2) 1) (eqb (t % 2) 1))))
+    go : (u : Bool) → SmallTrial (cond u (Err TermError.Malformed) (noted s (t / 4) (joins j (eqb (t / 2 % 2) 1) (eqb (t % 2) 1))))
     go true = tt
     go false = note_small s (t / 4) (joins j (eqb (t / 2 % 2) 1) (eqb (t % 2) 1)) h
 
 -- ---- one term
 
 -- the same trial, and its numbers are within 2^62
-abbrev Alike : Trial → Trial → Type 0
+abbrev Alike : Result (Numbers × ℕ) TermError → Result (Numbers × ℕ) TermError → Type 0
 Alike r r' = (r ≡ r') × SmallTrial r'
 
-test_top_lem : (p q : ℤ → Bool) → ((a : ℤ) → Small a → p a ≡ q a) → (k : Top) (t : ℕ) → SmallTop k → Alike (test_top p k t) (test_top q k t)
-test_top_lem p q f (Top.Of s a) t h = (ap (noted s t) (f a h.1), note_small s t (q a) h.0)
-test_top_lem p q f Top.Short t h = (refl, tt)
+test_top_lem : (p q : ℤ → Bool) → ((a : ℤ) → Small a → p a ≡ q a) → (k : Option (Numbers × ℤ)) (t : ℕ) → SmallTop k → Alike (test_top p k t) (test_top q k t)
+test_top_lem p q f (Some (s, a)) t h = (ap (noted s t) (f a h.1), note_small s t (q a) h.0)
+test_top_lem p q f None t h = (refl, tt)
 
-test_pair_lem : (p q : ℤ → ℤ → Bool) → ((a b : ℤ) → Small a → Small b → p a b ≡ q a b) → (k : Pair) (t : ℕ) → SmallPair k → Alike (test_pair p k t) (test_pair q k t)
-test_pair_lem p q f (Pair.Of s a b) t h = (ap (noted s t) (f a b h.1 h.2), note_small s t (q a b) h.0)
-test_pair_lem p q f Pair.Short t h = (refl, tt)
+test_pair_lem : (p q : ℤ → ℤ → Bool) → ((a b : ℤ) → Small a → Small b → p a b ≡ q a b) → (k : Option (Numbers × ℤ × ℤ)) (t : ℕ) → SmallPair k → Alike (test_pair p k t) (test_pair q k t)
+test_pair_lem p q f (Some (s, a, b)) t h = (ap (noted s t) (f a b h.1 h.2), note_small s t (q a b) h.0)
+test_pair_lem p q f None t h = (refl, tt)
 
 module _ (env : List ℤ) (v : ℤ) where
   within_same : (a b : ℤ) → Small a → Small b → cond (le_z a (clamped v)) (le_z (clamped v) b) false ≡ cond (le_z a v) (le_z v b) false
@@ -205,15 +200,13 @@ module _ (env : List ℤ) (v : ℤ) where
   unfolding equals
   equal_same a h = within_same a a h h
 
-  part_alike : (o : Outcome) (t : ℕ) → SmallOutcome o → Alike (after_of o t) (after_of o t)
-  part_alike (Outcome.Stack s) t h = (refl, h)
-  part_alike Outcome.Malformed t h = (refl, tt)
-  part_alike Outcome.Overflow t h = (refl, tt)
+  part_alike : (o : Result Numbers TermError) (t : ℕ) → SmallOutcome o → Alike (after_of o t) (after_of o t)
+  part_alike (Ok s) t h = (refl, h)
+  part_alike (Err e) t h = (refl, tt)
 
-  single_alike : (o : Outcome) (t : ℕ) → SmallOutcome o → Alike (operated (clamped v) o t) (operated v o t)
-  single_alike (Outcome.Stack s) t h = test_top_lem (λ a. equals a (clamped v)) (λ a. equals a v) equal_same (top_of s) t (top_small s h)
-  single_alike Outcome.Malformed t h = (refl, tt)
-  single_alike Outcome.Overflow t h = (refl, tt)
+  single_alike : (o : Result Numbers TermError) (t : ℕ) → SmallOutcome o → Alike (operated (clamped v) o t) (operated v o t)
+  single_alike (Ok s) t h = test_top_lem (λ a. equals a (clamped v)) (λ a. equals a v) equal_same (top_of s) t (top_small s h)
+  single_alike (Err e) t h = (refl, tt)
 
   step_alike : (x : Term) (s : Numbers) (t : ℕ) → AllSmall s → Alike (step_of Kind.Set Mode.Values env (clamped v) x s t) (step_of Kind.Set Mode.Values env v x s t)
   step_alike (Term.Part o) s t h = part_alike (operate_of Mode.Values env o s) t (operate_small env o s h)
@@ -230,10 +223,9 @@ module _ (env : List ℤ) (v : ℤ) where
 
   -- ---- a whole list
 
-  next_same : (go go' : Numbers → ℕ → Ended) → ((s : Numbers) (t : ℕ) → AllSmall s → go s t ≡ go' s t) → (i : ℕ) (r : Trial) → SmallTrial r → next go i r ≡ next go' i r
-  next_same go go' f i (Trial.Running s t) h = f s t h
-  next_same go go' f i Trial.Malformed h = refl
-  next_same go go' f i Trial.Overflow h = refl
+  next_same : (go go' : Numbers → ℕ → Ended) → ((s : Numbers) (t : ℕ) → AllSmall s → go s t ≡ go' s t) → (i : ℕ) (r : Result (Numbers × ℕ) TermError) → SmallTrial r → next go i r ≡ next go' i r
+  next_same go go' f i (Ok (s, t)) h = f s t h
+  next_same go go' f i (Err e) h = refl
 
   run_same : (xs : List Term) (i : ℕ) (s : Numbers) (t : ℕ) → AllSmall s → run Kind.Set Mode.Values env (clamped v) i xs s t ≡ run Kind.Set Mode.Values env v i xs s t
   unfolding run

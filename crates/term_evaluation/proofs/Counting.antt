@@ -10,8 +10,9 @@ use mir.Syntax.{w64}
 use mir.Val.{to_z, of_z}
 use Rattle.basis.specs.Counts.{Counts, least, between, exactly, at_least, span}
 use Rattle.term_evaluation.specs.Counts.{shown}
-use Rattle.term_evaluation.specs.declared.Counted.{Counted}
 use Rattle.term_integers.proofs.Laws.{differ, read₁}
+use Rattle.std.specs.Prelude.{Ok}
+use Rattle.term_evaluation.specs.declared.Allowed.{Allowed}
 
 -- a number's sign, by the test that was made of it
 pub sign : (a : ℤ) {r : Bool} (t : Bool) → mag a < 2 ^ 63 → r ≡ not (non_neg (to_z w64 (of_z w64 a))) → r ≡ t → not (non_neg a) ≡ t
@@ -25,21 +26,21 @@ pub least_positive : (a : ℤ) → not (non_neg a) ≡ false → nat_abs a ≡ l
 least_positive (pos n) e = refl
 least_positive (negsuc n) e = differ e
 
-pub exactly_negative : (a : ℤ) → not (non_neg a) ≡ true → Counted.None ≡ shown (exactly a)
+pub exactly_negative : (a : ℤ) → not (non_neg a) ≡ true → Ok Allowed.None ≡ shown (exactly a)
 unfolding exactly
 exactly_negative (pos n) e = differ (sym e)
 exactly_negative (negsuc n) e = refl
 
-pub exactly_positive : (a : ℤ) → not (non_neg a) ≡ false → Counted.Within (least a) 0 ≡ shown (exactly a)
+pub exactly_positive : (a : ℤ) → not (non_neg a) ≡ false → Ok (Allowed.Within (least a) 0) ≡ shown (exactly a)
 unfolding exactly
 exactly_positive (pos n) e = refl
 exactly_positive (negsuc n) e = differ e
 
-pub open_is : (a : ℤ) → Counted.From (least a) ≡ shown (at_least a)
+pub open_is : (a : ℤ) → Ok (Allowed.From (least a)) ≡ shown (at_least a)
 unfolding at_least
 open_is a = refl
 
-pub span_negative : (a b : ℤ) → not (non_neg b) ≡ true → Counted.None ≡ shown (span a b)
+pub span_negative : (a b : ℤ) → not (non_neg b) ≡ true → Ok Allowed.None ≡ shown (span a b)
 unfolding span
 span_negative a (pos n) e = differ (sym e)
 span_negative a (negsuc n) e = refl
@@ -52,12 +53,12 @@ between_out : (low high : ℕ) → high < low → between low high ≡ Counts.no
 unfolding between
 between_out low high h = rw (lt-leb low high h, between)
 
-pub span_in : (a b : ℤ) → not (non_neg b) ≡ false → least a ≤ nat_abs b → Counted.Within (least a) (nat_abs b - least a) ≡ shown (span a b)
+pub span_in : (a b : ℤ) → not (non_neg b) ≡ false → least a ≤ nat_abs b → Ok (Allowed.Within (least a) (nat_abs b - least a)) ≡ shown (span a b)
 unfolding span
 span_in a (pos n) e h = sym (ap shown (between_in (least a) n h))
 span_in a (negsuc n) e h = differ e
 
-pub span_out : (a b : ℤ) → not (non_neg b) ≡ false → nat_abs b < least a → Counted.None ≡ shown (span a b)
+pub span_out : (a b : ℤ) → not (non_neg b) ≡ false → nat_abs b < least a → Ok Allowed.None ≡ shown (span a b)
 unfolding span
 span_out a (pos n) e h = sym (ap shown (between_out (least a) n h))
 span_out a (negsuc n) e h = differ e

@@ -18,23 +18,20 @@ use Rattle.term_words.specs.Numbers.{equals, pushed, kept}
 use Rattle.term_words.specs.Steps.{variable_of, after_of, operated, compares, step_of}
 use Rattle.term_words.specs.Tests.{noted}
 use Rattle.term_words.specs.Words.{term_of, term_at, terms}
-use Rattle.term_integers.specs.declared.Checked.{Checked}
 use Rattle.term_words.specs.declared.Comparison.{Comparison}
 use Rattle.term_words.specs.declared.Kind.{Kind}
 use Rattle.term_words.specs.declared.Mode.{Mode}
 use Rattle.term_words.specs.declared.Numbers.{Numbers}
 use Rattle.term_words.specs.declared.Operation.{Operation}
-use Rattle.term_words.specs.declared.Outcome.{Outcome}
 use Rattle.term_words.specs.declared.Term.{Term}
-use Rattle.term_words.specs.declared.Trial.{Trial}
 use Rattle.term_evaluation.specs.Counts.{shown, form_of, calculations_end, of_trial, tallied_by, tallied, counts}
 use Rattle.term_evaluation.specs.Meaning.{next, run, verdict_of, membership, condition}
 use Rattle.term_evaluation.specs.Short.{Puts, comparison_of}
-use Rattle.term_evaluation.specs.declared.Counted.{Counted}
 use Rattle.term_evaluation.specs.declared.Ended.{Ended}
 use Rattle.term_evaluation.specs.declared.Form.{Form}
-use Rattle.term_evaluation.specs.declared.Tested.{Tested}
 use Rattle.term_evaluation.proofs.Runs.{goes, stops}
+use Rattle.std.specs.Prelude.{Option, Result, Ok, Err}
+use Rattle.term_words.specs.declared.TermError.{TermError}
 
 -- ---- one term
 
@@ -102,16 +99,15 @@ small z r fits e t = leb-true (nat_abs z) (2 ^ 62) (sym (read₁ (λ (x : ℤ). 
 
 -- its step, in a list of any kind
 puts_step : (k : Kind) (env : List ℤ) (v : ℤ) (x : Term) (z : ℤ) → Puts env x z → (s : Numbers) (t : ℕ) → step_of k Mode.Values env v x s t ≡ after_of (pushed s z) t
-puts_step Kind.Calculation env v x z p s t = ap (λ (y : Term). step_of Kind.Calculation Mode.Values env v y s t) p.1 ∙ ap (λ (o : Outcome). after_of o t) (p.2 s)
-puts_step Kind.Set env v x z p s t = ap (λ (y : Term). step_of Kind.Set Mode.Values env v y s t) p.1 ∙ ap (λ (o : Outcome). after_of o t) (p.2 s)
-puts_step Kind.Condition env v x z p s t = ap (λ (y : Term). step_of Kind.Condition Mode.Values env v y s t) p.1 ∙ ap (λ (o : Outcome). after_of o t) (p.2 s)
+puts_step Kind.Calculation env v x z p s t = ap (λ (y : Term). step_of Kind.Calculation Mode.Values env v y s t) p.1 ∙ ap (λ (o : Result Numbers TermError). after_of o t) (p.2 s)
+puts_step Kind.Set env v x z p s t = ap (λ (y : Term). step_of Kind.Set Mode.Values env v y s t) p.1 ∙ ap (λ (o : Result Numbers TermError). after_of o t) (p.2 s)
+puts_step Kind.Condition env v x z p s t = ap (λ (y : Term). step_of Kind.Condition Mode.Values env v y s t) p.1 ∙ ap (λ (o : Result Numbers TermError). after_of o t) (p.2 s)
 
 -- ---- lists
 
-ends : (go : Numbers → ℕ → Ended) (i : ℕ) (r : Trial) → ((s : Numbers) (t : ℕ) → (go s t).trial ≡ Trial.Running s t) → (next go i r).trial ≡ r
-ends go i (Trial.Running s t) h = h s t
-ends go i Trial.Malformed h = refl
-ends go i Trial.Overflow h = refl
+ends : (go : Numbers → ℕ → Ended) (i : ℕ) (r : Result (Numbers × ℕ) TermError) → ((s : Numbers) (t : ℕ) → (go s t).trial ≡ Ok (s, t)) → (next go i r).trial ≡ r
+ends go i (Ok (s, t)) h = h s t
+ends go i (Err e) h = refl
 
 module _ (k : Kind) (env : List ℤ) (v : ℤ) (ws : List ℕ) where
   -- the last term
@@ -121,8 +117,8 @@ module _ (k : Kind) (env : List ℤ) (v : ℤ) (ws : List ℕ) where
       ∙ ends (λ (s' : Numbers) (t' : ℕ). run k Mode.Values env v (i + 1) (terms ws (i + 1) end) s' t') i (step_of k Mode.Values env v (term_at ws i) s t) (λ s' t'. ap (λ (r : Ended). r.trial) (stops k Mode.Values env v ws (i + 1) end s' t' (omega arith)))
 
   -- a number before others
-  at_first : (i end : ℕ) (s s' : Numbers) (z : ℤ) (t : ℕ) → i < end → Puts env (term_at ws i) z → pushed s z ≡ Outcome.Stack s' → run k Mode.Values env v i (terms ws i end) s t ≡ run k Mode.Values env v (i + 1) (terms ws (i + 1) end) s' t
-  at_first i end s s' z t h p e = goes k Mode.Values env v ws i end s t h (Trial.Running s' t) (puts_step k env v (term_at ws i) z p s t ∙ ap (λ (o : Outcome). after_of o t) e)
+  at_first : (i end : ℕ) (s s' : Numbers) (z : ℤ) (t : ℕ) → i < end → Puts env (term_at ws i) z → pushed s z ≡ Ok s' → run k Mode.Values env v i (terms ws i end) s t ≡ run k Mode.Values env v (i + 1) (terms ws (i + 1) end) s' t
+  at_first i end s s' z t h p e = goes k Mode.Values env v ws i end s t h (Ok (s', t)) (puts_step k env v (term_at ws i) z p s t ∙ ap (λ (o : Result Numbers TermError). after_of o t) e)
 
   pub one : (start end : ℕ) → start + 1 ≡ end → (run k Mode.Values env v start (terms ws start end) Numbers.Zero 1).trial ≡ step_of k Mode.Values env v (term_at ws start) Numbers.Zero 1
   one start end e = at_last start end Numbers.Zero 1 e
@@ -141,34 +137,34 @@ module _ (k : Kind) (env : List ℤ) (v : ℤ) (ws : List ℕ) where
 -- ---- what is said of them
 
 -- one test
-answer : (b : Bool) → verdict_of (noted Numbers.Zero 1 b) ≡ cond b Tested.Yes Tested.No
+answer : (b : Bool) → verdict_of (noted Numbers.Zero 1 b) ≡ Ok b
 unfolding noted
 answer true = refl
 answer false = refl
 
 module _ (env : List ℤ) (v : ℤ) (ws : List ℕ) (start end : ℕ) where
-  pub all_in : start + 1 ≡ end → term_at ws start ≡ Term.All → membership env v start (terms ws start end) ≡ Tested.Yes
+  pub all_in : start + 1 ≡ end → term_at ws start ≡ Term.All → membership env v start (terms ws start end) ≡ Ok true
   unfolding membership
   all_in e x = ap verdict_of (one Kind.Set env v ws start end e ∙ ap (λ (y : Term). step_of Kind.Set Mode.Values env v y Numbers.Zero 1) x) ∙ answer true
 
-  pub item_in : (n : ℕ) → start + 1 ≡ end → term_at ws start ≡ Term.Single (Operation.Number n) → n ≤ 2 ^ 62 → membership env v start (terms ws start end) ≡ cond (equals (pos n) v) Tested.Yes Tested.No
+  pub item_in : (n : ℕ) → start + 1 ≡ end → term_at ws start ≡ Term.Single (Operation.Number n) → n ≤ 2 ^ 62 → membership env v start (terms ws start end) ≡ Ok (equals (pos n) v)
   unfolding membership
   item_in n e x h =
-      ap verdict_of (one Kind.Set env v ws start end e ∙ ap (λ (y : Term). step_of Kind.Set Mode.Values env v y Numbers.Zero 1) x ∙ ap (λ (r : Checked). operated v (kept Numbers.Zero r) 1) (bounded_in (pos n) h)) ∙ answer (equals (pos n) v)
+      ap verdict_of (one Kind.Set env v ws start end e ∙ ap (λ (y : Term). step_of Kind.Set Mode.Values env v y Numbers.Zero 1) x ∙ ap (λ (r : Option ℤ). operated v (kept Numbers.Zero r) 1) (bounded_in (pos n) h)) ∙ answer (equals (pos n) v)
 
-  pub from_in : (a : ℤ) → start + 2 ≡ end → Puts env (term_at ws start) a → term_at ws (start + 1) ≡ Term.From → membership env v start (terms ws start end) ≡ cond (le_z a v) Tested.Yes Tested.No
+  pub from_in : (a : ℤ) → start + 2 ≡ end → Puts env (term_at ws start) a → term_at ws (start + 1) ≡ Term.From → membership env v start (terms ws start end) ≡ Ok (le_z a v)
   unfolding membership
   from_in a e p x = ap verdict_of (two Kind.Set env v ws start end a e p ∙ ap (λ (y : Term). step_of Kind.Set Mode.Values env v y (Numbers.One a) 1) x) ∙ answer (le_z a v)
 
-  pub up_to_in : (b : ℤ) → start + 2 ≡ end → Puts env (term_at ws start) b → term_at ws (start + 1) ≡ Term.UpTo → membership env v start (terms ws start end) ≡ cond (le_z v b) Tested.Yes Tested.No
+  pub up_to_in : (b : ℤ) → start + 2 ≡ end → Puts env (term_at ws start) b → term_at ws (start + 1) ≡ Term.UpTo → membership env v start (terms ws start end) ≡ Ok (le_z v b)
   unfolding membership
   up_to_in b e p x = ap verdict_of (two Kind.Set env v ws start end b e p ∙ ap (λ (y : Term). step_of Kind.Set Mode.Values env v y (Numbers.One b) 1) x) ∙ answer (le_z v b)
 
-  pub range_in : (a b : ℤ) → start + 3 ≡ end → Puts env (term_at ws start) a → Puts env (term_at ws (start + 1)) b → term_at ws (start + 1 + 1) ≡ Term.Range → membership env v start (terms ws start end) ≡ cond (cond (le_z a v) (le_z v b) false) Tested.Yes Tested.No
+  pub range_in : (a b : ℤ) → start + 3 ≡ end → Puts env (term_at ws start) a → Puts env (term_at ws (start + 1)) b → term_at ws (start + 1 + 1) ≡ Term.Range → membership env v start (terms ws start end) ≡ Ok (cond (le_z a v) (le_z v b) false)
   unfolding membership
   range_in a b e p q x = ap verdict_of (three Kind.Set env v ws start end a b e p q ∙ ap (λ (y : Term). step_of Kind.Set Mode.Values env v y (Numbers.Two a b) 1) x) ∙ answer (cond (le_z a v) (le_z v b) false)
 
-pub compared_in : (env : List ℤ) (ws : List ℕ) (start end : ℕ) (k : Comparison) (a b : ℤ) → start + 3 ≡ end → Puts env (term_at ws start) a → Puts env (term_at ws (start + 1)) b → term_at ws (start + 1 + 1) ≡ Term.Compare k → condition env start (terms ws start end) ≡ cond (compares k a b) Tested.Yes Tested.No
+pub compared_in : (env : List ℤ) (ws : List ℕ) (start end : ℕ) (k : Comparison) (a b : ℤ) → start + 3 ≡ end → Puts env (term_at ws start) a → Puts env (term_at ws (start + 1)) b → term_at ws (start + 1 + 1) ≡ Term.Compare k → condition env start (terms ws start end) ≡ Ok (compares k a b)
 unfolding condition
 compared_in env ws start end k a b e p q x =
     ap verdict_of (three Kind.Condition env (pos 0) ws start end a b e p q ∙ ap (λ (y : Term). step_of Kind.Condition Mode.Values env (pos 0) y (Numbers.Two a b) 1) x) ∙ answer (compares k a b)
@@ -180,7 +176,7 @@ module _ (env : List ℤ) (ws : List ℕ) (start end : ℕ) where
   counts_by : (x : Term) → start < end → term_at ws (end - 1) ≡ x → counts env ws start end ≡ of_trial (form_of x) (run Kind.Calculation Mode.Values env (pos 0) start (terms ws start (calculations_end (form_of x) (end - 1) end)) Numbers.Zero 1).trial
   unfolding counts tallied
   counts_by x h e =
-      ap (λ (b : Bool). (cond b (tallied_by (form_of (term_at ws (end - 1))) Mode.Values env ws start end) (record { counted = Counted.Malformed; at = start })).counted) (lt-ltb _ _ h)
+      ap (λ (b : Bool). (cond b (tallied_by (form_of (term_at ws (end - 1))) Mode.Values env ws start end) (record { counted = Err TermError.Malformed; at = start })).counted) (lt-ltb _ _ h)
       ∙ ap (λ (y : Term). (tallied_by (form_of y) Mode.Values env ws start end).counted) e
 
   pub exact_count : (a : ℤ) → start + 1 ≡ end → Puts env (term_at ws start) a → counts env ws start end ≡ shown (exactly a)
@@ -189,7 +185,7 @@ module _ (env : List ℤ) (ws : List ℕ) (start end : ℕ) where
       counts_by (Term.Part p.0) (omega arith) (ap (term_at ws) e' ∙ p.1)
       ∙ ap (of_trial Form.Exact) (one Kind.Calculation env (pos 0) ws start end e ∙ puts_step Kind.Calculation env (pos 0) (term_at ws start) a p Numbers.Zero 1)
 
-  one_number : (f : Form) (a : ℤ) → start + 2 ≡ end → Puts env (term_at ws start) a → of_trial f (run Kind.Calculation Mode.Values env (pos 0) start (terms ws start (end - 1)) Numbers.Zero 1).trial ≡ of_trial f (Trial.Running (Numbers.One a) 1)
+  one_number : (f : Form) (a : ℤ) → start + 2 ≡ end → Puts env (term_at ws start) a → of_trial f (run Kind.Calculation Mode.Values env (pos 0) start (terms ws start (end - 1)) Numbers.Zero 1).trial ≡ of_trial f (Ok (Numbers.One a, 1))
   one_number f a e p = ap (of_trial f) (one Kind.Calculation env (pos 0) ws start (end - 1) (omega arith) ∙ puts_step Kind.Calculation env (pos 0) (term_at ws start) a p Numbers.Zero 1)
 
   pub open_count : (a : ℤ) → start + 2 ≡ end → Puts env (term_at ws start) a → term_at ws (start + 1) ≡ Term.From → counts env ws start end ≡ shown (at_least a)

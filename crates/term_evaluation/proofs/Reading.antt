@@ -15,15 +15,14 @@ use Rattle.term_words.specs.declared.Kind.{Kind}
 use Rattle.term_words.specs.declared.Mode.{Mode}
 use Rattle.term_words.specs.declared.Numbers.{Numbers}
 use Rattle.term_words.specs.declared.Operation.{Operation}
-use Rattle.term_words.specs.declared.Outcome.{Outcome}
 use Rattle.term_words.specs.declared.Term.{Term}
-use Rattle.term_words.specs.declared.Trial.{Trial}
 use Rattle.term_evaluation.specs.Meaning.{next, run, verdict_of, membership, condition}
 use Rattle.term_evaluation.specs.Counts.{form_of, calculations_end, tally_end, tallied, counts}
 use Rattle.term_evaluation.specs.Variables.{uses_variable, has_variable}
-use Rattle.term_evaluation.specs.declared.Counted.{Counted}
 use Rattle.term_evaluation.specs.declared.Ended.{Ended}
 use Rattle.term_evaluation.specs.declared.Form.{Form}
+use Rattle.std.specs.Prelude.{Result, Ok, Err}
+use Rattle.term_words.specs.declared.TermError.{TermError}
 
 -- every variable that a term uses is one of P
 abbrev pub OperationReads : (ℕ → Type 0) → Operation → Type 0
@@ -82,7 +81,7 @@ module _ (P : ℕ → Type 0) (env env' : List ℤ) (same : Same P env env') whe
   operate_same m Operation.Unknown s r = refl
 
   part_same : (m : Mode) (o : Operation) (s : Numbers) (t : ℕ) → OperationReads P o → after_of (operate_of m env o s) t ≡ after_of (operate_of m env' o s) t
-  part_same m o s t r = ap (λ (x : Outcome). after_of x t) (operate_same m o s r)
+  part_same m o s t r = ap (λ (x : Result Numbers TermError). after_of x t) (operate_same m o s r)
 
   step_same : (k : Kind) (m : Mode) (v : ℤ) (x : Term) (s : Numbers) (t : ℕ) → TermReads P x → step_of k m env v x s t ≡ step_of k m env' v x s t
   step_same Kind.Calculation m v (Term.Part o) s t r = part_same m o s t r
@@ -97,7 +96,7 @@ module _ (P : ℕ → Type 0) (env env' : List ℤ) (same : Same P env env') whe
   step_same Kind.Calculation m v (Term.Compare k) s t r = refl
   step_same Kind.Calculation m v Term.Bad s t r = refl
   step_same Kind.Set m v (Term.Part o) s t r = part_same m o s t r
-  step_same Kind.Set m v (Term.Single o) s t r = ap (λ (x : Outcome). operated v x t) (operate_same m o s r)
+  step_same Kind.Set m v (Term.Single o) s t r = ap (λ (x : Result Numbers TermError). operated v x t) (operate_same m o s r)
   step_same Kind.Set m v Term.All s t r = refl
   step_same Kind.Set m v Term.Range s t r = refl
   step_same Kind.Set m v Term.From s t r = refl
@@ -119,10 +118,9 @@ module _ (P : ℕ → Type 0) (env env' : List ℤ) (same : Same P env env') whe
   step_same Kind.Condition m v (Term.Compare k) s t r = refl
   step_same Kind.Condition m v Term.Bad s t r = refl
 
-next_same : (go go' : Numbers → ℕ → Ended) → ((s : Numbers) (t : ℕ) → go s t ≡ go' s t) → (i : ℕ) (r : Trial) → next go i r ≡ next go' i r
-next_same go go' h i (Trial.Running s t) = h s t
-next_same go go' h i Trial.Malformed = refl
-next_same go go' h i Trial.Overflow = refl
+next_same : (go go' : Numbers → ℕ → Ended) → ((s : Numbers) (t : ℕ) → go s t ≡ go' s t) → (i : ℕ) (r : Result (Numbers × ℕ) TermError) → next go i r ≡ next go' i r
+next_same go go' h i (Ok (s, t)) = h s t
+next_same go go' h i (Err e) = refl
 
 module _ (P : ℕ → Type 0) (env env' : List ℤ) (same : Same P env env') where
   run_same : (k : Kind) (m : Mode) (v : ℤ) (xs : List Term) (i : ℕ) → AllRead P xs → (s : Numbers) (t : ℕ) → run k m env v i xs s t ≡ run k m env' v i xs s t
@@ -155,7 +153,7 @@ module _ (P : ℕ → Type 0) (env env' : List ℤ) (same : Same P env env') whe
     unfolding counts tallied
     counts_same start end reads =
         let f : Form = form_of (term_at ws (end - 1)) in
-        ap (λ (e : Ended). (cond (ltb start end) (tally_end f e) (record { counted = Counted.Malformed; at = start })).counted)
+        ap (λ (e : Ended). (cond (ltb start end) (tally_end f e) (record { counted = Err TermError.Malformed; at = start })).counted)
         (run_same Kind.Calculation Mode.Values (pos 0) (terms ws start (calculations_end f (end - 1) end)) start (read_within P ws start (calculations_end f (end - 1) end) end (calculations_within f end) reads) Numbers.Zero 1)
 
 -- ---- a list without a variable

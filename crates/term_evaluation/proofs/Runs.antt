@@ -12,7 +12,8 @@ use Rattle.term_words.specs.declared.Kind.{Kind}
 use Rattle.term_words.specs.declared.Mode.{Mode}
 use Rattle.term_words.specs.declared.Numbers.{Numbers}
 use Rattle.term_words.specs.declared.Term.{Term}
-use Rattle.term_words.specs.declared.Trial.{Trial}
+use Rattle.std.specs.Prelude.{Result, Ok}
+use Rattle.term_words.specs.declared.TermError.{TermError}
 
 pub terms_next : (ws : List ℕ) (i end : ℕ) → i < end → terms ws i end ≡ term_at ws i ∷ terms ws (i + 1) end
 unfolding terms_from
@@ -28,10 +29,10 @@ terms_none ws i end h =
 
 module _ (k : Kind) (m : Mode) (env : List ℤ) (v : ℤ) (ws : List ℕ) (i end : ℕ) (s : Numbers) (t : ℕ) where
   -- the first term's step decides how it goes on
-  pub goes : i < end → (r : Trial) → step_of k m env v (term_at ws i) s t ≡ r → run k m env v i (terms ws i end) s t ≡ next (λ (s' : Numbers) (t' : ℕ). run k m env v (i + 1) (terms ws (i + 1) end) s' t') i r
+  pub goes : i < end → (r : Result (Numbers × ℕ) TermError) → step_of k m env v (term_at ws i) s t ≡ r → run k m env v i (terms ws i end) s t ≡ next (λ (s' : Numbers) (t' : ℕ). run k m env v (i + 1) (terms ws (i + 1) end) s' t') i r
   unfolding run
   goes h r e = ap (λ (xs : List Term). run k m env v i xs s t) (terms_next ws i end h) ∙ ap (next (λ (s' : Numbers) (t' : ℕ). run k m env v (i + 1) (terms ws (i + 1) end) s' t') i) e
 
-  pub stops : end ≤ i → run k m env v i (terms ws i end) s t ≡ record { trial = Trial.Running s t; at = i }
+  pub stops : end ≤ i → run k m env v i (terms ws i end) s t ≡ record { trial = Ok (s, t); at = i }
   unfolding run
   stops h = ap (λ (xs : List Term). run k m env v i xs s t) (terms_none ws i end h)

@@ -5,10 +5,10 @@ ghost use Rattle.term_words.specs.Words.{terms};
 ghost use Rattle.term_evaluation.specs.Counts.{shown, form_of, calculations_end, of_one, of_two, of_numbers, of_trial, tallied, counts};
 
 use crate::short::{LIMIT, number_at, spanned, variable_at, within};
-use crate::{Counted, Form, Tally, work_out};
+use crate::{Allowed, Form, Tally, work_out};
 use term_integers::{magnitude, negative};
 use term_words::decode::term_at;
-use term_words::{Kind, Mode, Numbers, Term, Trial};
+use term_words::{Kind, Mode, Numbers, Term, TermError};
 
 fn from_zero(a: i64) -> u64
     ensures { result ≡ least a }
@@ -17,41 +17,41 @@ fn from_zero(a: i64) -> u64
 }
 
 // `{n}`; a negative n leaves no count.
-pub fn exact(n: i64) -> Counted
+pub fn exact(n: i64) -> Result<Allowed, TermError>
     ensures { result ≡ shown (exactly n) }
 {
     if negative(n) {
-        return Counted::None;
+        return Ok(Allowed::None);
     }
-    Counted::Within {
+    Ok(Allowed::Within {
         low: from_zero(n),
         more: 0,
-    }
+    })
 }
 
 // `{a~}`
-pub fn open(a: i64) -> Counted
+pub fn open(a: i64) -> Result<Allowed, TermError>
     ensures { result ≡ shown (at_least a) }
 {
-    Counted::From { low: from_zero(a) }
+    Ok(Allowed::From { low: from_zero(a) })
 }
 
 // `{a~b}`, and `{~b}` with a = 0
-pub fn closed(a: i64, b: i64) -> Counted
+pub fn closed(a: i64, b: i64) -> Result<Allowed, TermError>
     ensures { result ≡ shown (span a b) }
 {
     if negative(b) {
-        return Counted::None;
+        return Ok(Allowed::None);
     }
     let low = from_zero(a);
     let high = magnitude(b);
     if low <= high {
-        return Counted::Within {
+        return Ok(Allowed::Within {
             low,
             more: high - low,
-        };
+        });
     }
-    Counted::None
+    Ok(Allowed::None)
 }
 
 // How counts are written, by their last term.
@@ -62,59 +62,45 @@ fn form(last: Term) -> Form
         Term::Range => Form::Closed,
         Term::From => Form::Open,
         Term::UpTo => Form::UpTo,
-        Term::Part(_) => Form::Exact,
-        Term::Single(_) => Form::Exact,
-        Term::All => Form::Exact,
-        Term::Or => Form::Exact,
-        Term::Except => Form::Exact,
-        Term::And => Form::Exact,
-        Term::Compare(_) => Form::Exact,
-        Term::Bad => Form::Exact,
+        _ => Form::Exact,
     }
 }
 
-fn of_one(form: Form, a: i64) -> Counted
+fn of_one(form: Form, a: i64) -> Result<Allowed, TermError>
     ensures { result ≡ of_one form a }
 {
     match form {
         Form::Exact => exact(a),
         Form::Open => open(a),
         Form::UpTo => closed(0, a),
-        Form::Closed => Counted::Malformed,
+        Form::Closed => Err(TermError::Malformed),
     }
 }
 
-fn of_two(form: Form, a: i64, b: i64) -> Counted
+fn of_two(form: Form, a: i64, b: i64) -> Result<Allowed, TermError>
     ensures { result ≡ of_two form a b }
 {
     match form {
-        Form::Exact => Counted::Malformed,
-        Form::Open => Counted::Malformed,
-        Form::UpTo => Counted::Malformed,
         Form::Closed => closed(a, b),
+        _ => Err(TermError::Malformed),
     }
 }
 
-fn of_numbers(form: Form, numbers: Numbers) -> Counted
+fn of_numbers(form: Form, numbers: Numbers) -> Result<Allowed, TermError>
     ensures { result ≡ of_numbers form numbers }
 {
     match numbers {
-        Numbers::Zero => Counted::Malformed,
         Numbers::One(a) => of_one(form, a),
         Numbers::Two(a, b) => of_two(form, a, b),
-        Numbers::Three(_, _, _) => Counted::Malformed,
-        Numbers::Four(_, _, _, _) => Counted::Malformed,
+        _ => Err(TermError::Malformed),
     }
 }
 
-fn of_trial(form: Form, trial: Trial) -> Counted
+fn of_trial(form: Form, trial: Result<(Numbers, u64), TermError>) -> Result<Allowed, TermError>
     ensures { result ≡ of_trial form trial }
 {
-    match trial {
-        Trial::Running(numbers, _) => of_numbers(form, numbers),
-        Trial::Malformed => Counted::Malformed,
-        Trial::Overflow => Counted::Overflow,
-    }
+    let (numbers, _) = trial?;
+    of_numbers(form, numbers)
 }
 
 // Where the calculations of counts end: before their `~`, where they have one.
@@ -123,9 +109,7 @@ fn calculations(form: Form, last: usize, end: usize) -> usize
 {
     match form {
         Form::Exact => end,
-        Form::Open => last,
-        Form::UpTo => last,
-        Form::Closed => last,
+        _ => last,
     }
 }
 
@@ -135,7 +119,7 @@ pub fn tally(mode: Mode, words: &[u32], start: usize, end: usize, values: &[i64]
 {
     if end <= start {
         return Tally {
-            counted: Counted::Malformed,
+            counted: Err(TermError::Malformed),
             at: start,
         };
     }
@@ -150,7 +134,12 @@ pub fn tally(mode: Mode, words: &[u32], start: usize, end: usize, values: &[i64]
 }
 
 // The counts of a repetition, of any terms.
-pub fn count_at_length(words: &[u32], start: usize, end: usize, values: &[i64]) -> Counted
+pub fn count_at_length(
+    words: &[u32],
+    start: usize,
+    end: usize,
+    values: &[i64],
+) -> Result<Allowed, TermError>
     ensures { result ≡ counts values.now words.now start end }
 {
     let all = tally(Mode::Values, words, start, end, values);
@@ -159,43 +148,37 @@ pub fn count_at_length(words: &[u32], start: usize, end: usize, values: &[i64]) 
 }
 
 // The counts of a repetition. Most are `n`, a number or a variable, or `a~b`, `a~` or `~b` of numbers.
-pub fn count(words: &[u32], start: usize, end: usize, values: &[i64]) -> Counted
+pub fn count(words: &[u32], start: usize, end: usize, values: &[i64]) -> Result<Allowed, TermError>
     ensures { result ≡ counts values.now words.now start end }
 {
-    if start < end {
-        if end <= words.len() / 3 {
-            let size = end - start;
-            if size == 1 {
-                let n = number_at(words, start, 1);
-                if n <= LIMIT {
-                    return Counted::Within { low: n, more: 0 };
-                }
-                let m = variable_at(words, start, values);
-                if within(m) {
-                    return exact(m);
-                }
+    if start < end && end <= words.len() / 3 {
+        let size = end - start;
+        if size == 1 {
+            let n = number_at(words, start, 1);
+            if n <= LIMIT {
+                return Ok(Allowed::Within { low: n, more: 0 });
             }
-            if size == 3 {
-                if words[start * 3 + 6] == 8 {
-                    let a = number_at(words, start, 1);
-                    let b = number_at(words, start + 1, 1);
-                    if a <= LIMIT {
-                        if b <= LIMIT {
-                            return spanned(a, b);
-                        }
-                    }
-                }
+            let m = variable_at(words, start, values);
+            if within(m) {
+                return exact(m);
             }
-            if size == 2 {
-                let sign = words[start * 3 + 3];
-                let a = number_at(words, start, 1);
-                if a <= LIMIT {
-                    if sign == 9 {
-                        return Counted::From { low: a };
-                    }
-                    if sign == 10 {
-                        return spanned(0, a);
-                    }
+        }
+        if size == 3 && words[start * 3 + 6] == 8 {
+            let a = number_at(words, start, 1);
+            let b = number_at(words, start + 1, 1);
+            if a <= LIMIT && b <= LIMIT {
+                return spanned(a, b);
+            }
+        }
+        if size == 2 {
+            let sign = words[start * 3 + 3];
+            let a = number_at(words, start, 1);
+            if a <= LIMIT {
+                if sign == 9 {
+                    return Ok(Allowed::From { low: a });
+                }
+                if sign == 10 {
+                    return spanned(0, a);
                 }
             }
         }

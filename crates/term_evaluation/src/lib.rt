@@ -13,45 +13,28 @@ ghost use Rattle.term_evaluation.specs.Meaning.{run, alone_of, number_of, last_o
 use crate::short::{LIMIT, between, compared, from, number_at, same, up_to, variable_at, within};
 use term_words::decode::term_at;
 use term_words::step::step;
-use term_words::{Kind, Mode, Numbers, Trial};
+use term_words::{Kind, Mode, Numbers, TermError};
 
-// A list's end: what waits there, and the number of the term at which it ended.
+// A list's end: the numbers and tests that wait there, and the number of the term at which it ended. The tests are a number: a 1 followed by a digit for
+// each, the last one last.
 #[derive(Clone, Copy)]
 pub struct Ended {
-    pub trial: Trial,
+    pub trial: Result<(Numbers, u64), TermError>,
     pub at: usize,
 }
 
+// The counts that are allowed: none, from `low` on, or `low` and up to `more` above it.
 #[derive(Clone, Copy)]
-pub enum Calculated {
-    Number(i64),
-    Malformed,
-    Overflow,
-}
-
-// The answer of a set for one value, and of a condition.
-#[derive(Clone, Copy)]
-pub enum Tested {
-    No,
-    Yes,
-    Malformed,
-    Overflow,
-}
-
-// A set of counts: none, from `low` on, or `low` and up to `more` above it.
-#[derive(Clone, Copy)]
-pub enum Counted {
+pub enum Allowed {
     None,
     From { low: u64 },
     Within { low: u64, more: u64 },
-    Malformed,
-    Overflow,
 }
 
 // Counts, and the number of the term at which their calculations ended.
 #[derive(Clone, Copy)]
 pub struct Tally {
-    pub counted: Counted,
+    pub counted: Result<Allowed, TermError>,
     pub at: usize,
 }
 
@@ -89,19 +72,13 @@ pub fn work_out(
             numbers,
             truths,
         ) {
-            Trial::Running(next, more) => {
+            Ok((next, more)) => {
                 numbers = next;
                 truths = more;
             }
-            Trial::Malformed => {
+            Err(error) => {
                 return Ended {
-                    trial: Trial::Malformed,
-                    at,
-                };
-            }
-            Trial::Overflow => {
-                return Ended {
-                    trial: Trial::Overflow,
+                    trial: Err(error),
                     at,
                 };
             }
@@ -109,65 +86,46 @@ pub fn work_out(
         at += 1;
     }
     Ended {
-        trial: Trial::Running(numbers, truths),
+        trial: Ok((numbers, truths)),
         at,
     }
 }
 
-fn alone(numbers: Numbers) -> Calculated
+fn alone(numbers: Numbers) -> Result<i64, TermError>
     ensures { result ≡ alone_of numbers }
 {
     match numbers {
-        Numbers::Zero => Calculated::Malformed,
-        Numbers::One(a) => Calculated::Number(a),
-        Numbers::Two(_, _) => Calculated::Malformed,
-        Numbers::Three(_, _, _) => Calculated::Malformed,
-        Numbers::Four(_, _, _, _) => Calculated::Malformed,
+        Numbers::One(a) => Ok(a),
+        _ => Err(TermError::Malformed),
     }
 }
 
-pub fn number(trial: Trial) -> Calculated
+pub fn number(trial: Result<(Numbers, u64), TermError>) -> Result<i64, TermError>
     ensures { result ≡ number_of trial }
 {
-    match trial {
-        Trial::Running(numbers, _) => alone(numbers),
-        Trial::Malformed => Calculated::Malformed,
-        Trial::Overflow => Calculated::Overflow,
-    }
+    let (numbers, _) = trial?;
+    alone(numbers)
 }
 
-fn last(numbers: Numbers, truths: u64) -> Tested
+fn last(numbers: Numbers, truths: u64) -> Result<bool, TermError>
     ensures { result ≡ last_of numbers truths }
 {
-    match numbers {
-        Numbers::Zero => {
-            if truths == 2 {
-                return Tested::No;
-            }
-            if truths == 3 {
-                return Tested::Yes;
-            }
-            Tested::Malformed
-        }
-        Numbers::One(_) => Tested::Malformed,
-        Numbers::Two(_, _) => Tested::Malformed,
-        Numbers::Three(_, _, _) => Tested::Malformed,
-        Numbers::Four(_, _, _, _) => Tested::Malformed,
+    match (numbers, truths) {
+        (Numbers::Zero, 2) => Ok(false),
+        (Numbers::Zero, 3) => Ok(true),
+        _ => Err(TermError::Malformed),
     }
 }
 
-pub fn verdict(trial: Trial) -> Tested
+pub fn verdict(trial: Result<(Numbers, u64), TermError>) -> Result<bool, TermError>
     ensures { result ≡ verdict_of trial }
 {
-    match trial {
-        Trial::Running(numbers, truths) => last(numbers, truths),
-        Trial::Malformed => Tested::Malformed,
-        Trial::Overflow => Tested::Overflow,
-    }
+    let (numbers, truths) = trial?;
+    last(numbers, truths)
 }
 
 // The value of a calculation.
-pub fn calculate(words: &[u32], start: usize, end: usize, values: &[i64]) -> Calculated
+pub fn calculate(words: &[u32], start: usize, end: usize, values: &[i64]) -> Result<i64, TermError>
     ensures { result ≡ calculation values.now start (terms words.now start end) }
 {
     let ended = work_out(
@@ -179,56 +137,60 @@ pub fn calculate(words: &[u32], start: usize, end: usize, values: &[i64]) -> Cal
         values,
         0,
     );
-    let trial = ended.trial;
-    number(trial)
+    number(ended.trial)
 }
 
 // Whether a value is in a set, of any terms.
-fn contains_at_length(words: &[u32], start: usize, end: usize, values: &[i64], value: i64) -> Tested
+fn contains_at_length(
+    words: &[u32],
+    start: usize,
+    end: usize,
+    values: &[i64],
+    value: i64,
+) -> Result<bool, TermError>
     ensures { result ≡ membership values.now value start (terms words.now start end) }
 {
     let ended = work_out(Kind::Set, Mode::Values, words, start, end, values, value);
-    let trial = ended.trial;
-    verdict(trial)
+    verdict(ended.trial)
 }
 
 // Whether a value is in a set. Most sets are `~`, `a`, `a~b`, `a~` or `~b` of numbers, which their words tell at once.
-pub fn contains(words: &[u32], start: usize, end: usize, values: &[i64], value: i64) -> Tested
+pub fn contains(
+    words: &[u32],
+    start: usize,
+    end: usize,
+    values: &[i64],
+    value: i64,
+) -> Result<bool, TermError>
     ensures { result ≡ membership values.now value start (terms words.now start end) }
 {
-    if start < end {
-        if end <= words.len() / 3 {
-            let size = end - start;
-            if size == 1 {
-                if words[start * 3] == 7 {
-                    return Tested::Yes;
-                }
-                let a = number_at(words, start, 33);
-                if a <= LIMIT {
-                    return same(a, value);
-                }
+    if start < end && end <= words.len() / 3 {
+        let size = end - start;
+        if size == 1 {
+            if words[start * 3] == 7 {
+                return Ok(true);
             }
-            if size == 3 {
-                if words[start * 3 + 6] == 8 {
-                    let a = number_at(words, start, 1);
-                    let b = number_at(words, start + 1, 1);
-                    if a <= LIMIT {
-                        if b <= LIMIT {
-                            return between(a, b, value);
-                        }
-                    }
-                }
+            let a = number_at(words, start, 33);
+            if a <= LIMIT {
+                return same(a, value);
             }
-            if size == 2 {
-                let sign = words[start * 3 + 3];
-                let a = number_at(words, start, 1);
-                if a <= LIMIT {
-                    if sign == 9 {
-                        return from(a, value);
-                    }
-                    if sign == 10 {
-                        return up_to(a, value);
-                    }
+        }
+        if size == 3 && words[start * 3 + 6] == 8 {
+            let a = number_at(words, start, 1);
+            let b = number_at(words, start + 1, 1);
+            if a <= LIMIT && b <= LIMIT {
+                return between(a, b, value);
+            }
+        }
+        if size == 2 {
+            let sign = words[start * 3 + 3];
+            let a = number_at(words, start, 1);
+            if a <= LIMIT {
+                if sign == 9 {
+                    return from(a, value);
+                }
+                if sign == 10 {
+                    return up_to(a, value);
                 }
             }
         }
@@ -237,34 +199,28 @@ pub fn contains(words: &[u32], start: usize, end: usize, values: &[i64], value: 
 }
 
 // Whether a condition holds, of any terms.
-fn satisfied_at_length(words: &[u32], start: usize, end: usize, values: &[i64]) -> Tested
+fn satisfied_at_length(
+    words: &[u32],
+    start: usize,
+    end: usize,
+    values: &[i64],
+) -> Result<bool, TermError>
     ensures { result ≡ condition values.now start (terms words.now start end) }
 {
     let ended = work_out(Kind::Condition, Mode::Values, words, start, end, values, 0);
-    let trial = ended.trial;
-    verdict(trial)
+    verdict(ended.trial)
 }
 
 // Whether a condition holds. Most compare a variable with a number.
-pub fn satisfied(words: &[u32], start: usize, end: usize, values: &[i64]) -> Tested
+pub fn satisfied(words: &[u32], start: usize, end: usize, values: &[i64]) -> Result<bool, TermError>
     ensures { result ≡ condition values.now start (terms words.now start end) }
 {
-    if start < end {
-        if end <= words.len() / 3 {
-            if end - start == 3 {
-                let tag = words[start * 3 + 6];
-                let a = variable_at(words, start, values);
-                let b = number_at(words, start + 1, 1);
-                if within(a) {
-                    if b <= LIMIT {
-                        if 14 <= tag {
-                            if tag <= 19 {
-                                return compared(tag, a, b);
-                            }
-                        }
-                    }
-                }
-            }
+    if start < end && end <= words.len() / 3 && end - start == 3 {
+        let tag = words[start * 3 + 6];
+        let a = variable_at(words, start, values);
+        let b = number_at(words, start + 1, 1);
+        if within(a) && b <= LIMIT && 14 <= tag && tag <= 19 {
+            return compared(tag, a, b);
         }
     }
     satisfied_at_length(words, start, end, values)

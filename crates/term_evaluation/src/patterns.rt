@@ -7,8 +7,9 @@ ghost use Rattle.term_words.specs.Words.{terms};
 ghost use Rattle.term_evaluation.specs.Meaning.{membership};
 ghost use Rattle.term_evaluation.specs.Patterns.{clamped};
 
-use crate::{Tested, contains};
+use crate::contains;
 use term_integers::{power, signed};
+use term_words::TermError;
 
 // -1 less a natural number.
 fn negative(n: u64) -> i64
@@ -42,10 +43,8 @@ pub fn offset_of(width: u32, sign: bool) -> u64
     requires { width ≤ 64 }
     ensures { result ≡ offset sign width }
 {
-    if sign {
-        if 0 < width {
-            return power((width - 1) as u64);
-        }
+    if sign && 0 < width {
+        return power((width - 1) as u64);
     }
     0
 }
@@ -74,7 +73,7 @@ pub fn contains_pattern(
     pattern: u64,
     width: u32,
     sign: bool,
-) -> Tested
+) -> Result<bool, TermError>
     requires { (width ≤ 64) × (pattern < 2 ^ width) }
     ensures { result ≡ membership values.now (pattern_value sign (bits_of width pattern)) start (terms words.now start end) }
 {

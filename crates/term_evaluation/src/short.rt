@@ -1,5 +1,5 @@
 // What lists of one, two and three terms are tested by: their numbers and variables, read from the words.
-ghost use Rattle.std.specs.Prelude.{◌≡◌, false, cond, ◌+◌, ◌*◌, ◌^◌, ◌≤◌, ◌<◌, ◌/◌, leb, length, get_or, pos, nat_abs};
+ghost use Rattle.std.specs.Prelude.{◌≡◌, Ok, false, cond, ◌+◌, ◌*◌, ◌^◌, ◌≤◌, ◌<◌, ◌/◌, leb, length, get_or, pos, nat_abs};
 ghost use Rattle.std.specs.Int.Signed.{le_z};
 ghost use Rattle.basis.specs.Counts.{span};
 ghost use Rattle.term_integers.specs.Wholes.{equals};
@@ -10,12 +10,12 @@ ghost use Rattle.term_words.specs.declared.Numbers.{Numbers};
 ghost use Rattle.term_evaluation.specs.Counts.{shown};
 ghost use Rattle.term_evaluation.specs.Short.{Puts, comparison_of};
 
+use crate::Allowed;
 use crate::counts::closed;
-use crate::{Counted, Tested};
 use term_integers::{at_most, equal, magnitude, signed};
-use term_words::Comparison;
 use term_words::decode::wide;
 use term_words::step::holds;
+use term_words::{Comparison, TermError};
 
 // 2^62
 pub const LIMIT: u64 = 4611686018427387904;
@@ -68,45 +68,36 @@ pub fn within(a: i64) -> bool
     magnitude(a) <= LIMIT
 }
 
-fn tested(holds: bool) -> Tested
-    ensures { result ≡ cond holds Tested.Yes Tested.No }
-{
-    if holds { Tested::Yes } else { Tested::No }
-}
-
 // `a`
-pub fn same(a: u64, value: i64) -> Tested
+pub fn same(a: u64, value: i64) -> Result<bool, TermError>
     requires { a ≤ 2 ^ 62 }
-    ensures { result ≡ cond (equals (pos a) value) Tested.Yes Tested.No }
+    ensures { result ≡ Ok (equals (pos a) value) }
 {
-    tested(equal(signed(a), value))
+    Ok(equal(signed(a), value))
 }
 
 // `a~`
-pub fn from(a: u64, value: i64) -> Tested
+pub fn from(a: u64, value: i64) -> Result<bool, TermError>
     requires { a ≤ 2 ^ 62 }
-    ensures { result ≡ cond (le_z (pos a) value) Tested.Yes Tested.No }
+    ensures { result ≡ Ok (le_z (pos a) value) }
 {
-    tested(at_most(signed(a), value))
+    Ok(at_most(signed(a), value))
 }
 
 // `~b`
-pub fn up_to(b: u64, value: i64) -> Tested
+pub fn up_to(b: u64, value: i64) -> Result<bool, TermError>
     requires { b ≤ 2 ^ 62 }
-    ensures { result ≡ cond (le_z value (pos b)) Tested.Yes Tested.No }
+    ensures { result ≡ Ok (le_z value (pos b)) }
 {
-    tested(at_most(value, signed(b)))
+    Ok(at_most(value, signed(b)))
 }
 
 // `a~b`
-pub fn between(a: u64, b: u64, value: i64) -> Tested
+pub fn between(a: u64, b: u64, value: i64) -> Result<bool, TermError>
     requires { (a ≤ 2 ^ 62) × (b ≤ 2 ^ 62) }
-    ensures { result ≡ cond (cond (le_z (pos a) value) (le_z value (pos b)) false) Tested.Yes Tested.No }
+    ensures { result ≡ Ok (cond (le_z (pos a) value) (le_z value (pos b)) false) }
 {
-    if at_most(signed(a), value) {
-        return up_to(b, value);
-    }
-    Tested::No
+    Ok(at_most(signed(a), value) && at_most(value, signed(b)))
 }
 
 fn comparison(tag: u32) -> Comparison
@@ -123,15 +114,15 @@ fn comparison(tag: u32) -> Comparison
 }
 
 // A comparison with a tag from 14 to 19.
-pub fn compared(tag: u32, a: i64, b: u64) -> Tested
+pub fn compared(tag: u32, a: i64, b: u64) -> Result<bool, TermError>
     requires { b ≤ 2 ^ 62 }
-    ensures { result ≡ cond (compares (comparison_of tag) a (pos b)) Tested.Yes Tested.No }
+    ensures { result ≡ Ok (compares (comparison_of tag) a (pos b)) }
 {
-    tested(holds(comparison(tag), a, signed(b)))
+    Ok(holds(comparison(tag), a, signed(b)))
 }
 
 // `{a~b}`
-pub fn spanned(a: u64, b: u64) -> Counted
+pub fn spanned(a: u64, b: u64) -> Result<Allowed, TermError>
     requires { (a ≤ 2 ^ 62) × (b ≤ 2 ^ 62) }
     ensures { result ≡ shown (span (pos a) (pos b)) }
 {

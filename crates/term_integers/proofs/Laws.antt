@@ -13,7 +13,7 @@ use mir.Syntax.{w64}
 use mir.Val.{Fits, SFits, to_z, of_z}
 use mir.Facts.{to_z-of_z}
 use Rattle.term_integers.specs.Wholes.{bounded, equals, same_sign}
-use Rattle.term_integers.specs.declared.Checked.{Checked}
+use Rattle.std.specs.Prelude.{Some, None}
 
 -- an i64 that is kept and read again is itself
 pub back : (z : ℤ) → mag z < 2 ^ 63 → to_z w64 (of_z w64 z) ≡ z
@@ -135,11 +135,11 @@ product_out m n l p h = subst (λ (x : ℕ). l < x) (mul_comm n m) ((div-lt_iff_
 
 -- ---- in bounds or not
 
-pub bounded_in : (z : ℤ) → nat_abs z ≤ 2 ^ 62 → bounded z ≡ Checked.Exact z
+pub bounded_in : (z : ℤ) → nat_abs z ≤ 2 ^ 62 → bounded z ≡ Some z
 unfolding bounded
 bounded_in z h = simp (le-leb (nat_abs z) (2 ^ 62) h)
 
-pub bounded_out : (z : ℤ) → 2 ^ 62 < nat_abs z → bounded z ≡ Checked.Overflow
+pub bounded_out : (z : ℤ) → 2 ^ 62 < nat_abs z → bounded z ≡ None
 unfolding bounded
 bounded_out z h = simp (lt-leb (nat_abs z) (2 ^ 62) h)
 
@@ -179,5 +179,5 @@ pub equals_not : (a b : ℤ) → le_z a b ≡ false → false ≡ equals a b
 unfolding equals
 equals_not a b e = rw e
 
-pub product_zero : (a b : ℤ) → nat_abs a ≤ 0 → bounded (a *ℤ b) ≡ Checked.Exact (pos 0)
+pub product_zero : (a b : ℤ) → nat_abs a ≤ 0 → bounded (a *ℤ b) ≡ Some (pos 0)
 product_zero a b h = ap (λ (z : ℤ). bounded (z *ℤ b)) (abs_zero a h) ∙ ap bounded (zero-*ℤ b) ∙ bounded_in (pos 0) (omega arith)

@@ -1,12 +1,11 @@
 -- Exact whole numbers, bounded by 2^62.
 -- Assumes nothing.
-use Rattle.std.specs.Prelude.{◌^◌, Bool, true, false, cond, leb, ℤ, nat_abs}
+use Rattle.std.specs.Prelude.{◌^◌, Bool, true, false, cond, leb, ℤ, nat_abs, Option, Some, None}
 use Rattle.std.specs.Int.Signed.{non_neg, le_z}
-use Rattle.term_integers.specs.declared.Checked.{Checked}
 
 -- "i64 calculations ... bounded by 2^62"; exactly 2^62 is allowed
-unfoldable pub bounded : ℤ → Checked
-bounded z = cond (leb (nat_abs z) (2 ^ 62)) (Checked.Exact z) Checked.Overflow
+unfoldable pub bounded : ℤ → Option ℤ
+bounded z = cond (leb (nat_abs z) (2 ^ 62)) (Some z) None
 
 -- a = b
 unfoldable pub equals : ℤ → ℤ → Bool

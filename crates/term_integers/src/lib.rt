@@ -1,4 +1,4 @@
-// Exact whole numbers in i64, each result of at most 2^62 without its sign.
+// Exact whole numbers in i64, each result of at most 2^62 without its sign; `None` where it would pass that.
 #![tactic(auto)]
 
 ghost use Rattle.std.specs.Prelude.{◌≡◌, ◌+◌, ◌^◌, ◌≤◌, leb, ℤ, pos, nat_abs, neg_ℤ, ◌+ℤ◌, ◌-ℤ◌, ◌*ℤ◌, not, true};
@@ -6,13 +6,6 @@ ghost use Rattle.std.specs.Int.Signed.{non_neg, le_z};
 ghost use Rattle.std.specs.Int.{w64};
 ghost use Rattle.std.proofs.Common.{SFits};
 ghost use Rattle.term_integers.specs.Wholes.{bounded, equals, same_sign};
-
-// A whole number of at most 2^62 without its sign, or none.
-#[derive(Clone, Copy)]
-pub enum Checked {
-    Exact(i64),
-    Overflow,
-}
 
 // 2^62
 const LIMIT: u64 = 4611686018427387904;
@@ -88,7 +81,7 @@ pub fn magnitude(a: i64) -> u64
 pub fn equal(a: i64, b: i64) -> bool
     ensures { result ≡ equals a b }
 {
-    if at_most(a, b) { at_most(b, a) } else { false }
+    at_most(a, b) && at_most(b, a)
 }
 
 // Of one sign, 0 counting with the positive numbers.
@@ -103,33 +96,22 @@ fn alike(a: i64, b: i64) -> bool
 }
 
 // The number, where it is in bounds.
-pub fn in_bounds(a: i64) -> Checked
+pub fn in_bounds(a: i64) -> Option<i64>
     ensures { result ≡ bounded a }
 {
-    if magnitude(a) <= LIMIT {
-        Checked::Exact(a)
-    } else {
-        Checked::Overflow
-    }
+    if magnitude(a) <= LIMIT { Some(a) } else { None }
 }
 
-pub fn whole(n: u64) -> Checked
+pub fn whole(n: u64) -> Option<i64>
     ensures { result ≡ bounded (pos n) }
 {
-    if n <= LIMIT {
-        Checked::Exact(signed(n))
-    } else {
-        Checked::Overflow
-    }
+    if n <= LIMIT { Some(signed(n)) } else { None }
 }
 
 fn small(m: u64, n: u64) -> bool
     ensures { result ≡ leb (m + n) (2 ^ 62) }
 {
-    if LIMIT < m {
-        return false;
-    }
-    n <= LIMIT - m
+    m <= LIMIT && n <= LIMIT - m
 }
 
 // The sum of two numbers without their signs is in bounds.
@@ -139,50 +121,50 @@ fn together(a: i64, b: i64) -> bool
     small(magnitude(a), magnitude(b))
 }
 
-pub fn add(a: i64, b: i64) -> Checked
+pub fn add(a: i64, b: i64) -> Option<i64>
     ensures { result ≡ bounded (a +ℤ b) }
 {
     if alike(a, b) {
         if together(a, b) {
-            return Checked::Exact(plus(a, b));
+            return Some(plus(a, b));
         }
-        return Checked::Overflow;
+        return None;
     }
     in_bounds(plus(a, b))
 }
 
-pub fn subtract(a: i64, b: i64) -> Checked
+pub fn subtract(a: i64, b: i64) -> Option<i64>
     ensures { result ≡ bounded (a -ℤ b) }
 {
     if alike(a, b) {
         return in_bounds(minus(a, b));
     }
     if together(a, b) {
-        return Checked::Exact(minus(a, b));
+        return Some(minus(a, b));
     }
-    Checked::Overflow
+    None
 }
 
-pub fn multiply(a: i64, b: i64) -> Checked
+pub fn multiply(a: i64, b: i64) -> Option<i64>
     ensures { result ≡ bounded (a *ℤ b) }
 {
     let m = magnitude(a);
     if 0 < m {
         if LIMIT / m < magnitude(b) {
-            return Checked::Overflow;
+            return None;
         }
-        return Checked::Exact(times(a, b));
+        return Some(times(a, b));
     }
-    Checked::Exact(0)
+    Some(0)
 }
 
-pub fn negate(a: i64) -> Checked
+pub fn negate(a: i64) -> Option<i64>
     ensures { result ≡ bounded (neg_ℤ a) }
 {
     if LIMIT < magnitude(a) {
-        return Checked::Overflow;
+        return None;
     }
-    Checked::Exact(opposite(a))
+    Some(opposite(a))
 }
 
 // A power of two.

@@ -1,12 +1,11 @@
 -- A set's terms worked out for one value by their effects. Only the private functions of the crate speak of this.
 -- Assumes nothing.
-use Rattle.std.specs.Prelude.{ℕ, Bool, false, List, [], ◌∷◌, eqb, ℤ, get_or}
+use Rattle.std.specs.Prelude.{ℕ, Bool, false, List, [], ◌∷◌, eqb, ℤ, get_or, Option, Some, None}
 use Rattle.term_words.specs.declared.Numbers.{Numbers}
 use Rattle.term_words.specs.declared.Term.{Term}
 use Rattle.term_membership.specs.Effects.{turn_of}
 use Rattle.term_membership.specs.Truths.{applied, Anew}
 use Rattle.term_membership.specs.declared.Effect.{Effect}
-use Rattle.term_membership.specs.declared.Turn.{Turn}
 
 -- the end: one test that holds, and nothing else
 abbrev pub ends : Numbers → ℕ → Bool
@@ -16,9 +15,9 @@ ends (Numbers.Two a b) t = false
 ends (Numbers.Three a b c) t = false
 ends (Numbers.Four a b c d) t = false
 
-abbrev pub onward : (Numbers → Effect → Bool) → Turn → Bool
-onward go (Turn.On s e) = go s e
-onward go Turn.Off = false
+abbrev pub onward : (Numbers → Effect → Bool) → Option (Numbers × Effect) → Bool
+onward go (Some (s, e)) = go s e
+onward go None = false
 
 -- the value v, counted from the least on at offset o, is in the set of the terms, where numbers s and tests t wait before them
 unfoldable pub held : ℕ → List ℤ → ℕ → List Term → Numbers → ℕ → Bool

@@ -1,16 +1,15 @@
 -- Membership of a set as a truth.
 -- Assumes nothing.
-use Rattle.std.specs.Prelude.{ℕ, Bool, true, false, List, ℤ}
+use Rattle.std.specs.Prelude.{ℕ, Bool, true, false, List, ℤ, Result, Ok, Err}
 use Rattle.std.proofs.Math.IntN.{sub_ℕ}
 use Rattle.term_words.specs.declared.Term.{Term}
 use Rattle.term_evaluation.specs.Meaning.{membership}
-use Rattle.term_evaluation.specs.declared.Tested.{Tested}
+use Rattle.term_words.specs.declared.TermError.{TermError}
 
-abbrev pub is_yes : Tested → Bool
-is_yes Tested.No = false
-is_yes Tested.Yes = true
-is_yes Tested.Malformed = false
-is_yes Tested.Overflow = false
+abbrev pub is_yes : Result Bool TermError → Bool
+is_yes (Ok false) = false
+is_yes (Ok true) = true
+is_yes (Err e) = false
 
 -- v is in the set
 unfoldable pub holds : List ℤ → ℕ → List Term → ℤ → Bool

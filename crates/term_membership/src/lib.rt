@@ -28,13 +28,6 @@ pub enum Effect {
     Except,
 }
 
-// The numbers that wait after a term, and its effect; or no value is in the set.
-#[derive(Clone, Copy)]
-pub enum Turn {
-    On(Numbers, Effect),
-    Off,
-}
-
 // No value.
 fn nothing() -> [u64; 64]
     ensures { (j : ℕ) → j < 64 → false ≡ eqb (get_or result j 0) 3 }
@@ -47,10 +40,8 @@ fn spread(test: u64) -> [u64; 64]
     ensures { (j : ℕ) → j < 64 → get_or result j 0 ≡ 2 + bit test j }
 {
     let mut out = [0u64; 64];
-    let mut j = 0;
-    while j < 64 {
+    for j in 0..64 {
         out[j] = 2 + (test >> j) % 2;
-        j += 1;
     }
     out
 }
@@ -94,18 +85,12 @@ pub fn contains_all(
     let mut masks = [0u64; 64];
     let mut count = 0;
     let mut numbers = Numbers::Zero;
-    let mut at = start;
-    while at < end {
-        match turn(variables, term_at(words, at), numbers, offset) {
-            Turn::On(next, effect) => {
-                count = apply_all(effect, values, &mut masks, count);
-                numbers = next;
-            }
-            Turn::Off => {
-                return nothing();
-            }
-        }
-        at += 1;
+    for at in start..end {
+        let Some((next, effect)) = turn(variables, term_at(words, at), numbers, offset) else {
+            return nothing();
+        };
+        count = apply_all(effect, values, &mut masks, count);
+        numbers = next;
     }
     ended(numbers, count, same(masks[0]))
 }

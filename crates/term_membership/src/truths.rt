@@ -18,11 +18,9 @@ fn passes(effect: Effect, value: u64) -> bool
     ensures { result ≡ passesOf effect value }
 {
     match effect {
-        Effect::None => false,
-        Effect::Within(low, last) => if low <= value { value <= last } else { false },
+        Effect::Within(low, last) => low <= value && value <= last,
         Effect::From(low) => low <= value,
-        Effect::Or => false,
-        Effect::Except => false,
+        _ => false,
     }
 }
 
@@ -39,9 +37,7 @@ fn tested(effect: Effect, values: &[u64; 64]) -> u64
     ensures { Tested effect values.now 0 64 result }
 {
     let mut out = 0u64;
-    let mut j = 64;
-    while 0 < j {
-        j -= 1;
+    for j in (0..64).rev() {
         out = doubled(out, passes(effect, values[j]));
     }
     out
@@ -75,10 +71,7 @@ fn join(masks: &mut [u64; 64], count: usize, joint: Joint) -> usize
     requires { length masks.old ≡ 64 }
     ensures { Anew (λ j t. joined joint t) masks.old count masks.new result }
 {
-    if count < 2 {
-        return NO_ROOM;
-    }
-    if 62 < count {
+    if count < 2 || 62 < count {
         return NO_ROOM;
     }
     masks[count - 2] = both(

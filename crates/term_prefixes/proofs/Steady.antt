@@ -18,9 +18,9 @@ use Rattle.term_membership.specs.Effects.{turn_of}
 use Rattle.term_membership.specs.Truths.{noted, applied}
 use Rattle.term_membership.specs.Batches.{onward, held}
 use Rattle.term_membership.specs.declared.Effect.{Effect}
-use Rattle.term_membership.specs.declared.Turn.{Turn}
 use Rattle.term_membership.proofs.Members.{holds_held}
 use Rattle.term_prefixes.specs.Marks.{ChangesAt, HereOrOn, Changes}
+use Rattle.std.specs.Prelude.{Option, Some, None}
 
 -- ---- orders at neighbours
 
@@ -59,13 +59,13 @@ effect_steady Effect.Except t v = inl refl
 -- ---- a whole list
 
 module _ (o : ℕ) (env : List ℤ) (v : ℕ) where
-  turn_steady : (xs : List Term) (t : ℕ) → ((s : Numbers) (t : ℕ) → (held o env (suc v) xs s t ≡ held o env v xs s t) ⊎ Changes o env (suc v) xs s) → (r : Turn)
+  turn_steady : (xs : List Term) (t : ℕ) → ((s : Numbers) (t : ℕ) → (held o env (suc v) xs s t ≡ held o env v xs s t) ⊎ Changes o env (suc v) xs s) → (r : Option (Numbers × Effect))
       → (onward (λ s e. held o env (suc v) xs s (applied e t (suc v))) r ≡ onward (λ s e. held o env v xs s (applied e t v)) r) ⊎ HereOrOn (λ s. Changes o env (suc v) xs s) (suc v) r
-  turn_steady xs t h (Turn.On s e) =
+  turn_steady xs t h (Some (s, e)) =
       ⊎_elim
       (λ (p : applied e t (suc v) ≡ applied e t v). ⊎_elim (λ (q : held o env (suc v) xs s (applied e t v) ≡ held o env v xs s (applied e t v)). inl (ap (held o env (suc v) xs s) p ∙ q)) (λ q. inr (inr q)) (h s (applied e t v)))
       (λ p. inr (inl p)) (effect_steady e t v)
-  turn_steady xs t h Turn.Off = inl refl
+  turn_steady xs t h None = inl refl
 
   held_steady : (xs : List Term) (s : Numbers) (t : ℕ) → (held o env (suc v) xs s t ≡ held o env v xs s t) ⊎ Changes o env (suc v) xs s
   unfolding held Changes

@@ -12,13 +12,13 @@ use lib.Pow.{pow_mono}
 use lib.Seq.{get_or-set_same, get_or-set_other}
 use Rattle.term_membership.specs.Effects.{turn_of}
 use Rattle.term_membership.specs.declared.Effect.{Effect}
-use Rattle.term_membership.specs.declared.Turn.{Turn}
 use Rattle.term_evaluation.proofs.Runs.{terms_next, terms_none}
 use Rattle.term_words.specs.Words.{term_at, terms}
 use Rattle.term_words.specs.declared.Numbers.{Numbers}
 use Rattle.term_words.specs.declared.Term.{Term}
 use Rattle.term_prefixes.specs.Marks.{Hits, Sound, Sought, Among, Ready, Found, Offered, ChangesAt, HereOrOn, Changes}
 use Rattle.term_prefixes.specs.declared.Tried.{Tried}
+use Rattle.std.specs.Prelude.{Option, Some, None}
 
 -- ---- handing values over
 
@@ -93,17 +93,17 @@ module _ (f : ℕ → Bool) (w o : ℕ) (env : List ℤ) (ws : List ℕ) (start 
     pub walk_out : end ≤ at → Offered f w All old now
     walk_out h = record { ready = m.ready; sound = m.sound; kept = m.kept; hit = λ k v x z. ⊎_elim (λ y. y) (λ y. absurd (rest_none v h y)) (m.hit k v x z) }
 
-    rest_one : (v : ℕ) → at < end → (r : Turn) → r ≡ turn_of o env (term_at ws at) s → Changes o env v (terms ws at end) s → HereOrOn (λ s'. Changes o env v (terms ws (at + 1) end) s') v r
+    rest_one : (v : ℕ) → at < end → (r : Option (Numbers × Effect)) → r ≡ turn_of o env (term_at ws at) s → Changes o env v (terms ws at end) s → HereOrOn (λ s'. Changes o env v (terms ws (at + 1) end) s') v r
     unfolding Changes
     rest_one v h r e x = subst (HereOrOn (λ s'. Changes o env v (terms ws (at + 1) end) s') v) (sym e) (subst (λ (xs : List Term). Changes o env v xs s) (terms_next ws at end h) x)
 
-    pub walk_off : at < end → Turn.Off ≡ turn_of o env (term_at ws at) s → Offered f w All old now
-    walk_off h e = record { ready = m.ready; sound = m.sound; kept = m.kept; hit = λ k v x z. ⊎_elim (λ y. y) (λ y. absurd (rest_one v h Turn.Off e y)) (m.hit k v x z) }
+    pub walk_off : at < end → None ≡ turn_of o env (term_at ws at) s → Offered f w All old now
+    walk_off h e = record { ready = m.ready; sound = m.sound; kept = m.kept; hit = λ k v x z. ⊎_elim (λ y. y) (λ y. absurd (rest_one v h None e y)) (m.hit k v x z) }
 
-    pub walk_on : at < end → (s' : Numbers) (e : Effect) → Turn.On s' e ≡ turn_of o env (term_at ws at) s → (next : Tried) → Offered f w (ChangesAt e) now next → Walking f w o env ws start end old next (at + 1) s'
+    pub walk_on : at < end → (s' : Numbers) (e : Effect) → Some (s', e) ≡ turn_of o env (term_at ws at) s → (next : Tried) → Offered f w (ChangesAt e) now next → Walking f w o env ws start end old next (at + 1) s'
     walk_on h s' e q next p = record { ready = p.ready; sound = λ x. p.sound (m.sound x); kept = λ k z. p.kept k (m.kept k z); hit = hit }
       where
         hit : (k v : ℕ) → Changes o env v (terms ws start end) Numbers.Zero → Hits f w k v → Found f w k next ⊎ Changes o env v (terms ws (at + 1) end) s'
         hit k v x z =
             ⊎_elim (λ y. inl (p.kept k y))
-            (λ (y : Changes o env v (terms ws at end) s). ⊎_elim (λ c. inl (p.hit k v c z)) (λ c. inr c) (rest_one v h (Turn.On s' e) q y)) (m.hit k v x z)
+            (λ (y : Changes o env v (terms ws at end) s). ⊎_elim (λ c. inl (p.hit k v c z)) (λ c. inr c) (rest_one v h (Some (s', e)) q y)) (m.hit k v x z)

@@ -1,12 +1,11 @@
 -- Values of a set that are tried, and the marks of their windows. A value is the natural number that it is, counted from the least of its width on. Only the
 -- private functions of the crate speak of this.
 -- Assumes nothing.
-use Rattle.std.specs.Prelude.{ℕ, suc, ◌+◌, ◌*◌, ◌-◌, ◌/◌, ◌^◌, ◌<◌, ◌≡◌, Bool, true, ◌⊎◌, List, [], ◌∷◌, ℤ, length, get_or}
+use Rattle.std.specs.Prelude.{ℕ, suc, ◌+◌, ◌*◌, ◌-◌, ◌/◌, ◌^◌, ◌<◌, ◌≡◌, Bool, true, ◌⊎◌, List, [], ◌∷◌, ℤ, length, get_or, Option, Some, None}
 use Rattle.term_words.specs.declared.Numbers.{Numbers}
 use Rattle.term_words.specs.declared.Term.{Term}
 use Rattle.term_membership.specs.Effects.{turn_of}
 use Rattle.term_membership.specs.declared.Effect.{Effect}
-use Rattle.term_membership.specs.declared.Turn.{Turn}
 use Rattle.term_prefixes.specs.declared.Tried.{Tried}
 
 -- v is a value of the width in the set that f tests, and its leading bits are k
@@ -69,9 +68,9 @@ ChangesAt (Effect.From a) v = a ≡ v
 ChangesAt Effect.Or v = ⊥
 ChangesAt Effect.Except v = ⊥
 
-abbrev pub HereOrOn : (Numbers → Type 0) → ℕ → Turn → Type 0
-HereOrOn go v (Turn.On s e) = ChangesAt e v ⊎ go s
-HereOrOn go v Turn.Off = ⊥
+abbrev pub HereOrOn : (Numbers → Type 0) → ℕ → Option (Numbers × Effect) → Type 0
+HereOrOn go v (Some (s, e)) = ChangesAt e v ⊎ go s
+HereOrOn go v None = ⊥
 
 -- a term of the list changes the set at v, where numbers s wait before the list; o the offset
 unfoldable pub Changes : ℕ → List ℤ → ℕ → List Term → Numbers → Type 0

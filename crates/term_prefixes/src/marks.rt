@@ -44,10 +44,8 @@ fn mark_all(values: &[u64; 64], truths: &[u64; 64], width: u32, marks: &mut [u8;
 {
     let last = last_of(width);
     let shift = hidden(width);
-    let mut j = 0;
-    while j < 64 {
+    for j in 0..64 {
         mark(marks, width, last, shift, values[j], truths[j]);
-        j += 1;
     }
 }
 
@@ -74,10 +72,8 @@ fn fill(values: &mut [u64; 64], first: u64, block: u64)
     requires { (length values.old ≡ 64) × (first ≤ 192) × (block ≤ 2 ^ 56) }
     ensures { Filled first block 64 values.new }
 {
-    let mut j = 0;
-    while j < 64 {
+    for j in 0..64 {
         values[j] = (first + j as u64) * block;
-        j += 1;
     }
 }
 
@@ -97,10 +93,8 @@ pub fn least_values(
     let shift = hidden(width);
     let block = power(shift as u64);
     let mut values = [0u64; 64];
-    let mut i: u64 = 0;
-    while i < 4 {
+    for i in 0u64..4 {
         fill(&mut values, 64 * i, block);
         settle(words, start, end, variables, width, offset, &values, marks);
-        i += 1;
     }
 }

@@ -6,8 +6,8 @@ ghost use Rattle.term_prefixes.specs.Marks.{Ready, Offered, ChangesAt, Changes};
 
 use crate::Tried;
 use crate::marks::settle;
+use term_membership::Effect;
 use term_membership::effects::turn;
-use term_membership::{Effect, Turn};
 use term_words::Numbers;
 use term_words::decode::term_at;
 
@@ -106,18 +106,12 @@ pub fn try_changes(
 {
     let mut tried = old;
     let mut numbers = Numbers::Zero;
-    let mut at = start;
-    while at < end {
-        match turn(variables, term_at(words, at), numbers, offset) {
-            Turn::On(next, effect) => {
-                tried = offer_changes(words, start, end, variables, width, offset, tried, effect);
-                numbers = next;
-            }
-            Turn::Off => {
-                return tried;
-            }
-        }
-        at += 1;
+    for at in start..end {
+        let Some((next, effect)) = turn(variables, term_at(words, at), numbers, offset) else {
+            return tried;
+        };
+        tried = offer_changes(words, start, end, variables, width, offset, tried, effect);
+        numbers = next;
     }
     tried
 }

@@ -1,6 +1,6 @@
 -- A number is never larger than its size: what is worked out of values stays below what is worked out of sizes, term by term.
 -- Assumes nothing.
-use Prim.Native.Nat.{ℕ, suc, ◌+◌, ◌*◌, ◌-◌, ◌^◌, ◌≤◌, ◌<◌}
+use Prim.Native.Nat.{ℕ, suc, ◌+◌, ◌*◌, ◌-◌, ◌^◌, ◌≤◌}
 use mathlib.Core.Path.{◌≡◌, refl, ap, ap₂}
 use mathlib.Core.Bool.{Bool, true, false, cond}
 use mathlib.Core.List.{List}
@@ -17,7 +17,8 @@ use Rattle.term_words.specs.Steps.{variable_of, binary, unary, operate_of}
 use Rattle.term_words.specs.declared.Mode.{Mode}
 use Rattle.term_words.specs.declared.Numbers.{Numbers}
 use Rattle.term_words.specs.declared.Operation.{Operation}
-use Rattle.term_words.specs.declared.Outcome.{Outcome}
+use Rattle.std.specs.Prelude.{Result, Ok, Err}
+use Rattle.term_words.specs.declared.TermError.{TermError}
 
 -- ---- one number and its size
 
@@ -72,10 +73,10 @@ pub data Smaller : Numbers → Numbers → Type 0 where
   four : {a a' b b' c c' d d' : ℤ} → Below a a' → Below b b' → Below c c' → Below d d' → Smaller (Numbers.Four a b c d) (Numbers.Four a' b' c' d')
 
 -- where sizes leave numbers, values (or smaller sizes) leave smaller ones; a term that cannot stand there for the one cannot for the other
-abbrev pub Kept : Outcome → Outcome → Type 0
-Kept x (Outcome.Stack s') = (s : Numbers) × (x ≡ Outcome.Stack s) × Smaller s s'
-Kept x Outcome.Malformed = x ≡ Outcome.Malformed
-Kept x Outcome.Overflow = Unit {0}
+abbrev pub Kept : Result Numbers TermError → Result Numbers TermError → Type 0
+Kept x (Ok s') = (s : Numbers) × (x ≡ Ok s) × Smaller s s'
+Kept x (Err TermError.Malformed) = x ≡ Err TermError.Malformed
+Kept x (Err TermError.Overflow) = Unit {0}
 
 pushed_kept : {s s' : Numbers} {a z : ℤ} → Smaller s s' → Below a z → Kept (pushed s a) (pushed s' z)
 pushed_kept {a = a} none p = (Numbers.One a, refl, one p)
@@ -114,7 +115,7 @@ module _ (env widest : List ℤ) (inside : Inside env widest) where
   unfolding variable_of
   variable_kept k {s} {s'} r = rw inside.same (go (ltb k (length widest)) refl)
     where
-      go : (t : Bool) → ltb k (length widest) ≡ t → Kept (cond (ltb k (length widest)) (kept s (bounded (get_or env k (pos 0)))) Outcome.Malformed) (cond (ltb k (length widest)) (kept s' (bounded (get_or widest k (pos 0)))) Outcome.Malformed)
+      go : (t : Bool) → ltb k (length widest) ≡ t → Kept (cond (ltb k (length widest)) (kept s (bounded (get_or env k (pos 0)))) (Err TermError.Malformed)) (cond (ltb k (length widest)) (kept s' (bounded (get_or widest k (pos 0)))) (Err TermError.Malformed))
       go true e = rw e (kept_kept (get_or env k (pos 0)) (get_or widest k (pos 0)) r (inside.each k (ltb-true k (length widest) e)))
       go false e = rw e refl
 

@@ -18,18 +18,18 @@ use Rattle.term_words.specs.declared.Kind.{Kind}
 use Rattle.term_words.specs.declared.Mode.{Mode}
 use Rattle.term_words.specs.declared.Numbers.{Numbers}
 use Rattle.term_words.specs.declared.Operation.{Operation}
-use Rattle.term_words.specs.declared.Outcome.{Outcome}
 use Rattle.term_words.specs.declared.Term.{Term}
-use Rattle.term_words.specs.declared.Trial.{Trial}
 use Rattle.term_sizes.specs.Inside.{Inside}
 use Rattle.term_sizes.proofs.Bounds.{Smaller, none, one, two, three, four, Kept, operate_kept}
 use Rattle.term_sizes.proofs.Depths.{SameDepth, depth_more, depth_below, depth_past, depth_less}
+use Rattle.std.specs.Prelude.{Result, Ok, Err}
+use Rattle.term_words.specs.declared.TermError.{TermError}
 
 -- where sizes go on, values (or smaller sizes) go on with smaller numbers and equally many tests, and where they are malformed so are values
-abbrev pub Follows : Trial → Trial → Type 0
-Follows x (Trial.Running s' t') = (s : Numbers) × (t : ℕ) × (x ≡ Trial.Running s t) × Smaller s s' × SameDepth t t'
-Follows x Trial.Malformed = x ≡ Trial.Malformed
-Follows x Trial.Overflow = Unit {0}
+abbrev pub Follows : Result (Numbers × ℕ) TermError → Result (Numbers × ℕ) TermError → Type 0
+Follows x (Ok (s', t')) = (s : Numbers) × (t : ℕ) × (x ≡ Ok (s, t)) × Smaller s s' × SameDepth t t'
+Follows x (Err TermError.Malformed) = x ≡ Err TermError.Malformed
+Follows x (Err TermError.Overflow) = Unit {0}
 
 noted_follows : {s s' : Numbers} {t t' : ℕ} (b b' : Bool) → Smaller s s' → SameDepth t t' → Follows (noted s t b) (noted s' t' b')
 unfolding noted
@@ -67,23 +67,23 @@ pair_follows p p' (two {a} {a'} {b} {b'} q r) d = noted_follows (p a b) (p' a' b
 pair_follows p p' (three {b = b} {b' = b'} {c = c} {c' = c'} q r u) d = noted_follows (p b c) (p' b' c') (one q) d
 pair_follows p p' (four {c = c} {c' = c'} {d = e} {d' = e'} q r u v) d = noted_follows (p c e) (p' c' e') (two q r) d
 
-after_follows : (x x' : Outcome) {t t' : ℕ} → Kept x x' → SameDepth t t' → Follows (after_of x t) (after_of x' t')
-after_follows x (Outcome.Stack s') {t} k d = (k.0, t, ap (λ (o : Outcome). after_of o t) k.1, k.2, d)
-after_follows x Outcome.Malformed {t} k d = ap (λ (o : Outcome). after_of o t) k
-after_follows x Outcome.Overflow k d = tt
+after_follows : (x x' : Result Numbers TermError) {t t' : ℕ} → Kept x x' → SameDepth t t' → Follows (after_of x t) (after_of x' t')
+after_follows x (Ok s') {t} k d = (k.0, t, ap (λ (o : Result Numbers TermError). after_of o t) k.1, k.2, d)
+after_follows x (Err TermError.Malformed) {t} k d = ap (λ (o : Result Numbers TermError). after_of o t) k
+after_follows x (Err TermError.Overflow) k d = tt
 
-item_follows : (v v' : ℤ) (x x' : Outcome) {t t' : ℕ} → Kept x x' → SameDepth t t' → Follows (operated v x t) (operated v' x' t')
-item_follows v v' x (Outcome.Stack s') {t} {t'} k d =
-    subst (λ (o : Outcome). Follows (operated v o t) (operated v' (Outcome.Stack s') t')) (sym k.1) (top_follows _ _ k.2 d)
-item_follows v v' x Outcome.Malformed {t} k d = ap (λ (o : Outcome). operated v o t) k
-item_follows v v' x Outcome.Overflow k d = tt
+item_follows : (v v' : ℤ) (x x' : Result Numbers TermError) {t t' : ℕ} → Kept x x' → SameDepth t t' → Follows (operated v x t) (operated v' x' t')
+item_follows v v' x (Ok s') {t} {t'} k d =
+    subst (λ (o : Result Numbers TermError). Follows (operated v o t) (operated v' (Ok s') t')) (sym k.1) (top_follows _ _ k.2 d)
+item_follows v v' x (Err TermError.Malformed) {t} k d = ap (λ (o : Result Numbers TermError). operated v o t) k
+item_follows v v' x (Err TermError.Overflow) k d = tt
 
 -- both at the end of a list, or both going on
-next_follows : (x x' : Trial) → Follows x x' → (go go' : Numbers → ℕ → Ended) (i : ℕ) → ((s s' : Numbers) (t t' : ℕ) → Smaller s s' → SameDepth t t' → Follows (go s t).trial (go' s' t').trial) → Follows (next go i x).trial (next go' i x').trial
-next_follows x (Trial.Running s' t') f go go' i h =
-    subst (λ (z : Trial). Follows (next go i z).trial (go' s' t').trial) (sym f.2) (h f.0 s' f.1 t' f.3 f.4)
-next_follows x Trial.Malformed f go go' i h = ap (λ (z : Trial). (next go i z).trial) f
-next_follows x Trial.Overflow f go go' i h = tt
+next_follows : (x x' : Result (Numbers × ℕ) TermError) → Follows x x' → (go go' : Numbers → ℕ → Ended) (i : ℕ) → ((s s' : Numbers) (t t' : ℕ) → Smaller s s' → SameDepth t t' → Follows (go s t).trial (go' s' t').trial) → Follows (next go i x).trial (next go' i x').trial
+next_follows x (Ok (s', t')) f go go' i h =
+    subst (λ (z : Result (Numbers × ℕ) TermError). Follows (next go i z).trial (go' s' t').trial) (sym f.2) (h f.0 s' f.1 t' f.3 f.4)
+next_follows x (Err TermError.Malformed) f go go' i h = ap (λ (z : Result (Numbers × ℕ) TermError). (next go i z).trial) f
+next_follows x (Err TermError.Overflow) f go go' i h = tt
 
 module _ (m : Mode) (env widest : List ℤ) (inside : Inside env widest) (v v' : ℤ) where
   part_follows : (o : Operation) {s s' : Numbers} {t t' : ℕ} → Smaller s s' → SameDepth t t' → Follows (after_of (operate_of m env o s) t) (after_of (operate_of Mode.Sizes widest o s') t')

@@ -19,45 +19,38 @@ use Rattle.term_words.specs.declared.Joint.{Joint}
 use Rattle.term_words.specs.declared.Kind.{Kind}
 use Rattle.term_words.specs.declared.Mode.{Mode}
 use Rattle.term_words.specs.declared.Numbers.{Numbers}
-use Rattle.term_words.specs.declared.Outcome.{Outcome}
-use Rattle.term_words.specs.declared.Pair.{Pair}
 use Rattle.term_words.specs.declared.Term.{Term}
-use Rattle.term_words.specs.declared.Top.{Top}
-use Rattle.term_words.specs.declared.Trial.{Trial}
 use Rattle.term_evaluation.specs.Meaning.{next, run}
 use Rattle.term_evaluation.specs.declared.Ended.{Ended}
+use Rattle.std.specs.Prelude.{Some, Result, Ok, Err}
+use Rattle.term_words.specs.declared.TermError.{TermError}
 
 -- ---- one list after the other
 
-abbrev pub chain : (Numbers → ℕ → Trial) → Trial → Trial
-chain go (Trial.Running s t) = go s t
-chain go Trial.Malformed = Trial.Malformed
-chain go Trial.Overflow = Trial.Overflow
+abbrev pub chain : (Numbers → ℕ → Result (Numbers × ℕ) TermError) → Result (Numbers × ℕ) TermError → Result (Numbers × ℕ) TermError
+chain go (Ok (s, t)) = go s t
+chain go (Err e) = Err e
 
 -- P holds of what waits, if the list came so far
-abbrev pub Good : (Numbers → ℕ → Type 0) → Trial → Type 0
-Good P (Trial.Running s t) = P s t
-Good P Trial.Malformed = Unit {0}
-Good P Trial.Overflow = Unit {0}
+abbrev pub Good : (Numbers → ℕ → Type 0) → Result (Numbers × ℕ) TermError → Type 0
+Good P (Ok (s, t)) = P s t
+Good P (Err e) = Unit {0}
 
-pub good_chain : (P Q : Numbers → ℕ → Type 0) (go : Numbers → ℕ → Trial) (r : Trial) → Good P r → ((s : Numbers) (t : ℕ) → P s t → Good Q (go s t)) → Good Q (chain go r)
-good_chain P Q go (Trial.Running s t) p h = h s t p
-good_chain P Q go Trial.Malformed p h = tt
-good_chain P Q go Trial.Overflow p h = tt
+pub good_chain : (P Q : Numbers → ℕ → Type 0) (go : Numbers → ℕ → Result (Numbers × ℕ) TermError) (r : Result (Numbers × ℕ) TermError) → Good P r → ((s : Numbers) (t : ℕ) → P s t → Good Q (go s t)) → Good Q (chain go r)
+good_chain P Q go (Ok (s, t)) p h = h s t p
+good_chain P Q go (Err e) p h = tt
 
-chain_chain : (go f g : Numbers → ℕ → Trial) (r : Trial) → ((s : Numbers) (t : ℕ) → go s t ≡ chain g (f s t)) → chain go r ≡ chain g (chain f r)
-chain_chain go f g (Trial.Running s t) h = h s t
-chain_chain go f g Trial.Malformed h = refl
-chain_chain go f g Trial.Overflow h = refl
+chain_chain : (go f g : Numbers → ℕ → Result (Numbers × ℕ) TermError) (r : Result (Numbers × ℕ) TermError) → ((s : Numbers) (t : ℕ) → go s t ≡ chain g (f s t)) → chain go r ≡ chain g (chain f r)
+chain_chain go f g (Ok (s, t)) h = h s t
+chain_chain go f g (Err e) h = refl
 
-next_chain : (go : Numbers → ℕ → Ended) (f : Numbers → ℕ → Trial) (i : ℕ) (r : Trial) → ((s : Numbers) (t : ℕ) → (go s t).trial ≡ f s t) → (next go i r).trial ≡ chain f r
-next_chain go f i (Trial.Running s t) h = h s t
-next_chain go f i Trial.Malformed h = refl
-next_chain go f i Trial.Overflow h = refl
+next_chain : (go : Numbers → ℕ → Ended) (f : Numbers → ℕ → Result (Numbers × ℕ) TermError) (i : ℕ) (r : Result (Numbers × ℕ) TermError) → ((s : Numbers) (t : ℕ) → (go s t).trial ≡ f s t) → (next go i r).trial ≡ chain f r
+next_chain go f i (Ok (s, t)) h = h s t
+next_chain go f i (Err e) h = refl
 
 module _ (k : Kind) (m : Mode) (env : List ℤ) (v : ℤ) where
-  unfoldable pub ends : List Term → Numbers → ℕ → Trial
-  ends [] s t = Trial.Running s t
+  unfoldable pub ends : List Term → Numbers → ℕ → Result (Numbers × ℕ) TermError
+  ends [] s t = Ok (s, t)
   ends (x ∷ xs) s t = chain (λ s' t'. ends xs s' t') (step_of k m env v x s t)
 
   pub run_ends : (xs : List Term) (i : ℕ) (s : Numbers) (t : ℕ) → (run k m env v i xs s t).trial ≡ ends xs s t
@@ -77,19 +70,17 @@ module _ (k : Kind) (m : Mode) (env : List ℤ) (v : ℤ) where
   -- after a list comes one term
   pub good_last : (P Q : Numbers → ℕ → Type 0) (xs : List Term) (x : Term) (s : Numbers) (t : ℕ) → Good P (ends xs s t) → ((s' : Numbers) (t' : ℕ) → P s' t' → Good Q (step_of k m env v x s' t')) → Good Q (ends (xs ++ (x ∷ [])) s t)
   unfolding ends
-  good_last P Q xs x s t p h = good_append P Q xs (x ∷ []) s t p (λ s' t' q. good_chain Q Q (λ (s'' : Numbers) (t'' : ℕ). Trial.Running s'' t'') (step_of k m env v x s' t') (h s' t' q) (λ s'' t'' r. r))
+  good_last P Q xs x s t p h = good_append P Q xs (x ∷ []) s t p (λ s' t' q. good_chain Q Q (λ (s'' : Numbers) (t'' : ℕ). Ok (s'', t'')) (step_of k m env v x s' t') (h s' t' q) (λ s'' t'' r. r))
 
 -- ---- a number put on the stack, and taken off it
 
-abbrev pub KeptAs : Numbers → ℤ → Outcome → Type 0
-KeptAs s z (Outcome.Stack s') = pushed s z ≡ Outcome.Stack s'
-KeptAs s z Outcome.Malformed = Unit {0}
-KeptAs s z Outcome.Overflow = Unit {0}
+abbrev pub KeptAs : Numbers → ℤ → Result Numbers TermError → Type 0
+KeptAs s z (Ok s') = pushed s z ≡ Ok s'
+KeptAs s z (Err e) = Unit {0}
 
-pushed_as : (s : Numbers) (z : ℤ) (o : Outcome) → pushed s z ≡ o → KeptAs s z o
-pushed_as s z (Outcome.Stack s') e = e
-pushed_as s z Outcome.Malformed e = tt
-pushed_as s z Outcome.Overflow e = tt
+pushed_as : (s : Numbers) (z : ℤ) (o : Result Numbers TermError) → pushed s z ≡ o → KeptAs s z o
+pushed_as s z (Ok s') e = e
+pushed_as s z (Err error) e = tt
 
 pub kept_as : (s : Numbers) (z : ℤ) → KeptAs s z (kept s (bounded z))
 kept_as s z = go (leb (nat_abs z) (2 ^ 62)) refl
@@ -102,24 +93,24 @@ pub variable_as : (env : List ℤ) (k : ℕ) (s : Numbers) → KeptAs s (get_or 
 unfolding variable_of
 variable_as env k s = go (ltb k (length env))
   where
-    go : (b : Bool) → KeptAs s (get_or env k (pos 0)) (cond b (kept s (bounded (get_or env k (pos 0)))) Outcome.Malformed)
+    go : (b : Bool) → KeptAs s (get_or env k (pos 0)) (cond b (kept s (bounded (get_or env k (pos 0)))) (Err TermError.Malformed))
     go true = kept_as s (get_or env k (pos 0))
     go false = tt
 
-stack_same : (s s' : Numbers) → Outcome.Stack s ≡ Outcome.Stack s' → s ≡ s'
+stack_same : (s s' : Numbers) → ◌≡◌ {A = Result Numbers TermError} (Ok s) (Ok s') → s ≡ s'
 stack_same s s' e = cc e
 
-no_room : {A : Type 0} {s : Numbers} → Outcome.Malformed ≡ Outcome.Stack s → A
+no_room : {A : Type 0} {s : Numbers} → ◌≡◌ {A = Result Numbers TermError} (Err TermError.Malformed) (Ok s) → A
 no_room e = let z : ◌≡◌ {A = ℕ} 0 1 = cc e in absurd (omega arith)
 
-pub top_of_lem : (s s' : Numbers) (a : ℤ) → pushed s a ≡ Outcome.Stack s' → top_of s' ≡ Top.Of s a
+pub top_of_lem : (s s' : Numbers) (a : ℤ) → pushed s a ≡ Ok s' → top_of s' ≡ Some (s, a)
 top_of_lem Numbers.Zero s' a e = ap top_of (sym (stack_same (Numbers.One a) s' e))
 top_of_lem (Numbers.One x) s' a e = ap top_of (sym (stack_same (Numbers.Two x a) s' e))
 top_of_lem (Numbers.Two x y) s' a e = ap top_of (sym (stack_same (Numbers.Three x y a) s' e))
 top_of_lem (Numbers.Three x y z) s' a e = ap top_of (sym (stack_same (Numbers.Four x y z a) s' e))
 top_of_lem (Numbers.Four x y z w) s' a e = no_room e
 
-pub pair_of_lem : (s s' s'' : Numbers) (a b : ℤ) → pushed s a ≡ Outcome.Stack s' → pushed s' b ≡ Outcome.Stack s'' → pair_of s'' ≡ Pair.Of s a b
+pub pair_of_lem : (s s' s'' : Numbers) (a b : ℤ) → pushed s a ≡ Ok s' → pushed s' b ≡ Ok s'' → pair_of s'' ≡ Some (s, a, b)
 pair_of_lem Numbers.Zero s' s'' a b e f = ap pair_of (sym (stack_same (Numbers.Two a b) s'' (ap (λ (x : Numbers). pushed x b) (stack_same (Numbers.One a) s' e) ∙ f)))
 pair_of_lem (Numbers.One x) s' s'' a b e f = ap pair_of (sym (stack_same (Numbers.Three x a b) s'' (ap (λ (y : Numbers). pushed y b) (stack_same (Numbers.Two x a) s' e) ∙ f)))
 pair_of_lem (Numbers.Two x y) s' s'' a b e f = ap pair_of (sym (stack_same (Numbers.Four x y a b) s'' (ap (λ (z : Numbers). pushed z b) (stack_same (Numbers.Three x y a) s' e) ∙ f)))
@@ -135,7 +126,7 @@ pub noted_good : (s : Numbers) (t : ℕ) (b : Bool) → Good (Noted s t b) (note
 unfolding noted
 noted_good s t b = go (ltb t (2 ^ 62))
   where
-    go : (x : Bool) → Good (Noted s t b) (cond x (Trial.Running s (t * 2 + digit b)) Trial.Malformed)
+    go : (x : Bool) → Good (Noted s t b) (cond x (Ok (s, t * 2 + digit b)) (Err TermError.Malformed))
     go true = (refl, refl)
     go false = tt
 
@@ -162,6 +153,6 @@ combined_good j s t x y = go (ltb T 4)
     test : joins j (eqb (T / 2 % 2) 1) (eqb (T % 2) 1) ≡ joins j x y
     test = ap (λ (n : ℕ). joins j (eqb n 1) (eqb (T % 2) 1)) left ∙ ap (λ (n : ℕ). joins j (eqb (digit x) 1) (eqb n 1)) right ∙ ap (λ (b : Bool). joins j b (eqb (digit y) 1)) (digit_back x) ∙ ap (joins j x) (digit_back y)
 
-    go : (b : Bool) → Good (Noted s t (joins j x y)) (cond b Trial.Malformed (noted s (T / 4) (joins j (eqb (T / 2 % 2) 1) (eqb (T % 2) 1))))
+    go : (b : Bool) → Good (Noted s t (joins j x y)) (cond b (Err TermError.Malformed) (noted s (T / 4) (joins j (eqb (T / 2 % 2) 1) (eqb (T % 2) 1))))
     go true = tt
     go false = rw (test, rest) (noted_good s t (joins j x y))

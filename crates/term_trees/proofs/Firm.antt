@@ -22,35 +22,35 @@ use Rattle.term_words.specs.declared.Kind.{Kind}
 use Rattle.term_words.specs.declared.Mode.{Mode}
 use Rattle.term_words.specs.declared.Numbers.{Numbers}
 use Rattle.term_words.specs.declared.Operation.{Operation}
-use Rattle.term_words.specs.declared.Outcome.{Outcome}
 use Rattle.term_words.specs.declared.Term.{Term}
-use Rattle.term_words.specs.declared.Trial.{Trial}
 use Rattle.term_trees.specs.Trees.{Calculation, literal, use_of, plus, minus, times, opposite, ValueSet, everything, only, between, from, up_to, either, without, Condition, compare, both, any}
 use Rattle.term_trees.specs.Postfix.{last_sign, before, calculation_terms, set_terms, condition_terms}
 use Rattle.term_trees.specs.Rooms.{Room, SetRoom, ConditionRoom}
 use Rattle.term_trees.proofs.Chains.{chain, ends, ends_append}
+use Rattle.std.specs.Prelude.{Result, Ok, Err}
+use Rattle.term_words.specs.declared.TermError.{TermError}
 
 -- ---- a list that is not malformed
 
-abbrev pub Firm : (Numbers → ℕ → Type 0) → Trial → Type 0
-Firm P (Trial.Running s t) = P s t
-Firm P Trial.Malformed = ⊥
-Firm P Trial.Overflow = Unit {0}
+abbrev pub Firm : (Numbers → ℕ → Type 0) → Result (Numbers × ℕ) TermError → Type 0
+Firm P (Ok (s, t)) = P s t
+Firm P (Err TermError.Malformed) = ⊥
+Firm P (Err TermError.Overflow) = Unit {0}
 
-abbrev pub FirmStack : (Numbers → Type 0) → Outcome → Type 0
-FirmStack P (Outcome.Stack s) = P s
-FirmStack P Outcome.Malformed = ⊥
-FirmStack P Outcome.Overflow = Unit {0}
+abbrev pub FirmStack : (Numbers → Type 0) → Result Numbers TermError → Type 0
+FirmStack P (Ok s) = P s
+FirmStack P (Err TermError.Malformed) = ⊥
+FirmStack P (Err TermError.Overflow) = Unit {0}
 
-firm_chain : (P Q : Numbers → ℕ → Type 0) (go : Numbers → ℕ → Trial) (r : Trial) → Firm P r → ((s : Numbers) (t : ℕ) → P s t → Firm Q (go s t)) → Firm Q (chain go r)
-firm_chain P Q go (Trial.Running s t) p h = h s t p
-firm_chain P Q go Trial.Malformed p h = p
-firm_chain P Q go Trial.Overflow p h = tt
+firm_chain : (P Q : Numbers → ℕ → Type 0) (go : Numbers → ℕ → Result (Numbers × ℕ) TermError) (r : Result (Numbers × ℕ) TermError) → Firm P r → ((s : Numbers) (t : ℕ) → P s t → Firm Q (go s t)) → Firm Q (chain go r)
+firm_chain P Q go (Ok (s, t)) p h = h s t p
+firm_chain P Q go (Err TermError.Malformed) p h = p
+firm_chain P Q go (Err TermError.Overflow) p h = tt
 
-firm_map : (P Q : Numbers → ℕ → Type 0) (r : Trial) → Firm P r → ((s : Numbers) (t : ℕ) → P s t → Q s t) → Firm Q r
-firm_map P Q (Trial.Running s t) p h = h s t p
-firm_map P Q Trial.Malformed p h = p
-firm_map P Q Trial.Overflow p h = tt
+firm_map : (P Q : Numbers → ℕ → Type 0) (r : Result (Numbers × ℕ) TermError) → Firm P r → ((s : Numbers) (t : ℕ) → P s t → Q s t) → Firm Q r
+firm_map P Q (Ok (s, t)) p h = h s t p
+firm_map P Q (Err TermError.Malformed) p h = p
+firm_map P Q (Err TermError.Overflow) p h = tt
 
 -- ---- how many numbers wait
 
@@ -93,10 +93,10 @@ variable_firm : (env : List ℤ) (k : ℕ) (s : Numbers) (n : ℕ) → count s �
 unfolding variable_of
 variable_firm env k s n e h l = rw (lt-ltb k (length env) l) (kept_firm s (get_or env k (pos 0)) n e h)
 
-after_firm : (o : Outcome) (n t : ℕ) → FirmStack (λ s'. count s' ≡ suc n) o → Firm (λ s' t'. (count s' ≡ suc n) × (t' ≡ t)) (after_of o t)
-after_firm (Outcome.Stack s) n t p = (p, refl)
-after_firm Outcome.Malformed n t p = p
-after_firm Outcome.Overflow n t p = tt
+after_firm : (o : Result Numbers TermError) (n t : ℕ) → FirmStack (λ s'. count s' ≡ suc n) o → Firm (λ s' t'. (count s' ≡ suc n) × (t' ≡ t)) (after_of o t)
+after_firm (Ok s) n t p = (p, refl)
+after_firm (Err TermError.Malformed) n t p = p
+after_firm (Err TermError.Overflow) n t p = tt
 
 part_is : (k : Kind) (m : Mode) (env : List ℤ) (v : ℤ) (o : Operation) (s : Numbers) (t : ℕ) → step_of k m env v (Term.Part o) s t ≡ after_of (operate_of m env o s) t
 part_is Kind.Calculation m env v o s t = refl
@@ -149,10 +149,10 @@ pair_firm q (Numbers.Two a b) t n d e h k = noted_firm Numbers.Zero t (q a b) n 
 pair_firm q (Numbers.Three a b c) t n d e h k = noted_firm (Numbers.One a) t (q b c) n d (omega arith) h k
 pair_firm q (Numbers.Four a b c x) t n d e h k = noted_firm (Numbers.Two a b) t (q c x) n d (omega arith) h k
 
-item_firm : (v : ℤ) (o : Outcome) (t n d : ℕ) → FirmStack (λ s'. count s' ≡ suc n) o → Depth d t → d < 62 → Firm (Leaves n d) (operated v o t)
-item_firm v (Outcome.Stack s) t n d p h k = top_firm _ s t n d p h k
-item_firm v Outcome.Malformed t n d p h k = p
-item_firm v Outcome.Overflow t n d p h k = tt
+item_firm : (v : ℤ) (o : Result Numbers TermError) (t n d : ℕ) → FirmStack (λ s'. count s' ≡ suc n) o → Depth d t → d < 62 → Firm (Leaves n d) (operated v o t)
+item_firm v (Ok s) t n d p h k = top_firm _ s t n d p h k
+item_firm v (Err TermError.Malformed) t n d p h k = p
+item_firm v (Err TermError.Overflow) t n d p h k = tt
 
 -- ---- calculations
 
@@ -162,7 +162,7 @@ module _ (k : Kind) (m : Mode) (env : List ℤ) (v : ℤ) where
 
   firm_last : (P Q : Numbers → ℕ → Type 0) (xs : List Term) (x : Term) (s : Numbers) (t : ℕ) → Firm P (ends k m env v xs s t) → ((s' : Numbers) (t' : ℕ) → P s' t' → Firm Q (step_of k m env v x s' t')) → Firm Q (ends k m env v (xs ++ (x ∷ [])) s t)
   unfolding ends
-  firm_last P Q xs x s t p h = firm_append P Q xs (x ∷ []) s t p (λ s' t' q. firm_chain Q Q (λ (s'' : Numbers) (t'' : ℕ). Trial.Running s'' t'') (step_of k m env v x s' t') (h s' t' q) (λ s'' t'' r. r))
+  firm_last P Q xs x s t p h = firm_append P Q xs (x ∷ []) s t p (λ s' t' q. firm_chain Q Q (λ (s'' : Numbers) (t'' : ℕ). Ok (s'', t'')) (step_of k m env v x s' t') (h s' t' q) (λ s'' t'' r. r))
 
   -- so many numbers wait, and the same tests
   abbrev pub Wait : ℕ → ℕ → Numbers → ℕ → Type 0

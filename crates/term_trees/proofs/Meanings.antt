@@ -15,14 +15,12 @@ use Rattle.term_words.specs.declared.Kind.{Kind}
 use Rattle.term_words.specs.declared.Mode.{Mode}
 use Rattle.term_words.specs.declared.Numbers.{Numbers}
 use Rattle.term_words.specs.declared.Operation.{Operation}
-use Rattle.term_words.specs.declared.Outcome.{Outcome}
-use Rattle.term_words.specs.declared.Pair.{Pair}
 use Rattle.term_words.specs.declared.Term.{Term}
-use Rattle.term_words.specs.declared.Top.{Top}
-use Rattle.term_words.specs.declared.Trial.{Trial}
 use Rattle.term_trees.specs.Trees.{Calculation, literal, use_of, plus, minus, times, opposite, value, ValueSet, everything, only, between, from, up_to, either, without, has, Condition, compare, both, any, true_at}
 use Rattle.term_trees.specs.Postfix.{last_sign, before, calculation_terms, set_terms, condition_terms}
 use Rattle.term_trees.proofs.Chains.{Good, ends, good_append, good_last, KeptAs, kept_as, variable_as, top_of_lem, pair_of_lem, Noted, noted_good, combined_good}
+use Rattle.std.specs.Prelude.{Option, Some, Result, Ok, Err}
+use Rattle.term_words.specs.declared.TermError.{TermError}
 
 -- ---- calculations
 
@@ -31,25 +29,23 @@ abbrev Ready : List ℤ → Operation → Numbers → ℕ → ℤ → Numbers �
 Ready env o s t z s' t' = (t' ≡ t) × KeptAs s z (operate_of Mode.Values env o s')
 
 abbrev pub Put : Numbers → ℕ → ℤ → Numbers → ℕ → Type 0
-Put s t z s' t' = (t' ≡ t) × (pushed s z ≡ Outcome.Stack s')
+Put s t z s' t' = (t' ≡ t) × (pushed s z ≡ Ok s')
 
 abbrev pub Two : Numbers → ℕ → ℤ → ℤ → Numbers → ℕ → Type 0
-Two s t a b s' t' = (t' ≡ t) × (pair_of s' ≡ Pair.Of s a b)
+Two s t a b s' t' = (t' ≡ t) × (pair_of s' ≡ Some (s, a, b))
 
-mapped : (P Q : Numbers → ℕ → Type 0) (r : Trial) → Good P r → ((s : Numbers) (t : ℕ) → P s t → Q s t) → Good Q r
-mapped P Q (Trial.Running s t) g h = h s t g
-mapped P Q Trial.Malformed g h = tt
-mapped P Q Trial.Overflow g h = tt
+mapped : (P Q : Numbers → ℕ → Type 0) (r : Result (Numbers × ℕ) TermError) → Good P r → ((s : Numbers) (t : ℕ) → P s t → Q s t) → Good Q r
+mapped P Q (Ok (s, t)) g h = h s t g
+mapped P Q (Err e) g h = tt
 
 part_step : (k : Kind) (env : List ℤ) (v : ℤ) (o : Operation) (s : Numbers) (t : ℕ) → step_of k Mode.Values env v (Term.Part o) s t ≡ after_of (operate_of Mode.Values env o s) t
 part_step Kind.Calculation env v o s t = refl
 part_step Kind.Set env v o s t = refl
 part_step Kind.Condition env v o s t = refl
 
-after_put : (s : Numbers) (t t' : ℕ) (z : ℤ) (o : Outcome) → t' ≡ t → KeptAs s z o → Good (Put s t z) (after_of o t')
-after_put s t t' z (Outcome.Stack s') e p = (e, p)
-after_put s t t' z Outcome.Malformed e p = tt
-after_put s t t' z Outcome.Overflow e p = tt
+after_put : (s : Numbers) (t t' : ℕ) (z : ℤ) (o : Result Numbers TermError) → t' ≡ t → KeptAs s z o → Good (Put s t z) (after_of o t')
+after_put s t t' z (Ok s') e p = (e, p)
+after_put s t t' z (Err error) e p = tt
 
 module _ (k : Kind) (env : List ℤ) (v : ℤ) where
   put_from : (c : Calculation) (s : Numbers) (t : ℕ) → Good (Ready env (last_sign c) s t (value env c)) (ends k Mode.Values env v (before c) s t) → Good (Put s t (value env c)) (ends k Mode.Values env v (calculation_terms c) s t)
@@ -62,8 +58,8 @@ module _ (k : Kind) (env : List ℤ) (v : ℤ) where
       good_append k Mode.Values env v (Put s t (value env a)) (Two s t (value env a) (value env b)) (calculation_terms a) (calculation_terms b) s t (p s t)
       (λ s' t' x. mapped (Put s' t' (value env b)) (Two s t (value env a) (value env b)) (ends k Mode.Values env v (calculation_terms b) s' t') (q s' t') (λ s'' t'' y. (y.0 ∙ x.0, pair_of_lem s s' s'' (value env a) (value env b) x.1 y.1)))
 
-  binary_ready : (f : ℤ → ℤ → ℤ) (s s' : Numbers) (a b : ℤ) → pair_of s' ≡ Pair.Of s a b → KeptAs s (f a b) (binary f (pair_of s'))
-  binary_ready f s s' a b e = subst (λ (p : Pair). KeptAs s (f a b) (binary f p)) (sym e) (kept_as s (f a b))
+  binary_ready : (f : ℤ → ℤ → ℤ) (s s' : Numbers) (a b : ℤ) → pair_of s' ≡ Some (s, a, b) → KeptAs s (f a b) (binary f (pair_of s'))
+  binary_ready f s s' a b e = subst (λ (p : Option (Numbers × ℤ × ℤ)). KeptAs s (f a b) (binary f p)) (sym e) (kept_as s (f a b))
 
   signed_ready : (f : ℤ → ℤ → ℤ) (o : Operation) (a b : Calculation) → ((s : Numbers) → operate_of Mode.Values env o s ≡ binary f (pair_of s)) → ((s : Numbers) (t : ℕ) → Good (Ready env (last_sign a) s t (value env a)) (ends k Mode.Values env v (before a) s t)) → ((s : Numbers) (t : ℕ) → Good (Ready env (last_sign b) s t (value env b)) (ends k Mode.Values env v (before b) s t)) → (s : Numbers) (t : ℕ) → Good (Ready env o s t (f (value env a) (value env b))) (ends k Mode.Values env v (calculation_terms a ++ calculation_terms b) s t)
   signed_ready f o a b w p q s t =
@@ -71,8 +67,8 @@ module _ (k : Kind) (env : List ℤ) (v : ℤ) where
       (two_from a b (λ s' t'. put_from a s' t' (p s' t')) (λ s' t'. put_from b s' t' (q s' t')) s t)
       (λ s' t' x. (x.0, subst (KeptAs s (f (value env a) (value env b))) (sym (w s')) (binary_ready f s s' (value env a) (value env b) x.1)))
 
-  opposite_ready : (s s' : Numbers) (a : ℤ) → pushed s a ≡ Outcome.Stack s' → KeptAs s (neg_ℤ a) (unary neg_ℤ (top_of s'))
-  opposite_ready s s' a e = subst (λ (p : Top). KeptAs s (neg_ℤ a) (unary neg_ℤ p)) (sym (top_of_lem s s' a e)) (kept_as s (neg_ℤ a))
+  opposite_ready : (s s' : Numbers) (a : ℤ) → pushed s a ≡ Ok s' → KeptAs s (neg_ℤ a) (unary neg_ℤ (top_of s'))
+  opposite_ready s s' a e = subst (λ (p : Option (Numbers × ℤ)). KeptAs s (neg_ℤ a) (unary neg_ℤ p)) (sym (top_of_lem s s' a e)) (kept_as s (neg_ℤ a))
 
   ready : (c : Calculation) (s : Numbers) (t : ℕ) → Good (Ready env (last_sign c) s t (value env c)) (ends k Mode.Values env v (before c) s t)
   unfolding value before ends
@@ -92,10 +88,10 @@ module _ (k : Kind) (env : List ℤ) (v : ℤ) where
   two_ends a b s t = two_from a b (calculation_ends a) (calculation_ends b) s t
 
   -- a test of one number, or of two, that wait
-  top_noted : (q : ℤ → Bool) (s s' : Numbers) (t t' : ℕ) (a : ℤ) → t' ≡ t → pushed s a ≡ Outcome.Stack s' → Good (Noted s t (q a)) (test_top q (top_of s') t')
+  top_noted : (q : ℤ → Bool) (s s' : Numbers) (t t' : ℕ) (a : ℤ) → t' ≡ t → pushed s a ≡ Ok s' → Good (Noted s t (q a)) (test_top q (top_of s') t')
   top_noted q s s' t t' a e p = rw (e, top_of_lem s s' a p) (noted_good s t (q a))
 
-  pair_noted : (q : ℤ → ℤ → Bool) (s s' : Numbers) (t t' : ℕ) (a b : ℤ) → t' ≡ t → pair_of s' ≡ Pair.Of s a b → Good (Noted s t (q a b)) (test_pair q (pair_of s') t')
+  pair_noted : (q : ℤ → ℤ → Bool) (s s' : Numbers) (t t' : ℕ) (a b : ℤ) → t' ≡ t → pair_of s' ≡ Some (s, a, b) → Good (Noted s t (q a b)) (test_pair q (pair_of s') t')
   pair_noted q s s' t t' a b e p = rw (e, p) (noted_good s t (q a b))
 
   -- two lists of tests, and the sign that joins them
@@ -108,10 +104,9 @@ module _ (k : Kind) (env : List ℤ) (v : ℤ) where
 
 -- ---- sets
 
-single_noted : (v : ℤ) (s : Numbers) (t t' : ℕ) (a : ℤ) (o : Outcome) → t' ≡ t → KeptAs s a o → Good (Noted s t (equals a v)) (operated v o t')
-single_noted v s t t' a (Outcome.Stack s') e p = rw (e, top_of_lem s s' a p) (noted_good s t (equals a v))
-single_noted v s t t' a Outcome.Malformed e p = tt
-single_noted v s t t' a Outcome.Overflow e p = tt
+single_noted : (v : ℤ) (s : Numbers) (t t' : ℕ) (a : ℤ) (o : Result Numbers TermError) → t' ≡ t → KeptAs s a o → Good (Noted s t (equals a v)) (operated v o t')
+single_noted v s t t' a (Ok s') e p = rw (e, top_of_lem s s' a p) (noted_good s t (equals a v))
+single_noted v s t t' a (Err error) e p = tt
 
 module _ (env : List ℤ) (v : ℤ) where
   start : (s : Numbers) (t : ℕ) → Good (λ (s' : Numbers) (t' : ℕ). (s' ≡ s) × (t' ≡ t)) (ends Kind.Set Mode.Values env v [] s t)

@@ -13,21 +13,20 @@ use Rattle.term_words.specs.Words.{term_at, terms_from, terms}
 use Rattle.term_words.specs.declared.Kind.{Kind}
 use Rattle.term_words.specs.declared.Mode.{Mode}
 use Rattle.term_words.specs.declared.Numbers.{Numbers}
-use Rattle.term_words.specs.declared.Pair.{Pair}
 use Rattle.term_words.specs.declared.Term.{Term}
-use Rattle.term_words.specs.declared.Trial.{Trial}
 use Rattle.term_evaluation.specs.Meaning.{run}
 use Rattle.term_evaluation.specs.Counts.{shown, form_of, calculations_end, of_one, of_two, of_numbers, of_trial, tallied_by, tallied, counts}
-use Rattle.term_evaluation.specs.declared.Counted.{Counted}
 use Rattle.term_evaluation.specs.declared.Form.{Form}
 use Rattle.term_sizes.specs.Sizes.{count_sizes}
-use Rattle.term_sizes.specs.declared.Sized.{Sized}
 use Rattle.term_sizes.specs.Inside.{Inside}
 use Rattle.term_sizes.proofs.Theorems.{counts_pass}
 use Rattle.term_trees.specs.Trees.{Calculation, value, Repeats, exact, on_from, up_to_bound, spanning, repeats}
 use Rattle.term_trees.specs.Postfix.{last_sign, before, calculation_terms, repeat_terms}
 use Rattle.term_trees.proofs.Chains.{Good, ends, run_ends}
 use Rattle.term_trees.proofs.Meanings.{Put, Two, calculation_ends, two_ends}
+use Rattle.std.specs.Prelude.{Some, Result, Ok, Err}
+use Rattle.term_words.specs.declared.TermError.{TermError}
+use Rattle.term_evaluation.specs.declared.Allowed.{Allowed}
 
 -- ---- the last term of a list, and those before it
 
@@ -66,46 +65,48 @@ split ws (suc n) i (y ∷ ys) x e =
 
 -- ---- the end of counts
 
-not_shown : {A : Type 0} (n : Counts) → Counted.Malformed ≡ shown n → A
+not_shown : {A : Type 0} (n : Counts) → Err TermError.Malformed ≡ shown n → A
 not_shown none e = let z : ◌≡◌ {A = ℕ} 0 1 = cc e in absurd (omega arith)
 not_shown (from l) e = let z : ◌≡◌ {A = ℕ} 0 1 = cc e in absurd (omega arith)
 not_shown (within l m) e = let z : ◌≡◌ {A = ℕ} 0 1 = cc e in absurd (omega arith)
 
-not_past : {A : Type 0} (n : Counts) → Counted.Overflow ≡ shown n → A
+not_past : {A : Type 0} (n : Counts) → Err TermError.Overflow ≡ shown n → A
 not_past none e = let z : ◌≡◌ {A = ℕ} 0 1 = cc e in absurd (omega arith)
 not_past (from l) e = let z : ◌≡◌ {A = ℕ} 0 1 = cc e in absurd (omega arith)
 not_past (within l m) e = let z : ◌≡◌ {A = ℕ} 0 1 = cc e in absurd (omega arith)
 
-one_means : (f : Form) (z : ℤ) (n : Counts) (r : Trial) → Good (Put Numbers.Zero 1 z) r → of_trial f r ≡ shown n → of_trial f r ≡ of_one f z
-one_means f z n (Trial.Running s t) g e = let p : Numbers.One z ≡ s = cc g.1 in ap (of_numbers f) (sym p)
-one_means f z n Trial.Malformed g e = not_shown n e
-one_means f z n Trial.Overflow g e = not_past n e
+one_means : (f : Form) (z : ℤ) (n : Counts) (r : Result (Numbers × ℕ) TermError) → Good (Put Numbers.Zero 1 z) r → of_trial f r ≡ shown n → of_trial f r ≡ of_one f z
+one_means f z n (Ok (s, t)) g e = let p : Numbers.One z ≡ s = cc g.1 in ap (of_numbers f) (sym p)
+one_means f z n (Err TermError.Malformed) g e = not_shown n e
+one_means f z n (Err TermError.Overflow) g e = not_past n e
 
-two_of : (f : Form) (s : Numbers) (a b : ℤ) → pair_of s ≡ Pair.Of Numbers.Zero a b → of_numbers f s ≡ of_two f a b
+two_of : (f : Form) (s : Numbers) (a b : ℤ) → pair_of s ≡ Some (Numbers.Zero, a, b) → of_numbers f s ≡ of_two f a b
 two_of f Numbers.Zero a b e = let z : ◌≡◌ {A = ℕ} 0 1 = cc e in absurd (omega arith)
 two_of f (Numbers.One x) a b e = let z : ◌≡◌ {A = ℕ} 0 1 = cc e in absurd (omega arith)
 two_of f (Numbers.Two x y) a b e =
-    let p : x ≡ a = cc e in
-    let q : y ≡ b = cc e in
-    ap (λ (u : ℤ). of_two f u y) p ∙ ap (of_two f a) q
-two_of f (Numbers.Three x y z) a b e = let w : ◌≡◌ {A = ℕ} 0 1 = cc e in absurd (omega arith)
-two_of f (Numbers.Four x y z w) a b e = let u : ◌≡◌ {A = ℕ} 0 1 = cc e in absurd (omega arith)
+    let p : ◌≡◌ {A = Numbers × ℤ × ℤ} (Numbers.Zero, x, y) (Numbers.Zero, a, b) = cc e in ap (λ (q : Numbers × ℤ × ℤ). of_two f q.1 q.2) p
+two_of f (Numbers.Three x y z) a b e =
+    let p : ◌≡◌ {A = Numbers × ℤ × ℤ} (Numbers.One x, y, z) (Numbers.Zero, a, b) = cc e in
+    let w : ◌≡◌ {A = ℕ} 0 1 = cc (ap (λ (q : Numbers × ℤ × ℤ). q.0) p) in absurd (omega arith)
+two_of f (Numbers.Four x y z w) a b e =
+    let p : ◌≡◌ {A = Numbers × ℤ × ℤ} (Numbers.Two x y, z, w) (Numbers.Zero, a, b) = cc e in
+    let u : ◌≡◌ {A = ℕ} 0 1 = cc (ap (λ (q : Numbers × ℤ × ℤ). q.0) p) in absurd (omega arith)
 
-two_means : (f : Form) (a b : ℤ) (n : Counts) (r : Trial) → Good (Two Numbers.Zero 1 a b) r → of_trial f r ≡ shown n → of_trial f r ≡ of_two f a b
-two_means f a b n (Trial.Running s t) g e = two_of f s a b g.1
-two_means f a b n Trial.Malformed g e = not_shown n e
-two_means f a b n Trial.Overflow g e = not_past n e
+two_means : (f : Form) (a b : ℤ) (n : Counts) (r : Result (Numbers × ℕ) TermError) → Good (Two Numbers.Zero 1 a b) r → of_trial f r ≡ shown n → of_trial f r ≡ of_two f a b
+two_means f a b n (Ok (s, t)) g e = two_of f s a b g.1
+two_means f a b n (Err TermError.Malformed) g e = not_shown n e
+two_means f a b n (Err TermError.Overflow) g e = not_past n e
 
 -- ---- counts by their last term
 
 module _ (m : Mode) (env : List ℤ) (ws : List ℕ) (start end : ℕ) where
-  abbrev pub ended : List Term → Trial
+  abbrev pub ended : List Term → Result (Numbers × ℕ) TermError
   ended L = ends Kind.Calculation m env (pos 0) L Numbers.Zero 1
 
   tallied_at : (x : Term) (L : List Term) → start < end → term_at ws (end - 1) ≡ x → terms ws start (calculations_end (form_of x) (end - 1) end) ≡ L → (tallied m env ws start end).counted ≡ of_trial (form_of x) (ended L)
   unfolding tallied
   tallied_at x L h e k =
-      ap (λ (b : Bool). (cond b (tallied_by (form_of (term_at ws (end - 1))) m env ws start end) (record { counted = Counted.Malformed; at = start })).counted) (lt-ltb start end h)
+      ap (λ (b : Bool). (cond b (tallied_by (form_of (term_at ws (end - 1))) m env ws start end) (record { counted = Err TermError.Malformed; at = start })).counted) (lt-ltb start end h)
       ∙ ap (λ (y : Term). (tallied_by (form_of y) m env ws start end).counted) e
       ∙ ap (λ (M : List Term). of_trial (form_of x) (run Kind.Calculation m env (pos 0) start M Numbers.Zero 1).trial) k
       ∙ ap (of_trial (form_of x)) (run_ends Kind.Calculation m env (pos 0) L start Numbers.Zero 1)
@@ -119,9 +120,9 @@ module _ (m : Mode) (env : List ℤ) (ws : List ℕ) (start end : ℕ) where
       let b : s.less ≡ end - 1 - start = omega arith in
       tallied_at x M (omega arith) (ap (term_at ws) (sym a) ∙ s.last) (w (ap (terms_from ws start) (sym b) ∙ s.rest))
 
-module _ (env widest : List ℤ) (inside : Inside env widest) (ws : List ℕ) (start end : ℕ) (passes : count_sizes widest ws start end ≡ Sized.Passes) where
+module _ (env widest : List ℤ) (inside : Inside env widest) (ws : List ℕ) (start end : ℕ) (passes : count_sizes widest ws start end ≡ Ok tt) where
   -- the answer is a set of counts, so that of the end of the list is too
-  answered : (c : Counted) → counts env ws start end ≡ c → (n : Counts) × (c ≡ shown n)
+  answered : (c : Result Allowed TermError) → counts env ws start end ≡ c → (n : Counts) × (c ≡ shown n)
   answered c e =
       let a : (n : Counts) × (counts env ws start end ≡ shown n) = counts_pass env widest inside ws start end passes in
       (a.0, sym e ∙ a.1)

@@ -81,32 +81,9 @@ pub enum Numbers {
     Four(i64, i64, i64, i64),
 }
 
-// The numbers that wait after a term.
-#[derive(Clone, Copy)]
-pub enum Outcome {
-    Stack(Numbers),
-    Malformed,
-    Overflow,
-}
-
-// The last number, and those below it.
-#[derive(Clone, Copy)]
-pub enum Top {
-    Of(Numbers, i64),
-    Short,
-}
-
-// The last two numbers, and those below them.
-#[derive(Clone, Copy)]
-pub enum Pair {
-    Of(Numbers, i64, i64),
-    Short,
-}
-
-// The numbers and tests that wait after a term. The tests are a number: a 1 followed by a digit for each, the last one last.
-#[derive(Clone, Copy)]
-pub enum Trial {
-    Running(Numbers, u64),
+// Why a list of terms comes to nothing: a term that cannot stand there, or a number past 2^62.
+#[derive(Clone, Copy, Debug, PartialEq, Eq)]
+pub enum TermError {
     Malformed,
     Overflow,
 }

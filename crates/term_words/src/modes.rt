@@ -4,10 +4,10 @@ ghost use Rattle.term_integers.specs.Wholes.{bounded};
 ghost use Rattle.term_words.specs.Numbers.{difference_of, opposite_of};
 
 use crate::Mode;
-use term_integers::{Checked, add, in_bounds, negate, subtract};
+use term_integers::{add, in_bounds, negate, subtract};
 
 // `a - b`, or the sum where sizes are worked out.
-pub fn difference(mode: Mode, a: i64, b: i64) -> Checked
+pub fn difference(mode: Mode, a: i64, b: i64) -> Option<i64>
     ensures { result ≡ bounded (difference_of mode a b) }
 {
     match mode {
@@ -17,7 +17,7 @@ pub fn difference(mode: Mode, a: i64, b: i64) -> Checked
 }
 
 // `-a`, or `a` where sizes are worked out.
-pub fn turned(mode: Mode, a: i64) -> Checked
+pub fn turned(mode: Mode, a: i64) -> Option<i64>
     ensures { result ≡ bounded (opposite_of mode a) }
 {
     match mode {

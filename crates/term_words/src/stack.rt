@@ -2,51 +2,48 @@
 ghost use Rattle.std.specs.Prelude.{◌≡◌};
 ghost use Rattle.term_words.specs.Numbers.{pushed, kept, top_of, pair_of};
 
-use crate::{Numbers, Outcome, Pair, Top};
-use term_integers::Checked;
+use crate::{Numbers, TermError};
 
-fn push(numbers: Numbers, last: i64) -> Outcome
+fn push(numbers: Numbers, last: i64) -> Result<Numbers, TermError>
     ensures { result ≡ pushed numbers last }
 {
     match numbers {
-        Numbers::Zero => Outcome::Stack(Numbers::One(last)),
-        Numbers::One(a) => Outcome::Stack(Numbers::Two(a, last)),
-        Numbers::Two(a, b) => Outcome::Stack(Numbers::Three(a, b, last)),
-        Numbers::Three(a, b, c) => Outcome::Stack(Numbers::Four(a, b, c, last)),
-        Numbers::Four(_, _, _, _) => Outcome::Malformed,
+        Numbers::Zero => Ok(Numbers::One(last)),
+        Numbers::One(a) => Ok(Numbers::Two(a, last)),
+        Numbers::Two(a, b) => Ok(Numbers::Three(a, b, last)),
+        Numbers::Three(a, b, c) => Ok(Numbers::Four(a, b, c, last)),
+        Numbers::Four(_, _, _, _) => Err(TermError::Malformed),
     }
 }
 
 // Puts a result on the stack, where there is one.
-pub fn keep(numbers: Numbers, res: Checked) -> Outcome
+pub fn keep(numbers: Numbers, res: Option<i64>) -> Result<Numbers, TermError>
     ensures { result ≡ kept numbers res }
 {
-    match res {
-        Checked::Exact(last) => push(numbers, last),
-        Checked::Overflow => Outcome::Overflow,
-    }
+    push(numbers, res.ok_or(TermError::Overflow)?)
 }
 
-pub fn top(numbers: Numbers) -> Top
+// The last number, and those below it.
+pub fn top(numbers: Numbers) -> Option<(Numbers, i64)>
     ensures { result ≡ top_of numbers }
 {
     match numbers {
-        Numbers::Zero => Top::Short,
-        Numbers::One(a) => Top::Of(Numbers::Zero, a),
-        Numbers::Two(a, b) => Top::Of(Numbers::One(a), b),
-        Numbers::Three(a, b, c) => Top::Of(Numbers::Two(a, b), c),
-        Numbers::Four(a, b, c, d) => Top::Of(Numbers::Three(a, b, c), d),
+        Numbers::Zero => None,
+        Numbers::One(a) => Some((Numbers::Zero, a)),
+        Numbers::Two(a, b) => Some((Numbers::One(a), b)),
+        Numbers::Three(a, b, c) => Some((Numbers::Two(a, b), c)),
+        Numbers::Four(a, b, c, d) => Some((Numbers::Three(a, b, c), d)),
     }
 }
 
-pub fn pair(numbers: Numbers) -> Pair
+// The last two numbers, and those below them.
+pub fn pair(numbers: Numbers) -> Option<(Numbers, i64, i64)>
     ensures { result ≡ pair_of numbers }
 {
     match numbers {
-        Numbers::Zero => Pair::Short,
-        Numbers::One(_) => Pair::Short,
-        Numbers::Two(a, b) => Pair::Of(Numbers::Zero, a, b),
-        Numbers::Three(a, b, c) => Pair::Of(Numbers::One(a), b, c),
-        Numbers::Four(a, b, c, d) => Pair::Of(Numbers::Two(a, b), c, d),
+        Numbers::Zero | Numbers::One(_) => None,
+        Numbers::Two(a, b) => Some((Numbers::Zero, a, b)),
+        Numbers::Three(a, b, c) => Some((Numbers::One(a), b, c)),
+        Numbers::Four(a, b, c, d) => Some((Numbers::Two(a, b), c, d)),
     }
 }

@@ -6,56 +6,53 @@ ghost use Rattle.term_words.specs.Numbers.{pair_of, top_of, difference_of, oppos
 use crate::modes::{difference, turned};
 use crate::stack::{keep, pair, top};
 use crate::truths::{combine, note};
-use crate::{Comparison, Joint, Kind, Mode, Numbers, Operation, Outcome, Pair, Term, Top, Trial};
+use crate::{Comparison, Joint, Kind, Mode, Numbers, Operation, Term, TermError};
 use term_integers::{add, at_most, equal, in_bounds, multiply, whole};
 
-fn variable(values: &[i64], at: usize, numbers: Numbers) -> Outcome
+fn variable(values: &[i64], at: usize, numbers: Numbers) -> Result<Numbers, TermError>
     ensures { result ≡ variable_of values.now at numbers }
 {
     if at < values.len() {
         let value = values[at];
         return keep(numbers, in_bounds(value));
     }
-    Outcome::Malformed
+    Err(TermError::Malformed)
 }
 
-fn sum(numbers: Numbers) -> Outcome
+fn sum(numbers: Numbers) -> Result<Numbers, TermError>
     ensures { result ≡ binary ◌+ℤ◌ (pair_of numbers) }
 {
-    match pair(numbers) {
-        Pair::Of(rest, a, b) => keep(rest, add(a, b)),
-        Pair::Short => Outcome::Malformed,
-    }
+    let (rest, a, b) = pair(numbers).ok_or(TermError::Malformed)?;
+    keep(rest, add(a, b))
 }
 
-fn reduce(mode: Mode, numbers: Numbers) -> Outcome
+fn reduce(mode: Mode, numbers: Numbers) -> Result<Numbers, TermError>
     ensures { result ≡ binary (difference_of mode) (pair_of numbers) }
 {
-    match pair(numbers) {
-        Pair::Of(rest, a, b) => keep(rest, difference(mode, a, b)),
-        Pair::Short => Outcome::Malformed,
-    }
+    let (rest, a, b) = pair(numbers).ok_or(TermError::Malformed)?;
+    keep(rest, difference(mode, a, b))
 }
 
-fn product(numbers: Numbers) -> Outcome
+fn product(numbers: Numbers) -> Result<Numbers, TermError>
     ensures { result ≡ binary ◌*ℤ◌ (pair_of numbers) }
 {
-    match pair(numbers) {
-        Pair::Of(rest, a, b) => keep(rest, multiply(a, b)),
-        Pair::Short => Outcome::Malformed,
-    }
+    let (rest, a, b) = pair(numbers).ok_or(TermError::Malformed)?;
+    keep(rest, multiply(a, b))
 }
 
-fn turn(mode: Mode, numbers: Numbers) -> Outcome
+fn turn(mode: Mode, numbers: Numbers) -> Result<Numbers, TermError>
     ensures { result ≡ unary (opposite_of mode) (top_of numbers) }
 {
-    match top(numbers) {
-        Top::Of(rest, a) => keep(rest, turned(mode, a)),
-        Top::Short => Outcome::Malformed,
-    }
+    let (rest, a) = top(numbers).ok_or(TermError::Malformed)?;
+    keep(rest, turned(mode, a))
 }
 
-pub fn operate(mode: Mode, values: &[i64], operation: Operation, numbers: Numbers) -> Outcome
+pub fn operate(
+    mode: Mode,
+    values: &[i64],
+    operation: Operation,
+    numbers: Numbers,
+) -> Result<Numbers, TermError>
     ensures { result ≡ operate_of mode values.now operation numbers }
 {
     match operation {
@@ -65,64 +62,40 @@ pub fn operate(mode: Mode, values: &[i64], operation: Operation, numbers: Number
         Operation::Subtract => reduce(mode, numbers),
         Operation::Multiply => product(numbers),
         Operation::Negate => turn(mode, numbers),
-        Operation::Unknown => Outcome::Malformed,
-    }
-}
-
-fn after(outcome: Outcome, truths: u64) -> Trial
-    ensures { result ≡ after_of outcome truths }
-{
-    match outcome {
-        Outcome::Stack(numbers) => Trial::Running(numbers, truths),
-        Outcome::Malformed => Trial::Malformed,
-        Outcome::Overflow => Trial::Overflow,
+        Operation::Unknown => Err(TermError::Malformed),
     }
 }
 
 // The item `a`.
-fn single(numbers: Numbers, truths: u64, value: i64) -> Trial
+fn single(numbers: Numbers, truths: u64, value: i64) -> Result<(Numbers, u64), TermError>
     ensures { result ≡ equal_to value (top_of numbers) truths }
 {
-    match top(numbers) {
-        Top::Of(rest, a) => note(rest, truths, equal(a, value)),
-        Top::Short => Trial::Malformed,
-    }
+    let (rest, a) = top(numbers).ok_or(TermError::Malformed)?;
+    note(rest, truths, equal(a, value))
 }
 
 // The item `a~b`.
-fn range(numbers: Numbers, truths: u64, value: i64) -> Trial
+fn range(numbers: Numbers, truths: u64, value: i64) -> Result<(Numbers, u64), TermError>
     ensures { result ≡ within value (pair_of numbers) truths }
 {
-    match pair(numbers) {
-        Pair::Of(rest, a, b) => {
-            if at_most(a, value) {
-                note(rest, truths, at_most(value, b))
-            } else {
-                note(rest, truths, false)
-            }
-        }
-        Pair::Short => Trial::Malformed,
-    }
+    let (rest, a, b) = pair(numbers).ok_or(TermError::Malformed)?;
+    note(rest, truths, at_most(a, value) && at_most(value, b))
 }
 
 // The item `a~`.
-fn least(numbers: Numbers, truths: u64, value: i64) -> Trial
+fn least(numbers: Numbers, truths: u64, value: i64) -> Result<(Numbers, u64), TermError>
     ensures { result ≡ from value (top_of numbers) truths }
 {
-    match top(numbers) {
-        Top::Of(rest, a) => note(rest, truths, at_most(a, value)),
-        Top::Short => Trial::Malformed,
-    }
+    let (rest, a) = top(numbers).ok_or(TermError::Malformed)?;
+    note(rest, truths, at_most(a, value))
 }
 
 // The item `~b`.
-fn greatest(numbers: Numbers, truths: u64, value: i64) -> Trial
+fn greatest(numbers: Numbers, truths: u64, value: i64) -> Result<(Numbers, u64), TermError>
     ensures { result ≡ up_to value (top_of numbers) truths }
 {
-    match top(numbers) {
-        Top::Of(rest, b) => note(rest, truths, at_most(value, b)),
-        Top::Short => Trial::Malformed,
-    }
+    let (rest, b) = top(numbers).ok_or(TermError::Malformed)?;
+    note(rest, truths, at_most(value, b))
 }
 
 pub fn holds(comparison: Comparison, a: i64, b: i64) -> bool
@@ -130,48 +103,37 @@ pub fn holds(comparison: Comparison, a: i64, b: i64) -> bool
 {
     match comparison {
         Comparison::Equal => equal(a, b),
-        Comparison::Unequal => if equal(a, b) { false } else { true },
-        Comparison::Less => if at_most(b, a) { false } else { true },
+        Comparison::Unequal => !equal(a, b),
+        Comparison::Less => !at_most(b, a),
         Comparison::AtMost => at_most(a, b),
-        Comparison::Greater => if at_most(a, b) { false } else { true },
+        Comparison::Greater => !at_most(a, b),
         Comparison::AtLeast => at_most(b, a),
     }
 }
 
-fn compare(comparison: Comparison, numbers: Numbers, truths: u64) -> Trial
+fn compare(
+    comparison: Comparison,
+    numbers: Numbers,
+    truths: u64,
+) -> Result<(Numbers, u64), TermError>
     ensures { result ≡ compared comparison (pair_of numbers) truths }
 {
-    match pair(numbers) {
-        Pair::Of(rest, a, b) => note(rest, truths, holds(comparison, a, b)),
-        Pair::Short => Trial::Malformed,
-    }
+    let (rest, a, b) = pair(numbers).ok_or(TermError::Malformed)?;
+    note(rest, truths, holds(comparison, a, b))
 }
 
-fn calculation_step(mode: Mode, values: &[i64], term: Term, numbers: Numbers, truths: u64) -> Trial
+fn calculation_step(
+    mode: Mode,
+    values: &[i64],
+    term: Term,
+    numbers: Numbers,
+    truths: u64,
+) -> Result<(Numbers, u64), TermError>
     ensures { result ≡ calculation_step mode values.now term numbers truths }
 {
     match term {
-        Term::Part(operation) => after(operate(mode, values, operation, numbers), truths),
-        Term::Single(_) => Trial::Malformed,
-        Term::All => Trial::Malformed,
-        Term::Range => Trial::Malformed,
-        Term::From => Trial::Malformed,
-        Term::UpTo => Trial::Malformed,
-        Term::Or => Trial::Malformed,
-        Term::Except => Trial::Malformed,
-        Term::And => Trial::Malformed,
-        Term::Compare(_) => Trial::Malformed,
-        Term::Bad => Trial::Malformed,
-    }
-}
-
-fn item(outcome: Outcome, truths: u64, value: i64) -> Trial
-    ensures { result ≡ operated value outcome truths }
-{
-    match outcome {
-        Outcome::Stack(numbers) => single(numbers, truths, value),
-        Outcome::Malformed => Trial::Malformed,
-        Outcome::Overflow => Trial::Overflow,
+        Term::Part(operation) => Ok((operate(mode, values, operation, numbers)?, truths)),
+        _ => Err(TermError::Malformed),
     }
 }
 
@@ -182,39 +144,41 @@ fn set_step(
     term: Term,
     numbers: Numbers,
     truths: u64,
-) -> Trial
+) -> Result<(Numbers, u64), TermError>
     ensures { result ≡ set_step mode values.now value term numbers truths }
 {
     match term {
-        Term::Part(operation) => after(operate(mode, values, operation, numbers), truths),
-        Term::Single(operation) => item(operate(mode, values, operation, numbers), truths, value),
+        Term::Part(operation) => Ok((operate(mode, values, operation, numbers)?, truths)),
+        Term::Single(operation) => single(
+            operate(mode, values, operation, numbers)?,
+            truths,
+            value,
+        ),
         Term::All => note(numbers, truths, true),
         Term::Range => range(numbers, truths, value),
         Term::From => least(numbers, truths, value),
         Term::UpTo => greatest(numbers, truths, value),
         Term::Or => combine(Joint::Or, numbers, truths),
         Term::Except => combine(Joint::Except, numbers, truths),
-        Term::And => Trial::Malformed,
-        Term::Compare(_) => Trial::Malformed,
-        Term::Bad => Trial::Malformed,
+        _ => Err(TermError::Malformed),
     }
 }
 
-fn condition_step(mode: Mode, values: &[i64], term: Term, numbers: Numbers, truths: u64) -> Trial
+fn condition_step(
+    mode: Mode,
+    values: &[i64],
+    term: Term,
+    numbers: Numbers,
+    truths: u64,
+) -> Result<(Numbers, u64), TermError>
     ensures { result ≡ condition_step mode values.now term numbers truths }
 {
     match term {
-        Term::Part(operation) => after(operate(mode, values, operation, numbers), truths),
+        Term::Part(operation) => Ok((operate(mode, values, operation, numbers)?, truths)),
         Term::Compare(comparison) => compare(comparison, numbers, truths),
         Term::Or => combine(Joint::Or, numbers, truths),
         Term::And => combine(Joint::And, numbers, truths),
-        Term::Single(_) => Trial::Malformed,
-        Term::All => Trial::Malformed,
-        Term::Range => Trial::Malformed,
-        Term::From => Trial::Malformed,
-        Term::UpTo => Trial::Malformed,
-        Term::Except => Trial::Malformed,
-        Term::Bad => Trial::Malformed,
+        _ => Err(TermError::Malformed),
     }
 }
 
@@ -227,7 +191,7 @@ pub fn step(
     term: Term,
     numbers: Numbers,
     truths: u64,
-) -> Trial
+) -> Result<(Numbers, u64), TermError>
     ensures { result ≡ step_of kind mode values.now value term numbers truths }
 {
     match kind {

@@ -11,7 +11,6 @@ use lib.Dec.{leb, eqb}
 use lib.ListN.{length}
 use Rattle.basis.specs.Limits.{max_text_bytes, max_width, max_bound_width}
 use Rattle.basis.proofs.Booleans.{both_rest, both_first}
-use Rattle.term_sizes.specs.declared.Sized.{Sized}
 use Rattle.table_layout.specs.Constructs.{widest_for, construct_at}
 use Rattle.table_sizes.specs.Measures.{condition_size, own_size, exceeds, oversized}
 use Rattle.text_store.proofs.Numbers.{at_term, at_origin}
@@ -24,6 +23,8 @@ use Rattle.text_wellformed.proofs.Sums.{side}
 use Rattle.text_wellformed.proofs.Standing.{number_inside}
 use Rattle.text_admission.specs.Extents.{lesser, found_if, least_found, most_of, width_found, origin_after, list_found, node_found, refusal_8}
 use Rattle.text_admission.specs.declared.Found.{Found}
+use Rattle.std.specs.Prelude.{Result, Ok, Err, ⊤}
+use Rattle.term_sizes.specs.declared.SizeError.{SizeError}
 
 never : {A : Type 0} → true ≡ false → A
 never e = let z : ◌≡◌ {A = ℕ} 0 1 = cc in absurd (omega arith)
@@ -49,10 +50,10 @@ least_none (suc n) i f e j h l =
     let z = lesser_none (f i) (least_found n (i + 1) f) e in
     ⊎_elim (λ (q : j < i + 1). let y : j ≡ i = omega arith in rw y z.0) (λ (q : i + 1 ≤ j). least_none n (i + 1) f z.1 j q (omega arith)) (side j (i + 1))
 
-list_none : (ts : List ℕ) (f start : ℕ) (s : Sized) → list_found ts f start s ≡ Found.Nothing → exceeds s ≡ false
-list_none ts f start Sized.Passes e = refl
-list_none ts f start Sized.Malformed e = refl
-list_none ts f start (Sized.Exceeds at) e = found_never (origin_after ts f at start) e
+list_none : (ts : List ℕ) (f start : ℕ) (s : Result ⊤ SizeError) → list_found ts f start s ≡ Found.Nothing → exceeds s ≡ false
+list_none ts f start (Ok u) e = refl
+list_none ts f start (Err SizeError.Malformed) e = refl
+list_none ts f start (Err (SizeError.Exceeds at)) e = found_never (origin_after ts f at start) e
 
 either_off : (a b : Bool) → a ≡ false → b ≡ false → (a || b) ≡ true → ⊥
 either_off true b p q e = never p
@@ -100,10 +101,10 @@ if_inside : (fault : Bool) (p : ℕ) → (fault ≡ true → p ≤ max_text_byte
 if_inside true p h = h refl
 if_inside false p h = tt
 
-list_inside : (ts : List ℕ) (f start : ℕ) (s : Sized) → ((k : ℕ) → term_origin ts k ≤ max_text_bytes) → Inside (list_found ts f start s)
-list_inside ts f start Sized.Passes h = tt
-list_inside ts f start Sized.Malformed h = tt
-list_inside ts f start (Sized.Exceeds at) h = h (f + (at - start))
+list_inside : (ts : List ℕ) (f start : ℕ) (s : Result ⊤ SizeError) → ((k : ℕ) → term_origin ts k ≤ max_text_bytes) → Inside (list_found ts f start s)
+list_inside ts f start (Ok u) h = tt
+list_inside ts f start (Err SizeError.Malformed) h = tt
+list_inside ts f start (Err (SizeError.Exceeds at)) h = h (f + (at - start))
 
 -- a uint's width stands in the text
 width_inside : {xs ns ts : List ℕ} {i e f g β : ℕ} → Holds xs ns ts tree i e f g β → kind_of ns i ≡ 8 → width_place ns i < length xs

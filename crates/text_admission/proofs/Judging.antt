@@ -14,7 +14,8 @@ use Rattle.table_first_follow.specs.Sets.{FirstSets}
 use Rattle.table_conflicts.specs.declared.Clash.{Clash}
 use Rattle.text_store.specs.Words.{place_of, named_at}
 use Rattle.table_judge.specs.Judged.{Passed8, Judged}
-use Rattle.table_judge.specs.declared.Judgement.{Judgement}
+use Rattle.table_judge.specs.declared.Fault.{Fault}
+use Rattle.std.specs.Prelude.{Ok, Err}
 use Rattle.table_fill.specs.Completed.{Completed}
 use Rattle.text_store.specs.Store.{State, state, nodes_of}
 use Rattle.text_wellformed.specs.Context.{Readable}
@@ -64,7 +65,7 @@ module _ (ns rs old new : List ℕ) (base : ℕ) where
   pub kept : (first : List ℕ) → laid old ≡ true → FirstSets old first → new ≡ old → (laid new ≡ true) × FirstSets new first
   kept first l f e = (subst (λ (ws : List ℕ). laid ws ≡ true) (sym e) l, subst (λ (ws : List ℕ). FirstSets ws first) (sym e) f)
 
-  module _ (i mark : ℕ) (d : Judged old (Judgement.EmptyBody i)) (c : new ≡ old) (m : Marks ns new (construct_count new) mark) where
+  module _ (i mark : ℕ) (d : Judged old (Err (Fault.EmptyBody i))) (c : new ≡ old) (m : Marks ns new (construct_count new) mark) where
     marked : Marks ns old (construct_count old) mark
     marked = subst (λ (ws : List ℕ). Marks ns ws (construct_count ws) mark) c m
 
@@ -74,17 +75,17 @@ module _ (ns rs old new : List ℕ) (base : ℕ) where
     pub late_body : (r : Admission) → r ≡ Admission.Refused 9 (base + mark) → Late ns rs base old new r
     late_body r e = subst (Late ns rs base old new) (sym e) (empty_body d.1.there d.1.holds marked refl)
 
-  pub late_conflict : (i : ℕ) (clash : Clash) → Judged old (Judgement.Conflict i clash) → (r : Admission) → r ≡ Admission.Conflict (base + place_of ns i) i clash → Late ns rs base old new r
+  pub late_conflict : (i : ℕ) (clash : Clash) → Judged old (Err (Fault.Conflict i clash)) → (r : Admission) → r ≡ Admission.Conflict (base + place_of ns i) i clash → Late ns rs base old new r
   late_conflict i clash d r e = subst (Late ns rs base old new) (sym e) (record { passed = d.0; first = d.1; answered = d.2; at = refl })
 
-  pub late_weight : Judged old Judgement.Overweight → (r : Admission) → r ≡ Admission.Refused 11 (base + named_at rs 0) → Late ns rs base old new r
+  pub late_weight : Judged old (Err Fault.Overweight) → (r : Admission) → r ≡ Admission.Refused 11 (base + named_at rs 0) → Late ns rs base old new r
   late_weight d r e = subst (Late ns rs base old new) (sym e) (overweight d.0 d.1 refl)
 
-  pub late_reach : (rule : ℕ) → Judged old (Judgement.Unreached rule) → (r : Admission) → r ≡ Admission.Refused 12 (base + named_at rs rule) → Late ns rs base old new r
+  pub late_reach : (rule : ℕ) → Judged old (Err (Fault.Unreached rule)) → (r : Admission) → r ≡ Admission.Refused 12 (base + named_at rs rule) → Late ns rs base old new r
   late_reach rule d r e = subst (Late ns rs base old new) (sym e) (unreached d.0 d.1 d.2 refl)
 
-  pub late_value : (i : ℕ) → Judged old (Judgement.NoValue i) → (r : Admission) → r ≡ Admission.Refused 13 (base + place_of ns i) → Late ns rs base old new r
+  pub late_value : (i : ℕ) → Judged old (Err (Fault.NoValue i)) → (r : Admission) → r ≡ Admission.Refused 13 (base + place_of ns i) → Late ns rs base old new r
   late_value i d r e = subst (Late ns rs base old new) (sym e) (no_value d.0 d.1 d.2 d.3 refl)
 
-  pub late_pass : (weight : ℕ) → Judged old (Judgement.Passes weight) → Completed old new (Judgement.Passes weight) → LatePass weight old new
+  pub late_pass : (weight : ℕ) → Judged old (Ok weight) → Completed old new (Ok weight) → LatePass weight old new
   late_pass weight d c = record { judged = d.0; weighs = d.1; limited = d.2; reached = d.3; valued = d.4; sound = c.0; same = c.1 }

@@ -11,7 +11,7 @@ use lib.Dec.{eqb}
 use lib.ListN.{length, length-replicate}
 use Rattle.basis.specs.Limits.{max_text_bytes, max_rules, max_constructs, max_terms, table_words}
 use Rattle.table_reach.specs.Reaching.{Found}
-use Rattle.table_reach.specs.declared.Recursion.{Recursion}
+use Rattle.std.specs.Prelude.{Option, Some, None}
 use Rattle.table_judge.specs.Judged.{Passed8}
 use Rattle.text_store.specs.Store.{State, node_words, term_words, rule_words, nodes_of, terms_of, rules_of}
 use Rattle.text_store.proofs.Numbers.{at_term}
@@ -86,11 +86,11 @@ module _ (xs : List ℕ) (st : State) (h : length xs ≤ max_text_bytes) where
   pub long_words : length (words_of xs st) ≡ table_words
   long_words = encoded_length xs (node_words st) (term_words st) (rule_words st) (nodes_of st) (rules_of st)
 
-  pub cyclic : (base : ℕ) (ws : List ℕ) → ws ≡ words_of xs st → (x : Recursion) (k : ℕ) → x ≡ Recursion.Rule k → Found ws x → Named xs st → RulesRefused xs base 7 (base + named_at (rule_words st) k)
-  cyclic base ws w x k e f p = let q : Found (words_of xs st) (Recursion.Rule k) = subst (λ (v : List ℕ). Found v (Recursion.Rule k)) w (subst (Found ws) e f) in by_cycle p q.0 q.1 refl
+  pub cyclic : (base : ℕ) (ws : List ℕ) → ws ≡ words_of xs st → (x : Option ℕ) (k : ℕ) → x ≡ Some k → Found ws x → Named xs st → RulesRefused xs base 7 (base + named_at (rule_words st) k)
+  cyclic base ws w x k e f p = let q : Found (words_of xs st) (Some k) = subst (λ (v : List ℕ). Found v (Some k)) w (subst (Found ws) e f) in by_cycle p q.0 q.1 refl
 
-  pub straight : (ws : List ℕ) → ws ≡ words_of xs st → (x : Recursion) → x ≡ Recursion.None → Found ws x → Named xs st → NotRecursive xs st
-  straight ws w x e f p = record { passed = p; none = subst (λ (v : List ℕ). Found v Recursion.None) w (subst (Found ws) e f) }
+  pub straight : (ws : List ℕ) → ws ≡ words_of xs st → (x : Option ℕ) → x ≡ None → Found ws x → Named xs st → NotRecursive xs st
+  straight ws w x e f p = record { passed = p; none = subst (λ (v : List ℕ). Found v None) w (subst (Found ws) e f) }
 
   -- 8
   pub place_8 : NotRecursive xs st → (p : ℕ) → fault_8 xs st ≡ places.Found.At p → p ≤ max_text_bytes

@@ -1,14 +1,14 @@
 -- Refusal 8: "number or width outside its limits, or a calculation, or part of one, whose size may pass 2^62 (variables at their widest, sizes
 -- added and multiplied)", at the "number or calculation". Each has a place, and the least is the refusal's.
 -- Assumes nothing.
-use Rattle.std.specs.Prelude.{ℕ, zero, suc, ◌+◌, ◌-◌, min, Bool, cond, not, ◌&&◌, List, leb, eqb}
+use Rattle.std.specs.Prelude.{ℕ, zero, suc, ◌+◌, ◌-◌, min, Bool, cond, not, ◌&&◌, List, leb, eqb, Result, Ok, Err, ⊤}
 use Rattle.basis.specs.Limits.{max_width, max_bound_width}
-use Rattle.term_sizes.specs.declared.Sized.{Sized}
 use Rattle.table_layout.specs.Constructs.{construct_at}
 use Rattle.table_sizes.specs.Measures.{condition_size, own_size}
 use Rattle.text_store.specs.Words.{kind_of, width_place, own_from, condition_from, is_binder, term_origin}
 use Rattle.text_encoding.specs.Numbers.{width_of, condition_start, own_start}
 use Rattle.text_admission.specs.declared.Found.{Found}
+use Rattle.term_sizes.specs.declared.SizeError.{SizeError}
 
 -- the lesser of two places, where there are any
 abbrev pub lesser : Found → Found → Found
@@ -37,10 +37,10 @@ abbrev pub origin_after : List ℕ → ℕ → ℕ → ℕ → ℕ
 origin_after ts f at start = term_origin ts (f + (at - start))
 
 -- a list that is read from term f on and is the table's from term `start`: the first byte of the calculation that passes 2^62
-abbrev pub list_found : List ℕ → ℕ → ℕ → Sized → Found
-list_found ts f start Sized.Passes = Found.Nothing
-list_found ts f start Sized.Malformed = Found.Nothing
-list_found ts f start (Sized.Exceeds at) = Found.At (origin_after ts f at start)
+abbrev pub list_found : List ℕ → ℕ → ℕ → Result ⊤ SizeError → Found
+list_found ts f start (Ok u) = Found.Nothing
+list_found ts f start (Err SizeError.Malformed) = Found.Nothing
+list_found ts f start (Err (SizeError.Exceeds at)) = Found.At (origin_after ts f at start)
 
 -- node i: its width, its condition, and its own list
 abbrev pub node_found : (xs ns ts ws : List ℕ) → ℕ → Found

@@ -8,9 +8,7 @@ pub fn copy(words: &[u32], table: &mut [u32])
     requires { (length words.now ≡ table_words) × (table_words ≤ length table.old) }
     ensures { (take table_words table.new ≡ words.now) × (drop table_words table.new ≡ drop table_words table.old) × (length table.new ≡ length table.old) }
 {
-    let mut k = 0;
-    while k < TABLE_WORDS {
+    for k in 0..TABLE_WORDS {
         table[k] = words[k];
-        k += 1;
     }
 }

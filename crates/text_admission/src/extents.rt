@@ -9,11 +9,10 @@ ghost use Rattle.text_admission.specs.Extents.{lesser as lesserOf, found_if, lea
 
 use crate::Found;
 use basis::{MAX_BOUND_WIDTH, MAX_TERMS, MAX_VARIABLES, MAX_WIDTH};
-use term_sizes::Sized;
+use term_sizes::SizeError;
 use text_encoding::numbers::{condition_length, own_length, width};
-use text_header::bytes::both;
 use text_names::counting::min;
-use text_store::words::{binder, node_word, not, term_word};
+use text_store::words::{binder, node_word, term_word};
 use text_store::{CONDITION_FROM, KIND, ORIGIN, OWN_FROM, WIDTH_PLACE};
 
 fn lesser(a: Found, b: Found) -> Found
@@ -48,16 +47,17 @@ fn most(nodes: &[usize], i: usize) -> usize
     MAX_WIDTH
 }
 
+#[tactic(auto, unfolding(crate::specs::Extents::width_found, crate::specs::Extents::found_if))]
 fn width_found(text: &[u8], nodes: &[usize], i: usize) -> Found
     requires { length nodes.now ≡ nodes_room }
     ensures { result ≡ width_found text.now nodes.now i }
 {
     let w = width(text, nodes, i);
     let m = most(nodes, i);
-    found_if(
-        both(node_word(nodes, i, KIND) == 8, not(both(1 <= w, w <= m))),
-        node_word(nodes, i, WIDTH_PLACE),
-    )
+    if node_word(nodes, i, KIND) == 8 && (w < 1 || m < w) {
+        return Found::At(node_word(nodes, i, WIDTH_PLACE));
+    }
+    Found::Nothing
 }
 
 fn term_after(terms: &[usize], f: usize, at: usize, start: usize) -> usize
@@ -74,14 +74,16 @@ fn term_after(terms: &[usize], f: usize, at: usize, start: usize) -> usize
 }
 
 // The first byte of the calculation at which a list of sizes is too large; the list is read from term f on, and is the table's from `start`.
-fn list_found(terms: &[usize], f: usize, start: usize, sized: Sized) -> Found
+fn list_found(terms: &[usize], f: usize, start: usize, sized: Result<(), SizeError>) -> Found
     requires { length terms.now ≡ terms_room }
     ensures { result ≡ list_found terms.now f start sized }
 {
-    match sized {
-        Sized::Passes => Found::Nothing,
-        Sized::Malformed => Found::Nothing,
-        Sized::Exceeds(at) => Found::At(term_after(terms, f, at, start)),
+    let Err(error) = sized else {
+        return Found::Nothing;
+    };
+    match error {
+        SizeError::Malformed => Found::Nothing,
+        SizeError::Exceeds(at) => Found::At(term_after(terms, f, at, start)),
     }
 }
 
@@ -126,11 +128,9 @@ fn nodes_found(
 {
     let mut least = Found::Nothing;
     let mut q = 0;
-    let mut i = 0;
-    while i < n {
+    for i in 0..n {
         least = lesser(least, node_found(text, nodes, terms, table, widest, i, q));
         q += condition_length(nodes, i) + own_length(nodes, i);
-        i += 1;
     }
     least
 }

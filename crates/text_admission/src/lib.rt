@@ -12,8 +12,7 @@ ghost use Rattle.text_admission.specs.Late.{Late, is_admitted, HandedOver, Withi
 use basis::{MAX_TEXT_BYTES, TABLE_WORDS};
 use table_conflicts::Clash;
 use table_first_follow::FAMILY_WORDS;
-use table_judge::Judgement;
-use table_reach::Recursion;
+use table_judge::Fault;
 use text_header::Heading;
 use text_parsing::Cursor;
 use text_store::words::{node_word, rule_word};
@@ -99,14 +98,14 @@ fn judged(nodes: &[usize], rules: &[usize], base: usize, words: &mut [u32]) -> A
 {
     let mut first = [0u64; FAMILY_WORDS];
     match table_fill::complete(words, &mut first) {
-        Judgement::EmptyBody { construct: _ } => {
+        Ok(weight) => Admission::Admitted { weight },
+        Err(Fault::EmptyBody { construct: _ }) => {
             refused(9, base, marks::least_mark(words, &first, nodes))
         }
-        Judgement::Conflict { construct, clash } => conflict(nodes, base, construct, clash),
-        Judgement::Overweight => refused_at(11, base, rules, 0),
-        Judgement::Unreached { rule } => refused_at(12, base, rules, rule),
-        Judgement::NoValue { construct } => refused_in(13, base, nodes, construct),
-        Judgement::Passes { weight } => Admission::Admitted { weight },
+        Err(Fault::Conflict { construct, clash }) => conflict(nodes, base, construct, clash),
+        Err(Fault::Overweight) => refused_at(11, base, rules, 0),
+        Err(Fault::Unreached { rule }) => refused_at(12, base, rules, rule),
+        Err(Fault::NoValue { construct }) => refused_in(13, base, nodes, construct),
     }
 }
 
@@ -178,8 +177,8 @@ fn admit_read(
     let mut words = [0u32; TABLE_WORDS];
     text_encoding::areas::encode(text, nodes, terms, rules, c.nodes, c.rules, &mut words);
     match table_reach::recursive_rule(&words) {
-        Recursion::Rule(rule) => refused_at(7, base, rules, rule),
-        Recursion::None => admit_words(text, nodes, terms, rules, c, base, &mut words, table),
+        Some(rule) => refused_at(7, base, rules, rule),
+        None => admit_words(text, nodes, terms, rules, c, base, &mut words, table),
     }
 }
 

@@ -16,11 +16,9 @@ pub fn least_mark(table: &[u32], first: &[u64], nodes: &[usize]) -> usize
 {
     let count = table_layout::word(table, 2);
     let mut least = 18446744073709551615;
-    let mut i = 0;
-    while i < count {
+    for i in 0..count {
         let empty = table_conflicts::empty_body(table, first, i);
         least = min(least, place_if(empty, node_word(nodes, i, MARK_PLACE)));
-        i += 1;
     }
     least
 }

@@ -8,7 +8,7 @@ ghost use Rattle.text_encoding.specs.Numbers.{binders_before as binders-beforeOf
 ghost use Rattle.text_encoding.specs.Encoded.{header_words, rule_words, variable_words, construct_words, two_lists, lists_words, literal_words, encoded};
 
 use crate::constructs::{construct, list, literal};
-use crate::numbers::{binders_before, condition_length, first_at, less, own_length, signed, width};
+use crate::numbers::{binders_before, condition_length, first_at, own_length, signed, width};
 use crate::put::{put_four, put_three};
 use table_layout::{RULES_AT, VARIABLES_AT};
 use text_store::words::{binder, node_word, rule_word};
@@ -20,10 +20,8 @@ fn terms_before(nodes: &[usize], n: usize) -> usize
     ensures { result ≡ condition_start nodes.now n }
 {
     let mut q = 0;
-    let mut i = 0;
-    while i < n {
+    for i in 0..n {
         q += condition_length(nodes, i) + own_length(nodes, i);
-        i += 1;
     }
     q
 }
@@ -46,8 +44,7 @@ fn put_rules(nodes: &[usize], rules: &[usize], r: usize, table: &mut [u32])
     requires { (length nodes.now ≡ nodes_room) × (length rules.now ≡ rules_room) × (r ≤ max_rules) }
     ensures { table.new ≡ written table.old rules_at (flat r 0 (rule_words nodes.now rules.now)) }
 {
-    let mut k = 0;
-    while k < r {
+    for k in 0..r {
         let first = rule_word(rules, k, FIRST_NODE);
         let before = binders_before(nodes, first);
         let after = binders_before(nodes, rule_word(rules, k, LAST_NODE));
@@ -56,10 +53,9 @@ fn put_rules(nodes: &[usize], rules: &[usize], r: usize, table: &mut [u32])
             RULES_AT + 4 * k,
             first,
             before,
-            less(after, before),
+            after.saturating_sub(before),
             0,
         );
-        k += 1;
     }
 }
 
@@ -68,10 +64,7 @@ fn sign_word(text: &[u8], nodes: &[usize], i: usize) -> usize
     requires { length nodes.now ≡ nodes_room }
     ensures { result ≡ cond (is_signed text.now nodes.now i) 1 0 }
 {
-    if signed(text, nodes, i) {
-        return 1;
-    }
-    0
+    if signed(text, nodes, i) { 1 } else { 0 }
 }
 
 // The variable that node i binds, if it binds one, as variable x. Answers the number of the next.
@@ -98,10 +91,8 @@ fn put_variables(text: &[u8], nodes: &[usize], n: usize, table: &mut [u32])
     ensures { table.new ≡ written table.old variables_at (flat n 0 (variable_words text.now nodes.now)) }
 {
     let mut x = 0;
-    let mut i = 0;
-    while i < n {
+    for i in 0..n {
         x = put_variable(text, nodes, i, x, table);
-        i += 1;
     }
 }
 
@@ -117,11 +108,9 @@ fn put_constructs(
     ensures { table.new ≡ written table.old constructs_at (flat n 0 (construct_words text.now nodes.now rules.now r)) }
 {
     let mut q = 0;
-    let mut i = 0;
-    while i < n {
+    for i in 0..n {
         construct(text, nodes, rules, r, i, q, table);
         q += condition_length(nodes, i) + own_length(nodes, i);
-        i += 1;
     }
 }
 
@@ -177,11 +166,9 @@ fn put_terms(
     ensures { table.new ≡ written table.old terms_at (flat n 0 (lists_words text.now nodes.now terms.now rules.now r)) }
 {
     let mut q = 0;
-    let mut i = 0;
-    while i < n {
+    for i in 0..n {
         put_lists(text, nodes, terms, first_at(rules, r, i), i, q, table);
         q += condition_length(nodes, i) + own_length(nodes, i);
-        i += 1;
     }
 }
 
@@ -189,10 +176,8 @@ fn put_literals(text: &[u8], nodes: &[usize], n: usize, table: &mut [u32])
     requires { (length nodes.now ≡ nodes_room) × (n ≤ max_constructs) }
     ensures { table.new ≡ written table.old literals_at (flat n 0 (literal_words text.now nodes.now)) }
 {
-    let mut i = 0;
-    while i < n {
+    for i in 0..n {
         literal(text, nodes, i, table);
-        i += 1;
     }
 }
 

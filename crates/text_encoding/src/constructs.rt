@@ -21,20 +21,14 @@ use text_store::{KIND, LAST_PLACE, MARK, PLACE, SIZE, TAG, TERM_PLACE, VALUE};
 fn start_word(start: usize, n: usize) -> usize
     ensures { result ≡ start_word start n }
 {
-    if 0 < n {
-        return start;
-    }
-    0
+    if 0 < n { start } else { 0 }
 }
 
 fn end_word(start: usize, n: usize) -> usize
     requires { start + n ≤ max_terms }
     ensures { result ≡ end_word start n }
 {
-    if 0 < n {
-        return start + n;
-    }
-    0
+    if 0 < n { start + n } else { 0 }
 }
 
 // 1 + the variable that a uint binds, or 0.
@@ -43,19 +37,17 @@ fn binder_word(nodes: &[usize], i: usize) -> usize
     ensures { result ≡ cond (is_binder nodes.now i) (binders-beforeOf nodes.now i + 1) 0 }
 {
     if binder(nodes, i) {
-        return binders_before(nodes, i) + 1;
+        binders_before(nodes, i) + 1
+    } else {
+        0
     }
-    0
 }
 
 // How many characters the literal at p has.
 fn characters(text: &[u8], p: usize) -> usize
     ensures { result ≡ length (characters_at text.now p) }
 {
-    if p < text.len() {
-        return count_at(text, p);
-    }
-    0
+    if p < text.len() { count_at(text, p) } else { 0 }
 }
 
 // The bytes of the literal at p, over zeros.
@@ -101,48 +93,35 @@ fn operands(
     let kind = node_word(nodes, i, KIND);
     let p = node_word(nodes, i, PLACE);
     let n = own_length(nodes, i);
-    if kind == 3 {
-        put_four(
+    match kind {
+        3 => put_four(
             table,
             k,
             node_word(nodes, i, MARK),
             start_word(own, n),
             end_word(own, n),
             0,
-        );
-        return;
-    }
-    if kind == 5 {
-        put_four(table, k, rule_number(text, rules, count, p), 0, 0, 0);
-        return;
-    }
-    if kind == 6 {
-        put_four(table, k, characters(text, p), 0, 0, 0);
-        return;
-    }
-    if kind == 7 {
-        put_four(
+        ),
+        5 => put_four(table, k, rule_number(text, rules, count, p), 0, 0, 0),
+        6 => put_four(table, k, characters(text, p), 0, 0, 0),
+        7 => put_four(
             table,
             k,
             character(text, p),
             character(text, node_word(nodes, i, LAST_PLACE)),
             0,
             0,
-        );
-        return;
-    }
-    if kind == 8 {
-        put_four(
+        ),
+        8 => put_four(
             table,
             k,
             width(text, nodes, i),
             start_word(own, n),
             end_word(own, n),
             binder_word(nodes, i),
-        );
-        return;
+        ),
+        _ => put_four(table, k, 0, 0, 0, 0),
     }
-    put_four(table, k, 0, 0, 0, 0);
 }
 
 // What construct i is: a sint is kind 12.
@@ -151,12 +130,11 @@ fn kind_word(text: &[u8], nodes: &[usize], i: usize) -> usize
     ensures { result ≡ kind_word text.now nodes.now i }
 {
     let kind = node_word(nodes, i, KIND);
-    if kind == 8 {
-        if signed(text, nodes, i) {
-            return 12;
-        }
+    if kind == 8 && signed(text, nodes, i) {
+        12
+    } else {
+        kind
     }
-    kind
 }
 
 // Construct i, whose lists begin at term `start`.
@@ -227,8 +205,7 @@ pub fn list(
     requires { (length nodes.now ≡ nodes_room) × (length terms.now ≡ terms_room) × (a ≤ i) × (q + n ≤ max_terms) × (t + n ≤ 18446744073709551615) }
     ensures { table.new ≡ written table.old (terms_at + 3 * q) (list_words text.now nodes.now terms.now a i t n) }
 {
-    let mut j = 0;
-    while j < n {
+    for j in 0..n {
         term(
             text,
             nodes,
@@ -239,7 +216,6 @@ pub fn list(
             TERMS_AT + 3 * (q + j),
             table,
         );
-        j += 1;
     }
 }
 
@@ -257,10 +233,8 @@ fn put_bytes(bytes: &[u8], k: usize, table: &mut [u32])
     requires { (length bytes.now ≡ max_literal_bytes) × (k < 65536) }
     ensures { table.new ≡ written table.old k (flat 8 0 (λ (j : ℕ). packedOf bytes.now (4 * j) ∷ [])) }
 {
-    let mut j = 0;
-    while j < 8 {
+    for j in 0..8 {
         put_one(table, k + j, packed(bytes, 4 * j));
-        j += 1;
     }
 }
 

@@ -5,7 +5,6 @@ ghost use Rattle.text_encoding.specs.Lists.{sum};
 ghost use Rattle.text_encoding.specs.Numbers.{rule_of, first_at as first-atOf, binds_one, binders_before as binders-beforeOf, binder_of, variable_of, width_of, is_signed, condition_length as condition-lengthOf, own_length as own-lengthOf};
 
 use text_header::spans::byte_at;
-use text_names::counting::min;
 use text_names::names::{binds, same};
 use text_store::words::{binder, node_word, rule_word};
 use text_store::{
@@ -17,10 +16,7 @@ use text_tokens::numbers::number_at;
 pub fn less(n: usize, m: usize) -> usize
     ensures { result ≡ n - m }
 {
-    if n < m {
-        return 0;
-    }
-    n - m
+    n.saturating_sub(m)
 }
 
 // The first of `count` rules with the name at p; `count` where none has it.
@@ -28,14 +24,12 @@ pub fn rule_number(text: &[u8], rules: &[usize], count: usize, p: usize) -> usiz
     requires { length rules.now ≡ rules_room }
     ensures { result ≡ rule_of text.now rules.now count p }
 {
-    let mut j = 0;
-    while j < count {
+    for j in 0..count {
         if same(text, rule_word(rules, j, NAMED_AT), p) {
             return j;
         }
-        j += 1;
     }
-    j
+    count
 }
 
 // The first node of the rule that node i is in.
@@ -43,9 +37,7 @@ pub fn first_at(rules: &[usize], count: usize, i: usize) -> usize
     requires { length rules.now ≡ rules_room }
     ensures { (result ≡ first-atOf rules.now count i) × (result ≤ i) }
 {
-    let mut k = count;
-    while 0 < k {
-        k -= 1;
+    for k in (0..count).rev() {
         let first = rule_word(rules, k, FIRST_NODE);
         if first <= i {
             return first;
@@ -58,10 +50,7 @@ fn binds_one(nodes: &[usize], j: usize) -> usize
     requires { length nodes.now ≡ nodes_room }
     ensures { (result ≡ binds_one nodes.now j) × (result ≤ 1) }
 {
-    if binder(nodes, j) {
-        return 1;
-    }
-    0
+    if binder(nodes, j) { 1 } else { 0 }
 }
 
 // How many binders stand before node i.
@@ -70,10 +59,8 @@ pub fn binders_before(nodes: &[usize], i: usize) -> usize
     ensures { (result ≡ binders-beforeOf nodes.now i) × (result ≤ i) }
 {
     let mut n = 0;
-    let mut j = 0;
-    while j < i {
+    for j in 0..i {
         n += binds_one(nodes, j);
-        j += 1;
     }
     n
 }
@@ -83,14 +70,12 @@ fn binder_of(text: &[u8], nodes: &[usize], a: usize, i: usize, p: usize) -> usiz
     requires { (length nodes.now ≡ nodes_room) × (a ≤ i) }
     ensures { result ≡ binder_of text.now nodes.now a i p }
 {
-    let mut j = a;
-    while j < i {
+    for j in a..i {
         if binds(text, nodes, p, j) {
             return j;
         }
-        j += 1;
     }
-    j
+    i
 }
 
 // The variable that the name at p is in node i of a rule whose first node is a.
@@ -108,9 +93,10 @@ pub fn width(text: &[u8], nodes: &[usize], i: usize) -> usize
 {
     let p = node_word(nodes, i, WIDTH_PLACE);
     if p < text.len() {
-        return min(65, number_at(text, p) as usize);
+        (number_at(text, p) as usize).min(65)
+    } else {
+        0
     }
-    0
 }
 
 // It is a sint and no uint.
@@ -118,22 +104,19 @@ pub fn signed(text: &[u8], nodes: &[usize], i: usize) -> bool
     requires { length nodes.now ≡ nodes_room }
     ensures { result ≡ is_signed text.now nodes.now i }
 {
-    byte_at(text, node_word(nodes, i, PLACE)) == 115
+    byte_at(text, node_word(nodes, i, PLACE)) == b's'
 }
 
 pub fn condition_length(nodes: &[usize], i: usize) -> usize
     requires { length nodes.now ≡ nodes_room }
     ensures { result ≡ condition-lengthOf nodes.now i }
 {
-    less(
-        node_word(nodes, i, CONDITION_END),
-        node_word(nodes, i, CONDITION_FROM),
-    )
+    node_word(nodes, i, CONDITION_END).saturating_sub(node_word(nodes, i, CONDITION_FROM))
 }
 
 pub fn own_length(nodes: &[usize], i: usize) -> usize
     requires { length nodes.now ≡ nodes_room }
     ensures { result ≡ own-lengthOf nodes.now i }
 {
-    less(node_word(nodes, i, OWN_END), node_word(nodes, i, OWN_FROM))
+    node_word(nodes, i, OWN_END).saturating_sub(node_word(nodes, i, OWN_FROM))
 }

@@ -1,5 +1,5 @@
 // Calculations: `+ -` from the left, then `*`, then at most one unary minus. `o` is the first byte of the calculation.
-ghost use Rattle.std.specs.Prelude.{◌≡◌, [], ◌∷◌};
+ghost use Rattle.std.specs.Prelude.{◌≡◌, ◌<◌, [], ◌∷◌, MatchOption};
 ghost use Rattle.text_parsing.specs.Cursors.{ReadsTerms};
 ghost use Rattle.text_parsing.specs.Form.{sum_tag};
 ghost use Rattle.text_parsing.specs.Symbols.{primary as primaryOf, operand as operandOf, factors as factorsOf, summands as summandsOf, calculation as calculationOf};
@@ -44,14 +44,14 @@ fn factors(text: &[u8], from: Cursor, o: usize, terms: &mut [usize; TERMS_ROOM])
     c
 }
 
-// The tag of `+` and `-`; 0 of any other terminal.
-fn sum_tag(code: usize) -> usize
-    ensures { result ≡ sum_tag code }
+// The tag of `+` and `-`.
+fn sum_tag(code: usize) -> Option<usize>
+    ensures { MatchOption result (sum_tag code ≡ 0) (λ tag. (0 < tag) × (tag ≡ sum_tag code)) }
 {
     match code {
-        43 => 3,
-        45 => 4,
-        _ => 0,
+        43 => Some(3),
+        45 => Some(4),
+        _ => None,
     }
 }
 
@@ -59,8 +59,7 @@ fn summands(text: &[u8], from: Cursor, o: usize, terms: &mut [usize; TERMS_ROOM]
     ensures { ReadsTerms text.now (summandsOf o ∷ []) from terms.old result terms.new }
 {
     let mut c = from;
-    while 0 < sum_tag(c.code) {
-        let tag = sum_tag(c.code);
+    while let Some(tag) = sum_tag(c.code) {
         let p = c.start;
         let a = operand(text, passed(text, c), o, terms);
         let r = factors(text, a, o, terms);

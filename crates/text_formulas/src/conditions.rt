@@ -1,5 +1,5 @@
 // Conditions of switches.
-ghost use Rattle.std.specs.Prelude.{◌≡◌, [], ◌∷◌, true};
+ghost use Rattle.std.specs.Prelude.{◌≡◌, ◌<◌, [], ◌∷◌, true, MatchOption};
 ghost use Rattle.text_parsing.specs.Cursors.{ReadsTerms};
 ghost use Rattle.text_parsing.specs.Terminals.{live};
 ghost use Rattle.text_parsing.specs.Form.{comparison_tag};
@@ -12,28 +12,27 @@ use text_parsing::reading::{failed, passed, want};
 use text_parsing::words::add_sign;
 use text_store::TERMS_ROOM;
 
-// The tag of a comparison; 0 of any other terminal.
-fn comparison_tag(code: usize) -> usize
-    ensures { result ≡ comparison_tag code }
+// The tag of a comparison.
+fn comparison_tag(code: usize) -> Option<usize>
+    ensures { MatchOption result (comparison_tag code ≡ 0) (λ tag. (0 < tag) × (tag ≡ comparison_tag code)) }
 {
     match code {
-        61 => 14,
-        161 => 15,
-        60 => 16,
-        188 => 17,
-        62 => 18,
-        190 => 19,
-        _ => 0,
+        61 => Some(14),
+        161 => Some(15),
+        60 => Some(16),
+        188 => Some(17),
+        62 => Some(18),
+        190 => Some(19),
+        _ => None,
     }
 }
 
 fn comparison(text: &[u8], c: Cursor, terms: &mut [usize; TERMS_ROOM]) -> Cursor
     ensures { ReadsTerms text.now (comparison_of ∷ []) c terms.old result terms.new }
 {
-    let tag = comparison_tag(c.code);
-    if tag == 0 {
+    let Some(tag) = comparison_tag(c.code) else {
         return failed(c);
-    }
+    };
     let r = calculation(text, passed(text, c), terms);
     add_sign(r, tag, c.start, 0, terms)
 }
@@ -42,15 +41,17 @@ fn comparison(text: &[u8], c: Cursor, terms: &mut [usize; TERMS_ROOM]) -> Cursor
 fn test(text: &[u8], c: Cursor, d: usize, terms: &mut [usize; TERMS_ROOM]) -> Cursor
     ensures { ReadsTerms text.now (test_of d ∷ []) c terms.old result terms.new }
 {
-    if c.code == 40 {
-        if d < MAX_NESTING {
+    match c.code {
+        40 if d < MAX_NESTING => {
             let r = condition(text, passed(text, c), d + 1, terms);
-            return want(text, r, 41);
+            want(text, r, 41)
         }
-        return failed(c);
+        40 => failed(c),
+        _ => {
+            let r = calculation(text, c, terms);
+            comparison(text, r, terms)
+        }
     }
-    let r = calculation(text, c, terms);
-    comparison(text, r, terms)
 }
 
 #[cycle(chain_condition_test)]
@@ -79,11 +80,9 @@ pub fn condition(text: &[u8], c: Cursor, d: usize, terms: &mut [usize; TERMS_ROO
     ensures { ReadsTerms text.now (conditionOf d ∷ []) c terms.old result terms.new }
 {
     let r = test(text, c, d, terms);
-    if r.code == 38 {
-        return chain(text, r, 38, 13, d, terms);
+    match r.code {
+        38 => chain(text, r, 38, 13, d, terms),
+        124 => chain(text, r, 124, 11, d, terms),
+        _ => r,
     }
-    if r.code == 124 {
-        return chain(text, r, 124, 11, d, terms);
-    }
-    r
 }

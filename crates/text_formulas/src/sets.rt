@@ -54,14 +54,14 @@ fn item(text: &[u8], c: Cursor, terms: &mut [usize; TERMS_ROOM]) -> Cursor
 fn excluded(text: &[u8], c: Cursor, d: usize, terms: &mut [usize; TERMS_ROOM]) -> Cursor
     ensures { ReadsTerms text.now (excludedOf d ∷ []) c terms.old result terms.new }
 {
-    if c.code == 40 {
-        if d < MAX_NESTING {
+    match c.code {
+        40 if d < MAX_NESTING => {
             let r = value_set(text, passed(text, c), d + 1, terms);
-            return want(text, r, 41);
+            want(text, r, 41)
         }
-        return failed(c);
+        40 => failed(c),
+        _ => item(text, c, terms),
     }
-    item(text, c, terms)
 }
 
 #[cycle(alternative_excluded_value_set)]

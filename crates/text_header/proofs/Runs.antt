@@ -7,8 +7,8 @@ use mathlib.Core.Logic.{⊎_elim}
 use mathlib.Core.List.{List, [], ◌∷◌}
 use native.Mathlib.Omega.{arith}
 use native.Mathlib.Numerals.{add-one}
-use borrow.Author.Tests.{eq-eqb, eqb-true}
-use lib.Dec.{eqb}
+use borrow.Author.Tests.{eq-eqb, eqb-true, leb-true, leb-false}
+use lib.Dec.{leb, eqb}
 use lib.ListN.{length, get_or, drop, drop_of_length-le, length-drop}
 use lib.Seq.{drop-cons}
 use Rattle.basis.proofs.Booleans.{both_first, both_second, which}
@@ -40,6 +40,16 @@ module _ (class : Class) (xs : List ℕ) (i : ℕ) where
   pub span_out : length xs ≤ i → span_end class i (drop i xs) ≡ i
   unfolding span_end
   span_out h = rw (drop_of_length-le xs h)
+
+-- where a loop from place `at` on over n bytes is at the end, at i
+pub loop_over : (n at i e : ℕ) → n ≤ i → (at ≤ n → i ≤ n) → i ≡ e → (n ≤ at → at ≡ e) → max at n ≡ e
+loop_over n at i e h f x y =
+    ⊎_elim (λ l. let k : at ≤ n = leb-true at n l in omega (arith, f k, h, x)) (λ l. let k : n < at = leb-false at n l in omega (arith, y (omega (arith, k)))) (which (leb at n))
+
+pub span_over : (class : Class) (xs : List ℕ) (at i : ℕ) → length xs ≤ i → (at ≤ length xs → i ≤ length xs) → span_end class i (drop i xs) ≡ span_end class at (drop at xs)
+    → max at (length xs) ≡ span_end class at (drop at xs)
+span_over class xs at i h f e =
+    loop_over (length xs) at i (span_end class at (drop at xs)) h f (sym (span_out class xs i h) ∙ e) (λ l. sym (span_out class xs at l))
 
 module _ (folded : Bool) (w b : ℕ) (ws bs : List ℕ) where
   pub starts_on : eqb (cond folded (lower_case b) b) w ≡ true → starts folded (w ∷ ws) (b ∷ bs) ≡ starts folded ws bs

@@ -1,6 +1,6 @@
 -- Classes of bytes.
 -- Assumes nothing.
-use Rattle.std.specs.Prelude.{ℕ, ◌+◌, ◌-◌, Bool, cond, not, ◌&&◌, ◌||◌, leb, ltb, eqb}
+use Rattle.std.specs.Prelude.{ℕ, ◌+◌, ◌-◌, Bool, cond, not, ◌&&◌, ◌||◌, leb, ltb, eqb, Option, Some, None}
 use Rattle.text_header.specs.declared.Class.{Class}
 
 -- b is `low` or more and `high` or less
@@ -42,6 +42,10 @@ lower_case b = cond (within 65 b 90) (b + 32) b
 -- the value of a digit up to 15, of either letter case; 16 where a byte is none
 abbrev pub digit_of : ℕ → ℕ
 digit_of b = cond (is_digit b) (b - 48) (cond (within 97 b 102) (b - 87) (cond (within 65 b 70) (b - 55) 16))
+
+-- the value, where a byte is a digit
+abbrev pub digit_found : ℕ → Option ℕ
+digit_found b = cond (ltb (digit_of b) 16) (Some (digit_of b)) None
 
 -- a digit of this radix
 abbrev pub in_radix : ℕ → ℕ → Bool

@@ -22,7 +22,7 @@ lines (b ∷ bs) = elim (eqb b 10) [ true ↦ [] ∷ lines bs | false ↦ in_fro
 unfoldable pub content : List ℕ → List ℕ
 content line = cond (eqb (get_or line (length line - 1) 0) 13) (take (length line - 1) line) line
 
--- ---- "First line: `dogma_v1`, one or more spaces or tabs, `utf_8` in any letter case."
+-- ---- "First line: `dogma_v1`, one or more spaces or tabs, `utf-8` in any letter case."
 
 -- this letter case only
 abbrev pub dogma_v1 : List ℕ

@@ -11,7 +11,7 @@ unfoldable pub every : Class → List ℕ → Bool
 every class [] = true
 every class (b ∷ bs) = in_class class b && every class bs
 
--- "`dogma_v1`, one or more spaces or tabs, `utf_8` in any letter case"
+-- "`dogma_v1`, one or more spaces or tabs, `utf-8` in any letter case"
 pub record FirstLine (line : List ℕ) : Type 0 where
   pub blanks : List ℕ
   pub word : List ℕ

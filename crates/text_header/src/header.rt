@@ -2,7 +2,7 @@
 ghost use Rattle.std.specs.Prelude.{◌≡◌, ◌≤◌, length, drop};
 ghost use Rattle.text_header.specs.Header.{content as contentOf, is_first_line, is_header_line, lines, header_lines_of, header_of};
 
-use crate::bytes::{blank, both};
+use crate::bytes::blank;
 use crate::spans::{begins, byte_at, span, spells};
 use crate::{Class, Heading};
 
@@ -15,33 +15,33 @@ pub fn content(line: &[u8]) -> &[u8]
         return line;
     }
     let last = n - 1;
-    if line[last] == 13 {
+    if line[last] == b'\r' {
         return &line[..last];
     }
     line
 }
 
+#[tactic(auto, unfolding(crate::specs::Header::is_first_line))]
 fn first_line(line: &[u8]) -> bool
     ensures { result ≡ is_first_line line.now }
 {
     if begins(false, b"dogma_v1", line) {
         let end = span(Class::Blank, line, 8);
-        return both(9 <= end, spells(true, b"utf-8", &line[end..]));
+        return 9 <= end && spells(true, b"utf-8", &line[end..]);
     }
     false
 }
 
+#[tactic(auto, unfolding(crate::specs::Header::is_header_line))]
 fn header_line(line: &[u8]) -> bool
     ensures { result ≡ is_header_line line.now }
 {
-    let equals = span(Class::Except(61), line, 2);
-    both(
-        both(byte_at(line, 0) == 45, blank(byte_at(line, 1))),
-        both(
-            both(3 <= equals, equals + 1 < line.len()),
-            span(Class::Header, line, 0) == line.len(),
-        ),
-    )
+    let equals = span(Class::Except(b'='), line, 2);
+    byte_at(line, 0) == b'-'
+        && blank(byte_at(line, 1))
+        && 3 <= equals
+        && equals + 1 < line.len()
+        && span(Class::Header, line, 0) == line.len()
 }
 
 // The header lines from `at` on.
@@ -51,7 +51,7 @@ fn header_lines(text: &[u8], from: usize) -> Heading
 {
     let mut at = from;
     while at < text.len() {
-        let end = span(Class::Except(10), text, at);
+        let end = span(Class::Except(b'\n'), text, at);
         if text.len() <= end {
             return Heading::Wrong(at);
         }
@@ -72,7 +72,7 @@ fn header_lines(text: &[u8], from: usize) -> Heading
 pub fn header(text: &[u8]) -> Heading
     ensures { result ≡ header_of text.now }
 {
-    let end = span(Class::Except(10), text, 0);
+    let end = span(Class::Except(b'\n'), text, 0);
     if text.len() <= end {
         return Heading::Wrong(0);
     }

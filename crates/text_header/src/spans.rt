@@ -4,7 +4,7 @@ ghost use Rattle.text_header.specs.Bytes.{lower_case};
 ghost use Rattle.text_header.specs.Spans.{span_end, starts, is_word};
 
 use crate::Class;
-use crate::bytes::{both, lower, member};
+use crate::bytes::{lower, member};
 
 // The byte at a place; 0 past the end, which no token wants.
 pub fn byte_at(text: &[u8], at: usize) -> u8
@@ -20,15 +20,12 @@ pub fn byte_at(text: &[u8], at: usize) -> u8
 pub fn span(class: Class, text: &[u8], at: usize) -> usize
     ensures { result ≡ span_end class at (drop at text.now) }
 {
-    let mut i = at;
-    while i < text.len() {
-        if member(class, text[i]) {
-            i += 1;
-        } else {
+    for i in at..text.len() {
+        if !member(class, text[i]) {
             return i;
         }
     }
-    i
+    at.max(text.len())
 }
 
 fn cased(folded: bool, b: u8) -> u8
@@ -44,14 +41,11 @@ fn cased(folded: bool, b: u8) -> u8
 pub fn begins(folded: bool, word: &[u8], text: &[u8]) -> bool
     ensures { result ≡ starts folded word.now text.now }
 {
-    let mut k = 0;
-    while k < word.len() {
+    for k in 0..word.len() {
         if text.len() <= k {
             return false;
         }
-        if cased(folded, text[k]) == word[k] {
-            k += 1;
-        } else {
+        if cased(folded, text[k]) != word[k] {
             return false;
         }
     }
@@ -61,5 +55,5 @@ pub fn begins(folded: bool, word: &[u8], text: &[u8]) -> bool
 pub fn spells(folded: bool, word: &[u8], text: &[u8]) -> bool
     ensures { result ≡ is_word folded word.now text.now }
 {
-    both(word.len() == text.len(), begins(folded, word, text))
+    word.len() == text.len() && begins(folded, word, text)
 }

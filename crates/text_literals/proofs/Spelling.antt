@@ -12,12 +12,6 @@ use Rattle.text_literals.specs.Literals.{counted, with_character, value_of}
 use Rattle.text_literals.specs.declared.Part.{Part}
 use Rattle.text_literals.specs.declared.Part.TheVariants.{Start, Escape, Bracket, Digits, Character, Closed, Wrong}
 
--- past the end nothing is set
-pub set_past : (xs : List ℕ) (n b : ℕ) → length xs ≤ n → set xs n b ≡ xs
-set_past [] n b h = refl
-set_past (x ∷ xs) zero b h = absurd (omega arith)
-set_past (x ∷ xs) (suc n) b h = ap (λ (l : List ℕ). x ∷ l) (set_past xs n b (omega arith))
-
 pub zeros : (n k : ℕ) → get_or (replicate {A = ℕ} n 0) k 0 ≡ 0
 zeros zero k = refl
 zeros (suc n) zero = refl

@@ -1,12 +1,12 @@
 // Literals and their characters.
 #![tactic(auto)]
 
-ghost use Rattle.std.specs.Prelude.{◌≡◌, ℕ, ◌+◌, ◌≤◌, ◌<◌, length, get_or, set};
+ghost use Rattle.std.specs.Prelude.{◌≡◌, ℕ, ◌+◌, ◌*◌, ◌≤◌, ◌<◌, cond, leb, length, get_or, set};
 ghost use Rattle.basis.specs.Limits.{max_literal_bytes};
-ghost use Rattle.text_literals.specs.Literals.{is_quote, between as betweenOf, escaped as escapedOf, widened as widenedOf, part_after, stops as stopsOf, counted as countedOf, literal_at, is_closed, is_right, characters_at, value_of};
+ghost use Rattle.text_literals.specs.Literals.{is_quote, between as betweenOf, escaped as escapedOf, part_after, stops as stopsOf, counted as countedOf, literal_at, is_closed, is_right, characters_at, value_of};
 
 use basis::MAX_LITERAL_BYTES;
-use text_header::bytes::{both, digit_value, either, printable};
+use text_header::bytes::{digit_value, printable};
 
 // How far a literal is read.
 #[derive(Clone, Copy)]
@@ -37,7 +37,7 @@ pub struct Extent {
 pub fn quote(b: u8) -> bool
     ensures { result ≡ is_quote b }
 {
-    either(b == 34, b == 39)
+    b == b'"' || b == b'\''
 }
 
 fn between(quote: u8, b: u8) -> Part
@@ -46,7 +46,7 @@ fn between(quote: u8, b: u8) -> Part
     if b == quote {
         return Part::Closed;
     }
-    if b == 92 {
+    if b == b'\\' {
         return Part::Escape;
     }
     if printable(b) {
@@ -67,25 +67,19 @@ fn begun(quote: u8, b: u8) -> Part
 fn escaped(b: u8) -> Part
     ensures { result ≡ escapedOf b }
 {
-    if b == 91 {
-        return Part::Bracket;
+    match b {
+        b'[' => Part::Bracket,
+        b'\\' | b'"' | b'\'' => Part::Character(b),
+        _ => Part::Wrong,
     }
-    if either(b == 92, quote(b)) {
-        return Part::Character(b);
-    }
-    Part::Wrong
 }
 
-fn wide(x: u8) -> usize
-    ensures { (result ≡ x) × (result < 256) }
+// After one hexadecimal digit more.
+fn widened(n: u8, digit: u8) -> Part
+    requires { digit < 16 }
+    ensures { result ≡ cond (leb (16 * n + digit) 127) (Part.Digits (16 * n + digit)) Part.Wrong }
 {
-    x as usize
-}
-
-fn widened(n: u8, b: u8) -> Part
-    ensures { result ≡ widenedOf n b }
-{
-    let v = 16 * wide(n) + wide(digit_value(b));
+    let v = 16 * usize::from(n) + usize::from(digit);
     if v <= 127 {
         return Part::Digits(v as u8);
     }
@@ -95,22 +89,20 @@ fn widened(n: u8, b: u8) -> Part
 fn bracketed(b: u8) -> Part
     ensures { result ≡ part_after Part.Bracket 0 b }
 {
-    if digit_value(b) < 16 {
-        return widened(0, b);
+    match digit_value(b) {
+        Some(digit) => widened(0, digit),
+        None => Part::Wrong,
     }
-    Part::Wrong
 }
 
 fn hexadecimal(n: u8, b: u8) -> Part
     ensures { result ≡ part_after (Part.Digits n) 0 b }
 {
-    if digit_value(b) < 16 {
-        return widened(n, b);
+    match digit_value(b) {
+        Some(digit) => widened(n, digit),
+        None if b == b']' => Part::Character(n),
+        None => Part::Wrong,
     }
-    if b == 93 {
-        return Part::Character(n);
-    }
-    Part::Wrong
 }
 
 // The part after one byte more.
@@ -123,23 +115,14 @@ fn after(part: Part, quote: u8, b: u8) -> Part
         Part::Bracket => bracketed(b),
         Part::Digits(n) => hexadecimal(n, b),
         Part::Character(_) => between(quote, b),
-        Part::Closed => Part::Wrong,
-        Part::Wrong => Part::Wrong,
+        Part::Closed | Part::Wrong => Part::Wrong,
     }
 }
 
 fn stops(part: Part) -> bool
     ensures { result ≡ stopsOf part }
 {
-    match part {
-        Part::Start => false,
-        Part::Escape => false,
-        Part::Bracket => false,
-        Part::Digits(_) => false,
-        Part::Character(_) => false,
-        Part::Closed => true,
-        Part::Wrong => true,
-    }
+    matches!(part, Part::Closed | Part::Wrong)
 }
 
 fn counted(n: usize, part: Part) -> usize
@@ -147,28 +130,15 @@ fn counted(n: usize, part: Part) -> usize
     ensures { (result ≡ countedOf n part) × (result ≤ n + 1) }
 {
     match part {
-        Part::Start => n,
-        Part::Escape => n,
-        Part::Bracket => n,
-        Part::Digits(_) => n,
         Part::Character(_) => n + 1,
-        Part::Closed => n,
-        Part::Wrong => n,
+        _ => n,
     }
 }
 
 fn closed(part: Part) -> bool
     ensures { result ≡ is_closed part }
 {
-    match part {
-        Part::Start => false,
-        Part::Escape => false,
-        Part::Bracket => false,
-        Part::Digits(_) => false,
-        Part::Character(_) => false,
-        Part::Closed => true,
-        Part::Wrong => false,
-    }
+    matches!(part, Part::Closed)
 }
 
 // How far the literal whose opening quote stands at `at` goes.
@@ -179,28 +149,29 @@ pub fn reach(text: &[u8], at: usize) -> Extent
     let quote = text[at];
     let mut part = Part::Start;
     let mut count = 0;
-    let mut end = at + 1;
-    while end < text.len() {
-        let next = after(part, quote, text[end]);
-        end += 1;
+    for i in at + 1..text.len() {
+        let next = after(part, quote, text[i]);
         if stops(next) {
             return Extent {
                 part: next,
                 count,
-                end,
+                end: i + 1,
             };
         }
         count = counted(count, next);
         part = next;
     }
-    Extent { part, count, end }
+    Extent {
+        part,
+        count,
+        end: text.len(),
+    }
 }
 
 pub fn right(r: Extent) -> bool
     ensures { result ≡ is_right r }
 {
-    let part = r.part;
-    both(closed(part), r.count <= MAX_LITERAL_BYTES)
+    closed(r.part) && r.count <= MAX_LITERAL_BYTES
 }
 
 // How many characters the literal at `at` has.
@@ -215,13 +186,8 @@ fn value(part: Part) -> u8
     ensures { result ≡ value_of part }
 {
     match part {
-        Part::Start => 0,
-        Part::Escape => 0,
-        Part::Bracket => 0,
-        Part::Digits(_) => 0,
         Part::Character(c) => c,
-        Part::Closed => 0,
-        Part::Wrong => 0,
+        _ => 0,
     }
 }
 
@@ -241,10 +207,8 @@ pub fn spell(text: &[u8], at: usize, bytes: &mut [u8])
     let quote = text[at];
     let mut part = Part::Start;
     let mut n = 0;
-    let mut i = at + 1;
-    while i < text.len() {
+    for i in at + 1..text.len() {
         part = after(part, quote, text[i]);
-        i += 1;
         if stops(part) {
             return;
         }

@@ -15,10 +15,11 @@ use Rattle.term_words.specs.declared.Numbers.{Numbers}
 use Rattle.term_words.specs.declared.Term.{Term}
 use Rattle.term_evaluation.specs.Meaning.{run, verdict_of, membership, condition}
 use Rattle.term_evaluation.specs.Counts.{form_of, calculations_end, of_trial, tallied_by, tallied}
-use Rattle.term_evaluation.specs.declared.Counted.{Counted}
 use Rattle.term_evaluation.specs.declared.Form.{Form}
 use Rattle.term_trees.proofs.Chains.{run_ends}
 use Rattle.text_meaning.specs.Meaning.{last_of, calculations, counted}
+use Rattle.std.specs.Prelude.{Err}
+use Rattle.term_words.specs.declared.TermError.{TermError}
 
 -- ---- the number of the first term
 
@@ -74,7 +75,7 @@ module _ (ws : List ℕ) where
     unfolding tallied
     counts_listed m env =
         let f : Form = form_of (term_at ws (e - 1)) in
-        ap (λ (b : Bool). (cond b (tallied_by f m env ws s e) (record { counted = Counted.Malformed; at = s })).counted) (lt-ltb s e some)
+        ap (λ (b : Bool). (cond b (tallied_by f m env ws s e) (record { counted = Err TermError.Malformed; at = s })).counted) (lt-ltb s e some)
         ∙ ap (λ (l : List Term). of_trial f (run Kind.Calculation m env (pos 0) s l Numbers.Zero 1).trial) (calculations_at f)
         ∙ ap (of_trial f) (same_run Kind.Calculation m env (pos 0) s 0 (calculations f (terms ws s e)))
         ∙ ap (λ (x : Term). of_trial (form_of x) (run Kind.Calculation m env (pos 0) 0 (calculations (form_of x) (terms ws s e)) Numbers.Zero 1).trial) last_at

@@ -20,10 +20,8 @@ use Rattle.term_words.specs.declared.Term.{Term}
 use Rattle.term_evaluation.specs.Meaning.{membership, condition}
 use Rattle.term_evaluation.specs.Counts.{shown, form_of, tallied, counts}
 use Rattle.term_evaluation.specs.Variables.{has_variable}
-use Rattle.term_evaluation.specs.declared.Counted.{Counted}
 use Rattle.term_evaluation.proofs.Reading.{membership_constant, counts_constant}
 use Rattle.term_sizes.specs.Sizes.{sizes, of_counted, count_sizes}
-use Rattle.term_sizes.specs.declared.Sized.{Sized}
 use Rattle.term_sizes.proofs.Forms.{list_passes, counts_passes}
 use Rattle.term_trees.specs.Trees.{ValueSet, has, Condition, true_at, Repeats, exact, on_from, up_to_bound, spanning, repeats}
 use Rattle.term_trees.specs.Postfix.{set_terms, condition_terms, repeat_terms, last_sign, before, calculation_terms}
@@ -38,6 +36,10 @@ use Rattle.text_wellformed.proofs.CountsFormed.{counts_formed}
 use Rattle.text_meaning.specs.Meaning.{last_of, counted, counts_in, static_counts, in_set, in_static_set}
 use Rattle.text_meaning.specs.Claims.{ListFits, CountsFit, is_exact_count}
 use Rattle.text_meaning.proofs.TermLists.{counts_as}
+use Rattle.std.specs.Prelude.{Result, Ok, Err, ⊤}
+use Rattle.term_words.specs.declared.TermError.{TermError}
+use Rattle.term_evaluation.specs.declared.Allowed.{Allowed}
+use Rattle.term_sizes.specs.declared.SizeError.{SizeError}
 
 -- ---- answers
 
@@ -51,7 +53,7 @@ allowed_shown (Counts.from low) = refl
 allowed_shown (Counts.within low more) = refl
 
 -- what is neither malformed nor too large passes
-passes : (kind : Kind) (list : List Term) (v : Values) (f : ListFits kind list v) → ((w : List ℤ) → length w ≡ max_variables → sizes kind w 0 list ≡ Sized.Malformed → ⊥) → sizes kind f.widest 0 list ≡ Sized.Passes
+passes : (kind : Kind) (list : List Term) (v : Values) (f : ListFits kind list v) → ((w : List ℤ) → length w ≡ max_variables → sizes kind w 0 list ≡ Err SizeError.Malformed → ⊥) → sizes kind f.widest 0 list ≡ Ok tt
 passes kind list v f formed = list_passes v f.widest f.inside kind 0 list (formed v (f.inside.same ∙ f.many)) f.small
 
 -- ---- a set, and a condition: `tree` is the tree, `small` the same with the variables cut at 63
@@ -59,7 +61,7 @@ passes kind list v f formed = list_passes v f.widest f.inside kind 0 list (forme
 module _ (list : List Term) (tree small : ValueSet) (is : list ≡ set_terms tree) (cut : list ≡ set_terms small) (room : SetRoom max_variables small 0) where
   pub set_has : (v : Values) → ListFits Kind.Set list v → (n : ℤ) → in_set list v n ≡ has v tree n
   set_has v f n =
-      let p : sizes Kind.Set f.widest 0 list ≡ Sized.Passes =
+      let p : sizes Kind.Set f.widest 0 list ≡ (Ok tt) =
       passes Kind.Set list v f (λ w l z. set_formed w 0 small (rw l room) (sym (ap (sizes Kind.Set w 0) cut) ∙ z)) in
       ap is_yes (ap (membership v n 0) is ∙ set_means v f.widest f.inside tree n 0 (sym (ap (sizes Kind.Set f.widest 0) is) ∙ p)) ∙ answered (has v tree n)
 
@@ -69,20 +71,20 @@ module _ (list : List Term) (tree small : ValueSet) (is : list ≡ set_terms tre
 
 pub condition_has : (list : List Term) (tree small : Condition) → list ≡ condition_terms tree → list ≡ condition_terms small → ConditionRoom max_variables small 0 → (v : Values) → ListFits Kind.Condition list v → is_yes (condition v 0 list) ≡ true_at v tree
 condition_has list tree small is cut room v f =
-    let p : sizes Kind.Condition f.widest 0 list ≡ Sized.Passes =
+    let p : sizes Kind.Condition f.widest 0 list ≡ (Ok tt) =
     passes Kind.Condition list v f (λ w l z. condition_formed w 0 small (rw l room) (sym (ap (sizes Kind.Condition w 0) cut) ∙ z)) in
     ap is_yes (ap (condition v 0) is ∙ condition_means v f.widest f.inside tree 0 (sym (ap (sizes Kind.Condition f.widest 0) is) ∙ p)) ∙ answered (true_at v tree)
 
 -- ---- counts: the table has the list, so that the laws over words serve
 
-pub overflow_of : (c : Counted) (a at : ℕ) → of_counted c a ≡ Sized.Exceeds at → c ≡ Counted.Overflow
-overflow_of Counted.None a at z = let w : ◌≡◌ {A = ℕ} 0 1 = cc in absurd (omega arith)
-overflow_of (Counted.From low) a at z = let w : ◌≡◌ {A = ℕ} 0 1 = cc in absurd (omega arith)
-overflow_of (Counted.Within low more) a at z = let w : ◌≡◌ {A = ℕ} 0 1 = cc in absurd (omega arith)
-overflow_of Counted.Malformed a at z = let w : ◌≡◌ {A = ℕ} 0 1 = cc in absurd (omega arith)
-overflow_of Counted.Overflow a at z = refl
+pub overflow_of : (c : Result Allowed TermError) (a at : ℕ) → of_counted c a ≡ Err (SizeError.Exceeds at) → c ≡ Err TermError.Overflow
+overflow_of (Ok Allowed.None) a at z = let w : ◌≡◌ {A = ℕ} 0 1 = cc in absurd (omega arith)
+overflow_of (Ok (Allowed.From low)) a at z = let w : ◌≡◌ {A = ℕ} 0 1 = cc in absurd (omega arith)
+overflow_of (Ok (Allowed.Within low more)) a at z = let w : ◌≡◌ {A = ℕ} 0 1 = cc in absurd (omega arith)
+overflow_of (Err TermError.Malformed) a at z = let w : ◌≡◌ {A = ℕ} 0 1 = cc in absurd (omega arith)
+overflow_of (Err TermError.Overflow) a at z = refl
 
-not_malformed : (x : Sized) → formed x ≡ true → x ≡ Sized.Malformed → ⊥
+not_malformed : (x : Result ⊤ SizeError) → formed x ≡ true → x ≡ Err SizeError.Malformed → ⊥
 not_malformed x e z = let w : false ≡ true = sym (ap formed z) ∙ e in let y : ◌≡◌ {A = ℕ} 0 1 = cc in omega arith
 
 last_end : (list : List Term) (x : Term) → last_of (list ++ (x ∷ [])) ≡ x
@@ -98,15 +100,15 @@ form_is (up_to_bound b) = ap (λ (y : Term). is_exact (form_of y)) (last_end (ca
 form_is (spanning a b) = ap (λ (y : Term). is_exact (form_of y)) (last_end (calculation_terms a ++ calculation_terms b) Term.Range)
 
 module _ (ws : List ℕ) (s e : ℕ) (some_terms : s < e) (list : List Term) (there : terms ws s e ≡ list) (tree small : Repeats) (is : list ≡ repeat_terms tree) (cut : list ≡ repeat_terms small) (room : RepeatsRoom max_variables small) where
-  counts_pass : (v : Values) (f : CountsFit list v) → count_sizes f.widest ws s e ≡ Sized.Passes
+  counts_pass : (v : Values) (f : CountsFit list v) → count_sizes f.widest ws s e ≡ Ok tt
   unfolding count_sizes
   counts_pass v f =
       let l : length v ≡ max_variables = f.inside.same ∙ f.many in
       counts_passes v f.widest f.inside ws s e (not_malformed (count_sizes v ws s e) (counts_formed v ws s e small (rw l room) (there ∙ cut)))
       (λ at z.
-      let o : (tallied Mode.Sizes f.widest ws s e).counted ≡ Counted.Overflow = overflow_of (tallied Mode.Sizes f.widest ws s e).counted (tallied Mode.Sizes f.widest ws s e).at at z in
+      let o : (tallied Mode.Sizes f.widest ws s e).counted ≡ (Err TermError.Overflow) = overflow_of (tallied Mode.Sizes f.widest ws s e).counted (tallied Mode.Sizes f.widest ws s e).at at z in
       f.small (counted Mode.Sizes f.widest list).at
-      (ap (λ (c : Counted). of_counted c (counted Mode.Sizes f.widest list).at) (sym (counts_as ws s e some_terms Mode.Sizes f.widest list there) ∙ o)))
+      (ap (λ (c : Result Allowed TermError). of_counted c (counted Mode.Sizes f.widest list).at) (sym (counts_as ws s e some_terms Mode.Sizes f.widest list there) ∙ o)))
 
   pub counts_has : (v : Values) → CountsFit list v → counts_in list v ≡ repeats v tree
   unfolding counts

@@ -1,6 +1,6 @@
 -- What is claimed of the sets, counts and conditions of a text: they mean what the trees of document 01 mean (`term_trees`).
 -- Assumes nothing.
-use Rattle.std.specs.Prelude.{ℕ, ◌+◌, ◌<◌, ◌≡◌, Bool, true, false, cond, List, [], ◌∷◌, ℤ, length, set}
+use Rattle.std.specs.Prelude.{ℕ, ◌+◌, ◌<◌, ◌≡◌, Bool, true, false, cond, List, [], ◌∷◌, ℤ, length, set, Result, Err, ⊤}
 use Rattle.std.proofs.Math.Option.{Option, none, some}
 use Rattle.basis.specs.Limits.{max_variables}
 use Rattle.basis.specs.Bits.{Bits}
@@ -11,7 +11,6 @@ use Rattle.term_words.specs.declared.Mode.{Mode}
 use Rattle.term_words.specs.declared.Term.{Term}
 use Rattle.term_evaluation.specs.Variables.{has_variable}
 use Rattle.term_sizes.specs.Sizes.{sizes, of_tally}
-use Rattle.term_sizes.specs.declared.Sized.{Sized}
 use Rattle.term_sizes.specs.Inside.{Inside}
 use Rattle.term_trees.specs.Trees.{ValueSet, has, Condition, true_at, Repeats, exact, on_from, up_to_bound, spanning, repeats}
 use Rattle.term_trees.specs.Postfix.{set_terms, condition_terms, repeat_terms}
@@ -21,14 +20,15 @@ use Rattle.table_layout.specs.Held.{Context, Values, HeldNode}
 use Rattle.text_store.specs.Words.{kind_of, node_mark, is_binder}
 use Rattle.text_encoding.specs.Numbers.{binders_before, width_of, is_signed}
 use Rattle.text_meaning.specs.Meaning.{counted, parts_of, own_list, condition_list, is_default, no_default, grammar_of}
+use Rattle.term_sizes.specs.declared.SizeError.{SizeError}
 
 -- "a calculation, or part of one, whose size may pass 2^62 (variables at their widest, sizes added and multiplied)" is refused. So: the values
 -- lie within sizes of the 64 variables at which no calculation of a list passes 2^62.
-pub record Fits (sized : List ℤ → Sized) (v : Values) : Type 0 where
+pub record Fits (sized : List ℤ → Result ⊤ SizeError) (v : Values) : Type 0 where
   pub widest : List ℤ
   pub many : length widest ≡ max_variables
   pub inside : Inside v widest
-  pub small : (at : ℕ) → sized widest ≡ Sized.Exceeds at → ⊥
+  pub small : (at : ℕ) → sized widest ≡ Err (SizeError.Exceeds at) → ⊥
 
 -- of a set or a condition
 abbrev pub ListFits : Kind → List Term → Values → Type 0

@@ -5,7 +5,6 @@ ghost use Rattle.text_names.specs.Limits.{passed_in, limit_place, refusal_5};
 
 use crate::counting::{min, place_if};
 use basis::{MAX_CONSTRUCTS, MAX_RULES, MAX_TERMS, MAX_VARIABLES};
-use text_header::bytes::either;
 use text_store::words::rule_word;
 use text_store::{BINDERS_AT_END, LAST_NODE, NAMED_AT, TERMS_AT_END};
 
@@ -13,16 +12,10 @@ fn passed(rules: &[usize], k: usize) -> bool
     requires { length rules.now ≡ rules_room }
     ensures { result ≡ passed_in rules.now k }
 {
-    either(
-        MAX_RULES <= k,
-        either(
-            MAX_CONSTRUCTS < rule_word(rules, k, LAST_NODE),
-            either(
-                MAX_TERMS < rule_word(rules, k, TERMS_AT_END),
-                MAX_VARIABLES < rule_word(rules, k, BINDERS_AT_END),
-            ),
-        ),
-    )
+    MAX_RULES <= k
+        || MAX_CONSTRUCTS < rule_word(rules, k, LAST_NODE)
+        || MAX_TERMS < rule_word(rules, k, TERMS_AT_END)
+        || MAX_VARIABLES < rule_word(rules, k, BINDERS_AT_END)
 }
 
 fn place(rules: &[usize], k: usize) -> usize
@@ -38,10 +31,8 @@ pub fn first_past(rules: &[usize], count: usize) -> usize
     ensures { result ≡ refusal_5 rules.now count }
 {
     let mut least = 18446744073709551615;
-    let mut k = 0;
-    while k < count {
+    for k in 0..count {
         least = min(least, place(rules, k));
-        k += 1;
     }
     least
 }

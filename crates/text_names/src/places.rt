@@ -39,10 +39,10 @@ fn term_place(text: &[u8], nodes: &[usize], terms: &[usize], a: usize, i: usize,
     ensures { result ≡ term_place text.now nodes.now terms.now a i t }
 {
     let p = term_word(terms, t, TERM_PLACE);
-    if variable(term_word(terms, t, TAG)) {
-        return place_if(variable_fault(text, nodes, a, i, p), p);
-    }
-    18446744073709551615
+    place_if(
+        variable(term_word(terms, t, TAG)) && variable_fault(text, nodes, a, i, p),
+        p,
+    )
 }
 
 // The terms from f up to g, of node i.
@@ -59,10 +59,8 @@ fn list_place(
     ensures { result ≡ list_place text.now nodes.now terms.now a i f g }
 {
     let mut least = 18446744073709551615;
-    let mut t = f;
-    while t < g {
+    for t in f..g {
         least = min(least, term_place(text, nodes, terms, a, i, t));
-        t += 1;
     }
     least
 }
@@ -116,10 +114,8 @@ fn nodes_place(
     ensures { result ≡ nodes_place text.now nodes.now terms.now rules.now count a e }
 {
     let mut least = 18446744073709551615;
-    let mut i = a;
-    while i < e {
+    for i in a..e {
         least = min(least, node_place(text, nodes, terms, rules, count, a, e, i));
-        i += 1;
     }
     least
 }
@@ -160,10 +156,8 @@ pub fn first_fault(
     ensures { result ≡ refusal_6 text.now nodes.now terms.now rules.now count }
 {
     let mut least = 18446744073709551615;
-    let mut k = 0;
-    while k < count {
+    for k in 0..count {
         least = min(least, rule_place(text, nodes, terms, rules, count, k));
-        k += 1;
     }
     least
 }

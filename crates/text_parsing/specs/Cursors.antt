@@ -1,7 +1,7 @@
 -- What a reader of a part promises. A cursor holds the terminal that comes next and what was counted; code 0 says that reading has failed,
 -- and the start is then the place of the refusal.
 -- Assumes nothing.
-use Rattle.std.specs.Prelude.{ℕ, suc, ◌+◌, ◌-◌, ◌≤◌, ◌≡◌, true, false, List, ◌∷◌, ◌++◌, eqb, length}
+use Rattle.std.specs.Prelude.{ℕ, suc, ◌-◌, ◌≤◌, ◌≡◌, true, false, List, ◌∷◌, ◌++◌, eqb, length}
 use Rattle.basis.specs.Limits.{max_rules, max_constructs, max_variables, max_terms}
 use Rattle.text_parsing.specs.Terminals.{terminal, terminal_of, terminals_after}
 use Rattle.text_store.specs.Store.{State, state, counted}

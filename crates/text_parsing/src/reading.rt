@@ -7,7 +7,6 @@ ghost use Rattle.text_parsing.specs.Symbols.{want as wantOf, paren};
 use crate::Cursor;
 use crate::terminals::look;
 use basis::MAX_NESTING;
-use text_header::bytes::{both, either};
 
 pub fn first(text: &[u8]) -> Cursor
     ensures { result ≡ first_of text.now }
@@ -35,10 +34,7 @@ pub fn passed(text: &[u8], c: Cursor) -> Cursor
         start: s.start,
         end: s.end,
         value: s.value,
-        nodes: c.nodes,
-        terms: c.terms,
-        binders: c.binders,
-        rules: c.rules,
+        ..c
     }
 }
 
@@ -46,29 +42,20 @@ pub fn passed(text: &[u8], c: Cursor) -> Cursor
 pub fn failed(c: Cursor) -> Cursor
     ensures { result ≡ fail c }
 {
-    Cursor {
-        code: 0,
-        start: c.start,
-        end: c.end,
-        value: c.value,
-        nodes: c.nodes,
-        terms: c.terms,
-        binders: c.binders,
-        rules: c.rules,
-    }
+    Cursor { code: 0, ..c }
 }
 
 pub fn name(code: usize) -> bool
     ensures { result ≡ name_like code }
 {
-    either(code == 1, both(6 <= code, code <= 8))
+    code == 1 || (6 <= code && code <= 8)
 }
 
 // Whether a calculation begins with it.
 pub fn begins(code: usize) -> bool
     ensures { result ≡ begin_like code }
 {
-    either(code == 2, either(name(code), code == 45))
+    code == 2 || name(code) || code == 45
 }
 
 // The terminal of a code.
@@ -77,9 +64,10 @@ pub fn want(text: &[u8], c: Cursor, code: usize) -> Cursor
     ensures { ReadsOn text.now (wantOf code ∷ []) c result × (eqb c.code 0 ≡ false → left_of text.now result < left_of text.now c) }
 {
     if c.code == code {
-        return passed(text, c);
+        passed(text, c)
+    } else {
+        failed(c)
     }
-    failed(c)
 }
 
 // `(` within depth d.
@@ -87,7 +75,8 @@ pub fn open(text: &[u8], c: Cursor, d: usize) -> Cursor
     ensures { ReadsOn text.now (paren d ∷ []) c result }
 {
     if d < MAX_NESTING {
-        return want(text, c, 40);
+        want(text, c, 40)
+    } else {
+        failed(c)
     }
-    failed(c)
 }

@@ -47,82 +47,52 @@ fn code(kind: Kind) -> usize
 fn opens(text: &[u8], at: usize) -> bool
     ensures { result ≡ opens_at text.now at }
 {
-    let kind = token_at(text, at).kind;
-    code(kind) == 40
+    code(token_at(text, at).kind) == 40
 }
 
 fn before_paren(text: &[u8], at: usize, special: usize) -> usize
     ensures { result ≡ cond (opens_at text.now at) special 1 }
 {
-    if opens(text, at) {
-        return special;
-    }
-    1
+    if opens(text, at) { special } else { 1 }
 }
 
+#[tactic(auto, unfolding(crate::specs::Terminals::name_code))]
 fn name_of(text: &[u8], start: usize, end: usize) -> usize
     requires { (start ≤ end) × (end ≤ length text.now) }
     ensures { result ≡ name_code text.now start end }
 {
-    let word = reserved(&text[start..end]);
-    if word == 12 {
-        return before_paren(text, end, 6);
+    match reserved(&text[start..end]) {
+        12 | 13 => before_paren(text, end, 6),
+        9 => before_paren(text, end, 8),
+        10 => 7,
+        _ => 1,
     }
-    if word == 13 {
-        return before_paren(text, end, 6);
-    }
-    if word == 9 {
-        return before_paren(text, end, 8);
-    }
-    if word == 10 {
-        return 7;
-    }
-    1
 }
 
+#[tactic(auto, unfolding(crate::specs::Terminals::literal_code))]
 fn literal_of(text: &[u8], start: usize) -> usize
     requires { start < length text.now }
     ensures { result ≡ literal_code text.now start }
 {
-    if count_at(text, start) == 1 {
-        return 9;
-    }
-    3
+    if count_at(text, start) == 1 { 9 } else { 3 }
 }
 
+#[tactic(auto, unfolding(crate::specs::Terminals::seen))]
 fn told(text: &[u8], code: usize, start: usize, end: usize) -> Terminal
     requires { (start < end) × (end ≤ length text.now) }
     ensures { result ≡ seen text.now code start end }
 {
-    if code == 1 {
-        return Terminal {
-            code: name_of(text, start, end),
-            start,
-            end,
-            value: 0,
-        };
-    }
-    if code == 2 {
-        return Terminal {
-            code: 2,
-            start,
-            end,
-            value: number_at(text, start) as usize,
-        };
-    }
-    if code == 3 {
-        return Terminal {
-            code: literal_of(text, start),
-            start,
-            end,
-            value: 0,
-        };
-    }
+    let (code, value) = match code {
+        1 => (name_of(text, start, end), 0),
+        2 => (2, number_at(text, start) as usize),
+        3 => (literal_of(text, start), 0),
+        _ => (code, 0),
+    };
     Terminal {
         code,
         start,
         end,
-        value: 0,
+        value,
     }
 }
 
@@ -130,15 +100,14 @@ pub fn look(text: &[u8], at: usize) -> Terminal
     ensures { result ≡ terminal_of text.now at }
 {
     let token = token_at(text, at);
-    let kind = token.kind;
     let start = token.start;
     let end = token.end;
-    let k = code(kind);
+    let code = code(token.kind);
     if start < end {
-        return told(text, k, start, end);
+        return told(text, code, start, end);
     }
     Terminal {
-        code: k,
+        code,
         start,
         end,
         value: 0,

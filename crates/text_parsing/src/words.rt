@@ -7,7 +7,7 @@ ghost use Rattle.text_parsing.specs.Cursors.{term_more, node_more, binder_more, 
 
 use crate::Cursor;
 use basis::{MAX_CONSTRUCTS, MAX_RULES, MAX_TERMS, MAX_VARIABLES};
-use text_store::stores::{counted, less, put_node, put_rule, put_term};
+use text_store::stores::{counted, put_node, put_rule, put_term};
 use text_store::{NODES_ROOM, RULES_ROOM, TERMS_ROOM};
 
 // One term more.
@@ -23,14 +23,8 @@ pub fn add_term(
 {
     put_term(terms, c.terms, tag, value, place, origin);
     Cursor {
-        code: c.code,
-        start: c.start,
-        end: c.end,
-        value: c.value,
-        nodes: c.nodes,
         terms: counted(MAX_TERMS, c.terms),
-        binders: c.binders,
-        rules: c.rules,
+        ..c
     }
 }
 
@@ -63,31 +57,16 @@ pub fn insert_node(
     ensures { (result ≡ node_more c) × (nodes.new ≡ put-nodeOf nodes.old i kind (countedOf max_constructs c.nodes - i) place a b f e how) }
 {
     let n = counted(MAX_CONSTRUCTS, c.nodes);
-    put_node(nodes, i, kind, less(n, i), place, a, b, f, e, how);
-    Cursor {
-        code: c.code,
-        start: c.start,
-        end: c.end,
-        value: c.value,
-        nodes: n,
-        terms: c.terms,
-        binders: c.binders,
-        rules: c.rules,
-    }
+    put_node(nodes, i, kind, n.saturating_sub(i), place, a, b, f, e, how);
+    Cursor { nodes: n, ..c }
 }
 
 pub fn bind(c: Cursor) -> Cursor
     ensures { result ≡ binder_more c }
 {
     Cursor {
-        code: c.code,
-        start: c.start,
-        end: c.end,
-        value: c.value,
-        nodes: c.nodes,
-        terms: c.terms,
         binders: counted(MAX_VARIABLES, c.binders),
-        rules: c.rules,
+        ..c
     }
 }
 
@@ -96,13 +75,7 @@ pub fn close_rule(c: Cursor, place: usize, first: usize, rules: &mut [usize; RUL
 {
     put_rule(rules, c.rules, place, first, c.nodes, c.terms, c.binders);
     Cursor {
-        code: c.code,
-        start: c.start,
-        end: c.end,
-        value: c.value,
-        nodes: c.nodes,
-        terms: c.terms,
-        binders: c.binders,
         rules: counted(MAX_RULES, c.rules),
+        ..c
     }
 }

@@ -1,18 +1,14 @@
--- Room for a node: where each word is afterwards, and that words moved one by one, the last first, make it.
+-- Room for a node: where each word is afterwards, and that words moved within the list make it.
 -- Assumes nothing.
 use Prim.Native.Nat.{ℕ, zero, suc, ◌+◌, ◌*◌, ◌-◌, ◌≤◌, ◌<◌}
 use mathlib.Core.Path.{◌≡◌, refl, sym, ap, ◌∙◌}
-use mathlib.Core.Logic.{⊎_elim}
-use mathlib.Core.Bool.{true, false}
-use mathlib.Core.List.{List, [], ◌∷◌, ◌++◌}
+use mathlib.Core.List.{List, [], ◌∷◌, ◌++◌, append_assoc}
 use native.Mathlib.Omega.{arith}
-use borrow.Author.Tests.{eqb-true, eqb-false, ltb-true, ltb-false}
-use lib.Dec.{eqb, ltb}
-use lib.ListN.{length, get_or, set, take, drop, length-set, length-append, length-take, length-drop, get_or-append}
-use lib.Seq.{get_or-set_same, get_or-set_other, get_or-take, get_or-drop, get_or-append-add, ext_get_or}
+use lib.ListN.{length, get_or, take, drop, length-append, length-take, length-drop, get_or-append}
+use lib.Seq.{drop-drop, get_or-take, get_or-drop, get_or-append-add}
+use Rattle.std.specs.List.{copy_within}
 use Rattle.text_store.specs.Words.{nodes_room}
 use Rattle.basis.specs.Limits.{max_constructs}
-use Rattle.basis.proofs.Booleans.{which}
 use Rattle.text_store.specs.Store.{over, room}
 
 -- ---- words written over others
@@ -81,73 +77,19 @@ module _ (ns : List ℕ) (i : ℕ) where
       ∙ get_or-drop (k + 10) ns (q - (k + 10)) 0
       ∙ ap (λ (x : ℕ). get_or ns x 0) (let z : k + 10 + (q - (k + 10)) ≡ q = omega arith in z)
 
--- ---- n words from place k on move ten places on, the last first
+-- ---- words moved within a list
 
-unfoldable pub moved : ℕ → List ℕ → ℕ → List ℕ
-moved zero ns k = ns
-moved (suc n) ns k = moved n (set ns (k + n + 10) (get_or ns (k + n) 0)) k
+over_parts : (n : ℕ) (olds news : List ℕ) → n ≤ length news → length news ≤ length olds → over n olds news ≡ take n olds ++ drop n news
+unfolding over
+over_parts zero olds news h l = refl
+over_parts (suc n) [] news h l = absurd (omega arith)
+over_parts (suc n) (a ∷ olds) [] h l = absurd (omega arith)
+over_parts (suc n) (a ∷ olds) (b ∷ news) h l = ap (λ (xs : List ℕ). a ∷ xs) (over_parts n olds news (omega arith) (omega arith))
 
-pub moved_turn : (ns : List ℕ) (j k : ℕ) → j + 10 < k → moved (k - (j + 10)) ns j ≡ moved (k - 1 - (j + 10)) (set ns (k - 1) (get_or ns (k - 1 - 10) 0)) j
-unfolding moved
-moved_turn ns j k h = turn (k - 1 - (j + 10)) (omega arith) (omega arith)
-  where
-    turn : (n : ℕ) → k - (j + 10) ≡ suc n → k - 1 ≡ j + n + 10 → moved (k - (j + 10)) ns j ≡ moved n (set ns (k - 1) (get_or ns (k - 1 - 10) 0)) j
-    turn n a b = let d : j + n + 10 - 10 ≡ j + n = omega arith in rw (a, b, d)
-
-length_moved : (n : ℕ) (ns : List ℕ) (k : ℕ) → length (moved n ns k) ≡ length ns
-unfolding moved
-length_moved zero ns k = refl
-length_moved (suc n) ns k = length_moved n (set ns (k + n + 10) (get_or ns (k + n) 0)) k ∙ length-set ns (k + n + 10) (get_or ns (k + n) 0)
-
-moved_below : (n : ℕ) (ns : List ℕ) (k j : ℕ) → j < k + 10 → get_or (moved n ns k) j 0 ≡ get_or ns j 0
-unfolding moved
-moved_below zero ns k j h = refl
-moved_below (suc n) ns k j h = moved_below n (set ns (k + n + 10) (get_or ns (k + n) 0)) k j h ∙ get_or-set_other ns (k + n + 10) j (get_or ns (k + n) 0) 0 (omega arith)
-
-moved_above : (n : ℕ) (ns : List ℕ) (k j : ℕ) → k + n + 10 ≤ j → get_or (moved n ns k) j 0 ≡ get_or ns j 0
-unfolding moved
-moved_above zero ns k j h = refl
-moved_above (suc n) ns k j h = moved_above n (set ns (k + n + 10) (get_or ns (k + n) 0)) k j (omega arith) ∙ get_or-set_other ns (k + n + 10) j (get_or ns (k + n) 0) 0 (omega arith)
-
-moved_at : (n : ℕ) (ns : List ℕ) (k j q : ℕ) → k ≤ j → j < k + n → q ≡ j + 10 → q < length ns → get_or (moved n ns k) q 0 ≡ get_or ns j 0
-unfolding moved
-moved_at zero ns k j q a b e h = absurd (omega arith)
-moved_at (suc n) ns k j q a b e h =
-    ⊎_elim
-    (λ (z : eqb j (k + n) ≡ true).
-    let y : j ≡ k + n = eqb-true j (k + n) z
-    in let x : q ≡ k + n + 10 = omega arith
-    in moved_above n (set ns (k + n + 10) (get_or ns (k + n) 0)) k q (omega arith)
-    ∙ rw x (get_or-set_same ns (k + n + 10) (get_or ns (k + n) 0) 0 (omega arith))
-    ∙ ap (λ (p : ℕ). get_or ns p 0) (sym y))
-    (λ (z : eqb j (k + n) ≡ false).
-    let y : j ≡ k + n → ⊥ = eqb-false j (k + n) z
-    in moved_at n (set ns (k + n + 10) (get_or ns (k + n) 0)) k j q a (omega arith) e (simp length-set (omega arith))
-    ∙ get_or-set_other ns (k + n + 10) j (get_or ns (k + n) 0) 0 (omega arith))
-    (which (eqb j (k + n)))
-
--- the loop's result
-pub moved_room : (ns : List ℕ) (i : ℕ) → i < max_constructs → moved (nodes_room - 10 - 10 * i) ns (10 * i) ≡ room ns i
-moved_room ns i h =
-    ext_get_or 0 (moved (nodes_room - 10 - 10 * i) ns (10 * i)) (room ns i) (length_moved (nodes_room - 10 - 10 * i) ns (10 * i) ∙ sym (length_room ns i))
-    (λ j g. each j (omega (arith, length_moved (nodes_room - 10 - 10 * i) ns (10 * i))))
-  where
-    later : (j : ℕ) → j < length ns → 10 * i + 10 ≤ j → get_or (moved (nodes_room - 10 - 10 * i) ns (10 * i)) j 0 ≡ get_or (room ns i) j 0
-    later j g b =
-        ⊎_elim
-        (λ (e : ltb j nodes_room ≡ true). (
-        let m : j < nodes_room = ltb-true j nodes_room e in
-        moved_at (nodes_room - 10 - 10 * i) ns (10 * i) (j - 10) j (omega arith) (omega arith) (omega arith) g ∙ sym (room_above ns i j b m g)
-        ))
-        (λ (e : ltb j nodes_room ≡ false). (
-        let m : nodes_room ≤ j = ltb-false j nodes_room e in
-        moved_above (nodes_room - 10 - 10 * i) ns (10 * i) j (omega arith) ∙ sym (room_beyond ns i j b m g)
-        ))
-        (which (ltb j nodes_room))
-
-    each : (j : ℕ) → j < length ns → get_or (moved (nodes_room - 10 - 10 * i) ns (10 * i)) j 0 ≡ get_or (room ns i) j 0
-    each j g =
-        ⊎_elim
-        (λ (e : ltb j (10 * i + 10) ≡ true). moved_below (nodes_room - 10 - 10 * i) ns (10 * i) j (ltb-true j (10 * i + 10) e) ∙ sym (room_below ns i j (ltb-true j (10 * i + 10) e) g))
-        (λ (e : ltb j (10 * i + 10) ≡ false). later j g (ltb-false j (10 * i + 10) e))
-        (which (ltb j (10 * i + 10)))
+pub room_copied : (ns : List ℕ) (i : ℕ) → length ns ≡ nodes_room → i < max_constructs → copy_within ns (10 * i) (nodes_room - 10) (10 * i + 10) ≡ room ns i
+unfolding room
+room_copied ns i l h =
+    let parts : over (nodes_room - 10 - 10 * i) (drop (10 * i) ns) (drop (10 * i + 10) ns) ≡ take (nodes_room - 10 - 10 * i) (drop (10 * i) ns) ++ drop (nodes_room - 10 - 10 * i) (drop (10 * i + 10) ns) = over_parts (nodes_room - 10 - 10 * i) (drop (10 * i) ns) (drop (10 * i + 10) ns) (omega (arith, length-drop (10 * i + 10) ns)) (omega (arith, length-drop (10 * i + 10) ns, length-drop (10 * i) ns)) in
+    let behind : drop (nodes_room - 10 - 10 * i) (drop (10 * i + 10) ns) ≡ drop (10 * i + 10 + (nodes_room - 10 - 10 * i)) ns = drop-drop (nodes_room - 10 - 10 * i) (10 * i + 10) ns in
+    append_assoc (take (10 * i + 10) ns) (take (nodes_room - 10 - 10 * i) (drop (10 * i) ns)) (drop (10 * i + 10 + (nodes_room - 10 - 10 * i)) ns)
+    ∙ sym (ap (λ (xs : List ℕ). take (10 * i + 10) ns ++ xs) (parts ∙ ap (λ (xs : List ℕ). take (nodes_room - 10 - 10 * i) (drop (10 * i) ns) ++ xs) behind))

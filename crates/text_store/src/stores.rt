@@ -16,6 +16,7 @@ pub fn counted(limit: usize, n: usize) -> usize
     n
 }
 
+#[tactic(auto, unfolding(crate::specs::Store::put_term))]
 pub fn put_term(
     terms: &mut [usize; TERMS_ROOM],
     t: usize,
@@ -46,6 +47,7 @@ fn marked_tag(tag: usize) -> usize
 }
 
 // The last term ends an item of a set.
+#[tactic(auto, unfolding(crate::specs::Store::put_single))]
 pub fn mark_single(t: usize, terms: &mut [usize; TERMS_ROOM])
     ensures { terms.new ≡ put_single terms.old t }
 {
@@ -65,11 +67,7 @@ fn make_room(i: usize, nodes: &mut [usize; NODES_ROOM])
     requires { i < max_constructs }
     ensures { nodes.new ≡ room nodes.old i }
 {
-    let mut k = NODES_ROOM;
-    while 10 * i + 10 < k {
-        k -= 1;
-        nodes[k] = nodes[k - 10];
-    }
+    nodes.copy_within(10 * i..NODES_ROOM - 10, 10 * i + 10);
 }
 
 pub fn less(n: usize, i: usize) -> usize
@@ -82,6 +80,7 @@ pub fn less(n: usize, i: usize) -> usize
 }
 
 // Eight words of a node from place k on.
+#[tactic(auto, unfolding(crate::specs::Store::put_words))]
 fn put_words(
     nodes: &mut [usize; NODES_ROOM],
     k: usize,
@@ -131,6 +130,7 @@ pub fn put_node(
 }
 
 // The condition of the case whose body is node i.
+#[tactic(auto, unfolding(crate::specs::Store::put_condition))]
 pub fn put_condition(i: usize, from: usize, end: usize, nodes: &mut [usize; NODES_ROOM])
     ensures { nodes.new ≡ put-conditionOf nodes.old i from end }
 {
@@ -141,6 +141,7 @@ pub fn put_condition(i: usize, from: usize, end: usize, nodes: &mut [usize; NODE
     nodes[10 * i + 9] = end;
 }
 
+#[tactic(auto, unfolding(crate::specs::Store::put_rule))]
 pub fn put_rule(
     rules: &mut [usize; RULES_ROOM],
     r: usize,

@@ -1,19 +1,9 @@
 // The words of what is read, by number.
-ghost use Rattle.std.specs.Prelude.{◌≡◌, not as notOf, ◌<◌, length, get_or};
+ghost use Rattle.std.specs.Prelude.{◌≡◌, ◌<◌, length, get_or};
 ghost use Rattle.text_store.specs.Words.{node_word, term_word, rule_word, is_binder, is_use, nodes_room, terms_room, rules_room};
 
 use crate::{HOW_BOUND, KIND, RULES_KEPT};
 use basis::{MAX_CONSTRUCTS, MAX_TERMS};
-use text_header::bytes::{both, either};
-
-pub fn not(a: bool) -> bool
-    ensures { result ≡ notOf a }
-{
-    if a {
-        return false;
-    }
-    true
-}
 
 // A word; past the end there is none, read as 0.
 fn at(words: &[usize], k: usize) -> usize
@@ -60,15 +50,12 @@ pub fn binder(nodes: &[usize], i: usize) -> bool
     requires { length nodes.now ≡ nodes_room }
     ensures { result ≡ is_binder nodes.now i }
 {
-    both(
-        node_word(nodes, i, KIND) == 8,
-        not(node_word(nodes, i, HOW_BOUND) == 0),
-    )
+    node_word(nodes, i, KIND) == 8 && node_word(nodes, i, HOW_BOUND) != 0
 }
 
 // Whether a term is a variable's use.
 pub fn variable(tag: usize) -> bool
     ensures { result ≡ is_use tag }
 {
-    either(tag == 2, tag == 34)
+    tag == 2 || tag == 34
 }

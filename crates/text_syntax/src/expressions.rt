@@ -83,20 +83,17 @@ fn item(
     requires { d ≤ max_nesting }
     ensures { Reads text.now (atom d ∷ []) c nodes.old terms.old result nodes.new terms.new }
 {
-    if c.code == 40 {
-        if d < MAX_NESTING {
+    match c.code {
+        40 if d < MAX_NESTING => {
             let r = expression(text, passed(text, c), d + 1, nodes, terms);
-            return want(text, r, 41);
+            want(text, r, 41)
         }
-        return failed(c);
-    }
-    if c.code == 91 {
-        if d < MAX_NESTING {
-            return switch(text, passed(text, c), d + 1, c.start, c.nodes, nodes, terms);
+        91 if d < MAX_NESTING => {
+            switch(text, passed(text, c), d + 1, c.start, c.nodes, nodes, terms)
         }
-        return failed(c);
+        40 | 91 => failed(c),
+        _ => simple(text, c, d, nodes, terms),
     }
-    simple(text, c, d, nodes, terms)
 }
 
 // The `;` of a case.
@@ -135,12 +132,7 @@ fn case(
 fn further(code: usize) -> bool
     ensures { result ≡ not (eqb code 0 || (eqb code 58 || eqb code 93)) }
 {
-    match code {
-        0 => false,
-        58 => false,
-        93 => false,
-        _ => true,
-    }
+    !matches!(code, 0 | 58 | 93)
 }
 
 fn switch_end(text: &[u8], c: Cursor, p: usize, i: usize, nodes: &mut [usize; NODES_ROOM]) -> Cursor

@@ -1,5 +1,5 @@
 // Items of an expression that hold no expression, and repetition marks.
-ghost use Rattle.std.specs.Prelude.{◌≡◌, cond, List, [], ◌∷◌, ℕ, ◌+◌, ◌-◌, ◌<◌, eqb};
+ghost use Rattle.std.specs.Prelude.{◌≡◌, cond, List, [], ◌∷◌, ℕ, ◌+◌, ◌-◌, ◌<◌, eqb, MatchOption};
 ghost use Rattle.basis.specs.Limits.{max_constructs};
 ghost use Rattle.text_store.specs.Store.{counted, put_node};
 ghost use Rattle.text_parsing.specs.Form.{mark_of, chained as chainedOf};
@@ -63,10 +63,7 @@ fn field_end(
 fn outside(d: usize) -> usize
     ensures { result ≡ cond (eqb d 2) 1 2 }
 {
-    if d == 2 {
-        return 1;
-    }
-    2
+    if d == 2 { 1 } else { 2 }
 }
 
 // After `var(`.
@@ -139,33 +136,25 @@ pub fn simple(
     requires { (d < 18446744073709551614) × (c.code ≡ 40 → ⊥) × (c.code ≡ 91 → ⊥) }
     ensures { Reads text.now (atom d ∷ []) c nodes.old terms.old result nodes.new terms.new }
 {
-    if c.code == 3 {
-        return passed(text, leaf(c, 6, c.start, 0, nodes));
+    match c.code {
+        3 => passed(text, leaf(c, 6, c.start, 0, nodes)),
+        9 => character_tail(text, passed(text, c), c.start, nodes),
+        6 => field(text, passed(text, c), d, c.start, nodes, terms),
+        7 => passed(text, leaf(c, 9, c.start, 0, nodes)),
+        code if name(code) => passed(text, leaf(c, 5, c.start, 0, nodes)),
+        _ => failed(c),
     }
-    if c.code == 9 {
-        return character_tail(text, passed(text, c), c.start, nodes);
-    }
-    if c.code == 6 {
-        return field(text, passed(text, c), d, c.start, nodes, terms);
-    }
-    if c.code == 7 {
-        return passed(text, leaf(c, 9, c.start, 0, nodes));
-    }
-    if name(c.code) {
-        return passed(text, leaf(c, 5, c.start, 0, nodes));
-    }
-    failed(c)
 }
 
-// How a repetition is written: `?`, `*`, `+`; 0 of any other terminal.
-fn mark_of(code: usize) -> usize
-    ensures { result ≡ mark_of code }
+// How a repetition is written: `?`, `*`, `+`.
+fn mark_of(code: usize) -> Option<usize>
+    ensures { MatchOption result (mark_of code ≡ 0) (λ how. (0 < how) × (how ≡ mark_of code)) }
 {
     match code {
-        63 => 1,
-        42 => 2,
-        43 => 3,
-        _ => 0,
+        63 => Some(1),
+        42 => Some(2),
+        43 => Some(3),
+        _ => None,
     }
 }
 
@@ -191,10 +180,9 @@ pub fn mark(
         }
         return failed(r);
     }
-    let how = mark_of(c.code);
-    if how == 0 {
+    let Some(how) = mark_of(c.code) else {
         return c;
-    }
+    };
     passed(text, insert_node(c, i, 3, p, how, c.start, 0, 0, 0, nodes))
 }
 
@@ -210,7 +198,8 @@ pub fn chained(
     ensures { (terminal_at result ≡ terminal_at c) × ((ts rs : List ℕ) → state_at result nodes.new ts rs ≡ chainedOf kind many p i (state_at c nodes.old ts rs)) }
 {
     if many {
-        return insert_node(c, i, kind, p, 0, 0, 0, 0, 0, nodes);
+        insert_node(c, i, kind, p, 0, 0, 0, 0, 0, nodes)
+    } else {
+        c
     }
-    c
 }

@@ -41,13 +41,7 @@ fn text_end(c: Cursor, any: bool) -> Cursor
     requires { name_like c.code ≡ false }
     ensures { (xs ns ts rs : List ℕ) → resume xs c ns ts rs (rulesOf any ∷ []) ≡ outcome_of result ns ts rs }
 {
-    if any {
-        if c.code == 5 {
-            return c;
-        }
-        return failed(c);
-    }
-    failed(c)
+    if any && c.code == 5 { c } else { failed(c) }
 }
 
 // The rules of a text after its header. Code 0: refusal 4, at the cursor's start.

@@ -1,12 +1,12 @@
 -- Laws of separators and comments, as their loop goes.
 -- Assumes nothing.
-use Prim.Native.Nat.{ℕ, suc, ◌+◌, ◌≤◌, ◌<◌}
-use mathlib.Core.Path.{◌≡◌}
+use Prim.Native.Nat.{ℕ, suc, ◌+◌, max, ◌≤◌, ◌<◌}
+use mathlib.Core.Path.{◌≡◌, sym, ◌∙◌}
 use mathlib.Core.Bool.{Bool, true, false}
 use mathlib.Core.List.{List, [], ◌∷◌}
 use native.Mathlib.Omega.{arith}
 use lib.ListN.{length, get_or, drop, drop_of_length-le}
-use Rattle.text_header.proofs.Runs.{next}
+use Rattle.text_header.proofs.Runs.{next, loop_over}
 use Rattle.text_header.proofs.Tests.{choice}
 use Rattle.text_tokens.specs.Tokens.{separates, comment_after, gap_end}
 
@@ -23,6 +23,11 @@ module _ (xs : List ℕ) (comment : Bool) (i : ℕ) where
   pub gap_out : length xs ≤ i → gap_end comment i (drop i xs) ≡ i
   unfolding gap_end
   gap_out h = rw (drop_of_length-le xs h)
+
+pub gap_over : (xs : List ℕ) (comment begun : Bool) (at i : ℕ) → length xs ≤ i → (at ≤ length xs → i ≤ length xs)
+    → gap_end comment i (drop i xs) ≡ gap_end begun at (drop at xs) → max at (length xs) ≡ gap_end begun at (drop at xs)
+gap_over xs comment begun at i h f e =
+    loop_over (length xs) at i (gap_end begun at (drop at xs)) h f (sym (gap_out xs comment i h) ∙ e) (λ l. sym (gap_out xs begun at l))
 
 -- a gap ends within the bytes
 pub gap_grows : (comment : Bool) (i : ℕ) (bs : List ℕ) → i ≤ gap_end comment i bs

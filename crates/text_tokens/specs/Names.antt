@@ -1,7 +1,7 @@
 -- Names. "Reserved: sized, aligned, reversed, ordered, byte_order, bom_ordered, peek, offset, var, eod, unicode, uint, sint, float, inf, nan,
 -- nzero, ordering, unicode_categories, msb, lsb."
 -- Assumes nothing.
-use Rattle.std.specs.Prelude.{ℕ, ◌+◌, ◌-◌, Bool, false, cond, List, [], ◌∷◌, eqb, take, drop}
+use Rattle.std.specs.Prelude.{ℕ, ◌+◌, ◌-◌, Bool, false, cond, List, [], ◌∷◌, take, drop}
 use Rattle.text_header.specs.Spans.{is_word}
 
 -- the words, each as its bytes

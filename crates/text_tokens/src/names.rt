@@ -13,7 +13,7 @@ fn number_in(words: &[u8], name: &[u8]) -> usize
     let mut at = 0;
     let mut k = 1;
     while at < words.len() {
-        let end = span(Class::Except(10), words, at);
+        let end = span(Class::Except(b'\n'), words, at);
         if words.len() <= end {
             return 0;
         }

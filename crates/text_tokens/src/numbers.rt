@@ -10,20 +10,21 @@ fn radix_named(b: u8) -> u8
     ensures { (result ≡ named_radix b) × (2 ≤ result) × (result ≤ 16) }
 {
     match lower(b) {
-        120 => 16,
-        111 => 8,
-        98 => 2,
+        b'x' => 16,
+        b'o' => 8,
+        b'b' => 2,
         _ => 10,
     }
 }
 
+#[tactic(auto, unfolding(crate::specs::Numbers::radix_at))]
 fn radix(text: &[u8], at: usize) -> u8
     requires { at < length text.now }
     ensures { (result ≡ radix_at text.now at) × (2 ≤ result) × (result ≤ 16) }
 {
-    if byte_at(text, at) == 48 {
+    if byte_at(text, at) == b'0' {
         let named = radix_named(byte_at(text, at + 1));
-        if digit_value(byte_at(text, at + 2)) < named {
+        if matches!(digit_value(byte_at(text, at + 2)), Some(d) if d < named) {
             return named;
         }
     }
@@ -31,6 +32,7 @@ fn radix(text: &[u8], at: usize) -> u8
 }
 
 // Where the digits of the number at `at` begin.
+#[tactic(auto, unfolding(crate::specs::Numbers::digits_at))]
 fn first_digit(text: &[u8], at: usize) -> usize
     requires { at < length text.now }
     ensures { result ≡ digits_at text.now at }
@@ -41,6 +43,7 @@ fn first_digit(text: &[u8], at: usize) -> usize
     at + 2
 }
 
+#[tactic(auto, unfolding(crate::specs::Numbers::number_end_of))]
 pub fn number_end(text: &[u8], at: usize) -> usize
     requires { at < length text.now }
     ensures { result ≡ number_end_of text.now at }
@@ -59,27 +62,20 @@ fn pushed(v: u64, radix: u64, d: u64) -> u64
     v * radix + d
 }
 
-fn wide(x: u8) -> u64
-    ensures { result ≡ x }
-{
-    x as u64
-}
-
 // The value of the digits from `at` on.
 fn digits(radix: u8, text: &[u8], at: usize) -> u64
     requires { (2 ≤ radix) × (radix ≤ 16) }
     ensures { result ≡ capped (digits_value radix 0 (drop at text.now)) }
 {
     let mut v: u64 = 0;
-    let mut i = at;
-    while i < text.len() {
-        let d = digit_value(text[i]);
-        if d < radix {
-            v = pushed(v, wide(radix), wide(d));
-            i += 1;
-        } else {
+    for i in at..text.len() {
+        let Some(d) = digit_value(text[i]) else {
+            return v;
+        };
+        if radix <= d {
             return v;
         }
+        v = pushed(v, u64::from(radix), u64::from(d));
     }
     v
 }

@@ -7,22 +7,22 @@ use crate::numbers::number_end;
 use crate::{Kind, Token};
 use basis::MAX_NAME_BYTES;
 use text_header::Class;
-use text_header::bytes::{both, digit, either, letter};
+use text_header::bytes::{digit, letter};
 use text_header::spans::{byte_at, span};
 use text_literals::{quote, reach, right};
 
 fn pair(b: u8, c: u8) -> bool
     ensures { result ≡ is_pair b c }
 {
-    both(c == 61, either(b == 33, either(b == 60, b == 62)))
+    c == b'=' && (b == b'!' || b == b'<' || b == b'>')
 }
 
 fn pair_kind(b: u8) -> Kind
     ensures { result ≡ pair_of b }
 {
     match b {
-        33 => Kind::Unequal,
-        60 => Kind::AtMost,
+        b'!' => Kind::Unequal,
+        b'<' => Kind::AtMost,
         _ => Kind::AtLeast,
     }
 }
@@ -31,26 +31,26 @@ fn sign_kind(b: u8) -> Kind
     ensures { result ≡ sign_of b }
 {
     match b {
-        61 => Kind::Equal,
-        59 => Kind::Semicolon,
-        124 => Kind::Bar,
-        38 => Kind::Ampersand,
-        40 => Kind::OpenParen,
-        41 => Kind::CloseParen,
-        91 => Kind::OpenBracket,
-        93 => Kind::CloseBracket,
-        123 => Kind::OpenBrace,
-        125 => Kind::CloseBrace,
-        63 => Kind::Question,
-        42 => Kind::Star,
-        43 => Kind::Plus,
-        45 => Kind::Minus,
-        126 => Kind::Tilde,
-        33 => Kind::Bang,
-        44 => Kind::Comma,
-        58 => Kind::Colon,
-        60 => Kind::Less,
-        62 => Kind::Greater,
+        b'=' => Kind::Equal,
+        b';' => Kind::Semicolon,
+        b'|' => Kind::Bar,
+        b'&' => Kind::Ampersand,
+        b'(' => Kind::OpenParen,
+        b')' => Kind::CloseParen,
+        b'[' => Kind::OpenBracket,
+        b']' => Kind::CloseBracket,
+        b'{' => Kind::OpenBrace,
+        b'}' => Kind::CloseBrace,
+        b'?' => Kind::Question,
+        b'*' => Kind::Star,
+        b'+' => Kind::Plus,
+        b'-' => Kind::Minus,
+        b'~' => Kind::Tilde,
+        b'!' => Kind::Bang,
+        b',' => Kind::Comma,
+        b':' => Kind::Colon,
+        b'<' => Kind::Less,
+        b'>' => Kind::Greater,
         _ => Kind::Fault,
     }
 }
@@ -74,6 +74,7 @@ fn name(text: &[u8], at: usize) -> Token
     }
 }
 
+#[tactic(auto, unfolding(crate::specs::Tokens::number_token))]
 fn number(text: &[u8], at: usize) -> Token
     requires { at < length text.now }
     ensures { result ≡ number_token text.now at }
@@ -85,6 +86,7 @@ fn number(text: &[u8], at: usize) -> Token
     }
 }
 
+#[tactic(auto, unfolding(crate::specs::Tokens::literal_token))]
 fn literal_token(text: &[u8], at: usize) -> Token
     requires { at < length text.now }
     ensures { result ≡ literal-token-of text.now at }
@@ -105,6 +107,7 @@ fn literal_token(text: &[u8], at: usize) -> Token
     }
 }
 
+#[tactic(auto, unfolding(crate::specs::Tokens::sign_token))]
 fn sign(text: &[u8], at: usize) -> Token
     requires { at < length text.now }
     ensures { result ≡ sign_token text.now at }
@@ -124,6 +127,7 @@ fn sign(text: &[u8], at: usize) -> Token
     }
 }
 
+#[tactic(auto, unfolding(crate::specs::Tokens::token_begun))]
 fn begun(text: &[u8], at: usize) -> Token
     requires { at < length text.now }
     ensures { result ≡ token_begun text.now at }

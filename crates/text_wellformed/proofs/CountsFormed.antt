@@ -13,9 +13,7 @@ use Rattle.term_words.specs.declared.Kind.{Kind}
 use Rattle.term_words.specs.declared.Mode.{Mode}
 use Rattle.term_words.specs.declared.Numbers.{Numbers}
 use Rattle.term_words.specs.declared.Term.{Term}
-use Rattle.term_words.specs.declared.Trial.{Trial}
 use Rattle.term_evaluation.specs.Counts.{shown, of_one, of_trial, tallied}
-use Rattle.term_evaluation.specs.declared.Counted.{Counted}
 use Rattle.term_evaluation.specs.declared.Form.{Form}
 use Rattle.term_sizes.specs.Sizes.{of_tally, count_sizes}
 use Rattle.term_trees.specs.Trees.{Calculation, Repeats, exact, on_from, up_to_bound, spanning}
@@ -26,22 +24,25 @@ use Rattle.term_trees.proofs.Firm.{Firm, count, calculation_firm}
 use Rattle.term_trees.proofs.Repeating.{ended, ended_at}
 use Rattle.text_shapes.specs.TermShapes.{RepeatsRoom}
 use Rattle.table_wellformed.specs.Lists.{formed}
+use Rattle.std.specs.Prelude.{Result, Ok, Err}
+use Rattle.term_words.specs.declared.TermError.{TermError}
+use Rattle.term_evaluation.specs.declared.Allowed.{Allowed}
 
 -- ---- what is not malformed
 
-abbrev Told : Counted → Type 0
-Told Counted.None = Unit {0}
-Told (Counted.From low) = Unit {0}
-Told (Counted.Within low more) = Unit {0}
-Told Counted.Malformed = ⊥
-Told Counted.Overflow = Unit {0}
+abbrev Told : Result Allowed TermError → Type 0
+Told (Ok Allowed.None) = Unit {0}
+Told (Ok (Allowed.From low)) = Unit {0}
+Told (Ok (Allowed.Within low more)) = Unit {0}
+Told (Err TermError.Malformed) = ⊥
+Told (Err TermError.Overflow) = Unit {0}
 
-told_formed : (c : Counted) (at : ℕ) → Told c → formed (of_tally (record { counted = c; at = at })) ≡ true
-told_formed Counted.None at t = refl
-told_formed (Counted.From low) at t = refl
-told_formed (Counted.Within low more) at t = refl
-told_formed Counted.Malformed at t = absurd t
-told_formed Counted.Overflow at t = refl
+told_formed : (c : Result Allowed TermError) (at : ℕ) → Told c → formed (of_tally (record { counted = c; at = at })) ≡ true
+told_formed (Ok Allowed.None) at t = refl
+told_formed (Ok (Allowed.From low)) at t = refl
+told_formed (Ok (Allowed.Within low more)) at t = refl
+told_formed (Err TermError.Malformed) at t = absurd t
+told_formed (Err TermError.Overflow) at t = refl
 
 told_shown : (c : Counts) → Told (shown c)
 told_shown none = tt
@@ -49,28 +50,28 @@ told_shown (from l) = tt
 told_shown (within l m) = tt
 
 -- one number, or two, at the end of the list
-one_told : (f : Form) → ((a : ℤ) → Told (of_one f a)) → (t : ℕ) (r : Trial) → Firm (λ s' t'. (count s' ≡ 1) × (t' ≡ t)) r → Told (of_trial f r)
-one_told f told t (Trial.Running Numbers.Zero u) p = omega (arith, p.0)
-one_told f told t (Trial.Running (Numbers.One a) u) p = told a
-one_told f told t (Trial.Running (Numbers.Two a b) u) p = absurd (omega (arith, p.0))
-one_told f told t (Trial.Running (Numbers.Three a b c) u) p = omega (arith, p.0)
-one_told f told t (Trial.Running (Numbers.Four a b c d) u) p = omega (arith, p.0)
-one_told f told t Trial.Malformed p = p
-one_told f told t Trial.Overflow p = tt
+one_told : (f : Form) → ((a : ℤ) → Told (of_one f a)) → (t : ℕ) (r : Result (Numbers × ℕ) TermError) → Firm (λ s' t'. (count s' ≡ 1) × (t' ≡ t)) r → Told (of_trial f r)
+one_told f told t (Ok (Numbers.Zero, u)) p = omega (arith, p.0)
+one_told f told t (Ok (Numbers.One a, u)) p = told a
+one_told f told t (Ok (Numbers.Two a b, u)) p = absurd (omega (arith, p.0))
+one_told f told t (Ok (Numbers.Three a b c, u)) p = omega (arith, p.0)
+one_told f told t (Ok (Numbers.Four a b c d, u)) p = omega (arith, p.0)
+one_told f told t (Err TermError.Malformed) p = p
+one_told f told t (Err TermError.Overflow) p = tt
 
-two_told : (t : ℕ) (r : Trial) → Firm (λ s' t'. (count s' ≡ 2) × (t' ≡ t)) r → Told (of_trial Form.Closed r)
-two_told t (Trial.Running Numbers.Zero u) p = omega (arith, p.0)
-two_told t (Trial.Running (Numbers.One a) u) p = omega (arith, p.0)
-two_told t (Trial.Running (Numbers.Two a b) u) p = told_shown (span a b)
-two_told t (Trial.Running (Numbers.Three a b c) u) p = omega (arith, p.0)
-two_told t (Trial.Running (Numbers.Four a b c d) u) p = omega (arith, p.0)
-two_told t Trial.Malformed p = p
-two_told t Trial.Overflow p = tt
+two_told : (t : ℕ) (r : Result (Numbers × ℕ) TermError) → Firm (λ s' t'. (count s' ≡ 2) × (t' ≡ t)) r → Told (of_trial Form.Closed r)
+two_told t (Ok (Numbers.Zero, u)) p = omega (arith, p.0)
+two_told t (Ok (Numbers.One a, u)) p = omega (arith, p.0)
+two_told t (Ok (Numbers.Two a b, u)) p = told_shown (span a b)
+two_told t (Ok (Numbers.Three a b c, u)) p = omega (arith, p.0)
+two_told t (Ok (Numbers.Four a b c d, u)) p = omega (arith, p.0)
+two_told t (Err TermError.Malformed) p = p
+two_told t (Err TermError.Overflow) p = tt
 
-firm_chain : (P Q : Numbers → ℕ → Type 0) (go : Numbers → ℕ → Trial) (r : Trial) → Firm P r → ((s : Numbers) (t : ℕ) → P s t → Firm Q (go s t)) → Firm Q (chain go r)
-firm_chain P Q go (Trial.Running s t) p h = h s t p
-firm_chain P Q go Trial.Malformed p h = p
-firm_chain P Q go Trial.Overflow p h = tt
+firm_chain : (P Q : Numbers → ℕ → Type 0) (go : Numbers → ℕ → Result (Numbers × ℕ) TermError) (r : Result (Numbers × ℕ) TermError) → Firm P r → ((s : Numbers) (t : ℕ) → P s t → Firm Q (go s t)) → Firm Q (chain go r)
+firm_chain P Q go (Ok (s, t)) p h = h s t p
+firm_chain P Q go (Err TermError.Malformed) p h = p
+firm_chain P Q go (Err TermError.Overflow) p h = tt
 
 -- ---- counts by their last term
 

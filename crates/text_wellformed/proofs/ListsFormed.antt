@@ -13,7 +13,6 @@ use lib.Seq.{get_or-append-add}
 use Rattle.basis.specs.Limits.{max_rules, max_variables, max_terms}
 use Rattle.term_words.specs.declared.Kind.{Kind}
 use Rattle.term_sizes.specs.Sizes.{sizes}
-use Rattle.term_sizes.specs.declared.Sized.{Sized}
 use Rattle.term_trees.specs.Postfix.{set_terms, condition_terms}
 use Rattle.term_trees.proofs.Theorems.{set_formed, condition_formed as condition-tree-formed}
 use Rattle.table_layout.specs.Held
@@ -36,6 +35,8 @@ use Rattle.text_wellformed.proofs.NoFaults.{Bound, bound_below, binders_mono, co
 use Rattle.text_wellformed.proofs.TermsKnown.{known_set, known_condition, known_repeats}
 use Rattle.text_wellformed.proofs.TermsListed.{Listed, cut_variable, terms_listed}
 use Rattle.text_wellformed.proofs.CountsFormed.{counts_formed}
+use Rattle.std.specs.Prelude.{Result, Ok, Err, ⊤}
+use Rattle.term_sizes.specs.declared.SizeError.{SizeError}
 
 -- ---- the list of a uint and of counts
 
@@ -65,10 +66,10 @@ counts_list (switch_tree h a t) k w = absurd (omega (arith, h.kind_is))
 
 -- ---- what is not malformed is formed
 
-not_malformed : (x : Sized) → (x ≡ Sized.Malformed → ⊥) → formed x ≡ true
-not_malformed Sized.Passes h = refl
-not_malformed Sized.Malformed h = absurd (h refl)
-not_malformed (Sized.Exceeds at) h = refl
+not_malformed : (x : Result ⊤ SizeError) → (x ≡ Err SizeError.Malformed → ⊥) → formed x ≡ true
+not_malformed (Ok u) h = refl
+not_malformed (Err SizeError.Malformed) h = absurd (h refl)
+not_malformed (Err (SizeError.Exceeds at)) h = refl
 
 cut_small : (xs ns : List ℕ) (a i k : ℕ) → cut_variable xs ns a i k < max_rules
 cut_small xs ns a i k = omega arith

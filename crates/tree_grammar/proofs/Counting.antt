@@ -15,9 +15,7 @@ use Rattle.basis.proofs.Booleans.{which}
 use Rattle.term_words.specs.declared.Kind.{Kind}
 use Rattle.term_words.specs.declared.Mode.{Mode}
 use Rattle.term_words.specs.declared.Numbers.{Numbers}
-use Rattle.term_words.specs.declared.Pair.{Pair}
 use Rattle.term_words.specs.declared.Term.{Term}
-use Rattle.term_words.specs.declared.Trial.{Trial}
 use Rattle.term_words.specs.Numbers.{pair_of}
 use Rattle.term_evaluation.specs.Meaning.{run}
 use Rattle.term_evaluation.specs.Counts.{form_of, shown, of_one, of_two, of_numbers, of_trial}
@@ -48,44 +46,48 @@ use Rattle.tree_terms.proofs.Rooms.{Known, set_room}
 use Rattle.tree_terms.proofs.Meanings.{counts_mean}
 use Rattle.tree_terms.proofs.Variables.{counts_variable}
 use Rattle.tree_grammar.proofs.Widths.{none_wide, none_known, no_values}
+use Rattle.std.specs.Prelude.{Some, Result, Ok, Err}
+use Rattle.term_words.specs.declared.TermError.{TermError}
 
 -- ---- trials
 
 -- what is neither malformed nor, at its sizes, too large goes on
-pub record GoesOn (x : Trial) : Type 0 where
+pub record GoesOn (x : Result (Numbers × ℕ) TermError) : Type 0 where
   pub stack : Numbers
   pub depth : ℕ
-  pub is : x ≡ Trial.Running stack depth
+  pub is : x ≡ Ok (stack, depth)
 
-goes_on : (P Q : Numbers → ℕ → Type 0) (x y : Trial) → Firm P x → Calm Q y → Follows x y → GoesOn x
-goes_on P Q x (Trial.Running s t) f c h = record { stack = h.0; depth = h.1; is = h.2 }
-goes_on P Q x Trial.Malformed f c h = absurd (subst (Firm P) h f)
-goes_on P Q x Trial.Overflow f c h = absurd c
+goes_on : (P Q : Numbers → ℕ → Type 0) (x y : Result (Numbers × ℕ) TermError) → Firm P x → Calm Q y → Follows x y → GoesOn x
+goes_on P Q x (Ok (s, t)) f c h = record { stack = h.0; depth = h.1; is = h.2 }
+goes_on P Q x (Err TermError.Malformed) f c h = absurd (subst (Firm P) h f)
+goes_on P Q x (Err TermError.Overflow) f c h = absurd c
 
-one_of : (f : Form) (z : ℤ) (x : Trial) → Good (Put Numbers.Zero 1 z) x → GoesOn x → of_trial f x ≡ of_one f z
+one_of : (f : Form) (z : ℤ) (x : Result (Numbers × ℕ) TermError) → Good (Put Numbers.Zero 1 z) x → GoesOn x → of_trial f x ≡ of_one f z
 one_of f z x g e =
     let h : Put Numbers.Zero 1 z e.stack e.depth = subst (Good (Put Numbers.Zero 1 z)) e.is g
     in let p : Numbers.One z ≡ e.stack = cc h.1
     in ap (of_trial f) e.is ∙ ap (of_numbers f) (sym p)
 
-pair_is : (f : Form) (s : Numbers) (a b : ℤ) → pair_of s ≡ Pair.Of Numbers.Zero a b → of_numbers f s ≡ of_two f a b
+pair_is : (f : Form) (s : Numbers) (a b : ℤ) → pair_of s ≡ Some (Numbers.Zero, a, b) → of_numbers f s ≡ of_two f a b
 pair_is f Numbers.Zero a b e = let z : ◌≡◌ {A = ℕ} 0 1 = cc e in absurd (omega arith)
 pair_is f (Numbers.One x) a b e = let z : ◌≡◌ {A = ℕ} 0 1 = cc e in absurd (omega arith)
 pair_is f (Numbers.Two x y) a b e =
-    let p : x ≡ a = cc e in
-    let q : y ≡ b = cc e in
-    ap (λ (u : ℤ). of_two f u y) p ∙ ap (of_two f a) q
-pair_is f (Numbers.Three x y z) a b e = let w : ◌≡◌ {A = ℕ} 0 1 = cc e in absurd (omega arith)
-pair_is f (Numbers.Four x y z w) a b e = let u : ◌≡◌ {A = ℕ} 0 1 = cc e in absurd (omega arith)
+    let p : ◌≡◌ {A = Numbers × ℤ × ℤ} (Numbers.Zero, x, y) (Numbers.Zero, a, b) = cc e in ap (λ (q : Numbers × ℤ × ℤ). of_two f q.1 q.2) p
+pair_is f (Numbers.Three x y z) a b e =
+    let p : ◌≡◌ {A = Numbers × ℤ × ℤ} (Numbers.One x, y, z) (Numbers.Zero, a, b) = cc e in
+    let w : ◌≡◌ {A = ℕ} 0 1 = cc (ap (λ (q : Numbers × ℤ × ℤ). q.0) p) in absurd (omega arith)
+pair_is f (Numbers.Four x y z w) a b e =
+    let p : ◌≡◌ {A = Numbers × ℤ × ℤ} (Numbers.Two x y, z, w) (Numbers.Zero, a, b) = cc e in
+    let u : ◌≡◌ {A = ℕ} 0 1 = cc (ap (λ (q : Numbers × ℤ × ℤ). q.0) p) in absurd (omega arith)
 
-two_of : (f : Form) (a b : ℤ) (x : Trial) → Good (Two Numbers.Zero 1 a b) x → GoesOn x → of_trial f x ≡ of_two f a b
+two_of : (f : Form) (a b : ℤ) (x : Result (Numbers × ℕ) TermError) → Good (Two Numbers.Zero 1 a b) x → GoesOn x → of_trial f x ≡ of_two f a b
 two_of f a b x g e =
     let h : Two Numbers.Zero 1 a b e.stack e.depth = subst (Good (Two Numbers.Zero 1 a b)) e.is g in ap (of_trial f) e.is ∙ pair_is f e.stack a b h.1
 
-firm_then : (P Q : Numbers → ℕ → Type 0) (go : Numbers → ℕ → Trial) (r : Trial) → Firm P r → ((s : Numbers) (t : ℕ) → P s t → Firm Q (go s t)) → Firm Q (chain go r)
-firm_then P Q go (Trial.Running s t) p h = h s t p
-firm_then P Q go Trial.Malformed p h = p
-firm_then P Q go Trial.Overflow p h = tt
+firm_then : (P Q : Numbers → ℕ → Type 0) (go : Numbers → ℕ → Result (Numbers × ℕ) TermError) (r : Result (Numbers × ℕ) TermError) → Firm P r → ((s : Numbers) (t : ℕ) → P s t → Firm Q (go s t)) → Firm Q (chain go r)
+firm_then P Q go (Ok (s, t)) p h = h s t p
+firm_then P Q go (Err TermError.Malformed) p h = p
+firm_then P Q go (Err TermError.Overflow) p h = tt
 
 -- ---- lists that end in a sign
 
@@ -135,10 +137,10 @@ module _ (numbered widest : List ℕ → ℕ) where
     room_here : (c : TermCalculation) (n : ℕ) → Room (length w) c n → Room (length v) c n
     room_here c n h = subst (λ (k : ℕ). Room k c n) (sym inside.same) h
 
-    abbrev at_values : List Term → Trial
+    abbrev at_values : List Term → Result (Numbers × ℕ) TermError
     at_values L = (run Kind.Calculation Mode.Values v (pos 0) 0 L Numbers.Zero 1).trial
 
-    abbrev at_sizes : List Term → Trial
+    abbrev at_sizes : List Term → Result (Numbers × ℕ) TermError
     at_sizes L = (run Kind.Calculation Mode.Sizes w (pos 0) 0 L Numbers.Zero 1).trial
 
     follows : (L : List Term) → Follows (at_values L) (at_sizes L)
@@ -178,10 +180,10 @@ module _ (numbered widest : List ℕ → ℕ) where
         (goes_on P Q (at_values L) (at_sizes L) (subst (Firm P) (sym same) firm)
         (subst (Calm Q) (sym same') (two_from Kind.Calculation w (pos 0) y z (puts Kind.Calculation w (pos 0) y (calculation_sizes numbered widest w c a e).small) (puts Kind.Calculation w (pos 0) z (calculation_sizes numbered widest w d a' e').small) Numbers.Zero 1)) (follows L))
       where
-        looser : (x : Trial) (t : ℕ) → Firm (Wait Kind.Calculation Mode.Values v (pos 0) 2 t) x → Firm (λ (s : Numbers) (k : ℕ). Unit {0}) x
-        looser (Trial.Running s k) t h = tt
-        looser Trial.Malformed t h = h
-        looser Trial.Overflow t h = tt
+        looser : (x : Result (Numbers × ℕ) TermError) (t : ℕ) → Firm (Wait Kind.Calculation Mode.Values v (pos 0) 2 t) x → Firm (λ (s : Numbers) (k : ℕ). Unit {0}) x
+        looser (Ok (s, k)) t h = tt
+        looser (Err TermError.Malformed) t h = h
+        looser (Err TermError.Overflow) t h = tt
 
     -- ---- counts
 

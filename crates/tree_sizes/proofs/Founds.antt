@@ -15,12 +15,9 @@ use Rattle.term_words.specs.declared.Kind.{Kind}
 use Rattle.term_words.specs.declared.Mode.{Mode}
 use Rattle.term_words.specs.declared.Numbers.{Numbers}
 use Rattle.term_words.specs.declared.Term.{Term}
-use Rattle.term_words.specs.declared.Trial.{Trial}
 use Rattle.term_evaluation.specs.Meaning.{run, last_of, verdict_of}
 use Rattle.term_evaluation.specs.Counts.{shown, form_of, calculations_end, of_numbers, of_trial, tallied_by, tallied}
-use Rattle.term_evaluation.specs.declared.Counted.{Counted}
 use Rattle.term_evaluation.specs.declared.Form.{Form}
-use Rattle.term_evaluation.specs.declared.Tested.{Tested as Answer}
 use Rattle.term_sizes.specs.Sizes.{of_tested, of_counted, of_tally, sizes, count_sizes}
 use Rattle.text_store.specs.Words.{term_origin}
 use Rattle.text_admission.specs.Extents.{list_found}
@@ -37,6 +34,8 @@ use Rattle.tree_sizes.proofs.Reckoning.{Measured, measured_first, measured_secon
 use Rattle.tree_sizes.proofs.Lists.{Tested, Faulty, Passed, Judged, judged_both, judged_as, reckoned_parts, Left, fault_of, calculation_judged, one_room}
 use Rattle.tree_sizes.proofs.SetLists.{set_judged, nothing_joins}
 use Rattle.tree_sizes.proofs.TestLists.{tests_judged, no_joins}
+use Rattle.std.specs.Prelude.{Result, Ok, Err}
+use Rattle.term_words.specs.declared.TermError.{TermError}
 
 -- what is found is the first of these, where there is one
 abbrev pub Matches : Found → List ℕ → Type 0
@@ -52,7 +51,7 @@ Any s t = Unit {0}
 answered : (ts : List ℕ) (f i at : ℕ) (s : Numbers) (t : ℕ) → list_found ts f i (of_tested (last_of s t) at) ≡ Found.Nothing
 answered ts f i at Numbers.Zero t = by (eqb t 2) (eqb t 3)
   where
-    by : (a b : Bool) → list_found ts f i (of_tested (cond a Answer.No (cond b Answer.Yes Answer.Malformed)) at) ≡ Found.Nothing
+    by : (a b : Bool) → list_found ts f i (of_tested (cond a (Ok false) (cond b (Ok true) (Err TermError.Malformed))) at) ≡ Found.Nothing
     by true b = refl
     by false true = refl
     by false false = refl
@@ -82,15 +81,15 @@ counted ts f i at m (Numbers.Four a b c d) = refl
 stopped : {ts : List ℕ} {f i at : ℕ} {A : List TermRow} {l : List ℕ} → RowsAt ts f A → Faulty i A l at → Matches (Found.At (term_origin ts (f + (at - i)))) l
 stopped h q = (q.rest, q.first_is ∙ ap (λ (o : ℕ). o ∷ q.rest) (sym (stop_origin h q.stop)))
 
-tested_found : (P : Numbers → ℕ → Type 0) (l ts : List ℕ) (f i at : ℕ) (A : List TermRow) (x : Trial) → RowsAt ts f A → Came (Passed P l) (Faulty i A l) x at → Matches (list_found ts f i (of_tested (verdict_of x) at)) l
-tested_found P l ts f i at A (Trial.Running s t) h q = subst (λ (y : Found). Matches y l) (sym (answered ts f i at s t)) q.0
-tested_found P l ts f i at A Trial.Malformed h q = absurd q
-tested_found P l ts f i at A Trial.Overflow h q = stopped h q
+tested_found : (P : Numbers → ℕ → Type 0) (l ts : List ℕ) (f i at : ℕ) (A : List TermRow) (x : Result (Numbers × ℕ) TermError) → RowsAt ts f A → Came (Passed P l) (Faulty i A l) x at → Matches (list_found ts f i (of_tested (verdict_of x) at)) l
+tested_found P l ts f i at A (Ok (s, t)) h q = subst (λ (y : Found). Matches y l) (sym (answered ts f i at s t)) q.0
+tested_found P l ts f i at A (Err TermError.Malformed) h q = absurd q
+tested_found P l ts f i at A (Err TermError.Overflow) h q = stopped h q
 
-counted_found : (P : Numbers → ℕ → Type 0) (l ts : List ℕ) (f i at : ℕ) (A : List TermRow) (m : Form) (x : Trial) → RowsAt ts f A → Came (Passed P l) (Faulty i A l) x at → Matches (list_found ts f i (of_counted (of_trial m x) at)) l
-counted_found P l ts f i at A m (Trial.Running s t) h q = subst (λ (y : Found). Matches y l) (sym (counted ts f i at m s)) q.0
-counted_found P l ts f i at A m Trial.Malformed h q = absurd q
-counted_found P l ts f i at A m Trial.Overflow h q = stopped h q
+counted_found : (P : Numbers → ℕ → Type 0) (l ts : List ℕ) (f i at : ℕ) (A : List TermRow) (m : Form) (x : Result (Numbers × ℕ) TermError) → RowsAt ts f A → Came (Passed P l) (Faulty i A l) x at → Matches (list_found ts f i (of_counted (of_trial m x) at)) l
+counted_found P l ts f i at A m (Ok (s, t)) h q = subst (λ (y : Found). Matches y l) (sym (counted ts f i at m s)) q.0
+counted_found P l ts f i at A m (Err TermError.Malformed) h q = absurd q
+counted_found P l ts f i at A m (Err TermError.Overflow) h q = stopped h q
 
 -- ---- terms of the table that are rows
 
@@ -158,7 +157,7 @@ module _ (g : ℕ → ℕ) (W : List ℕ) where
     tally_found P l A m e some form list rows q =
         let y = ran g w Kind.Calculation i A Numbers.Zero 1 in
         let z : list_found ts f i (count_sizes w W i e) ≡ list_found ts f i (of_counted (of_trial m y.trial) y.at) =
-        ap (λ (b : Bool). list_found ts f i (of_tally (cond b (tallied_by (form_of (term_at W (e - 1))) Mode.Sizes w W i e) (record { counted = Counted.Malformed; at = i })))) (lt-ltb i e some)
+        ap (λ (b : Bool). list_found ts f i (of_tally (cond b (tallied_by (form_of (term_at W (e - 1))) Mode.Sizes w W i e) (record { counted = Err TermError.Malformed; at = i })))) (lt-ltb i e some)
         ∙ ap (λ (k : Form). list_found ts f i (of_tally (tallied_by k Mode.Sizes w W i e))) form
         ∙ ap (λ (L : List Term). list_found ts f i (of_counted (of_trial m (run Kind.Calculation Mode.Sizes w (pos 0) i L Numbers.Zero 1).trial) (run Kind.Calculation Mode.Sizes w (pos 0) i L Numbers.Zero 1).at)) list in
         subst (λ (k : Found). Matches k l) (sym z) (counted_found P l ts f i y.at A m y.trial rows q)

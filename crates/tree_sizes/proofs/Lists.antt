@@ -21,9 +21,7 @@ use Rattle.term_words.specs.declared.Kind.{Kind}
 use Rattle.term_words.specs.declared.Mode.{Mode}
 use Rattle.term_words.specs.declared.Numbers.{Numbers}
 use Rattle.term_words.specs.declared.Operation.{Operation}
-use Rattle.term_words.specs.declared.Outcome.{Outcome}
 use Rattle.term_words.specs.declared.Term.{Term}
-use Rattle.term_words.specs.declared.Trial.{Trial}
 use Rattle.term_evaluation.specs.declared.Ended.{Ended}
 use Rattle.term_trees.proofs.Firm.{count}
 use Rattle.text_store.specs.Store.{marked_tag}
@@ -39,6 +37,8 @@ use Rattle.tree_store.proofs.Rows.{TermRow, calculation_rows}
 use Rattle.tree_sizes.proofs.Tells.{Arithmetic, adding, subtracting, multiplying, negating, Reckons, counted_none, counted_number, counted_use, counted_sign, counted_skip}
 use Rattle.tree_sizes.proofs.Runs.{Stop, stop_left, stop_right, Came, came_map, Ran, row_term, PartRow, PartRows, no_parts, part_then, ran, ran_both, ran_one}
 use Rattle.tree_sizes.proofs.Reckoning.{calculation_start, Put, Past, Measured, calculation_ran}
+use Rattle.std.specs.Prelude.{Result, Ok, Err}
+use Rattle.term_words.specs.declared.TermError.{TermError}
 
 -- ---- tests that wait
 
@@ -59,11 +59,11 @@ more_deep t d b h =
     (omega (arith, h.0, m), omega (arith, h.1, m))
 
 -- a test is noted: there is room for 62
-pub noted_is : (t d : ℕ) (b : Bool) → Deep d t → d < 62 → noted Numbers.Zero t b ≡ Trial.Running Numbers.Zero (t * 2 + digit b)
+pub noted_is : (t d : ℕ) (b : Bool) → Deep d t → d < 62 → noted Numbers.Zero t b ≡ Ok (Numbers.Zero, t * 2 + digit b)
 unfolding noted
 noted_is t d b h l =
     let p : 2 ^ suc d ≤ 2 ^ 62 = pow_mono {j = 62} (omega arith) in
-    ap (λ (c : Bool). cond c (Trial.Running Numbers.Zero (t * 2 + digit b)) Trial.Malformed) (lt-ltb t (2 ^ 62) (omega (arith, h.1)))
+    ap (λ (c : Bool). cond c (Ok (Numbers.Zero, t * 2 + digit b)) (Err TermError.Malformed)) (lt-ltb t (2 ^ 62) (omega (arith, h.1)))
 
 -- what is left after a test
 abbrev pub Tested : ℕ → Numbers → ℕ → Type 0
@@ -113,7 +113,7 @@ module _ (g : ℕ → ℕ) (w : List ℤ) (k : Kind) where
       → Judged (Tested (suc d)) [] i (r ∷ []) (ran g w k i (r ∷ []) s t)
   judged_sign d r i s t t₀ b e h l =
       ran_one g w k (Passed (Tested (suc d)) []) (Faulty i (r ∷ []) []) r i s t
-      (subst (λ (x : Trial). Came (Passed (Tested (suc d)) []) (Faulty i (r ∷ []) []) x i) (sym (e ∙ noted_is t₀ d b h l)) (refl, (refl, more_deep t₀ d b h)))
+      (subst (λ (x : Result (Numbers × ℕ) TermError). Came (Passed (Tested (suc d)) []) (Faulty i (r ∷ []) []) x i) (sym (e ∙ noted_is t₀ d b h l)) (refl, (refl, more_deep t₀ d b h)))
 
   -- a sign that joins two tests
   pub judged_join : (j : Joint) (d : ℕ) (r : TermRow) → ((s : Numbers) (t : ℕ) → step_of k Mode.Sizes w (pos 0) (row_term g r) s t ≡ combined j s t) → (i t : ℕ) → Deep (suc (suc d)) t → d < 62
@@ -135,7 +135,7 @@ module _ (g : ℕ → ℕ) (w : List ℤ) (k : Kind) where
       some = pow_pos d
 
       opened : combined j Numbers.Zero t ≡ noted Numbers.Zero (t / 4) (joins j (eqb (t / 2 % 2) 1) (eqb (t % 2) 1))
-      opened = ap (λ (c : Bool). cond c Trial.Malformed (noted Numbers.Zero (t / 4) (joins j (eqb (t / 2 % 2) 1) (eqb (t % 2) 1)))) (le-ltb t 4 (omega (arith, h.0, p, q, some)))
+      opened = ap (λ (c : Bool). cond c (Err TermError.Malformed) (noted Numbers.Zero (t / 4) (joins j (eqb (t / 2 % 2) 1) (eqb (t % 2) 1)))) (le-ltb t 4 (omega (arith, h.0, p, q, some)))
 
   -- what follows a test
   pub after_test : (d : ℕ) (R : Numbers → ℕ → Type 0) (m : List ℕ) (i : ℕ) (B : List TermRow) → ((t : ℕ) → Deep d t → Judged R m i B (ran g w k i B Numbers.Zero t)) → (s : Numbers) (t : ℕ) → Tested d s t → Judged R m i B (ran g w k i B s t)
@@ -183,7 +183,7 @@ fault_of wide c = place_if (too_large wide c) (first_byte (spell_calculation c [
 pub record Left (s : Numbers) (t : ℕ) (s' : Numbers) (t' : ℕ) : Type 0 where
   pub tests : t' ≡ t
   pub size : ℕ
-  pub put : pushed s (pos size) ≡ Outcome.Stack s'
+  pub put : pushed s (pos size) ≡ Ok s'
 
 module _ (g : ℕ → ℕ) (w : List ℤ) (wide : List ℕ → ℕ) (k : Kind) where
   -- a calculation leaves its size, or stops where it has a fault
@@ -204,7 +204,7 @@ left_one h = let q = h.put in cc q
 -- two numbers
 pub left_two : {t t₁ t₂ : ℕ} {s₁ s₂ : Numbers} (h : Left Numbers.Zero t s₁ t₁) (m : Left s₁ t₁ s₂ t₂) → Numbers.Two (pos h.size) (pos m.size) ≡ s₂
 left_two {s₂ = s₂} h m =
-    let q : pushed (Numbers.One (pos h.size)) (pos m.size) ≡ Outcome.Stack s₂ = ap (λ (x : Numbers). pushed x (pos m.size)) (left_one h) ∙ m.put in cc q
+    let q : pushed (Numbers.One (pos h.size)) (pos m.size) ≡ Ok s₂ = ap (λ (x : Numbers). pushed x (pos m.size)) (left_one h) ∙ m.put in cc q
 
 -- there is room for a second
 pub one_room : {t t' : ℕ} {s : Numbers} → Left Numbers.Zero t s t' → count s < 2

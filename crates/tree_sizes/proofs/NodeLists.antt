@@ -14,7 +14,6 @@ use lib.IntN.{pos, nat_abs}
 use lib.ListN.{length, get_or, length-append}
 use Rattle.basis.specs.Limits.{max_width, max_bound_width}
 use Rattle.text_tokens.specs.Numbers.{capped, number_value}
-use Rattle.term_sizes.specs.declared.Sized.{Sized}
 use Rattle.table_layout.specs.Constructs.{construct_at}
 use Rattle.table_layout.specs.Held
 use Rattle.table_sizes.specs.Measures.{widest as table-widest, condition_size, own_size}
@@ -47,6 +46,8 @@ use Rattle.tree_sizes.proofs.Founds.{Matches, set_found, condition_found, counts
 use Rattle.tree_sizes.proofs.Rising.{rising_from, first_hit, Rises, set_rises, counts_rise, tests_rise}
 use Rattle.tree_sizes.proofs.Agreeing.{Agree, same_faults}
 use Rattle.tree_sizes.proofs.Tables.{number_at, most_at, most_bound, own_written, condition_written, no_list, set_list, wrong_list, counts_list, condition_list, no_condition}
+use Rattle.std.specs.Prelude.{Result, ⊤}
+use Rattle.term_sizes.specs.declared.SizeError.{SizeError}
 
 -- ---- a formula has a row
 
@@ -163,7 +164,7 @@ module _ (p : ℕ) {xs ns ts rs ws : List ℕ} {n r : ℕ} {numbered : List ℕ 
 
         matches : Matches (condition_at ns ts ws i) (calculation_faults (cut ws numbered) (tests_parts x))
         matches =
-            subst (λ (z : Sized). Matches (list_found ts (condition_from ns i) (condition_start ns i) z) (calculation_faults (cut ws numbered) (tests_parts x)))
+            subst (λ (z : Result ⊤ SizeError). Matches (list_found ts (condition_from ns i) (condition_start ns i) z) (calculation_faults (cut ws numbered) (tests_parts x)))
             (sym (condition_list rule.words rule.few_nodes rule.few_terms rule.few_binders i there (omega (arith, long, some_tests x []))))
             (condition_found (λ k. number_at xs ns rs r i k) (Held.term_words ws) (table-widest ws) (cut ws numbered) ts (condition_from ns i) (condition_start ns i) x (condition_start ns i + condition_length ns i) (ap (λ (k : ℕ). condition_start ns i + k) long) sizes_known here
             (condition_written rule.words rule.few_nodes rule.few_terms rule.few_binders i there (table-widest ws) (cut ws numbered) many (tests_tells x told) sizes_known long here))
@@ -187,7 +188,7 @@ module _ (p : ℕ) {xs ns ts rs ws : List ℕ} {n r : ℕ} {numbered : List ℕ 
 
         matches : Matches (own_at ns ts ws i) (calculation_faults (cut ws numbered) (counts_parts x))
         matches =
-            subst (λ (z : Sized). Matches (list_found ts (own_from ns i) (own_start ns i) z) (calculation_faults (cut ws numbered) (counts_parts x)))
+            subst (λ (z : Result ⊤ SizeError). Matches (list_found ts (own_from ns i) (own_start ns i) z) (calculation_faults (cut ws numbered) (counts_parts x)))
             (sym (counts_list rule.words rule.few_nodes rule.few_terms rule.few_binders i there (omega (arith, long, some_counts x)) kind mark two inside))
             (counts_found (λ k. number_at xs ns rs r i k) (Held.term_words ws) (table-widest ws) (cut ws numbered) ts (own_from ns i) (own_start ns i) x (own_start ns i + own_length ns i) (ap (λ (k : ℕ). own_start ns i + k) long) sizes_known here
             (own_written rule.words rule.few_nodes rule.few_terms rule.few_binders i there (table-widest ws) (cut ws numbered) many (counts_tells x) sizes_known long here))
@@ -213,7 +214,7 @@ module _ (p : ℕ) {xs ns ts rs ws : List ℕ} {n r : ℕ} {numbered : List ℕ 
 
         matches : 1 ≤ width_of xs ns i → width_of xs ns i ≤ most_at ns i → Matches (own_at ns ts ws i) (calculation_faults (cut ws numbered) (set_parts x))
         matches low high =
-            subst (λ (z : Sized). Matches (list_found ts (own_from ns i) (own_start ns i) z) (calculation_faults (cut ws numbered) (set_parts x)))
+            subst (λ (z : Result ⊤ SizeError). Matches (list_found ts (own_from ns i) (own_start ns i) z) (calculation_faults (cut ws numbered) (set_parts x)))
             (sym (set_list rule.words rule.few_nodes rule.few_terms rule.few_binders i there (omega (arith, long, some_set x [])) kind size low high))
             (set_found (λ k. number_at xs ns rs r i k) (Held.term_words ws) (table-widest ws) (cut ws numbered) ts (own_from ns i) (own_start ns i) x (own_start ns i + own_length ns i) (ap (λ (k : ℕ). own_start ns i + k) long) sizes_known here
             (own_written rule.words rule.few_nodes rule.few_terms rule.few_binders i there (table-widest ws) (cut ws numbered) many (set_tells x told) sizes_known long here))
@@ -245,7 +246,7 @@ module _ (p : ℕ) {xs ns ts rs ws : List ℕ} {n r : ℕ} {numbered : List ℕ 
         by false e =
             let z = wrong_list rule.words rule.few_nodes rule.few_terms rule.few_binders i there (omega (arith, long, some_set x [])) kind size e in
             let rises = set_rises widest x w s in (
-              λ h. absurd (subst (λ (k : Sized). Hit p (list_found ts (own_from ns i) (own_start ns i) k)) z h),
+              λ h. absurd (subst (λ (k : Result ⊤ SizeError). Hit p (list_found ts (own_from ns i) (own_start ns i) k)) z h),
               λ h. absurd (wrong e (narrow (omega (arith, before, rising_from p q rises.mid (calculation_faults widest (set_parts x)) rises.rises h)))),
             )
 
@@ -253,9 +254,9 @@ module _ (p : ℕ) {xs ns ts rs ws : List ℕ} {n r : ℕ} {numbered : List ℕ 
 
   -- a node without a list of its own
   pub no_own_hit : (i : ℕ) → i < n → eqb (kind_of ns i) 8 ≡ false → kind_of ns i < 10 → (kind_of ns i ≡ 3 → node_mark ns i < 4) → Hit p (own_at ns ts ws i) → ⊥
-  no_own_hit i l e k m h = subst (λ (z : Sized). Hit p (list_found ts (own_from ns i) (own_start ns i) z)) (no_list rule.words rule.few_nodes rule.few_terms rule.few_binders i l e k m) h
+  no_own_hit i l e k m h = subst (λ (z : Result ⊤ SizeError). Hit p (list_found ts (own_from ns i) (own_start ns i) z)) (no_list rule.words rule.few_nodes rule.few_terms rule.few_binders i l e k m) h
 
   -- a node that is no case with a condition
   pub no_condition_hit : (i : ℕ) → i < n → condition_from ns i ≡ 0 → condition_end ns i ≡ 0 → Hit p (condition_at ns ts ws i) → ⊥
   no_condition_hit i l e f h =
-      subst (λ (z : Sized). Hit p (list_found ts (condition_from ns i) (condition_start ns i) z)) (no_condition rule.words rule.few_nodes rule.few_terms rule.few_binders i l (omega (arith, e, f))) h
+      subst (λ (z : Result ⊤ SizeError). Hit p (list_found ts (condition_from ns i) (condition_start ns i) z)) (no_condition rule.words rule.few_nodes rule.few_terms rule.few_binders i l (omega (arith, e, f))) h

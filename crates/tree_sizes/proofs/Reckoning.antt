@@ -15,10 +15,7 @@ use Rattle.term_words.specs.declared.Kind.{Kind}
 use Rattle.term_words.specs.declared.Mode.{Mode}
 use Rattle.term_words.specs.declared.Numbers.{Numbers}
 use Rattle.term_words.specs.declared.Operation.{Operation}
-use Rattle.term_words.specs.declared.Outcome.{Outcome}
-use Rattle.term_words.specs.declared.Pair.{Pair}
 use Rattle.term_words.specs.declared.Term.{Term as WordTerm}
-use Rattle.term_words.specs.declared.Top.{Top}
 use Rattle.term_trees.proofs.Firm.{count}
 use Rattle.term_trees.proofs.Chains.{top_of_lem, pair_of_lem}
 use Rattle.tree.specs.Tree.{Primary, number, variable, Operand, plain, opposite, Factors, no_factor, times, Product, product, Summands, no_summand, plus, minus, Calculation, sum}
@@ -28,9 +25,10 @@ use Rattle.tree_meaning.specs.Sizes.{primary_size, operand_size, times_size, pro
 use Rattle.tree_meaning.proofs.Bounds.{times_part}
 use Rattle.tree_store.proofs.Rows.{TermRow, a_term, primary_rows, operand_rows, factors_rows, product_rows, summands_rows, calculation_rows}
 use Rattle.tree_sizes.proofs.Runs.{Stop, stop_here, stop_left, stop_right, came_map, Ran, row_term, ran, ran_none, ran_both, ran_part}
+use Rattle.std.specs.Prelude.{Option, Ok}
 
 -- the stack after a number is put on it
-pub pushed_count : (s s' : Numbers) (z : ℤ) → pushed s z ≡ Outcome.Stack s' → count s' ≡ suc (count s)
+pub pushed_count : (s s' : Numbers) (z : ℤ) → pushed s z ≡ Ok s' → count s' ≡ suc (count s)
 pushed_count Numbers.Zero s' z e = let q : Numbers.One z ≡ s' = cc e in sym (ap count q)
 pushed_count (Numbers.One a) s' z e = let q : Numbers.Two a z ≡ s' = cc e in sym (ap count q)
 pushed_count (Numbers.Two a b) s' z e = let q : Numbers.Three a b z ≡ s' = cc e in sym (ap count q)
@@ -43,7 +41,7 @@ calculation_start (sum x more) = start_of_product x
 
 -- a size n, on what waited before, of a calculation whose largest part is m
 abbrev pub Put : Numbers → ℕ → (n m : ℕ) → Numbers → ℕ → Type 0
-Put s t n m s' t' = (t' ≡ t) × (m ≤ 2 ^ 62) × (pushed s (pos n) ≡ Outcome.Stack s')
+Put s t n m s' t' = (t' ≡ t) × (m ≤ 2 ^ 62) × (pushed s (pos n) ≡ Ok s')
 
 -- these rows stop, because of a part m
 abbrev pub Past : ℕ → List TermRow → (o m : ℕ) → ℕ → Type 0
@@ -79,7 +77,7 @@ module _ (g : ℕ → ℕ) (w : List ℤ) (wide : List ℕ → ℕ) where
         → Ran (Put s₀ t n n) (Past i (r ∷ []) o n) (ran g w k i (r ∷ []) s t)
     one_row r p i s s₀ t n c e f room =
         let x = ran g w k i (r ∷ []) s t in
-        came_map (λ s' t'. (t' ≡ t) × (n ≤ 2 ^ 62) × (pushed s₀ (pos n) ≡ Outcome.Stack s')) (Put s₀ t n n) (λ at. (at ≡ i) × (2 ^ 62 < n)) (Past i (r ∷ []) o n) x.trial x.at (λ s' t' h. h) (λ j h. (stop_here h.0 c, h.1)) (ran_part g w k r p i s s₀ t n e f room)
+        came_map (λ s' t'. (t' ≡ t) × (n ≤ 2 ^ 62) × (pushed s₀ (pos n) ≡ Ok s')) (Put s₀ t n n) (λ at. (at ≡ i) × (2 ^ 62 < n)) (Past i (r ∷ []) o n) x.trial x.at (λ s' t' h. h) (λ j h. (stop_here h.0 c, h.1)) (ran_part g w k r p i s s₀ t n e f room)
 
     variable_kept : (j n : ℕ) (s : Numbers) → j < length w → get_or w j (pos 0) ≡ pos n → variable_of w j s ≡ kept s (bounded (pos n))
     unfolding variable_of
@@ -99,8 +97,8 @@ module _ (g : ℕ → ℕ) (w : List ℤ) (wide : List ℕ → ℕ) where
         one_row (a_term 2 0 x.start o) (Operation.Variable (g x.start)) i s s t (wide x.letters) refl refl (variable_kept (g x.start) (wide x.letters) s h.0 h.1) room
 
     -- a minus leaves the size as it is
-    negated : (s s' : Numbers) (n : ℕ) → pushed s (pos n) ≡ Outcome.Stack s' → operate_of Mode.Sizes w Operation.Negate s' ≡ kept s (bounded (pos n))
-    negated s s' n e = ap (λ (x : Top). unary (λ z. z) x) (top_of_lem s s' (pos n) e)
+    negated : (s s' : Numbers) (n : ℕ) → pushed s (pos n) ≡ Ok s' → operate_of Mode.Sizes w Operation.Negate s' ≡ kept s (bounded (pos n))
+    negated s s' n e = ap (λ (x : Option (Numbers × ℤ)). unary (λ z. z) x) (top_of_lem s s' (pos n) e)
 
     operand_ran : (x : Operand) → Measured (operand_terms x) → (i : ℕ) (s : Numbers) (t : ℕ) → count s < 4
         → Ran (Put s t (operand_size wide x) (operand_size wide x)) (Past i (operand_rows o x) o (operand_size wide x)) (ran g w k i (operand_rows o x) s t)
@@ -117,12 +115,12 @@ module _ (g : ℕ → ℕ) (w : List ℤ) (wide : List ℕ → ℕ) where
         (one_row r Operation.Negate (i + length A) s' s t' n refl refl (negated s s' n q.2) room))
 
     -- two numbers and their sign
-    signed : (f : ℤ → ℤ → ℤ) (s s₁ s₂ : Numbers) (a b c : ℕ) (p : Operation) → ((u : Numbers) → operate_of Mode.Sizes w p u ≡ binary f (pair_of u)) → f (pos a) (pos b) ≡ pos c → pushed s (pos a) ≡ Outcome.Stack s₁ → pushed s₁ (pos b) ≡ Outcome.Stack s₂
+    signed : (f : ℤ → ℤ → ℤ) (s s₁ s₂ : Numbers) (a b c : ℕ) (p : Operation) → ((u : Numbers) → operate_of Mode.Sizes w p u ≡ binary f (pair_of u)) → f (pos a) (pos b) ≡ pos c → pushed s (pos a) ≡ Ok s₁ → pushed s₁ (pos b) ≡ Ok s₂
         → operate_of Mode.Sizes w p s₂ ≡ kept s (bounded (pos c))
-    signed f s s₁ s₂ a b c p e q h m = e s₂ ∙ ap (λ (x : Pair). binary f x) (pair_of_lem s s₁ s₂ (pos a) (pos b) h m) ∙ ap (λ (z : ℤ). kept s (bounded z)) q
+    signed f s s₁ s₂ a b c p e q h m = e s₂ ∙ ap (λ (x : Option (Numbers × ℤ × ℤ)). binary f x) (pair_of_lem s s₁ s₂ (pos a) (pos b) h m) ∙ ap (λ (z : ℤ). kept s (bounded z)) q
 
     -- factors after a number n
-    factors_ran : (more : Factors) → Measured (factor_terms more) → (n i : ℕ) (s s₁ : Numbers) (t : ℕ) → n ≤ 2 ^ 62 → count s < 3 → pushed s (pos n) ≡ Outcome.Stack s₁
+    factors_ran : (more : Factors) → Measured (factor_terms more) → (n i : ℕ) (s s₁ : Numbers) (t : ℕ) → n ≤ 2 ^ 62 → count s < 3 → pushed s (pos n) ≡ Ok s₁
         → Ran (Put s t (times_size wide n more) (times_largest wide n more)) (Past i (factors_rows o more) o (times_largest wide n more)) (ran g w k i (factors_rows o more) s₁ t)
     unfolding Measured factor_terms factors_rows times_size times_largest term_of
     factors_ran no_factor h n i s s₁ t l room e = ran_none g w k (Put s t n n) (Past i [] o n) i s₁ t (refl, l, e)
@@ -180,10 +178,10 @@ module _ (g : ℕ → ℕ) (w : List ℤ) (wide : List ℕ → ℕ) where
     sum_part n (minus c x more) = omega arith
 
     -- one more summand after a number n, and the rest: the same for plus and minus
-    module _ (more : Summands) (rest : (n i : ℕ) (s s₁ : Numbers) (t : ℕ) → n ≤ 2 ^ 62 → count s < 2 → pushed s (pos n) ≡ Outcome.Stack s₁
+    module _ (more : Summands) (rest : (n i : ℕ) (s s₁ : Numbers) (t : ℕ) → n ≤ 2 ^ 62 → count s < 2 → pushed s (pos n) ≡ Ok s₁
         → Ran (Put s t (sum_size wide n more) (sum_largest wide n more)) (Past i (summands_rows o more) o (sum_largest wide n more)) (ran g w k i (summands_rows o more) s₁ t)) where
       summand_ran : (x : Product) (r : TermRow) (p : Operation) → Measured (product_terms x) → r.origin ≡ o → row_term g r ≡ WordTerm.Part p → ((u : Numbers) → operate_of Mode.Sizes w p u ≡ binary ◌+ℤ◌ (pair_of u))
-          → (n i : ℕ) (s s₁ : Numbers) (t : ℕ) → n ≤ 2 ^ 62 → count s < 2 → pushed s (pos n) ≡ Outcome.Stack s₁
+          → (n i : ℕ) (s s₁ : Numbers) (t : ℕ) → n ≤ 2 ^ 62 → count s < 2 → pushed s (pos n) ≡ Ok s₁
           → Ran (Put s t (sum_size wide (n + product_size wide x) more) (max n (max (product_largest wide x) (sum_largest wide (n + product_size wide x) more))))
           (Past i (product_rows o x ++ (r ∷ summands_rows o more)) o (max n (max (product_largest wide x) (sum_largest wide (n + product_size wide x) more)))) (ran g w k i (product_rows o x ++ (r ∷ summands_rows o more)) s₁ t)
       summand_ran x r p h c e f n i s s₁ t l room b =
@@ -210,7 +208,7 @@ module _ (g : ℕ → ℕ) (w : List ℤ) (wide : List ℕ → ℕ) where
           (λ s₄ t₄ v. (v.0 ∙ u.0 ∙ q.0, omega (arith, v.1, q.1, l), v.2)) (λ j v. (stop_right A (stop_right (r ∷ []) v.0), omega (arith, v.1)))
           (rest (n + m) (i₂ + 1) s s₃ t₃ u.1 room u.2)))
 
-    summands_ran : (more : Summands) → Measured (summand_terms more) → (n i : ℕ) (s s₁ : Numbers) (t : ℕ) → n ≤ 2 ^ 62 → count s < 2 → pushed s (pos n) ≡ Outcome.Stack s₁
+    summands_ran : (more : Summands) → Measured (summand_terms more) → (n i : ℕ) (s s₁ : Numbers) (t : ℕ) → n ≤ 2 ^ 62 → count s < 2 → pushed s (pos n) ≡ Ok s₁
         → Ran (Put s t (sum_size wide n more) (sum_largest wide n more)) (Past i (summands_rows o more) o (sum_largest wide n more)) (ran g w k i (summands_rows o more) s₁ t)
     unfolding Measured summand_terms summands_rows sum_size sum_largest term_of
     summands_ran no_summand h n i s s₁ t l room e = ran_none g w k (Put s t n n) (Past i [] o n) i s₁ t (refl, l, e)

@@ -17,9 +17,7 @@ use Rattle.term_words.specs.declared.Kind.{Kind}
 use Rattle.term_words.specs.declared.Mode.{Mode}
 use Rattle.term_words.specs.declared.Numbers.{Numbers}
 use Rattle.term_words.specs.declared.Operation.{Operation}
-use Rattle.term_words.specs.declared.Outcome.{Outcome}
 use Rattle.term_words.specs.declared.Term.{Term}
-use Rattle.term_words.specs.declared.Trial.{Trial}
 use Rattle.term_evaluation.specs.Meaning.{next, run}
 use Rattle.term_evaluation.specs.declared.Ended.{Ended}
 use Rattle.term_trees.proofs.Firm.{count}
@@ -27,6 +25,8 @@ use Rattle.text_store.specs.Words.{is_use, term_origin}
 use Rattle.text_shapes.specs.TermShapes.{rename_term}
 use Rattle.tree_store.proofs.Rows.{TermRow, marked, last_marked}
 use Rattle.tree_grammar.proofs.Lists.{RowsAt, row_then}
+use Rattle.std.specs.Prelude.{Result, Ok, Err}
+use Rattle.term_words.specs.declared.TermError.{TermError}
 
 -- ---- a row at which a list stops
 
@@ -68,20 +68,20 @@ stop_origin {ts} {f} {i} {at} {o} (row_then h more) (stop_later s) =
 -- ---- where a list came to
 
 -- Q of what waits where it comes to its end, Z of the number where it passes 2^62; it is not malformed
-abbrev pub Came : (Numbers → ℕ → Type 0) → (ℕ → Type 0) → Trial → ℕ → Type 0
-Came Q Z (Trial.Running s t) at = Q s t
-Came Q Z Trial.Malformed at = ⊥
-Came Q Z Trial.Overflow at = Z at
+abbrev pub Came : (Numbers → ℕ → Type 0) → (ℕ → Type 0) → Result (Numbers × ℕ) TermError → ℕ → Type 0
+Came Q Z (Ok (s, t)) at = Q s t
+Came Q Z (Err TermError.Malformed) at = ⊥
+Came Q Z (Err TermError.Overflow) at = Z at
 
 -- the same of a list that has ended
 abbrev pub Ran : (Numbers → ℕ → Type 0) → (ℕ → Type 0) → Ended → Type 0
 Ran Q Z e = Came Q Z e.trial e.at
 
 -- with weaker claims
-pub came_map : (Q R : Numbers → ℕ → Type 0) (Z W : ℕ → Type 0) (x : Trial) (at : ℕ) → ((s : Numbers) (t : ℕ) → Q s t → R s t) → ((j : ℕ) → Z j → W j) → Came Q Z x at → Came R W x at
-came_map Q R Z W (Trial.Running s t) at f g h = f s t h
-came_map Q R Z W Trial.Malformed at f g h = h
-came_map Q R Z W Trial.Overflow at f g h = g at h
+pub came_map : (Q R : Numbers → ℕ → Type 0) (Z W : ℕ → Type 0) (x : Result (Numbers × ℕ) TermError) (at : ℕ) → ((s : Numbers) (t : ℕ) → Q s t → R s t) → ((j : ℕ) → Z j → W j) → Came Q Z x at → Came R W x at
+came_map Q R Z W (Ok (s, t)) at f g h = f s t h
+came_map Q R Z W (Err TermError.Malformed) at f g h = h
+came_map Q R Z W (Err TermError.Overflow) at f g h = g at h
 
 module _ (g : ℕ → ℕ) where
   -- the term that a row is, its variable under the number that g gives for its place
@@ -100,10 +100,10 @@ module _ (g : ℕ → ℕ) where
     part_then : {r : TermRow} {A : List TermRow} → PartRow r → PartRows A → PartRows (r ∷ A)
 
 -- one step, and then whatever follows
-next_both : (Q R : Numbers → ℕ → Type 0) (Z W : ℕ → Type 0) (i : ℕ) (go on : Numbers → ℕ → Ended) (x : Trial) → ((j : ℕ) → Z j → W j) → ((s : Numbers) (t : ℕ) → Ran Q Z (go s t) → Ran R W (on s t)) → Ran Q Z (next go i x) → Ran R W (next on i x)
-next_both Q R Z W i go on (Trial.Running s t) f h p = h s t p
-next_both Q R Z W i go on Trial.Malformed f h p = p
-next_both Q R Z W i go on Trial.Overflow f h p = f i p
+next_both : (Q R : Numbers → ℕ → Type 0) (Z W : ℕ → Type 0) (i : ℕ) (go on : Numbers → ℕ → Ended) (x : Result (Numbers × ℕ) TermError) → ((j : ℕ) → Z j → W j) → ((s : Numbers) (t : ℕ) → Ran Q Z (go s t) → Ran R W (on s t)) → Ran Q Z (next go i x) → Ran R W (next on i x)
+next_both Q R Z W i go on (Ok (s, t)) f h p = h s t p
+next_both Q R Z W i go on (Err TermError.Malformed) f h p = p
+next_both Q R Z W i go on (Err TermError.Overflow) f h p = f i p
 
 module _ (g : ℕ → ℕ) (w : List ℤ) (k : Kind) where
   -- rows from number i on, with s and t waiting
@@ -132,10 +132,10 @@ module _ (g : ℕ → ℕ) (w : List ℤ) (k : Kind) where
   unfolding run
   ran_one Q Z r i s t p = by (step_of k Mode.Sizes w (pos 0) (row_term g r) s t) p
     where
-      by : (x : Trial) → Came Q Z x i → Ran Q Z (next (λ (s' : Numbers) (t' : ℕ). ran (i + 1) [] s' t') i x)
-      by (Trial.Running s' t') q = q
-      by Trial.Malformed q = q
-      by Trial.Overflow q = q
+      by : (x : Result (Numbers × ℕ) TermError) → Came Q Z x i → Ran Q Z (next (λ (s' : Numbers) (t' : ℕ). ran (i + 1) [] s' t') i x)
+      by (Ok (s', t')) q = q
+      by (Err TermError.Malformed) q = q
+      by (Err TermError.Overflow) q = q
 
   part_step : (o : Operation) (s : Numbers) (t : ℕ) → step_of k Mode.Sizes w (pos 0) (Term.Part o) s t ≡ after_of (operate_of Mode.Sizes w o s) t
   part_step o s t = by k
@@ -147,12 +147,12 @@ module _ (g : ℕ → ℕ) (w : List ℤ) (k : Kind) where
 
   -- a part of a calculation that leaves a number
   pub ran_part : (r : TermRow) (o : Operation) (i : ℕ) (s s₀ : Numbers) (t n : ℕ) → row_term g r ≡ Term.Part o → operate_of Mode.Sizes w o s ≡ kept s₀ (bounded (pos n)) → count s₀ < 4
-      → Ran (λ s' t'. (t' ≡ t) × (n ≤ 2 ^ 62) × (pushed s₀ (pos n) ≡ Outcome.Stack s')) (λ at. (at ≡ i) × (2 ^ 62 < n)) (ran i (r ∷ []) s t)
+      → Ran (λ s' t'. (t' ≡ t) × (n ≤ 2 ^ 62) × (pushed s₀ (pos n) ≡ Ok s')) (λ at. (at ≡ i) × (2 ^ 62 < n)) (ran i (r ∷ []) s t)
   ran_part r o i s s₀ t n e f room =
-      ran_one Q Z r i s t (subst (λ (x : Trial). Came Q Z x i) (sym (ap (λ (y : Term). step_of k Mode.Sizes w (pos 0) y s t) e ∙ part_step o s t ∙ ap (λ (y : Outcome). after_of y t) f)) (by (leb n (2 ^ 62)) refl))
+      ran_one Q Z r i s t (subst (λ (x : Result (Numbers × ℕ) TermError). Came Q Z x i) (sym (ap (λ (y : Term). step_of k Mode.Sizes w (pos 0) y s t) e ∙ part_step o s t ∙ ap (λ (y : Result Numbers TermError). after_of y t) f)) (by (leb n (2 ^ 62)) refl))
     where
       Q : Numbers → ℕ → Type 0
-      Q s' t' = (t' ≡ t) × (n ≤ 2 ^ 62) × (pushed s₀ (pos n) ≡ Outcome.Stack s')
+      Q s' t' = (t' ≡ t) × (n ≤ 2 ^ 62) × (pushed s₀ (pos n) ≡ Ok s')
 
       Z : ℕ → Type 0
       Z at = (at ≡ i) × (2 ^ 62 < n)
@@ -176,18 +176,18 @@ ran_marked g w Q R Z [] i s t some parts p h = absurd (omega arith)
 ran_marked g w Q R Z (r ∷ []) i s t some (part_then a no_parts) p h =
     ran_one g w Kind.Set R Z (marked r) i s t (subst (λ (y : Term). Came R Z (step_of Kind.Set Mode.Sizes w (pos 0) y s t) i) (sym a.as_single) (by (operate_of Mode.Sizes w a.part s) before))
   where
-    single : (x : Trial) → Ran Q Z (next (λ (s' : Numbers) (t' : ℕ). ran g w Kind.Set (i + 1) [] s' t') i x) → Came Q Z x i
-    single (Trial.Running s' t') q = q
-    single Trial.Malformed q = q
-    single Trial.Overflow q = q
+    single : (x : Result (Numbers × ℕ) TermError) → Ran Q Z (next (λ (s' : Numbers) (t' : ℕ). ran g w Kind.Set (i + 1) [] s' t') i x) → Came Q Z x i
+    single (Ok (s', t')) q = q
+    single (Err TermError.Malformed) q = q
+    single (Err TermError.Overflow) q = q
 
     before : Came Q Z (after_of (operate_of Mode.Sizes w a.part s) t) i
     before = subst (λ (y : Term). Came Q Z (step_of Kind.Set Mode.Sizes w (pos 0) y s t) i) a.as_part (single (step_of Kind.Set Mode.Sizes w (pos 0) (row_term g r) s t) p)
 
-    by : (x : Outcome) → Came Q Z (after_of x t) i → Came R Z (operated (pos 0) x t) i
-    by (Outcome.Stack s') q = subst (λ (m : ℕ). Came R Z (equal_to (pos 0) (top_of s') t) m) (let z : i + 1 - 1 ≡ i = omega arith in z) (h s' t q)
-    by Outcome.Malformed q = q
-    by Outcome.Overflow q = q
+    by : (x : Result Numbers TermError) → Came Q Z (after_of x t) i → Came R Z (operated (pos 0) x t) i
+    by (Ok s') q = subst (λ (m : ℕ). Came R Z (equal_to (pos 0) (top_of s') t) m) (let z : i + 1 - 1 ≡ i = omega arith in z) (h s' t q)
+    by (Err TermError.Malformed) q = q
+    by (Err TermError.Overflow) q = q
 ran_marked g w Q R Z (r ∷ q ∷ A) i s t some (part_then a parts) p h =
     next_both Q R Z Z i (λ (s' : Numbers) (t' : ℕ). ran g w Kind.Set (i + 1) (q ∷ A) s' t') (λ (s' : Numbers) (t' : ℕ). ran g w Kind.Set (i + 1) (last_marked (q ∷ A)) s' t') (step_of Kind.Set Mode.Sizes w (pos 0) (row_term g r) s t) (λ j z. z)
     (λ s' t' u.

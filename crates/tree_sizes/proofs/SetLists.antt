@@ -13,7 +13,6 @@ use Rattle.term_words.specs.Steps.{equal_to, within, from as on_from, up_to}
 use Rattle.term_words.specs.declared.Joint.{Joint}
 use Rattle.term_words.specs.declared.Kind.{Kind}
 use Rattle.term_words.specs.declared.Numbers.{Numbers}
-use Rattle.term_words.specs.declared.Trial.{Trial}
 use Rattle.tree.specs.Lexemes.{Sign}
 use Rattle.tree.specs.Tree.{Calculation, Item, everything, only, between, from, up_to_bound, SetPart, Choices, item, item_but_item, item_but_set, last_choice, or_choices}
 use Rattle.tree_meaning.specs.Pieces.{terms_of_calculation, Component, whole_number, joined_by, item_parts, set_parts, terms_of}
@@ -25,6 +24,8 @@ use Rattle.tree_sizes.proofs.Tells.{calculation_counts}
 use Rattle.tree_sizes.proofs.Runs.{Came, came_map, ran, ran_none, ran_marked, stop_marked}
 use Rattle.tree_sizes.proofs.Reckoning.{Measured, measured_first, measured_second}
 use Rattle.tree_sizes.proofs.Lists.{Deep, more_deep, noted_is, Tested, Faulty, Passed, Judged, judged_both, judged_as, judged_quiet, judged_sign, judged_join, after_test, reckoned_parts, Left, fault_of, calculation_judged, left_one, left_two, one_room}
+use Rattle.std.specs.Prelude.{Result, Ok}
+use Rattle.term_words.specs.declared.TermError.{TermError}
 
 -- faults of components one after the other
 pub faults_append : (wide : List ℕ → ℕ) (f m : List Component) → calculation_faults wide (f ++ m) ≡ calculation_faults wide f ++ calculation_faults wide m
@@ -67,8 +68,8 @@ module _ (g : ℕ → ℕ) (w : List ℤ) (wide : List ℕ → ℕ) where
       (ran_marked g w (λ s' t'. (F ≡ []) × Left Numbers.Zero t s' t') (λ s' t'. (F ≡ []) × Tested (suc d) s' t') (Faulty i A F) A i Numbers.Zero t (some_calculation a) (reckoned_parts g (calculation_counts a)) (calculation_judged g w wide k a h i Numbers.Zero t (omega arith))
       (λ s' t' q.
       let n = pos q.1.size in
-      let e : Trial.Running Numbers.Zero (t * 2 + _) ≡ equal_to (pos 0) (top_of s') t' = sym (noted_is t d (equals n (pos 0)) deep l) ∙ (λ j. equal_to (pos 0) (top_of (left_one q.1 j)) (sym q.1.tests j)) in
-      subst (λ (x : Trial). Came (λ s'' t''. (F ≡ []) × Tested (suc d) s'' t'') (Faulty i A F) x (i + length A - 1)) e (q.0, (refl, more_deep t d (equals n (pos 0)) deep))))
+      let e : Ok (Numbers.Zero, t * 2 + _) ≡ equal_to (pos 0) (top_of s') t' = sym (noted_is t d (equals n (pos 0)) deep l) ∙ (λ j. equal_to (pos 0) (top_of (left_one q.1 j)) (sym q.1.tests j)) in
+      subst (λ (x : Result (Numbers × ℕ) TermError). Came (λ s'' t''. (F ≡ []) × Tested (suc d) s'' t'') (Faulty i A F) x (i + length A - 1)) e (q.0, (refl, more_deep t d (equals n (pos 0)) deep))))
 
   item_judged : (x : Item) → Measured g w wide (terms_of (item_parts x)) → (i t d : ℕ) → Deep d t → d < 62 → Judged (Tested (suc d)) (calculation_faults wide (item_parts x)) i (item_rows x) (ran g w k i (item_rows x) Numbers.Zero t)
   unfolding Measured item_rows terms_of calculation_faults term_of

@@ -17,7 +17,6 @@ use Rattle.term_words.specs.declared.Kind.{Kind}
 use Rattle.term_words.specs.declared.Operation.{Operation}
 use Rattle.term_words.specs.declared.Term.{Term as WordTerm}
 use Rattle.term_sizes.specs.Sizes.{sizes, count_sizes}
-use Rattle.term_sizes.specs.declared.Sized.{Sized}
 use Rattle.table_layout.specs.Places.{construct_word}
 use Rattle.table_layout.specs.Constructs.{branches, listed, widest_for, construct_of, construct_at}
 use Rattle.table_layout.specs.Attributes.{attributes_of}
@@ -41,6 +40,7 @@ use Rattle.tree_grammar.proofs.Lists.{RowsAt, row_then}
 use Rattle.tree_sizes.proofs.Tells.{SignTag, Tells, told, a_number_row, a_use_row, a_sign_row, skipped}
 use Rattle.tree_sizes.proofs.Reckoning.{Measured}
 use Rattle.tree_sizes.proofs.Founds.{Written}
+use Rattle.std.specs.Prelude.{Ok}
 
 -- ---- a row's three words
 
@@ -198,7 +198,7 @@ module _ {xs ns ts rs ws : List ℕ} {n r : ℕ} (words : Words xs ns ts rs n r 
       ∙ (λ z. own_size ws (construct_of i (p z) (q z) (s z) (t z) (u z) (v z))) ∙ ap (list_size ws) e
 
   -- it has none
-  pub no_list : eqb (kind_of ns i) 8 ≡ false → kind_of ns i < 10 → (kind_of ns i ≡ 3 → node_mark ns i < 4) → own_size ws (construct_at ws i) ≡ Sized.Passes
+  pub no_list : eqb (kind_of ns i) 8 ≡ false → kind_of ns i < 10 → (kind_of ns i ≡ 3 → node_mark ns i < 4) → own_size ws (construct_at ws i) ≡ Ok tt
   no_list e k m =
       let p = construct_is words i h 0 (kind_of ns i) (omega arith) (ap (λ (c : Bool). cond (c && is_signed xs ns i) 12 (kind_of ns i)) e) (omega arith) in
       own_by (kind_of ns i) (construct_word ws i 1) (construct_word ws i 2) (construct_word ws i 3) (construct_word ws i 4) (construct_word ws i 5) p refl refl refl refl refl OwnList.None
@@ -237,7 +237,7 @@ module _ {xs ns ts rs ws : List ℕ} {n r : ℕ} (words : Words xs ns ts rs n r 
           uint_words (OwnList.Set (own_start ns i) (own_start ns i + own_length ns i)) (uint_own i (is_signed xs ns i) (width_of xs ns i) (own_start ns i) (own_start ns i + own_length ns i) (cond (is_binder ns i) (binders_before ns i + 1) 0) p q (omega arith) list_end binder_most)
 
       -- but where its width is wrong
-      pub wrong_list : (leb 1 (width_of xs ns i) && leb (width_of xs ns i) (most_at ns i)) ≡ false → own_size ws (construct_at ws i) ≡ Sized.Passes
+      pub wrong_list : (leb 1 (width_of xs ns i) && leb (width_of xs ns i) (most_at ns i)) ≡ false → own_size ws (construct_at ws i) ≡ Ok tt
       wrong_list p = uint_words OwnList.None (wrong_own i (is_signed xs ns i) (width_of xs ns i) (own_start ns i) (own_start ns i + own_length ns i) (cond (is_binder ns i) (binders_before ns i + 1) 0) p)
 
     -- counts in braces are looked at
@@ -251,11 +251,11 @@ module _ {xs ns ts rs ws : List ℕ} {n r : ℕ} (words : Words xs ns ts rs n r 
   -- ---- its condition
 
   condition_by : (a b : ℕ) → start_word (condition_start ns i) (condition_length ns i) ≡ a → end_word (condition_start ns i) (condition_length ns i) ≡ b → a ≤ 1024 → b ≤ 1024
-      → condition_size ws i ≡ cond (ltb a b) (sizes Kind.Condition (widest ws) a (Held.terms_of ws a b)) Sized.Passes
+      → condition_size ws i ≡ cond (ltb a b) (sizes Kind.Condition (widest ws) a (Held.terms_of ws a b)) (Ok tt)
   condition_by a b p q s t =
       let u = construct_is words i h 6 a (omega arith) (word_6 xs ns rs r i (kind_of ns i) (start_word (condition_start ns i) (condition_length ns i)) (end_word (condition_start ns i) (condition_length ns i)) ∙ p) (omega arith) in
       let v = construct_is words i h 7 b (omega arith) (word_7 xs ns rs r i (kind_of ns i) (start_word (condition_start ns i) (condition_length ns i)) (end_word (condition_start ns i) (condition_length ns i)) ∙ q) (omega arith) in
-      λ z. cond (ltb (u z) (v z)) (sizes Kind.Condition (widest ws) (u z) (Held.terms_of ws (u z) (v z))) Sized.Passes
+      λ z. cond (ltb (u z) (v z)) (sizes Kind.Condition (widest ws) (u z) (Held.terms_of ws (u z) (v z))) (Ok tt)
 
   -- a condition is looked at
   pub condition_list : 0 < condition_length ns i → condition_size ws i ≡ sizes Kind.Condition (widest ws) (condition_start ns i) (Held.terms_of ws (condition_start ns i) (condition_start ns i + condition_length ns i))
@@ -263,10 +263,10 @@ module _ {xs ns ts rs ws : List ℕ} {n r : ℕ} (words : Words xs ns ts rs n r 
       let s = condition_start ns i in
       let e = condition_start ns i + condition_length ns i in
       condition_by s e (ap (λ (x : Bool). cond x s 0) (lt-ltb 0 (condition_length ns i) some)) (ap (λ (x : Bool). cond x e 0) (lt-ltb 0 (condition_length ns i) some)) (omega (arith, list_end)) (omega (arith, list_end))
-      ∙ ap (λ (x : Bool). cond x (sizes Kind.Condition (widest ws) s (Held.terms_of ws s e)) Sized.Passes) (lt-ltb s e (omega arith))
+      ∙ ap (λ (x : Bool). cond x (sizes Kind.Condition (widest ws) s (Held.terms_of ws s e)) (Ok tt)) (lt-ltb s e (omega arith))
 
   -- there is none
-  pub no_condition : condition_length ns i ≡ 0 → condition_size ws i ≡ Sized.Passes
+  pub no_condition : condition_length ns i ≡ 0 → condition_size ws i ≡ Ok tt
   no_condition z =
       let p : ltb 0 (condition_length ns i) ≡ false = le-ltb 0 (condition_length ns i) (omega arith) in
       condition_by 0 0 (ap (λ (x : Bool). cond x (condition_start ns i) 0) p) (ap (λ (x : Bool). cond x (condition_start ns i + condition_length ns i) 0) p) (omega arith) (omega arith)

@@ -11,7 +11,6 @@ use lib.IntN.{ℤ, pos, nat_abs, ◌+ℤ◌, ◌*ℤ◌}
 use lib.ListN.{get_or}
 use Rattle.term_words.specs.declared.Kind.{Kind}
 use Rattle.term_sizes.specs.Sizes.{sizes}
-use Rattle.term_sizes.specs.declared.Sized.{Sized}
 use Rattle.term_trees.specs.Trees.{Calculation as TermCalculation, plus as added, minus as less_by, times as multiplied, ValueSet as TermSet, Condition as TermCondition}
 use Rattle.term_trees.specs.Postfix.{set_terms, condition_terms}
 use Rattle.tree.specs.Tree.{Primary, number, variable, Operand, plain, opposite, Factors, no_factor, times, Product, product, Summands, no_summand, plus, minus, Calculation, sum, Item, everything, only, between, from, up_to_bound, SetPart, Choices, item, item_but_item, item_but_set, last_choice, or_choices, ValueSet, TestPart, tests, test, conjuncts, disjuncts, Tests, compare, test_group, one_test, all_of, any_of, last_conjunct, and_conjuncts, last_disjunct, or_disjuncts, Condition}
@@ -21,6 +20,8 @@ use Rattle.tree_meaning.proofs.Bounds.{times_part}
 use Rattle.tree_meaning.proofs.Passing.{CalculationsFit}
 use Rattle.tree_terms.specs.Terms.{set_after, Before, alone, and_after, or_after, test_after, BeforePart, primary_tree, operand_tree, times_tree, product_tree, sum_tree, calculation_tree, item_tree, set_tree, tests_tree}
 use Rattle.tree_terms.proofs.Small.{size_of, Small, SmallSet, SmallCondition, set_small, condition_small}
+use Rattle.std.specs.Prelude.{Err}
+use Rattle.term_sizes.specs.declared.SizeError.{SizeError}
 
 module _ (numbered widest : List ℕ → ℕ) (w : List ℤ) where
   -- the variables that are used among these terms have their sizes in the list
@@ -208,8 +209,8 @@ module _ (numbered widest : List ℕ → ℕ) (w : List ℤ) where
 
   -- ---- so the size rule passes them
 
-  pub set_fits : {d : ℕ} (x : ValueSet d) → AsWide (terms_of (set_parts x)) → CalculationsFit widest (set_parts x) → (i at : ℕ) → sizes Kind.Set w i (set_terms (set_tree numbered none x)) ≡ Sized.Exceeds at → ⊥
+  pub set_fits : {d : ℕ} (x : ValueSet d) → AsWide (terms_of (set_parts x)) → CalculationsFit widest (set_parts x) → (i at : ℕ) → sizes Kind.Set w i (set_terms (set_tree numbered none x)) ≡ Err (SizeError.Exceeds at) → ⊥
   set_fits x h k i at e = set_small w i (set_tree numbered none x) (set_fine none x tt (all_fine (set_parts x) h k)) at e
 
-  pub condition_fits : {d : ℕ} (x : Condition d) → AsWide (terms_of (tests_parts x)) → CalculationsFit widest (tests_parts x) → (i at : ℕ) → sizes Kind.Condition w i (condition_terms (tests_tree numbered tt x)) ≡ Sized.Exceeds at → ⊥
+  pub condition_fits : {d : ℕ} (x : Condition d) → AsWide (terms_of (tests_parts x)) → CalculationsFit widest (tests_parts x) → (i at : ℕ) → sizes Kind.Condition w i (condition_terms (tests_tree numbered tt x)) ≡ Err (SizeError.Exceeds at) → ⊥
   condition_fits x h k i at e = condition_small w i (tests_tree numbered tt x) (tests_fine tt x tt (all_fine (tests_parts x) h k)) at e

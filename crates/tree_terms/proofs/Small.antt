@@ -18,18 +18,15 @@ use Rattle.term_words.specs.declared.Kind.{Kind}
 use Rattle.term_words.specs.declared.Mode.{Mode}
 use Rattle.term_words.specs.declared.Numbers.{Numbers}
 use Rattle.term_words.specs.declared.Operation.{Operation}
-use Rattle.term_words.specs.declared.Outcome.{Outcome}
-use Rattle.term_words.specs.declared.Pair.{Pair}
 use Rattle.term_words.specs.declared.Term.{Term}
-use Rattle.term_words.specs.declared.Top.{Top}
-use Rattle.term_words.specs.declared.Trial.{Trial}
 use Rattle.term_evaluation.specs.Meaning.{run, last_of, verdict_of}
-use Rattle.term_evaluation.specs.declared.Tested.{Tested}
 use Rattle.term_sizes.specs.Sizes.{of_tested, sizes}
-use Rattle.term_sizes.specs.declared.Sized.{Sized}
 use Rattle.term_trees.specs.Trees.{Calculation, literal, use_of, plus, minus, times, opposite, ValueSet, everything, only, between, from, up_to, either, without, Condition, compare, both, any}
 use Rattle.term_trees.specs.Postfix.{last_sign, before, calculation_terms, set_terms, condition_terms}
 use Rattle.term_trees.proofs.Chains.{chain, ends, run_ends, ends_append, top_of_lem, pair_of_lem}
+use Rattle.std.specs.Prelude.{Option, Some, None, Result, Ok, Err}
+use Rattle.term_words.specs.declared.TermError.{TermError}
+use Rattle.term_sizes.specs.declared.SizeError.{SizeError}
 
 -- ---- sizes of a tree of terms
 
@@ -67,26 +64,26 @@ SmallCondition w (any x y) = SmallCondition w x × SmallCondition w y
 
 -- ---- a list that does not leave 2^62
 
-abbrev pub Calm : (Numbers → ℕ → Type 0) → Trial → Type 0
-Calm P (Trial.Running s t) = P s t
-Calm P Trial.Malformed = Unit {0}
-Calm P Trial.Overflow = ⊥
+abbrev pub Calm : (Numbers → ℕ → Type 0) → Result (Numbers × ℕ) TermError → Type 0
+Calm P (Ok (s, t)) = P s t
+Calm P (Err TermError.Malformed) = Unit {0}
+Calm P (Err TermError.Overflow) = ⊥
 
-calm_chain : (P Q : Numbers → ℕ → Type 0) (go : Numbers → ℕ → Trial) (r : Trial) → Calm P r → ((s : Numbers) (t : ℕ) → P s t → Calm Q (go s t)) → Calm Q (chain go r)
-calm_chain P Q go (Trial.Running s t) p h = h s t p
-calm_chain P Q go Trial.Malformed p h = tt
-calm_chain P Q go Trial.Overflow p h = p
+calm_chain : (P Q : Numbers → ℕ → Type 0) (go : Numbers → ℕ → Result (Numbers × ℕ) TermError) (r : Result (Numbers × ℕ) TermError) → Calm P r → ((s : Numbers) (t : ℕ) → P s t → Calm Q (go s t)) → Calm Q (chain go r)
+calm_chain P Q go (Ok (s, t)) p h = h s t p
+calm_chain P Q go (Err TermError.Malformed) p h = tt
+calm_chain P Q go (Err TermError.Overflow) p h = p
 
-calm_map : (P Q : Numbers → ℕ → Type 0) (r : Trial) → Calm P r → ((s : Numbers) (t : ℕ) → P s t → Q s t) → Calm Q r
-calm_map P Q (Trial.Running s t) p h = h s t p
-calm_map P Q Trial.Malformed p h = tt
-calm_map P Q Trial.Overflow p h = p
+calm_map : (P Q : Numbers → ℕ → Type 0) (r : Result (Numbers × ℕ) TermError) → Calm P r → ((s : Numbers) (t : ℕ) → P s t → Q s t) → Calm Q r
+calm_map P Q (Ok (s, t)) p h = h s t p
+calm_map P Q (Err TermError.Malformed) p h = tt
+calm_map P Q (Err TermError.Overflow) p h = p
 
 -- a number put on the stack
-abbrev Kept : Numbers → ℤ → Outcome → Type 0
-Kept s z (Outcome.Stack s') = pushed s z ≡ Outcome.Stack s'
-Kept s z Outcome.Malformed = Unit {0}
-Kept s z Outcome.Overflow = ⊥
+abbrev Kept : Numbers → ℤ → Result Numbers TermError → Type 0
+Kept s z (Ok s') = pushed s z ≡ Ok s'
+Kept s z (Err TermError.Malformed) = Unit {0}
+Kept s z (Err TermError.Overflow) = ⊥
 
 pushed_kept : (s : Numbers) (z : ℤ) → Kept s z (pushed s z)
 pushed_kept Numbers.Zero z = refl
@@ -102,7 +99,7 @@ variable_kept : (w : List ℤ) (k : ℕ) (s : Numbers) → nat_abs (get_or w k (
 unfolding variable_of
 variable_kept w k s h = go (ltb k (length w))
   where
-    go : (b : Bool) → Kept s (get_or w k (pos 0)) (cond b (kept s (bounded (get_or w k (pos 0)))) Outcome.Malformed)
+    go : (b : Bool) → Kept s (get_or w k (pos 0)) (cond b (kept s (bounded (get_or w k (pos 0)))) (Err TermError.Malformed))
     go true = small_kept s (get_or w k (pos 0)) h
     go false = tt
 
@@ -112,20 +109,20 @@ abbrev Ready : List ℤ → Operation → Numbers → ℕ → ℤ → Numbers �
 Ready w o s t z s' t' = (t' ≡ t) × Kept s z (operate_of Mode.Sizes w o s')
 
 abbrev pub Put : Numbers → ℕ → ℤ → Numbers → ℕ → Type 0
-Put s t z s' t' = (t' ≡ t) × (pushed s z ≡ Outcome.Stack s')
+Put s t z s' t' = (t' ≡ t) × (pushed s z ≡ Ok s')
 
 abbrev pub Two : Numbers → ℕ → ℤ → ℤ → Numbers → ℕ → Type 0
-Two s t a b s' t' = (t' ≡ t) × (pair_of s' ≡ Pair.Of s a b)
+Two s t a b s' t' = (t' ≡ t) × (pair_of s' ≡ Some (s, a, b))
 
 part_step : (k : Kind) (w : List ℤ) (v : ℤ) (o : Operation) (s : Numbers) (t : ℕ) → step_of k Mode.Sizes w v (Term.Part o) s t ≡ after_of (operate_of Mode.Sizes w o s) t
 part_step Kind.Calculation w v o s t = refl
 part_step Kind.Set w v o s t = refl
 part_step Kind.Condition w v o s t = refl
 
-after_put : (s : Numbers) (t t' : ℕ) (z : ℤ) (o : Outcome) → t' ≡ t → Kept s z o → Calm (Put s t z) (after_of o t')
-after_put s t t' z (Outcome.Stack s') e p = (e, p)
-after_put s t t' z Outcome.Malformed e p = tt
-after_put s t t' z Outcome.Overflow e p = p
+after_put : (s : Numbers) (t t' : ℕ) (z : ℤ) (o : Result Numbers TermError) → t' ≡ t → Kept s z o → Calm (Put s t z) (after_of o t')
+after_put s t t' z (Ok s') e p = (e, p)
+after_put s t t' z (Err TermError.Malformed) e p = tt
+after_put s t t' z (Err TermError.Overflow) e p = p
 
 -- whatever waits
 abbrev Any : Numbers → ℕ → Type 0
@@ -141,7 +138,7 @@ module _ (k : Kind) (w : List ℤ) (v : ℤ) where
       → Calm Q (ends k Mode.Sizes w v (xs ++ (x ∷ [])) s t)
   unfolding ends
   calm_last P Q xs x s t p h =
-      calm_append P Q xs (x ∷ []) s t p (λ s' t' q. calm_chain Q Q (λ (s'' : Numbers) (t'' : ℕ). Trial.Running s'' t'') (step_of k Mode.Sizes w v x s' t') (h s' t' q) (λ s'' t'' r. r))
+      calm_append P Q xs (x ∷ []) s t p (λ s' t' q. calm_chain Q Q (λ (s'' : Numbers) (t'' : ℕ). Ok (s'', t'')) (step_of k Mode.Sizes w v x s' t') (h s' t' q) (λ s'' t'' r. r))
 
   put_from : (c : Calculation) (s : Numbers) (t : ℕ) → Calm (Ready w (last_sign c) s t (size_of w c)) (ends k Mode.Sizes w v (before c) s t) → Calm (Put s t (size_of w c)) (ends k Mode.Sizes w v (calculation_terms c) s t)
   put_from c s t r =
@@ -160,7 +157,7 @@ module _ (k : Kind) (w : List ℤ) (v : ℤ) where
       → (s : Numbers) (t : ℕ) → Calm (Ready w o s t (f (size_of w a) (size_of w b))) (ends k Mode.Sizes w v (calculation_terms a ++ calculation_terms b) s t)
   signed_ready f o a b e l p q s t =
       calm_map (Two s t (size_of w a) (size_of w b)) (Ready w o s t (f (size_of w a) (size_of w b))) (ends k Mode.Sizes w v (calculation_terms a ++ calculation_terms b) s t) (two_from a b p q s t)
-      (λ s' t' x. (x.0, subst (Kept s (f (size_of w a) (size_of w b))) (sym (e s')) (subst (λ (y : Pair). Kept s (f (size_of w a) (size_of w b)) (binary f y)) (sym x.1) (small_kept s (f (size_of w a) (size_of w b)) l))))
+      (λ s' t' x. (x.0, subst (Kept s (f (size_of w a) (size_of w b))) (sym (e s')) (subst (λ (y : Option (Numbers × ℤ × ℤ)). Kept s (f (size_of w a) (size_of w b)) (binary f y)) (sym x.1) (small_kept s (f (size_of w a) (size_of w b)) l))))
 
   ready : (c : Calculation) → Small w c → (s : Numbers) (t : ℕ) → Calm (Ready w (last_sign c) s t (size_of w c)) (ends k Mode.Sizes w v (before c) s t)
   unfolding size_of Small before ends
@@ -171,7 +168,7 @@ module _ (k : Kind) (w : List ℤ) (v : ℤ) where
   ready (times a b) h s t = signed_ready ◌*ℤ◌ Operation.Multiply a b (λ s'. refl) h.2 (λ s' t'. put_from a s' t' (ready a h.0 s' t')) (λ s' t'. put_from b s' t' (ready b h.1 s' t')) s t
   ready (opposite a) h s t =
       calm_map (Put s t (size_of w a)) (Ready w Operation.Negate s t (size_of w a)) (ends k Mode.Sizes w v (calculation_terms a) s t) (put_from a s t (ready a h.0 s t))
-      (λ s' t' x. (x.0, subst (λ (p : Top). Kept s (size_of w a) (unary (λ z. z) p)) (sym (top_of_lem s s' (size_of w a) x.1)) (small_kept s (size_of w a) h.1)))
+      (λ s' t' x. (x.0, subst (λ (p : Option (Numbers × ℤ)). Kept s (size_of w a) (unary (λ z. z) p)) (sym (top_of_lem s s' (size_of w a) x.1)) (small_kept s (size_of w a) h.1)))
 
   pub puts : (c : Calculation) → Small w c → Puts c
   puts c h s t = put_from c s t (ready c h s t)
@@ -182,32 +179,32 @@ module _ (k : Kind) (w : List ℤ) (v : ℤ) where
   unfolding noted
   noted_calm s t b = go (ltb t (2 ^ 62)) _
     where
-      go : (x : Bool) (n : ℕ) → Calm Any (cond x (Trial.Running s n) Trial.Malformed)
+      go : (x : Bool) (n : ℕ) → Calm Any (cond x (Ok (s, n)) (Err TermError.Malformed))
       go true n = tt
       go false n = tt
 
-  top_calm : (q : ℤ → Bool) (x : Top) (t : ℕ) → Calm Any (test_top q x t)
-  top_calm q (Top.Of rest a) t = noted_calm rest t (q a)
-  top_calm q Top.Short t = tt
+  top_calm : (q : ℤ → Bool) (x : Option (Numbers × ℤ)) (t : ℕ) → Calm Any (test_top q x t)
+  top_calm q (Some (rest, a)) t = noted_calm rest t (q a)
+  top_calm q None t = tt
 
-  pair_calm : (q : ℤ → ℤ → Bool) (x : Pair) (t : ℕ) → Calm Any (test_pair q x t)
-  pair_calm q (Pair.Of rest a b) t = noted_calm rest t (q a b)
-  pair_calm q Pair.Short t = tt
+  pair_calm : (q : ℤ → ℤ → Bool) (x : Option (Numbers × ℤ × ℤ)) (t : ℕ) → Calm Any (test_pair q x t)
+  pair_calm q (Some (rest, a, b)) t = noted_calm rest t (q a b)
+  pair_calm q None t = tt
 
   combined_calm : (j : Joint) (s : Numbers) (t : ℕ) → Calm Any (combined j s t)
   unfolding combined
   combined_calm j s t = go (ltb t 4) _ _
     where
-      go : (x : Bool) (n : ℕ) (b : Bool) → Calm Any (cond x Trial.Malformed (noted s n b))
+      go : (x : Bool) (n : ℕ) (b : Bool) → Calm Any (cond x (Err TermError.Malformed) (noted s n b))
       go true n b = tt
       go false n b = noted_calm s n b
 
 -- ---- sets and conditions
 
-operated_calm : (v : ℤ) (s : Numbers) (z : ℤ) (o : Outcome) (t : ℕ) → Kept s z o → Calm Any (operated v o t)
-operated_calm v s z (Outcome.Stack s') t p = top_calm Kind.Set [] v (λ a. equals a v) (top_of s') t
-operated_calm v s z Outcome.Malformed t p = tt
-operated_calm v s z Outcome.Overflow t p = p
+operated_calm : (v : ℤ) (s : Numbers) (z : ℤ) (o : Result Numbers TermError) (t : ℕ) → Kept s z o → Calm Any (operated v o t)
+operated_calm v s z (Ok s') t p = top_calm Kind.Set [] v (λ a. equals a v) (top_of s') t
+operated_calm v s z (Err TermError.Malformed) t p = tt
+operated_calm v s z (Err TermError.Overflow) t p = p
 
 module _ (w : List ℤ) (v : ℤ) where
   -- two tests, and the sign that joins them
@@ -243,10 +240,10 @@ module _ (w : List ℤ) (v : ℤ) where
 
 -- ---- so the size rule finds nothing
 
-last_calm : (s : Numbers) (t i at : ℕ) → of_tested (last_of s t) i ≡ Sized.Exceeds at → ⊥
+last_calm : (s : Numbers) (t i at : ℕ) → of_tested (last_of s t) i ≡ Err (SizeError.Exceeds at) → ⊥
 last_calm Numbers.Zero t i at e = two (eqb t 2) (eqb t 3) e
   where
-    two : (a b : Bool) → of_tested (cond a Tested.No (cond b Tested.Yes Tested.Malformed)) i ≡ Sized.Exceeds at → ⊥
+    two : (a b : Bool) → of_tested (cond a (Ok false) (cond b (Ok true) (Err TermError.Malformed))) i ≡ Err (SizeError.Exceeds at) → ⊥
     two true b f = let z : ◌≡◌ {A = ℕ} 0 1 = cc in absurd (omega arith)
     two false true f = let z : ◌≡◌ {A = ℕ} 0 1 = cc in absurd (omega arith)
     two false false f = let z : ◌≡◌ {A = ℕ} 0 1 = cc in absurd (omega arith)
@@ -255,18 +252,18 @@ last_calm (Numbers.Two a b) t i at e = let z : ◌≡◌ {A = ℕ} 0 1 = cc in a
 last_calm (Numbers.Three a b c) t i at e = let z : ◌≡◌ {A = ℕ} 0 1 = cc in absurd (omega arith)
 last_calm (Numbers.Four a b c d) t i at e = let z : ◌≡◌ {A = ℕ} 0 1 = cc in absurd (omega arith)
 
-tests_calm : (r : Trial) (i at : ℕ) → Calm Any r → of_tested (verdict_of r) i ≡ Sized.Exceeds at → ⊥
-tests_calm (Trial.Running s t) i at c e = last_calm s t i at e
-tests_calm Trial.Malformed i at c e = let z : ◌≡◌ {A = ℕ} 0 1 = cc in absurd (omega arith)
-tests_calm Trial.Overflow i at c e = c
+tests_calm : (r : Result (Numbers × ℕ) TermError) (i at : ℕ) → Calm Any r → of_tested (verdict_of r) i ≡ Err (SizeError.Exceeds at) → ⊥
+tests_calm (Ok (s, t)) i at c e = last_calm s t i at e
+tests_calm (Err TermError.Malformed) i at c e = let z : ◌≡◌ {A = ℕ} 0 1 = cc in absurd (omega arith)
+tests_calm (Err TermError.Overflow) i at c e = c
 
-pub set_small : (w : List ℤ) (i : ℕ) (x : ValueSet) → SmallSet w x → (at : ℕ) → sizes Kind.Set w i (set_terms x) ≡ Sized.Exceeds at → ⊥
+pub set_small : (w : List ℤ) (i : ℕ) (x : ValueSet) → SmallSet w x → (at : ℕ) → sizes Kind.Set w i (set_terms x) ≡ Err (SizeError.Exceeds at) → ⊥
 unfolding sizes
 set_small w i x h at e =
     tests_calm (run Kind.Set Mode.Sizes w (pos 0) i (set_terms x) Numbers.Zero 1).trial (run Kind.Set Mode.Sizes w (pos 0) i (set_terms x) Numbers.Zero 1).at at
     (subst (Calm Any) (sym (run_ends Kind.Set Mode.Sizes w (pos 0) (set_terms x) i Numbers.Zero 1)) (set_calm w (pos 0) x h Numbers.Zero 1)) e
 
-pub condition_small : (w : List ℤ) (i : ℕ) (x : Condition) → SmallCondition w x → (at : ℕ) → sizes Kind.Condition w i (condition_terms x) ≡ Sized.Exceeds at → ⊥
+pub condition_small : (w : List ℤ) (i : ℕ) (x : Condition) → SmallCondition w x → (at : ℕ) → sizes Kind.Condition w i (condition_terms x) ≡ Err (SizeError.Exceeds at) → ⊥
 unfolding sizes
 condition_small w i x h at e =
     tests_calm (run Kind.Condition Mode.Sizes w (pos 0) i (condition_terms x) Numbers.Zero 1).trial (run Kind.Condition Mode.Sizes w (pos 0) i (condition_terms x) Numbers.Zero 1).at at

@@ -10,7 +10,6 @@ use Rattle.term_words.specs.declared.Kind.{Kind}
 use Rattle.term_evaluation.specs.Meaning.{membership, condition}
 use Rattle.term_sizes.specs.Sizes.{sizes}
 use Rattle.term_sizes.specs.Inside.{Inside}
-use Rattle.term_sizes.specs.declared.Sized.{Sized}
 use Rattle.term_trees.specs.Postfix.{set_terms, condition_terms}
 use Rattle.term_trees.proofs.Theorems as Worked
 use Rattle.tree.specs.Tree.{ValueSet, Condition}
@@ -22,12 +21,14 @@ use Rattle.tree_terms.specs.Terms.{set_tree, tests_tree}
 use Rattle.tree_terms.proofs.Meanings.{set_means, condition_means}
 use Rattle.tree_terms.proofs.Fitting.{AsWide, set_fits, condition_fits}
 use Rattle.tree_terms.proofs.Rooms.{Known, set_room, condition_room}
+use Rattle.std.specs.Prelude.{Result, Ok, Err, ⊤}
+use Rattle.term_sizes.specs.declared.SizeError.{SizeError}
 
 -- neither of the two others
-passes : (s : Sized) → (s ≡ Sized.Malformed → ⊥) → ((at : ℕ) → s ≡ Sized.Exceeds at → ⊥) → s ≡ Sized.Passes
-passes Sized.Passes m e = refl
-passes Sized.Malformed m e = absurd (m refl)
-passes (Sized.Exceeds at) m e = absurd (e at refl)
+passes : (s : Result ⊤ SizeError) → (s ≡ Err SizeError.Malformed → ⊥) → ((at : ℕ) → s ≡ Err (SizeError.Exceeds at) → ⊥) → s ≡ Ok tt
+passes (Ok u) m e = refl
+passes (Err SizeError.Malformed) m e = absurd (m refl)
+passes (Err (SizeError.Exceeds at)) m e = absurd (e at refl)
 
 module _ (numbered widest : List ℕ → ℕ) (env w : List ℤ) (inside : Inside env w) where
   pub set_worked : {d : ℕ} (x : ValueSet d) → AsWide numbered widest w (terms_of (set_parts x)) → Known numbered (length w) (terms_of (set_parts x)) → CalculationsFit widest (set_parts x) → (n : ℤ) (i : ℕ)

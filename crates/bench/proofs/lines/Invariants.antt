@@ -4,6 +4,3 @@ use Rattle.bench.proofs.lines.Given as goal
 
 abbrev pub invariant-loop-turns : goal.invariant-loop-turns
 invariant-loop-turns l = l.held ≤ max_line + 2
-
-abbrev pub decreases-loop-turns : goal.decreases-loop-turns
-decreases-loop-turns l = l.turns

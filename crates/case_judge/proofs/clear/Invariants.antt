@@ -4,6 +4,3 @@ use Rattle.case_judge.proofs.clear.Given as goal
 
 abbrev pub invariant-loop-k : goal.invariant-loop-k
 invariant-loop-k l = l.k ≤ table_words
-
-abbrev pub decreases-loop-k : goal.decreases-loop-k
-decreases-loop-k l = table_words - l.k

@@ -1,4 +1,5 @@
 use borrow.Author.Rules.{rules}
+use mathlib.Core.Path.{refl}
 use native.Mathlib.Omega.{arith}
 use Rattle.lookahead.proofs.SetLaws.{cleared}
 use Rattle.lookahead.proofs.LeastLaws.{apart_more, least_none, least_found}
@@ -14,11 +15,11 @@ pub returns-then-w-gt0 : goal.returns-then-w-gt0
 returns-then-w-gt0 c =
     let a = c.args in
     least_found a.a.words _ a.b.words (cleared a.a.words c.even.result c.even.ensures)
-    c.loop-i.i c.trailing_zeros.result c.and-w.result (search rules) c.and-w.ensures c.trailing_zeros.ensures
+    c.loop-i.i c.trailing_zeros.result _ (search rules) refl c.trailing_zeros.ensures
     c.loop-i.invariant.0
 
 pub loop-i-preserved : goal.loop-i-preserved
-loop-i-preserved c = (apart_more _ _ c.loop-i.i c.and-w.result c.and-w.ensures (search rules) c.loop-i.invariant.0, search rules)
+loop-i-preserved c = (apart_more _ _ c.loop-i.i _ refl (search rules) c.loop-i.invariant.0, search rules)
 
 pub returns : goal.returns
 returns c =

@@ -5,13 +5,14 @@ use mir.Val.{to_z, of_z}
 use Rattle.term_integers.proofs.Laws.{back}
 use Rattle.term_evaluation.specs.Meaning.{membership}
 use Rattle.term_evaluation.specs.Patterns.{clamped}
-use Rattle.term_evaluation.specs.declared.Tested.{Tested}
 use Rattle.term_evaluation.proofs.Clamping.{membership_clamped}
 use Rattle.table_layout.specs.Held.{terms_of}
 use Rattle.run_actions.specs.Acts.{by_set, kept, number_at}
 use Rattle.run_actions.proofs.Wholes.{kept_number}
 use borrow.Author.Tests.{le-leb, lt-leb}
 use Rattle.run_actions.proofs.bits.Goals as goal
+use Rattle.std.specs.Prelude.{Result, Bool}
+use Rattle.term_words.specs.declared.TermError.{TermError}
 
 pub returns-then-p-width : goal.returns-then-p-width
 returns-then-p-width c =
@@ -25,7 +26,7 @@ returns-then-p-width c =
     c.set_holds-tested.ensures ∙ ap (λ (v : ℤ). membership a.values.now v a.start ts) is ∙ membership_clamped a.values.now x a.start ts in
     let bound : to_z w64 (of_z w64 c.kept.result) ≡ kept a.binder x =
     back c.kept.result c.kept.type_inv ∙ c.kept.ensures ∙ ap (kept a.binder) is ∙ kept_number a.frame.now a.p a.width h a.signed a.binder c.requires.4 in
-    simp (le-leb _ _ h) (c.by_set.ensures ∙ ap₂ (λ (t : Tested) (v : ℤ). by_set t a.width a.binder v) tested bound)
+    simp (le-leb _ _ h) (c.by_set.ensures ∙ ap₂ (λ (t : Result Bool TermError) (v : ℤ). by_set t a.width a.binder v) tested bound)
 
 pub returns : goal.returns
 returns c = simp (lt-leb _ _ c.if-p-width.false)

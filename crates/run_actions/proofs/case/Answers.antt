@@ -1,32 +1,29 @@
 use Prim.Native.Nat.{ℕ, ◌+◌, ◌≤◌}
 use native.Mathlib.Omega.{arith}
 use mathlib.Core.Path.{sym, ◌∙◌, ap}
-use Rattle.term_evaluation.specs.declared.Tested.{Tested}
 use Rattle.run_actions.specs.Acts.{by_case, case_act}
 use Rattle.run_actions.specs.declared.Act.{Act}
 use Rattle.run_actions.proofs.Walks.{positive}
 use Rattle.run_actions.proofs.Parts.{case_end, case_hit, case_missing, case_next}
 use Rattle.run_actions.proofs.case.Goals as goal
+use Rattle.std.specs.Prelude.{Result, Ok, Bool}
+use Rattle.term_words.specs.declared.TermError.{TermError}
 
 -- src/lib.rt:122:15
 pub case_holds-requires : goal.case_holds-requires
 case_holds-requires c = (omega arith, omega arith)
 
 -- src/lib.rt:124:17
-pub returns-in-Yes : goal.returns-in-Yes
-returns-in-Yes c = sym (case_hit c.args.table.now c.args.end c.args.values.now c.loop-j.j (Act.Enter c.loop-j.j) c.loop-j-test.true (λ rest. ap (λ (t : Tested). by_case t c.loop-j.j rest) (sym c.in-Yes.ensures))) ∙ c.loop-j.invariant
+pub returns-then-holds : goal.returns-then-holds
+returns-then-holds c = sym (case_hit c.args.table.now c.args.end c.args.values.now c.loop-j.j (Act.Enter c.loop-j.j) c.loop-j-test.true (λ rest. ap (λ (t : Result Bool TermError). by_case t c.loop-j.j rest) (sym c.in-Ok.ensures ∙ ap Ok c.if-holds.true))) ∙ c.loop-j.invariant
 
 -- src/lib.rt:128:17
-pub returns-in-Malformed : goal.returns-in-Malformed
-returns-in-Malformed c = sym (case_hit c.args.table.now c.args.end c.args.values.now c.loop-j.j Act.Broken c.loop-j-test.true (λ rest. ap (λ (t : Tested). by_case t c.loop-j.j rest) (sym c.in-Malformed.ensures))) ∙ c.loop-j.invariant
-
--- src/lib.rt:131:17
-pub returns-in-Overflow : goal.returns-in-Overflow
-returns-in-Overflow c = sym (case_hit c.args.table.now c.args.end c.args.values.now c.loop-j.j Act.Broken c.loop-j-test.true (λ rest. ap (λ (t : Tested). by_case t c.loop-j.j rest) (sym c.in-Overflow.ensures))) ∙ c.loop-j.invariant
+pub returns-in_default : goal.returns-in_default
+returns-in_default c = sym (case_hit c.args.table.now c.args.end c.args.values.now c.loop-j.j Act.Broken c.loop-j-test.true (λ rest. ap (λ (t : Result Bool TermError). by_case t c.loop-j.j rest) (sym c.in_default.ensures))) ∙ c.loop-j.invariant
 
 -- src/lib.rt:136:13
 pub returns-then-step-eq0 : goal.returns-then-step-eq0
-returns-then-step-eq0 c = sym (case_missing c.args.table.now c.args.end c.args.values.now c.loop-j.j c.loop-j-test.true (sym c.in-No.ensures) (sym c.size_at-step.ensures.0 ∙ c.if-step-eq0.true)) ∙ c.loop-j.invariant
+returns-then-step-eq0 c = sym (case_missing c.args.table.now c.args.end c.args.values.now c.loop-j.j c.loop-j-test.true (sym c.in-Ok.ensures ∙ ap Ok c.if-holds.false) (sym c.size_at-step.ensures.0 ∙ c.if-step-eq0.true)) ∙ c.loop-j.invariant
 
 -- src/lib.rt:121:5
 pub loop-j-smaller : goal.loop-j-smaller
@@ -38,7 +35,7 @@ loop-j-preserved c =
     let e = c.size_at-step.ensures.0 in
     ap (λ (x : ℕ). case_act c.args.table.now c.args.values.now (c.loop-j.j + x) c.args.end) e
     ∙ (sym
-    (case_next c.args.table.now c.args.end c.args.values.now c.loop-j.j c.loop-j-test.true (sym c.in-No.ensures)
+    (case_next c.args.table.now c.args.end c.args.values.now c.loop-j.j c.loop-j-test.true (sym c.in-Ok.ensures ∙ ap Ok c.if-holds.false)
     (λ z. c.if-step-eq0.false (e ∙ z)))
     ∙ c.loop-j.invariant)
 

@@ -5,6 +5,3 @@ use Rattle.run_actions.proofs.literal_holds.Given as goal
 
 abbrev pub invariant-loop-k : goal.invariant-loop-k
 invariant-loop-k l = (literal_holds l.table l.frame l.p l.i l.k (l.n - l.k) ≡ literal_holds l.table l.frame l.p l.i 0 l.n) × (l.k ≤ l.n)
-
-abbrev pub decreases-loop-k : goal.decreases-loop-k
-decreases-loop-k l = l.n - l.k

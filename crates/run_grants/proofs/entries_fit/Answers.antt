@@ -5,34 +5,20 @@ use Rattle.basis.specs.Limits.{max_entries}
 use Rattle.run_grants.proofs.Fitting.{entries_turn, entries_stop, entries_none}
 use Rattle.run_grants.proofs.entries_fit.Goals as goal
 
--- src/lib.rt:67:5
 pub loop-left-init : goal.loop-left-init
 loop-left-init c = (c.requires.1, refl)
 
--- src/lib.rt:68:9
-pub overflow_sub-left : goal.overflow_sub-left
-overflow_sub-left c = omega (arith, c.loop-left-test.true)
-
--- src/lib.rt:69:37
 pub bounds-constructs-left : goal.bounds-constructs-left
 bounds-constructs-left c = omega (arith, c.loop-left-test.true, c.loop-left.invariant.0)
 
--- src/lib.rt:69:55
 pub bounds-passes-left : goal.bounds-passes-left
 bounds-passes-left c = omega (arith, c.loop-left-test.true, c.loop-left.invariant.0)
 
--- src/lib.rt:70:13
 pub returns-then-not-entry_fits : goal.returns-then-not-entry_fits
 returns-then-not-entry_fits c = sym (sym c.loop-left.invariant.1 ∙ entries_stop c.args.table.now c.args.bits c.args.constructs.now c.args.passes.now c.loop-left.left c.loop-left-test.true (sym c.entry_fits.ensures ∙ c.if-not-entry_fits.true))
 
--- src/lib.rt:67:5
-pub loop-left-smaller : goal.loop-left-smaller
-loop-left-smaller c = omega (arith, c.loop-left-test.true)
-
--- src/lib.rt:67:5
 pub loop-left-preserved : goal.loop-left-preserved
 loop-left-preserved c = ((let z : c.loop-left.left - 1 ≤ max_entries = omega (arith, c.loop-left.invariant.0) in z), entries_turn c.args.table.now c.args.bits c.args.constructs.now c.args.passes.now c.loop-left.left c.loop-left-test.true (sym c.entry_fits.ensures ∙ c.if-not-entry_fits.false) ∙ c.loop-left.invariant.1)
 
--- src/lib.rt:56:1
 pub returns : goal.returns
 returns c = sym (sym c.loop-left.invariant.1 ∙ entries_none c.args.table.now c.args.bits c.args.constructs.now c.args.passes.now c.loop-left.left (omega (arith, c.loop-left-test.false)))

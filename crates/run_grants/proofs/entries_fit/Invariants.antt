@@ -6,6 +6,3 @@ use Rattle.run_grants.proofs.entries_fit.Given as goal
 
 abbrev pub invariant-loop-left : goal.invariant-loop-left
 invariant-loop-left l = (l.left ≤ max_entries) × (entries_fit l.table l.bits l.constructs l.passes l.left ≡ entries_fit l.table l.bits l.constructs l.passes l.count)
-
-abbrev pub decreases-loop-left : goal.decreases-loop-left
-decreases-loop-left l = l.left

@@ -6,6 +6,3 @@ use Rattle.run_saved.proofs.read.Given as goal
 
 abbrev pub invariant-loop-left : goal.invariant-loop-left
 invariant-loop-left l = (l.left ≤ l.width) × (l.n ≡ number (l.width - l.left) (drop (l.at + l.left) l.bytes)) × (l.n < 256 ^ (l.width - l.left))
-
-abbrev pub decreases-loop-left : goal.decreases-loop-left
-decreases-loop-left l = l.left

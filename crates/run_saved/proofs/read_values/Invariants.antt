@@ -8,6 +8,3 @@ use Rattle.run_saved.proofs.read_values.Given as goal
 
 abbrev pub invariant-loop-i : goal.invariant-loop-i
 invariant-loop-i l = (l.i ≤ max_variables) × (length l.values ≡ max_variables) × (numbers whole 8 max_variables (drop l.at l.bytes) ≡ sets l.values l.i (numbers whole 8 (max_variables - l.i) (drop (l.at + 8 * l.i) l.bytes)))
-
-abbrev pub decreases-loop-i : goal.decreases-loop-i
-decreases-loop-i l = max_variables - l.i

@@ -34,9 +34,6 @@ load-requires-in-loop-i c = omega (arith, c.loop-i-test.true, c.requires.3, c.re
 pub put-requires-in-loop-i : goal.put-requires-in-loop-i
 put-requires-in-loop-i c = omega (arith, c.loop-i-test.true, c.requires.3, c.requires.0, c.loop-i.invariant.0.same_length, c.put.ensures.same_length)
 
-pub overflow_add-i-in-loop-i-3 : goal.overflow_add-i-in-loop-i-3
-overflow_add-i-in-loop-i-3 c = omega (arith, c.loop-i-test.true, c.requires.3)
-
 pub loop-i-smaller : goal.loop-i-smaller
 loop-i-smaller c = omega (arith, c.loop-i-test.true)
 

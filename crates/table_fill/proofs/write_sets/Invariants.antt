@@ -5,6 +5,3 @@ use Rattle.table_fill.proofs.write_sets.Given as goal
 
 abbrev pub invariant-loop-i : goal.invariant-loop-i
 invariant-loop-i l = SetsWritten l.initial.table l.table l.follow l.prediction l.i × (l.i ≤ l.count)
-
-abbrev pub decreases-loop-i : goal.decreases-loop-i
-decreases-loop-i l = l.count - l.i

@@ -16,10 +16,10 @@ pub empty_body-requires : goal.empty_body-requires
 empty_body-requires c = (c.requires.1, omega (arith, c.loop-i.invariant.2, c.loop-i-test.true))
 
 pub returns-then-empty_body : goal.returns-then-empty_body
-returns-then-empty_body c = let s = c in let ws = s.args.table.now in let l = c.loop-i in let w = c.word-count in let t = c.loop-i-test.true in (s.requires.0, least_of ws (EmptyBody (held ws)) w.result l.i w.ensures.0 t ((empty_iff ws s.args.first.now s.requires.4 l.i (omega (arith, l.invariant.2, t))).0 (c.empty_body.ensures.0 c.if-empty_body.true)) l.invariant.0)
+returns-then-empty_body c = let s = c in let ws = s.args.table.now in let l = c.loop-i in let w = c.word-count in let t = c.loop-i-test.true in (s.requires.0, least_of ws (EmptyBody (held ws)) w.result l.i w.ensures.0 t ((empty_iff ws s.args.first.now s.requires.2 l.i (omega (arith, l.invariant.2, t))).0 (c.empty_body.ensures.0 c.if-empty_body.true)) l.invariant.0)
 
 pub loop-i-preserved : goal.loop-i-preserved
-loop-i-preserved c = let s = c in let l = c.loop-i in let t = c.loop-i-test.true in (below_more _ _ l.invariant.0 (λ b. false≢true (sym c.if-empty_body.false ∙ c.empty_body.ensures.1 ((empty_iff s.args.table.now s.args.first.now s.requires.4 l.i (omega (arith, l.invariant.2, t))).1 b))), omega (arith, t), l.invariant.2)
+loop-i-preserved c = let s = c in let l = c.loop-i in let t = c.loop-i-test.true in (below_more _ _ l.invariant.0 (λ b. false≢true (sym c.if-empty_body.false ∙ c.empty_body.ensures.1 ((empty_iff s.args.table.now s.args.first.now s.requires.2 l.i (omega (arith, l.invariant.2, t))).1 b))), omega (arith, t), l.invariant.2)
 
-pub judge_conflicts-requires : goal.judge_conflicts-requires
-judge_conflicts-requires c = let s = c in let w = c.word-count in (passed9 s.args.table.now s.requires.0 w.result c.loop-i.i w.ensures.0 c.loop-i.invariant.0 c.loop-i-test.false, s.requires.1, s.requires.2, s.requires.3, s.requires.4, s.requires.5, s.requires.6)
+pub returns : goal.returns
+returns c = let s = c in let w = c.word-count in passed9 s.args.table.now s.requires.0 w.result c.loop-i.i w.ensures.0 c.loop-i.invariant.0 c.loop-i-test.false

@@ -10,5 +10,5 @@ first_oversized-requires c = let s = c in (facts s.args.table.now s.requires).lo
 pub returns-in-None : goal.returns-in-None
 returns-in-None c = let s = c in let ws = s.args.table.now in sized ws (record { laid_out = s.requires; acyclic = subst (Found ws) c.in-None.is c.recursive_rule.ensures }) c.word.result c.first_oversized.result c.word.ensures.0 c.first_oversized.ensures
 
-pub returns-in-Rule : goal.returns-in-Rule
-returns-in-Rule c = let ws = c.args.table.now in cyclic ws _ (subst (Found ws) c.in-Rule.is c.recursive_rule.ensures).0
+pub returns-in-Some : goal.returns-in-Some
+returns-in-Some c = let ws = c.args.table.now in cyclic ws _ (subst (Found ws) c.in-Some.is c.recursive_rule.ensures).0

@@ -1,8 +1,6 @@
 use native.Mathlib.Nat.{add-zero}
 use borrow.Author.Tests.{le-ltb, lt-ltb}
 use Rattle.table_layout.specs.Constructs.{construct_at}
-use Rattle.table_layout.proofs.decoded.Reads as decoded-reads
-use Rattle.table_layout.proofs.word.Reads as word-reads
 use Rattle.table_layout.proofs.construct_at.Goals as goal
 
 -- src/lib.rt:209:9

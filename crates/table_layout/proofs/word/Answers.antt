@@ -1,7 +1,6 @@
 use native.Mathlib.Omega.{arith}
 use mathlib.Core.Path.{sym}
 use lib.ListN.{get_or-eq_default}
-use Rattle.table_layout.proofs.wide.Reads as wide-reads
 use Rattle.table_layout.proofs.word.Goals as goal
 
 -- src/lib.rt:40:9

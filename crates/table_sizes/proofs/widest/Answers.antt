@@ -7,9 +7,6 @@ use Rattle.table_sizes.proofs.widest.Goals as goal
 pub loop-x-init : goal.loop-x-init
 loop-x-init c = widening_none c.args.table.now
 
-pub loop-x-smaller : goal.loop-x-smaller
-loop-x-smaller c = omega (arith, c.loop-x-test.true)
-
 pub loop-x-preserved : goal.loop-x-preserved
 loop-x-preserved c = widening_more c.args.table.now c.loop-x.x c.loop-x.sizes c.largest.result c.loop-x.invariant c.loop-x-test.true (c.largest.ensures ∙ ap₂ largest c.variable_word.ensures.0 c.variable_word-in-loop-x.ensures.0)
 

@@ -12,4 +12,4 @@ returns-then-at_most c =
 pub returns-else-at_most : goal.returns-else-at_most
 returns-else-at_most c =
     let h : le_z c.args.a c.args.b ≡ false = sym (read₂ le_z c.args.a c.args.b c.ranges.a.sfits c.ranges.b.sfits c.at_most.ensures) ∙ c.if-at_most.false in
-    equals_not c.args.a c.args.b h
+    c.if-at_most.false ∙ equals_not c.args.a c.args.b h

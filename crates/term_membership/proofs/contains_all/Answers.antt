@@ -11,13 +11,13 @@ loop-at-init c = begins c.args.offset c.args.variables.now c.args.words.now c.ar
 pub apply_all-count-requires : goal.apply_all-count-requires
 apply_all-count-requires c = c.loop-at.invariant.all
 
-pub returns-in-Off : goal.returns-in-Off
-returns-in-Off c =
+pub returns-in_default : goal.returns-in_default
+returns-in_default c =
     let a = c.args in
     let l = c.loop-at in
     λ j h.
     goes_off a.offset a.variables.now a.words.now a.start a.end a.values.now l.at l.numbers l.masks l.count l.invariant c.loop-at-test.true
-    (c.in-Off.ensures ∙ ap (λ (x : Term). turn_of a.offset a.variables.now x l.numbers) c.term_at.ensures) j h
+    (c.in_default.ensures ∙ ap (λ (x : Term). turn_of a.offset a.variables.now x l.numbers) c.term_at.ensures) j h
     ∙ c.nothing.ensures j h
 
 pub loop-at-preserved : goal.loop-at-preserved
@@ -25,8 +25,8 @@ loop-at-preserved c =
     let a = c.args in
     let l = c.loop-at in
     goes_on a.offset a.variables.now a.words.now a.start a.end a.values.now l.at l.numbers l.masks l.count l.invariant c.loop-at-test.true
-    c.in-On.next c.in-On.effect
-    (c.in-On.ensures ∙ ap (λ (x : Term). turn_of a.offset a.variables.now x l.numbers) c.term_at.ensures)
+    c.in-Some.next c.in-Some.effect
+    (c.in-Some.ensures ∙ ap (λ (x : Term). turn_of a.offset a.variables.now x l.numbers) c.term_at.ensures)
     c.apply_all-count.new.masks c.apply_all-count.result c.apply_all-count.ensures
 
 pub bounds-masks-0 : goal.bounds-masks-0

@@ -18,5 +18,5 @@ pub admit_words-requires : goal.admit_words-requires
 admit_words-requires c = (straight c.args.text.now (state_at c.args.c c.args.nodes.now c.args.terms.now c.args.rules.now) c.requires.1 c.encode.new.table c.encode.ensures c.recursive_rule.result c.in-None.is c.recursive_rule.ensures c.requires.0, c.encode.ensures, c.requires.1, c.requires.2, c.requires.3)
 
 -- src/lib.rt:179:1
-pub returns-in-Rule : goal.returns-in-Rule
-returns-in-Rule c = subst (AnsweredRules c.args.text.now c.args.base c.args.table.now c.args.table.now) (sym c.refused_at.ensures) (cyclic c.args.text.now (state_at c.args.c c.args.nodes.now c.args.terms.now c.args.rules.now) c.requires.1 c.args.base c.encode.new.table c.encode.ensures c.recursive_rule.result _ c.in-Rule.is c.recursive_rule.ensures c.requires.0, refl)
+pub returns-in-Some : goal.returns-in-Some
+returns-in-Some c = subst (AnsweredRules c.args.text.now c.args.base c.args.table.now c.args.table.now) (sym c.refused_at.ensures) (cyclic c.args.text.now (state_at c.args.c c.args.nodes.now c.args.terms.now c.args.rules.now) c.requires.1 c.args.base c.encode.new.table c.encode.ensures c.recursive_rule.result _ c.in-Some.is c.recursive_rule.ensures c.requires.0, refl)

@@ -11,10 +11,10 @@ pub loop-i-preserved : goal.loop-i-preserved
 loop-i-preserved c =
     let a = c.args in
     let t = c.loop-i in
-    (next_pass (Has a.body.words) c.join-out.result.words a.body.words t.out.words t.i (λ s. ((λ h. h), (λ h. h))) t.invariant.0 c.join-out.ensures, search rules, search rules)
+    (next_pass (Has a.body.words) c.join-out.result.words a.body.words t.out.words t._i (λ s. ((λ h. h), (λ h. h))) t.invariant.0 c.join-out.ensures, search rules, search rules)
 
 pub returns : goal.returns
 returns c =
     let a = c.args in
     let t = c.loop-i in
-    is_min (Has a.body.words) t.out.words a.k t.i (omega (arith, c.capped-n.ensures)) t.invariant.0
+    is_min (Has a.body.words) t.out.words a.k t._i (omega (arith, c.capped-n.ensures)) t.invariant.0

@@ -19,7 +19,7 @@ bounds-set-x c = whole_index c.args.x c.args.e c.if-e-eq6.true c.requires.1
 pub returns-then-e-eq6 : goal.returns-then-e-eq6
 returns-then-e-eq6 c =
     let a = c.args in
-    run_whole a.set.now a.x a.e c.same.result c.if-e-eq6.true (search rules) c.same.ensures
+    run_whole a.set.now a.x a.e _ c.if-e-eq6.true (search rules) refl
 
 pub overflow_shl-result-2 : goal.overflow_shl-result-2
 overflow_shl-result-2 c = let m = mask_of c.args.e (search rules) in rw m.0 m.2

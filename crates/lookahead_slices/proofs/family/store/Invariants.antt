@@ -1,10 +1,7 @@
-use Prim.Native.Nat.{◌*◌, ◌≤◌, ◌-◌}
+use Prim.Native.Nat.{◌*◌, ◌≤◌}
 use lib.ListN.{get_or}
 use Rattle.lookahead_slices.proofs.WriteLaws.{Written}
 use Rattle.lookahead_slices.proofs.family.store.Given as goal
 
 abbrev pub invariant-loop-k : goal.invariant-loop-k
 invariant-loop-k l = Written (λ m. get_or l.x m 0) l.initial.family (8 * l.i) l.k l.family × (l.k ≤ 8)
-
-abbrev pub decreases-loop-k : goal.decreases-loop-k
-decreases-loop-k l = 8 - l.k

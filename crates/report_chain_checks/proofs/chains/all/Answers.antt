@@ -1,6 +1,6 @@
 use native.Mathlib.Omega.{arith}
 use Prim.Native.Nat.{◌+◌, ◌-◌}
-use mathlib.Core.Path.{◌≡◌, ap, ◌∙◌}
+use mathlib.Core.Path.{◌≡◌, ap}
 use Rattle.report_chain_steps.specs.Told.{told}
 use Rattle.report_chain_steps.proofs.Tails.{tail_is}
 use Rattle.report_chain_checks.proofs.chains.all.Goals as goal

@@ -1,5 +1,5 @@
 use native.Mathlib.Omega.{arith}
-use mathlib.Core.Path.{◌≡◌, sym, ◌∙◌}
+use mathlib.Core.Path.{sym, ◌∙◌}
 use Rattle.report_chain_steps.specs.Told.{steps_of}
 use Rattle.report_chain_steps.proofs.Tails.{last_as}
 use Rattle.report_chain_checks.proofs.chains.at_last.Goals as goal

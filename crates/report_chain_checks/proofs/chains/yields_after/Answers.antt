@@ -1,7 +1,6 @@
 use native.Mathlib.Omega.{arith}
-use mathlib.Core.Bool.{false≢true}
-use mathlib.Core.Path.{◌≡◌, ap, ◌∙◌}
-use mathlib.Core.List.{[], ◌∷◌, ◌++◌}
+use mathlib.Core.Path.{ap, ◌∙◌}
+use mathlib.Core.List.{[]}
 use Rattle.report_chain_steps.specs.Replayed.{rest_of}
 use Rattle.report_chain_steps.proofs.Tails.{tail_lists}
 use Rattle.report_chain_steps.proofs.Rules.{bottom}
@@ -22,9 +21,3 @@ returns-then-at-eq0 c =
     let w = c.is_whole.ensures e in
     tail_lists a.table.now _ c.all-at.result _ [] (after a.i) a.window (c.all-at.ensures (omega (arith, c.if-at-eq0.true))) w.1 w.2 (bottom a.table.now _ c.all-at.result.depth c.if-at-eq0.true)
     (ap rest_of (w.0 ∙ add-one a.i))
-
-pub returns-else-at-eq0 : goal.returns-else-at-eq0
-returns-else-at-eq0 c = λ e. absurd (false≢true e)
-
-pub returns-else-i-lt256 : goal.returns-else-i-lt256
-returns-else-i-lt256 c = λ e. absurd (false≢true e)

@@ -1,7 +1,7 @@
 use native.Mathlib.Omega.{arith}
 use mathlib.Core.Bool.{false≢true}
-use mathlib.Core.Path.{◌≡◌, ap, ◌∙◌}
-use mathlib.Core.List.{[], ◌∷◌, ◌++◌}
+use mathlib.Core.Path.{ap}
+use mathlib.Core.List.{[], ◌∷◌}
 use Rattle.report_chain_steps.specs.Replayed.{rest_of}
 use Rattle.report_chain_steps.proofs.Tails.{tail_lists, tail_is, one_left, told_none, all_told}
 use Rattle.report_chain_meaning.specs.Chains.{nothing}

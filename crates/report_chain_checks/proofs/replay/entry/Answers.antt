@@ -1,4 +1,4 @@
-use mathlib.Core.Path.{◌≡◌, refl, sym, ◌∙◌}
+use mathlib.Core.Path.{refl, sym}
 use Rattle.report_chain_steps.specs.Told.{steps_of}
 use Rattle.report_chain_steps.proofs.Tails.{read_as}
 use Rattle.report_chain_checks.proofs.replay.entry.Goals as goal

@@ -1,5 +1,4 @@
 use native.Mathlib.Omega.{arith}
-use mathlib.Core.Path.{◌≡◌, ◌∙◌}
 use Rattle.report_chain_steps.proofs.Tails.{read_as}
 use Rattle.report_chain_checks.proofs.replay.entry_at.Goals as goal
 

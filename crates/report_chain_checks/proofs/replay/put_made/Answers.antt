@@ -1,4 +1,4 @@
-use mathlib.Core.Path.{◌≡◌, refl, ◌∙◌}
+use mathlib.Core.Path.{refl}
 use Rattle.report_chain_steps.specs.Replayed.{stack}
 use Rattle.report_chain_steps.proofs.Tails.{tail_made}
 use Rattle.report_chain_checks.proofs.replay.put_made.Goals as goal

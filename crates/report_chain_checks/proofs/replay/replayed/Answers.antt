@@ -19,14 +19,8 @@ shape_of-items-then-at-ge-NO_DEPTH c = c.loop-k.invariant.1
 pub returns-then-at-ge-NO_DEPTH : goal.returns-then-at-ge-NO_DEPTH
 returns-then-at-ge-NO_DEPTH c = λ h. absurd (omega (arith, h, c.if-at-ge-NO_DEPTH.true))
 
-pub overflow_sub-k : goal.overflow_sub-k
-overflow_sub-k c = omega (arith, c.loop-k-test.true)
-
 pub entry_at-at-requires : goal.entry_at-at-requires
 entry_at-at-requires c = (omega (arith, c.requires.0, c.loop-k.invariant.0, c.loop-k-test.true), c.requires.1, c.requires.2)
-
-pub loop-k-smaller : goal.loop-k-smaller
-loop-k-smaller c = omega (arith, c.loop-k-test.true)
 
 pub loop-k-preserved : goal.loop-k-preserved
 loop-k-preserved c =

@@ -1,6 +1,6 @@
 use native.Mathlib.Omega.{arith}
 use Prim.Native.Nat.{◌+◌}
-use mathlib.Core.Path.{◌≡◌, sym, ◌∙◌}
+use mathlib.Core.Path.{sym, ◌∙◌}
 use Rattle.report_chain_steps.specs.Replayed.{stack}
 use Rattle.report_chain_steps.proofs.Rules.{moved_last_pass, moved_to, bottom}
 use Rattle.report_chain_checks.proofs.rests.after_last_pass.Goals as goal

@@ -1,7 +1,7 @@
 use native.Mathlib.Omega.{arith}
 use Prim.Native.Nat.{ℕ, ◌+◌}
 use mathlib.Core.Path.{◌≡◌, sym, ap, ◌∙◌}
-use mathlib.Core.List.{List, ◌∷◌, ◌++◌}
+use mathlib.Core.List.{List, ◌++◌}
 use lib.ListN.{replicate}
 use Rattle.report_chain_steps.specs.Replayed.{stack}
 use Rattle.report_chain_steps.proofs.Rules.{moved_pass, moved_to, bottom}

@@ -1,6 +1,6 @@
 use native.Mathlib.Omega.{arith}
 use Prim.Native.Nat.{◌-◌}
-use mathlib.Core.Path.{◌≡◌, refl, sym, ◌∙◌}
+use mathlib.Core.Path.{refl, sym}
 use Rattle.report_chain_steps.specs.Told.{steps_of}
 use Rattle.report_chain_steps.specs.Replayed.{stack}
 use Rattle.report_chain_meaning.specs.Chains.{after}

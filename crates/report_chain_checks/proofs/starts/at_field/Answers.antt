@@ -1,6 +1,6 @@
 use native.Mathlib.Omega.{arith}
 use Prim.Native.Nat.{◌-◌, ◌<◌}
-use mathlib.Core.Path.{◌≡◌, refl, ◌∙◌}
+use mathlib.Core.Path.{◌≡◌, refl}
 use Rattle.report_chain_steps.proofs.Tails.{tail_last}
 use Rattle.report_chain_checks.proofs.starts.at_field.Goals as goal
 

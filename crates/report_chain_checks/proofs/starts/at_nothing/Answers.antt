@@ -1,4 +1,4 @@
-use mathlib.Core.Path.{◌≡◌, refl, ◌∙◌}
+use mathlib.Core.Path.{refl}
 use Rattle.report_chain_steps.proofs.Tails.{tail_nothing}
 use Rattle.report_chain_checks.proofs.starts.at_nothing.Goals as goal
 

@@ -1,5 +1,4 @@
 use native.Mathlib.Omega.{arith}
-use mathlib.Core.Bool.{false≢true}
 use Rattle.report_chain_steps.proofs.Readiness.{of_set, begins_so}
 use Rattle.report_chain_checks.proofs.starts.can_begin.Goals as goal
 
@@ -13,15 +12,3 @@ returns-then-is_field c =
       begins_so a.table.now a.i a.v (omega (arith, c.if-v-gt1.true)) c.if-v-lt512.true q.0
           (of_set a.table.now a.first.now c.requires.1 a.i c.if-i-lt256.true (c.is_field.ensures c.if-is_field.true) q.0 ((c.set_of.ensures.strings q.0).0 q.1)) q.2,
     )
-
-pub returns-else-is_field : goal.returns-else-is_field
-returns-else-is_field c = λ e. absurd (false≢true e)
-
-pub returns-else-v-lt512 : goal.returns-else-v-lt512
-returns-else-v-lt512 c = λ e. absurd (false≢true e)
-
-pub returns-else-v-gt1 : goal.returns-else-v-gt1
-returns-else-v-gt1 c = λ e. absurd (false≢true e)
-
-pub returns-else-i-lt256 : goal.returns-else-i-lt256
-returns-else-i-lt256 c = λ e. absurd (false≢true e)

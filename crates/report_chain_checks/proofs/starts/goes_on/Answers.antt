@@ -1,5 +1,4 @@
 use native.Mathlib.Omega.{arith}
-use mathlib.Core.Bool.{false≢true}
 use Rattle.report_chain_checks.proofs.starts.goes_on.Goals as goal
 
 pub ready-requires : goal.ready-requires
@@ -7,12 +6,3 @@ ready-requires c = (c.requires.0, c.if-depth-le1024.true)
 
 pub returns-then-ready : goal.returns-then-ready
 returns-then-ready c = λ e ws s w. let q = c.has_some.ensures e in (c.ready.ensures c.if-ready.true ws s, (q.0, ((w c.args.j (omega (arith, c.if-j-lt256.true))).strings q.0).0 q.1))
-
-pub returns-else-ready : goal.returns-else-ready
-returns-else-ready c = λ e. absurd (false≢true e)
-
-pub returns-else-depth-le1024 : goal.returns-else-depth-le1024
-returns-else-depth-le1024 c = λ e. absurd (false≢true e)
-
-pub returns-else-j-lt256 : goal.returns-else-j-lt256
-returns-else-j-lt256 c = λ e. absurd (false≢true e)

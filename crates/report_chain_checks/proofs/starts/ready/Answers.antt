@@ -1,7 +1,7 @@
 use native.Mathlib.Omega.{arith}
 use mathlib.Core.Bool.{false≢true}
 use Prim.Native.Nat.{ℕ}
-use mathlib.Core.Path.{◌≡◌, subst, ◌∙◌}
+use mathlib.Core.Path.{◌≡◌, subst}
 use Rattle.report_chain_steps.specs.Replayed.{row, stack, FirstOf}
 use Rattle.report_chain_steps.proofs.Readiness.{none_ready, rows_ready}
 use Rattle.report_chain_checks.proofs.starts.ready.Goals as goal

@@ -1,5 +1,4 @@
-use Prim.Native.Nat.{ℕ, ◌-◌, ◌≤◌}
-use mathlib.Core.Path.{◌≡◌, ◌∙◌}
+use Prim.Native.Nat.{ℕ, ◌≤◌}
 use mathlib.Core.List.{List}
 use Rattle.report_chain_steps.specs.Replayed.{stack, FirstOf}
 use Rattle.table_first_follow.specs.Sets.{FirstSets}
@@ -7,6 +6,3 @@ use Rattle.report_chain_checks.proofs.starts.ready.Given as goal
 
 abbrev pub invariant-loop-d : goal.invariant-loop-d
 invariant-loop-d l = (l.d ≤ l.depth) × ((ws : List ℕ) → FirstSets ws l.first → FirstOf ws (stack ws l.items l.d))
-
-abbrev pub decreases-loop-d : goal.decreases-loop-d
-decreases-loop-d l = l.depth - l.d

@@ -1,5 +1,5 @@
 use native.Mathlib.Omega.{arith}
-use mathlib.Core.Path.{◌≡◌, sym, ◌∙◌}
+use mathlib.Core.Path.{sym, ◌∙◌}
 use Rattle.report_chain_steps.specs.Replayed.{stack}
 use Rattle.report_chain_steps.proofs.Rules.{made_eod}
 use Rattle.report_chain_steps.proofs.constructs.of_eod.Goals as goal

@@ -1,5 +1,5 @@
 use native.Mathlib.Omega.{arith}
-use mathlib.Core.Path.{◌≡◌, sym, ap, ◌∙◌}
+use mathlib.Core.Path.{sym, ap, ◌∙◌}
 use Rattle.report_chain_steps.specs.Replayed.{stack}
 use Rattle.report_chain_steps.specs.Replayed.{counts_at}
 use Rattle.report_chain_steps.proofs.Rules.{made_passes}

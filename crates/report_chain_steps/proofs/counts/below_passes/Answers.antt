@@ -1,5 +1,4 @@
 use native.Mathlib.Omega.{arith}
-use mathlib.Core.Path.{◌≡◌, ◌∙◌}
 use Rattle.report_chain_steps.specs.Replayed.{stack}
 use Rattle.table_layout.specs.Constructs.{construct_at}
 use Rattle.table_layout.specs.Held.{allowed, passes_static}

@@ -1,6 +1,6 @@
 use native.Mathlib.Omega.{arith}
 use Prim.Native.Nat.{ℕ, ◌+◌}
-use mathlib.Core.Path.{◌≡◌, refl, ap, ◌∙◌}
+use mathlib.Core.Path.{refl, ap}
 use Rattle.report_chain_steps.proofs.Widths.{width_small}
 use Rattle.report_chain_steps.proofs.Readiness.{of_bits}
 use Rattle.report_chain_steps.proofs.Tails.{tail_field}

@@ -1,5 +1,5 @@
 use mathlib.Core.Bool.{false≢true}
-use mathlib.Core.Path.{◌≡◌, sym, ◌∙◌}
+use mathlib.Core.Path.{sym, ◌∙◌}
 use Rattle.report_chain_steps.proofs.Readiness.{of_literal, of_range, of_uint}
 use Rattle.report_chain_steps.proofs.fields.is_field.Goals as goal
 

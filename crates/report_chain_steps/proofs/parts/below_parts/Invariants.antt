@@ -1,6 +1,6 @@
 use Prim.Native.Nat.{ℕ, ◌-◌, ◌<◌}
-use mathlib.Core.Path.{◌≡◌, ◌∙◌}
-use mathlib.Core.List.{List, ◌∷◌, ◌++◌}
+use mathlib.Core.Path.{◌≡◌}
+use mathlib.Core.List.{List, ◌++◌}
 use Rattle.table_first_follow.specs.Parts.{siblings}
 use Rattle.report_chain_steps.specs.Replayed.{no_depth, stack}
 use Rattle.report_chain_steps.proofs.parts.below_parts.Given as goal

@@ -4,12 +4,3 @@ use Rattle.report_chain_steps.proofs.stack.put.Goals as goal
 
 pub returns-then-depth-items : goal.returns-then-depth-items
 returns-then-depth-items c = λ h. (omega (arith, c.if-depth-lt1000.true), c.if-i-lt256.true, λ ws. put_on ws c.args.items.now c.args.depth c.args.i c.if-i-lt256.true c.if-depth-items.true)
-
-pub returns-else-depth-items : goal.returns-else-depth-items
-returns-else-depth-items c = λ h. absurd (omega (arith, h))
-
-pub returns-else-i-lt256 : goal.returns-else-i-lt256
-returns-else-i-lt256 c = λ h. absurd (omega (arith, h))
-
-pub returns-else-depth-lt1000 : goal.returns-else-depth-lt1000
-returns-else-depth-lt1000 c = λ h. absurd (omega (arith, h))

@@ -1,5 +1,4 @@
 use mathlib.Core.Bool.{false≢true}
-use mathlib.Core.Path.{◌≡◌, ◌∙◌}
 use Rattle.report_chains.proofs.Cuts.{begun_by}
 use Rattle.report_chains.proofs.strings.begun.Goals as goal
 

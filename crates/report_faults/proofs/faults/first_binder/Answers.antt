@@ -1,4 +1,4 @@
-use Rattle.report_faults.specs.Faults.{binder_if, first_binder}
+use Rattle.report_faults.specs.Faults.{first_binder}
 use Rattle.text_names.proofs.Loops.{least_start, least_turn, least_end}
 use Rattle.report_faults.proofs.faults.first_binder.Goals as goal
 

@@ -1,4 +1,4 @@
-use Rattle.report_faults.specs.Faults.{rule_if, first_rule}
+use Rattle.report_faults.specs.Faults.{first_rule}
 use Rattle.text_names.proofs.Loops.{least_start, least_turn, least_end}
 use Rattle.report_faults.proofs.faults.first_rule.Goals as goal
 

@@ -1,4 +1,4 @@
-use Rattle.report_faults.specs.Faults.{node_if, node_at}
+use Rattle.report_faults.specs.Faults.{node_at}
 use Rattle.text_names.proofs.Loops.{least_start, least_turn, least_end}
 use Rattle.report_faults.proofs.faults.node_at.Goals as goal
 

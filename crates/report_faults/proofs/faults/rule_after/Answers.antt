@@ -1,4 +1,4 @@
-use Rattle.report_faults.specs.Faults.{after_if, rule_after}
+use Rattle.report_faults.specs.Faults.{rule_after}
 use Rattle.text_names.proofs.Loops.{least_start, least_turn, least_end}
 use Rattle.report_faults.proofs.faults.rule_after.Goals as goal
 

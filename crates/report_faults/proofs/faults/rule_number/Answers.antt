@@ -4,4 +4,4 @@ use Rattle.report_faults.proofs.faults.rule_number.Goals as goal
 
 pub returns : goal.returns
 unfolding rule_number
-returns c = (simp (c.one_less.ensures, c.min.ensures, c.rule_after.ensures, c.min-kept.ensures), omega arith)
+returns c = (simp (c.saturating_sub.ensures, c.min.ensures, c.rule_after.ensures, c.min-kept.ensures), omega arith)

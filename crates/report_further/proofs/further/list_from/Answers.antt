@@ -1,4 +1,3 @@
-use Rattle.report_further.specs.Further.{term_from}
 use Rattle.text_names.proofs.Loops.{least_start, least_turn, least_end}
 use Rattle.report_further.proofs.further.list_from.Goals as goal
 

@@ -1,4 +1,3 @@
-use Rattle.report_further.specs.Further.{node_from}
 use Rattle.text_names.proofs.Loops.{least_start, least_turn, least_end}
 use Rattle.report_further.proofs.further.nodes_from.Goals as goal
 

@@ -4,6 +4,3 @@ use Rattle.report_wording.proofs.lines.line_of.Given as goal
 
 abbrev pub invariant-loop-i : goal.invariant-loop-i
 invariant-loop-i l = Walked l.grammar l.at l.i l.before l.start
-
-abbrev pub decreases-loop-i : goal.decreases-loop-i
-decreases-loop-i l = l.at - l.i

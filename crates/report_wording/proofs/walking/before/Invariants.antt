@@ -5,7 +5,4 @@ use Rattle.report_wording.proofs.WalkLaws.{Going}
 use Rattle.report_wording.proofs.walking.before.Given as goal
 
 abbrev pub invariant-loop-tokens : goal.invariant-loop-tokens
-invariant-loop-tokens l = Going l.grammar l.at (before_from max_text_bytes l.grammar l.at l.base started) l.here l.seen l.tokens
-
-abbrev pub decreases-loop-tokens : goal.decreases-loop-tokens
-decreases-loop-tokens l = max_text_bytes - l.tokens
+invariant-loop-tokens l = Going l.grammar l.at (before_from max_text_bytes l.grammar l.at l.base started) l.here l.seen l._tokens

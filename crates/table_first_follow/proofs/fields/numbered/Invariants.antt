@@ -5,6 +5,3 @@ use Rattle.table_first_follow.proofs.fields.numbered.Given as goal
 
 abbrev pub invariant-loop-n : goal.invariant-loop-n
 invariant-loop-n l = Is l.out.words (Numbered l.low l.n Any) × (l.low ≤ l.n) × (l.n ≤ max l.low l.high)
-
-abbrev pub decreases-loop-n : goal.decreases-loop-n
-decreases-loop-n l = l.high - l.n

@@ -6,6 +6,3 @@ use Rattle.table_first_follow.proofs.first.pass.Given as goal
 
 abbrev pub invariant-loop-k : goal.invariant-loop-k
 invariant-loop-k l = Between (first_low l.table) (first_of l.table) l.family
-
-abbrev pub decreases-loop-k : goal.decreases-loop-k
-decreases-loop-k l = length l.order - l.k

@@ -7,6 +7,3 @@ use Rattle.table_first_follow.proofs.first.seeds.Given as goal
 
 abbrev pub invariant-loop-i : goal.invariant-loop-i
 invariant-loop-i l = Planted (first_low l.table) l.i l.family × (l.i ≤ sets_held)
-
-abbrev pub decreases-loop-i : goal.decreases-loop-i
-decreases-loop-i l = sets_held - l.i

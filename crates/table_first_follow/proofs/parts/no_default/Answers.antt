@@ -11,7 +11,7 @@ returns-then-size-eq0 c =
     let a = c.args in
     let l = c.loop-at in
     sym (no_case_left a.table.now [] refl)
-    ∙ (sym (default_later a.table.now l.at (siblings a.table.now l.at a.end) [] (siblings_last a.table.now a.end l.at c.loop-at-test.true (sym c.size_at-size.ensures.0 ∙ c.if-size-eq0.true)) (sym c.conditioned.ensures ∙ c.if-conditioned.true))
+    ∙ (sym (default_later a.table.now l.at (siblings a.table.now l.at a.end) [] (siblings_last a.table.now a.end l.at c.loop-at-test.true (sym c.size_at-size.ensures.0 ∙ c.if-size-eq0.true)) (sym c.conditioned.ensures ∙ c.if-not-conditioned.false))
     ∙ l.invariant)
 
 pub loop-at-smaller : goal.loop-at-smaller
@@ -24,15 +24,15 @@ loop-at-preserved c =
     let e : siblings a.table.now l.at a.end ≡ l.at ∷ siblings a.table.now (l.at + c.size_at-size.result) a.end =
     subst (λ (n : ℕ). siblings a.table.now l.at a.end ≡ l.at ∷ siblings a.table.now (l.at + n) a.end) (sym c.size_at-size.ensures.0)
     (siblings_next a.table.now a.end l.at c.loop-at-test.true (λ z. c.if-size-eq0.false (c.size_at-size.ensures.0 ∙ z))) in
-    sym (default_later a.table.now l.at (siblings a.table.now l.at a.end) (siblings a.table.now (l.at + c.size_at-size.result) a.end) e (sym c.conditioned.ensures ∙ c.if-conditioned.true))
+    sym (default_later a.table.now l.at (siblings a.table.now l.at a.end) (siblings a.table.now (l.at + c.size_at-size.result) a.end) e (sym c.conditioned.ensures ∙ c.if-not-conditioned.false))
     ∙ l.invariant
 
-pub returns-else-conditioned : goal.returns-else-conditioned
-returns-else-conditioned c =
+pub returns-then-not-conditioned : goal.returns-then-not-conditioned
+returns-then-not-conditioned c =
     let a = c.args in
     let l = c.loop-at in
     let x = siblings_first a.table.now a.end l.at c.loop-at-test.true in
-    sym (default_here a.table.now l.at (siblings a.table.now l.at a.end) x.0 x.1 (sym c.conditioned.ensures ∙ c.if-conditioned.false))
+    sym (default_here a.table.now l.at (siblings a.table.now l.at a.end) x.0 x.1 (sym c.conditioned.ensures ∙ c.if-not-conditioned.true))
     ∙ l.invariant
 
 pub returns : goal.returns

@@ -7,6 +7,3 @@ use Rattle.table_first_follow.proofs.prediction.join_all.Given as goal
 
 abbrev pub invariant-loop-i : goal.invariant-loop-i
 invariant-loop-i l = Planted (Predicting l.first l.follow) l.i l.family × (l.i ≤ sets_held)
-
-abbrev pub decreases-loop-i : goal.decreases-loop-i
-decreases-loop-i l = sets_held - l.i

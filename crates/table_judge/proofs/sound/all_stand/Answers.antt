@@ -10,14 +10,11 @@ loop-i-init c = ((λ j h. absurd (omega arith)), omega arith)
 pub stands-requires : goal.stands-requires
 stands-requires c = let s = c in (s.requires.0, s.requires.2, s.requires.3, s.requires.4, s.requires.5, omega (arith, c.loop-i-test.true, c.word-count.ensures.0, s.requires.1))
 
-pub loop-i-smaller : goal.loop-i-smaller
-loop-i-smaller c = omega (arith, c.loop-i-test.true)
-
 pub loop-i-preserved : goal.loop-i-preserved
-loop-i-preserved c = (below_more _ _ c.loop-i.invariant.0 (c.stands.ensures.0 c.if-stands.true), omega (arith, c.loop-i-test.true))
+loop-i-preserved c = (below_more _ _ c.loop-i.invariant.0 (c.stands.ensures.0 c.if-not-stands.false), omega (arith, c.loop-i-test.true))
 
-pub returns-else-stands : goal.returns-else-stands
-returns-else-stands c = ((λ t. absurd (false≢true t)), (λ f. absurd (false≢true (sym c.if-stands.false ∙ c.stands.ensures.1 (f c.loop-i.i (omega (arith, c.loop-i-test.true, c.word-count.ensures.0)))))))
+pub returns-then-not-stands : goal.returns-then-not-stands
+returns-then-not-stands c = ((λ t. absurd (false≢true t)), (λ f. absurd (false≢true (sym c.if-not-stands.true ∙ c.stands.ensures.1 (f c.loop-i.i (omega (arith, c.loop-i-test.true, c.word-count.ensures.0)))))))
 
 pub returns : goal.returns
 returns c = ((λ t j h. c.loop-i.invariant.0 j (omega (arith, h, c.loop-i-test.false, c.word-count.ensures.0))), (λ f. refl))

@@ -1,4 +1,4 @@
-use mathlib.Core.Path.{◌≡◌, refl}
+use mathlib.Core.Path.{refl}
 use Rattle.table_reach.proofs.Rows.{matrix_first, matrix_next, matrix_last}
 use borrow.Author.Rules.{rules}
 use Rattle.table_reach.proofs.reaching.close.Goals as goal

@@ -1,5 +1,5 @@
 use lib.ListN.{length}
-use Prim.Native.Nat.{ℕ, ◌-◌, ◌≤◌}
+use Prim.Native.Nat.{ℕ, ◌≤◌}
 use mathlib.Core.Path.{◌≡◌}
 use Rattle.basis.specs.Limits.{max_rules}
 use Rattle.table_reach.specs.Closure.{Matrix, closure}
@@ -7,6 +7,3 @@ use Rattle.table_reach.proofs.reaching.close.Given as goal
 
 abbrev pub invariant-loop-k : goal.invariant-loop-k
 invariant-loop-k l = (length l.rows ≡ max_rules) × ((u : ℕ → ℕ → ℕ) → Matrix l.initial.rows u → Matrix l.rows (closure u l.k)) × (l.k ≤ max_rules)
-
-abbrev pub decreases-loop-k : goal.decreases-loop-k
-decreases-loop-k l = max_rules - l.k

@@ -1,5 +1,4 @@
-use Prim.Native.Nat.{◌-◌}
-use mathlib.Core.Path.{◌≡◌, ◌∙◌}
+use mathlib.Core.Path.{◌≡◌}
 use Rattle.basis.specs.Limits.{max_literal_bytes}
 use Rattle.table_wellformed.specs.Checks.{from_to}
 use Rattle.table_wellformed.specs.Laid.{byte_laid}
@@ -7,6 +6,3 @@ use Rattle.table_wellformed.proofs.constructs.bytes.Given as goal
 
 abbrev pub invariant-loop-k : goal.invariant-loop-k
 invariant-loop-k l = from_to l.k max_literal_bytes (byte_laid l.table l.i l.n) ≡ from_to 0 max_literal_bytes (byte_laid l.table l.i l.n)
-
-abbrev pub decreases-loop-k : goal.decreases-loop-k
-decreases-loop-k l = max_literal_bytes - l.k

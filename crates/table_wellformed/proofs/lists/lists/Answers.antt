@@ -10,10 +10,10 @@ pub loop-i-init : goal.loop-i-init
 loop-i-init c = let none : c.word-count.result - 0 ≡ c.word-count.result = omega arith in ap (λ (n : ℕ). lists_from n c.args.table.now 0 0) none
 
 pub loop-i-preserved : goal.loop-i-preserved
-loop-i-preserved c = rw c.after_lists-p.ensures (sym (lists_turn c.args.table.now _ _ _ c.loop-i-test.true (sym c.lists_begin.ensures ∙ c.if-lists_begin.true)) ∙ c.loop-i.invariant)
+loop-i-preserved c = rw c.after_lists-p.ensures (sym (lists_turn c.args.table.now _ _ _ c.loop-i-test.true (sym c.lists_begin.ensures ∙ c.if-not-lists_begin.false)) ∙ c.loop-i.invariant)
 
-pub returns-else-lists_begin : goal.returns-else-lists_begin
-returns-else-lists_begin c = sym (lists_stop c.args.table.now _ _ _ c.loop-i-test.true (sym c.lists_begin.ensures ∙ c.if-lists_begin.false)) ∙ c.loop-i.invariant ∙ ap (λ (n : ℕ). lists_from n c.args.table.now 0 0) c.word-count.ensures.0
+pub returns-then-not-lists_begin : goal.returns-then-not-lists_begin
+returns-then-not-lists_begin c = sym (lists_stop c.args.table.now _ _ _ c.loop-i-test.true (sym c.lists_begin.ensures ∙ c.if-not-lists_begin.true)) ∙ c.loop-i.invariant ∙ ap (λ (n : ℕ). lists_from n c.args.table.now 0 0) c.word-count.ensures.0
 
 pub returns : goal.returns
 returns c = ap (eqb c.loop-i.p) c.word.ensures.0 ∙ sym (lists_end c.args.table.now _ _ c.loop-i.p c.loop-i-test.false) ∙ c.loop-i.invariant ∙ ap (λ (n : ℕ). lists_from n c.args.table.now 0 0) c.word-count.ensures.0

@@ -16,13 +16,13 @@ pub overflow_add-j : goal.overflow_add-j
 overflow_add-j c = omega (arith, c.size_at-j.ensures.1)
 
 pub loop-j-smaller : goal.loop-j-smaller
-loop-j-smaller c = let grows : 0 < size_at c.args.table.now c.loop-j.j = ltb-true _ _ (both_first _ _ (sym c.member.ensures ∙ c.if-member.true)) in omega (arith, c.size_at-j.ensures.0)
+loop-j-smaller c = let grows : 0 < size_at c.args.table.now c.loop-j.j = ltb-true _ _ (both_first _ _ (sym c.member.ensures ∙ c.if-not-member.false)) in omega (arith, c.size_at-j.ensures.0)
 
 pub loop-j-preserved : goal.loop-j-preserved
-loop-j-preserved c = let grows : 0 < size_at c.args.table.now c.loop-j.j = ltb-true _ _ (both_first _ _ (sym c.member.ensures ∙ c.if-member.true)) in (rw (c.size_at-j.ensures.0, c.next_variable-x.ensures.0) (walk_turn _ _ _ _ _ _ _ c.loop-j.invariant.0 c.loop-j-test.true (sym c.member.ensures ∙ c.if-member.true)), omega (arith, c.size_at-j.ensures.0, c.next_variable-x.ensures.1))
+loop-j-preserved c = let grows : 0 < size_at c.args.table.now c.loop-j.j = ltb-true _ _ (both_first _ _ (sym c.member.ensures ∙ c.if-not-member.false)) in (rw (c.size_at-j.ensures.0, c.next_variable-x.ensures.0) (walk_turn _ _ _ _ _ _ _ c.loop-j.invariant.0 c.loop-j-test.true (sym c.member.ensures ∙ c.if-not-member.false)), omega (arith, c.size_at-j.ensures.0, c.next_variable-x.ensures.1))
 
-pub returns-else-member : goal.returns-else-member
-returns-else-member c = sym (walk_stop _ _ _ _ _ _ _ c.loop-j.invariant.0 c.loop-j-test.true (sym c.member.ensures ∙ c.if-member.false))
+pub returns-then-not-member : goal.returns-then-not-member
+returns-then-not-member c = sym (walk_stop _ _ _ _ _ _ _ c.loop-j.invariant.0 c.loop-j-test.true (sym c.member.ensures ∙ c.if-not-member.true))
 
 pub returns : goal.returns
 returns c = sym (walk_end _ _ _ _ _ _ _ c.loop-j.invariant.0 c.loop-j-test.false)

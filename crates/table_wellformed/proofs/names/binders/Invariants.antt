@@ -1,5 +1,4 @@
 use Prim.Native.Nat.{◌+◌, ◌-◌, ◌≤◌}
-use mathlib.Core.Path.{◌∙◌}
 use lib.Dec.{eqb}
 use Rattle.table_wellformed.proofs.Walks.{Walking}
 use Rattle.table_wellformed.specs.Rules.{member_laid, next_variable, binders_from}

@@ -16,13 +16,13 @@ pub overflow_add-j : goal.overflow_add-j
 overflow_add-j c = omega (arith, c.size_at-j.ensures.1)
 
 pub loop-j-smaller : goal.loop-j-smaller
-loop-j-smaller c = let grows : 0 < size_at c.args.table.now c.loop-j.j = ltb-true _ _ (both_first _ _ (sym c.part.ensures ∙ c.if-part.true)) in omega (arith, c.size_at-j.ensures.0)
+loop-j-smaller c = let grows : 0 < size_at c.args.table.now c.loop-j.j = ltb-true _ _ (both_first _ _ (sym c.part.ensures ∙ c.if-not-part.false)) in omega (arith, c.size_at-j.ensures.0)
 
 pub loop-j-preserved : goal.loop-j-preserved
-loop-j-preserved c = rw c.size_at-j.ensures.0 (walk_turn _ _ _ _ _ _ _ c.loop-j.invariant c.loop-j-test.true (sym c.part.ensures ∙ c.if-part.true))
+loop-j-preserved c = rw c.size_at-j.ensures.0 (walk_turn _ _ _ _ _ _ _ c.loop-j.invariant c.loop-j-test.true (sym c.part.ensures ∙ c.if-not-part.false))
 
-pub returns-else-part : goal.returns-else-part
-returns-else-part c = sym (walk_stop _ _ _ _ _ _ _ c.loop-j.invariant c.loop-j-test.true (sym c.part.ensures ∙ c.if-part.false))
+pub returns-then-not-part : goal.returns-then-not-part
+returns-then-not-part c = sym (walk_stop _ _ _ _ _ _ _ c.loop-j.invariant c.loop-j-test.true (sym c.part.ensures ∙ c.if-not-part.true))
 
 pub returns : goal.returns
 returns c = sym (walk_end _ _ _ _ _ _ _ c.loop-j.invariant c.loop-j-test.false)

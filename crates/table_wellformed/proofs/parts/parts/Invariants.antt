@@ -1,5 +1,4 @@
 use Prim.Native.Nat.{◌-◌}
-use mathlib.Core.Path.{◌∙◌}
 use lib.Dec.{eqb}
 use Rattle.table_wellformed.specs.Parts.{part_laid, parts_laid}
 use Rattle.table_wellformed.proofs.Walks.{Walking}

@@ -1,11 +1,7 @@
-use Prim.Native.Nat.{◌-◌}
-use mathlib.Core.Path.{◌≡◌, ◌∙◌}
+use mathlib.Core.Path.{◌≡◌}
 use Rattle.table_wellformed.specs.Checks.{from_to}
 use Rattle.table_wellformed.specs.Rules.{rule_laid}
 use Rattle.table_wellformed.proofs.rules.each_rule.Given as goal
 
 abbrev pub invariant-loop-r : goal.invariant-loop-r
 invariant-loop-r l = from_to l.r l.count (rule_laid l.table) ≡ from_to 0 l.count (rule_laid l.table)
-
-abbrev pub decreases-loop-r : goal.decreases-loop-r
-decreases-loop-r l = l.count - l.r

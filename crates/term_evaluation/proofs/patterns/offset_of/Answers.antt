@@ -1,6 +1,7 @@
-use Prim.Native.Nat.{ℕ, zero, suc, ◌-◌, ◌^◌, ◌<◌}
+use Prim.Native.Nat.{ℕ, zero, suc, ◌-◌, ◌^◌, ◌≤◌, ◌<◌}
 use mathlib.Core.Path.{◌≡◌, sym, ap, ap₂, ◌∙◌}
-use mathlib.Core.Bool.{Bool, true}
+use mathlib.Core.Bool.{Bool, true, false}
+use mathlib.Core.Logic.{◌⊎◌, inl, inr}
 use native.Mathlib.Omega.{arith}
 use Rattle.basis.specs.Patterns.{offset}
 use Rattle.term_evaluation.proofs.patterns.offset_of.Goals as goal
@@ -12,8 +13,9 @@ offset-some (suc w) sign h e = let z : suc w - 1 ≡ w = omega arith in ap (2 ^�
 pub returns-then-width-gt0 : goal.returns-then-width-gt0
 returns-then-width-gt0 c = c.power.ensures ∙ offset-some c.args.width c.args.sign c.if-width-gt0.true c.if-sign.true
 
-pub returns-else-width-gt0 : goal.returns-else-width-gt0
-returns-else-width-gt0 c = sym (ap₂ offset c.if-sign.true (let e : c.args.width ≡ 0 = omega arith in e))
+offset-none : (w : ℕ) (sign : Bool) → ((sign ≡ true) × (w ≤ 0)) ⊎ (sign ≡ false) → 0 ≡ offset sign w
+offset-none w sign (inr e) = sym (ap (λ (b : Bool). offset b w) e)
+offset-none w sign (inl h) = sym (ap₂ offset h.0 (let e : w ≡ 0 = omega (arith, h.1) in e))
 
-pub returns-else-sign : goal.returns-else-sign
-returns-else-sign c = sym (ap (λ (b : Bool). offset b c.args.width) c.if-sign.false)
+pub returns : goal.returns
+returns c = offset-none c.args.width c.args.sign c.else-sign.either

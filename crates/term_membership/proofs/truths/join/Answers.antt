@@ -1,4 +1,5 @@
 use Prim.Native.Nat.{ℕ}
+use mathlib.Core.Logic.{⊎_elim}
 use mathlib.Core.Path.{ap₂, ◌∙◌}
 use lib.Dec.{eqb}
 use Rattle.basis.specs.Bits.{digit}
@@ -8,10 +9,9 @@ use Rattle.term_membership.proofs.Rounds.{joined_none, joined_over, joined_anew}
 use Rattle.term_membership.proofs.truths.join.Goals as goal
 
 pub returns-then-count-lt2 : goal.returns-then-count-lt2
-returns-then-count-lt2 c = joined_none c.args.masks.now c.requires c.args.joint c.args.count c.if-count-lt2.true
-
-pub returns-then-count-gt62 : goal.returns-then-count-gt62
-returns-then-count-gt62 c = joined_over c.args.masks.now c.requires c.args.joint c.args.count c.if-count-gt62.true
+returns-then-count-lt2 c =
+    let a = c.args in
+    ⊎_elim (λ h. joined_none a.masks.now c.requires a.joint a.count h) (λ h. joined_over a.masks.now c.requires a.joint a.count h.1) c.then-count-lt2.either
 
 pub returns : goal.returns
 returns c =

@@ -4,6 +4,3 @@ use Rattle.term_prefixes.proofs.marks.fill.Given as goal
 
 abbrev pub invariant-loop-j : goal.invariant-loop-j
 invariant-loop-j l = Filled l.first l.block l.j l.values × (l.j ≤ 64)
-
-abbrev pub decreases-loop-j : goal.decreases-loop-j
-decreases-loop-j l = 64 - l.j

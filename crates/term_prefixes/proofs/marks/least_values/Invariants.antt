@@ -8,6 +8,3 @@ use Rattle.term_prefixes.proofs.marks.least_values.Given as goal
 
 abbrev pub invariant-loop-i : goal.invariant-loop-i
 invariant-loop-i l = Sought (holds_from l.offset l.variables l.start (terms l.words l.start l.end)) l.width (Least l.width (64 * l.i)) l.initial.marks l.marks × (length l.values ≡ 64) × (l.i ≤ 4)
-
-abbrev pub decreases-loop-i : goal.decreases-loop-i
-decreases-loop-i l = 4 - l.i

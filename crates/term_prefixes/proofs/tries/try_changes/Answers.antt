@@ -14,19 +14,19 @@ loop-at-init c =
 pub offer_changes-tried-requires : goal.offer_changes-tried-requires
 offer_changes-tried-requires c = (c.requires.0, c.requires.1, c.loop-at.invariant.ready)
 
-pub returns-in-Off : goal.returns-in-Off
-returns-in-Off c =
+pub returns-in_default : goal.returns-in_default
+returns-in_default c =
     let a = c.args in
     let l = c.loop-at in
-    walk_off (holds_from a.offset a.variables.now a.start (terms a.words.now a.start a.end)) a.width a.offset a.variables.now a.words.now a.start a.end a.old l.tried l.at l.numbers l.invariant c.loop-at-test.true (c.in-Off.ensures ∙ ap (λ (x : Term). turn_of a.offset a.variables.now x l.numbers) c.term_at.ensures)
+    walk_off (holds_from a.offset a.variables.now a.start (terms a.words.now a.start a.end)) a.width a.offset a.variables.now a.words.now a.start a.end a.old l.tried l.at l.numbers l.invariant c.loop-at-test.true (c.in_default.ensures ∙ ap (λ (x : Term). turn_of a.offset a.variables.now x l.numbers) c.term_at.ensures)
 
 pub loop-at-preserved : goal.loop-at-preserved
 loop-at-preserved c =
     let a = c.args in
     let l = c.loop-at in
     walk_on (holds_from a.offset a.variables.now a.start (terms a.words.now a.start a.end)) a.width a.offset a.variables.now a.words.now a.start a.end a.old l.tried l.at l.numbers l.invariant c.loop-at-test.true
-    c.in-On.next c.in-On.effect
-    (c.in-On.ensures ∙ ap (λ (x : Term). turn_of a.offset a.variables.now x l.numbers) c.term_at.ensures)
+    c.in-Some.next c.in-Some.effect
+    (c.in-Some.ensures ∙ ap (λ (x : Term). turn_of a.offset a.variables.now x l.numbers) c.term_at.ensures)
     c.offer_changes-tried.result c.offer_changes-tried.ensures
 
 pub returns : goal.returns

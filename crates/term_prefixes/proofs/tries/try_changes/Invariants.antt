@@ -6,6 +6,3 @@ use Rattle.term_prefixes.proofs.tries.try_changes.Given as goal
 
 abbrev pub invariant-loop-at : goal.invariant-loop-at
 invariant-loop-at l = Walking (holds_from l.offset l.variables l.start (terms l.words l.start l.end)) l.width l.offset l.variables l.words l.start l.end l.initial.tried l.tried l.at l.numbers
-
-abbrev pub decreases-loop-at : goal.decreases-loop-at
-decreases-loop-at l = l.end - l.at

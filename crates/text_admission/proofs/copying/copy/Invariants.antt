@@ -7,6 +7,3 @@ use Rattle.text_admission.proofs.copying.copy.Given as goal
 
 abbrev pub invariant-loop-k : goal.invariant-loop-k
 invariant-loop-k l = (l.k ≤ table_words) × (l.table ≡ paste l.initial.table 0 l.words l.k) × (length l.table ≡ length l.initial.table)
-
-abbrev pub decreases-loop-k : goal.decreases-loop-k
-decreases-loop-k l = table_words - l.k

@@ -7,6 +7,3 @@ use Rattle.text_admission.proofs.extents.nodes_found.Given as goal
 
 abbrev pub invariant-loop-i : goal.invariant-loop-i
 invariant-loop-i l = (l.i ≤ l.n) × (l.q ≡ condition_start l.nodes l.i) × LeastYet l.n (node_found l.text l.nodes l.terms l.table) l.least l.i
-
-abbrev pub decreases-loop-i : goal.decreases-loop-i
-decreases-loop-i l = l.n - l.i

@@ -6,6 +6,3 @@ use Rattle.text_admission.proofs.marks.least_mark.Given as goal
 
 abbrev pub invariant-loop-i : goal.invariant-loop-i
 invariant-loop-i l = Marking l.nodes l.table l.i l.least × (l.i ≤ l.count) × (l.count ≤ max_constructs)
-
-abbrev pub decreases-loop-i : goal.decreases-loop-i
-decreases-loop-i l = l.count - l.i

@@ -1,4 +1,3 @@
-use borrow.Author.Rules.{rules}
 use Rattle.text_encoding.proofs.Joining.{table_written}
 use Rattle.text_encoding.proofs.areas.encode.Goals as goal
 

@@ -1,5 +1,5 @@
 use Prim.Native.Nat.{◌+◌, ◌≤◌}
-use mathlib.Core.Path.{◌≡◌, refl, ap₂}
+use mathlib.Core.Path.{refl, ap₂}
 use native.Mathlib.Omega.{arith}
 use Rattle.text_encoding.specs.Numbers.{lists_length}
 use Rattle.text_encoding.proofs.Sums.{sum_none, sum_next, sum_turn, sum_holds}

@@ -8,6 +8,3 @@ use Rattle.text_encoding.proofs.areas.put_constructs.Given as goal
 
 abbrev pub invariant-loop-i : goal.invariant-loop-i
 invariant-loop-i l = (l.i ≤ l.n) × (l.q ≡ condition_start l.nodes l.i) × Writing l.initial.table constructs_at l.n 0 (construct_words l.text l.nodes l.rules l.r) l.table (constructs_at + 8 * l.i) (l.n - l.i) l.i
-
-abbrev pub decreases-loop-i : goal.decreases-loop-i
-decreases-loop-i l = l.n - l.i

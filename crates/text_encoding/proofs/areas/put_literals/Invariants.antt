@@ -6,6 +6,3 @@ use Rattle.text_encoding.proofs.areas.put_literals.Given as goal
 
 abbrev pub invariant-loop-i : goal.invariant-loop-i
 invariant-loop-i l = (l.i ≤ l.n) × Writing l.initial.table literals_at l.n 0 (literal_words l.text l.nodes) l.table (literals_at + 8 * l.i) (l.n - l.i) l.i
-
-abbrev pub decreases-loop-i : goal.decreases-loop-i
-decreases-loop-i l = l.n - l.i

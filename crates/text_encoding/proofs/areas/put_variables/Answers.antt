@@ -1,5 +1,5 @@
 use Prim.Native.Nat.{◌≤◌}
-use mathlib.Core.Path.{◌≡◌, refl}
+use mathlib.Core.Path.{refl}
 use native.Mathlib.Omega.{arith}
 use Rattle.text_encoding.specs.Numbers.{binds_one}
 use Rattle.text_encoding.proofs.Sums.{sum_none, sum_next}

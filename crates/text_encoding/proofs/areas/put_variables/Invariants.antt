@@ -8,6 +8,3 @@ use Rattle.text_encoding.proofs.areas.put_variables.Given as goal
 
 abbrev pub invariant-loop-i : goal.invariant-loop-i
 invariant-loop-i l = (l.i ≤ l.n) × (l.x ≡ binders_before l.nodes l.i) × Writing l.initial.table variables_at l.n 0 (variable_words l.text l.nodes) l.table (variables_at + 4 * l.x) (l.n - l.i) l.i
-
-abbrev pub decreases-loop-i : goal.decreases-loop-i
-decreases-loop-i l = l.n - l.i

@@ -1,6 +1,5 @@
 use Prim.Native.Nat.{◌+◌, ◌*◌}
 use native.Mathlib.Omega.{arith}
-use borrow.Author.Rules.{rules}
 use Rattle.table_layout.specs.Places.{constructs_at}
 use Rattle.text_encoding.specs.Numbers.{lists_length}
 use Rattle.text_encoding.proofs.Sums.{sum_next}

@@ -5,6 +5,3 @@ use Rattle.text_encoding.proofs.numbers.binder_of.Given as goal
 
 abbrev pub invariant-loop-j : goal.invariant-loop-j
 invariant-loop-j l = Seeking (l.i - l.a) l.a (binds l.text l.nodes l.p) (l.i - l.j) l.j
-
-abbrev pub decreases-loop-j : goal.decreases-loop-j
-decreases-loop-j l = l.i - l.j

@@ -1,7 +1,6 @@
 use Prim.Native.Nat.{◌-◌}
-use mathlib.Core.Path.{◌≡◌, ◌∙◌}
+use mathlib.Core.Path.{◌∙◌}
 use native.Mathlib.Omega.{arith}
-use borrow.Author.Rules.{rules}
 use Rattle.text_encoding.proofs.Sums.{first_at_here, first_at_before, first_at_none}
 use Rattle.text_encoding.proofs.numbers.first_at.Goals as goal
 

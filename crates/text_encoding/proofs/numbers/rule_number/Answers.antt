@@ -1,5 +1,5 @@
 use Prim.Native.Nat.{ℕ}
-use mathlib.Core.Path.{refl, ap, ◌∙◌}
+use mathlib.Core.Path.{◌≡◌, refl, ap, ◌∙◌}
 use native.Mathlib.Omega.{arith}
 use Rattle.text_names.specs.Names.{same_name}
 use Rattle.text_encoding.proofs.Writing.{one_less}
@@ -16,4 +16,4 @@ pub loop-j-preserved : goal.loop-j-preserved
 loop-j-preserved c = seeking_miss c.loop-j.invariant (one_less _ _ c.loop-j-test.true) (c.same.ensures ∙ ap (λ (q : ℕ). same_name c.args.text.now q c.args.p) c.rule_word.ensures) c.if-same.false
 
 pub returns : goal.returns
-returns c = seeking_end c.loop-j.invariant (omega arith)
+returns c = (let z : c.args.count ≡ c.loop-j.j = omega arith in z) ∙ seeking_end c.loop-j.invariant (omega arith)

@@ -1,6 +1,4 @@
 use Prim.Native.Nat.{ℕ, ◌-◌}
-use mathlib.Core.Path.{◌∙◌}
-use borrow.Author.Rules.{rules}
 use Rattle.text_store.specs.Words.{named_at}
 use Rattle.text_names.specs.Names.{same_name}
 use Rattle.text_encoding.proofs.Sums.{Seeking}
@@ -8,6 +6,3 @@ use Rattle.text_encoding.proofs.numbers.rule_number.Given as goal
 
 abbrev pub invariant-loop-j : goal.invariant-loop-j
 invariant-loop-j l = Seeking l.count 0 (λ (k : ℕ). same_name l.text (named_at l.rules k) l.p) (l.count - l.j) l.j
-
-abbrev pub decreases-loop-j : goal.decreases-loop-j
-decreases-loop-j l = l.count - l.j

@@ -1,7 +1,7 @@
 use Rattle.text_parsing.proofs.Steps.{then}
 use Rattle.text_parsing.proofs.Loops.{still_start, turn_falls}
 use Rattle.text_formulas.proofs.Calculating.{factors_turn, factors_end}
-use mathlib.Core.List.{[], ◌∷◌}
+use mathlib.Core.List.{[]}
 use mathlib.Core.Path.{refl}
 use Rattle.text_formulas.proofs.calculations.factors.Goals as goal
 

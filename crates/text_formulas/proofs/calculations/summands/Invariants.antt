@@ -3,12 +3,6 @@ use Rattle.text_parsing.specs.Cursors.{left}
 use Rattle.text_parsing.proofs.Loops.{Still}
 use Prim.Native.Nat.{ℕ}
 use mathlib.Core.List.{List, [], ◌∷◌}
-use mathlib.Core.Path.{◌∙◌}
-use Rattle.text_formulas.proofs.calculations.factors.Reads as factors-reads
-use Rattle.text_formulas.proofs.calculations.operand.Reads as operand-reads
-use Rattle.text_formulas.proofs.calculations.sum_tag.Reads as sum-tag-reads
-use Rattle.text_parsing.proofs.reading.passed.Reads as Passed-reads
-use Rattle.text_parsing.proofs.words.add_sign.Reads as add-sign-reads
 use Rattle.text_formulas.proofs.calculations.summands.Given as goal
 
 abbrev pub invariant-loop-tag : goal.invariant-loop-tag

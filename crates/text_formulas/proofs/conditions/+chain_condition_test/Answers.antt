@@ -1,3 +1,4 @@
+use native.Mathlib.Omega.{arith}
 use Rattle.std.proofs.Common.{[]}
 use Rattle.text_parsing.proofs.Steps.{then}
 use Rattle.text_parsing.proofs.Loops.{turn_falls}
@@ -13,20 +14,20 @@ chain-loop-c-preserved t c = chain_turn c.args.code c.args.tag c.args.d c.requir
 pub chain-returns : goal.chain-returns
 chain-returns t c = chain_end c.args.code c.args.tag c.args.d c.loop-c.invariant c.loop-c-test.false
 
-pub condition-returns-then-r-eq38 : goal.condition-returns-then-r-eq38
-condition-returns-then-r-eq38 t c = condition_and c.args.d c.test-r.ensures c.if-r-eq38.true c.chain.ensures
+pub condition-returns-in-38 : goal.condition-returns-in-38
+condition-returns-in-38 t c = condition_and c.args.d c.test-r.ensures c.in-38.is c.chain.ensures
 
-pub condition-returns-then-r-eq124 : goal.condition-returns-then-r-eq124
-condition-returns-then-r-eq124 t c = condition_or c.args.d c.test-r.ensures c.if-r-eq124.true c.chain-then-r-eq124.ensures
+pub condition-returns-in-124 : goal.condition-returns-in-124
+condition-returns-in-124 t c = condition_or c.args.d c.test-r.ensures c.in-124.is c.chain-in-124.ensures
 
-pub condition-returns : goal.condition-returns
-condition-returns t c = condition_only c.args.d c.test-r.ensures c.if-r-eq38.false c.if-r-eq124.false
+pub condition-returns-in_default : goal.condition-returns-in_default
+condition-returns-in_default t c = condition_only c.args.d c.test-r.ensures (λ z. omega (arith, z)) (λ z. omega (arith, z))
 
-pub test-returns-then-d-lt-MAX_NESTING : goal.test-returns-then-d-lt-MAX_NESTING
-test-returns-then-d-lt-MAX_NESTING t c = test_group c.args.d c.if-c-eq40.true c.if-d-lt-MAX_NESTING.true c.passed.ensures c.condition-r.ensures c.want.ensures.0
+pub test-returns-in-40 : goal.test-returns-in-40
+test-returns-in-40 t c = test_group c.args.d c.in-40.is c.if-d-lt-MAX_NESTING.true c.passed.ensures c.condition-r.ensures c.want.ensures.0
 
-pub test-returns-then-c-eq40 : goal.test-returns-then-c-eq40
-test-returns-then-c-eq40 t c = test_deep c.args.d c.if-c-eq40.true c.if-d-lt-MAX_NESTING.false c.failed.ensures
+pub test-returns-in-40-2 : goal.test-returns-in-40-2
+test-returns-in-40-2 t c = test_deep c.args.d c.in-40.is c.if-d-lt-MAX_NESTING.false c.failed.ensures
 
-pub test-returns : goal.test-returns
-test-returns t c = test_plain c.args.d c.if-c-eq40.false c.calculation-r.ensures c.comparison.ensures
+pub test-returns-in_default : goal.test-returns-in_default
+test-returns-in_default t c = test_plain c.args.d (λ z. omega (arith, z)) c.calculation-r.ensures c.comparison.ensures

@@ -1,3 +1,4 @@
+use native.Mathlib.Omega.{arith}
 use Rattle.std.proofs.Common.{[], refl}
 use Rattle.text_parsing.proofs.Steps.{then}
 use Rattle.text_parsing.proofs.Loops.{turn_falls}
@@ -10,14 +11,14 @@ alternative-returns-then-a-eq33 t c = alternative_with c.args.d c.item-a.ensures
 pub alternative-returns : goal.alternative-returns
 alternative-returns t c = alternative_only c.args.d c.item-a.ensures c.if-a-eq33.false
 
-pub excluded-returns-then-d-lt-MAX_NESTING : goal.excluded-returns-then-d-lt-MAX_NESTING
-excluded-returns-then-d-lt-MAX_NESTING t c = excluded_set c.args.d c.if-c-eq40.true c.if-d-lt-MAX_NESTING.true c.passed.ensures c.value_set-r.ensures c.want.ensures.0
+pub excluded-returns-in-40 : goal.excluded-returns-in-40
+excluded-returns-in-40 t c = excluded_set c.args.d c.in-40.is c.if-d-lt-MAX_NESTING.true c.passed.ensures c.value_set-r.ensures c.want.ensures.0
 
-pub excluded-returns-then-c-eq40 : goal.excluded-returns-then-c-eq40
-excluded-returns-then-c-eq40 t c = excluded_deep c.args.d c.if-c-eq40.true c.if-d-lt-MAX_NESTING.false c.failed.ensures
+pub excluded-returns-in-40-2 : goal.excluded-returns-in-40-2
+excluded-returns-in-40-2 t c = excluded_deep c.args.d c.in-40.is c.if-d-lt-MAX_NESTING.false c.failed.ensures
 
-pub excluded-returns : goal.excluded-returns
-excluded-returns t c = excluded_item c.args.d c.if-c-eq40.false c.item.ensures
+pub excluded-returns-in_default : goal.excluded-returns-in_default
+excluded-returns-in_default t c = excluded_item c.args.d (λ z. omega (arith, z)) c.item.ensures
 
 pub value_set-loop-c-smaller : goal.value_set-loop-c-smaller
 value_set-loop-c-smaller t c = turn_falls c.loop-c.c (rw c.loop-c-test.true refl) c.passed.ensures (then (c.alternative-r.ensures []) (c.add_sign-c.ensures c.args.text.now []))

@@ -1,11 +1,6 @@
-use Prim.Native.Nat.{◌-◌}
-use borrow.Author.Rules.{rules}
 use Rattle.text_names.specs.Limits.{limit_place}
 use Rattle.text_names.proofs.Loops.{Least}
 use Rattle.text_names.proofs.limits.first_past.Given as goal
 
 abbrev pub invariant-loop-k : goal.invariant-loop-k
 invariant-loop-k l = Least 0 l.count (limit_place l.rules) l.least l.k
-
-abbrev pub decreases-loop-k : goal.decreases-loop-k
-decreases-loop-k l = l.count - l.k

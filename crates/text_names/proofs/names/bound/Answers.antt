@@ -1,4 +1,3 @@
-use Rattle.text_names.specs.Names.{binds}
 use Rattle.text_names.proofs.Loops.{any_start, any_hit, any_miss, any_end}
 use Rattle.text_names.proofs.names.bound.Goals as goal
 

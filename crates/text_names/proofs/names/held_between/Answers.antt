@@ -1,4 +1,3 @@
-use Rattle.text_names.specs.Names.{held}
 use Rattle.text_names.proofs.Loops.{any_start, any_hit, any_miss, any_end}
 use Rattle.text_names.proofs.names.held_between.Goals as goal
 

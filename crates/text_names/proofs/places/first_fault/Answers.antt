@@ -1,4 +1,3 @@
-use Rattle.text_names.specs.Names.{rule_place}
 use Rattle.text_names.proofs.Loops.{least_start, least_turn, least_end}
 use Rattle.text_names.proofs.places.first_fault.Goals as goal
 

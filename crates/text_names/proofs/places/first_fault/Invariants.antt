@@ -1,11 +1,6 @@
-use Prim.Native.Nat.{◌-◌}
-use borrow.Author.Rules.{rules}
 use Rattle.text_names.specs.Names.{rule_place}
 use Rattle.text_names.proofs.Loops.{Least}
 use Rattle.text_names.proofs.places.first_fault.Given as goal
 
 abbrev pub invariant-loop-k : goal.invariant-loop-k
 invariant-loop-k l = Least 0 l.count (rule_place l.text l.nodes l.terms l.rules l.count) l.least l.k
-
-abbrev pub decreases-loop-k : goal.decreases-loop-k
-decreases-loop-k l = l.count - l.k

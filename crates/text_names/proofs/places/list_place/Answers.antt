@@ -1,4 +1,3 @@
-use Rattle.text_names.specs.Names.{term_place}
 use Rattle.text_names.proofs.Loops.{least_start, least_turn, least_end}
 use Rattle.text_names.proofs.places.list_place.Goals as goal
 

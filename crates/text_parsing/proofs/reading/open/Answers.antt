@@ -2,10 +2,8 @@ use native.Mathlib.Omega.{arith}
 use Rattle.text_parsing.proofs.Steps.{paren_reads, paren_deep}
 use Rattle.text_parsing.proofs.reading.open.Goals as goal
 
--- src/reading.rt:92:9
 pub returns-then-d-lt-MAX_NESTING : goal.returns-then-d-lt-MAX_NESTING
 returns-then-d-lt-MAX_NESTING c = paren_reads (omega (arith, c.if-d-lt-MAX_NESTING.true)) c.want.ensures.0
 
--- src/reading.rt:88:1
-pub returns : goal.returns
-returns c = paren_deep (omega (arith, c.if-d-lt-MAX_NESTING.false)) c.failed.ensures
+pub returns-else-d-lt-MAX_NESTING : goal.returns-else-d-lt-MAX_NESTING
+returns-else-d-lt-MAX_NESTING c = paren_deep (omega (arith, c.if-d-lt-MAX_NESTING.false)) c.failed.ensures

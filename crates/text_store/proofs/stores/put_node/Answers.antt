@@ -1,6 +1,6 @@
 use Rattle.basis.specs.Limits.{max_constructs}
 use Rattle.text_store.proofs.Putting.{node_put}
-use Rattle.text_store.specs.Store.{put_words, put_node}
+use Rattle.text_store.specs.Store.{put_node}
 use borrow.Author.Tests.{le-ltb}
 use Rattle.text_store.proofs.stores.put_node.Goals as goal
 

@@ -1,6 +1,7 @@
 use Rattle.std.proofs.Common.{[], refl, sym, ◌∙◌}
 use Rattle.text_parsing.proofs.Loops.{turn_falls}
 use Rattle.text_syntax.proofs.Chains.{expression_reads, concatenation_reads, branches_turn, members_turn, factor_reads, atom_group, atom_switch, group_deep, switch_deep, case_reads, cases_turn, ending_default, ending_plain, case_falls}
+use Rattle.text_syntax.proofs.expressions.+case_concatenation_ending_expression_factor_item_switch.Goals.{item-in-40+else-d-lt-MAX_NESTING, item-in-91+else-d-lt-MAX_NESTING-2}
 use Rattle.text_syntax.proofs.expressions.+case_concatenation_ending_expression_factor_item_switch.Goals as goal
 
 pub case-returns-clause-reads : goal.case-returns-clause-reads
@@ -36,17 +37,18 @@ expression-returns t c = expression_reads c.args.d c.loop-c.many c.concatenation
 pub factor-returns : goal.factor-returns
 factor-returns t c = factor_reads c.args.d c.item-r.ensures c.mark.ensures
 
-pub item-returns-then-d-lt-MAX_NESTING : goal.item-returns-then-d-lt-MAX_NESTING
-item-returns-then-d-lt-MAX_NESTING t c = atom_group c.args.d c.if-c-eq40.true c.if-d-lt-MAX_NESTING.true c.passed.ensures c.expression-r.ensures c.want.ensures.0
+pub item-returns-in-40 : goal.item-returns-in-40
+item-returns-in-40 t c = atom_group c.args.d c.in-40.is c.if-d-lt-MAX_NESTING.true c.passed.ensures c.expression-r.ensures c.want.ensures.0
 
-pub item-returns-then-c-eq40 : goal.item-returns-then-c-eq40
-item-returns-then-c-eq40 t c = group_deep c.args.d c.if-c-eq40.true c.if-d-lt-MAX_NESTING.false c.failed.ensures
+pub item-returns-in-91 : goal.item-returns-in-91
+item-returns-in-91 t c = atom_switch c.args.d c.in-91.is c.if-d-lt-MAX_NESTING-2.true c.passed-in-91.ensures c.switch.ensures
 
-pub item-returns-then-d-lt-MAX_NESTING-2 : goal.item-returns-then-d-lt-MAX_NESTING-2
-item-returns-then-d-lt-MAX_NESTING-2 t c = atom_switch c.args.d c.if-c-eq91.true c.if-d-lt-MAX_NESTING-2.true c.passed-then-d-lt-MAX_NESTING-2.ensures c.switch.ensures
-
-pub item-returns-then-c-eq91 : goal.item-returns-then-c-eq91
-item-returns-then-c-eq91 t c = switch_deep c.args.d c.if-c-eq91.true c.if-d-lt-MAX_NESTING-2.false c.failed-then-c-eq91.ensures
+pub item-returns-in-40-2 : goal.item-returns-in-40-2
+item-returns-in-40-2 t c =
+    elim c.in-40-2-1.branch [
+      | item-in-40+else-d-lt-MAX_NESTING w ↦ group_deep c.args.d w.in-40.is w.if-d-lt-MAX_NESTING.false c.failed.ensures
+      | item-in-91+else-d-lt-MAX_NESTING-2 w ↦ switch_deep c.args.d w.in-91.is w.if-d-lt-MAX_NESTING-2.false c.failed.ensures
+    ]
 
 pub switch-loop-nodes-preserved : goal.switch-loop-nodes-preserved
 switch-loop-nodes-preserved t c = cases_turn c.args.d c.args.p c.args.i c.loop-nodes.invariant (sym c.further.ensures ∙ c.loop-nodes-test.true) c.case-c-in-loop-nodes.ensures.reads

@@ -1,4 +1,4 @@
-use Rattle.std.proofs.Common.{[], ◌∷◌, ℕ, ◌+◌, ◌-◌, ◌*◌, false}
+use Rattle.std.proofs.Common.{[], ◌∷◌, ◌+◌, ◌-◌, ◌*◌, false}
 use Rattle.text_parsing.specs.Cursors.{left}
 use Rattle.text_parsing.specs.Symbols.{members, branches, cases}
 use Rattle.text_syntax.proofs.Chains.{Moves}

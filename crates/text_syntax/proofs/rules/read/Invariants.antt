@@ -1,11 +1,5 @@
 use Rattle.text_syntax.proofs.Ruling.{Begun}
-use mathlib.Core.Path.{◌∙◌}
-use borrow.Author.Rules.{rules}
 use Rattle.text_parsing.specs.Cursors.{left}
-use Rattle.text_parsing.proofs.reading.first.Reads as first_reads
-use Rattle.text_parsing.proofs.reading.name.Reads as name-reads
-use Rattle.text_syntax.proofs.rules.rule.Reads as rule_reads
-use Rattle.text_syntax.proofs.rules.text_end.Reads as text-end-reads
 use Rattle.text_syntax.proofs.rules.read.Given as goal
 
 abbrev pub invariant-loop-any : goal.invariant-loop-any

@@ -1,4 +1,3 @@
-use borrow.Author.Rules.{rules}
 use Rattle.text_tokens.specs.Tokens.{token_from, token_of}
 use mathlib.Core.Path.{sym, ap, ◌∙◌}
 use Rattle.text_tokens.proofs.Found.{from_some, from_none}

@@ -1,9 +1,0 @@
-use native.Mathlib.Omega.{arith}
-use borrow.Author.Tests.{le-leb, le-ltb, lt-leb, lt-ltb}
-use Rattle.table_wellformed.proofs.names.next_variable.Goals as goal
-
-pub returns-then-binder-gt0 : goal.returns-then-binder-gt0
-returns-then-binder-gt0 c = (simp (lt-ltb _ _ c.if-binder-gt0.true, lt-leb _ _ c.if-binder-gt0.true, ← c.binder.ensures, ← c.construct_at.ensures), omega arith)
-
-pub returns : goal.returns
-returns c = (simp (le-leb _ _ c.if-binder-gt0.false, le-ltb _ _ c.if-binder-gt0.false, ← c.binder.ensures, ← c.construct_at.ensures), omega arith)
