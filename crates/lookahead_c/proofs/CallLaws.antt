@@ -25,12 +25,12 @@ pub no_room : (sets : List ℕ) → length sets < 16 → Least sets 0
 no_room sets h = record { no_room = λ l. refl; found = λ l p. absurd (omega arith); least = λ l. absurd (omega arith) }
 
 module _ (sets x y : List ℕ) (p : x ≡ part 0 sets) (q : y ≡ part 1 sets) where
-  none : LeastCommon x y None → Least sets 0
+  pub none : LeastCommon x y None → Least sets 0
   none i =
       let j : LeastCommon (part 0 sets) (part 1 sets) None = subst₂ (λ (a b : List ℕ). LeastCommon a b None) p q i in
       record { no_room = λ l. refl; found = λ l z. absurd (omega arith); least = λ l s a b. absurd (j s a b) }
 
-  some : (n : ℕ) → 16 ≤ length sets → LeastCommon x y (Some n) → Least sets n
+  pub some : (n : ℕ) → 16 ≤ length sets → LeastCommon x y (Some n) → Least sets n
   some n h i =
       let j : LeastCommon (part 0 sets) (part 1 sets) (Some n) = subst₂ (λ (a b : List ℕ). LeastCommon a b (Some n)) p q i in
       record { no_room = λ l. absurd (omega arith); found = λ l z. j.0; least = λ l s a b. (omega (arith, number_pos j.0.0, j.0.1), j.1 s a b) }

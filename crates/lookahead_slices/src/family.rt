@@ -9,7 +9,10 @@ pub fn load(family: &[u64], i: usize) -> Set
     ensures { result.words ≡ part i family.now }
 {
     let mut words = [0u64; 8];
-    words.copy_from_slice(&family[8 * i..8 * i + 8]);
+    // Word by word: `copy_from_slice` of eight words asks whether they overlap, and goes over the stack.
+    for k in 0..8 {
+        words[k] = family[8 * i + k];
+    }
     Set { words }
 }
 

@@ -154,18 +154,23 @@ fn bits_of(table: &[u32], values: &[Option<i64>; 256], least: &[usize], i: usize
     }
 }
 
-// From the last construct down.
-fn round(table: &[u32], values: &[Option<i64>; 256], least: &mut [usize]) {
+// From the last construct down. Whether a number changed.
+fn round(table: &[u32], values: &[Option<i64>; 256], least: &mut [usize]) -> bool {
+    let mut changed = false;
     for i in (0..256).rev() {
         let bits = bits_of(table, values, least, i);
+        changed |= bits != number_at(least, i);
         put_number(least, i, bits);
     }
+    changed
 }
 
-// Rules lead to each other at most 64 deep.
+// Rules lead to each other at most 64 deep; after a round without a change all rounds are the same.
 pub fn least(table: &[u32], values: &[Option<i64>; 256], least: &mut [usize]) {
     for _n in 0..65 {
-        round(table, values, least);
+        if !round(table, values, least) {
+            return;
+        }
     }
 }
 

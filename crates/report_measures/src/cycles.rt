@@ -36,11 +36,16 @@ fn way_by(ways: &[usize], rule: usize, used: usize) -> usize {
 }
 
 fn shorten(table: &[u32], ways: &mut [usize], rule: usize, j: usize) {
-    if let (Some(used), Some(from)) = (used_by(table, j), rule_around(table, j)) {
-        let n = way_by(ways, rule, used);
-        if n < number_at(ways, from) {
-            put_number(ways, from, n);
-        }
+    // Few constructs are uses: only of one is it asked which rule it lies in.
+    let Some(used) = used_by(table, j) else {
+        return;
+    };
+    let Some(from) = rule_around(table, j) else {
+        return;
+    };
+    let n = way_by(ways, rule, used);
+    if n < number_at(ways, from) {
+        put_number(ways, from, n);
     }
 }
 

@@ -124,17 +124,22 @@ fn bytes(length: usize) -> usize {
     if length < 256 { 8 * length } else { 8 }
 }
 
-// From the last construct down; what was known does not fall.
-fn round(table: &[u32], lengths: &mut [usize]) {
+// From the last construct down; what was known does not fall. Whether more is known.
+fn round(table: &[u32], lengths: &mut [usize]) -> bool {
+    let mut changed = false;
     for i in (0..256).rev() {
         let length = length_of(table, lengths, i);
+        changed |= length != number_at(lengths, i);
         put_number(lengths, i, length);
     }
+    changed
 }
 
-// The remainders of the lengths of all constructs. Rules lead to each other at most 64 deep.
+// The remainders of the lengths of all constructs. Rules lead to each other at most 64 deep; after a round without a change all rounds are the same.
 pub fn lengths(table: &[u32], lengths: &mut [usize]) {
     for _n in 0..65 {
-        round(table, lengths);
+        if !round(table, lengths) {
+            return;
+        }
     }
 }

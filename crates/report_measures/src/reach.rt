@@ -5,10 +5,15 @@ use crate::words::{number_at, put_number};
 
 // The rule that construct j uses is reached where its own is.
 fn mark(table: &[u32], marks: &mut [usize], j: usize) {
-    if let (Some(used), Some(around)) = (used_by(table, j), rule_around(table, j)) {
-        if number_at(marks, around) == 1 {
-            put_number(marks, used, 1);
-        }
+    // Few constructs are uses: only of one is it asked which rule it lies in.
+    let Some(used) = used_by(table, j) else {
+        return;
+    };
+    let Some(around) = rule_around(table, j) else {
+        return;
+    };
+    if number_at(marks, around) == 1 {
+        put_number(marks, used, 1);
     }
 }
 

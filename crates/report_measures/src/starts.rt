@@ -5,9 +5,12 @@ use crate::structure::{body_of, next, parts_of};
 use crate::words::{number_at, put_number};
 use table_layout::{Construct, Passes, construct_at};
 
-fn give(starts: &mut [usize], i: usize, set: usize) {
-    let all = union(number_at(starts, i), set);
+// Whether that is more than there was.
+fn give(starts: &mut [usize], i: usize, set: usize) -> bool {
+    let before = number_at(starts, i);
+    let all = union(before, set);
     put_number(starts, i, all);
+    all != before
 }
 
 // Each part gets where it begins; of a concatenation behind the parts before it.
@@ -18,14 +21,16 @@ fn hand(
     i: usize,
     set: usize,
     joined: bool,
-) {
+) -> bool {
     let mut here = set;
+    let mut grew = false;
     for at in parts_of(table, i) {
-        give(starts, at, here);
+        grew |= give(starts, at, here);
         if joined {
             here = sum(here, number_at(lengths, at));
         }
     }
+    grew
 }
 
 // A pass begins where the repetition does, or after any number of passes.
@@ -36,7 +41,7 @@ fn pass(set: usize, length: usize, passes: Passes) -> usize {
     }
 }
 
-fn hand_on(table: &[u32], lengths: &[usize], starts: &mut [usize], i: usize) {
+fn hand_on(table: &[u32], lengths: &[usize], starts: &mut [usize], i: usize) -> bool {
     let set = number_at(starts, i);
     match construct_at(table, i) {
         Construct::Alternative { .. } | Construct::Switch { .. } => {
@@ -49,20 +54,25 @@ fn hand_on(table: &[u32], lengths: &[usize], starts: &mut [usize], i: usize) {
             pass(set, number_at(lengths, next(i)), passes),
         ),
         Construct::Use { rule } => give(starts, body_of(table, rule), set),
-        _ => {}
+        _ => false,
     }
 }
 
-fn round(table: &[u32], lengths: &[usize], starts: &mut [usize]) {
+fn round(table: &[u32], lengths: &[usize], starts: &mut [usize]) -> bool {
+    let mut grew = false;
     for i in 0..256 {
-        hand_on(table, lengths, starts, i);
+        grew |= hand_on(table, lengths, starts, i);
     }
+    grew
 }
 
+// After a round in which nothing grew all rounds are the same.
 fn rounds(table: &[u32], lengths: &[usize], starts: &mut [usize]) {
     put_number(starts, 0, 1);
     for _n in 0..65 {
-        round(table, lengths, starts);
+        if !round(table, lengths, starts) {
+            return;
+        }
     }
 }
 

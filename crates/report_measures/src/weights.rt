@@ -37,17 +37,23 @@ fn weight_of(table: &[u32], weights: &[usize], i: usize) -> usize {
     }
 }
 
-fn round(table: &[u32], weights: &mut [usize]) {
+// Whether a weight changed.
+fn round(table: &[u32], weights: &mut [usize]) -> bool {
+    let mut changed = false;
     for i in (0..256).rev() {
         let weight = weight_of(table, weights, i);
+        changed |= weight != number_at(weights, i);
         put_number(weights, i, weight);
     }
+    changed
 }
 
-// Rules lead to each other at most 64 deep.
+// Rules lead to each other at most 64 deep; after a round without a change all rounds are the same.
 pub fn weights(table: &[u32], weights: &mut [usize]) {
     for _n in 0..65 {
-        round(table, weights);
+        if !round(table, weights) {
+            return;
+        }
     }
 }
 

@@ -13,7 +13,7 @@ fn next_rule(grammar: &[u8], at: usize) -> usize {
 
 fn rules_from(grammar: &[u8], base: usize, rules: &mut [usize]) {
     let mut at = look(grammar, base).start;
-    for name in rules {
+    for name in rules.iter_mut().take(64) {
         *name = at;
         at = next_rule(grammar, at);
     }

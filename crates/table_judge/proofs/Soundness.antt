@@ -36,13 +36,13 @@ module _ (ws : List ℕ) where
   pub unformed : (r : Bool) → r ≡ false → Decides r (Passed8 ws) → Decides false (Sound ws)
   unformed r e d = unsound (λ s. false≢true (sym e ∙ d.1 s.passed.passed.passed))
 
-  empty_body : (i : ℕ) → Judged ws (Err (Fault.EmptyBody i)) → Decides false (Sound ws)
+  pub empty_body : (i : ℕ) → Judged ws (Err (Fault.EmptyBody i)) → Decides false (Sound ws)
   empty_body i j = unsound (λ s. s.passed.passed.no_empty_body i j.1.holds)
 
-  conflict : (i : ℕ) → Least ws (Conflicting ws) i → Decides false (Sound ws)
+  pub conflict : (i : ℕ) → Least ws (Conflicting ws) i → Decides false (Sound ws)
   conflict i l = unsound (λ s. s.passed.no_conflict i l.holds)
 
-  overweight : Judged ws (Err Fault.Overweight) → Decides false (Sound ws)
+  pub overweight : Judged ws (Err Fault.Overweight) → Decides false (Sound ws)
   overweight j =
       unsound
       (λ s.
@@ -51,10 +51,10 @@ module _ (ws : List ℕ) where
       let b : weight_at ws opening ≡ weight_of ws = s.weight (weight_of_all ws p) (gives ws p) in
       omega (arith, (facts ws p.laid_out).counts.weight))
 
-  unreached : (rule : ℕ) → Judged ws (Err (Fault.Unreached rule)) → Decides false (Sound ws)
+  pub unreached : (rule : ℕ) → Judged ws (Err (Fault.Unreached rule)) → Decides false (Sound ws)
   unreached rule j = unsound (λ s. s.reached rule j.2.0)
 
-  no_value : (i : ℕ) → Judged ws (Err (Fault.NoValue i)) → Decides false (Sound ws)
+  pub no_value : (i : ℕ) → Judged ws (Err (Fault.NoValue i)) → Decides false (Sound ws)
   no_value i j = unsound (λ s. s.valued i j.3.holds)
 
   pub refused : (fault : Fault) → Judged ws (Err fault) → Decides false (Sound ws)
