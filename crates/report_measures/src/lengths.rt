@@ -124,7 +124,7 @@ fn bytes(length: usize) -> usize {
     if length < 256 { 8 * length } else { 8 }
 }
 
-// From the last construct down; what was known does not fall. Whether more is known.
+// From the last construct down; what was known does not fall. Whether a number is another one.
 fn round(table: &[u32], lengths: &mut [usize]) -> bool {
     let mut changed = false;
     for i in (0..256).rev() {

@@ -2,7 +2,7 @@
 ghost use Rattle.std.specs.Prelude.{◌<◌, ◌-◌};
 ghost use Rattle.std.specs.Iterator.{at_most};
 
-use table_layout::{Construct, RULES_AT, construct_at, size_of, word};
+use table_layout::{Construct, RULES_AT, construct_at, size_at, size_of, word};
 
 // Parts of a construct, the first first.
 #[derive(Drop)]
@@ -65,8 +65,9 @@ pub fn end_of(i: usize, size: usize) -> usize {
     i
 }
 
+// By the size alone: most places hold no construct, and this is asked of all before one.
 fn holds(table: &[u32], j: usize, i: usize) -> bool {
-    j < i && i - j < size_of(construct_at(table, j))
+    j < i && i - j < size_at(table, j)
 }
 
 // The construct that has i as a part; a rule's body has none.
